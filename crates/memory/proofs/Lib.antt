@@ -1,0 +1,3 @@
+pub mod Once
+pub mod Bytes
+pub mod Kept
