@@ -1,0 +1,26 @@
+-- What a list of Sigs says of a number (this store's profile).
+use Rattle.std.specs.Prelude.{ℕ, ◌≡◌, List, [], ◌∷◌, Option, Some, None, true, false, ◌==◌, if◌then◌else◌, IsSome, IsNone}
+use Rattle.helpers.specs.declared.sig.Sig.{Sig}
+use Rattle.helpers.specs.declared.sig.Entry.{Entry}
+use Rattle.helpers.specs.declared.table.HelperFault.{HelperFault}
+use Rattle.helpers.specs.declared.table.HelperFault.TheVariants.{Taken, Number, Signature, NoMemory}
+use Rattle.helpers.specs.Rules.{is_helper_number}
+use Rattle.helpers.specs.Shapes.{IsAsWritten}
+
+-- the Sig of a number, if there is one
+abbrev pub sig_of : List Entry → ℕ → Option Sig
+sig_of [] number = None
+sig_of (e ∷ entries) number = if e.number == number then Some e.sig else sig_of entries number
+
+-- a helper that may be added: its number is free and a helper's, and its Sig is the written one where one is written
+pub record IsAdmitted (entries : List Entry) (e : Entry) : Type 0 where
+  pub free : sig_of entries e.number ≡ None
+  pub numbered : is_helper_number e.number ≡ true
+  pub as_written : IsAsWritten e.number e.sig
+
+-- why a helper is not added, the first of these
+abbrev pub Refuses : List Entry → Entry → HelperFault → Type 0
+Refuses entries e Taken = IsSome (sig_of entries e.number)
+Refuses entries e Number = IsNone (sig_of entries e.number) × (is_helper_number e.number ≡ false)
+Refuses entries e Signature = IsNone (sig_of entries e.number) × (is_helper_number e.number ≡ true) × ¬ IsAsWritten e.number e.sig
+Refuses entries e NoMemory = IsAdmitted entries e

@@ -1,0 +1,44 @@
+-- What the written helper answers of a hook's input (this store's profile): its newest sibling.
+use Rattle.std.specs.Prelude.{ℕ, zero, suc, ◌+◌, ◌*◌, Bool, ◌&&◌, ◌||◌, not, ◌==◌, nat_le, nat_lt, List, [], ◌∷◌, length, take, drop, position, unwrap_or, if◌then◌else◌}
+use Rattle.std.specs.List.{list_all}
+use Rattle.helpers.specs.declared.layout.Row.{Row}
+
+-- the number that bytes spell, the lowest first
+abbrev pub little_endian : List ℕ → ℕ
+little_endian [] = 0
+little_endian (b ∷ bytes) = b + 256 * little_endian bytes
+
+-- the number in some bytes from a place on
+abbrev pub number_in : List ℕ → ℕ → ℕ → ℕ
+number_in layout at size = little_endian (take size (drop at layout))
+
+-- A head of 16 bytes, which has the number of rows in its second word, and rows of 24 bytes after it: vnode, flags, n,
+-- and a value's place and length.
+abbrev pub row_at : List ℕ → ℕ → Row
+row_at layout k = record { vnode = number_in layout (16 + 24 * k) 4; n = number_in layout (16 + 24 * k + 8) 8 }
+
+-- the rows from the k-th on, so many of them
+abbrev pub rows_from : List ℕ → ℕ → ℕ → List Row
+rows_from layout k zero = []
+rows_from layout k (suc count) = row_at layout k ∷ rows_from layout (k + 1) count
+
+-- the rows of a layout that has 1 to 64 of them, all within it
+abbrev pub is_layout : List ℕ → Bool
+is_layout layout =
+    let count = number_in layout 4 4 in
+    nat_le 16 (length layout) && nat_le 1 count && nat_le count 64 && nat_le (16 + 24 * count) (length layout)
+
+abbrev pub rows_of : List ℕ → List Row
+rows_of layout = if is_layout layout then rows_from layout 0 (number_in layout 4 4) else []
+
+-- the greater n, or the same and the greater vnode
+abbrev pub is_newer : Row → Row → Bool
+is_newer a b = nat_lt b.n a.n || (a.n == b.n && nat_lt b.vnode a.vnode)
+
+-- a sibling that no row is newer than
+abbrev pub is_newest : List Row → Row → Bool
+is_newest rows r = not (r.n == 0) && list_all (λ other. not (is_newer other r)) rows
+
+-- the index of the first such row, 64 where there is none
+abbrev pub newest_of : List ℕ → ℕ
+newest_of layout = let rows = rows_of layout in unwrap_or (position (is_newest rows) rows) 64

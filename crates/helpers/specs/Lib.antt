@@ -1,0 +1,7 @@
+pub mod Text
+pub mod Layout
+pub mod Rules
+pub mod Shapes
+pub mod Answers
+pub mod Parts
+pub mod Entries

@@ -1,0 +1,23 @@
+//! Helpers that a program may call: stored closures, each beside what is known of it.
+#![tactic(auto)]
+
+mod fit;
+mod helper;
+mod layout;
+mod sig;
+mod sigs;
+mod table;
+mod text;
+mod written;
+
+pub use fit::fits;
+pub use helper::{Body, Call, Helper};
+pub use layout::{Row, newest};
+pub use sig::{ArgRule, Entry, MAX_READ, Sig, is_helper_number};
+pub use sigs::Sigs;
+pub use table::{HelperFault, Table};
+pub use text::{decimal, find, order};
+pub use written::written_sig;
+
+#[cfg(test)]
+mod tests;

@@ -1,0 +1,389 @@
+//! The written helpers by cases worked out by hand, Sigs, and a table of boxed closures.
+
+ghost use Rattle.std.specs.Prelude.{◌≡◌, ◌≤◌, length, max};
+ghost use Rattle.helpers.specs.Text.{order_of, place_of, spelled};
+ghost use Rattle.helpers.specs.Layout.{newest_of};
+
+use crate::{
+    ArgRule, Body, Call, Helper, HelperFault, Sig, Sigs, Table, decimal, find, fits, newest, order,
+    written_sig,
+};
+use std::alloc::{AllocError, Global};
+use std::process::Abort;
+use std::test::Fail;
+
+const ANY: ArgRule = ArgRule::Num {
+    lo: 0,
+    hi: u64::MAX,
+};
+
+#[test]
+fn orders(rt: HostRuntime) {
+    let rows: [(&[u8], &[u8], u64); 10] = [
+        (b"", b"", 1),
+        (b"", b"a", 0),
+        (b"a", b"", 2),
+        (b"a", b"b", 0),
+        (b"b", b"a", 2),
+        (b"a", b"ab", 0),
+        (b"ab", b"a", 2),
+        (b"abc", b"abd", 0),
+        (b"abc", b"abc", 1),
+        (b"\x80", b"\x7f\xff", 2),
+    ];
+    for (first, second, want) in rows {
+        assert_eq!(rt; order(first, second), want, "{first:?} {second:?}");
+    }
+}
+
+#[test]
+fn places(rt: HostRuntime) {
+    let rows: [(&[u8], &[u8], u64); 11] = [
+        (b"", b"", 1),
+        (b"", b"a", 0),
+        (b"hello", b"", 1),
+        (b"hello", b"h", 1),
+        (b"hello", b"l", 3),
+        (b"hello", b"o", 5),
+        (b"hello", b"hello", 1),
+        (b"hello", b"hello!", 0),
+        (b"abab", b"ba", 2),
+        (b"aaab", b"aab", 2),
+        (b"hello", b"lol", 0),
+    ];
+    for (text, needle, want) in rows {
+        assert_eq!(rt; find(text, needle), want, "{text:?} {needle:?}");
+    }
+}
+
+#[test]
+fn numbers(rt: HostRuntime) {
+    let rows: [(&[u8], u64); 14] = [
+        (b"", u64::MAX),
+        (b"0", 0),
+        (b"123", 123),
+        (b"007", 7),
+        (b"0000000000000000000", 0),
+        (b"0000000000000000019", 19),
+        (b"9999999999999999999", 9_999_999_999_999_999_999),
+        (b"00000000000000000001", u64::MAX),
+        (b"10000000000000000000", u64::MAX),
+        (b"-1", u64::MAX),
+        (b"+1", u64::MAX),
+        (b" 1", u64::MAX),
+        (b"12a", u64::MAX),
+        (b"1:", u64::MAX),
+    ];
+    for (text, want) in rows {
+        assert_eq!(rt; decimal(text), want, "{text:?}");
+    }
+}
+
+/// A layout that says it has so many rows, and has these.
+fn layout(alloc: Global, count: u32, rows: &[(u32, u64)]) -> Result<Vec<u8>, AllocError> {
+    let mut bytes = Vec::new(alloc);
+    for word in [2, count, 0, 0] {
+        bytes.extend_from_slice(&word.to_le_bytes())?;
+    }
+    for (vnode, n) in rows {
+        bytes.extend_from_slice(&vnode.to_le_bytes())?;
+        bytes.extend_from_slice(&1u32.to_le_bytes())?;
+        bytes.extend_from_slice(&n.to_le_bytes())?;
+        bytes.extend_from_slice(&0u64.to_le_bytes())?;
+    }
+    Ok(bytes)
+}
+
+#[test]
+fn newest_siblings(rt: HostRuntime) -> Result<(), Fail> {
+    let tables: [(&[(u32, u64)], u64); 12] = [
+        (&[], 64),
+        (&[(1, 5)], 0),
+        (&[(0, 1), (1, 1)], 1),
+        (&[(1, 1), (0, 1)], 0),
+        (&[(0, 2), (5, 1)], 0),
+        (&[(5, 1), (0, 2)], 1),
+        (&[(9, 0)], 64),
+        (&[(9, 0), (1, 1), (0, 3)], 2),
+        (&[(0, 3), (9, 0), (1, 1)], 0),
+        (&[(3, 4), (3, 4)], 0),
+        (&[(0, 256), (0, 255)], 0),
+        (&[(u32::MAX, 1), (0, u64::MAX)], 1),
+    ];
+    for (rows, want) in tables {
+        let bytes = layout(rt.alloc(), rows.len() as u32, rows)?;
+        assert_eq!(rt; newest(&bytes), want, "{rows:?}");
+    }
+    Ok(())
+}
+
+#[test]
+fn no_layouts(rt: HostRuntime) -> Result<(), Fail> {
+    let bytes = layout(rt.alloc(), 2, &[(0, 1), (0, 2)])?;
+    assert_eq!(rt; newest(&bytes), 1);
+    for len in 0..bytes.len() {
+        assert_eq!(rt; newest(&bytes[..len]), 64, "{len} bytes");
+    }
+    let short = layout(rt.alloc(), 3, &[(0, 1), (0, 2)])?;
+    assert_eq!(rt; newest(&short), 64);
+    let longer = layout(rt.alloc(), 1, &[(0, 1), (0, 2)])?;
+    assert_eq!(rt; newest(&longer), 0);
+    let most = layout(rt.alloc(), 64, &[(0, 7); 64])?;
+    assert_eq!(rt; newest(&most), 0);
+    let over = layout(rt.alloc(), 65, &[(0, 7); 65])?;
+    assert_eq!(rt; newest(&over), 64);
+    Ok(())
+}
+
+#[test]
+fn sigs(rt: HostRuntime) {
+    use ArgRule::{Len, Num, Read, Unused};
+    let read = Read { max: 65_536 };
+    let rows: [([ArgRule; 5], (u64, u64), bool); 13] = [
+        ([Unused; 5], (0, 0), true),
+        ([ANY; 5], (0, u64::MAX), true),
+        ([read, Len, read, Len, ANY], (3, 4), true),
+        ([ANY, Unused, ANY, read, Len], (0, 1), true),
+        ([Unused; 5], (1, 0), false),
+        (
+            [Num { lo: 2, hi: 1 }, Unused, Unused, Unused, Unused],
+            (0, 0),
+            false,
+        ),
+        ([read, Unused, Unused, Unused, Unused], (0, 0), false),
+        ([Unused, Unused, Unused, Unused, read], (0, 0), false),
+        ([Len, Unused, Unused, Unused, Unused], (0, 0), false),
+        ([read, Len, Len, Unused, Unused], (0, 0), false),
+        ([read, read, Len, Unused, Unused], (0, 0), false),
+        ([read, Len, read, Len, read], (0, 0), false),
+        (
+            [Read { max: 65_537 }, Len, Unused, Unused, Unused],
+            (0, 0),
+            false,
+        ),
+    ];
+    for (args, ret, want) in rows {
+        assert_eq!(rt; Sig::new(args, ret).is_some(), want, "{args:?} {ret:?}");
+    }
+    for number in [0, 3, 15, 20, 64, 127] {
+        assert_eq!(rt; written_sig(number), None, "{number}");
+    }
+    let text = Sig::new([read, Len, Unused, Unused, Unused], (0, u64::MAX));
+    assert_eq!(rt; written_sig(18), text);
+}
+
+/// What a table answers to a call that fits.
+fn answer(
+    rt: &impl Abort,
+    table: &Table,
+    number: u32,
+    numbers: [u64; 5],
+    first: &[u8],
+    second: &[u8],
+) -> u64 {
+    let call = Call {
+        numbers,
+        first,
+        second,
+    };
+    match table.helper(number) {
+        Some(helper) => {
+            assert!(rt; fits(&helper.sig, &call));
+            table.call(number, &call)
+        }
+        None => panic!(rt; "no helper {number}"),
+    }
+}
+
+#[test]
+fn host_helpers(rt: HostRuntime) -> Result<(), Fail> {
+    let args = [
+        ANY,
+        ArgRule::Unused,
+        ArgRule::Unused,
+        ArgRule::Unused,
+        ArgRule::Unused,
+    ];
+    let eight = Sig::new(args, (0, 7)).ok_or("a Sig")?;
+    let nine = Sig::new(args, (0, 8)).ok_or("a Sig")?;
+    let mut table = Table::new(rt.alloc());
+    let modulo_8: Body = Box::new(
+        rt.alloc(),
+        |numbers: [u64; 5], _first: &[u8], _second: &[u8]| -> u64
+            ensures { result ≤ 7 }
+        { numbers[0] % 8 },
+    )?;
+    assert!(rt; table.add(Helper::new(64, eight, modulo_8)).is_ok());
+    let modulo_9: Body = Box::new(
+        rt.alloc(),
+        |numbers: [u64; 5], _first: &[u8], _second: &[u8]| -> u64
+            ensures { result ≤ 8 }
+        { numbers[0] % 9 },
+    )?;
+    assert!(rt; table.add(Helper::new(65, nine, modulo_9)).is_ok());
+    assert_eq!(rt; table.sig(64), Some(eight));
+    assert_eq!(rt; table.sig(65), Some(nine));
+    assert_eq!(rt; table.sig(66), None);
+    for (number, eighth, ninth) in [(0, 0, 0), (8, 0, 8), (9, 1, 0), (26, 2, 8), (27, 3, 0)] {
+        assert_eq!(rt;
+            answer(&rt, &table, 64, [number, 0, 0, 0, 0], b"", b""),
+            eighth
+        );
+        assert_eq!(rt;
+            answer(&rt, &table, 65, [number, 0, 0, 0, 0], b"", b""),
+            ninth
+        );
+    }
+    Ok(())
+}
+
+#[test]
+fn written_helpers(rt: HostRuntime) -> Result<(), Fail> {
+    let mut table = Table::new(rt.alloc());
+    let body: Body = Box::new(
+        rt.alloc(),
+        |_numbers: [u64; 5], first: &[u8], second: &[u8]| -> u64
+            ensures value { result ≡ order_of first.now second.now }
+            ensures range { result ≤ 2 }
+        { order(first, second) },
+    )?;
+    let sig = written_sig(16).ok_or("a Sig")?;
+    assert!(rt; table.add(Helper::new(16, sig, body)).is_ok());
+    let body: Body = Box::new(
+        rt.alloc(),
+        |_numbers: [u64; 5], first: &[u8], second: &[u8]| -> u64
+            ensures value { result ≡ place_of first.now second.now }
+            ensures range { result ≤ max 1 (length first.now) }
+        { find(first, second) },
+    )?;
+    let sig = written_sig(17).ok_or("a Sig")?;
+    assert!(rt; table.add(Helper::new(17, sig, body)).is_ok());
+    let body: Body = Box::new(
+        rt.alloc(),
+        |_numbers: [u64; 5], first: &[u8], _second: &[u8]| -> u64
+            ensures { result ≡ spelled first.now }
+        { decimal(first) },
+    )?;
+    let sig = written_sig(18).ok_or("a Sig")?;
+    assert!(rt; table.add(Helper::new(18, sig, body)).is_ok());
+    let body: Body = Box::new(
+        rt.alloc(),
+        |_numbers: [u64; 5], first: &[u8], _second: &[u8]| -> u64
+            ensures value { result ≡ newest_of first.now }
+            ensures range { result ≤ 64 }
+        { newest(first) },
+    )?;
+    let sig = written_sig(19).ok_or("a Sig")?;
+    assert!(rt; table.add(Helper::new(19, sig, body)).is_ok());
+    assert_eq!(rt; answer(&rt, &table, 16, [0; 5], b"abc", b"abd"), 0);
+    assert_eq!(rt; answer(&rt, &table, 17, [0; 5], b"hello", b"lo"), 4);
+    assert_eq!(rt; answer(&rt, &table, 18, [0; 5], b"123", b""), 123);
+    assert_eq!(rt; answer(&rt, &table, 19, [0; 5], b"", b""), 64);
+    let bytes = layout(rt.alloc(), 2, &[(0, 1), (0, 2)])?;
+    assert_eq!(rt; answer(&rt, &table, 19, [0; 5], &bytes, b""), 1);
+    Ok(())
+}
+
+#[test]
+fn refusals(rt: HostRuntime) -> Result<(), Fail> {
+    let mut table = Table::new(rt.alloc());
+    let sig = Sig::new([ArgRule::Unused; 5], (0, 0)).ok_or("a Sig")?;
+    let rows = [
+        (64, None),
+        (64, Some(HelperFault::Taken)),
+        (0, Some(HelperFault::Number)),
+        (3, Some(HelperFault::Number)),
+        (15, Some(HelperFault::Number)),
+        (20, Some(HelperFault::Number)),
+        (63, Some(HelperFault::Number)),
+        (128, Some(HelperFault::Number)),
+        (127, None),
+    ];
+    for (number, want) in rows {
+        assert!(rt; sig.lo == 0);
+        assert!(rt; number != 16 && number != 17 && number != 18 && number != 19);
+        let body: Body = Box::new(
+            rt.alloc(),
+            |_numbers: [u64; 5], _first: &[u8], _second: &[u8]| -> u64
+                ensures { result ≡ 0 }
+            { 0 },
+        )?;
+        let refused = match table.add(Helper::new(number, sig, body)) {
+            Ok(()) => None,
+            Err((helper, fault)) => {
+                assert_eq!(rt; helper.number, number);
+                Some(fault)
+            }
+        };
+        assert_eq!(rt; refused, want, "{number}");
+    }
+    assert_eq!(rt; table.sigs(rt.alloc())?.entries().len(), 2);
+    Ok(())
+}
+
+#[test]
+fn only_the_written_sig(rt: HostRuntime) -> Result<(), Fail> {
+    let written = written_sig(16).ok_or("a Sig")?;
+    let wider = Sig::new(written.args, (0, 3)).ok_or("a Sig")?;
+    let rows = [
+        (wider, Some(HelperFault::Signature)),
+        (written, None),
+        (wider, Some(HelperFault::Taken)),
+    ];
+    let mut table = Table::new(rt.alloc());
+    for (sig, want) in rows {
+        assert!(rt; sig.lo == 0 && sig.hi >= 2);
+        let body: Body = Box::new(
+            rt.alloc(),
+            |_numbers: [u64; 5], first: &[u8], second: &[u8]| -> u64
+                ensures value { result ≡ order_of first.now second.now }
+                ensures range { result ≤ 2 }
+            { order(first, second) },
+        )?;
+        let refused = match table.add(Helper::new(16, sig, body)) {
+            Ok(()) => None,
+            Err((_, fault)) => Some(fault),
+        };
+        assert_eq!(rt; refused, want);
+    }
+    assert_eq!(rt; table.sig(16), Some(written));
+    Ok(())
+}
+
+#[test]
+fn agreement(rt: HostRuntime) -> Result<(), Fail> {
+    let mut narrow = Table::new(rt.alloc());
+    let mut wide = Table::new(rt.alloc());
+    let mut both = Table::new(rt.alloc());
+    for (table, number, hi) in [(0, 64, 7), (1, 64, 8), (2, 65, 8), (2, 64, 7)] {
+        assert!(rt; number >= 64);
+        let sig = Sig::new([ArgRule::Unused; 5], (0, hi)).ok_or("a Sig")?;
+        let body: Body = Box::new(
+            rt.alloc(),
+            |_numbers: [u64; 5], _first: &[u8], _second: &[u8]| -> u64
+                ensures { result ≡ 0 }
+            { 0 },
+        )?;
+        let helper = Helper::new(number, sig, body);
+        let added = match table {
+            0 => narrow.add(helper),
+            1 => wide.add(helper),
+            _ => both.add(helper),
+        };
+        assert!(rt; added.is_ok());
+    }
+    let sigs = narrow.sigs(rt.alloc())?;
+    assert!(rt; narrow.agrees(&sigs));
+    assert!(rt; both.agrees(&sigs));
+    assert!(rt; !wide.agrees(&sigs));
+    let more = both.sigs(rt.alloc())?;
+    assert!(rt; !narrow.agrees(&more));
+    let none = Sigs::new(rt.alloc());
+    assert!(rt; wide.agrees(&none));
+    let empty = Table::new(rt.alloc());
+    assert!(rt; !empty.agrees(&sigs));
+    let copied = sigs.copy(rt.alloc())?;
+    assert_eq!(rt; copied.sig(64), narrow.sig(64));
+    assert_eq!(rt; sigs.sig(65), None);
+    Ok(())
+}
