@@ -1,0 +1,79 @@
+//! Images: a head that names the kind and the windows, and the code.
+
+ghost use Rattle.std.specs.Prelude.{◌≤◌, length};
+ghost use Rattle.insn.specs.Encoding.{IsCode};
+
+use insn::{DecodeFault, Insn};
+use thiserror::Error;
+
+/// What a program is for.
+#[derive(Clone, Copy, Debug, PartialEq, Eq)]
+pub enum ImageKind {
+    /// A program of no hook.
+    Plain,
+    /// A hook that runs on each new content of a bucket.
+    PreCommit,
+    /// A hook that runs where a key has siblings.
+    Resolver,
+}
+
+/// A program: its kind, the lengths of its windows in bytes, and its code, one entry for each slot.
+#[derive(Drop)]
+pub struct Image {
+    pub kind: ImageKind,
+    pub in_len: u32,
+    pub out_len: u32,
+    pub code: Vec<Insn>,
+    ghost in_small: { in_len ≤ 65536 },
+    ghost out_small: { out_len ≤ 65536 },
+    ghost is_code: { ∥ IsCode code.items ∥₁ },
+    ghost some_slots: { 1 ≤ length code.items },
+    ghost few_slots: { length code.items ≤ 4096 },
+}
+
+/// Why bytes are no image.
+#[derive(Clone, Copy, Debug, PartialEq, Eq, Error)]
+pub enum ImageFault {
+    /// There are fewer than 16 bytes.
+    #[error("I1")]
+    Short,
+    /// The first four bytes are not those of an image.
+    #[error("I2")]
+    Mark,
+    /// The version is not 1.
+    #[error("I3")]
+    Version,
+    /// The kind is none of the three, or one of the two bytes after it is not zero.
+    #[error("I4")]
+    Kind,
+    /// A window has more than 65,536 bytes.
+    #[error("I5")]
+    Window,
+    /// The bytes after the head are no code.
+    #[error("{0:?}")]
+    Code(DecodeFault),
+    /// Memory ran out.
+    #[error("E1")]
+    NoMemory,
+}
+
+/// How many bytes a window may have.
+pub const MAX_WINDOW: u32 = 65536;
+
+impl ImageKind {
+    ghost use Rattle.std.specs.Prelude.{◌≡◌, ◌<◌, ◌↔◌, IfSome, IsNone};
+    ghost use Rattle.bpfimage.specs.Image.{kind_number};
+
+    /// The kind of this number.
+    pub fn from_number(number: u8) -> Option<ImageKind>
+        ensures found { IfSome result (λ kind. number ≡ kind_number kind) }
+        ensures none { IsNone result ↔ (2 < number) }
+    {
+        match number {
+            0 => Some(ImageKind::Plain),
+            1 => Some(ImageKind::PreCommit),
+            2 => Some(ImageKind::Resolver),
+            _ => None,
+        }
+    }
+}

@@ -1,0 +1,12 @@
+//! Images of programs, and the rules on the form of their code.
+#![tactic(auto)]
+
+pub mod form;
+pub mod image;
+pub mod read;
+#[cfg(test)]
+mod rows;
+
+pub use form::{FormFault, FormRule, form_fault};
+pub use image::{Image, ImageFault, ImageKind, MAX_WINDOW};
+pub use read::{raw_image, read_image};
