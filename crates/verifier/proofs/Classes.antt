@@ -1,0 +1,311 @@
+-- Each class of instructions: where no rule is broken it does not fault, and what follows is admitted by an edge.
+use Rattle.std.proofs.Common.{◌≡◌, ◌≢◌, ℕ, ℤ, pos, ◌+◌, ◌-◌, ◌*◌, ◌%◌, ◌^◌, ◌<◌, Bool, true, false, not, ◌||◌, eqb, List, [], ◌∷◌, set, Option, Some, None, Result, Ok, Err, refl, sym, ap, ◌∙◌, subst, inl, inr, arith}
+use Rattle.std.specs.Prelude.{IfOk, ◌+ℤ◌, unwrap_or}
+use Rattle.std.proofs.Math.Nat.{mod-lt, mod-eq_of_lt}
+use Rattle.std.proofs.lemmas.Nat.{pow_pos}
+use Rattle.std.proofs.lemmas.Int.{ints}
+use Rattle.std.proofs.lemmas.Bool.{cond_both, cond-true, eq-eqb}
+use Rattle.std.proofs.lemmas.Option.{unwrap_or-slice_get}
+use Rattle.alu.specs.Value.{bits, wrapped, signed, value, swapped, byte_count, compares, condition}
+use Rattle.alu.specs.declared.Op.{Op}
+use Rattle.alu.specs.declared.Width.{Width}
+use Rattle.alu.specs.declared.Cond.{Cond}
+use Rattle.alu.specs.declared.SwapKind.{SwapKind}
+use Rattle.alu.specs.declared.SwapBits.{SwapBits}
+use Rattle.insn.specs.Encoding.{number, size_bytes, IsInstruction}
+use Rattle.insn.specs.declared.Register.{Register}
+use Rattle.insn.specs.declared.Register.TheVariants.{R10}
+use Rattle.insn.specs.declared.Operand.{Operand}
+use Rattle.insn.specs.declared.Operand.TheVariants as operand
+use Rattle.insn.specs.declared.Size.{Size}
+use Rattle.insn.specs.declared.Extend.{Extend}
+use Rattle.insn.specs.declared.Extend.TheVariants.{Zero, Sign}
+use Rattle.insn.specs.declared.Distance.TheVariants as distance
+use Rattle.insn.specs.declared.Insn.{Insn}
+use Rattle.insn.specs.declared.Insn.TheVariants as insn
+use Rattle.memory.specs.Windows.{Covers, base, read, little_endian}
+use Rattle.memory.specs.State.{State, register, number_in, operand_in, with_register, jumped, advanced, no_calls, reads, writes, operand_reads, address, SomeUnset, MissesWindows, StoresToInput, Breaks, extended, Row as Does}
+use Rattle.memory.specs.declared.Region.{Region}
+use Rattle.memory.specs.declared.Region.TheVariants.{Stack, Input, Output}
+use Rattle.memory.specs.declared.Fault.{Fault}
+use Rattle.memory.specs.declared.Fault.TheVariants as fault
+use Rattle.ranges.specs.declared.kind.Kind.{Kind}
+use Rattle.ranges.specs.declared.kind.Kind.TheVariants.{Unset, Num, Ptr}
+use Rattle.ranges.specs.declared.kind.Bad.{Bad}
+use Rattle.ranges.specs.declared.kind.Bad.TheVariants.{V22, V23}
+use Rattle.ranges.specs.declared.kind.Range.{Range}
+use Rattle.ranges.specs.Kinds.{Admits}
+use Rattle.ranges.specs.Transfer.{single, full, transfer_of, swap_of}
+use Rattle.ranges.proofs.Numbers.{value_fits, swapped_fits}
+use Rattle.ranges.proofs.Operations.{transfer_sound, swap_sound}
+use Rattle.ranges.proofs.Comparisons.{refine_sound}
+use Rattle.bpfimage.specs.Form.{landing, target_of}
+use Rattle.verifier.specs.Program.{Program, HasLimits}
+use Rattle.verifier.specs.declared.rule.KindRule.{KindRule}
+use Rattle.verifier.specs.declared.rule.KindRule.TheVariants.{UnsetRead, FrameWritten, OutsideWindow, InputStored}
+use Rattle.verifier.specs.Rules.{Row, kind_at, with_kind, one_number, kind_from, broken_if, is_unset, is_input_pointer, any_unset, is_frame, is_inside, bad_result, class_rules, rules_of, first_of, result_kind, loaded, refined}
+use Rattle.verifier.specs.Table.{target_edge, edges_from}
+use Rattle.verifier.proofs.Words.{wrapped_below, size_fits, some_bytes}
+use Rattle.verifier.proofs.Fits.{IsWord, FitsRow, at_register, at_write, at_learn, SomeEdge}
+use Rattle.verifier.proofs.Shape.{target_edge_at}
+use Rattle.verifier.proofs.Places.{IsMemory, place_in, not_in_input, load_small, store_kept}
+
+-- ---- the first of several rules
+
+abbrev pub AllNone : {A : Type 0} → List (Option A) → Type 0
+AllNone [] = Unit {0}
+AllNone (x ∷ xs) = (x ≡ None) × AllNone xs
+
+pub none_each : {A : Type 0} (xs : List (Option A)) → first_of xs ≡ None → AllNone xs
+none_each [] h = tt
+none_each (None ∷ xs) h = (refl, none_each xs h)
+none_each (Some x ∷ xs) h = cc
+
+pub none_some : {A : Type 0} {x : A} → Some x ≡ None → ⊥
+none_some h = cc
+
+pub untold : (t : Bool) (rule : KindRule) → broken_if t rule ≡ None → t ≡ false
+untold true rule h = cc
+untold false rule h = refl
+
+pub untold_not : (t : Bool) (rule : KindRule) → broken_if (not t) rule ≡ None → t ≡ true
+untold_not true rule h = refl
+untold_not false rule h = cc
+
+pub or_left : (a b : Bool) → (a || b) ≡ false → a ≡ false
+or_left true b h = cc
+or_left false b h = refl
+
+pub or_right : (a b : Bool) → (a || b) ≡ false → b ≡ false
+or_right true b h = cc
+or_right false b h = h
+
+-- ---- what is read is set
+
+is_set : (k : Kind) (v : Option ℕ) → is_unset k ≡ false → Admits k v → v ≢ None
+is_set k (Some n) h a e = cc
+is_set Unset None h a e = cc
+is_set (Num lo hi) None h a e = absurd a
+is_set (Ptr r lo hi) None h a e = absurd a
+
+admits_number : (k : Kind) (v : Option ℕ) → Admits k v → Admits k (Some (unwrap_or v 0))
+admits_number k (Some n) a = a
+admits_number Unset None a = tt
+admits_number (Num lo hi) None a = absurd a
+admits_number (Ptr r lo hi) None a = absurd a
+
+number_fits : (v : Option ℕ) → IsWord v → unwrap_or v 0 < 2 ^ 64
+number_fits None w = omega arith
+number_fits (Some n) w = w
+
+-- the number that a set register holds
+back : (l : Kind) (v : Option ℕ) → v ≢ None → Admits l (Some (unwrap_or v 0)) → Admits l v
+back l (Some n) h a = a
+back l None h a = absurd (h refl)
+
+-- a result that is told as no broken rule
+ok_result : (r : Result Kind Bad) (v : Option ℕ) → bad_result r ≡ None → IfOk r (λ k. Admits k v) → Admits (result_kind r) v
+ok_result (Ok k) v h a = a
+ok_result (Err V22) v h a = cc
+ok_result (Err V23) v h a = cc
+
+no_frame : (o : Option Register) → is_frame o ≡ false → o ≢ Some R10
+no_frame o h e = let t : is_frame (Some R10) ≡ false = subst (λ q. is_frame q ≡ false) e h in cc
+
+one_on : (z : ℤ) (i : ℕ) → z ≡ pos i → pos (i + 1) ≡ (z +ℤ pos 1)
+one_on z i e = ap (λ y. y +ℤ pos 1) (sym e)
+
+two_on : (z : ℤ) (i : ℕ) → z ≡ pos i → pos (i + 2) ≡ (z +ℤ pos 1 +ℤ pos 1)
+two_on z i e = let h : pos (i + 2) ≡ (pos i +ℤ pos 1 +ℤ pos 1) = omega (arith, ints) in h ∙ ap (λ y. y +ℤ pos 1 +ℤ pos 1) (sym e)
+
+swapped_word : (kind : SwapKind) (n : SwapBits) (x : ℕ) → swapped kind n x < 2 ^ 64
+swapped_word kind n x =
+    subst (λ (r : Range). r.hi < 2 ^ 64) (cond-true (eqb x x) (single (swapped kind n x)) (full (8 * byte_count n)) (eq-eqb x x refl)) (swapped_fits kind n (single x)).1
+
+module _ (p : Program) (i : ℕ) (row : Row) (s : State) (limits : HasLimits p) (fits : FitsRow row s.registers) (at : s.slot ≡ pos i) (memory : IsMemory p s.memory) where
+  -- ---- registers
+  at_reg : (r : Register) → Admits (kind_at row r) (register s r) × IsWord (register s r)
+  at_reg r =
+      let h = at_register row s.registers (number r) fits in
+      let e = sym (unwrap_or-slice_get s.registers (number r) None) in
+      (subst (Admits (kind_at row r)) e h.0, subst IsWord e h.1)
+
+  at_operand : (src : Operand) → Admits (kind_from row src) (Some (operand_in s src)) × (operand_in s src < 2 ^ 64)
+  at_operand (operand.Register r) = let h = at_reg r in (admits_number _ _ h.0, number_fits _ h.1)
+  at_operand (operand.Immediate n) = ((omega arith, omega arith), wrapped_below 64 n)
+
+  reads_set : (rs : List Register) → any_unset row rs ≡ false → SomeUnset s rs → ⊥
+  reads_set [] h u = u
+  reads_set (r ∷ rs) h (inl e) = is_set (kind_at row r) (register s r) (or_left (is_unset (kind_at row r)) (any_unset row rs) h) (at_reg r).0 e
+  reads_set (r ∷ rs) h (inr u) = reads_set rs (or_right (is_unset (kind_at row r)) (any_unset row rs) h) u
+
+  -- ---- accesses
+  access : (r : Register) (offset : ℤ) (size : ℕ) → is_inside p (kind_at row r) offset size ≡ true → (region : Region) × Covers s.memory region (address s r offset) size × (is_input_pointer (kind_at row r) ≡ false → region ≢ Input)
+  access r offset size t = from (kind_at row r) (register s r) (at_reg r).0 t
+    where
+      region_kept : (region : Region) (lo hi : ℤ) → is_input_pointer (Ptr region lo hi) ≡ false → region ≢ Input
+      region_kept Stack lo hi h e = cc
+      region_kept Input lo hi h e = cc
+      region_kept Output lo hi h e = cc
+
+      from : (k : Kind) (v : Option ℕ) → Admits k v → is_inside p k offset size ≡ true → (region : Region) × Covers s.memory region (wrapped 64 (pos (unwrap_or v 0) +ℤ offset)) size × (is_input_pointer k ≡ false → region ≢ Input)
+      from Unset v a t = cc
+      from (Num lo hi) v a t = cc
+      from (Ptr region lo hi) None a t = absurd a
+      from (Ptr region lo hi) (Some n) a t = (region, place_in p s.memory region lo hi n offset size limits memory a t, region_kept region lo hi)
+
+  -- ---- no fault
+  no_miss : (x : Insn) → AllNone (class_rules p row x) → ¬ MissesWindows x s
+  no_miss (insn.Load size extend dst r offset) h miss = let l = access r offset (size_bytes size) (untold_not _ OutsideWindow h.0) in miss l.0 l.1
+  no_miss (insn.Store size r offset src) h miss = let l = access r offset (size_bytes size) (untold_not _ OutsideWindow h.0) in miss l.0 l.1
+  no_miss (insn.Alu o w d src) h miss = miss
+  no_miss (insn.Swap k n d) h miss = miss
+  no_miss (insn.Jump d) h miss = miss
+  no_miss (insn.JumpIf c w l r o) h miss = miss
+  no_miss (insn.Call n) h miss = miss
+  no_miss insn.Exit h miss = miss
+  no_miss (insn.Wide d n) h miss = miss
+  no_miss insn.Tail h miss = miss
+
+  no_input : (x : Insn) → AllNone (class_rules p row x) → ¬ StoresToInput x s
+  no_input (insn.Store size r offset src) h c =
+      let l = access r offset (size_bytes size) (untold_not _ OutsideWindow h.0) in
+      not_in_input p s.memory l.0 (address s r offset) (size_bytes size) limits memory (some_bytes size) (l.2 (untold _ InputStored h.1.0)) l.1 c
+  no_input (insn.Load size extend d r offset) h c = c
+  no_input (insn.Alu o w d src) h c = c
+  no_input (insn.Swap k n d) h c = c
+  no_input (insn.Jump d) h c = c
+  no_input (insn.JumpIf c' w l r o) h c = c
+  no_input (insn.Call n) h c = c
+  no_input insn.Exit h c = c
+  no_input (insn.Wide d n) h c = c
+  no_input insn.Tail h c = c
+
+  no_call : (x : Insn) → AllNone (class_rules p row x) → ¬ Breaks no_calls x s fault.Helper
+  no_call (insn.Call n) h c = none_some h.0
+  no_call (insn.Store size r offset src) h c = c
+  no_call (insn.Load size extend d r offset) h c = c
+  no_call (insn.Alu o w d src) h c = c
+  no_call (insn.Swap k n d) h c = c
+  no_call (insn.Jump d) h c = c
+  no_call (insn.JumpIf c' w l r o) h c = c
+  no_call insn.Exit h c = c
+  no_call (insn.Wide d n) h c = c
+  no_call insn.Tail h c = c
+
+  pub no_fault : (x : Insn) → AllNone (rules_of p row x) → (f : Fault) → ¬ Breaks no_calls x s f
+  no_fault x h fault.Unset b = reads_set (reads no_calls x) (untold _ UnsetRead h.0) b
+  no_fault x h fault.Address b = no_miss x h.1.1 b
+  no_fault x h fault.Input b = no_input x h.1.1 b
+  no_fault x h fault.Slot b = b
+  no_fault x h fault.Helper b = no_call x h.1.1 b
+  no_fault x h fault.ReadOnly b = no_frame (writes x) (untold _ FrameWritten h.1.0) b
+
+  -- ---- what follows
+  -- an edge that admits the state, and a memory as it was laid out
+  abbrev pub Lands : Insn → State → Type 0
+  Lands x t = SomeEdge t.slot t.registers (edges_from i row x) × IsMemory p t.memory
+
+  -- a number written into a register, whose kind is told by an edge to the next slot
+  written_lands : (x : Insn) (r : Register) (k : Kind) (v : ℕ) (t : State) → edges_from i row x ≡ (i + 1, with_kind row r k) ∷ [] → Admits k (Some v) → v < 2 ^ 64 → t ≡ advanced (with_register r v s) → Lands x t
+  written_lands x r k v t es a w e =
+      let P : State → Type 0 = λ u. SomeEdge u.slot u.registers (edges_from i row x) × IsMemory p u.memory in
+      subst P (sym e) (subst (SomeEdge (s.slot +ℤ pos 1) (set s.registers (number r) (Some v))) (sym es) (inl (one_on s.slot i at, at_write row s.registers (number r) k (Some v) fits a w)), memory)
+
+  alu_lands : (o : Op) (w : Width) (dst : Register) (src : Operand) (t : State) → AllNone (class_rules p row (insn.Alu o w dst src)) → Does no_calls (insn.Alu o w dst src) s t → Lands (insn.Alu o w dst src) t
+  alu_lands o w dst src t h d =
+      let a = at_reg dst in
+      let b = at_operand src in
+      let m = number_in s dst in
+      let n = operand_in s src in
+      let sound = transfer_sound o w (kind_at row dst) (kind_from row src) m n (number_fits _ a.1) b.1 (λ _. admits_number _ _ a.0) (λ _. b.0) in
+      written_lands (insn.Alu o w dst src) dst (result_kind (transfer_of o w (kind_at row dst) (kind_from row src))) (value o w m n) t refl (ok_result _ (Some (value o w m n)) h.0 sound) (value_fits o w m n) d
+
+  swap_lands : (kind : SwapKind) (n : SwapBits) (dst : Register) (t : State) → AllNone (class_rules p row (insn.Swap kind n dst)) → Does no_calls (insn.Swap kind n dst) s t → Lands (insn.Swap kind n dst) t
+  swap_lands kind n dst t h d =
+      let a = at_reg dst in
+      let m = number_in s dst in
+      let sound = swap_sound kind n (kind_at row dst) m (admits_number _ _ a.0) in
+      written_lands (insn.Swap kind n dst) dst (result_kind (swap_of kind n (kind_at row dst))) (swapped kind n m) t refl (ok_result _ (Some (swapped kind n m)) h.0 sound) (swapped_word kind n m) d
+
+  -- what a load reads is in the kind of its size
+  in_loaded : (size : Size) (extend : Extend) (n : ℕ) → n < 2 ^ (8 * size_bytes size) → Admits (loaded size extend) (Some (extended extend size n)) × (extended extend size n < 2 ^ 64)
+  in_loaded size Zero n h = ((omega arith, omega arith), omega (arith, size_fits size))
+  in_loaded size Sign n h = let b = wrapped_below 64 (signed (8 * size_bytes size) n) in ((omega arith, omega arith), b)
+
+  load_lands : (size : Size) (extend : Extend) (dst r : Register) (offset : ℤ) (t : State) → Does no_calls (insn.Load size extend dst r offset) s t → Lands (insn.Load size extend dst r offset) t
+  load_lands size extend dst r offset t d =
+      let n = little_endian (read s.memory d.0 (address s r offset - base d.0) (size_bytes size)) in
+      let k = in_loaded size extend n (load_small p s.memory d.0 (address s r offset) size memory d.1) in
+      written_lands (insn.Load size extend dst r offset) dst (loaded size extend) (extended extend size n) t refl k.0 k.1 d.2
+
+  store_lands : (size : Size) (r : Register) (offset : ℤ) (src : Operand) (t : State) → Does no_calls (insn.Store size r offset src) s t → Lands (insn.Store size r offset src) t
+  store_lands size r offset src t d =
+      let P : State → Type 0 = λ u. SomeEdge u.slot u.registers (edges_from i row (insn.Store size r offset src)) × IsMemory p u.memory in
+      subst P (sym d.2) (inl (one_on s.slot i at, fits), store_kept p s.memory d.0 (address s r offset) size (operand_in s src) memory d.1)
+
+  -- ---- jumps
+  jump_edge : (z : ℤ) (k : ℕ) (r : Row) (u : ℤ) → z ≡ pos k → u ≡ z → FitsRow r s.registers → SomeEdge u s.registers (target_edge (Some z) r)
+  jump_edge z k r u e f h = subst (SomeEdge u s.registers) (sym (target_edge_at z k r e)) (inl (sym (f ∙ e), h))
+
+  landed : (o : ℤ) → (s.slot +ℤ pos 1 +ℤ o) ≡ landing i o
+  landed o = ap (λ y. y +ℤ pos 1 +ℤ o) at
+
+  near_lands : (o : ℤ) (k : ℕ) (t : State) → landing i o ≡ pos k → Does no_calls (insn.Jump (distance.Near o)) s t → Lands (insn.Jump (distance.Near o)) t
+  near_lands o k t e d =
+      let P : State → Type 0 = λ u. SomeEdge u.slot u.registers (target_edge (Some (landing i o)) row) × IsMemory p u.memory in
+      subst P (sym d) (jump_edge (landing i o) k row (s.slot +ℤ pos 1 +ℤ o) e (landed o) fits, memory)
+
+  far_lands : (o : ℤ) (k : ℕ) (t : State) → landing i o ≡ pos k → Does no_calls (insn.Jump (distance.Far o)) s t → Lands (insn.Jump (distance.Far o)) t
+  far_lands o k t e d =
+      let P : State → Type 0 = λ u. SomeEdge u.slot u.registers (target_edge (Some (landing i o)) row) × IsMemory p u.memory in
+      subst P (sym d) (jump_edge (landing i o) k row (s.slot +ℤ pos 1 +ℤ o) e (landed o) fits, memory)
+
+  -- the kinds of two compared operands, narrowed, still admit them
+  branch_fits : (c : Cond) (w : Width) (left : Register) (right : Operand) (taken : Bool) → any_unset row (left ∷ operand_reads right) ≡ false → condition c w (number_in s left) (operand_in s right) ≡ taken → FitsRow (refined c w left right taken row) s.registers
+  branch_fits c w left (operand.Register right) taken h t =
+      let a = at_reg left in
+      let b = at_reg right in
+      let ha = is_set _ _ (or_left (is_unset (kind_at row left)) _ h) a.0 in
+      let hb = is_set _ _ (or_left (is_unset (kind_at row right)) _ (or_right (is_unset (kind_at row left)) _ h)) b.0 in
+      let r = refine_sound c w (kind_at row left) (kind_at row right) taken (number_in s left) (number_in s right) (admits_number _ _ a.0) (admits_number _ _ b.0) t in
+      let ea = unwrap_or-slice_get s.registers (number left) None in
+      let eb = unwrap_or-slice_get s.registers (number right) None in
+      cond_both (eqb (number left) (number right)) _ _ (λ q. FitsRow q s.registers) (λ _. fits)
+      (λ _. at_learn _ s.registers (number right) _ (at_learn row s.registers (number left) _ fits (subst (Admits _) ea (back _ _ ha r.0))) (subst (Admits _) eb (back _ _ hb r.1)))
+  branch_fits c w left (operand.Immediate n) taken h t =
+      let a = at_reg left in
+      let ha = is_set _ _ (or_left (is_unset (kind_at row left)) _ h) a.0 in
+      let m = wrapped 64 n % 2 ^ bits w in
+      let again : m % 2 ^ bits w ≡ wrapped 64 n % 2 ^ bits w = mod-eq_of_lt (mod-lt (wrapped 64 n) (pow_pos (bits w))) in
+      let same : condition c w (number_in s left) m ≡ taken = ap (λ j. compares c (bits w) (number_in s left % 2 ^ bits w) j) again ∙ t in
+      let r = refine_sound c w (kind_at row left) (one_number m) taken (number_in s left) m (admits_number _ _ a.0) (omega arith, omega arith) same in
+      at_learn row s.registers (number left) _ fits (subst (Admits _) (unwrap_or-slice_get s.registers (number left) None) (back _ _ ha r.0))
+
+  branch_lands : (c : Cond) (w : Width) (left : Register) (right : Operand) (o : ℤ) (k : ℕ) (t : State) → landing i o ≡ pos k → any_unset row (left ∷ operand_reads right) ≡ false → Does no_calls (insn.JumpIf c w left right o) s t → Lands (insn.JumpIf c w left right o) t
+  branch_lands c w left right o k t e h d =
+      let P : State → Type 0 = λ u. SomeEdge u.slot u.registers (edges_from i row (insn.JumpIf c w left right o)) × IsMemory p u.memory in
+      subst P (sym d)
+      (cond_both (condition c w (number_in s left) (operand_in s right)) (jumped o s) (advanced s) P
+      (λ yes. (inr (jump_edge (landing i o) k (refined c w left right true row) (s.slot +ℤ pos 1 +ℤ o) e (landed o) (branch_fits c w left right true h yes)), memory))
+      (λ no. (inl (one_on s.slot i at, branch_fits c w left right false h no), memory)))
+
+  wide_lands : (dst : Register) (n : ℕ) (t : State) → n < 2 ^ 64 → Does no_calls (insn.Wide dst n) s t → Lands (insn.Wide dst n) t
+  wide_lands dst n t small d =
+      let P : State → Type 0 = λ u. SomeEdge u.slot u.registers (edges_from i row (insn.Wide dst n)) × IsMemory p u.memory in
+      let two : pos (i + 2) ≡ (s.slot +ℤ pos 1 +ℤ pos 1) = two_on s.slot i at in
+      subst P (sym d) (inl (two, at_write row s.registers (number dst) (one_number n) (Some n) fits (omega arith, omega arith) small), memory)
+
+  -- ---- any instruction
+  pub lands : (x : Insn) (t : State) → IsInstruction x → ((z : ℤ) → target_of i x ≡ Some z → (k : ℕ) × (z ≡ pos k)) → AllNone (rules_of p row x) → Does no_calls x s t → Lands x t
+  lands (insn.Alu o w dst src) t is to h d = alu_lands o w dst src t h.1.1 d
+  lands (insn.Swap kind n dst) t is to h d = swap_lands kind n dst t h.1.1 d
+  lands (insn.Load size extend dst r offset) t is to h d = load_lands size extend dst r offset t d
+  lands (insn.Store size r offset src) t is to h d = store_lands size r offset src t d
+  lands (insn.Jump (distance.Near o)) t is to h d = let k = to (landing i o) refl in near_lands o k.0 t k.1 d
+  lands (insn.Jump (distance.Far o)) t is to h d = let k = to (landing i o) refl in far_lands o k.0 t k.1 d
+  lands (insn.JumpIf c w left right o) t is to h d = let k = to (landing i o) refl in branch_lands c w left right o k.0 t k.1 (untold _ UnsetRead h.0) d
+  lands (insn.Call n) t is to h d = absurd (none_some h.1.1.0)
+  lands insn.Exit t is to h d = absurd d
+  lands (insn.Wide dst n) t is to h d = wide_lands dst n t is d
+  lands insn.Tail t is to h d = absurd d

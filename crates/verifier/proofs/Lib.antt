@@ -1,0 +1,13 @@
+pub mod RowSteps
+pub mod Words
+pub mod Fits
+pub mod Shape
+pub mod Places
+pub mod Classes
+pub mod Counting
+pub mod Tables
+pub mod Soundness
+pub mod Visits
+pub mod PlainRows
+pub mod PlainPrograms
+pub mod PlainWalks

@@ -1,0 +1,326 @@
+-- A plain program that is well behaved is accepted.
+use Rattle.std.proofs.Common.{◌≡◌, ◌≢◌, ℕ, zero, suc, ℤ, pos, negsuc, ◌<◌, ◌≤◌, Bool, true, false, cond, not, eqb, ◌||◌, List, [], ◌∷◌, ◌++◌, length, Option, Some, None, refl, sym, ap, ◌∙◌, subst, inl, inr, ⊎_elim, arith}
+use Rattle.std.specs.Prelude.{◌≤ℤ◌, ◌+ℤ◌, int_le, slice_get}
+use Rattle.std.proofs.lemmas.Int.{ints}
+use Rattle.std.proofs.lemmas.Bool.{cond_both, cases_lt, cases_Bool, eqb-true, and_from}
+use Rattle.std.proofs.lemmas.Option.{slice_get_past}
+use Rattle.insn.specs.Encoding.{size_bytes}
+use Rattle.insn.specs.declared.Register.{Register}
+use Rattle.insn.specs.declared.Register.TheVariants.{R0, R1, R2, R3, R4, R5, R6, R7, R8, R9, R10}
+use Rattle.insn.specs.declared.Insn.{Insn}
+use Rattle.insn.specs.declared.Insn.TheVariants as insn
+use Rattle.memory.specs.State.{no_calls, reads, writes, operand_reads}
+use Rattle.memory.specs.declared.Region.{Region}
+use Rattle.memory.specs.declared.Region.TheVariants.{Stack, Input, Output}
+use Rattle.ranges.specs.declared.kind.Kind.{Kind}
+use Rattle.ranges.specs.declared.kind.Kind.TheVariants.{Unset, Num, Ptr}
+use Rattle.bpfimage.specs.Form.{next_of, target_of, GoesTo, IsSuccessor, IsPath, IsFormed}
+use Rattle.verifier.specs.Program.{Program}
+use Rattle.verifier.specs.declared.rule.KindRule.{KindRule}
+use Rattle.verifier.specs.declared.rule.KindRule.TheVariants.{UnsetRead, FrameWritten, PointerOperand, OutsideWindow, InputStored, PointerStored, PointerAnswer}
+use Rattle.verifier.specs.Rules.{Row, kind_at, entry, is_unset, is_pointer, is_input_pointer, any_unset, is_frame, first_offset, end_offset, is_inside, broken_if, bad_result, class_rules, rules_of, first_of, row_after, row_taken}
+use Rattle.verifier.specs.Table.{Edge, next_edge, target_edge, edges_from, join_rows, joined, into, edges_of, arrivals, table, broken_with, IsAccepted}
+use Rattle.verifier.specs.Plain.{IsIn, WrittenOn, SetAtStart, window_of, IsPlainInsn, IsPlain, InWindow, StaysInside, IsWellBehaved}
+use Rattle.verifier.proofs.Fits.{IsRow, length_join}
+use Rattle.verifier.proofs.Shape.{Leads, NextStarts, next_leads, target_leads}
+use Rattle.verifier.proofs.Classes.{AllNone, or_right}
+use Rattle.verifier.proofs.Soundness.{after_is_row, taken_is_row}
+use Rattle.verifier.proofs.Tables.{length_rows, table_at}
+use Rattle.verifier.proofs.PlainRows.{IsNum, IsNumOrUnset, PlainAt, PlainRow, GivesNumber, operand_number, register_number, alu_number, swap_result, Follows, after_follows, taken_follows, join_plain, unset_of_one}
+
+-- on some path to slot k the register is not written, and it is not set at the start
+abbrev pub Unwritten : List Insn → ℕ → Register → Type 0
+Unwritten code k r = (path : List ℕ) × IsPath code (k ∷ path) × (WrittenOn code path r → ⊥) × (SetAtStart r → ⊥)
+
+-- what is known of the row of slot k
+pub record IsPlainAt (code : List Insn) (k : ℕ) (row : Row) : Type 0 where
+  pub long : IsRow row
+  pub plain : PlainRow row
+  pub unset : (r : Register) → kind_at row r ≡ Unset → Unwritten code k r
+
+abbrev pub PlainIfAny : List Insn → ℕ → Option Row → Type 0
+PlainIfAny code k None = Unit {0}
+PlainIfAny code k (Some row) = IsPlainAt code k row
+
+abbrev pub PlainSlot : List Insn → ℕ → Option (Option Row) → Type 0
+PlainSlot code k None = Unit {0}
+PlainSlot code k (Some o) = PlainIfAny code k o
+
+-- ---- joins
+
+joined_rows : (code : List Insn) (k : ℕ) (a b : Row) → IsPlainAt code k a → IsPlainAt code k b → IsPlainAt code k (join_rows a b)
+joined_rows code k a b ha hb = record {
+  long = length_join a b (ha.long ∙ sym hb.long) ∙ ha.long;
+  plain = join_plain a b ha.plain hb.plain;
+  unset = λ r u. ⊎_elim (λ e. ha.unset r e) (λ e. hb.unset r e) (unset_of_one a b r ha.plain hb.plain u);
+}
+
+joined_plain : (code : List Insn) (k : ℕ) (o : Option Row) (row : Row) → PlainIfAny code k o → IsPlainAt code k row → PlainIfAny code k (joined o row)
+joined_plain code k None row h g = g
+joined_plain code k (Some old) row h g = joined_rows code k old row h g
+
+abbrev AllPlain : List Insn → List Edge → Type 0
+AllPlain code [] = Unit {0}
+AllPlain code (e ∷ es) = IsPlainAt code e.0 e.1 × AllPlain code es
+
+into_plain : (code : List Insn) (k : ℕ) (es : List Edge) (o : Option Row) → AllPlain code es → PlainIfAny code k o → PlainIfAny code k (into k es o)
+into_plain code k [] o a h = h
+into_plain code k (e ∷ es) o a h =
+    into_plain code k es _ a.1
+    (cond_both (eqb e.0 k) _ _ (PlainIfAny code k) (λ t. joined_plain code k o e.1 h (subst (λ n. IsPlainAt code n e.1) (eqb-true e.0 k t) a.0)) (λ _. h))
+
+all_append : (code : List Insn) (es fs : List Edge) → AllPlain code es → AllPlain code fs → AllPlain code (es ++ fs)
+all_append code [] fs a b = b
+all_append code (e ∷ es) fs a b = (a.0, all_append code es fs a.1 b)
+
+next_plain : (code : List Insn) (o : Option ℕ) (row : Row) → ((k : ℕ) → o ≡ Some k → IsPlainAt code k row) → AllPlain code (next_edge o row)
+next_plain code None row h = tt
+next_plain code (Some k) row h = (h k refl, tt)
+
+target_plain : (code : List Insn) (o : Option ℤ) (row : Row) → ((k : ℕ) → o ≡ Some (pos k) → IsPlainAt code k row) → AllPlain code (target_edge o row)
+target_plain code None row h = tt
+target_plain code (Some (pos k)) row h = (h k refl, tt)
+target_plain code (Some (negsuc k)) row h = tt
+
+-- ---- the entry
+
+entry_plain : (p : Program) → PlainRow (entry p)
+entry_plain p R0 = tt
+entry_plain p R1 = refl
+entry_plain p R2 = tt
+entry_plain p R3 = refl
+entry_plain p R4 = tt
+entry_plain p R5 = tt
+entry_plain p R6 = tt
+entry_plain p R7 = tt
+entry_plain p R8 = tt
+entry_plain p R9 = tt
+entry_plain p R10 = refl
+
+entry_unset : (p : Program) (r : Register) → kind_at (entry p) r ≡ Unset → SetAtStart r → ⊥
+entry_unset p R0 u s = s
+entry_unset p R1 u s = cc
+entry_unset p R2 u s = cc
+entry_unset p R3 u s = cc
+entry_unset p R4 u s = cc
+entry_unset p R5 u s = s
+entry_unset p R6 u s = s
+entry_unset p R7 u s = s
+entry_unset p R8 u s = s
+entry_unset p R9 u s = s
+entry_unset p R10 u s = cc
+
+entry_at : (p : Program) (k : ℕ) → k ≡ 0 → IsPlainAt p.code k (entry p)
+entry_at p k e = record {
+  long = refl;
+  plain = entry_plain p;
+  unset = λ r u. ([], e, (λ w. w), entry_unset p r u);
+}
+
+same_insn : (o : Option Insn) (x y : Insn) → o ≡ Some x → o ≡ Some y → x ≡ y
+same_insn o x y e f = cc
+
+-- an edge carries on what is known
+carried : (code : List Insn) (i k : ℕ) (x : Insn) (row next : Row) → slice_get code i ≡ Some x → IsPlainAt code i row → IsSuccessor code i k → IsRow next → Follows row next x → IsPlainAt code k next
+carried code i k x row next at here leads long follows = record {
+  long = long;
+  plain = follows.plain;
+  unset = λ r u.
+      let before = follows.unset r u in
+      let path = here.unset r before.0 in
+      (i ∷ path.0, (leads, path.1), ⊎_elim (λ w. before.1 (ap writes (same_insn (slice_get code i) x w.0 at w.1) ∙ w.2)) path.2, path.3);
+}
+
+module _ (p : Program) (some : 1 ≤ length p.code) (formed : IsFormed p.code) (starts : NextStarts p.code) (plain : IsPlain p.code) (reads_set : (i : ℕ) (x : Insn) (row : Row) → slice_get p.code i ≡ Some x → slice_get (table p) i ≡ Some (Some row) → IsPlainAt p.code i row → any_unset row (reads no_calls x) ≡ false) where
+  successor : (i k : ℕ) (x : Insn) → slice_get p.code i ≡ Some x → GoesTo i x k → Leads p.code i k → IsSuccessor p.code i k
+  successor i k x at goes l = (x, at, goes, l.above, (l.to, l.there, l.starts))
+
+  same_slot : (j k : ℕ) → pos k ≡ pos j → j ≡ k
+  same_slot j k e = cc
+
+  edges_plain : (i : ℕ) (x : Insn) (row : Row) → slice_get p.code i ≡ Some x → slice_get (table p) i ≡ Some (Some row) → IsPlainAt p.code i row → AllPlain p.code (edges_from i row x)
+  edges_plain i x row at here is =
+      let set = reads_set i x row at here is in
+      all_append p.code _ _
+      (next_plain p.code (next_of i x) (row_after row x) (λ k e. carried p.code i k x row (row_after row x) at is (successor i k x at (inl e) (next_leads p.code i x k formed starts at e)) (after_is_row row x is.long) (after_follows row x is.long is.plain (plain i x at) set)))
+      (target_plain p.code (target_of i x) (row_taken row x) (λ k e. let l = target_leads p.code i x (pos k) formed at e in
+      carried p.code i k x row (row_taken row x) at is (successor i k x at (inr e) (subst (Leads p.code i) (same_slot l.0 k l.1) l.2)) (taken_is_row row x is.long) (taken_follows row x (pos k) i e is.long is.plain (plain i x at) set)))
+
+  edges_of_plain : (i : ℕ) (x : Option Insn) (o : Option (Option Row)) → slice_get p.code i ≡ x → slice_get (table p) i ≡ o → PlainSlot p.code i o → AllPlain p.code (edges_of i x o)
+  edges_of_plain i None o at here h = tt
+  edges_of_plain i (Some x) None at here h = tt
+  edges_of_plain i (Some x) (Some None) at here h = tt
+  edges_of_plain i (Some x) (Some (Some row)) at here h = edges_plain i x row at here h
+
+  first_plain : (k : ℕ) → PlainIfAny p.code k (cond (eqb k 0) (Some (entry p)) None)
+  first_plain k = cond_both (eqb k 0) _ _ (PlainIfAny p.code k) (λ t. entry_at p k (eqb-true k 0 t)) (λ _. tt)
+
+  arrivals_plain : (n k : ℕ) → ((i : ℕ) → i < n → PlainSlot p.code i (slice_get (table p) i)) → PlainIfAny p.code k (arrivals p (table p) n k)
+  arrivals_plain zero k h = first_plain k
+  arrivals_plain (suc n) k h =
+      into_plain p.code k _ _ (edges_of_plain n (slice_get p.code n) (slice_get (table p) n) refl refl (h n (omega arith))) (arrivals_plain n k (λ i lt. h i (omega arith)))
+
+  pub table_plain : (n k : ℕ) → k < n → PlainSlot p.code k (slice_get (table p) k)
+  table_plain zero k h = absurd (omega arith)
+  table_plain (suc n) k h =
+      ⊎_elim
+      (λ lt. subst (PlainSlot p.code k) (sym (table_at p k lt)) (arrivals_plain k k (λ i l. table_plain n i (omega arith))))
+      (λ le. subst (PlainSlot p.code k) (sym (slice_get_past (table p) k (omega (arith, length_rows p (length p.code))))) tt)
+      (cases_lt k (length p.code))
+
+-- ---- no rule is broken
+
+some_unset : (row : Row) (rs : List Register) → any_unset row rs ≡ true → (r : Register) × IsIn r rs × (kind_at row r ≡ Unset)
+some_unset row [] h = cc
+some_unset row (r ∷ rs) h =
+    ⊎_elim
+    (λ t. (r, inl refl, unset_kind (kind_at row r) t))
+    (λ f. let more = some_unset row rs (or_rest (is_unset (kind_at row r)) (any_unset row rs) f h) in (more.0, inr more.1, more.2))
+    (cases_Bool (is_unset (kind_at row r)))
+  where
+    unset_kind : (k : Kind) → is_unset k ≡ true → k ≡ Unset
+    unset_kind Unset t = refl
+    unset_kind (Num lo hi) t = cc
+    unset_kind (Ptr q lo hi) t = cc
+
+    or_rest : (a b : Bool) → a ≡ false → (a || b) ≡ true → b ≡ true
+    or_rest true b f h = cc
+    or_rest false b f h = h
+
+is_le : (a b : ℤ) → a ≤ℤ b → int_le a b ≡ true
+is_le a b h = grind (arith, ints)
+
+inside_true : (p : Program) (q : Region) (offset : ℤ) (size : ℕ) → first_offset q ≤ℤ offset → (offset +ℤ pos size) ≤ℤ end_offset p q → is_inside p (Ptr q (pos 0) (pos 0)) offset size ≡ true
+inside_true p q offset size h g =
+    and_from (int_le (first_offset q) (pos 0 +ℤ offset)) (int_le (pos 0 +ℤ offset +ℤ pos size) (end_offset p q)) (is_le _ _ (low (first_offset q) offset h)) (is_le _ _ (high offset size (end_offset p q) g))
+  where
+    low : (a o : ℤ) → a ≤ℤ o → a ≤ℤ (pos 0 +ℤ o)
+    low a o h = omega (arith, ints)
+
+    high : (o : ℤ) (n : ℕ) (b : ℤ) → (o +ℤ pos n) ≤ℤ b → (pos 0 +ℤ o +ℤ pos n) ≤ℤ b
+    high o n b h = omega (arith, ints)
+
+inside_at : (p : Program) (r : Register) (k : Kind) (offset : ℤ) (size : ℕ) → PlainAt r k → InWindow p r offset size → is_inside p k offset size ≡ true
+inside_at p R0 k offset size h w = absurd w
+inside_at p R1 k offset size h w = ap (λ y. is_inside p y offset size) h ∙ inside_true p Input offset size w.0 w.1
+inside_at p R2 k offset size h w = absurd w
+inside_at p R3 k offset size h w = ap (λ y. is_inside p y offset size) h ∙ inside_true p Output offset size w.0 w.1
+inside_at p R4 k offset size h w = absurd w
+inside_at p R5 k offset size h w = absurd w
+inside_at p R6 k offset size h w = absurd w
+inside_at p R7 k offset size h w = absurd w
+inside_at p R8 k offset size h w = absurd w
+inside_at p R9 k offset size h w = absurd w
+inside_at p R10 k offset size h w = ap (λ y. is_inside p y offset size) h ∙ inside_true p Stack offset size w.0 w.1
+
+not_input_at : (p : Program) (r : Register) (k : Kind) (offset : ℤ) (size : ℕ) → PlainAt r k → InWindow p r offset size → r ≢ R1 → is_input_pointer k ≡ false
+not_input_at p R0 k offset size h w n = absurd w
+not_input_at p R1 k offset size h w n = absurd (n refl)
+not_input_at p R2 k offset size h w n = absurd w
+not_input_at p R3 k offset size h w n = ap is_input_pointer h
+not_input_at p R4 k offset size h w n = absurd w
+not_input_at p R5 k offset size h w n = absurd w
+not_input_at p R6 k offset size h w n = absurd w
+not_input_at p R7 k offset size h w n = absurd w
+not_input_at p R8 k offset size h w n = absurd w
+not_input_at p R9 k offset size h w n = absurd w
+not_input_at p R10 k offset size h w n = ap is_input_pointer h
+
+no_pointer : (k : Kind) → IsNum k → is_pointer k ≡ false
+no_pointer k h = ap is_pointer h.2
+
+not_told : (b : Bool) (rule : KindRule) → b ≡ false → broken_if b rule ≡ None
+not_told b rule e = ap (λ t. broken_if t rule) e
+
+no_bad : (r : _) → GivesNumber r → bad_result r ≡ None
+no_bad r h = ap bad_result h.1
+
+not_frame : (d : Register) → window_of d ≡ None → is_frame (Some d) ≡ false
+not_frame R0 e = refl
+not_frame R1 e = refl
+not_frame R2 e = refl
+not_frame R3 e = refl
+not_frame R4 e = refl
+not_frame R5 e = refl
+not_frame R6 e = refl
+not_frame R7 e = refl
+not_frame R8 e = refl
+not_frame R9 e = refl
+not_frame R10 e = cc
+
+no_frame : (x : Insn) → IsPlainInsn x → is_frame (writes x) ≡ false
+no_frame (insn.Alu o w dst src) is = not_frame dst (is.no_address dst (inl refl))
+no_frame (insn.Swap kind n dst) is = not_frame dst (is.no_address dst (inl refl))
+no_frame (insn.Load size extend dst base offset) is = not_frame dst (is.no_address dst (inl refl))
+no_frame (insn.Store size base offset src) is = refl
+no_frame (insn.Jump d) is = refl
+no_frame (insn.JumpIf c w left right o) is = refl
+no_frame (insn.Call h) is = refl
+no_frame insn.Exit is = refl
+no_frame (insn.Wide dst n) is = not_frame dst (is.no_address dst (inl refl))
+no_frame insn.Tail is = refl
+
+or_false : (a b : Bool) → a ≡ false → b ≡ false → (a || b) ≡ false
+or_false true b h g = cc
+or_false false b h g = g
+
+not_true : (t : Bool) → t ≡ true → not t ≡ false
+not_true t e = ap not e
+
+kind_no_pointer : (k : Kind) → IsNumOrUnset k → is_pointer k ≡ false
+kind_no_pointer Unset h = refl
+kind_no_pointer (Num lo hi) h = refl
+kind_no_pointer (Ptr q lo hi) h = absurd h
+
+class_kept : (p : Program) (row : Row) (x : Insn) → PlainRow row → IsPlainInsn x → StaysInside p x → any_unset row (reads no_calls x) ≡ false → AllNone (class_rules p row x)
+class_kept p row (insn.Alu o w dst src) plain is inside u = (no_bad _ (alu_number row plain w dst src is.no_address o u), tt)
+class_kept p row (insn.Swap kind n dst) plain is inside u = (no_bad _ (swap_result kind n (kind_at row dst) (register_number row dst [] plain (is.no_address dst (inl refl)) u)), tt)
+class_kept p row (insn.Load size extend dst base offset) plain is inside u = (not_told _ OutsideWindow (not_true _ (inside_at p base (kind_at row base) offset (size_bytes size) (plain base) inside)), tt)
+class_kept p row (insn.Store size base offset src) plain is inside u = (
+  not_told _ OutsideWindow (not_true _ (inside_at p base (kind_at row base) offset (size_bytes size) (plain base) inside.0)),
+  (
+    not_told _ InputStored (not_input_at p base (kind_at row base) offset (size_bytes size) (plain base) inside.0 inside.1),
+    (not_told _ PointerStored (no_pointer _ (operand_number row src plain is.no_address (or_right (is_unset (kind_at row base)) (any_unset row (operand_reads src)) u))), tt),
+  ),
+)
+class_kept p row (insn.Jump d) plain is inside u = tt
+class_kept p row (insn.JumpIf c w left right o) plain is inside u = (
+  not_told _ PointerOperand
+      (or_false _ _ (no_pointer _ (register_number row left (operand_reads right) plain (is.no_address left (inl refl)) u)) (no_pointer _ (operand_number row right plain (λ r h. is.no_address r (inr h)) (or_right (is_unset (kind_at row left)) (any_unset row (operand_reads right)) u)))),
+  tt,
+)
+class_kept p row (insn.Call h) plain is inside u = absurd (is.no_call h refl)
+class_kept p row insn.Exit plain is inside u = (not_told _ PointerAnswer (kind_no_pointer (kind_at row R0) (plain R0)), tt)
+class_kept p row (insn.Wide dst n) plain is inside u = tt
+class_kept p row insn.Tail plain is inside u = tt
+
+none_first : {A : Type 0} (xs : List (Option A)) → AllNone xs → first_of xs ≡ None
+none_first [] h = refl
+none_first (None ∷ xs) h = none_first xs h.1
+none_first (Some x ∷ xs) h = cc
+
+-- ---- the theorem
+
+module _ (p : Program) (some : 1 ≤ length p.code) (starts : NextStarts p.code) (plain : IsPlain p.code) (good : IsWellBehaved p) where
+  reads_are_set : (i : ℕ) (x : Insn) (row : Row) → slice_get p.code i ≡ Some x → slice_get (table p) i ≡ Some (Some row) → IsPlainAt p.code i row → any_unset row (reads no_calls x) ≡ false
+  reads_are_set i x row at here is =
+      ⊎_elim
+      (λ t. let r = some_unset row (reads no_calls x) t in
+      let path = is.unset r.0 r.2 in
+      absurd (⊎_elim path.2 path.3 (good.set i path.0 path.1 x at r.0 r.1)))
+      (λ f. f)
+      (cases_Bool (any_unset row (reads no_calls x)))
+
+  kept_here : (k : ℕ) (x : Option Insn) (o : Option (Option Row)) → slice_get p.code k ≡ x → slice_get (table p) k ≡ o → PlainSlot p.code k o → broken_with p x o ≡ None
+  kept_here k None o at here h = refl
+  kept_here k (Some x) None at here h = refl
+  kept_here k (Some x) (Some None) at here h = refl
+  kept_here k (Some x) (Some (Some row)) at here h =
+      let u = reads_are_set k x row at here h in
+      none_first (rules_of p row x) (not_told _ UnsetRead u, (not_told _ FrameWritten (no_frame x (plain k x at)), class_kept p row x h.plain (plain k x at) (good.inside k x at) u))
+
+  pub well_behaved_accepted : IsAccepted p
+  well_behaved_accepted = record {
+    formed = good.formed;
+    unbroken = λ k. kept_here k (slice_get p.code k) (slice_get (table p) k) refl refl (table_plain p some good.formed starts plain reads_are_set (suc k) k (omega arith));
+  }

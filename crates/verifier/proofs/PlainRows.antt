@@ -1,0 +1,369 @@
+-- The rows of plain programs: the addresses stay as they were at the start, and every other register is a number or unset.
+use Rattle.std.proofs.Common.{◌≡◌, ◌≢◌, ℕ, zero, suc, ℤ, pos, ◌<◌, Bool, true, false, eqb, List, [], ◌∷◌, length, length-set, get_or, set, ◌%◌, ◌^◌, Some, None, Result, Ok, refl, sym, ap, ◌∙◌, subst, inl, inr, ⊎_elim, arith}
+use Rattle.std.specs.Prelude.{◌⊎◌}
+use Rattle.std.proofs.lemmas.Bool.{cond_both, cases_eq}
+use Rattle.alu.specs.Value.{wrapped, bits}
+use Rattle.alu.specs.declared.Op.{Op}
+use Rattle.alu.specs.declared.Op.TheVariants as op
+use Rattle.alu.specs.declared.Width.{Width}
+use Rattle.alu.specs.declared.Width.TheVariants.{W32, W64}
+use Rattle.alu.specs.declared.Cond.{Cond}
+use Rattle.insn.specs.Encoding.{number}
+use Rattle.insn.specs.declared.Size.{Size}
+use Rattle.insn.specs.declared.Extend.{Extend}
+use Rattle.insn.specs.declared.Extend.TheVariants.{Zero, Sign}
+use Rattle.insn.specs.declared.Register.{Register}
+use Rattle.insn.specs.declared.Register.TheVariants.{R0, R1, R2, R3, R4, R5, R6, R7, R8, R9, R10}
+use Rattle.insn.specs.declared.Operand.{Operand}
+use Rattle.insn.specs.declared.Operand.TheVariants as operand
+use Rattle.insn.specs.declared.Insn.{Insn}
+use Rattle.insn.specs.declared.Insn.TheVariants as insn
+use Rattle.memory.specs.State.{no_calls, reads, writes, operand_reads}
+use Rattle.memory.specs.declared.Region.TheVariants.{Stack, Input, Output}
+use Rattle.ranges.specs.declared.kind.Kind.{Kind}
+use Rattle.ranges.specs.declared.kind.Kind.TheVariants.{Unset, Num, Ptr}
+use Rattle.ranges.specs.declared.kind.Bad.{Bad}
+use Rattle.ranges.specs.Transfer.{transfer_of, of_one, of_two, swap_of, refine_of, join_of}
+use Rattle.bpfimage.specs.Form.{target_of}
+use Rattle.verifier.specs.Rules.{Row, kind_at, with_kind, kind_from, one_number, is_unset, any_unset, result_kind, loaded, refined, row_after, row_taken}
+use Rattle.verifier.specs.Table.{join_rows}
+use Rattle.verifier.specs.Plain.{IsIn, window_of, IsPlainInsn}
+use Rattle.verifier.proofs.Classes.{or_left, or_right}
+
+-- ---- kinds
+
+abbrev pub IsNum : Kind → Type 0
+IsNum k = (lo : ℕ) × (hi : ℕ) × (k ≡ Num lo hi)
+
+abbrev pub IsNumOrUnset : Kind → Type 0
+IsNumOrUnset Unset = Unit {0}
+IsNumOrUnset (Num lo hi) = Unit {0}
+IsNumOrUnset (Ptr region lo hi) = ⊥
+
+-- the kinds that a register may have
+abbrev pub PlainAt : Register → Kind → Type 0
+PlainAt R1 k = k ≡ Ptr Input (pos 0) (pos 0)
+PlainAt R3 k = k ≡ Ptr Output (pos 0) (pos 0)
+PlainAt R10 k = k ≡ Ptr Stack (pos 0) (pos 0)
+PlainAt other k = IsNumOrUnset k
+
+abbrev pub PlainRow : Row → Type 0
+PlainRow row = (r : Register) → PlainAt r (kind_at row r)
+
+register_of : ℕ → Register
+register_of zero = R0
+register_of (suc zero) = R1
+register_of (suc (suc zero)) = R2
+register_of (suc (suc (suc zero))) = R3
+register_of (suc (suc (suc (suc zero)))) = R4
+register_of (suc (suc (suc (suc (suc zero))))) = R5
+register_of (suc (suc (suc (suc (suc (suc zero)))))) = R6
+register_of (suc (suc (suc (suc (suc (suc (suc zero))))))) = R7
+register_of (suc (suc (suc (suc (suc (suc (suc (suc zero)))))))) = R8
+register_of (suc (suc (suc (suc (suc (suc (suc (suc (suc zero))))))))) = R9
+register_of (suc (suc (suc (suc (suc (suc (suc (suc (suc (suc n)))))))))) = R10
+
+named_back : (r : Register) → register_of (number r) ≡ r
+unfolding register_of
+named_back R0 = refl
+named_back R1 = refl
+named_back R2 = refl
+named_back R3 = refl
+named_back R4 = refl
+named_back R5 = refl
+named_back R6 = refl
+named_back R7 = refl
+named_back R8 = refl
+named_back R9 = refl
+named_back R10 = refl
+
+pub same_register : (r q : Register) → number r ≡ number q → r ≡ q
+same_register r q e = sym (named_back r) ∙ ap register_of e ∙ named_back q
+
+plain_number : (r : Register) (k : Kind) → window_of r ≡ None → IsNum k → PlainAt r k
+plain_number R0 k w h = subst IsNumOrUnset (sym h.2) tt
+plain_number R1 k w h = cc
+plain_number R2 k w h = subst IsNumOrUnset (sym h.2) tt
+plain_number R3 k w h = cc
+plain_number R4 k w h = subst IsNumOrUnset (sym h.2) tt
+plain_number R5 k w h = subst IsNumOrUnset (sym h.2) tt
+plain_number R6 k w h = subst IsNumOrUnset (sym h.2) tt
+plain_number R7 k w h = subst IsNumOrUnset (sym h.2) tt
+plain_number R8 k w h = subst IsNumOrUnset (sym h.2) tt
+plain_number R9 k w h = subst IsNumOrUnset (sym h.2) tt
+plain_number R10 k w h = cc
+
+num_of_kind : (k : Kind) → IsNumOrUnset k → is_unset k ≡ false → IsNum k
+num_of_kind Unset h u = cc
+num_of_kind (Num lo hi) h u = (lo, hi, refl)
+num_of_kind (Ptr region lo hi) h u = absurd h
+
+-- a register that is set, and no address, is a number
+pub num_of : (r : Register) (k : Kind) → PlainAt r k → window_of r ≡ None → is_unset k ≡ false → IsNum k
+num_of R0 k h w u = num_of_kind k h u
+num_of R1 k h w u = cc
+num_of R2 k h w u = num_of_kind k h u
+num_of R3 k h w u = cc
+num_of R4 k h w u = num_of_kind k h u
+num_of R5 k h w u = num_of_kind k h u
+num_of R6 k h w u = num_of_kind k h u
+num_of R7 k h w u = num_of_kind k h u
+num_of R8 k h w u = num_of_kind k h u
+num_of R9 k h w u = num_of_kind k h u
+num_of R10 k h w u = cc
+
+-- ---- results
+
+abbrev pub GivesNumber : Result Kind Bad → Type 0
+GivesNumber r = (k : Kind) × (r ≡ Ok k) × IsNum k
+
+two_numbers : (o : Op) (w : Width) (al ah bl bh : ℕ) → GivesNumber (of_two o w (Num al ah) (Num bl bh))
+two_numbers o w al ah bl bh = (_, refl, (_, _, refl))
+
+one_number_alone : (o : Op) (w : Width) (al ah : ℕ) → GivesNumber (of_one o w (Num al ah))
+one_number_alone o w al ah = (_, refl, (_, _, refl))
+
+two_result : (o : Op) (w : Width) (a b : Kind) → IsNum a → IsNum b → GivesNumber (of_two o w a b)
+two_result o w a b ha hb =
+    subst (λ x. GivesNumber (of_two o w x b)) (sym ha.2) (subst (λ y. GivesNumber (of_two o w (Num ha.0 ha.1) y)) (sym hb.2) (two_numbers o w ha.0 ha.1 hb.0 hb.1))
+
+one_result : (o : Op) (w : Width) (a : Kind) → IsNum a → GivesNumber (of_one o w a)
+one_result o w a ha = subst (λ x. GivesNumber (of_one o w x)) (sym ha.2) (one_number_alone o w ha.0 ha.1)
+
+move_result : (w : Width) (a b : Kind) → IsNum b → GivesNumber (transfer_of op.Mov w a b)
+move_result W64 a b hb = (b, refl, hb)
+move_result W32 a b hb = one_result op.Mov W32 b hb
+
+pub swap_result : (kind : _) (n : _) (a : Kind) → IsNum a → GivesNumber (swap_of kind n a)
+swap_result kind n a ha = subst (λ x. GivesNumber (swap_of kind n x)) (sym ha.2) (_, refl, (_, _, refl))
+
+refine_numbers : (c : Cond) (w : Width) (a b : Kind) (t : Bool) → IsNum a → IsNum b → IsNum (refine_of c w a b t).0 × IsNum (refine_of c w a b t).1
+refine_numbers c w a b t ha hb =
+    subst (λ x. IsNum (refine_of c w x b t).0 × IsNum (refine_of c w x b t).1) (sym ha.2) (subst (λ y. IsNum (refine_of c w (Num ha.0 ha.1) y t).0 × IsNum (refine_of c w (Num ha.0 ha.1) y t).1) (sym hb.2) ((_, _, refl), (_, _, refl)))
+
+loaded_number : (size : Size) (extend : Extend) → IsNum (loaded size extend)
+loaded_number size Zero = (_, _, refl)
+loaded_number size Sign = (_, _, refl)
+
+result_number : (r : Result Kind Bad) → GivesNumber r → IsNum (result_kind r)
+result_number r h = subst IsNum (ap result_kind (sym h.1)) h.2
+
+-- ---- operands of a plain instruction that are set
+
+abbrev pub NoAddress : List Register → Type 0
+NoAddress rs = (r : Register) → IsIn r rs → window_of r ≡ None
+
+pub operand_number : (row : Row) (src : Operand) → PlainRow row → NoAddress (operand_reads src) → any_unset row (operand_reads src) ≡ false → IsNum (kind_from row src)
+operand_number row (operand.Register r) plain na u = num_of r (kind_at row r) (plain r) (na r (inl refl)) (or_left (is_unset (kind_at row r)) (any_unset row []) u)
+operand_number row (operand.Immediate n) plain na u = (_, _, refl)
+
+pub register_number : (row : Row) (r : Register) (rs : List Register) → PlainRow row → window_of r ≡ None → any_unset row (r ∷ rs) ≡ false → IsNum (kind_at row r)
+register_number row r rs plain w u = num_of r (kind_at row r) (plain r) w (or_left (is_unset (kind_at row r)) (any_unset row rs) u)
+
+module _ (row : Row) (plain : PlainRow row) (w : Width) (dst : Register) (src : Operand) (na : NoAddress (dst ∷ operand_reads src)) where
+  both : (o : Op) → any_unset row (dst ∷ operand_reads src) ≡ false → GivesNumber (of_two o w (kind_at row dst) (kind_from row src))
+  both o u = two_result o w (kind_at row dst) (kind_from row src) (register_number row dst (operand_reads src) plain (na dst (inl refl)) u) (operand_number row src plain (λ r h. na r (inr h)) (or_right (is_unset (kind_at row dst)) (any_unset row (operand_reads src)) u))
+
+  alone : any_unset row (operand_reads src) ≡ false → IsNum (kind_from row src)
+  alone u = operand_number row src plain (λ r h. na r (inr h)) u
+
+  pub alu_number : (o : Op) → any_unset row (reads no_calls (insn.Alu o w dst src)) ≡ false → GivesNumber (transfer_of o w (kind_at row dst) (kind_from row src))
+  alu_number op.Add u = both op.Add u
+  alu_number op.Sub u = both op.Sub u
+  alu_number op.Mul u = both op.Mul u
+  alu_number op.Div u = both op.Div u
+  alu_number op.SignedDiv u = both op.SignedDiv u
+  alu_number op.Or u = both op.Or u
+  alu_number op.And u = both op.And u
+  alu_number op.Xor u = both op.Xor u
+  alu_number op.Lsh u = both op.Lsh u
+  alu_number op.Rsh u = both op.Rsh u
+  alu_number op.Arsh u = both op.Arsh u
+  alu_number op.Mod u = both op.Mod u
+  alu_number op.SignedMod u = both op.SignedMod u
+  alu_number op.Neg u = one_result op.Neg w (kind_at row dst) (register_number row dst (operand_reads src) plain (na dst (inl refl)) u)
+  alu_number op.Mov u = move_result w (kind_at row dst) (kind_from row src) (alone u)
+  alu_number op.Movsx8 u = one_result op.Movsx8 w (kind_from row src) (alone u)
+  alu_number op.Movsx16 u = one_result op.Movsx16 w (kind_from row src) (alone u)
+  alu_number op.Movsx32 u = one_result op.Movsx32 w (kind_from row src) (alone u)
+
+-- ---- a kind that is written
+
+set_kind : (row : Row) (i j : ℕ) (k : Kind) (P : Kind → Type 0) → P (get_or row j Unset) → (j ≡ i → P k) → P (get_or (set row i k) j Unset)
+set_kind [] i j k P h g = h
+set_kind (x ∷ row) zero zero k P h g = g refl
+set_kind (x ∷ row) zero (suc j) k P h g = h
+set_kind (x ∷ row) (suc i) zero k P h g = h
+set_kind (x ∷ row) (suc i) (suc j) k P h g = set_kind row i j k P h (λ e. g (ap suc e))
+
+set_plain : (row : Row) (d : Register) (k : Kind) → PlainRow row → window_of d ≡ None → IsNum k → PlainRow (with_kind row d k)
+set_plain row d k plain w h = λ r. set_kind row (number d) (number r) k (PlainAt r) (plain r) (λ e. plain_number r k (ap window_of (same_register r d e) ∙ w) h)
+
+set_there : (row : Row) (i : ℕ) (k : Kind) → i < length row → get_or (set row i k) i Unset ≡ k
+set_there [] i k h = absurd (omega arith)
+set_there (x ∷ row) zero k h = refl
+set_there (x ∷ row) (suc i) k h = set_there row i k (omega arith)
+
+set_aside : (row : Row) (i j : ℕ) (k : Kind) → j ≢ i → get_or (set row i k) j Unset ≡ get_or row j Unset
+set_aside [] i j k ne = refl
+set_aside (x ∷ row) zero zero k ne = absurd (ne refl)
+set_aside (x ∷ row) zero (suc j) k ne = refl
+set_aside (x ∷ row) (suc i) zero k ne = refl
+set_aside (x ∷ row) (suc i) (suc j) k ne = set_aside row i j k (λ e. ne (ap suc e))
+
+number_small : (r : Register) → number r < 11
+number_small R0 = omega arith
+number_small R1 = omega arith
+number_small R2 = omega arith
+number_small R3 = omega arith
+number_small R4 = omega arith
+number_small R5 = omega arith
+number_small R6 = omega arith
+number_small R7 = omega arith
+number_small R8 = omega arith
+number_small R9 = omega arith
+number_small R10 = omega arith
+
+not_number : (k : Kind) → IsNum k → k ≡ Unset → ⊥
+not_number k h e = let f : Num h.0 h.1 ≡ Unset = sym h.2 ∙ e in cc
+
+-- what is unset there was unset before, and is another register
+pub unset_before : (row : Row) (d r : Register) (k : Kind) → length row ≡ 11 → IsNum k → kind_at (with_kind row d k) r ≡ Unset → (kind_at row r ≡ Unset) × (r ≢ d)
+unset_before row d r k long h u =
+    ⊎_elim
+    (λ same. absurd (not_number k h (sym (set_there row (number d) k (omega (arith, long, number_small d))) ∙ ap (λ j. get_or (set row (number d) k) j Unset) (sym same) ∙ u)))
+    (λ other. (sym (set_aside row (number d) (number r) k other) ∙ u, λ e. other (ap number e)))
+    (cases_eq (number r) (number d))
+
+-- ---- a plain instruction whose reads are set
+
+-- the row after it: the addresses stay, and what is unset was unset before, and is not written
+pub record Follows (row next : Row) (x : Insn) : Type 0 where
+  pub plain : PlainRow next
+  pub unset : (r : Register) → kind_at next r ≡ Unset → (kind_at row r ≡ Unset) × (writes x ≢ Some r)
+
+written_follows : (row : Row) (x : Insn) (d : Register) (k : Kind) → length row ≡ 11 → PlainRow row → window_of d ≡ None → IsNum k → writes x ≡ Some d → Follows row (with_kind row d k) x
+written_follows row x d k long plain w h e = record {
+  plain = set_plain row d k plain w h;
+  unset = λ r u. let b = unset_before row d r k long h u in (b.0, λ q. b.1 (same_some r d (sym q ∙ e)));
+}
+  where
+    same_some : (r d : Register) → Some r ≡ Some d → r ≡ d
+    same_some r d e = cc
+
+same_follows : (row : Row) (x : Insn) → PlainRow row → writes x ≡ None → Follows row row x
+same_follows row x plain e = record { plain = plain; unset = λ r u. (u, λ q. no_some r (sym e ∙ q)) }
+  where
+    no_some : (r : Register) → None ≡ Some r → ⊥
+    no_some r e = cc
+
+refined_follows : (row : Row) (c : Cond) (w : Width) (left : Register) (right : Operand) (o : ℤ) (t : Bool) → length row ≡ 11 → PlainRow row → NoAddress (left ∷ operand_reads right) → any_unset row (left ∷ operand_reads right) ≡ false → Follows row (refined c w left right t row) (insn.JumpIf c w left right o)
+refined_follows row c w left (operand.Register right) o t long plain na u =
+    let a = register_number row left (right ∷ []) plain (na left (inl refl)) u in
+    let b = register_number row right [] plain (na right (inr (inl refl))) (or_right (is_unset (kind_at row left)) (any_unset row (right ∷ [])) u) in
+    let k = refine_of c w (kind_at row left) (kind_at row right) t in
+    let n = refine_numbers c w (kind_at row left) (kind_at row right) t a b in
+    cond_both (eqb (number left) (number right)) _ _ (λ q. Follows row q (insn.JumpIf c w left (operand.Register right) o)) (λ _. same_follows row _ plain refl)
+    (λ _. record {
+      plain = set_plain (with_kind row left k.0) right k.1 (set_plain row left k.0 plain (na left (inl refl)) n.0) (na right (inr (inl refl))) n.1;
+      unset = λ r e. let one = unset_before (with_kind row left k.0) right r k.1 (length-set row (number left) k.0 ∙ long) n.1 e in
+          let two = unset_before row left r k.0 long n.0 one.0 in (two.0, λ q. cc);
+    })
+refined_follows row c w left (operand.Immediate i) o t long plain na u =
+    let a = register_number row left [] plain (na left (inl refl)) u in
+    let m = wrapped 64 i % 2 ^ bits w in
+    let n = refine_numbers c w (kind_at row left) (one_number m) t a (m, m, refl) in
+    record {
+      plain = set_plain row left _ plain (na left (inl refl)) n.0;
+      unset = λ r e. let one = unset_before row left r _ long n.0 e in (one.0, λ q. cc);
+    }
+
+pub after_follows : (row : Row) (x : Insn) → length row ≡ 11 → PlainRow row → IsPlainInsn x → any_unset row (reads no_calls x) ≡ false → Follows row (row_after row x) x
+after_follows row (insn.Alu o w dst src) long plain is u = written_follows row _ dst _ long plain (is.no_address dst (inl refl)) (result_number _ (alu_number row plain w dst src is.no_address o u)) refl
+after_follows row (insn.Swap kind n dst) long plain is u = written_follows row _ dst _ long plain (is.no_address dst (inl refl)) (result_number _ (swap_result kind n (kind_at row dst) (register_number row dst [] plain (is.no_address dst (inl refl)) u))) refl
+after_follows row (insn.Load size extend dst base offset) long plain is u = written_follows row _ dst _ long plain (is.no_address dst (inl refl)) (loaded_number size extend) refl
+after_follows row (insn.Store size base offset src) long plain is u = same_follows row _ plain refl
+after_follows row (insn.Jump distance) long plain is u = same_follows row _ plain refl
+after_follows row (insn.JumpIf c w left right o) long plain is u = refined_follows row c w left right o false long plain is.no_address u
+after_follows row (insn.Call helper) long plain is u = same_follows row _ plain refl
+after_follows row insn.Exit long plain is u = same_follows row _ plain refl
+after_follows row (insn.Wide dst n) long plain is u = written_follows row _ dst _ long plain (is.no_address dst (inl refl)) (n, n, refl) refl
+after_follows row insn.Tail long plain is u = same_follows row _ plain refl
+
+pub taken_follows : (row : Row) (x : Insn) (z : ℤ) (i : ℕ) → target_of i x ≡ Some z → length row ≡ 11 → PlainRow row → IsPlainInsn x → any_unset row (reads no_calls x) ≡ false → Follows row (row_taken row x) x
+taken_follows row (insn.Alu o w dst src) z i e long plain is u = cc
+taken_follows row (insn.Swap kind n dst) z i e long plain is u = cc
+taken_follows row (insn.Load size extend dst base offset) z i e long plain is u = cc
+taken_follows row (insn.Store size base offset src) z i e long plain is u = cc
+taken_follows row (insn.Jump distance) z i e long plain is u = same_follows row _ plain refl
+taken_follows row (insn.JumpIf c w left right o) z i e long plain is u = refined_follows row c w left right o true long plain is.no_address u
+taken_follows row (insn.Call helper) z i e long plain is u = cc
+taken_follows row insn.Exit z i e long plain is u = cc
+taken_follows row (insn.Wide dst n) z i e long plain is u = cc
+taken_follows row insn.Tail z i e long plain is u = cc
+
+-- ---- joins
+
+join_unset : (k : Kind) → join_of k Unset ≡ Unset
+join_unset Unset = refl
+join_unset (Num lo hi) = refl
+join_unset (Ptr s lo hi) = refl
+
+pub at_join : (a b : Row) (r : ℕ) → get_or (join_rows a b) r Unset ≡ join_of (get_or a r Unset) (get_or b r Unset)
+at_join [] b r = refl
+at_join (x ∷ xs) [] r = sym (join_unset (get_or (x ∷ xs) r Unset))
+at_join (x ∷ xs) (y ∷ ys) zero = refl
+at_join (x ∷ xs) (y ∷ ys) (suc r) = at_join xs ys r
+
+join_plain_kinds : (a b : Kind) → IsNumOrUnset a → IsNumOrUnset b → IsNumOrUnset (join_of a b)
+join_plain_kinds Unset b h g = tt
+join_plain_kinds (Num al ah) Unset h g = tt
+join_plain_kinds (Num al ah) (Num bl bh) h g = tt
+join_plain_kinds (Num al ah) (Ptr q bl bh) h g = absurd g
+join_plain_kinds (Ptr q al ah) b h g = absurd h
+
+join_same : (a b k : Kind) → join_of k k ≡ k → a ≡ k → b ≡ k → join_of a b ≡ k
+join_same a b k j e f = ap (λ x. join_of x b) e ∙ ap (join_of k) f ∙ j
+
+join_plain_at : (r : Register) (a b : Kind) → PlainAt r a → PlainAt r b → PlainAt r (join_of a b)
+join_plain_at R0 a b h g = join_plain_kinds a b h g
+join_plain_at R1 a b h g = join_same a b _ refl h g
+join_plain_at R2 a b h g = join_plain_kinds a b h g
+join_plain_at R3 a b h g = join_same a b _ refl h g
+join_plain_at R4 a b h g = join_plain_kinds a b h g
+join_plain_at R5 a b h g = join_plain_kinds a b h g
+join_plain_at R6 a b h g = join_plain_kinds a b h g
+join_plain_at R7 a b h g = join_plain_kinds a b h g
+join_plain_at R8 a b h g = join_plain_kinds a b h g
+join_plain_at R9 a b h g = join_plain_kinds a b h g
+join_plain_at R10 a b h g = join_same a b _ refl h g
+
+pub join_plain : (a b : Row) → PlainRow a → PlainRow b → PlainRow (join_rows a b)
+join_plain a b h g = λ r. subst (PlainAt r) (sym (at_join a b (number r))) (join_plain_at r (kind_at a r) (kind_at b r) (h r) (g r))
+
+-- of two plain kinds that join to nothing known, one was unset
+one_unset : (a b : Kind) → IsNumOrUnset a → IsNumOrUnset b → join_of a b ≡ Unset → (a ≡ Unset) ⊎ (b ≡ Unset)
+one_unset Unset b h g e = inl refl
+one_unset (Num al ah) Unset h g e = inr refl
+one_unset (Num al ah) (Num bl bh) h g e = cc
+one_unset (Num al ah) (Ptr q bl bh) h g e = absurd g
+one_unset (Ptr q al ah) b h g e = absurd h
+
+kept_pointer : (a b k : Kind) → join_of k k ≡ k → (k ≡ Unset → ⊥) → a ≡ k → b ≡ k → join_of a b ≡ Unset → (a ≡ Unset) ⊎ (b ≡ Unset)
+kept_pointer a b k j n e f u = absurd (n (sym (join_same a b k j e f) ∙ u))
+
+one_unset_at : (r : Register) (a b : Kind) → PlainAt r a → PlainAt r b → join_of a b ≡ Unset → (a ≡ Unset) ⊎ (b ≡ Unset)
+one_unset_at R0 a b h g e = one_unset a b h g e
+one_unset_at R1 a b h g e = kept_pointer a b _ refl (λ q. cc) h g e
+one_unset_at R2 a b h g e = one_unset a b h g e
+one_unset_at R3 a b h g e = kept_pointer a b _ refl (λ q. cc) h g e
+one_unset_at R4 a b h g e = one_unset a b h g e
+one_unset_at R5 a b h g e = one_unset a b h g e
+one_unset_at R6 a b h g e = one_unset a b h g e
+one_unset_at R7 a b h g e = one_unset a b h g e
+one_unset_at R8 a b h g e = one_unset a b h g e
+one_unset_at R9 a b h g e = one_unset a b h g e
+one_unset_at R10 a b h g e = kept_pointer a b _ refl (λ q. cc) h g e
+
+pub unset_of_one : (a b : Row) (r : Register) → PlainRow a → PlainRow b → kind_at (join_rows a b) r ≡ Unset → (kind_at a r ≡ Unset) ⊎ (kind_at b r ≡ Unset)
+unset_of_one a b r h g e = one_unset_at r (kind_at a r) (kind_at b r) (h r) (g r) (sym (at_join a b (number r)) ∙ e)

@@ -1,0 +1,62 @@
+-- Rows that change at one register, and rows joined from the front.
+use Rattle.std.proofs.Common.{◌≡◌, ℕ, zero, suc, ◌+◌, ◌<◌, List, [], ◌∷◌, ◌++◌, length, get_or, set, take, drop, Option, Some, refl, sym, ap, ◌∙◌, subst, arith, add-one}
+use Rattle.std.specs.Prelude.{slice_get}
+use Rattle.ranges.specs.Kinds.{IsKind}
+use Rattle.ranges.specs.Transfer.{join_of}
+use Rattle.ranges.specs.declared.kind.Kind.{Kind}
+use Rattle.ranges.specs.declared.kind.Kind.TheVariants.{Unset}
+use Rattle.verifier.specs.Rules.{Row}
+use Rattle.verifier.specs.Table.{join_rows, joined, AreKinds}
+use Rattle.verifier.specs.Rows.{row_at, AreRowKinds}
+
+-- ---- kinds stay kinds
+
+pub kinds_set : (row : Row) (i : ℕ) (k : Kind) → AreKinds row → IsKind k → AreKinds (set row i k)
+kinds_set [] i k h hk r = h r
+kinds_set (x ∷ row) zero k h hk zero = hk
+kinds_set (x ∷ row) zero k h hk (suc r) = h (suc r)
+kinds_set (x ∷ row) (suc i) k h hk zero = h zero
+kinds_set (x ∷ row) (suc i) k h hk (suc r) = kinds_set row i k (λ n. h (suc n)) hk r
+
+same_row : (o : Option Row) (row : Row) → Some (Some row) ≡ Some o → o ≡ Some row
+same_row o row e = cc
+
+pub row_kinds_set : (rows : List (Option Row)) (i : ℕ) (next : Row) → AreRowKinds rows → AreKinds next → AreRowKinds (set rows i (Some next))
+row_kinds_set [] i next h hn k row e = h k row e
+row_kinds_set (o ∷ rows) zero next h hn zero row e = let same : next ≡ row = cc in subst AreKinds same hn
+row_kinds_set (o ∷ rows) zero next h hn (suc k) row e = h (suc k) row e
+row_kinds_set (o ∷ rows) (suc i) next h hn zero row e = h zero row e
+row_kinds_set (o ∷ rows) (suc i) next h hn (suc k) row e = row_kinds_set rows i next (λ n. h (suc n)) hn k row e
+
+-- ---- joins
+
+front : ℕ → Row → Row → Row
+front i a b = join_rows (take i a) (take i b) ++ drop i a
+
+join_suc : (i : ℕ) (a b : Row) (d : Kind) → i < length a → i < length b → set (front i a b) i (join_of (get_or a i d) (get_or b i d)) ≡ front (suc i) a b
+unfolding front
+join_suc i [] b d h g = absurd (omega arith)
+join_suc i (x ∷ xs) [] d h g = absurd (omega arith)
+join_suc zero (x ∷ xs) (y ∷ ys) d h g = refl
+join_suc (suc i) (x ∷ xs) (y ∷ ys) d h g = ap (λ zs. join_of x y ∷ zs) (join_suc i xs ys d (omega arith) (omega arith))
+
+pub join_more : (i : ℕ) (a b row : Row) (k : Kind) → i < length a → i < length b → k ≡ join_of (get_or a i Unset) (get_or b i Unset) → row ≡ join_rows (take i a) (take i b) ++ drop i a → set row i k ≡ join_rows (take (i + 1) a) (take (i + 1) b) ++ drop (i + 1) a
+unfolding front
+join_more i a b row k h g ek e = rw (e, ek, add-one) (join_suc i a b Unset h g)
+
+row_is : (rows : List (Option Row)) (k : ℕ) (d : Option Row) → k < length rows → get_or rows k d ≡ row_at rows k
+row_is [] k d h = absurd (omega arith)
+row_is (r ∷ rows) zero d h = refl
+row_is (r ∷ rows) (suc k) d h = row_is rows k d (omega arith)
+
+pub pushed_at : (rows : List (Option Row)) (k : ℕ) (o : Option Row) (row next : Row) → k < length rows → o ≡ get_or rows k o → Some next ≡ joined o row → set rows k (Some next) ≡ set rows k (joined (row_at rows k) row)
+pushed_at rows k o row next h e n = ap (set rows k) (n ∙ ap (λ q. joined q row) (e ∙ row_is rows k o h))
+
+-- a row that is read has the kinds of the rows
+pub read_kinds : (rows : List (Option Row)) (k : ℕ) (o : Option Row) (row : Row) → k < length rows → o ≡ get_or rows k o → o ≡ Some row → AreRowKinds rows → AreKinds row
+read_kinds rows k o row h e is kinds = kinds k row (at rows k o h e ∙ ap Some is)
+  where
+    at : (rows : List (Option Row)) (k : ℕ) (o : Option Row) → k < length rows → o ≡ get_or rows k o → slice_get rows k ≡ Some o
+    at [] k o h e = absurd (omega arith)
+    at (r ∷ rows) zero o h e = ap Some (sym e)
+    at (r ∷ rows) (suc k) o h e = at rows k o (omega arith) e

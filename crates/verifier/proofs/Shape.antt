@@ -1,0 +1,172 @@
+-- Where the instructions of formed code lead.
+use Rattle.std.proofs.Common.{◌≡◌, ◌≢◌, ℕ, zero, suc, ℤ, pos, negsuc, ◌+◌, ◌<◌, List, [], ◌∷◌, ◌++◌, length, Option, Some, None, refl, sym, ap, ◌∙◌, subst, inl, inr, ⊎_elim, arith}
+use Rattle.std.specs.Prelude.{◌⊎◌, slice_get, IsSomeAnd, ◌≤ℤ◌}
+use Rattle.std.proofs.lemmas.Int.{ints}
+use Rattle.std.proofs.lemmas.Bool.{cases_lt}
+use Rattle.std.proofs.lemmas.Option.{same_Some, slice_get_within}
+use Rattle.insn.specs.declared.Insn.{Insn}
+use Rattle.insn.specs.declared.Insn.TheVariants as insn
+use Rattle.insn.proofs.Paired.{IsPaired}
+use Rattle.bpfimage.specs.declared.form.FormRule.{FormRule}
+use Rattle.bpfimage.specs.declared.form.FormRule.TheVariants.{TargetOutside, TargetTail, TargetBack, RunsPast}
+use Rattle.bpfimage.specs.Form.{target_of, next_of, slot_at, BreaksRule, IsFormed}
+use Rattle.verifier.specs.Rules.{Row, row_after, row_taken}
+use Rattle.verifier.specs.Table.{Edge, next_edge, target_edge, edges_from}
+
+-- an instruction of formed code keeps each rule
+pub keeps : (code : List Insn) (i : ℕ) (x : Insn) (rule : FormRule) → IsFormed code → slice_get code i ≡ Some x → ¬ BreaksRule rule code i x
+keeps code i x rule formed at b = formed i rule (subst (λ o. IsSomeAnd o (BreaksRule rule code i)) (sym at) b)
+
+some_from : {A : Type 0} (o : Option A) (a : A) (P : A → Type 0) → o ≡ Some a → P a → IsSomeAnd o P
+some_from o a P e h = subst (λ q. IsSomeAnd q P) (sym e) h
+
+-- a higher slot that starts an instruction
+pub record Leads (code : List Insn) (i k : ℕ) : Type 0 where
+  pub above : i < k
+  pub to : Insn
+  pub there : slice_get code k ≡ Some to
+  pub starts : to ≢ insn.Tail
+
+found_at : (code : List Insn) (k : ℕ) → k < length code → (y : Insn) × (slice_get code k ≡ Some y)
+found_at code k h = from code k h
+  where
+    from : (code : List Insn) (k : ℕ) → k < length code → (y : Insn) × (slice_get code k ≡ Some y)
+    from [] k h = absurd (omega arith)
+    from (x ∷ code) zero h = (x, refl)
+    from (x ∷ code) (suc k) h = from code k (omega arith)
+
+-- ---- the target of a jump
+
+target_named : (code : List Insn) (i : ℕ) (x : Insn) (z : ℤ) (o : Option Insn) → IsFormed code → slice_get code i ≡ Some x → target_of i x ≡ Some z → slot_at code z ≡ o → (y : Insn) × (o ≡ Some y) × (y ≢ insn.Tail)
+target_named code i x z None formed at e s = absurd (keeps code i x TargetOutside formed at (some_from (target_of i x) z _ e s))
+target_named code i x z (Some y) formed at e s =
+    (y, refl, λ tail. keeps code i x TargetTail formed at (some_from (target_of i x) z _ e (s ∙ ap Some tail)))
+
+not_below : (i k : ℕ) → (pos k ≤ℤ pos i → ⊥) → i < k
+not_below i k h = ⊎_elim (λ lt. lt) (λ le. absurd (h (omega (arith, ints)))) (cases_lt i k)
+
+pub target_leads : (code : List Insn) (i : ℕ) (x : Insn) (z : ℤ) → IsFormed code → slice_get code i ≡ Some x → target_of i x ≡ Some z → (k : ℕ) × (z ≡ pos k) × Leads code i k
+target_leads code i x (pos k) formed at e =
+    let there = target_named code i x (pos k) (slice_get code k) formed at e refl in
+    let above = not_below i k (λ le. keeps code i x TargetBack formed at (some_from (target_of i x) (pos k) _ e le)) in
+    (k, refl, record { above = above; to = there.0; there = there.1; starts = there.2 })
+target_leads code i x (negsuc k) formed at e = absurd (keeps code i x TargetOutside formed at (some_from (target_of i x) (negsuc k) _ e refl))
+
+-- ---- the next slot
+
+one_on : (i k : ℕ) → Some (i + 1) ≡ Some k → k ≡ suc i
+one_on i k e = let h : i + 1 ≡ k = same_Some _ _ e in omega arith
+
+two_on : (i k : ℕ) → Some (i + 2) ≡ Some k → k ≡ suc (suc i)
+two_on i k e = let h : i + 2 ≡ k = same_Some _ _ e in omega arith
+
+-- the next slot is one on, or two on after a wide instruction
+next_cases : (i : ℕ) (x : Insn) (k : ℕ) → next_of i x ≡ Some k → ((k ≡ suc i) × ((d : _) (n : ℕ) → x ≢ insn.Wide d n)) ⊎ ((k ≡ suc (suc i)) × (d : _) × (n : ℕ) × (x ≡ insn.Wide d n))
+next_cases i (insn.Alu op w d src) k e = inl (one_on i k e, λ a n q. cc)
+next_cases i (insn.Swap a b d) k e = inl (one_on i k e, λ a n q. cc)
+next_cases i (insn.Load a b c d f) k e = inl (one_on i k e, λ a n q. cc)
+next_cases i (insn.Store a b c d) k e = inl (one_on i k e, λ a n q. cc)
+next_cases i (insn.Jump d) k e = cc
+next_cases i (insn.JumpIf c w l r o) k e = inl (one_on i k e, λ a n q. cc)
+next_cases i (insn.Call h) k e = inl (one_on i k e, λ a n q. cc)
+next_cases i insn.Exit k e = cc
+next_cases i (insn.Wide d n) k e = inr (two_on i k e, d, n, refl)
+next_cases i insn.Tail k e = cc
+
+none_some : {A : Type 0} (o : Option A) (a : A) → o ≡ None → o ≡ Some a → ⊥
+none_some o a p q = cc
+
+same_some : {A : Type 0} (o : Option A) (a b : A) → o ≡ Some a → o ≡ Some b → a ≡ b
+same_some o a b p q = cc
+
+next_starts : (code : List Insn) (i k : ℕ) (x y : Insn) → IsPaired code → slice_get code i ≡ Some x → next_of i x ≡ Some k → slice_get code k ≡ Some y → y ≢ insn.Tail
+next_starts code i k x y paired at e there tail =
+    ⊎_elim
+    (λ one. let wide = paired.before_tail i (ap (slice_get code) (sym one.0) ∙ there ∙ ap Some tail) in
+    one.1 wide.0 wide.1 (same_some (slice_get code i) x _ at wide.2))
+    (λ two. let wide = paired.before_tail (suc i) (ap (slice_get code) (sym two.0) ∙ there ∙ ap Some tail) in
+    let half = paired.after_wide i two.2 two.1 (at ∙ ap Some two.3) in
+    tail_wide wide.0 wide.1 (same_some (slice_get code (suc i)) _ _ half wide.2))
+    (next_cases i x k e)
+  where
+    tail_wide : (d : _) (n : ℕ) → insn.Tail ≡ insn.Wide d n → ⊥
+    tail_wide d n q = cc
+
+-- the next slot of an instruction is no second half
+abbrev pub NextStarts : List Insn → Type 0
+NextStarts code = (i k : ℕ) (x y : Insn) → slice_get code i ≡ Some x → next_of i x ≡ Some k → slice_get code k ≡ Some y → y ≢ insn.Tail
+
+pub paired_starts : (code : List Insn) → IsPaired code → NextStarts code
+paired_starts code paired i k x y at e there = next_starts code i k x y paired at e there
+
+next_above : (i : ℕ) (x : Insn) (k : ℕ) → next_of i x ≡ Some k → i < k
+next_above i x k e = ⊎_elim (λ one. omega (arith, one.0)) (λ two. omega (arith, two.0)) (next_cases i x k e)
+
+pub next_leads : (code : List Insn) (i : ℕ) (x : Insn) (k : ℕ) → IsFormed code → NextStarts code → slice_get code i ≡ Some x → next_of i x ≡ Some k → Leads code i k
+next_leads code i x k formed starts at e =
+    let within : k < length code = ⊎_elim (λ lt. lt) (λ le. absurd (keeps code i x RunsPast formed at (some_from (next_of i x) k _ e le))) (cases_lt k (length code)) in
+    let there = found_at code k within in
+    record { above = next_above i x k e; to = there.0; there = there.1; starts = starts i k x there.0 at e there.1 }
+
+-- ---- edges
+
+abbrev pub AllLead : List Insn → ℕ → List Edge → Type 0
+AllLead code i [] = Unit {0}
+AllLead code i (e ∷ es) = Leads code i e.0 × AllLead code i es
+
+all_append : (code : List Insn) (i : ℕ) (es fs : List Edge) → AllLead code i es → AllLead code i fs → AllLead code i (es ++ fs)
+all_append code i [] fs a b = b
+all_append code i (e ∷ es) fs a b = (a.0, all_append code i es fs a.1 b)
+
+next_all : (code : List Insn) (i : ℕ) (o : Option ℕ) (row : Row) → ((k : ℕ) → o ≡ Some k → Leads code i k) → AllLead code i (next_edge o row)
+next_all code i None row h = tt
+next_all code i (Some k) row h = (h k refl, tt)
+
+target_all : (code : List Insn) (i : ℕ) (o : Option ℤ) (row : Row) → ((z : ℤ) → o ≡ Some z → (k : ℕ) × (z ≡ pos k) × Leads code i k) → AllLead code i (target_edge o row)
+target_all code i None row h = tt
+target_all code i (Some (pos k)) row h = let l = h (pos k) refl in (subst (Leads code i) (same l.0 k l.1) l.2, tt)
+  where
+    same : (j k : ℕ) → pos k ≡ pos j → j ≡ k
+    same j k e = cc
+target_all code i (Some (negsuc k)) row h = tt
+
+-- every edge of an instruction leads to a higher slot that starts one
+pub edges_lead : (code : List Insn) (i : ℕ) (x : Insn) (row : Row) → IsFormed code → NextStarts code → slice_get code i ≡ Some x → AllLead code i (edges_from i row x)
+edges_lead code i x row formed starts at =
+    all_append code i _ _ (next_all code i (next_of i x) (row_after row x) (λ k e. next_leads code i x k formed starts at e)) (target_all code i (target_of i x) (row_taken row x) (λ z e. target_leads code i x z formed at e))
+
+pub target_edge_at : (z : ℤ) (k : ℕ) (row : Row) → z ≡ pos k → target_edge (Some z) row ≡ (k, row) ∷ []
+target_edge_at z k row e = ap (λ y. target_edge (Some y) row) e
+
+-- ---- what needs no pairs
+
+abbrev pub AllAbove : ℕ → List Edge → Type 0
+AllAbove i [] = Unit {0}
+AllAbove i (e ∷ es) = (i < e.0) × AllAbove i es
+
+above_append : (i : ℕ) (es fs : List Edge) → AllAbove i es → AllAbove i fs → AllAbove i (es ++ fs)
+above_append i [] fs a b = b
+above_append i (e ∷ es) fs a b = (a.0, above_append i es fs a.1 b)
+
+above_next : (i : ℕ) (o : Option ℕ) (row : Row) → ((k : ℕ) → o ≡ Some k → i < k) → AllAbove i (next_edge o row)
+above_next i None row h = tt
+above_next i (Some k) row h = (h k refl, tt)
+
+above_target : (i : ℕ) (o : Option ℤ) (row : Row) → ((k : ℕ) → o ≡ Some (pos k) → i < k) → AllAbove i (target_edge o row)
+above_target i None row h = tt
+above_target i (Some (pos k)) row h = (h k refl, tt)
+above_target i (Some (negsuc k)) row h = tt
+
+same_pos : (j k : ℕ) → pos k ≡ pos j → j ≡ k
+same_pos j k e = cc
+
+pub edges_above : (code : List Insn) (i : ℕ) (x : Insn) (row : Row) → IsFormed code → slice_get code i ≡ Some x → AllAbove i (edges_from i row x)
+edges_above code i x row formed at =
+    above_append i _ _ (above_next i (next_of i x) (row_after row x) (λ k e. next_above i x k e))
+    (above_target i (target_of i x) (row_taken row x) (λ k e. let l = target_leads code i x (pos k) formed at e in subst (λ j. i < j) (same_pos l.0 k l.1) l.2.above))
+
+pub next_within : (code : List Insn) (i : ℕ) (x : Insn) (k : ℕ) → IsFormed code → slice_get code i ≡ Some x → next_of i x ≡ Some k → k < length code
+next_within code i x k formed at e = ⊎_elim (λ lt. lt) (λ le. absurd (keeps code i x RunsPast formed at (some_from (next_of i x) k _ e le))) (cases_lt k (length code))
+
+pub target_within : (code : List Insn) (i : ℕ) (x : Insn) (z : ℤ) → IsFormed code → slice_get code i ≡ Some x → target_of i x ≡ Some z → (k : ℕ) × (z ≡ pos k) × (k < length code)
+target_within code i x z formed at e = let l = target_leads code i x z formed at e in (l.0, l.1, slice_get_within code l.0 l.2.to l.2.there)

@@ -1,0 +1,136 @@
+-- The table of kinds is what a pass in the order of slots leaves, which joins each slot's edges into the rows of their targets.
+use Rattle.std.proofs.Common.{◌≡◌, ◌≢◌, ℕ, zero, suc, ◌+◌, ◌<◌, ◌≤◌, min, cond, eqb, List, [], ◌∷◌, ◌++◌, length, set, replicate, Option, Some, None, refl, sym, ap, ◌∙◌, subst, ⊎_elim, arith, length-set, length-append}
+use Rattle.std.specs.Prelude.{slice_get}
+use Rattle.std.proofs.lemmas.Bool.{cases_lt, cases_eq, cond-true, cond-false, eq-eqb, ne_eqb}
+use Rattle.std.proofs.lemmas.List.{length-replicate}
+use Rattle.std.proofs.lemmas.Option.{same_Some}
+use Rattle.verifier.specs.Program.{Program}
+use Rattle.verifier.specs.Rules.{Row, entry}
+use Rattle.verifier.specs.Rows.{row_at, push_one, pushed, IsPass}
+use Rattle.verifier.specs.Table.{Edge, joined, into, edges_of, arrivals, rows_before, table}
+use Rattle.verifier.proofs.Shape.{AllAbove}
+
+-- ---- the table's rows
+
+pub length_rows : (p : Program) (n : ℕ) → length (rows_before p n) ≡ n
+length_rows p zero = refl
+length_rows p (suc n) = let h = length_rows p n in omega (arith, length-append (rows_before p n) (arrivals p (rows_before p n) n n ∷ []))
+
+get_left : {A : Type 0} (xs : List A) (y : A) (k : ℕ) → k < length xs → slice_get (xs ++ y ∷ []) k ≡ slice_get xs k
+get_left [] y k h = absurd (omega arith)
+get_left (x ∷ xs) y zero h = refl
+get_left (x ∷ xs) y (suc k) h = get_left xs y k (omega arith)
+
+get_last : {A : Type 0} (xs : List A) (y : A) (k : ℕ) → k ≡ length xs → slice_get (xs ++ y ∷ []) k ≡ Some y
+get_last [] y zero h = refl
+get_last [] y (suc k) h = absurd (omega arith)
+get_last (x ∷ xs) y zero h = absurd (omega arith)
+get_last (x ∷ xs) y (suc k) h = get_last xs y k (omega arith)
+
+at_rows : (p : Program) (n m : ℕ) → m < n → slice_get (rows_before p n) m ≡ Some (arrivals p (rows_before p m) m m)
+at_rows p zero m h = absurd (omega arith)
+at_rows p (suc n) m h =
+    let len = length_rows p n in
+    ⊎_elim
+    (λ lt. get_left (rows_before p n) (arrivals p (rows_before p n) n n) m (omega (arith, len)) ∙ at_rows p n m lt)
+    (λ le. let same : n ≡ m = omega arith in
+    get_last (rows_before p n) (arrivals p (rows_before p n) n n) m (omega (arith, len)) ∙ ap (λ j. Some (arrivals p (rows_before p j) j j)) same)
+    (cases_lt m n)
+
+-- what the rows above say is not read
+same_below : (p : Program) (rows rows' : List (Option Row)) (n k : ℕ) → ((m : ℕ) → m < n → slice_get rows m ≡ slice_get rows' m) → arrivals p rows n k ≡ arrivals p rows' n k
+same_below p rows rows' zero k h = refl
+same_below p rows rows' (suc n) k h =
+    ap (λ r. into k (edges_of n (slice_get p.code n) r) (arrivals p rows n k)) (h n (omega arith))
+    ∙ ap (into k (edges_of n (slice_get p.code n) (slice_get rows' n))) (same_below p rows rows' n k (λ m lt. h m (omega arith)))
+
+pub table_at : (p : Program) (k : ℕ) → k < length p.code → slice_get (table p) k ≡ Some (arrivals p (table p) k k)
+table_at p k h =
+    at_rows p (length p.code) k h ∙ ap Some (same_below p (rows_before p k) (table p) k k (λ m lt. at_rows p k m lt ∙ sym (at_rows p (length p.code) m (omega arith))))
+
+-- ---- edges joined into rows
+
+get_set_same : (rows : List (Option Row)) (k : ℕ) (o : Option Row) (row : Row) → slice_get rows k ≡ Some o → slice_get (set rows k (joined (row_at rows k) row)) k ≡ Some (joined o row)
+get_set_same [] k o row e = cc
+get_set_same (r ∷ rows) zero o row e = ap (λ q. Some (joined q row)) (same_Some _ _ e)
+get_set_same (r ∷ rows) (suc k) o row e = get_set_same rows k o row e
+
+get_set_other : (rows : List (Option Row)) (j k : ℕ) (q : Option Row) → k ≢ j → slice_get (set rows j q) k ≡ slice_get rows k
+get_set_other [] j k q ne = refl
+get_set_other (r ∷ rows) zero zero q ne = absurd (ne refl)
+get_set_other (r ∷ rows) zero (suc k) q ne = refl
+get_set_other (r ∷ rows) (suc j) zero q ne = refl
+get_set_other (r ∷ rows) (suc j) (suc k) q ne = get_set_other rows j k q (λ e. ne (ap suc e))
+
+one_edge : (rows : List (Option Row)) (x : Edge) (k : ℕ) (o : Option Row) → slice_get rows k ≡ Some o → slice_get (push_one rows x) k ≡ Some (cond (eqb x.0 k) (joined o x.1) o)
+one_edge rows x k o e =
+    ⊎_elim
+    (λ same. subst (λ n. slice_get (set rows n (joined (row_at rows n) x.1)) k ≡ Some (joined o x.1)) same (get_set_same rows k o x.1 e) ∙ ap Some (sym (cond-true (eqb x.0 k) (joined o x.1) o (eq-eqb x.0 k (sym same)))))
+    (λ ne. get_set_other rows x.0 k (joined (row_at rows x.0) x.1) ne ∙ e ∙ ap Some (sym (cond-false (eqb x.0 k) (joined o x.1) o (ne_eqb x.0 k (λ q. ne (sym q))))))
+    (cases_eq k x.0)
+
+all_edges : (rows : List (Option Row)) (es : List Edge) (k : ℕ) (o : Option Row) → slice_get rows k ≡ Some o → slice_get (pushed rows es) k ≡ Some (into k es o)
+all_edges rows [] k o e = e
+all_edges rows (x ∷ es) k o e = all_edges (push_one rows x) es k _ (one_edge rows x k o e)
+
+kept_below : (i : ℕ) (es : List Edge) (rows : List (Option Row)) → AllAbove i es → (m : ℕ) → m ≤ i → slice_get (pushed rows es) m ≡ slice_get rows m
+kept_below i [] rows a m le = refl
+kept_below i (e ∷ es) rows a m le =
+    let above = a.0 in
+    kept_below i es (push_one rows e) a.1 m le ∙ get_set_other rows e.0 m _ (apart m e.0 (omega arith))
+  where
+    apart : (m k : ℕ) → m < k → m ≢ k
+    apart m k lt e = omega arith
+
+length_pushed : (es : List Edge) (rows : List (Option Row)) → length (pushed rows es) ≡ length rows
+length_pushed [] rows = refl
+length_pushed (e ∷ es) rows = length_pushed es (push_one rows e) ∙ length-set rows e.0 _
+
+-- ---- the pass
+
+-- the row that is read there is the table's
+pub row_here : (p : Program) (rows : List (Option Row)) (i : ℕ) → IsPass p rows i → i < length p.code → slice_get rows i ≡ slice_get (table p) i
+row_here p rows i h lt =
+    let m : min i i ≡ i = omega arith in
+    h.rows_are i (omega (arith, h.long)) ∙ ap (λ n. Some (arrivals p (table p) n i)) m ∙ sym (table_at p i lt)
+
+-- one slot more
+pub pass_more : (p : Program) (rows : List (Option Row)) (i : ℕ) (es : List Edge) → IsPass p rows i → i < length p.code → es ≡ edges_of i (slice_get p.code i) (slice_get (table p) i) → AllAbove i es → IsPass p (pushed rows es) (i + 1)
+pass_more p rows i es h lt is a =
+    let len = length_pushed es rows in
+    record {
+      long = len ∙ h.long;
+      rows_are = λ k lt. ⊎_elim
+          (λ above. let m : min i k ≡ i = omega arith in
+          let m' : min (i + 1) k ≡ suc i = omega arith in
+          all_edges rows es k (arrivals p (table p) (min i k) k) (h.rows_are k (omega (arith, len)))
+          ∙ ap (λ n. Some (into k es (arrivals p (table p) n k))) m
+          ∙ ap (λ xs. Some (into k xs (arrivals p (table p) i k))) is
+          ∙ ap (λ n. Some (arrivals p (table p) n k)) (sym m'))
+          (λ le. let m : min (i + 1) k ≡ min i k = omega arith in
+          kept_below i es rows a k le ∙ h.rows_are k (omega (arith, len)) ∙ ap (λ n. Some (arrivals p (table p) n k)) (sym m))
+          (cases_lt i k);
+    }
+
+get_replicate : (n k : ℕ) (o : Option Row) → k < n → slice_get (replicate n o) k ≡ Some o
+get_replicate zero k o h = absurd (omega arith)
+get_replicate (suc n) zero o h = refl
+get_replicate (suc n) (suc k) o h = get_replicate n k o (omega arith)
+
+-- the rows before the first slot
+pub pass_first : (p : Program) (rows : List (Option Row)) → 1 ≤ length p.code → rows ≡ set (replicate (length p.code) None) 0 (Some (entry p)) → IsPass p rows 0
+pass_first p rows some e =
+    let n = length p.code in
+    let len : length rows ≡ n = ap length e ∙ length-set (replicate n None) 0 (Some (entry p)) ∙ length-replicate {A = Option Row} n None in
+    record {
+      long = len;
+      rows_are = λ k lt. ap (λ xs. slice_get xs k) e ∙ first n k (omega (arith, len)) ∙ ap (λ m. Some (arrivals p (table p) m k)) (least k);
+    }
+  where
+    least : (k : ℕ) → 0 ≡ min 0 k
+    least k = omega arith
+
+    first : (n k : ℕ) → k < n → slice_get (set (replicate n None) 0 (Some (entry p))) k ≡ Some (arrivals p (table p) 0 k)
+    first zero k h = absurd (omega arith)
+    first (suc n) zero h = refl
+    first (suc n) (suc k) h = get_replicate n k None (omega arith) ∙ ap Some (sym (cond-false (eqb (suc k) 0) (Some (entry p)) None (ne_eqb (suc k) 0 (λ e. omega arith))))

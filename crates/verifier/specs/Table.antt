@@ -1,0 +1,88 @@
+-- The table of kinds: each slot's row is the join over all edges into it (this store's profile).
+use Rattle.std.specs.Prelude.{◌≡◌, ℕ, zero, suc, ◌<◌, ◌==◌, ℤ, pos, negsuc, if◌then◌else◌, Option, None, Some, List, [], ◌∷◌, ◌++◌, length, slice_get, slice_index_or}
+use Rattle.insn.specs.declared.Insn.{Insn}
+use Rattle.bpfimage.specs.Form.{next_of, target_of, IsFormed}
+use Rattle.ranges.specs.Kinds.{IsKind}
+use Rattle.ranges.specs.Transfer.{join_of}
+use Rattle.ranges.specs.declared.kind.Kind.TheVariants.{Unset}
+use Rattle.verifier.specs.Program.{Program}
+use Rattle.verifier.specs.Rules.{Row, entry, row_after, row_taken, broken_in}
+use Rattle.verifier.specs.declared.rule.KindRule.{KindRule}
+
+-- ---- edges
+
+-- an edge: the slot to which it leads, and the kinds that reach it
+abbrev pub Edge : Type 0
+Edge = ℕ × Row
+
+abbrev pub next_edge : Option ℕ → Row → List Edge
+next_edge None row = []
+next_edge (Some k) row = (k, row) ∷ []
+
+abbrev pub target_edge : Option ℤ → Row → List Edge
+target_edge None row = []
+target_edge (Some (pos k)) row = (k, row) ∷ []
+target_edge (Some (negsuc k)) row = []
+
+-- the edges of an instruction at slot i, which a row of kinds reaches: to the next slot, and to the target of its jump
+abbrev pub edges_from : ℕ → Row → Insn → List Edge
+edges_from i row x = next_edge (next_of i x) (row_after row x) ++ target_edge (target_of i x) (row_taken row x)
+
+-- ---- joins
+
+abbrev pub join_rows : Row → Row → Row
+join_rows [] ys = []
+join_rows (x ∷ xs) [] = []
+join_rows (x ∷ xs) (y ∷ ys) = join_of x y ∷ join_rows xs ys
+
+abbrev pub joined : Option Row → Row → Option Row
+joined None row = Some row
+joined (Some old) row = Some (join_rows old row)
+
+-- the edges of a list that lead to slot k, joined to what came before
+abbrev pub into : ℕ → List Edge → Option Row → Option Row
+into k [] before = before
+into k (e ∷ es) before = into k es (if e.0 == k then joined before e.1 else before)
+
+-- ---- the table
+
+-- the edges of slot i, if some row of kinds reaches it
+abbrev pub edges_of : ℕ → Option Insn → Option (Option Row) → List Edge
+edges_of i (Some x) (Some (Some row)) = edges_from i row x
+edges_of i x row = []
+
+-- the join over all edges into slot k from the first n slots of a table; slot 0 has the entry too
+abbrev pub arrivals : Program → List (Option Row) → ℕ → ℕ → Option Row
+arrivals p rows zero k = if k == 0 then Some (entry p) else None
+arrivals p rows (suc n) k = into k (edges_of n (slice_get p.code n) (slice_get rows n)) (arrivals p rows n k)
+
+-- the rows of the first n slots: each is the join over all edges into its slot, which come from lower ones
+abbrev pub rows_before : Program → ℕ → List (Option Row)
+rows_before p zero = []
+rows_before p (suc n) = rows_before p n ++ arrivals p (rows_before p n) n n ∷ []
+
+abbrev pub table : Program → List (Option Row)
+table p = rows_before p (length p.code)
+
+abbrev pub broken_with : Program → Option Insn → Option (Option Row) → Option KindRule
+broken_with p (Some x) (Some (Some row)) = broken_in p row x
+broken_with p x row = None
+
+-- the lowest rule that a slot breaks, at its row of the table
+abbrev pub broken_at : Program → ℕ → Option KindRule
+broken_at p k = broken_with p (slice_get p.code k) (slice_get (table p) k)
+
+-- a program that the verifier accepts: no slot breaks a rule of form, and none a rule over kinds
+pub record IsAccepted (p : Program) : Type 0 where
+  pub formed : IsFormed p.code
+  pub unbroken : (k : ℕ) → broken_at p k ≡ None
+
+-- the slot and the rule over kinds that are told: the first slot that breaks one, and its lowest
+pub record IsFirstRule (p : Program) (slot : ℕ) (rule : KindRule) : Type 0 where
+  pub formed : IsFormed p.code
+  pub before : (k : ℕ) → k < slot → broken_at p k ≡ None
+  pub broken : broken_at p slot ≡ Some rule
+
+-- every kind of a row may stand in it
+abbrev pub AreKinds : Row → Type 0
+AreKinds row = (r : ℕ) → IsKind (slice_index_or row r Unset)

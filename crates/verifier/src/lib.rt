@@ -1,0 +1,15 @@
+//! The verifier: which programs are accepted, and that these never go wrong.
+#![tactic(auto)]
+
+mod kinds;
+#[cfg(test)]
+mod rows;
+pub mod rule;
+mod rules;
+pub mod verified;
+pub mod verifying;
+
+pub use bpfimage::{FormRule, Image, ImageFault, ImageKind, raw_image, read_image};
+pub use rule::{KindRule, Refused, Rule};
+pub use verified::Verified;
+pub use verifying::verify;
