@@ -1,0 +1,152 @@
+//! A text as a clock.
+
+ghost use Rattle.std.specs.Prelude.{◌≡◌, ◌≢◌, ◌*◌, ◌<◌, ◌≤◌, ◌⊎◌, List, ℕ, length, take, drop, IsTrue, IfOk, IfErr, Ok, Err};
+ghost use Rattle.std.specs.Int.{w16, w32, w64, from_be_bytes};
+ghost use Rattle.base64.specs.Engines.{standard};
+ghost use Rattle.base64.specs.GeneralPurpose.{encode_of, decode_of, IsBytes};
+ghost use Rattle.dvv.specs.declared.Dot.{Dot as Entry};
+ghost use Rattle.dvv.specs.Clock.{IsClock};
+ghost use Rattle.token.specs.Token.{token, entries_of, rises, counts, checked, read_entries, read_bytes, read_text, HasToken, Fails, Gives};
+
+use crate::fault::TokenFault;
+use crate::{ENTRY_LEN, VERSION};
+use base64::DecodeAllocError;
+use base64::engine::general_purpose::STANDARD;
+use dvv::{Clock, Dot, MAX_COUNTER, MAX_ENTRIES};
+use std::alloc::{AllocError, Global};
+
+/// The clock of a text, or the first fault in the order of [`TokenFault`]. Each clock has one text, and no other text
+/// is read as it.
+pub fn read(alloc: Global, text: &str) -> Result<Clock, TokenFault>
+    // Which answer it is.
+    ensures exact { Gives result (read_text text.now) }
+    // What is read is spelled so.
+    ensures canonical { IfOk result (λ clock. HasToken clock × (text.now ≡ token clock)) }
+    // What is spelled so is read, unless memory runs out.
+    ensures reads { (clock : List Entry) → HasToken clock → text.now ≡ token clock → Gives result (Ok clock) }
+    ensures base64 { result ≡ Err TokenFault.NotBase64 → (bytes : List ℕ) → IsBytes bytes → text.now ≢ encode_of standard bytes }
+{
+    match decoded(alloc, text) {
+        Ok(bytes) => clock_of(alloc, &bytes),
+        Err(fault) => Err(fault),
+    }
+}
+
+// The bytes that the text spells in base64.
+fn decoded(alloc: Global, text: &str) -> Result<Vec<u8>, TokenFault>
+    ensures ok { IfOk result (λ bytes. decode_of standard text.now ≡ Ok bytes.items) }
+    ensures bytes { IfOk result (λ bytes. IsBytes bytes.items) }
+    ensures text { IfOk result (λ bytes. text.now ≡ encode_of standard bytes.items) }
+    ensures err { IfErr result (λ fault. Fails fault (read_text text.now)) }
+    ensures base64 { result ≡ Err TokenFault.NotBase64 → (bytes : List ℕ) → IsBytes bytes → text.now ≢ encode_of standard bytes }
+{
+    match STANDARD.decode(alloc, text.as_bytes()) {
+        Ok(bytes) => Ok(bytes),
+        Err(DecodeAllocError::OutOfMemory) => Err(TokenFault::NoMemory),
+        Err(DecodeAllocError::DecodeError(_)) => Err(TokenFault::NotBase64),
+    }
+}
+
+// The clock of a token's bytes, by their version.
+fn clock_of(alloc: Global, bytes: &[u8]) -> Result<Clock, TokenFault>
+    ensures { Gives result (read_bytes bytes.now) }
+{
+    let [version, rest @ ..] = bytes else {
+        return Err(TokenFault::Cut);
+    };
+    match *version {
+        VERSION => counted_entries(alloc, rest),
+        _ => Err(TokenFault::Version),
+    }
+}
+
+// The clock of a count and that many entries.
+fn counted_entries(alloc: Global, bytes: &[u8]) -> Result<Clock, TokenFault>
+    ensures { Gives result (read_entries bytes.now) }
+{
+    if bytes.len() < 2 {
+        return Err(TokenFault::Cut);
+    }
+    let (count, rest) = bytes.split_at(2);
+    let count = u16::from_be_bytes([count[0], count[1]]) as usize;
+    if count > MAX_ENTRIES {
+        return Err(TokenFault::PastLimit);
+    }
+    if rest.len() != ENTRY_LEN * count {
+        return Err(TokenFault::Cut);
+    }
+    checked(entries_of(alloc, count, rest)?)
+}
+
+// So many entries.
+fn entries_of(alloc: Global, count: usize, bytes: &[u8]) -> Result<Vec<Dot>, AllocError>
+    requires len { length bytes.now ≡ 12 * count }
+    requires limit { count ≤ 1024 }
+    ensures entries { IfOk result (λ entries. entries.items ≡ entries_of count bytes.now) }
+{
+    let mut entries = Vec::with_capacity(alloc, count)?;
+    let mut rest = bytes;
+    for _ in 0..count {
+        let (vnode, after) = u32_at(rest);
+        let (n, after) = u64_at(after);
+        entries.push(Dot { vnode, n })?;
+        rest = after;
+    }
+    Ok(entries)
+}
+
+// The number of the first 4 bytes, and what follows.
+fn u32_at(bytes: &[u8]) -> (u32, &[u8])
+    requires { 4 ≤ length bytes.now }
+    ensures number { result.0 ≡ from_be_bytes w32 (take 4 bytes.now) }
+    ensures rest { result.1.now ≡ drop 4 bytes.now }
+{
+    let (front, rest) = bytes.split_at(4);
+    (
+        u32::from_be_bytes([front[0], front[1], front[2], front[3]]),
+        rest,
+    )
+}
+
+// The number of the first 8 bytes, and what follows.
+fn u64_at(bytes: &[u8]) -> (u64, &[u8])
+    requires { 8 ≤ length bytes.now }
+    ensures number { result.0 ≡ from_be_bytes w64 (take 8 bytes.now) }
+    ensures rest { result.1.now ≡ drop 8 bytes.now }
+{
+    let (front, rest) = bytes.split_at(8);
+    let number = u64::from_be_bytes([
+        front[0], front[1], front[2], front[3], front[4], front[5], front[6], front[7],
+    ]);
+    (number, rest)
+}
+
+// The clock of entries that rise and are within their limits.
+fn checked(entries: Vec<Dot>) -> Result<Clock, TokenFault>
+    requires { length entries.items ≤ 1024 }
+    ensures { Gives result (checked entries.items) }
+{
+    if !are_rising(&entries) {
+        return Err(TokenFault::NotRising);
+    }
+    if !are_within(&entries) {
+        return Err(TokenFault::PastLimit);
+    }
+    Ok(Clock::from_entries(entries))
+}
+
+// Whether each vnode is above the one before it.
+fn are_rising(entries: &[Dot]) -> bool
+    ensures { result ≡ rises entries.now }
+{
+    entries.is_sorted_by(|first, second| first.vnode < second.vnode)
+}
+
+// Whether each counter is from 1 to the limit.
+fn are_within(entries: &[Dot]) -> bool
+    ensures { result ≡ counts entries.now }
+{
+    entries
+        .iter()
+        .all(|entry| 1 <= entry.n && entry.n <= MAX_COUNTER)
+}
