@@ -1,0 +1,22 @@
+-- Two states of one key in one world are told by their dots and clocks.
+use Rattle.std.proofs.Common.{◌≡◌, ◌++◌, List, Option, Some, None, refl, sym, ap, ◌∙◌}
+use Rattle.std.specs.Prelude.{is_some}
+use Rattle.std.proofs.lemmas.List.Elements.{Contains-append_left, Contains-append_right}
+use Rattle.dvv.specs.declared.Dot.{Dot}
+use Rattle.object.specs.declared.content.Content.{Content}
+use Rattle.object.specs.State.{State, content_at, IsState, HaveSameDots}
+use Rattle.object.specs.Known.{Write, Shows, AreUnique}
+use Rattle.object.proofs.Same.{same_state}
+
+pub same_in_world : (mine theirs : List Write) (a b : State) → IsState a → IsState b → Shows mine a → Shows theirs b → AreUnique (mine ++ theirs) → HaveSameDots a b → a ≡ b
+same_in_world mine theirs a b sa sb shows_a shows_b unique same = same_state a b sa sb (λ d. go d (content_at a.siblings d) (content_at b.siblings d) refl refl (same.held d)) same.known
+  where
+    go : (d : Dot) (x y : Option Content) → content_at a.siblings d ≡ x → content_at b.siblings d ≡ y → is_some (content_at a.siblings d) ≡ is_some (content_at b.siblings d) → content_at a.siblings d ≡ content_at b.siblings d
+    go d (Some u) (Some v) ex ey e =
+        let m = (shows_a.siblings d u).0 ex in
+        let t = (shows_b.siblings d v).0 ey in
+        let one : m.0 ≡ t.0 = unique m.0 t.0 (Contains-append_left mine theirs m.0 m.1.is_known) (Contains-append_right mine theirs t.0 t.1.is_known) (m.2 ∙ sym t.2) in
+        ex ∙ ap Some (sym m.3 ∙ ap (λ (w : Write). w.content) one ∙ t.3) ∙ sym ey
+    go d None None ex ey e = ex ∙ sym ey
+    go d (Some u) None ex ey e = absurd (let z : is_some (Some u) ≡ is_some (let o : Option Content = None in o) = sym (ap is_some ex) ∙ e ∙ ap is_some ey in cc)
+    go d None (Some v) ex ey e = absurd (let z : is_some (let o : Option Content = None in o) ≡ is_some (Some v) = sym (ap is_some ex) ∙ e ∙ ap is_some ey in cc)

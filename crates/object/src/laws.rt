@@ -1,0 +1,36 @@
+//! Laws of the definitions.
+
+ghost use Rattle.std.specs.Prelude.{◌≡◌, ◌↔◌, ◌++◌, ◌∷◌, [], List, Some, IsTrue};
+ghost use Rattle.dvv.specs.declared.Dot.{Dot};
+ghost use Rattle.dvv.specs.Clock.{Covers, Within};
+ghost use Rattle.object.specs.declared.content.Content.{Content};
+ghost use Rattle.object.specs.State.{State, Puts, Merges, IsState, HaveSameDots, content_at};
+ghost use Rattle.object.specs.Known.{Write, write_of, IsCurrent, InContext, Shows, AreUnique, NoneSawItself, current_among, context_of, ShowsKnown};
+
+/// A put keeps what a state shows: the current writes and the context of what is known.
+pub fn put_shows()
+    ensures { (known : List Write) (old new : State) (dot : Dot) (seen : List Dot) (content : Content) → Shows known old → (Covers old.clock dot → ⊥) → Within seen old.clock → Puts old new dot seen content → Shows (known ++ write_of dot content seen ∷ []) new }
+{}
+
+/// So does a merge, where no identifier stands for two writes.
+pub fn merge_shows()
+    ensures { (mine theirs : List Write) (own other new : State) → Shows mine own → Shows theirs other → AreUnique (mine ++ theirs) → Merges own other new → Shows (mine ++ theirs) new }
+{}
+
+/// What is current, and the context, told by sets of writes and computed dot by dot are the same, where no identifier
+/// stands for two writes and no write had seen itself.
+pub fn forms_agree()
+    ensures current { (known : List Write) (dot : Dot) (content : Content) → AreUnique known → NoneSawItself known → (current_among known dot ≡ Some content) ↔ ((write : Write) × IsCurrent known write × (write.dot ≡ dot) × (write.content ≡ content)) }
+    ensures context { (known : List Write) (dot : Dot) → IsTrue (context_of known dot) ↔ InContext known dot }
+    ensures shows { (known : List Write) (state : State) → AreUnique known → NoneSawItself known → Shows known state ↔ ShowsKnown state known }
+{}
+
+/// A state is told by its contents dot by dot and the events that it knows.
+pub fn states_are_told_by_contents()
+    ensures { (a b : State) → IsState a → IsState b → ((dot : Dot) → content_at a.siblings dot ≡ content_at b.siblings dot) → ((dot : Dot) → Covers a.clock dot ↔ Covers b.clock dot) → a ≡ b }
+{}
+
+/// Two states of one key in one world are told by their dots and clocks, where no identifier stands for two writes.
+pub fn states_are_told_by_dots()
+    ensures { (mine theirs : List Write) (a b : State) → IsState a → IsState b → Shows mine a → Shows theirs b → AreUnique (mine ++ theirs) → HaveSameDots a b → a ≡ b }
+{}
