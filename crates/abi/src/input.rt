@@ -1,0 +1,220 @@
+//! The input that a hook reads, written from the window's front.
+
+ghost use Rattle.std.specs.Prelude.{◌≡◌, ◌≤◌, ◌<◌, ◌+◌, ◌-◌, ◌*◌, ◌^◌, ◌⊎◌, ◌↔◌, ◌++◌, [], length, take, replicate, IsErr, IfOk, OnOk, OnErr};
+ghost use Rattle.std.specs.Option.{SomeIff, option_copied};
+ghost use Rattle.abi.specs.Input.{contents_shown, flag_of, head, layout, new_shown, row, rows, shown, used_by, values, window_of};
+
+use crate::kind::HookKind;
+use dvv::Dot;
+use object::{Content, Sibling};
+use thiserror::Error;
+
+/// The most siblings that an input shows.
+pub const MAX_SIBLINGS: usize = 64;
+
+/// The bytes of an input's head: kind, number of rows, used length and a zero, 4 bytes each.
+const HEAD_LEN: usize = 16;
+
+/// The bytes of a row: vnode and flag (4 each), counter (8), and the value's offset and length (4 each).
+const ROW_LEN: usize = 24;
+
+/// The dot of a content that has none yet.
+const NO_DOT: Dot = Dot { vnode: 0, n: 0 };
+
+/// The window is too short for what is to be shown, or there are more than [`MAX_SIBLINGS`] siblings.
+#[derive(Clone, Copy, Debug, PartialEq, Eq, Drop, Error)]
+#[error("large")]
+pub struct TooLarge;
+
+/// Lays out in the whole window what a hook of this kind reads: the new content where there is one, then the siblings.
+/// Answers how many bytes are used; zeros follow them to the window's end.
+///
+/// `TooLarge` where there are over 64 siblings, or the window is shorter than the used bytes; the window is then
+/// unchanged. It takes no memory. A window longer than a `u32` tells isn't asked for (an image's are at most 65,536).
+pub fn fill_input(
+    kind: HookKind,
+    new: Option<&Content>,
+    siblings: &[Sibling],
+    window: &mut [u8],
+) -> Result<u32, TooLarge>
+    requires { length window.old < 2 ^ 32 }
+    ensures used { IfOk result (λ used. used ≡ used_by (contents_shown (option_copied new.entry) siblings.now)) }
+    ensures written { OnOk result (window.new ≡ window_of (length window.old) kind (contents_shown (option_copied new.entry) siblings.now)) }
+    ensures fits { OnOk result ((length siblings.now ≤ MAX_SIBLINGS) × (used_by (contents_shown (option_copied new.entry) siblings.now) ≤ length window.old)) }
+    ensures large { IsErr result ↔ ((MAX_SIBLINGS < length siblings.now) ⊎ (length window.old < used_by (contents_shown (option_copied new.entry) siblings.now))) }
+    ensures unchanged { OnErr result (window.new ≡ window.old) }
+{
+    if siblings.len() > MAX_SIBLINGS {
+        return Err(TooLarge);
+    }
+    let Some(used) = used_length(new, siblings, window.len()) else {
+        return Err(TooLarge);
+    };
+    write_used(kind, new, siblings, used as u32, window);
+    window[used..].fill(0);
+    Ok(used as u32)
+}
+
+/// How many rows the input has.
+fn row_count(new: Option<&Content>, siblings: &[Sibling]) -> usize
+    requires { length siblings.now ≤ MAX_SIBLINGS }
+    ensures { result ≡ length (contents_shown (option_copied new.entry) siblings.now) }
+{
+    match new {
+        Some(_) => 1 + siblings.len(),
+        None => siblings.len(),
+    }
+}
+
+/// How many bytes the input uses, where they fit a window of this length.
+fn used_length(new: Option<&Content>, siblings: &[Sibling], len: usize) -> Option<usize>
+    requires { length siblings.now ≤ MAX_SIBLINGS }
+    ensures { SomeIff result (used_by (contents_shown (option_copied new.entry) siblings.now) ≤ len) (used_by (contents_shown (option_copied new.entry) siblings.now)) }
+{
+    let room = len.checked_sub(HEAD_LEN + ROW_LEN * row_count(new, siblings))?;
+    let room = room.checked_sub(new_shown(new).len())?;
+    let room = room_after(siblings, room)?;
+    Some(len - room)
+}
+
+/// What is left of so many bytes after the values of siblings, where these fit.
+fn room_after(siblings: &[Sibling], room: usize) -> Option<usize>
+    ensures { SomeIff result (length (values siblings.now) ≤ room) (room - length (values siblings.now)) }
+{
+    let mut left = room;
+    for sibling in siblings {
+        left = left.checked_sub(shown(&sibling.content).len())?;
+    }
+    Some(left)
+}
+
+/// Writes the used bytes of an input to the window's front.
+fn write_used(
+    kind: HookKind,
+    new: Option<&Content>,
+    siblings: &[Sibling],
+    used: u32,
+    window: &mut [u8],
+)
+    requires few { length siblings.now ≤ MAX_SIBLINGS }
+    requires used { used ≡ used_by (contents_shown (option_copied new) siblings.now) }
+    requires room { used ≤ length window.old }
+    ensures { take used window.new ≡ layout kind (contents_shown (option_copied new.entry) siblings.now) }
+{
+    let count = row_count(new, siblings) as u32;
+    let first = HEAD_LEN as u32 + ROW_LEN as u32 * count;
+    let at = write_head(window, kind, count, used);
+    let at = write_new_row(window, at, first, new);
+    let at = write_rows(window, at, first + new_shown(new).len() as u32, siblings);
+    let at = write(window, at, new_shown(new));
+    write_values(window, at, siblings);
+}
+
+/// Writes the head to the window's front.
+fn write_head(window: &mut [u8], kind: HookKind, count: u32, used: u32) -> usize
+    requires room { HEAD_LEN ≤ length window.old }
+    ensures end { result ≡ HEAD_LEN }
+    ensures front { take result window.new ≡ head kind count used }
+{
+    let at = write(window, 0, &kind.number().to_le_bytes());
+    let at = write(window, at, &count.to_le_bytes());
+    let at = write(window, at, &used.to_le_bytes());
+    write(window, at, &[0; 4])
+}
+
+/// Writes the row of the new content, where there is one.
+fn write_new_row(window: &mut [u8], at: usize, offset: u32, new: Option<&Content>) -> usize
+    requires room { at + ROW_LEN * length (contents_shown (option_copied new) []) ≤ length window.old }
+    requires short { length (new_shown (option_copied new)) < 2 ^ 32 }
+    ensures end { result ≡ at + ROW_LEN * length (contents_shown (option_copied new.entry) []) }
+    ensures front { take result window.new ≡ take at window.old ++ rows offset (contents_shown (option_copied new.entry) []) }
+{
+    match new {
+        Some(content) => write_row(window, at, offset, NO_DOT, content),
+        None => at,
+    }
+}
+/// Writes one row.
+fn write_row(window: &mut [u8], at: usize, offset: u32, dot: Dot, content: &Content) -> usize
+    requires room { at + ROW_LEN ≤ length window.old }
+    requires short { length (shown content.now) < 2 ^ 32 }
+    ensures end { result ≡ at + ROW_LEN }
+    ensures front { take result window.new ≡ take at window.old ++ row offset (record { dot = dot; content = content.now }) }
+{
+    let at = write(window, at, &dot.vnode.to_le_bytes());
+    let at = write(window, at, &flag(content).to_le_bytes());
+    let at = write(window, at, &dot.n.to_le_bytes());
+    let at = write(window, at, &offset.to_le_bytes());
+    let len = shown(content).len() as u32;
+    write(window, at, &len.to_le_bytes())
+}
+
+/// Writes the rows of siblings whose values stand one after another from an offset on.
+fn write_rows(window: &mut [u8], start: usize, first: u32, siblings: &[Sibling]) -> usize
+    requires room { start + ROW_LEN * length siblings.now ≤ length window.old }
+    requires short { first + length (values siblings.now) < 2 ^ 32 }
+    ensures end { result ≡ start + ROW_LEN * length siblings.now }
+    ensures front { take result window.new ≡ take start window.old ++ rows first siblings.now }
+{
+    let mut at = start;
+    let mut offset = first;
+    for sibling in siblings {
+        at = write_row(window, at, offset, sibling.dot, &sibling.content);
+        offset += shown(&sibling.content).len() as u32;
+    }
+    at
+}
+
+/// Writes the values of siblings.
+fn write_values(window: &mut [u8], start: usize, siblings: &[Sibling]) -> usize
+    requires { start + length (values siblings.now) ≤ length window.old }
+    ensures end { result ≡ start + length (values siblings.now) }
+    ensures front { take result window.new ≡ take start window.old ++ values siblings.now }
+{
+    let mut at = start;
+    for sibling in siblings {
+        at = write(window, at, shown(&sibling.content));
+    }
+    at
+}
+
+/// Writes bytes at a place, and answers the place after them.
+fn write(window: &mut [u8], at: usize, bytes: &[u8]) -> usize
+    requires { at + length bytes.now ≤ length window.old }
+    ensures end { result ≡ at + length bytes.now }
+    ensures front { take result window.new ≡ take at window.old ++ bytes.now }
+{
+    let end = at + bytes.len();
+    window[at..end].copy_from_slice(bytes);
+    end
+}
+
+/// The bytes that a content shows: a tombstone none.
+fn shown(content: &Content) -> &[u8]
+    ensures { result.now ≡ shown content.now }
+{
+    match content {
+        Content::Value { bytes, .. } => bytes.as_slice(),
+        Content::Tombstone => &[],
+    }
+}
+
+/// The bytes that the new content shows, where there is one.
+fn new_shown(new: Option<&Content>) -> &[u8]
+    ensures { result.now ≡ new_shown (option_copied new.entry) }
+{
+    match new {
+        Some(content) => shown(content),
+        None => &[],
+    }
+}
+
+/// 1 for a value, 0 for a tombstone.
+fn flag(content: &Content) -> u32
+    ensures { result ≡ flag_of content.now }
+{
+    match content {
+        Content::Value { .. } => 1,
+        Content::Tombstone => 0,
+    }
+}
