@@ -1,0 +1,3 @@
+pub mod Bindings
+pub mod Changes
+pub mod Tables

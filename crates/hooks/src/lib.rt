@@ -1,0 +1,14 @@
+//! The registry of hooks: verified programs under names, and which of them a bucket's hooks are.
+#![tactic(auto)]
+
+mod bindings;
+mod fault;
+pub mod laws;
+mod lookup;
+mod registry;
+#[cfg(test)]
+mod tests;
+
+pub use fault::HookFault;
+pub use lookup::Hooks;
+pub use registry::Registry;

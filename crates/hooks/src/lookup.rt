@@ -1,0 +1,55 @@
+//! Where hooks are looked up.
+
+ghost use Rattle.std.specs.Prelude.{◌≡◌, ℕ, List, Option, Result, MatchResult};
+ghost use Rattle.bpfimage.specs.declared.image.ImageKind.{ImageKind as Kind};
+ghost use Rattle.verifier.specs.Program.{Program};
+ghost use Rattle.hooks.specs.declared.fault.HookFault.{HookFault as Fault};
+ghost use Rattle.hooks.specs.declared.fault.HookFault.TheVariants.{NoMemory, NotSeen};
+ghost use Rattle.hooks.specs.Tables.{bound_in, hook_in, programs_of};
+
+use crate::fault::HookFault;
+use crate::registry::Registry;
+use bpfimage::ImageKind;
+use object::Bytes;
+use std::sync::Arc;
+use verifier::Verified;
+
+/// Where hooks are looked up. Contracts see which look-ups may come back how, by a relation between what there is
+/// before and after.
+pub trait Hooks {
+    /// A look-up of a hook may come back so.
+    ghost finds: { Self → List ℕ → Kind → Result (Option Program) Fault → Self → Type 0 };
+
+    /// A look-up of a bound name may come back so.
+    ghost names: { Self → List ℕ → Kind → Result (Option (List ℕ)) Fault → Self → Type 0 };
+
+    /// The program that is bound to a bucket and a kind.
+    fn find_hook(
+        &mut self,
+        bucket: &Bytes,
+        kind: ImageKind,
+    ) -> Result<Option<Arc<Verified>>, HookFault>
+        ensures { finds self.old bucket.now kind (programs_of result) self.new };
+
+    /// The name that is bound to a bucket and a kind.
+    fn find_name(&mut self, bucket: &Bytes, kind: ImageKind) -> Result<Option<Bytes>, HookFault>
+        ensures { names self.old bucket.now kind result self.new };
+}
+
+impl Hooks for Registry {
+    ghost finds = { λ before bucket kind answer after. (after ≡ before) × MatchResult answer (λ hook. hook ≡ hook_in before bucket kind) (λ fault. fault ≡ NotSeen) };
+
+    ghost names = { λ before bucket kind answer after. (after ≡ before) × MatchResult answer (λ name. name ≡ bound_in before.bindings bucket kind) (λ fault. fault ≡ NoMemory) };
+
+    fn find_hook(
+        &mut self,
+        bucket: &Bytes,
+        kind: ImageKind,
+    ) -> Result<Option<Arc<Verified>>, HookFault> {
+        self.hook_of(bucket, kind)
+    }
+
+    fn find_name(&mut self, bucket: &Bytes, kind: ImageKind) -> Result<Option<Bytes>, HookFault> {
+        self.bound(bucket, kind)
+    }
+}

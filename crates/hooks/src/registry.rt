@@ -1,0 +1,222 @@
+//! The registry of one thread: a change takes effect at once.
+
+ghost use Rattle.std.specs.Prelude.{◌≡◌, ◌≢◌, ◌↔◌, [], true, false, None, Option, Result, OnOk, OnErr, IfErr, MatchResult, IsTrue, IfOk};
+ghost use Rattle.std.specs.List.{fold};
+ghost use Rattle.std.specs.Option.{option_copied, option_map};
+ghost use Rattle.std.specs.Arc.{arc_value};
+ghost use Rattle.bpfimage.specs.declared.image.ImageKind.{ImageKind as Kind};
+ghost use Rattle.hooks.specs.Changes.{Bind, Install, Remove, are_fitting, are_known, binding_after, is_fitting, is_kind, is_known, of_kind};
+ghost use Rattle.hooks.specs.Bindings.{bound_by, bound_if};
+ghost use Rattle.hooks.specs.Tables.{ChangesBy, Shows, bound_in, hook_in, program_in};
+
+use crate::bindings::{Bindings, copy_of};
+use crate::fault::HookFault;
+use bpfimage::ImageKind;
+use object::Bytes;
+use std::alloc::{AllocError, Global};
+use std::collections::BTreeMap;
+use std::marker::Model;
+use std::sync::Arc;
+use verifier::Verified;
+
+/// Verified programs under names, and the names that are bound to each bucket's kinds of hooks.
+#[derive(Drop)]
+pub struct Registry {
+    programs: BTreeMap<Bytes, Arc<Verified>>,
+    bindings: BTreeMap<Bytes, Bindings>,
+    alloc: Global,
+}
+
+impl Model for Registry {
+    ghost use Rattle.hooks.specs.Tables.{Shown};
+
+    ghost Value = { Shown };
+
+    ghost view = { λ r. record { programs = r.programs.entries; bindings = r.bindings.entries } };
+}
+
+impl Registry {
+    /// No program, and nothing bound.
+    pub fn new(alloc: Global) -> Registry
+        ensures { Shows [] result }
+    {
+        Registry {
+            programs: BTreeMap::new(alloc),
+            bindings: BTreeMap::new(alloc),
+            alloc,
+        }
+    }
+
+    /// Gives a program a name, in place of the program that had it.
+    pub fn install(&mut self, name: Bytes, program: Arc<Verified>) -> Result<(), AllocError>
+        ensures ok { OnOk result (ChangesBy self.old self.new (Install name (arc_value program))) }
+        ensures err { OnErr result (self.new ≡ self.old) }
+    {
+        self.programs.insert(name, program)?;
+        Ok(())
+    }
+
+    /// Takes a name from its program. What is bound to the name stays bound to it.
+    pub fn remove(&mut self, name: &Bytes) -> Result<(), HookFault>
+        ensures ok { OnOk result (ChangesBy self.old self.new (Remove name.now)) }
+        ensures unknown { result ≡ Err HookFault.NameUnknown ↔ (program_in self.old.programs name.now ≡ None) }
+        ensures only { IfErr result (λ fault. fault ≡ HookFault.NameUnknown) }
+        ensures err { OnErr result (self.new ≡ self.old) }
+    {
+        match self.programs.remove(name) {
+            Some(_) => Ok(()),
+            None => Err(HookFault::NameUnknown),
+        }
+    }
+
+    /// Binds names to kinds of a bucket's hooks, or none: all of them, or where it is refused nothing. Of two bindings
+    /// of one kind the last counts.
+    ///
+    /// `NameUnknown` where a name has no program; `KindDiffers` where each has one, and one of them is of another kind.
+    pub fn bind(
+        &mut self,
+        bucket: &Bytes,
+        bindings: &[(ImageKind, Option<Bytes>)],
+    ) -> Result<(), HookFault>
+        ensures ok { OnOk result (ChangesBy self.old self.new (Bind bucket.now bindings.now)) }
+        ensures unknown { result ≡ Err HookFault.NameUnknown ↔ (are_known (program_in self.old.programs) bindings.now ≡ false) }
+        ensures differs { result ≡ Err HookFault.KindDiffers ↔ ((are_known (program_in self.old.programs) bindings.now ≡ true) × (are_fitting (program_in self.old.programs) bindings.now ≡ false)) }
+        ensures seen { result ≢ Err HookFault.NotSeen }
+        ensures err { OnErr result (self.new ≡ self.old) }
+    {
+        if !are_known(&self.programs, bindings) {
+            return Err(HookFault::NameUnknown);
+        }
+        if !are_fitting(&self.programs, bindings) {
+            return Err(HookFault::KindDiffers);
+        }
+        let bound = bound_anew(self.bindings.get(bucket), bindings)?;
+        self.bindings.insert(bucket.copy()?, bound)?;
+        Ok(())
+    }
+
+    /// The program that is bound to a bucket and a kind: none where none is bound, its name is gone, or its program is
+    /// now of another kind. It takes no memory; `NotSeen` where the program can have no further owner.
+    pub fn hook_of(
+        &self,
+        bucket: &Bytes,
+        kind: ImageKind,
+    ) -> Result<Option<Arc<Verified>>, HookFault>
+        ensures { MatchResult result (λ hook. option_map arc_value hook ≡ hook_in self.now bucket.now kind) (λ fault. fault ≡ HookFault.NotSeen) }
+    {
+        let Some(bindings) = self.bindings.get(bucket) else {
+            return Ok(None);
+        };
+        match bindings.bound(kind) {
+            Some(name) => shared(self.programs.get(name), kind),
+            None => Ok(None),
+        }
+    }
+
+    /// The name that is bound to a bucket and a kind.
+    pub fn bound(&self, bucket: &Bytes, kind: ImageKind) -> Result<Option<Bytes>, HookFault>
+        ensures { MatchResult result (λ name. name ≡ bound_in self.now.bindings bucket.now kind) (λ fault. fault ≡ HookFault.NoMemory) }
+    {
+        match self.bindings.get(bucket) {
+            Some(bindings) => match copy_of(bindings.bound(kind)) {
+                Ok(name) => Ok(name),
+                Err(_) => Err(HookFault::NoMemory),
+            },
+            None => Ok(None),
+        }
+    }
+}
+
+/// One more owner of a program, if it is of this kind.
+fn shared(
+    program: Option<&Arc<Verified>>,
+    kind: ImageKind,
+) -> Result<Option<Arc<Verified>>, HookFault>
+    ensures { MatchResult result (λ hook. option_map arc_value hook ≡ of_kind kind (option_map arc_value (option_copied program.entry))) (λ fault. fault ≡ HookFault.NotSeen) }
+{
+    match program {
+        Some(program) if is_of_kind(program, kind) => match Arc::try_clone(program) {
+            Ok(program) => Ok(Some(program)),
+            Err(_) => Err(HookFault::NotSeen),
+        },
+        _ => Ok(None),
+    }
+}
+
+/// Whether a program is of this kind.
+fn is_of_kind(program: &Arc<Verified>, kind: ImageKind) -> bool
+    ensures { result ≡ is_kind (arc_value program.now).kind kind }
+{
+    program.image().kind == kind
+}
+
+/// Whether a binding is to a name that has a program, or to none.
+fn is_known(programs: &BTreeMap<Bytes, Arc<Verified>>, binding: &(ImageKind, Option<Bytes>)) -> bool
+    ensures { result ≡ is_known (program_in programs.now.entries) binding.now }
+{
+    match &binding.1 {
+        Some(name) => programs.contains_key(name),
+        None => true,
+    }
+}
+
+/// Whether each binding is so.
+fn are_known(
+    programs: &BTreeMap<Bytes, Arc<Verified>>,
+    bindings: &[(ImageKind, Option<Bytes>)],
+) -> bool
+    ensures { result ≡ are_known (program_in programs.now.entries) bindings.now }
+{
+    bindings.iter().all(|binding| is_known(programs, binding))
+}
+
+/// Whether a binding is to a name whose program is of that kind, or to none.
+fn is_fitting(
+    programs: &BTreeMap<Bytes, Arc<Verified>>,
+    binding: &(ImageKind, Option<Bytes>),
+) -> bool
+    ensures { result ≡ is_fitting (program_in programs.now.entries) binding.now }
+{
+    match &binding.1 {
+        Some(name) => match programs.get(name) {
+            Some(program) => is_of_kind(program, binding.0),
+            None => false,
+        },
+        None => true,
+    }
+}
+
+/// Whether each binding is so.
+fn are_fitting(
+    programs: &BTreeMap<Bytes, Arc<Verified>>,
+    bindings: &[(ImageKind, Option<Bytes>)],
+) -> bool
+    ensures { result ≡ are_fitting (program_in programs.now.entries) bindings.now }
+{
+    bindings.iter().all(|binding| is_fitting(programs, binding))
+}
+
+/// The bindings of a bucket with further ones, each in place of the one before it of its kind.
+fn bound_anew(
+    before: Option<&Bindings>,
+    bindings: &[(ImageKind, Option<Bytes>)],
+) -> Result<Bindings, AllocError>
+    ensures { IfOk result (λ after. (kind : Kind) → bound_by after kind ≡ fold (binding_after kind) (bound_if (option_copied before.entry) kind) bindings.now) }
+{
+    let mut bound = copy_of_bindings(before)?;
+    for binding in bindings {
+        let name = copy_of(&binding.1)?;
+        bound.bind(binding.0, name);
+    }
+    Ok(bound)
+}
+
+/// The same bindings, or none bound.
+fn copy_of_bindings(before: Option<&Bindings>) -> Result<Bindings, AllocError>
+    ensures { IfOk result (λ copy. (kind : Kind) → bound_by copy kind ≡ bound_if (option_copied before.entry) kind) }
+{
+    match before {
+        Some(bindings) => bindings.copy(),
+        None => Ok(Bindings::new()),
+    }
+}
