@@ -1,0 +1,19 @@
+//! Records: the state of a key as bytes, for a dump that another process loads.
+//!
+//! A record is the mark `DVR1`, the length of its body, the body, and the body's SHA-1. Each state of a key has one
+//! spelling, so a record that is damaged is told, and a good one is read as it was written. The format is this store's
+//! profile.
+#![tactic(auto)]
+
+mod fault;
+pub mod laws;
+mod read;
+mod record;
+#[cfg(test)]
+mod tests;
+mod write;
+
+pub use fault::WireFault;
+pub use read::read_record;
+pub use record::Record;
+pub use write::{has_record, write_record};
