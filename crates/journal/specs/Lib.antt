@@ -1,0 +1,9 @@
+pub mod Keys
+pub mod Entries
+pub mod Logs
+pub mod Replay
+pub mod Limits
+pub mod Journals
+pub mod Answers
+pub mod Brought
+pub mod Rows

@@ -1,0 +1,17 @@
+-- A journal and whose it is.
+use Rattle.std.specs.Prelude.{ℕ, List, [], ◌∷◌, ◌++◌}
+use Rattle.journal.specs.declared.entry.Entry.{Entry}
+
+-- the entries of a vnode, oldest first
+pub record Log : Type 0 where
+  pub vnode : ℕ
+  pub entries : List Entry
+
+-- one more entry
+abbrev pub with_entry : Log → Entry → Log
+with_entry log e = record { vnode = log.vnode; entries = log.entries ++ e ∷ [] }
+
+-- a log, and how many entries can be added before it has to grow
+pub record RoomyLog : Type 0 where
+  pub log : Log
+  pub room : ℕ

@@ -1,0 +1,12 @@
+//! What happened at a vnode, oldest first, and what that means.
+#![tactic(auto)]
+
+mod entry;
+mod journal;
+pub mod laws;
+pub mod rows;
+#[cfg(test)]
+mod tests;
+
+pub use entry::Entry;
+pub use journal::{Journal, JournalFault, MAX_ENTRIES};
