@@ -1,0 +1,180 @@
+//! A vnode: what its journal says happened.
+
+ghost use Rattle.std.specs.Prelude.{◌≡◌, ◌≢◌, ◌↔◌, Contains, OnOk, OnErr, IfOk, IfErr, [], length, Err};
+
+use crate::fault::VnodeFault;
+use crate::steps::{copy_of, keys_in, merge_at, put_at};
+use dvv::{Clock, Dot};
+use journal::{Entry, Journal};
+use object::{Content, Key, KeyState};
+use std::alloc::{AllocError, Global};
+use std::collections::BTreeMap;
+use std::marker::Model;
+
+/// One vnode. It is seen as its journal: at each key it has the state that the journal leaves there.
+#[derive(Drop)]
+pub struct Vnode {
+    alloc: Global,
+    states: BTreeMap<Key, KeyState>,
+    journal: Journal,
+}
+
+impl Model for Vnode {
+    ghost use Rattle.journal.specs.Logs.{Log};
+    ghost use Rattle.vnode.specs.States.{Replays};
+
+    ghost Value = { Log };
+
+    ghost view = { λ v. v.journal.log };
+
+    ghost invariant = { λ v. Replays v.states v.journal.log };
+}
+
+impl Vnode {
+    ghost use Rattle.journal.specs.declared.entry.Entry.TheVariants.{Put, Merge, Read, Restart};
+    ghost use Rattle.journal.specs.Logs.{Log, with_entry};
+    ghost use Rattle.object.specs.declared.content.Key.{Key};
+    ghost use Rattle.std.specs.List.Sorted.{IsStrictlySortedBy};
+    ghost use Rattle.journal.specs.Keys.{key_cmp};
+    ghost use Rattle.journal.specs.Replay.{IsReplay, IsNextDot, IsKeyOf};
+    ghost use Rattle.journal.specs.Limits.{TakesEntry, AcceptsPut, AcceptsMerge};
+    ghost use Rattle.journal.specs.Journals.{IsJournal};
+    ghost use Rattle.journal.specs.Answers.{TellsChange};
+    ghost use Rattle.vnode.specs.declared.fault.VnodeFault.{VnodeFault};
+    ghost use Rattle.vnode.specs.Refusals.{RefusesPut, RefusesMerge, RefusesEntry};
+
+    /// A vnode at which nothing has happened.
+    pub fn new(alloc: Global, id: u32) -> Self
+        ensures { result ≡ record { vnode = id; entries = [] } }
+    {
+        Vnode {
+            alloc,
+            states: BTreeMap::new(alloc),
+            journal: Journal::new(alloc, id),
+        }
+    }
+
+    /// Its identifier.
+    pub fn id(&self) -> u32
+        ensures { result ≡ self.now.vnode }
+    {
+        self.journal.vnode()
+    }
+
+    /// What happened here.
+    pub fn journal(&self) -> &Journal
+        ensures journal { result.now.log ≡ self.now }
+        ensures legal { IsJournal self.now.vnode self.now.entries }
+    {
+        &self.journal
+    }
+
+    /// The keys at which something is known, in the order of bytes.
+    pub fn keys(&self) -> Result<Vec<Key>, AllocError>
+        ensures keys { IfOk result (λ keys. (k : Key) → Contains keys.items k ↔ IsKeyOf self.now.entries k) }
+        ensures rising { IfOk result (λ keys. IsStrictlySortedBy key_cmp keys.items) }
+    {
+        keys_in(self.alloc, &self.states)
+    }
+
+    /// Writes a content that had seen what the context counts. Answers its dot, and the place of its entry.
+    pub fn put(
+        &mut self,
+        stamp: u64,
+        key: &Key,
+        seen: &Clock,
+        content: &Content,
+    ) -> Result<(Dot, u32), VnodeFault>
+        ensures dot { IfOk result (λ put. IsNextDot self.old.entries key.now self.old.vnode put.0) }
+        ensures place { IfOk result (λ put. put.1 ≡ length self.old.entries) }
+        ensures entry { IfOk result (λ put. self.new ≡ with_entry self.old (Put stamp key.now seen.now content.now put.0)) }
+        ensures accepts { OnOk result (AcceptsPut self.old.vnode self.old.entries key.now seen.now) }
+
+        // Each refusal comes exactly where its limit is the first that is passed; no memory is asked for before.
+        ensures why { IfErr result (RefusesPut self.old key.now seen.now) }
+        ensures exact { (fault : VnodeFault) → fault ≢ VnodeFault.NoMemory → RefusesPut self.old key.now seen.now fault → result ≡ Err fault }
+        ensures err { OnErr result (self.new ≡ self.old) }
+        ensures legal { IsJournal self.new.vnode self.new.entries }
+    {
+        let (dot, entry) = put_at(
+            self.alloc,
+            &mut self.states,
+            &mut self.journal,
+            stamp,
+            key,
+            seen,
+            content,
+        )?;
+        Ok((dot, self.journal.append(entry)))
+    }
+
+    /// Merges the state that the vnode `from` answered at place `at` of its journal. Answers whether siblings or clock of
+    /// the key changed, and the place of the entry.
+    pub fn merge(
+        &mut self,
+        stamp: u64,
+        key: &Key,
+        from: u32,
+        at: u32,
+        state: &KeyState,
+    ) -> Result<(bool, u32), VnodeFault>
+        ensures changed { IfOk result (λ merge. TellsChange self.old.entries (Merge stamp key.now from at state.now) key.now merge.0) }
+        ensures place { IfOk result (λ merge. merge.1 ≡ length self.old.entries) }
+        ensures entry { OnOk result (self.new ≡ with_entry self.old (Merge stamp key.now from at state.now)) }
+        ensures accepts { OnOk result (AcceptsMerge self.old.entries key.now state.now) }
+
+        ensures why { IfErr result (RefusesMerge self.old key.now state.now) }
+        ensures exact { (fault : VnodeFault) → fault ≢ VnodeFault.NoMemory → RefusesMerge self.old key.now state.now fault → result ≡ Err fault }
+        ensures err { OnErr result (self.new ≡ self.old) }
+        ensures legal { IsJournal self.new.vnode self.new.entries }
+    {
+        let (changed, entry) = merge_at(
+            self.alloc,
+            &mut self.states,
+            &mut self.journal,
+            stamp,
+            key,
+            from,
+            at,
+            state,
+        )?;
+        Ok((changed, self.journal.append(entry)))
+    }
+
+    /// Copies the state of a key. Answers it, and the place of the entry.
+    pub fn read(&mut self, stamp: u64, key: &Key) -> Result<(KeyState, u32), VnodeFault>
+        ensures state { IfOk result (λ read. IsReplay self.old.entries key.now read.0) }
+        ensures place { IfOk result (λ read. read.1 ≡ length self.old.entries) }
+        ensures entry { OnOk result (self.new ≡ with_entry self.old (Read stamp key.now)) }
+        ensures accepts { OnOk result (TakesEntry self.old.entries) }
+
+        ensures why { IfErr result (RefusesEntry self.old) }
+        ensures exact { (fault : VnodeFault) → fault ≢ VnodeFault.NoMemory → RefusesEntry self.old fault → result ≡ Err fault }
+        ensures err { OnErr result (self.new ≡ self.old) }
+        ensures legal { IsJournal self.new.vnode self.new.entries }
+    {
+        self.journal.reserve()?;
+        let entry_key = key.copy()?;
+        let state = copy_of(self.alloc, &self.states, key)?;
+        let place = self.journal.append(Entry::Read {
+            stamp,
+            key: entry_key,
+        });
+        Ok((state, place))
+    }
+
+    /// Starts again. Nothing is lost. Answers the place of the entry.
+    pub fn restart(&mut self, stamp: u64) -> Result<u32, VnodeFault>
+        ensures place { IfOk result (λ place. place ≡ length self.old.entries) }
+        ensures entry { OnOk result (self.new ≡ with_entry self.old (Restart stamp)) }
+        ensures accepts { OnOk result (TakesEntry self.old.entries) }
+
+        ensures why { IfErr result (RefusesEntry self.old) }
+        ensures exact { (fault : VnodeFault) → fault ≢ VnodeFault.NoMemory → RefusesEntry self.old fault → result ≡ Err fault }
+        ensures err { OnErr result (self.new ≡ self.old) }
+        ensures legal { IsJournal self.new.vnode self.new.entries }
+    {
+        self.journal.reserve()?;
+        Ok(self.journal.append(Entry::Restart { stamp }))
+    }
+}
