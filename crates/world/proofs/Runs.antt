@@ -1,0 +1,199 @@
+-- Runs of the code, event by event.
+use Rattle.std.proofs.Common.{◌≡◌, ℕ, ◌+◌, ◌^◌, ◌<◌, ◌≤◌, ◌⊎◌, Bool, true, false, List, [], ◌∷◌, ◌++◌, length, get_or, refl, sym, ap, subst, ◌∙◌, inl, inr, Some, add-one}
+use Rattle.std.specs.Prelude.{slice_get, MatchBool, ◌↔◌}
+use Rattle.std.proofs.lemmas.List.{map-append}
+use Rattle.std.proofs.lemmas.Option.{slice_get_read, slice_get_within}
+use Rattle.dvv.specs.declared.Dot.{Dot}
+use Rattle.object.specs.declared.content.Key.{Key}
+use Rattle.object.specs.Known.{Write}
+use Rattle.object.specs.State.{State, kept, next}
+use Rattle.journal.specs.Logs.{Log}
+use Rattle.object.specs.declared.content.Content.{Content}
+use Rattle.journal.specs.declared.entry.Entry.{Entry}
+use Rattle.journal.specs.declared.entry.Entry.TheVariants as entry
+use Rattle.journal.specs.Answers.{TellsChange}
+use Rattle.journal.specs.Journals.{MayFollow}
+use Rattle.journal.specs.Replay.{IsReplay}
+use Rattle.vnode.specs.declared.fault.VnodeFault.{VnodeFault}
+use Rattle.vnode.specs.declared.fault.VnodeFault.TheVariants as vnode
+use Rattle.vnode.specs.Refusals.{RefusesMerge}
+use Rattle.world.specs.Appending.{refusal_of_vnode, Appends, RefusesPutAt, RefusesMergeAt, RefusesEntryAt}
+use Rattle.world.proofs.Steps.{put_step, copy_step, restart_step, refusal_step, delivery_step, shown, state_shown, state_next_is, known_seen, may_put, may_deliver, were_put}
+use Rattle.std.proofs.lemmas.Bool.{cases_lt}
+use Rattle.dvv.specs.Clock.{HasRoom, vnodes_together}
+use Rattle.journal.specs.Limits.{TakesDot, AcceptsPut}
+use Rattle.world.specs.declared.event.Event.{Event}
+use Rattle.world.specs.declared.event.Event.TheVariants.{Put, Get, Send, Deliver, Restart}
+use Rattle.world.specs.declared.event.Refusal.TheVariants.{ContextAhead, TooManySiblings, ClockFull, MergeFull, JournalFull, NoMemory}
+use Rattle.world.specs.declared.event.Message.{Message}
+use Rattle.world.specs.declared.event.Refusal.{Refusal}
+use Rattle.world.specs.declared.event.Seen.{Seen}
+use Rattle.world.specs.declared.event.Seen.TheVariants.{Clock as Given, Get as ContextOf}
+use Rattle.world.specs.declared.event.Reply.{Reply}
+use Rattle.world.specs.declared.event.Reply.TheVariants.{Stored, Found, Sent, Changed, Restarted, Refused}
+use Rattle.world.specs.Knowledge.{Knowledge, Failed, below, left_by, id_of, next_dot, write_of, after_refusal, after_put, after_copy, after_delivery, after_restart, IsStateOf}
+use Rattle.world.specs.Happening.{Means, Happens, wants_memory, refused_alike, stored, put_refused, found, sent, delivered, delivery_refused, restarted, full, RefusesPut, RefusesDelivery, IsAt, HasPlace, MayPut, MayDeliver, MayHappen}
+use Rattle.world.specs.Represents.{Represents, log_at, empty_logs}
+use Rattle.world.specs.Running.{Remember, Holds, ReplyAt, IsFoundOrRefused, IsSentOrRefused, IsRefusedContext, IsMessageOf}
+
+-- one vnode more
+pub opened_more : (n : ℕ) → empty_logs (below (n + 1)) ≡ empty_logs (below n) ++ record { vnode = n; entries = [] } ∷ []
+opened_more n = ap (λ (k : ℕ). empty_logs (below k)) (add-one n) ∙ map-append (λ (id : ℕ). let l : Log = record { vnode = id; entries = [] } in l) (below n) (n ∷ [])
+
+-- what stands at a place is read there
+pub read_at : {X : Type 0} (xs : List X) (place : ℕ) (x y : X) → slice_get xs place ≡ Some y → x ≡ get_or xs place x → slice_get xs place ≡ Some x
+read_at xs place x y there is = slice_get_read xs (length xs) place x refl (slice_get_within xs place y there) is
+
+-- a get's reply holds the context of what it copied
+pub found_means : (replies : List Reply) (old : Knowledge) (get : ℕ) (r : Reply) (state : State) → Remember replies old → ReplyAt replies get IsFoundOrRefused → r ≡ get_or replies get r → r ≡ Found state → Means old (ContextOf get) state.clock
+found_means replies old get r state remember at is is_found =
+    let h : Holds (Found state) (left_by old get) = subst (λ (x : Reply). Holds x (left_by old get)) is_found (remember.each get r (read_at replies get r at.0 at.1 is)) in
+    (h.0, h.1, h.2, (h.3.clock, h.3.shows.clock))
+
+-- a refused event's reply holds its refusal
+pub refusal_held : (replies : List Reply) (old : Knowledge) (place : ℕ) (r : Reply) (refusal : Refusal) (P : Reply → Type 0) → Remember replies old → ReplyAt replies place P → r ≡ get_or replies place r → r ≡ Refused refusal → left_by old place ≡ Failed refusal
+refusal_held replies old place r refusal P remember at is refused = subst (λ (x : Reply). Holds x (left_by old place)) refused (remember.each place r (read_at replies place r at.0 at.1 is))
+
+-- a send's reply holds what it copied
+pub message_held : (replies : List Reply) (old : Knowledge) (place : ℕ) (r : Reply) (message : Message) → Remember replies old → ReplyAt replies place IsSentOrRefused → r ≡ get_or replies place r → r ≡ Sent message → IsMessageOf old place message
+message_held replies old place r message remember at is is_sent = subst (λ (x : Reply). Holds x (left_by old place)) is_sent (remember.each place r (read_at replies place r at.0 at.1 is))
+
+-- an entry that a vnode appended may follow under its identifier
+appended_follows : (logs new : List Log) (w : Knowledge) (v : ℕ) (e : Entry) → Represents logs w → v < length logs → Appends logs new v e → MayFollow (id_of w v) (log_at logs v).entries e
+appended_follows logs new w v e rep inside appends = subst (λ (i : ℕ). MayFollow i (log_at logs v).entries e) (rep.ids v inside) appends.follows
+
+-- A put that was accepted is the world's.
+pub put_happened : (logs new : List Log) (w : Knowledge) (v stamp : ℕ) (key : Key) (seen : Seen) (content : Content) (clock : List Dot) (dot : Dot) → Represents logs w → v < length logs → Means w seen clock → Appends logs new v (entry.Put stamp key clock content dot)
+    → (after : Knowledge) × Happens w (Put v key seen content) (Stored dot) after × Represents new after
+put_happened logs new w v stamp key seen content clock dot rep inside means appends =
+    let r = put_step logs w v stamp key clock content dot rep inside (appended_follows logs new w v (entry.Put stamp key clock content dot) rep inside appends) in
+    (after_put w v key (write_of w v key clock content), stored v key seen content clock refl means r.1 (ap (λ (d : Dot). Stored d) r.0) refl, subst (λ (ls : List Log). Represents ls (after_put w v key (write_of w v key clock content))) (sym appends.entries) r.2)
+
+not_within : (a b : ℕ) → (a ≤ b → ⊥) → b < a
+not_within a b never = elim (cases_lt b a) [ inl lt ↦ lt | inr le ↦ absurd (never le) ]
+
+not_below : (a b : ℕ) → (a < b → ⊥) → b ≤ a
+not_below a b never = elim (cases_lt a b) [ inl lt ↦ absurd (never lt) | inr le ↦ le ]
+
+-- the next dot of a vnode's own identifier
+next_at : (logs : List Log) (w : Knowledge) (v : ℕ) (key : Key) (state : State) → Represents logs w → v < length logs → IsReplay (log_at logs v).entries key state → next state (log_at logs v).vnode ≡ next_dot w v key
+next_at logs w v key state rep inside replay = ap (next state) (rep.ids v inside) ∙ state_next_is logs w v key state rep inside replay
+
+room_next : (logs : List Log) (w : Knowledge) (v : ℕ) (key : Key) (state : State) → Represents logs w → v < length logs → IsReplay (log_at logs v).entries key state → TakesDot (log_at logs v).vnode state → HasRoom state.clock (next_dot w v key)
+room_next logs w v key state rep inside replay room = subst (HasRoom state.clock) (next_at logs w v key state rep inside replay) room
+
+next_room : (logs : List Log) (w : Knowledge) (v : ℕ) (key : Key) (state : State) → Represents logs w → v < length logs → IsReplay (log_at logs v).entries key state → HasRoom state.clock (next_dot w v key) → TakesDot (log_at logs v).vnode state
+next_room logs w v key state rep inside replay room = subst (HasRoom state.clock) (sym (next_at logs w v key state rep inside replay)) room
+
+-- why a vnode refuses a put is why the world does
+put_refusal : (logs : List Log) (w : Knowledge) (v : ℕ) (key : Key) (clock : List Dot) (r : Refusal) → Represents logs w → v < length logs → RefusesPutAt (log_at logs v) key clock r → ((r ≡ NoMemory) × MayPut w v key clock) ⊎ RefusesPut w v key clock r
+put_refusal logs w v key clock ContextAhead rep inside why = inr (λ h. why (λ d c. ((shown logs w v key rep inside).clock d).1 (h d c)))
+put_refusal logs w v key clock TooManySiblings rep inside why =
+    inr (known_seen logs w v key clock rep inside why.0, (length (kept clock why.1.0.siblings), (why.1.0, state_shown logs w v key why.1.0 rep inside why.1.1, refl), not_below (length (kept clock why.1.0.siblings)) 64 why.1.2))
+put_refusal logs w v key clock ClockFull rep inside why =
+    let is = state_shown logs w v key why.1.0 rep inside why.1.1 in
+    inr (known_seen logs w v key clock rep inside why.0, (length (kept clock why.1.0.siblings), (why.1.0, is, refl), why.1.2.0), (why.1.0.clock, (is.clock, is.shows.clock), λ room. why.1.2.1 (next_room logs w v key why.1.0 rep inside why.1.1 room)))
+put_refusal logs w v key clock MergeFull rep inside why = absurd why
+put_refusal logs w v key clock JournalFull rep inside why =
+    let is = state_shown logs w v key why.1.0 rep inside why.1.1 in
+    inr (known_seen logs w v key clock rep inside why.0, (length (kept clock why.1.0.siblings), (why.1.0, is, refl), why.1.2.0), (why.1.0.clock, (is.clock, is.shows.clock), room_next logs w v key why.1.0 rep inside why.1.1 why.1.2.1), sym (rep.accepted v inside) ∙ why.2)
+put_refusal logs w v key clock NoMemory rep inside why = inl (refl, may_put logs w v key clock rep inside (subst (λ (i : ℕ). AcceptsPut i (log_at logs v).entries key clock) (rep.ids v inside) why))
+
+-- a vnode's refusal of a merge
+pub merge_so : (log : Log) (key : Key) (other : State) (fault : VnodeFault) → RefusesMerge log key other fault → RefusesMergeAt log key other (refusal_of_vnode fault)
+merge_so log key other vnode.ContextAhead h = h
+merge_so log key other vnode.TooManySiblings h = h
+merge_so log key other vnode.ClockFull h = h
+merge_so log key other vnode.MergedClockFull h = h
+merge_so log key other vnode.JournalFull h = h
+merge_so log key other vnode.NoMemory h = h
+
+-- a refusal, as the world's
+refused_so : (logs : List Log) (w : Knowledge) (what : Event) (r : Refusal) → Represents logs w → Happens w what (Refused r) (after_refusal w r) → (after : Knowledge) × Happens w what (Refused r) after × Represents logs after
+refused_so logs w what r rep happens = (after_refusal w r, happens, refusal_step logs w r rep)
+
+pub put_was_refused : (logs : List Log) (w : Knowledge) (v : ℕ) (key : Key) (seen : Seen) (content : Content) (clock : List Dot) (r : Refusal) → Represents logs w → v < length logs → Means w seen clock → RefusesPutAt (log_at logs v) key clock r
+    → (after : Knowledge) × Happens w (Put v key seen content) (Refused r) after × Represents logs after
+put_was_refused logs w v key seen content clock r rep inside means why = refused_so logs w (Put v key seen content) r rep (elim (put_refusal logs w v key clock r rep inside why) [
+  | inl memory ↦ wants_memory (clock, means, memory.1) (ap (λ (x : Refusal). Refused x) memory.0) (ap (λ (x : Refusal). after_refusal w x) memory.0)
+  | inr refuses ↦ put_refused v key seen content clock r refl means refuses refl refl
+])
+
+pub context_was_refused : (logs : List Log) (w : Knowledge) (v : ℕ) (key : Key) (seen : Seen) (content : Content) (r : Refusal) → Represents logs w → IsRefusedContext w seen r
+    → (after : Knowledge) × Happens w (Put v key seen content) (Refused r) after × Represents logs after
+context_was_refused logs w v key (Given clock) content r rep failed = absurd failed
+context_was_refused logs w v key (ContextOf get) content r rep failed = refused_so logs w (Put v key (ContextOf get) content) r rep (refused_alike get r refl failed refl refl)
+
+-- vnodes that stayed as they were
+pub with_same : (logs new : List Log) (w : Knowledge) (what : Event) (reply : Reply) → new ≡ logs → (after : Knowledge) × Happens w what reply after × Represents logs after → (after : Knowledge) × Happens w what reply after × Represents new after
+with_same logs new w what reply same (after, happens, rep) = (after, happens, subst (λ (ls : List Log). Represents ls after) (sym same) rep)
+
+-- A get and a send.
+pub get_happened : (logs new : List Log) (w : Knowledge) (v stamp : ℕ) (key : Key) (state : State) → Represents logs w → v < length logs → Appends logs new v (entry.Read stamp key) → IsReplay (log_at logs v).entries key state
+    → (after : Knowledge) × Happens w (Get v key) (Found state) after × Represents new after
+get_happened logs new w v stamp key state rep inside appends replay =
+    let r = copy_step logs w v stamp key rep inside appends.follows in
+    (after_copy w v key, found v key state refl (state_shown logs w v key state rep inside replay) r.0 refl refl, subst (λ (ls : List Log). Represents ls (after_copy w v key)) (sym appends.entries) r.1)
+
+pub send_happened : (logs new : List Log) (w : Knowledge) (v stamp : ℕ) (key : Key) (message : Message) → Represents logs w → v < length logs → Appends logs new v (entry.Read stamp key) → IsReplay (log_at logs v).entries key message.state → message.key ≡ key → message.from ≡ (log_at logs v).vnode → message.at ≡ length (log_at logs v).entries
+    → (after : Knowledge) × Happens w (Send v key) (Sent message) after × Represents new after
+send_happened logs new w v stamp key message rep inside appends replay key_is from at =
+    let r = copy_step logs w v stamp key rep inside appends.follows in
+    (after_copy w v key, sent v key message refl (record { key_is = key_is; from_is = from ∙ rep.ids v inside; at_is = at ∙ rep.accepted v inside; state_is = state_shown logs w v key message.state rep inside replay }) r.0 refl refl, subst (λ (ls : List Log). Represents ls (after_copy w v key)) (sym appends.entries) r.1)
+
+-- a get, a send and a restart may happen where their journal has a place
+place_may : (w : Knowledge) (what : Event) (v : ℕ) → IsAt what v → HasPlace w v → MayHappen w what
+place_may w (Get u key) v at place = subst (HasPlace w) (sym at) place
+place_may w (Send u key) v at place = subst (HasPlace w) (sym at) place
+place_may w (Restart u) v at place = subst (HasPlace w) (sym at) place
+place_may w (Put u key seen content) v at place = absurd at
+place_may w (Deliver message u) v at place = absurd at
+
+-- why a vnode refuses a read or a restart is why the world does
+pub entry_was_refused : (logs : List Log) (w : Knowledge) (v : ℕ) (what : Event) (r : Refusal) → Represents logs w → v < length logs → IsAt what v → RefusesEntryAt (log_at logs v) r
+    → (after : Knowledge) × Happens w what (Refused r) after × Represents logs after
+entry_was_refused logs w v what JournalFull rep inside at why = refused_so logs w what JournalFull rep (full v at (sym (rep.accepted v inside) ∙ why) refl refl)
+entry_was_refused logs w v what NoMemory rep inside at why = refused_so logs w what NoMemory rep (wants_memory (place_may w what v at (subst (λ (n : ℕ). n < 2 ^ 32) (rep.accepted v inside) why)) refl refl)
+entry_was_refused logs w v what r rep inside at why = absurd why
+
+-- A restart.
+pub restart_happened : (logs new : List Log) (w : Knowledge) (v stamp : ℕ) → Represents logs w → v < length logs → Appends logs new v (entry.Restart stamp)
+    → (after : Knowledge) × Happens w (Restart v) Restarted after × Represents new after
+restart_happened logs new w v stamp rep inside appends =
+    let r = restart_step logs w v stamp rep inside appends.follows in
+    (after_restart w v, restarted v refl r.0 refl refl, subst (λ (ls : List Log). Represents ls (after_restart w v)) (sym appends.entries) r.1)
+
+-- two facts that hold alike are told alike
+tell_so : {A B : Type 0} (b : Bool) → A ↔ B → MatchBool b (A → ⊥) A → MatchBool b (B → ⊥) B
+tell_so true same tells = λ h. tells (same.1 h)
+tell_so false same tells = same.0 tells
+
+-- why a vnode refuses a merge is why the world does
+merge_refusal : (logs : List Log) (w : Knowledge) (v : ℕ) (key : Key) (state : State) (writes : List Write) (r : Refusal) → Represents logs w → v < length logs → IsStateOf writes state → RefusesMergeAt (log_at logs v) key state r → ((r ≡ NoMemory) × MayDeliver w v key writes) ⊎ RefusesDelivery w v key writes r
+merge_refusal logs w v key state writes MergeFull rep inside is why =
+    let own = state_shown logs w v key why.0 rep inside why.1 in
+    inr (vnodes_together why.0.clock state.clock, (why.0.clock, state.clock, (own.clock, own.shows.clock), (is.clock, is.shows.clock), refl), not_within (vnodes_together why.0.clock state.clock) 1024 why.2)
+merge_refusal logs w v key state writes JournalFull rep inside is why =
+    let own = state_shown logs w v key why.0.0 rep inside why.0.1 in
+    inr (vnodes_together why.0.0.clock state.clock, (why.0.0.clock, state.clock, (own.clock, own.shows.clock), (is.clock, is.shows.clock), refl), why.0.2, sym (rep.accepted v inside) ∙ why.1)
+merge_refusal logs w v key state writes NoMemory rep inside is why = inl (refl, may_deliver logs w v key state writes rep inside why.0 why.1 is)
+merge_refusal logs w v key state writes r rep inside is why = absurd why
+
+-- A delivery.
+pub delivery_happened : (logs new : List Log) (w : Knowledge) (v stamp place : ℕ) (message : Message) (changed : Bool) → Represents logs w → v < length logs → IsMessageOf w place message → Appends logs new v (entry.Merge stamp message.key message.from message.at message.state)
+    → TellsChange (log_at logs v).entries (entry.Merge stamp message.key message.from message.at message.state) message.key changed
+    → (after : Knowledge) × Happens w (Deliver place v) (Changed changed) after × Represents new after
+delivery_happened logs new w v stamp place message changed rep inside is appends tells =
+    let r = delivery_step logs w v stamp message.key message.from message.at message.state is.0 rep inside (appended_follows logs new w v (entry.Merge stamp message.key message.from message.at message.state) rep inside appends) (were_put w place message.key is.0 rep.lawful is.1) is.2 in
+    (after_delivery w v message.key is.0, delivered place v message.key is.0 changed refl is.1 r.0 (tell_so changed r.2 tells) refl refl, subst (λ (ls : List Log). Represents ls (after_delivery w v message.key is.0)) (sym appends.entries) r.1)
+
+pub delivery_was_refused : (logs : List Log) (w : Knowledge) (v place : ℕ) (message : Message) (r : Refusal) → Represents logs w → v < length logs → IsMessageOf w place message → RefusesMergeAt (log_at logs v) message.key message.state r
+    → (after : Knowledge) × Happens w (Deliver place v) (Refused r) after × Represents logs after
+delivery_was_refused logs w v place message r rep inside is why = refused_so logs w (Deliver place v) r rep (elim (merge_refusal logs w v message.key message.state is.0 r rep inside is.2 why) [
+  | inl memory ↦ wants_memory (message.key, is.0, is.1, memory.1) (ap (λ (x : Refusal). Refused x) memory.0) (ap (λ (x : Refusal). after_refusal w x) memory.0)
+  | inr refuses ↦ delivery_refused place v message.key is.0 r refl is.1 refuses refl refl
+])
+
+pub message_was_refused : (logs : List Log) (w : Knowledge) (v place : ℕ) (r : Refusal) → Represents logs w → left_by w place ≡ Failed r
+    → (after : Knowledge) × Happens w (Deliver place v) (Refused r) after × Represents logs after
+message_was_refused logs w v place r rep failed = refused_so logs w (Deliver place v) r rep (refused_alike place r refl failed refl refl)

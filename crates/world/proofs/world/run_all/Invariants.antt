@@ -1,0 +1,7 @@
+use Rattle.std.proofs.Common.{take}
+use Rattle.world.specs.Running.{IsRunSoFar}
+use Rattle.world.proofs.world.run_all.Given as goal
+
+-- the events so far were run
+abbrev pub invariant-loop-event : goal.invariant-loop-event
+invariant-loop-event l = IsRunSoFar l.vnodes (take l.event-index l.events) l.replies.items l.states.items

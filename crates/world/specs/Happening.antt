@@ -1,0 +1,167 @@
+-- What an event may reply and lead to (Riak KV documentation: siblings and causal contexts; the limits are this store's profile).
+use Rattle.std.specs.Prelude.{◌≡◌, ℕ, ◌^◌, ◌<◌, ◌≤◌, ◌↔◌, Bool, List, [], ◌∷◌, ◌++◌, length, MatchBool, Option, Some, None}
+use Rattle.dvv.specs.declared.Dot.{Dot}
+use Rattle.dvv.specs.Clock.{Covers, HasRoom, vnodes_together}
+use Rattle.object.specs.declared.content.Content.{Content}
+use Rattle.object.specs.declared.content.Key.{Key}
+use Rattle.object.specs.State.{State, kept}
+use Rattle.object.specs.Known.{Write, InContext, IsCurrent}
+use Rattle.world.specs.declared.event.Event.{Event}
+use Rattle.world.specs.declared.event.Event.TheVariants.{Put, Get, Send, Deliver, Restart}
+use Rattle.world.specs.declared.event.Message.{Message}
+use Rattle.world.specs.declared.event.Seen.{Seen}
+use Rattle.world.specs.declared.event.Seen.TheVariants.{Clock as Given, Get as ContextOf}
+use Rattle.world.specs.declared.event.Refusal.{Refusal}
+use Rattle.world.specs.declared.event.Refusal.TheVariants.{ContextAhead, TooManySiblings, ClockFull, MergeFull, JournalFull, NoMemory}
+use Rattle.world.specs.declared.event.Reply.{Reply}
+use Rattle.world.specs.declared.event.Reply.TheVariants.{Stored, Found, Sent, Changed, Restarted, Refused}
+use Rattle.world.specs.Knowledge.{Knowledge, Copied, Failed, left_by, known_at, id_of, accepted_at, IsContext, IsStateOf, write_of, next_dot, after_refusal, after_put, after_copy, after_delivery, after_restart}
+
+-- the earlier event that an event names, by its place
+abbrev pub named : Event → Option ℕ
+named (Put vnode key (ContextOf get) content) = Some get
+named (Put vnode key (Given clock) content) = None
+named (Get vnode key) = None
+named (Send vnode key) = None
+named (Deliver message vnode) = Some message
+named (Restart vnode) = None
+
+-- the events that a put had seen: those of a given clock, or the context that a get answered
+abbrev pub Means : Knowledge → Seen → List Dot → Type 0
+Means world (Given clock) seen = seen ≡ clock
+Means world (ContextOf get) seen = (key : Key) × (writes : List Write) × (left_by world get ≡ Copied key writes) × IsContext writes seen
+
+-- what a put had seen is known at its vnode
+abbrev pub IsKnown : List Write → List Dot → Type 0
+IsKnown known seen = (dot : Dot) → Covers seen dot → InContext known dot
+
+-- so many of the current writes had a put not seen
+abbrev pub Keeps : List Write → List Dot → ℕ → Type 0
+Keeps known seen count = (state : State) × IsStateOf known state × (length (kept seen state.siblings) ≡ count)
+
+-- the clock of some writes takes one identifier more within its limits
+abbrev pub TakesOneMore : List Write → Dot → Type 0
+TakesOneMore known dot = (clock : List Dot) × IsContext known clock × HasRoom clock dot
+
+-- the clock of some writes would pass its limits by this identifier
+abbrev pub IsFullFor : List Write → Dot → Type 0
+IsFullFor known dot = (clock : List Dot) × IsContext known clock × (HasRoom clock dot → ⊥)
+
+-- a vnode's journal takes one event more
+abbrev pub HasPlace : Knowledge → ℕ → Type 0
+HasPlace world vnode = accepted_at world vnode < 2 ^ 32
+
+-- a vnode's journal is full
+abbrev pub IsFull : Knowledge → ℕ → Type 0
+IsFull world vnode = accepted_at world vnode ≡ 2 ^ 32
+
+-- nothing stands against a put that had seen the events of a clock
+pub record MayPut (world : Knowledge) (vnode : ℕ) (key : Key) (seen : List Dot) : Type 0 where
+  pub context : IsKnown (known_at world vnode key) seen
+  pub siblings : (count : ℕ) × Keeps (known_at world vnode key) seen count × (count < 64)
+  pub clock : TakesOneMore (known_at world vnode key) (next_dot world vnode key)
+  pub journal : HasPlace world vnode
+
+-- why such a put is refused: the first of these that stands against it
+abbrev pub RefusesPut : Knowledge → ℕ → Key → List Dot → Refusal → Type 0
+RefusesPut world vnode key seen ContextAhead = IsKnown (known_at world vnode key) seen → ⊥
+RefusesPut world vnode key seen TooManySiblings =
+    IsKnown (known_at world vnode key) seen × ((count : ℕ) × Keeps (known_at world vnode key) seen count × (64 ≤ count))
+RefusesPut world vnode key seen ClockFull =
+    IsKnown (known_at world vnode key) seen × ((count : ℕ) × Keeps (known_at world vnode key) seen count × (count < 64))
+    × IsFullFor (known_at world vnode key) (next_dot world vnode key)
+RefusesPut world vnode key seen JournalFull =
+    IsKnown (known_at world vnode key) seen × ((count : ℕ) × Keeps (known_at world vnode key) seen count × (count < 64))
+    × TakesOneMore (known_at world vnode key) (next_dot world vnode key) × IsFull world vnode
+RefusesPut world vnode key seen MergeFull = ⊥
+RefusesPut world vnode key seen NoMemory = ⊥
+
+-- how many vnodes the clocks of two sets of writes count together
+abbrev pub CountTogether : List Write → List Write → ℕ → Type 0
+CountTogether mine theirs count = (own other : List Dot) × IsContext mine own × IsContext theirs other × (vnodes_together own other ≡ count)
+
+-- nothing stands against a delivery of some writes
+pub record MayDeliver (world : Knowledge) (vnode : ℕ) (key : Key) (writes : List Write) : Type 0 where
+  pub clock : (count : ℕ) × CountTogether (known_at world vnode key) writes count × (count ≤ 1024)
+  pub journal : HasPlace world vnode
+
+-- why a delivery of some writes is refused
+abbrev pub RefusesDelivery : Knowledge → ℕ → Key → List Write → Refusal → Type 0
+RefusesDelivery world vnode key writes MergeFull = (count : ℕ) × CountTogether (known_at world vnode key) writes count × (1024 < count)
+RefusesDelivery world vnode key writes JournalFull = (count : ℕ) × CountTogether (known_at world vnode key) writes count × (count ≤ 1024) × IsFull world vnode
+RefusesDelivery world vnode key writes ContextAhead = ⊥
+RefusesDelivery world vnode key writes TooManySiblings = ⊥
+RefusesDelivery world vnode key writes ClockFull = ⊥
+RefusesDelivery world vnode key writes NoMemory = ⊥
+
+-- two sets of writes have the same current ones and the same context
+pub record LookAlike (a b : List Write) : Type 0 where
+  pub current : (write : Write) → IsCurrent a write ↔ IsCurrent b write
+  pub context : (dot : Dot) → InContext a dot ↔ InContext b dot
+
+-- what a send copies: the key's state, and the place of the entry that copied it
+pub record Carries (world : Knowledge) (vnode : ℕ) (key : Key) (message : Message) : Type 0 where
+  pub key_is : message.key ≡ key
+  pub from_is : message.from ≡ id_of world vnode
+  pub at_is : message.at ≡ accepted_at world vnode
+  pub state_is : IsStateOf (known_at world vnode key) message.state
+
+-- a get, a send or a restart at a vnode
+abbrev pub IsAt : Event → ℕ → Type 0
+IsAt (Get at key) vnode = at ≡ vnode
+IsAt (Send at key) vnode = at ≡ vnode
+IsAt (Restart at) vnode = at ≡ vnode
+IsAt (Put at key seen content) vnode = ⊥
+IsAt (Deliver message at) vnode = ⊥
+
+-- nothing stands against an event
+abbrev pub MayHappen : Knowledge → Event → Type 0
+MayHappen world (Put vnode key seen content) = (clock : List Dot) × Means world seen clock × MayPut world vnode key clock
+MayHappen world (Get vnode key) = HasPlace world vnode
+MayHappen world (Send vnode key) = HasPlace world vnode
+MayHappen world (Deliver message vnode) = (key : Key) × (writes : List Write) × (left_by world message ≡ Copied key writes) × MayDeliver world vnode key writes
+MayHappen world (Restart vnode) = HasPlace world vnode
+
+-- From old, the event may be replied so and lead to new.
+pub data Happens (old : Knowledge) (event : Event) (reply : Reply) (new : Knowledge) : Type 0 where
+  -- an event against which nothing stands may want memory, and then it didn't happen
+  wants_memory : MayHappen old event → reply ≡ Refused NoMemory → new ≡ after_refusal old NoMemory → Happens old event reply new
+  -- an event that names a refused one is refused alike
+  refused_alike : (name : ℕ) (refusal : Refusal) → named event ≡ Some name → left_by old name ≡ Failed refusal
+      → reply ≡ Refused refusal → new ≡ after_refusal old refusal → Happens old event reply new
+  -- a put gets the next identifier of its vnode and key, and its write joins what its vnode knows
+  stored : (vnode : ℕ) (key : Key) (seen : Seen) (content : Content) (clock : List Dot) → event ≡ Put vnode key seen content
+      → Means old seen clock → MayPut old vnode key clock
+      → reply ≡ Stored (next_dot old vnode key) → new ≡ after_put old vnode key (write_of old vnode key clock content) → Happens old event reply new
+  put_refused : (vnode : ℕ) (key : Key) (seen : Seen) (content : Content) (clock : List Dot) (refusal : Refusal) → event ≡ Put vnode key seen content
+      → Means old seen clock → RefusesPut old vnode key clock refusal
+      → reply ≡ Refused refusal → new ≡ after_refusal old refusal → Happens old event reply new
+  -- a get answers the current writes and their context
+  found : (vnode : ℕ) (key : Key) (state : State) → event ≡ Get vnode key
+      → IsStateOf (known_at old vnode key) state → HasPlace old vnode
+      → reply ≡ Found state → new ≡ after_copy old vnode key → Happens old event reply new
+  sent : (vnode : ℕ) (key : Key) (message : Message) → event ≡ Send vnode key
+      → Carries old vnode key message → HasPlace old vnode
+      → reply ≡ Sent message → new ≡ after_copy old vnode key → Happens old event reply new
+  -- a delivery unites what its vnode knows with the message's writes, and tells whether current writes or context became others
+  delivered : (message vnode : ℕ) (key : Key) (writes : List Write) (changed : Bool) → event ≡ Deliver message vnode
+      → left_by old message ≡ Copied key writes
+      → MayDeliver old vnode key writes
+      → MatchBool changed (LookAlike (known_at old vnode key) (known_at old vnode key ++ writes) → ⊥) (LookAlike (known_at old vnode key) (known_at old vnode key ++ writes))
+      → reply ≡ Changed changed → new ≡ after_delivery old vnode key writes → Happens old event reply new
+  delivery_refused : (message vnode : ℕ) (key : Key) (writes : List Write) (refusal : Refusal) → event ≡ Deliver message vnode
+      → left_by old message ≡ Copied key writes → RefusesDelivery old vnode key writes refusal
+      → reply ≡ Refused refusal → new ≡ after_refusal old refusal → Happens old event reply new
+  -- a restart changes nothing
+  restarted : (vnode : ℕ) → event ≡ Restart vnode → HasPlace old vnode
+      → reply ≡ Restarted → new ≡ after_restart old vnode → Happens old event reply new
+  -- a full journal takes no get, send or restart
+  full : (vnode : ℕ) → IsAt event vnode → IsFull old vnode
+      → reply ≡ Refused JournalFull → new ≡ after_refusal old JournalFull → Happens old event reply new
+
+-- the events may be replied so, one after another
+abbrev pub Run : Knowledge → List Event → List Reply → Knowledge → Type 0
+Run old [] [] new = new ≡ old
+Run old (event ∷ events) (reply ∷ replies) new = (next : Knowledge) × Happens old event reply next × Run next events replies new
+Run old [] (reply ∷ replies) new = ⊥
+Run old (event ∷ events) [] new = ⊥

@@ -1,0 +1,7 @@
+pub mod Knowledge
+pub mod Happening
+pub mod Causality
+pub mod Numbering
+pub mod Represents
+pub mod Appending
+pub mod Running

@@ -1,0 +1,96 @@
+//! Events of a world, and the replies to them.
+
+use dvv::{Clock, Dot};
+use object::{Content, Key, KeyState};
+use thiserror::Error;
+
+/// What a put had seen.
+#[derive(Drop)]
+pub enum Seen {
+    /// The events of a clock.
+    Clock(Clock),
+    /// The context that an earlier get answered, by the place of that event.
+    Get(usize),
+}
+
+/// What happens. A vnode goes by its index, and an earlier event by its place in the list of events.
+#[derive(Drop)]
+pub enum Event {
+    /// A write at a vnode.
+    Put {
+        vnode: usize,
+        key: Key,
+        seen: Seen,
+        content: Content,
+    },
+    /// A read of siblings and context.
+    Get {
+        vnode: usize,
+        key: Key,
+    },
+    /// A copy of a key's state, as a message to any vnode.
+    Send {
+        vnode: usize,
+        key: Key,
+    },
+    /// An earlier message reaches a vnode. It may reach any vnode, at any time, any number of times, or none.
+    Deliver {
+        message: usize,
+        vnode: usize,
+    },
+    /// A vnode starts again, and has lost nothing.
+    Restart {
+        vnode: usize,
+    },
+}
+
+/// Why an event changed nothing. It shows its number.
+#[derive(Clone, Copy, Debug, PartialEq, Eq, Error)]
+pub enum Refusal {
+    /// The put had seen what its vnode doesn't know.
+    #[error("P1")]
+    ContextAhead,
+    /// The key would have over 64 siblings.
+    #[error("P2")]
+    TooManySiblings,
+    /// The key's clock would pass its limits by the put.
+    #[error("P3")]
+    ClockFull,
+    /// The merged clock would pass its limit.
+    #[error("M1")]
+    MergeFull,
+    /// The vnode's journal is full.
+    #[error("J1")]
+    JournalFull,
+    /// Memory was refused.
+    #[error("E1")]
+    NoMemory,
+}
+
+/// The state of a key as an entry of a vnode's journal copied it.
+#[derive(Drop)]
+pub struct Message {
+    pub key: Key,
+    /// The vnode's identifier.
+    pub from: u32,
+    /// The place of the entry in its journal.
+    pub at: u32,
+    pub state: KeyState,
+}
+
+/// What an event replies.
+#[derive(Drop)]
+pub enum Reply {
+    /// The identifier of a put's write.
+    Stored(Dot),
+    /// What a get answers: siblings, and the clock that stands for their context.
+    Found(KeyState),
+    /// What a send copied.
+    Sent(Message),
+    /// Whether a delivery changed siblings or clock.
+    Changed(bool),
+    /// A vnode has started again.
+    Restarted,
+    /// The event changed nothing.
+    Refused(Refusal),
+}
