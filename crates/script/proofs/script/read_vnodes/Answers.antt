@@ -1,0 +1,6 @@
+use Rattle.std.proofs.Common.{arith}
+use Rattle.script.proofs.Growing.{runs_over}
+use Rattle.script.proofs.script.read_vnodes.Goals as goal
+
+pub returns : goal.returns
+returns c = record { few = omega arith; events = runs_over c.args.script.now.vnodes c.args.count c.args.script.now.events.items c.if-script-ne0.false c.requires.events }

@@ -1,0 +1,12 @@
+//! Scripts: events over vnodes, a line each, and what they print.
+#![tactic(auto)]
+
+mod line;
+mod printing;
+mod script;
+#[cfg(test)]
+mod tests;
+mod words;
+
+pub use printing::sim;
+pub use script::{Answered, MAX_VNODES, Script, parse};
