@@ -1,0 +1,5 @@
+pub mod CallLemmas
+pub mod LocalLemmas
+pub mod MergeLemmas
+pub mod PutLemmas
+pub mod RisenLemmas

@@ -1,0 +1,52 @@
+-- A read of a key at each vnode of its preference list (Riak KV documentation, reads and quorums).
+use Rattle.std.specs.Prelude.{◌≡◌, ℕ, ◌≤◌, ◌<◌, ◌⊎◌, List, [], ◌∷◌, ◌++◌, Result, Ok, Err, map, length}
+use Rattle.std.specs.Global.{Vec}
+use Rattle.dvv.specs.Clock.{vnodes_together}
+use Rattle.object.specs.declared.content.Key.{Key}
+use Rattle.object.specs.State.{State}
+use Rattle.journal.specs.Replay.{IsMergeOf}
+use Rattle.vnode.specs.declared.fault.VnodeFault.TheVariants.{MergedClockFull, NoMemory}
+use Rattle.quorum.specs.declared.peers.Answer.{Answer}
+use Rattle.quorum.specs.declared.fault.PeerFault.{PeerFault}
+use Rattle.quorum.specs.declared.fault.QuorumFault.{QuorumFault}
+use Rattle.quorum.specs.declared.fault.QuorumFault.TheVariants.{TooFew, Refused}
+use Rattle.quorum.specs.Calls.{Call, StateOf}
+
+-- a read at each of these vnodes, in order, with what came back from each
+abbrev pub reads : Key → List ℕ → List (Result Answer PeerFault) → List Call
+reads key vnodes [] = []
+reads key [] (back ∷ backs) = []
+reads key (i ∷ vnodes) (back ∷ backs) = StateOf i key back ∷ reads key vnodes backs
+
+-- the answers among what came back
+abbrev pub answers : List (Result Answer PeerFault) → List Answer
+answers [] = []
+answers (Ok answer ∷ backs) = answer ∷ answers backs
+answers (Err fault ∷ backs) = answers backs
+
+-- their states
+abbrev pub states_of : List Answer → List State
+states_of found = map (λ answer. answer.state) found
+
+-- a merge of states passes the clock's limit: one of them and the merge of those before it count over 1,024 vnodes together
+pub record PassesClock (key : Key) (states : List State) : Type 0 where
+  pub before : List State
+  pub state : State
+  pub after : List State
+  pub merged : State
+  pub parts : states ≡ before ++ state ∷ after
+  pub is_merge : IsMergeOf key before merged
+  pub many : 1024 < vnodes_together merged.clock state.clock
+
+-- each vnode was read, and at least r answered
+abbrev pub Suffice : List ℕ → ℕ → List (Result Answer PeerFault) → Type 0
+Suffice vnodes r backs = (length backs ≡ length vnodes) × (r ≤ length (answers backs))
+
+-- what a get answers to what came back: the merge of all states that came, and these; too few where less than r came;
+-- a full clock where their merge passes its limit; where memory lacked no vnode was read, or each was
+abbrev pub GetsAnswer : Key → List ℕ → ℕ → List (Result Answer PeerFault) → Result (State × Vec Answer) QuorumFault → Type 0
+GetsAnswer key vnodes r backs (Ok found) = Suffice vnodes r backs × IsMergeOf key (states_of (answers backs)) found.0 × (found.1.items ≡ answers backs)
+GetsAnswer key vnodes r backs (Err TooFew) = (length backs ≡ length vnodes) × (length (answers backs) < r)
+GetsAnswer key vnodes r backs (Err (Refused MergedClockFull)) = Suffice vnodes r backs × PassesClock key (states_of (answers backs))
+GetsAnswer key vnodes r backs (Err (Refused NoMemory)) = (backs ≡ []) ⊎ Suffice vnodes r backs
+GetsAnswer key vnodes r backs (Err (Refused fault)) = ⊥

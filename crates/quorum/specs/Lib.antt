@@ -1,0 +1,6 @@
+pub mod Calls
+pub mod Counts
+pub mod Faults
+pub mod Gets
+pub mod Locals
+pub mod Puts

@@ -1,0 +1,71 @@
+-- A put at a coordinator, and its way to the other vnodes of the list (Riak KV documentation, writes and quorums).
+use Rattle.std.specs.Prelude.{◌≡◌, ℕ, ◌+◌, List, [], ◌∷◌, ◌++◌, Result, Ok, Err, length, count_by, is_ok, nat_le, Bool, true, false, MatchBool, if◌then◌else◌}
+use Rattle.dvv.specs.declared.Dot.{Dot}
+use Rattle.object.specs.declared.content.Key.{Key}
+use Rattle.object.specs.declared.content.Content.{Content}
+use Rattle.vnode.specs.declared.fault.VnodeFault.TheVariants.{ContextAhead, TooManySiblings, ClockFull, MergedClockFull, JournalFull, NoMemory}
+use Rattle.quorum.specs.declared.peers.Answer.{Answer}
+use Rattle.quorum.specs.declared.fault.PeerFault.{PeerFault}
+use Rattle.quorum.specs.declared.fault.PeerFault.TheVariants.{Lost, Refused}
+use Rattle.quorum.specs.declared.fault.QuorumFault.{QuorumFault}
+use Rattle.quorum.specs.declared.fault.QuorumFault.TheVariants.{TooFew}
+use Rattle.quorum.specs.Faults.{fault_of}
+use Rattle.quorum.specs.Calls.{Call, PutAt, MergeAt, StateOf}
+
+-- what came of bringing one vnode's state to the coordinator: its read failed and is passed over, or the state was merged, whatever that gave
+pub data Brought : Type 0 where
+  PassedOver : (fault : PeerFault) → Brought
+  Merged : (answer : Answer) (back : Result Bool PeerFault) → Brought
+
+-- each of these vnodes is read and what came is merged into the coordinator, in order
+abbrev pub gathers : ℕ → Key → List ℕ → List Brought → List Call
+gathers coordinator key vnodes [] = []
+gathers coordinator key [] (b ∷ bs) = []
+gathers coordinator key (i ∷ vnodes) (PassedOver fault ∷ bs) = StateOf i key (Err fault) ∷ gathers coordinator key vnodes bs
+gathers coordinator key (i ∷ vnodes) (Merged answer back ∷ bs) = StateOf i key (Ok answer) ∷ MergeAt coordinator key answer.from answer.at answer.state back ∷ gathers coordinator key vnodes bs
+
+-- one state is merged into each of these vnodes, in order
+abbrev pub merges : Key → Answer → List ℕ → List (Result Bool PeerFault) → List Call
+merges key answer vnodes [] = []
+merges key answer [] (back ∷ backs) = []
+merges key answer (i ∷ vnodes) (back ∷ backs) = MergeAt i key answer.from answer.at answer.state back ∷ merges key answer vnodes backs
+
+-- whether a put was refused since its context is ahead
+abbrev pub is_ahead : Result Dot PeerFault → Bool
+is_ahead (Ok dot) = false
+is_ahead (Err Lost) = false
+is_ahead (Err (Refused ContextAhead)) = true
+is_ahead (Err (Refused TooManySiblings)) = false
+is_ahead (Err (Refused ClockFull)) = false
+is_ahead (Err (Refused MergedClockFull)) = false
+is_ahead (Err (Refused JournalFull)) = false
+is_ahead (Err (Refused NoMemory)) = false
+
+-- the coordinator and each vnode that answered its merge have a copy
+abbrev pub copies : List (Result Bool PeerFault) → ℕ
+copies backs = 1 + count_by is_ok backs
+
+module _ (coordinator : ℕ) (others : List ℕ) (key : Key) (w : ℕ) where
+  -- what follows the coordinator's read of its own state: it is merged into each other vnode, and w copies are enough
+  abbrev pub AfterRead : Dot → Result Answer PeerFault → List Call → Result Dot QuorumFault → Type 0
+  AfterRead dot (Ok answer) calls result = (backs : List (Result Bool PeerFault)) × (length backs ≡ length others) × (calls ≡ merges key answer others backs) × (result ≡ (if nat_le w (copies backs) then Ok dot else Err TooFew))
+  AfterRead dot (Err fault) calls result = (calls ≡ []) × (result ≡ Err (fault_of fault))
+
+  -- what follows the coordinator's last put
+  abbrev pub AfterPut : Result Dot PeerFault → List Call → Result Dot QuorumFault → Type 0
+  AfterPut (Ok dot) calls result = (own : Result Answer PeerFault) × (rest : List Call) × (calls ≡ StateOf coordinator key own ∷ rest) × AfterRead dot own rest result
+  AfterPut (Err fault) calls result = (calls ≡ []) × (result ≡ Err (fault_of fault))
+
+  module _ (seen : List Dot) (content : Content) where
+    -- the others' states are brought, and the put is tried once more
+    abbrev pub TriesAgain : List Call → Result Dot QuorumFault → Type 0
+    TriesAgain calls result = (brought : List Brought) × (second : Result Dot PeerFault) × (rest : List Call) × (length brought ≡ length others)
+        × (calls ≡ gathers coordinator key others brought ++ PutAt coordinator key seen content second ∷ rest) × AfterPut second rest result
+
+    -- what follows the coordinator's first put: where its context is ahead, the others' states are brought and it is tried once more
+    abbrev pub AfterFirst : Result Dot PeerFault → List Call → Result Dot QuorumFault → Type 0
+    AfterFirst first calls result = MatchBool (is_ahead first) (TriesAgain calls result) (AfterPut first calls result)
+
+    -- the calls of a put, and its answer
+    abbrev pub IsPut : List Call → Result Dot QuorumFault → Type 0
+    IsPut calls result = (first : Result Dot PeerFault) × (rest : List Call) × (calls ≡ PutAt coordinator key seen content first ∷ rest) × AfterFirst first rest result

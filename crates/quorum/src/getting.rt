@@ -1,0 +1,80 @@
+//! A get: each vnode of the list is read, and what came is merged.
+
+ghost use Rattle.std.specs.Prelude.{◌≡◌, ◌+◌, ◌≤◌, ◌<◌, ℕ, [], List, length, IfOk, OnOk, Result, Err, vec_capacity};
+ghost use Rattle.object.specs.declared.content.Key.{Key as StoredKey};
+ghost use Rattle.object.specs.Known.{Write, ShowsKnown};
+ghost use Rattle.journal.specs.Replay.{IsMergeOf};
+ghost use Rattle.journal.specs.Brought.{AllShow, all_writes};
+ghost use Rattle.quorum.specs.declared.peers.Answer.{Answer as Answered};
+ghost use Rattle.quorum.specs.declared.fault.PeerFault.{PeerFault};
+ghost use Rattle.quorum.specs.Calls.{Made};
+ghost use Rattle.quorum.specs.Counts.{HasRisen};
+ghost use Rattle.quorum.specs.Gets.{reads, answers, states_of, PassesClock, GetsAnswer};
+
+use crate::fault::QuorumFault;
+use crate::peers::{Answer, Peers};
+use object::{Key, KeyState, MergeFault};
+use std::alloc::Global;
+
+/// Reads the key at each of these vnodes, in order. Answers the merge of all states that came, and these.
+///
+/// `TooFew` where fewer than r vnodes answered; then `Refused` with `MergedClockFull` where the merge's clock passes its
+/// limit, and with `NoMemory` where a growth was refused, before the first read or after the last. The reads made are
+/// events that stand.
+pub fn get<P: Peers>(
+    alloc: Global,
+    peers: &mut P,
+    key: &Key,
+    vnodes: &[usize],
+    r: usize,
+) -> Result<(KeyState, Vec<Answer>), QuorumFault>
+    // Which calls are made, and what is answered to what came back.
+    ensures calls { (backs : List (Result Answered PeerFault)) × Made P.happens peers.old (reads key.now vnodes.now backs) peers.new × GetsAnswer key.now vnodes.now r backs result }
+    // Too few answers come only of calls that were lost or refused.
+    ensures few { result ≡ Err QuorumFault.TooFew → r ≤ length vnodes.now → HasRisen (P.failures peers.old) (P.failures peers.new) }
+    // Where each state that came shows some known writes, the answer shows what is current among all of these, and their context.
+    ensures current { IfOk result (λ found. (knowns : List (List Write)) → AllShow (states_of found.1.items) knowns → ShowsKnown found.0 (all_writes knowns)) }
+    ensures origin { P.origin peers.new ≡ P.origin peers.old }
+{
+    journal::laws::merges_are_current();
+    let mut found = Vec::with_capacity(alloc, vnodes.len())?;
+    read_all(peers, key, vnodes, &mut found);
+    if found.len() < r {
+        return Err(QuorumFault::TooFew);
+    }
+    match merge_all(alloc, &found) {
+        Ok(merged) => Ok((merged, found)),
+        Err(fault) => Err(QuorumFault::from(fault)),
+    }
+}
+
+// Reads the key at each of these vnodes, in order, and keeps what came.
+fn read_all<P: Peers>(peers: &mut P, key: &Key, vnodes: &[usize], found: &mut Vec<Answer>)
+    requires none { found.old.items ≡ [] }
+    requires room { length vnodes.now ≤ vec_capacity found.old }
+    ensures reads { (backs : List (Result Answered PeerFault)) × Made P.happens peers.old (reads key.now vnodes.now backs) peers.new × (length backs ≡ length vnodes.now) × (found.new.items ≡ answers backs) }
+{
+    for &i in vnodes {
+        if let Ok(answer) = peers.state_of(i, key) {
+            let Ok(()) = found.push(answer) else {
+                unreachable!()
+            };
+        }
+    }
+}
+
+// The merge of what came.
+fn merge_all(alloc: Global, found: &[Answer]) -> Result<KeyState, MergeFault>
+    ensures merge { IfOk result (λ merged. (key : StoredKey) → IsMergeOf key (states_of found.now) merged) }
+    ensures full { result ≡ Err MergeFault.ClockFull → (key : StoredKey) → PassesClock key (states_of found.now) }
+{
+    journal::laws::merges_go_on();
+    let mut merged = KeyState::new(alloc);
+    for answer in found {
+        match merged.merge(&answer.state) {
+            Ok(_) => {}
+            Err(fault) => return Err(fault),
+        }
+    }
+    Ok(merged)
+}
