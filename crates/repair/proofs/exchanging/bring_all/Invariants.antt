@@ -1,0 +1,10 @@
+use Rattle.std.proofs.Common.{◌≤◌}
+use Rattle.repair.proofs.ExchangeLemmas.{IsBringing}
+use Rattle.repair.proofs.exchanging.bring_all.Given as goal
+
+-- the keys so far were brought
+abbrev pub invariant-loop-key : goal.invariant-loop-key
+invariant-loop-key g l = record {
+  brought : IsBringing g.P.Peers.happens l.fn.peers l.peers l.from l.to l.keys l.key-index l.taken;
+  few : l.taken ≤ l.key-index;
+}

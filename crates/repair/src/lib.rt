@@ -1,0 +1,11 @@
+//! Read repair, and the exchange of all keys of two vnodes (Riak KV documentation, read repair and active anti-entropy; this
+//! store's profile). Only states that the vnodes themselves answered are sent.
+#![tactic(auto)]
+
+mod exchanging;
+mod repairing;
+#[cfg(test)]
+mod tests;
+
+pub use exchanging::exchange;
+pub use repairing::repair;
