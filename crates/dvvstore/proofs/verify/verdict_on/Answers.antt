@@ -1,0 +1,11 @@
+use Rattle.std.proofs.Common.{rules}
+use Rattle.dvvstore.specs.Verdict.{IsVerdict}
+use Rattle.dvvstore.proofs.verify.verdict_on.Goals as goal
+
+pub returns-in-Ok : goal.returns-in-Ok
+unfolding IsVerdict
+returns-in-Ok c = (c.in-Ok.verified, c.in-Ok.ensures.accepted, search rules)
+
+pub returns-in-Err : goal.returns-in-Err
+unfolding IsVerdict
+returns-in-Err c = c.in-Err.ensures.refused

@@ -1,0 +1,35 @@
+//! A store that keeps siblings, with hooks in BPF: the program.
+#![tactic(auto)]
+
+mod command;
+mod files;
+mod outcome;
+mod program;
+mod run;
+mod simulate;
+#[cfg(test)]
+mod tests;
+mod verify;
+mod words;
+
+use crate::files::Disk;
+use std::process::ExitCode;
+use std::{env, io};
+
+fn main(rt: HostRuntime) -> io::Result<ExitCode> {
+    let alloc = rt.alloc();
+    let mut arguments = Vec::new(alloc);
+    // Words that are no text are those of no command.
+    if let Ok(all) = env::args(&rt) {
+        for argument in all.skip(1) {
+            arguments.push(argument)?;
+        }
+    }
+    let mut words = Vec::new(alloc);
+    for argument in &arguments {
+        words.push(argument.as_str())?;
+    }
+    let mut disk = Disk { rt: &rt };
+    let status = command::command(alloc, &words, &mut disk, &mut rt.stdout(), &mut rt.stderr());
+    Ok(ExitCode::from(status))
+}
