@@ -1,0 +1,109 @@
+//! Times the verifier and the run of an image: `bench IMAGE TURNS` prints nanoseconds an instruction.
+#![tactic(auto)]
+
+use machine::{padded, run};
+use std::alloc::Global;
+use std::process::ExitCode;
+use std::rt::Clock;
+use std::time::{Duration, Instant};
+use std::{env, fs, io};
+use verifier::{Verified, raw_image, read_image, verify};
+
+/// What is printed without words.
+const WORDS: &str = "bench IMAGE TURNS: nanoseconds an instruction, of the verifier and of the run";
+
+/// Nanoseconds of work, and the instructions that it was for.
+#[derive(Clone, Copy)]
+struct Tally {
+    nanoseconds: u128,
+    instructions: u128,
+}
+
+impl Tally {
+    /// No work.
+    const NONE: Tally = Tally {
+        nanoseconds: 0,
+        instructions: 0,
+    };
+
+    /// The tally with more work.
+    fn with(self, time: Duration, instructions: u32) -> Tally {
+        Tally {
+            nanoseconds: self.nanoseconds.saturating_add(time.as_nanos()),
+            instructions: self.instructions.saturating_add(u128::from(instructions)),
+        }
+    }
+
+    /// Hundredths of a nanosecond for one instruction.
+    fn hundredths(self) -> u128 {
+        self.nanoseconds.saturating_mul(100) / self.instructions.max(1)
+    }
+}
+
+/// The program that a file holds, as the verifier accepts it; none where it is refused.
+fn accepted(alloc: Global, bytes: &[u8]) -> Option<Verified> {
+    let image = if bytes.starts_with(b"RBPF") {
+        read_image(alloc, bytes)
+    } else {
+        raw_image(alloc, bytes)
+    };
+    verify(alloc, image.ok()?).ok()
+}
+
+/// Times the verifier, from the image's bytes on.
+fn time_verify(
+    clock: &impl Clock,
+    alloc: Global,
+    bytes: &[u8],
+    slots: u32,
+    turns: u32,
+) -> io::Result<Tally> {
+    let mut tally = Tally::NONE;
+    for _ in 0..turns {
+        let start = Instant::now(clock)?;
+        let verified = accepted(alloc, bytes);
+        tally = tally.with(start.elapsed(clock)?, slots);
+        let _ = verified;
+    }
+    Ok(tally)
+}
+
+/// Times the run on an input of zeros.
+fn time_run(
+    clock: &impl Clock,
+    alloc: Global,
+    verified: &Verified,
+    turns: u32,
+) -> io::Result<Tally> {
+    let image = verified.image();
+    let input = padded(alloc, &[], image.in_len as usize)?;
+    let mut tally = Tally::NONE;
+    for _ in 0..turns {
+        let mut output = vec![in alloc; 0u8; image.out_len as usize]?;
+        let start = Instant::now(clock)?;
+        let done = run(verified, &input, 0, &mut output);
+        tally = tally.with(start.elapsed(clock)?, done.steps);
+    }
+    Ok(tally)
+}
+
+fn main(rt: HostRuntime) -> io::Result<ExitCode> {
+    let alloc = rt.alloc();
+    let mut words = env::args(&rt)?.skip(1);
+    let (Some(name), Some(turns)) = (words.next(), words.next()) else {
+        println!(rt; "{WORDS}")?;
+        return Ok(ExitCode::SUCCESS);
+    };
+    let bytes = fs::read(&rt, name.as_str())?;
+    let turns = turns.parse().unwrap_or(1);
+    let Some(verified) = accepted(alloc, &bytes) else {
+        println!(rt; "refused")?;
+        return Ok(ExitCode::FAILURE);
+    };
+    let slots = verified.image().code.len() as u32;
+    let verifying = time_verify(&rt, alloc, &bytes, slots, turns)?.hundredths();
+    let running = time_run(&rt, alloc, &verified, turns)?.hundredths();
+    println!(rt; "verify {}.{:02} ns", verifying / 100, verifying % 100)?;
+    println!(rt; "run {}.{:02} ns", running / 100, running % 100)?;
+    Ok(ExitCode::SUCCESS)
+}
