@@ -1,0 +1,72 @@
+#!/usr/bin/env python3
+"""Writes the images that the program `bench` times: straight.img, branchy.img and memory.img, each of some thousand instructions."""
+import struct
+from pathlib import Path
+
+EXIT = (0x95, 0, 0, 0, 0)
+
+
+def slot(opcode, dst=0, src=0, offset=0, imm=0):
+    return struct.pack("<BBhi", opcode, src << 4 | dst, offset, imm)
+
+
+def image(in_len, out_len, slots):
+    head = b"RBPF" + bytes([1, 0, 0, 0]) + struct.pack("<II", in_len, out_len)
+    return head + b"".join(slot(*fields) for fields in slots)
+
+
+def straight():
+    """Arithmetic on three registers, one instruction after another."""
+    code = [(0xB7, 0, 0, 0, 1), (0xBF, 6, 2), (0xB7, 7, 0, 0, 7)]
+    rounds = [
+        (0x07, 0, 0, 0, 3),  # add 3
+        (0x0F, 0, 6),  # add r6
+        (0xAF, 6, 0),  # r6 ^= r0
+        (0x27, 0, 0, 0, 5),  # multiply by 5
+        (0x77, 6, 0, 0, 1),  # r6 >>= 1
+        (0x1F, 0, 7),  # subtract r7
+        (0x07, 7, 0, 0, 1),  # r7 += 1
+        (0x47, 0, 0, 0, 1),  # or 1
+    ]
+    for _ in range(500):
+        code += rounds
+    return image(64, 64, code + [EXIT])
+
+
+def branchy():
+    """A jump on every second instruction: half of them are taken."""
+    code = [(0xB7, 0), (0xBF, 6, 2)]
+    for k in range(1300):
+        taken = k % 2 == 0
+        code += [
+            (0x07, 6, 0, 0, 1),  # r6 += 1
+            (0x35 if taken else 0xA5, 6, 0, 1, 1),  # at least 1, or below 1
+            (0x07, 0, 0, 0, 1),  # passed over, or done
+        ]
+    return image(64, 64, code + [EXIT])
+
+
+def memory():
+    """Loads of the input and the stack, and stores to the stack and the output, of every size."""
+    code = [(0xB7, 0), (0x7A, 10, 0, -8, 5)]
+    rounds = [
+        (0x71, 6, 1, 3),  # r6 = byte of the input
+        (0x73, 3, 6, 5),  # byte of the output = r6
+        (0x79, 7, 10, -8),  # r7 = double of the stack
+        (0x0F, 0, 7),  # add r7
+        (0x7B, 10, 0, -16),  # double of the stack = r0
+        (0x61, 8, 1, 4),  # r8 = word of the input
+        (0x63, 3, 8, 8),  # word of the output = r8
+        (0x69, 9, 3, 8),  # r9 = half of the output
+        (0x6B, 10, 9, -24),  # half of the stack = r9
+        (0x0F, 0, 9),  # add r9
+    ]
+    for _ in range(400):
+        code += rounds
+    return image(64, 64, code + [EXIT])
+
+
+if __name__ == "__main__":
+    here = Path(__file__).parent
+    for name, make in (("straight", straight), ("branchy", branchy), ("memory", memory)):
+        (here / f"{name}.img").write_bytes(make())
