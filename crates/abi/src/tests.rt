@@ -20,12 +20,12 @@ fn sibling(vnode: u32, n: u64, content: Content) -> Sibling {
     }
 }
 
-/// Head, two rows and two values of one byte.
-const TWO_SIBLINGS: [u8; 66] = [
+/// Head, two rows and two values of one byte, and zeros to the window's end.
+const TWO_SIBLINGS: [u8; 80] = [
     2, 0, 0, 0, 2, 0, 0, 0, 0x42, 0, 0, 0, 0, 0, 0, 0, //
     0, 0, 0, 0, 1, 0, 0, 0, 1, 0, 0, 0, 0, 0, 0, 0, 0x40, 0, 0, 0, 1, 0, 0, 0, //
     1, 0, 0, 0, 1, 0, 0, 0, 1, 0, 0, 0, 0, 0, 0, 0, 0x41, 0, 0, 0, 1, 0, 0, 0, //
-    0x61, 0x62,
+    0x61, 0x62, 0, 0, 0, 0, 0, 0, 0, 0, 0, 0, 0, 0, 0, 0,
 ];
 
 #[test]
@@ -38,8 +38,7 @@ fn resolver_input(rt: HostRuntime) -> Result<(), Fail> {
     let mut window = [0xff; 80];
     let used = fill_input(HookKind::Resolver, None, &siblings, &mut window);
     assert_eq!(rt; used, Ok(66));
-    assert_eq!(rt; &window[..66], TWO_SIBLINGS.as_slice());
-    assert_eq!(rt; &window[66..], [0; 14].as_slice());
+    assert_eq!(rt; window.as_slice(), TWO_SIBLINGS.as_slice());
     let mut short = [0xff; 65];
     let refused = fill_input(HookKind::Resolver, None, &siblings, &mut short);
     assert_eq!(rt; refused, Err(TooLarge));
