@@ -90,7 +90,8 @@ impl<'a> Windows<'a> {
     ghost use Rattle.memory.specs.Contents.{memory_of};
 
     /// The bytes of a window.
-    fn bytes(&self, region: Region) -> &[u8]
+    #[inline(always)]
+    pub fn bytes(&self, region: Region) -> &[u8]
         ensures { result.now ≡ window (memory_of self.now) region }
     {
         match region {
