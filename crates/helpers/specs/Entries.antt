@@ -1,5 +1,5 @@
 -- What a list of Sigs says of a number (this store's profile).
-use Rattle.std.specs.Prelude.{ℕ, ◌≡◌, List, [], ◌∷◌, Option, Some, None, true, false, ◌==◌, if◌then◌else◌, IsSome, IsNone}
+use Rattle.std.specs.Prelude.{ℕ, ◌≡◌, List, [], ◌∷◌, Option, Some, None, true, false, ◌==◌, if◌then◌else◌, IsSome, IsNone, All}
 use Rattle.helpers.specs.declared.sig.Sig.{Sig}
 use Rattle.helpers.specs.declared.sig.Entry.{Entry}
 use Rattle.helpers.specs.declared.table.HelperFault.{HelperFault}
@@ -11,6 +11,10 @@ use Rattle.helpers.specs.Shapes.{IsAsWritten}
 abbrev pub sig_of : List Entry → ℕ → Option Sig
 sig_of [] number = None
 sig_of (e ∷ entries) number = if e.number == number then Some e.sig else sig_of entries number
+
+-- a table's Sigs agree with others: each number of these stands in the table with that same Sig
+abbrev pub AgreesWith : List Entry → List Entry → Type 0
+AgreesWith listed sigs = All (λ e. sig_of listed e.number ≡ Some e.sig) sigs
 
 -- a helper that may be added: its number is free and a helper's, and its Sig is the written one where one is written
 pub record IsAdmitted (entries : List Entry) (e : Entry) : Type 0 where

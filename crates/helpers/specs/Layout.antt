@@ -1,21 +1,17 @@
 -- What the written helper answers of a hook's input (this store's profile): its newest sibling.
-use Rattle.std.specs.Prelude.{ℕ, zero, suc, ◌+◌, ◌*◌, Bool, ◌&&◌, ◌||◌, not, ◌==◌, nat_le, nat_lt, List, [], ◌∷◌, length, take, drop, position, unwrap_or, if◌then◌else◌}
+use Rattle.std.specs.Prelude.{ℕ, zero, suc, ◌+◌, ◌*◌, Bool, ◌&&◌, ◌||◌, not, ◌==◌, nat_le, nat_lt, List, [], ◌∷◌, length, position, unwrap_or, if◌then◌else◌}
 use Rattle.std.specs.List.{list_all}
+use Rattle.memory.specs.Windows.{little_endian, range}
 use Rattle.helpers.specs.declared.layout.Row.{Row}
 
--- the number that bytes spell, the lowest first
-abbrev pub little_endian : List ℕ → ℕ
-little_endian [] = 0
-little_endian (b ∷ bytes) = b + 256 * little_endian bytes
-
--- the number in some bytes from a place on
-abbrev pub number_in : List ℕ → ℕ → ℕ → ℕ
-number_in layout at size = little_endian (take size (drop at layout))
+-- the number in a field of some bytes, from a place on
+abbrev pub field_at : List ℕ → ℕ → ℕ → ℕ
+field_at layout at size = little_endian (range layout at size)
 
 -- A head of 16 bytes, which has the number of rows in its second word, and rows of 24 bytes after it: vnode, flags, n,
 -- and a value's place and length.
 abbrev pub row_at : List ℕ → ℕ → Row
-row_at layout k = record { vnode = number_in layout (16 + 24 * k) 4; n = number_in layout (16 + 24 * k + 8) 8 }
+row_at layout k = record { vnode = field_at layout (16 + 24 * k) 4; n = field_at layout (16 + 24 * k + 8) 8 }
 
 -- the rows from the k-th on, so many of them
 abbrev pub rows_from : List ℕ → ℕ → ℕ → List Row
@@ -25,11 +21,11 @@ rows_from layout k (suc count) = row_at layout k ∷ rows_from layout (k + 1) co
 -- the rows of a layout that has 1 to 64 of them, all within it
 abbrev pub is_layout : List ℕ → Bool
 is_layout layout =
-    let count = number_in layout 4 4 in
+    let count = field_at layout 4 4 in
     nat_le 16 (length layout) && nat_le 1 count && nat_le count 64 && nat_le (16 + 24 * count) (length layout)
 
 abbrev pub rows_of : List ℕ → List Row
-rows_of layout = if is_layout layout then rows_from layout 0 (number_in layout 4 4) else []
+rows_of layout = if is_layout layout then rows_from layout 0 (field_at layout 4 4) else []
 
 -- the greater n, or the same and the greater vnode
 abbrev pub is_newer : Row → Row → Bool

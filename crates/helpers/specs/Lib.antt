@@ -5,3 +5,4 @@ pub mod Shapes
 pub mod Answers
 pub mod Parts
 pub mod Entries
+pub mod Calls

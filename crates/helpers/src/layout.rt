@@ -1,7 +1,7 @@
 //! What the written helper answers of a hook's input: its newest sibling.
 
 ghost use Rattle.std.specs.Prelude.{◌≡◌, ◌+◌, ◌*◌, ◌<◌, ◌≤◌, IfSome, IfNone, IsTrue, [], length, position};
-ghost use Rattle.helpers.specs.Layout.{number_in, row_at, rows_from, rows_of, is_newer, is_newest, newest_of};
+ghost use Rattle.helpers.specs.Layout.{field_at, row_at, rows_from, rows_of, is_newer, is_newest, newest_of};
 
 /// The length of a layout's head, in bytes.
 const HEAD: usize = 16;
@@ -46,7 +46,7 @@ impl Row {
 /// The number that four bytes spell.
 fn word_at(layout: &[u8], at: usize) -> u32
     requires { at + 4 ≤ length layout.now }
-    ensures { result ≡ number_in layout.now at 4 }
+    ensures { result ≡ field_at layout.now at 4 }
 {
     u32::from_le_bytes([layout[at], layout[at + 1], layout[at + 2], layout[at + 3]])
 }
@@ -54,7 +54,7 @@ fn word_at(layout: &[u8], at: usize) -> u32
 /// The number that eight bytes spell.
 fn number_at(layout: &[u8], at: usize) -> u64
     requires { at + 8 ≤ length layout.now }
-    ensures { result ≡ number_in layout.now at 8 }
+    ensures { result ≡ field_at layout.now at 8 }
 {
     u64::from_le_bytes([
         layout[at],

@@ -1,11 +1,11 @@
 //! The table of helpers.
 
-ghost use Rattle.std.specs.Prelude.{◌≡◌, ◌↔◌, ℕ, List, [], ◌∷◌, ◌++◌, map, OnOk, OnErr, IfOk, IfErr, IfSome, IfNone, Some, None, Option, All, IsTrue};
+ghost use Rattle.std.specs.Prelude.{◌≡◌, ◌↔◌, ℕ, List, [], ◌∷◌, ◌++◌, map, OnOk, OnErr, IfOk, IfErr, IfSome, IfNone, Some, None, Option, IsTrue};
 ghost use Rattle.helpers.specs.declared.sig.Sig.{Sig};
 ghost use Rattle.helpers.specs.declared.sig.Entry.{Entry};
 ghost use Rattle.helpers.specs.Answers.{Fits, HelperAnswers};
 ghost use Rattle.helpers.specs.Parts.{given};
-ghost use Rattle.helpers.specs.Entries.{sig_of, IsAdmitted, Refuses};
+ghost use Rattle.helpers.specs.Entries.{sig_of, AgreesWith, IsAdmitted, Refuses};
 
 use crate::helper::{Call, Helper};
 use crate::sig::{Entry, Sig, is_helper_number};
@@ -37,6 +37,8 @@ pub struct Table {
     /// Their numbers and Sigs, in the order in which they were added.
     pub listed: Sigs,
     helpers: Vec<Helper>,
+    // No number stands twice.
+    pub ghost whole: { AgreesWith listed listed },
     ghost paired: { map {B = Entry} (λ h. record { number = h.number; sig = h.sig }) helpers.items ≡ listed },
 }
 
@@ -55,9 +57,10 @@ impl Table {
     /// that stands. The table then stays as it was.
     pub fn add(&mut self, helper: Helper) -> Result<(), (Helper, HelperFault)>
         ensures ok { let entry : Entry = record { number = helper.number; sig = helper.sig } in OnOk result (IsAdmitted self.old.listed entry × (self.new.listed ≡ self.old.listed ++ entry ∷ [])) }
-        ensures err { OnErr result (self.new.listed ≡ self.old.listed) }
+        ensures added { OnOk result (self.new.helpers.items ≡ self.old.helpers.items ++ helper ∷ []) }
+        ensures err { OnErr result ((self.new.listed ≡ self.old.listed) × (self.new.helpers.items ≡ self.old.helpers.items)) }
         ensures why { IfErr result (λ e. Refuses self.old.listed (record { number = helper.number; sig = helper.sig }) e.1) }
-        ensures handed_back { IfErr result (λ e. (e.0.number ≡ helper.number) × (e.0.sig ≡ helper.sig)) }
+        ensures handed_back { IfErr result (λ e. e.0 ≡ helper) }
     {
         let entry = Entry {
             number: helper.number,
@@ -89,7 +92,7 @@ impl Table {
 
     /// Whether each number of the Sigs stands in the table with that same Sig.
     pub fn agrees(&self, sigs: &Sigs) -> bool
-        ensures agrees { IsTrue result ↔ All (λ e. sig_of self.now.listed e.number ≡ Some e.sig) sigs.now }
+        ensures agrees { IsTrue result ↔ AgreesWith self.now.listed sigs.now }
         ensures same { IsTrue result → (number : ℕ) (sig : Sig) → sig_of sigs.now number ≡ Some sig → sig_of self.now.listed number ≡ Some sig }
     {
         for entry in sigs.entries() {

@@ -322,6 +322,40 @@ fn refusals(rt: HostRuntime) -> Result<(), Fail> {
 }
 
 #[test]
+fn taken_helper_stays(rt: HostRuntime) -> Result<(), Fail> {
+    let sig = Sig::new([ArgRule::Unused; 5], (0, 1)).ok_or("a Sig")?;
+    let mut table = Table::new(rt.alloc());
+    let zero: Body = Box::new(
+        rt.alloc(),
+        |_numbers: [u64; 5], _first: &[u8], _second: &[u8]| -> u64
+            ensures { result ≤ 1 }
+        { 0 },
+    )?;
+    assert!(rt; table.add(Helper::new(64, sig, zero)).is_ok());
+    let one: Body = Box::new(
+        rt.alloc(),
+        |_numbers: [u64; 5], _first: &[u8], _second: &[u8]| -> u64
+            ensures { result ≤ 1 }
+        { 1 },
+    )?;
+    match table.add(Helper::new(64, sig, one)) {
+        Ok(()) => panic!(rt; "added twice"),
+        Err((helper, fault)) => {
+            let call = Call {
+                numbers: [0; 5],
+                first: b"",
+                second: b"",
+            };
+            assert_eq!(rt; fault, HelperFault::Taken);
+            assert!(rt; fits(&helper.sig, &call));
+            assert_eq!(rt; helper.call(&call), 1);
+        }
+    }
+    assert_eq!(rt; answer(&rt, &table, 64, [0; 5], b"", b""), 0);
+    Ok(())
+}
+
+#[test]
 fn only_the_written_sig(rt: HostRuntime) -> Result<(), Fail> {
     let written = written_sig(16).ok_or("a Sig")?;
     let wider = Sig::new(written.args, (0, 3)).ok_or("a Sig")?;
