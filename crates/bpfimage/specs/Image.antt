@@ -1,7 +1,8 @@
 -- Images of programs: this store's profile.
-use Rattle.std.specs.Prelude.{◌≡◌, ◌≢◌, ℕ, ◌+◌, ◌<◌, ◌⊎◌, List, [], ◌∷◌, length, take, drop, slice_index}
+use Rattle.std.specs.Prelude.{◌≡◌, ◌≢◌, ℕ, ◌+◌, ◌<◌, ◌⊎◌, List, [], ◌∷◌, ◌++◌, length, take, drop, slice_index, Bool, MatchBool, nat_eq, codes, decimal}
 use Rattle.std.specs.Int.{w32, from_le_bytes}
-use Rattle.insn.specs.Refusal.{Spells, IsRefused}
+use Rattle.std.specs.List.{starts_with}
+use Rattle.insn.specs.Refusal.{Spells, IsRefused, name_of}
 use Rattle.insn.specs.declared.Insn.{Insn}
 use Rattle.insn.specs.declared.decode.Refusal.{Refusal}
 use Rattle.insn.specs.declared.decode.Refusal.TheVariants.{Memory}
@@ -30,6 +31,16 @@ rank Kind = 3
 rank Window = 4
 rank (Code fault) = 5
 rank NoMemory = 5
+
+-- the text of a fault: of the head its number, of code its refusal and slot
+abbrev pub text_of : ImageFault → List ℕ
+text_of Short = codes "I1"
+text_of Mark = codes "I2"
+text_of Version = codes "I3"
+text_of Kind = codes "I4"
+text_of Window = codes "I5"
+text_of (Code fault) = name_of fault.why ++ codes " " ++ decimal fault.slot
+text_of NoMemory = codes "E1 0"
 
 -- why bytes are no code, as a fault of an image
 abbrev pub fault_with : DecodeFault → Refusal → ImageFault
@@ -71,3 +82,24 @@ pub record IsImage (bytes : List ℕ) (kind : ImageKind) (in_len out_len : ℕ) 
   pub in_len_is : in_len ≡ number_at bytes 8
   pub out_len_is : out_len ≡ number_at bytes 12
   pub code_is : Spells code (drop 16 bytes)
+
+-- ---- programs
+
+-- raw code is a plain program with two windows of 4,096 bytes
+pub record IsRaw (bytes : List ℕ) (kind : ImageKind) (in_len out_len : ℕ) (code : List Insn) : Type 0 where
+  pub kind_is : kind ≡ Plain
+  pub in_len_is : in_len ≡ 4096
+  pub out_len_is : out_len ≡ 4096
+  pub code_is : Spells code bytes
+
+-- the bytes begin with RBPF, the mark of an image: any others are raw code, since this is no opcode
+abbrev pub is_marked : List ℕ → Bool
+is_marked bytes = starts_with nat_eq bytes (82 ∷ 66 ∷ 80 ∷ 70 ∷ [])
+
+-- the bytes are those of this program
+abbrev pub IsProgram : List ℕ → ImageKind → ℕ → ℕ → List Insn → Type 0
+IsProgram bytes kind in_len out_len code = MatchBool (is_marked bytes) (IsImage bytes kind in_len out_len code) (IsRaw bytes kind in_len out_len code)
+
+-- the bytes are those of no program, and why, or memory ran out
+abbrev pub IsNoProgram : List ℕ → ImageFault → Type 0
+IsNoProgram bytes fault = MatchBool (is_marked bytes) (IsFirstFault bytes fault) (IsCodeFault bytes fault)

@@ -4,7 +4,7 @@ ghost use Rattle.std.specs.Prelude.{◌≤◌, length};
 ghost use Rattle.insn.specs.Encoding.{IsCode};
 
 use insn::{DecodeFault, Insn};
-use thiserror::Error;
+use std::fmt;
 
 /// What a program is for.
 #[derive(Clone, Copy, Debug, PartialEq, Eq)]
@@ -31,30 +31,43 @@ pub struct Image {
     ghost few_slots: { length code.items ≤ 4096 },
 }
 
-/// Why bytes are no image.
-#[derive(Clone, Copy, Debug, PartialEq, Eq, Error)]
+/// Why bytes are no image. `{}` writes the number of a fault of the head, `I1` to `I5`, and of code its refusal and slot, as
+/// `D4 7`; want of memory is `E1 0`.
+#[derive(Clone, Copy, Debug, PartialEq, Eq)]
 pub enum ImageFault {
     /// There are fewer than 16 bytes.
-    #[error("I1")]
     Short,
     /// The first four bytes are not those of an image.
-    #[error("I2")]
     Mark,
     /// The version is not 1.
-    #[error("I3")]
     Version,
     /// The kind is none of the three, or one of the two bytes after it is not zero.
-    #[error("I4")]
     Kind,
     /// A window has more than 65,536 bytes.
-    #[error("I5")]
     Window,
     /// The bytes after the head are no code.
-    #[error("{0:?}")]
     Code(DecodeFault),
     /// Memory ran out.
-    #[error("E1")]
     NoMemory,
+}
+
+impl fmt::Display for ImageFault {
+    ghost use Rattle.std.specs.Prelude.{Some};
+    ghost use Rattle.bpfimage.specs.Image.{text_of};
+
+    ghost output = { λ fault. Some (text_of fault) };
+
+    fn fmt<W: fmt::Write>(&self, f: &mut fmt::Formatter<W>) -> fmt::Result {
+        match self {
+            ImageFault::Short => f.write_str("I1"),
+            ImageFault::Mark => f.write_str("I2"),
+            ImageFault::Version => f.write_str("I3"),
+            ImageFault::Kind => f.write_str("I4"),
+            ImageFault::Window => f.write_str("I5"),
+            ImageFault::Code(DecodeFault { slot, why }) => write!(f, "{why} {slot}"),
+            ImageFault::NoMemory => f.write_str("E1 0"),
+        }
+    }
 }
 
 /// How many bytes a window may have.

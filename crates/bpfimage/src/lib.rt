@@ -9,4 +9,4 @@ mod rows;
 
 pub use form::{FormFault, FormRule, form_fault};
 pub use image::{Image, ImageFault, ImageKind, MAX_WINDOW};
-pub use read::{raw_image, read_image};
+pub use read::{raw_image, read_image, read_program};

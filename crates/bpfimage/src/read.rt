@@ -3,7 +3,7 @@
 ghost use Rattle.std.specs.Prelude.{◌≡◌, ◌+◌, ◌<◌, ◌≤◌, length, drop, slice_index, List, IfOk, IfErr, MatchResult};
 ghost use Rattle.insn.specs.declared.Insn.{Insn};
 ghost use Rattle.insn.specs.Refusal.{Spells, IsRefused};
-ghost use Rattle.bpfimage.specs.Image.{kind_number, number_at, rank, fault_of, HasHead, IsFirstFault, IsCodeFault, IsImage};
+ghost use Rattle.bpfimage.specs.Image.{kind_number, number_at, rank, fault_of, HasHead, IsFirstFault, IsCodeFault, IsImage, IsProgram, IsNoProgram};
 
 use crate::image::{Image, ImageFault, ImageKind, MAX_WINDOW};
 use insn::decode::decode;
@@ -122,5 +122,17 @@ pub fn raw_image(alloc: Global, bytes: &[u8]) -> Result<Image, ImageFault>
             code,
         }),
         Err(fault) => Err(code_fault(fault)),
+    }
+}
+
+/// The program that bytes are: an image where they begin with its mark, which is no opcode, and else raw code.
+pub fn read_program(alloc: Global, bytes: &[u8]) -> Result<Image, ImageFault>
+    ensures found { IfOk result (λ image. IsProgram bytes.now image.kind image.in_len image.out_len image.code.items) }
+    ensures refused { IfErr result (λ fault. IsNoProgram bytes.now fault) }
+{
+    if bytes.starts_with(MARK) {
+        read_image(alloc, bytes)
+    } else {
+        raw_image(alloc, bytes)
     }
 }
