@@ -24,9 +24,9 @@ use Rattle.insn.specs.declared.Distance.TheVariants as distance
 use Rattle.insn.specs.declared.Insn.{Insn}
 use Rattle.insn.specs.declared.Insn.TheVariants as insn
 use Rattle.memory.specs.Windows.{Covers, base, read, little_endian}
-use Rattle.memory.specs.State.{State, register, number_in, operand_in, with_register, jumped, advanced, no_calls, reads, writes, operand_reads, address, SomeUnset, MissesWindows, StoresToInput, Breaks, extended, Row as Does}
+use Rattle.memory.specs.State.{State, register, number_in, operand_in, with_register, jumped, advanced, writes, operand_reads, address, SomeUnset, MissesWindows, StoresToInput, Breaks, extended, Row as Does}
 use Rattle.memory.specs.declared.Region.{Region}
-use Rattle.memory.specs.declared.Region.TheVariants.{Stack, Input, Output}
+use Rattle.memory.specs.declared.Region.TheVariants.{Input}
 use Rattle.memory.specs.declared.Fault.{Fault}
 use Rattle.memory.specs.declared.Fault.TheVariants as fault
 use Rattle.ranges.specs.declared.kind.Kind.{Kind}
@@ -40,15 +40,20 @@ use Rattle.ranges.proofs.Numbers.{value_fits, swapped_fits}
 use Rattle.ranges.proofs.Operations.{transfer_sound, swap_sound}
 use Rattle.ranges.proofs.Comparisons.{refine_sound}
 use Rattle.bpfimage.specs.Form.{landing, target_of}
+use Rattle.helpers.specs.Calls.{Callee, Unknown, callee_of, calls_of}
 use Rattle.verifier.specs.Program.{Program, HasLimits}
 use Rattle.verifier.specs.declared.rule.KindRule.{KindRule}
-use Rattle.verifier.specs.declared.rule.KindRule.TheVariants.{UnsetRead, FrameWritten, OutsideWindow, InputStored}
-use Rattle.verifier.specs.Rules.{Row, kind_at, with_kind, one_number, kind_from, broken_if, is_unset, is_input_pointer, any_unset, is_frame, is_inside, bad_result, class_rules, rules_of, first_of, result_kind, loaded, refined}
+use Rattle.verifier.specs.declared.rule.KindRule.TheVariants.{UnsetRead, FrameWritten, OutsideWindow, InputStored, ArgumentRule}
+use Rattle.verifier.specs.Registers.{Row, kind_at, with_kind, one_number, kind_from, is_unset, is_input_pointer, any_unset, is_inside}
+use Rattle.verifier.specs.CallKinds.{answer_kind}
+use Rattle.verifier.specs.Rules.{callee_in, reads_by, broken_if, is_frame, bad_result, class_rules, rules_of, first_of, result_kind, loaded, refined}
 use Rattle.verifier.specs.Table.{target_edge, edges_from}
+use Rattle.verifier.proofs.SameReads.{reads_called}
 use Rattle.verifier.proofs.Words.{wrapped_below, size_fits, some_bytes}
 use Rattle.verifier.proofs.Fits.{IsWord, FitsRow, at_register, at_write, at_learn, SomeEdge}
 use Rattle.verifier.proofs.Shape.{target_edge_at}
-use Rattle.verifier.proofs.Places.{IsMemory, place_in, not_in_input, load_small, store_kept}
+use Rattle.verifier.proofs.CallSteps.{given_fits, answered, row_fits}
+use Rattle.verifier.proofs.Places.{IsMemory, place_in, not_input, not_in_input, load_small, store_kept}
 
 -- ---- the first of several rules
 
@@ -60,9 +65,6 @@ pub none_each : {A : Type 0} (xs : List (Option A)) → first_of xs ≡ None →
 none_each [] h = tt
 none_each (None ∷ xs) h = (refl, none_each xs h)
 none_each (Some x ∷ xs) h = cc
-
-pub none_some : {A : Type 0} {x : A} → Some x ≡ None → ⊥
-none_some h = cc
 
 pub untold : (t : Bool) (rule : KindRule) → broken_if t rule ≡ None → t ≡ false
 untold true rule h = cc
@@ -134,6 +136,9 @@ module _ (p : Program) (i : ℕ) (row : Row) (s : State) (limits : HasLimits p) 
   at_operand (operand.Register r) = let h = at_reg r in (admits_number _ _ h.0, number_fits _ h.1)
   at_operand (operand.Immediate n) = ((omega arith, omega arith), wrapped_below 64 n)
 
+  at_number : (r : Register) → Admits (kind_at row r) (Some (number_in s r)) × (number_in s r < 2 ^ 64)
+  at_number r = let h = at_reg r in (admits_number _ _ h.0, number_fits _ h.1)
+
   reads_set : (rs : List Register) → any_unset row rs ≡ false → SomeUnset s rs → ⊥
   reads_set [] h u = u
   reads_set (r ∷ rs) h (inl e) = is_set (kind_at row r) (register s r) (or_left (is_unset (kind_at row r)) (any_unset row rs) h) (at_reg r).0 e
@@ -143,76 +148,71 @@ module _ (p : Program) (i : ℕ) (row : Row) (s : State) (limits : HasLimits p) 
   access : (r : Register) (offset : ℤ) (size : ℕ) → is_inside p (kind_at row r) offset size ≡ true → (region : Region) × Covers s.memory region (address s r offset) size × (is_input_pointer (kind_at row r) ≡ false → region ≢ Input)
   access r offset size t = from (kind_at row r) (register s r) (at_reg r).0 t
     where
-      region_kept : (region : Region) (lo hi : ℤ) → is_input_pointer (Ptr region lo hi) ≡ false → region ≢ Input
-      region_kept Stack lo hi h e = cc
-      region_kept Input lo hi h e = cc
-      region_kept Output lo hi h e = cc
-
       from : (k : Kind) (v : Option ℕ) → Admits k v → is_inside p k offset size ≡ true → (region : Region) × Covers s.memory region (wrapped 64 (pos (unwrap_or v 0) +ℤ offset)) size × (is_input_pointer k ≡ false → region ≢ Input)
       from Unset v a t = cc
       from (Num lo hi) v a t = cc
       from (Ptr region lo hi) None a t = absurd a
-      from (Ptr region lo hi) (Some n) a t = (region, place_in p s.memory region lo hi n offset size limits memory a t, region_kept region lo hi)
+      from (Ptr region lo hi) (Some n) a t = (region, place_in p s.memory region lo hi n offset size limits memory a t, not_input region lo hi)
 
   -- ---- no fault
-  no_miss : (x : Insn) → AllNone (class_rules p row x) → ¬ MissesWindows x s
-  no_miss (insn.Load size extend dst r offset) h miss = let l = access r offset (size_bytes size) (untold_not _ OutsideWindow h.0) in miss l.0 l.1
-  no_miss (insn.Store size r offset src) h miss = let l = access r offset (size_bytes size) (untold_not _ OutsideWindow h.0) in miss l.0 l.1
-  no_miss (insn.Alu o w d src) h miss = miss
-  no_miss (insn.Swap k n d) h miss = miss
-  no_miss (insn.Jump d) h miss = miss
-  no_miss (insn.JumpIf c w l r o) h miss = miss
-  no_miss (insn.Call n) h miss = miss
-  no_miss insn.Exit h miss = miss
-  no_miss (insn.Wide d n) h miss = miss
-  no_miss insn.Tail h miss = miss
+  no_miss : (callee : Callee) (x : Insn) → AllNone (class_rules p callee row x) → ¬ MissesWindows x s
+  no_miss callee (insn.Load size extend dst r offset) h miss = let l = access r offset (size_bytes size) (untold_not _ OutsideWindow h.0) in miss l.0 l.1
+  no_miss callee (insn.Store size r offset src) h miss = let l = access r offset (size_bytes size) (untold_not _ OutsideWindow h.0) in miss l.0 l.1
+  no_miss callee (insn.Alu o w d src) h miss = miss
+  no_miss callee (insn.Swap k n d) h miss = miss
+  no_miss callee (insn.Jump d) h miss = miss
+  no_miss callee (insn.JumpIf c w l r o) h miss = miss
+  no_miss callee (insn.Call n) h miss = miss
+  no_miss callee insn.Exit h miss = miss
+  no_miss callee (insn.Wide d n) h miss = miss
+  no_miss callee insn.Tail h miss = miss
 
-  no_input : (x : Insn) → AllNone (class_rules p row x) → ¬ StoresToInput x s
-  no_input (insn.Store size r offset src) h c =
+  no_input : (callee : Callee) (x : Insn) → AllNone (class_rules p callee row x) → ¬ StoresToInput x s
+  no_input callee (insn.Store size r offset src) h c =
       let l = access r offset (size_bytes size) (untold_not _ OutsideWindow h.0) in
       not_in_input p s.memory l.0 (address s r offset) (size_bytes size) limits memory (some_bytes size) (l.2 (untold _ InputStored h.1.0)) l.1 c
-  no_input (insn.Load size extend d r offset) h c = c
-  no_input (insn.Alu o w d src) h c = c
-  no_input (insn.Swap k n d) h c = c
-  no_input (insn.Jump d) h c = c
-  no_input (insn.JumpIf c' w l r o) h c = c
-  no_input (insn.Call n) h c = c
-  no_input insn.Exit h c = c
-  no_input (insn.Wide d n) h c = c
-  no_input insn.Tail h c = c
+  no_input callee (insn.Load size extend d r offset) h c = c
+  no_input callee (insn.Alu o w d src) h c = c
+  no_input callee (insn.Swap k n d) h c = c
+  no_input callee (insn.Jump d) h c = c
+  no_input callee (insn.JumpIf c' w l r o) h c = c
+  no_input callee (insn.Call n) h c = c
+  no_input callee insn.Exit h c = c
+  no_input callee (insn.Wide d n) h c = c
+  no_input callee insn.Tail h c = c
 
-  no_call : (x : Insn) → AllNone (class_rules p row x) → ¬ Breaks no_calls x s fault.Helper
-  no_call (insn.Call n) h c = none_some h.0
-  no_call (insn.Store size r offset src) h c = c
-  no_call (insn.Load size extend d r offset) h c = c
-  no_call (insn.Alu o w d src) h c = c
-  no_call (insn.Swap k n d) h c = c
-  no_call (insn.Jump d) h c = c
-  no_call (insn.JumpIf c' w l r o) h c = c
-  no_call insn.Exit h c = c
-  no_call (insn.Wide d n) h c = c
-  no_call insn.Tail h c = c
+  no_bad_call : (x : Insn) → AllNone (class_rules p (callee_in p.sigs x) row x) → ¬ Breaks (calls_of p.sigs) x s fault.Helper
+  no_bad_call (insn.Call n) h c = c (given_fits p row s limits fits memory at_number (callee_of p.sigs n) (untold_not _ ArgumentRule h.1.0))
+  no_bad_call (insn.Store size r offset src) h c = c
+  no_bad_call (insn.Load size extend d r offset) h c = c
+  no_bad_call (insn.Alu o w d src) h c = c
+  no_bad_call (insn.Swap k n d) h c = c
+  no_bad_call (insn.Jump d) h c = c
+  no_bad_call (insn.JumpIf c' w l r o) h c = c
+  no_bad_call insn.Exit h c = c
+  no_bad_call (insn.Wide d n) h c = c
+  no_bad_call insn.Tail h c = c
 
-  pub no_fault : (x : Insn) → AllNone (rules_of p row x) → (f : Fault) → ¬ Breaks no_calls x s f
-  no_fault x h fault.Unset b = reads_set (reads no_calls x) (untold _ UnsetRead h.0) b
-  no_fault x h fault.Address b = no_miss x h.1.1 b
-  no_fault x h fault.Input b = no_input x h.1.1 b
+  pub no_fault : (x : Insn) → AllNone (rules_of p row x) → (f : Fault) → ¬ Breaks (calls_of p.sigs) x s f
+  no_fault x h fault.Unset b = reads_set (reads_by (callee_in p.sigs x) x) (untold _ UnsetRead h.0) (subst (SomeUnset s) (sym (reads_called p.sigs x)) b)
+  no_fault x h fault.Address b = no_miss (callee_in p.sigs x) x h.1.1 b
+  no_fault x h fault.Input b = no_input (callee_in p.sigs x) x h.1.1 b
   no_fault x h fault.Slot b = b
-  no_fault x h fault.Helper b = no_call x h.1.1 b
+  no_fault x h fault.Helper b = no_bad_call x h.1.1 b
   no_fault x h fault.ReadOnly b = no_frame (writes x) (untold _ FrameWritten h.1.0) b
 
   -- ---- what follows
   -- an edge that admits the state, and a memory as it was laid out
   abbrev pub Lands : Insn → State → Type 0
-  Lands x t = SomeEdge t.slot t.registers (edges_from i row x) × IsMemory p t.memory
+  Lands x t = SomeEdge t.slot t.registers (edges_from (callee_in p.sigs x) i row x) × IsMemory p t.memory
 
   -- a number written into a register, whose kind is told by an edge to the next slot
-  written_lands : (x : Insn) (r : Register) (k : Kind) (v : ℕ) (t : State) → edges_from i row x ≡ (i + 1, with_kind row r k) ∷ [] → Admits k (Some v) → v < 2 ^ 64 → t ≡ advanced (with_register r v s) → Lands x t
+  written_lands : (x : Insn) (r : Register) (k : Kind) (v : ℕ) (t : State) → edges_from (callee_in p.sigs x) i row x ≡ (i + 1, with_kind row r k) ∷ [] → Admits k (Some v) → v < 2 ^ 64 → t ≡ advanced (with_register r v s) → Lands x t
   written_lands x r k v t es a w e =
-      let P : State → Type 0 = λ u. SomeEdge u.slot u.registers (edges_from i row x) × IsMemory p u.memory in
+      let P : State → Type 0 = λ u. SomeEdge u.slot u.registers (edges_from (callee_in p.sigs x) i row x) × IsMemory p u.memory in
       subst P (sym e) (subst (SomeEdge (s.slot +ℤ pos 1) (set s.registers (number r) (Some v))) (sym es) (inl (one_on s.slot i at, at_write row s.registers (number r) k (Some v) fits a w)), memory)
 
-  alu_lands : (o : Op) (w : Width) (dst : Register) (src : Operand) (t : State) → AllNone (class_rules p row (insn.Alu o w dst src)) → Does no_calls (insn.Alu o w dst src) s t → Lands (insn.Alu o w dst src) t
+  alu_lands : (o : Op) (w : Width) (dst : Register) (src : Operand) (t : State) → AllNone (class_rules p Unknown row (insn.Alu o w dst src)) → Does (calls_of p.sigs) (insn.Alu o w dst src) s t → Lands (insn.Alu o w dst src) t
   alu_lands o w dst src t h d =
       let a = at_reg dst in
       let b = at_operand src in
@@ -221,7 +221,7 @@ module _ (p : Program) (i : ℕ) (row : Row) (s : State) (limits : HasLimits p) 
       let sound = transfer_sound o w (kind_at row dst) (kind_from row src) m n (number_fits _ a.1) b.1 (λ _. admits_number _ _ a.0) (λ _. b.0) in
       written_lands (insn.Alu o w dst src) dst (result_kind (transfer_of o w (kind_at row dst) (kind_from row src))) (value o w m n) t refl (ok_result _ (Some (value o w m n)) h.0 sound) (value_fits o w m n) d
 
-  swap_lands : (kind : SwapKind) (n : SwapBits) (dst : Register) (t : State) → AllNone (class_rules p row (insn.Swap kind n dst)) → Does no_calls (insn.Swap kind n dst) s t → Lands (insn.Swap kind n dst) t
+  swap_lands : (kind : SwapKind) (n : SwapBits) (dst : Register) (t : State) → AllNone (class_rules p Unknown row (insn.Swap kind n dst)) → Does (calls_of p.sigs) (insn.Swap kind n dst) s t → Lands (insn.Swap kind n dst) t
   swap_lands kind n dst t h d =
       let a = at_reg dst in
       let m = number_in s dst in
@@ -233,15 +233,15 @@ module _ (p : Program) (i : ℕ) (row : Row) (s : State) (limits : HasLimits p) 
   in_loaded size Zero n h = ((omega arith, omega arith), omega (arith, size_fits size))
   in_loaded size Sign n h = let b = wrapped_below 64 (signed (8 * size_bytes size) n) in ((omega arith, omega arith), b)
 
-  load_lands : (size : Size) (extend : Extend) (dst r : Register) (offset : ℤ) (t : State) → Does no_calls (insn.Load size extend dst r offset) s t → Lands (insn.Load size extend dst r offset) t
+  load_lands : (size : Size) (extend : Extend) (dst r : Register) (offset : ℤ) (t : State) → Does (calls_of p.sigs) (insn.Load size extend dst r offset) s t → Lands (insn.Load size extend dst r offset) t
   load_lands size extend dst r offset t d =
       let n = little_endian (read s.memory d.0 (address s r offset - base d.0) (size_bytes size)) in
       let k = in_loaded size extend n (load_small p s.memory d.0 (address s r offset) size memory d.1) in
       written_lands (insn.Load size extend dst r offset) dst (loaded size extend) (extended extend size n) t refl k.0 k.1 d.2
 
-  store_lands : (size : Size) (r : Register) (offset : ℤ) (src : Operand) (t : State) → Does no_calls (insn.Store size r offset src) s t → Lands (insn.Store size r offset src) t
+  store_lands : (size : Size) (r : Register) (offset : ℤ) (src : Operand) (t : State) → Does (calls_of p.sigs) (insn.Store size r offset src) s t → Lands (insn.Store size r offset src) t
   store_lands size r offset src t d =
-      let P : State → Type 0 = λ u. SomeEdge u.slot u.registers (edges_from i row (insn.Store size r offset src)) × IsMemory p u.memory in
+      let P : State → Type 0 = λ u. SomeEdge u.slot u.registers (edges_from Unknown i row (insn.Store size r offset src)) × IsMemory p u.memory in
       subst P (sym d.2) (inl (one_on s.slot i at, fits), store_kept p s.memory d.0 (address s r offset) size (operand_in s src) memory d.1)
 
   -- ---- jumps
@@ -251,12 +251,12 @@ module _ (p : Program) (i : ℕ) (row : Row) (s : State) (limits : HasLimits p) 
   landed : (o : ℤ) → (s.slot +ℤ pos 1 +ℤ o) ≡ landing i o
   landed o = ap (λ y. y +ℤ pos 1 +ℤ o) at
 
-  near_lands : (o : ℤ) (k : ℕ) (t : State) → landing i o ≡ pos k → Does no_calls (insn.Jump (distance.Near o)) s t → Lands (insn.Jump (distance.Near o)) t
+  near_lands : (o : ℤ) (k : ℕ) (t : State) → landing i o ≡ pos k → Does (calls_of p.sigs) (insn.Jump (distance.Near o)) s t → Lands (insn.Jump (distance.Near o)) t
   near_lands o k t e d =
       let P : State → Type 0 = λ u. SomeEdge u.slot u.registers (target_edge (Some (landing i o)) row) × IsMemory p u.memory in
       subst P (sym d) (jump_edge (landing i o) k row (s.slot +ℤ pos 1 +ℤ o) e (landed o) fits, memory)
 
-  far_lands : (o : ℤ) (k : ℕ) (t : State) → landing i o ≡ pos k → Does no_calls (insn.Jump (distance.Far o)) s t → Lands (insn.Jump (distance.Far o)) t
+  far_lands : (o : ℤ) (k : ℕ) (t : State) → landing i o ≡ pos k → Does (calls_of p.sigs) (insn.Jump (distance.Far o)) s t → Lands (insn.Jump (distance.Far o)) t
   far_lands o k t e d =
       let P : State → Type 0 = λ u. SomeEdge u.slot u.registers (target_edge (Some (landing i o)) row) × IsMemory p u.memory in
       subst P (sym d) (jump_edge (landing i o) k row (s.slot +ℤ pos 1 +ℤ o) e (landed o) fits, memory)
@@ -282,22 +282,29 @@ module _ (p : Program) (i : ℕ) (row : Row) (s : State) (limits : HasLimits p) 
       let r = refine_sound c w (kind_at row left) (one_number m) taken (number_in s left) m (admits_number _ _ a.0) (omega arith, omega arith) same in
       at_learn row s.registers (number left) _ fits (subst (Admits _) (unwrap_or-slice_get s.registers (number left) None) (back _ _ ha r.0))
 
-  branch_lands : (c : Cond) (w : Width) (left : Register) (right : Operand) (o : ℤ) (k : ℕ) (t : State) → landing i o ≡ pos k → any_unset row (left ∷ operand_reads right) ≡ false → Does no_calls (insn.JumpIf c w left right o) s t → Lands (insn.JumpIf c w left right o) t
+  branch_lands : (c : Cond) (w : Width) (left : Register) (right : Operand) (o : ℤ) (k : ℕ) (t : State) → landing i o ≡ pos k → any_unset row (left ∷ operand_reads right) ≡ false → Does (calls_of p.sigs) (insn.JumpIf c w left right o) s t → Lands (insn.JumpIf c w left right o) t
   branch_lands c w left right o k t e h d =
-      let P : State → Type 0 = λ u. SomeEdge u.slot u.registers (edges_from i row (insn.JumpIf c w left right o)) × IsMemory p u.memory in
+      let P : State → Type 0 = λ u. SomeEdge u.slot u.registers (edges_from Unknown i row (insn.JumpIf c w left right o)) × IsMemory p u.memory in
       subst P (sym d)
       (cond_both (condition c w (number_in s left) (operand_in s right)) (jumped o s) (advanced s) P
       (λ yes. (inr (jump_edge (landing i o) k (refined c w left right true row) (s.slot +ℤ pos 1 +ℤ o) e (landed o) (branch_fits c w left right true h yes)), memory))
       (λ no. (inl (one_on s.slot i at, branch_fits c w left right false h no), memory)))
 
-  wide_lands : (dst : Register) (n : ℕ) (t : State) → n < 2 ^ 64 → Does no_calls (insn.Wide dst n) s t → Lands (insn.Wide dst n) t
+  wide_lands : (dst : Register) (n : ℕ) (t : State) → n < 2 ^ 64 → Does (calls_of p.sigs) (insn.Wide dst n) s t → Lands (insn.Wide dst n) t
   wide_lands dst n t small d =
-      let P : State → Type 0 = λ u. SomeEdge u.slot u.registers (edges_from i row (insn.Wide dst n)) × IsMemory p u.memory in
+      let P : State → Type 0 = λ u. SomeEdge u.slot u.registers (edges_from Unknown i row (insn.Wide dst n)) × IsMemory p u.memory in
       let two : pos (i + 2) ≡ (s.slot +ℤ pos 1 +ℤ pos 1) = two_on s.slot i at in
       subst P (sym d) (inl (two, at_write row s.registers (number dst) (one_number n) (Some n) fits (omega arith, omega arith) small), memory)
 
+  call_lands : (n : ℕ) (t : State) → Does (calls_of p.sigs) (insn.Call n) s t → Lands (insn.Call n) t
+  call_lands n t d =
+      let callee = callee_of p.sigs n in
+      let P : State → Type 0 = λ u. SomeEdge u.slot u.registers (edges_from callee i row (insn.Call n)) × IsMemory p u.memory in
+      let a = answered p row s limits fits memory at_number n callee d.0 d.1 d.2 in
+      subst P (sym d.3) (inl (one_on s.slot i at, row_fits p row s limits fits memory at_number (answer_kind callee) d.0 a.0 a.1), a.2)
+
   -- ---- any instruction
-  pub lands : (x : Insn) (t : State) → IsInstruction x → ((z : ℤ) → target_of i x ≡ Some z → (k : ℕ) × (z ≡ pos k)) → AllNone (rules_of p row x) → Does no_calls x s t → Lands x t
+  pub lands : (x : Insn) (t : State) → IsInstruction x → ((z : ℤ) → target_of i x ≡ Some z → (k : ℕ) × (z ≡ pos k)) → AllNone (rules_of p row x) → Does (calls_of p.sigs) x s t → Lands x t
   lands (insn.Alu o w dst src) t is to h d = alu_lands o w dst src t h.1.1 d
   lands (insn.Swap kind n dst) t is to h d = swap_lands kind n dst t h.1.1 d
   lands (insn.Load size extend dst r offset) t is to h d = load_lands size extend dst r offset t d
@@ -305,7 +312,7 @@ module _ (p : Program) (i : ℕ) (row : Row) (s : State) (limits : HasLimits p) 
   lands (insn.Jump (distance.Near o)) t is to h d = let k = to (landing i o) refl in near_lands o k.0 t k.1 d
   lands (insn.Jump (distance.Far o)) t is to h d = let k = to (landing i o) refl in far_lands o k.0 t k.1 d
   lands (insn.JumpIf c w left right o) t is to h d = let k = to (landing i o) refl in branch_lands c w left right o k.0 t k.1 (untold _ UnsetRead h.0) d
-  lands (insn.Call n) t is to h d = absurd (none_some h.1.1.0)
+  lands (insn.Call n) t is to h d = call_lands n t d
   lands insn.Exit t is to h d = absurd d
   lands (insn.Wide dst n) t is to h d = wide_lands dst n t is d
   lands insn.Tail t is to h d = absurd d

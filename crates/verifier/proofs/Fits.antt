@@ -6,7 +6,7 @@ use Rattle.ranges.specs.declared.kind.Kind.{Kind}
 use Rattle.ranges.specs.declared.kind.Kind.TheVariants.{Unset}
 use Rattle.ranges.specs.Kinds.{Admits}
 use Rattle.ranges.proofs.Joins.{join_left, join_right}
-use Rattle.verifier.specs.Rules.{Row}
+use Rattle.verifier.specs.Registers.{Row}
 use Rattle.verifier.specs.Table.{Edge, join_rows, joined, into}
 
 -- a register holds a number of 64 bits, or nothing

@@ -1,8 +1,10 @@
 pub mod RowSteps
 pub mod Words
+pub mod SameReads
 pub mod Fits
 pub mod Shape
 pub mod Places
+pub mod CallSteps
 pub mod Classes
 pub mod Counting
 pub mod Tables

@@ -1,5 +1,5 @@
 -- An access that the verifier allows lies in its window.
-use Rattle.std.proofs.Common.{◌≡◌, ◌≢◌, ℕ, ℤ, pos, negsuc, ◌+◌, ◌-◌, ◌*◌, ◌^◌, ◌<◌, ◌≤◌, Bool, true, ◌&&◌, List, length, take, drop, refl, sym, ap, ◌∙◌, subst, arith, length-take, length-drop}
+use Rattle.std.proofs.Common.{◌≡◌, ◌≢◌, ℕ, ℤ, pos, negsuc, ◌+◌, ◌-◌, ◌*◌, ◌^◌, ◌<◌, ◌≤◌, Bool, true, false, ◌&&◌, List, length, take, drop, refl, sym, ap, ◌∙◌, subst, arith, length-take, length-drop}
 use Rattle.std.specs.Prelude.{◌≤ℤ◌, ◌+ℤ◌, int_le}
 use Rattle.std.proofs.lemmas.Int.{ints}
 use Rattle.std.proofs.lemmas.Bool.{and_parts}
@@ -14,7 +14,7 @@ use Rattle.ranges.specs.declared.kind.Kind.{Kind}
 use Rattle.ranges.specs.declared.kind.Kind.TheVariants.{Ptr}
 use Rattle.ranges.specs.Kinds.{InRegion}
 use Rattle.verifier.specs.Program.{Program, HasLimits}
-use Rattle.verifier.specs.Rules.{is_inside, first_offset, end_offset}
+use Rattle.verifier.specs.Registers.{is_input_pointer, is_inside, first_offset, end_offset}
 use Rattle.verifier.proofs.Words.{wrapped_small, bytes_take, bytes_drop, bytes_low, bytes_overwritten, length_low, length_overwritten, read_small}
 
 -- the three windows have their lengths, and hold bytes
@@ -85,13 +85,23 @@ place_in p m Output lo hi n offset size limits im h t =
     let fit = limits.output in
     covered m Output (pos n +ℤ offset) at.0 size e (omega arith) first (omega arith)
 
+-- fewer bytes from there on
+pub covers_less : (m : Memory) (region : Region) (a n size : ℕ) → n ≤ size → Covers m region a size → Covers m region a n
+covers_less m region a n size h c = (c.0, omega (arith, c.1))
+
+-- a pointer that is not the input's
+pub not_input : (region : Region) (lo hi : ℤ) → is_input_pointer (Ptr region lo hi) ≡ false → region ≢ Input
+not_input Stack lo hi h e = cc
+not_input Input lo hi h e = cc
+not_input Output lo hi h e = cc
+
 -- bytes of another window are not the input's
 pub not_in_input : (p : Program) (m : Memory) (region : Region) (a size : ℕ) → HasLimits p → IsMemory p m → 1 ≤ size → region ≢ Input → Covers m region a size → Covers m Input a size → ⊥
 not_in_input p m Stack a size limits im some ne c d = omega (arith, c.1, d.0, im.stack_length)
 not_in_input p m Input a size limits im some ne c d = ne refl
 not_in_input p m Output a size limits im some ne c d = omega (arith, c.0, d.1, im.input_length, limits.input)
 
-window_bytes : (p : Program) (m : Memory) (region : Region) → IsMemory p m → AreBytes (window m region)
+pub window_bytes : (p : Program) (m : Memory) (region : Region) → IsMemory p m → AreBytes (window m region)
 window_bytes p m Stack im = im.stack_bytes
 window_bytes p m Input im = im.input_bytes
 window_bytes p m Output im = im.output_bytes
@@ -109,9 +119,11 @@ with_memory p m Stack bytes im e h = record { stack_length = e ∙ im.stack_leng
 with_memory p m Input bytes im e h = record { stack_length = im.stack_length; input_length = e ∙ im.input_length; output_length = im.output_length; stack_bytes = im.stack_bytes; input_bytes = h; output_bytes = im.output_bytes }
 with_memory p m Output bytes im e h = record { stack_length = im.stack_length; input_length = im.input_length; output_length = e ∙ im.output_length; stack_bytes = im.stack_bytes; input_bytes = im.input_bytes; output_bytes = h }
 
+pub written_kept : (p : Program) (m : Memory) (region : Region) (a : ℕ) (new : List ℕ) → IsMemory p m → Covers m region a (length new) → AreBytes new → IsMemory p (written m region (a - base region) new)
+written_kept p m region a new im c h =
+    let fits : a - base region + length new ≤ length (window m region) = omega (arith, c.0, c.1) in
+    with_memory p m region (overwritten (window m region) (a - base region) new) im (length_overwritten (window m region) (a - base region) new fits) (bytes_overwritten (window m region) (a - base region) new (window_bytes p m region im) h)
+
 pub store_kept : (p : Program) (m : Memory) (region : Region) (a : ℕ) (size : Size) (v : ℕ) → IsMemory p m → Covers m region a (size_bytes size) → IsMemory p (written m region (a - base region) (low_bytes (size_bytes size) v))
 store_kept p m region a size v im c =
-    let new = low_bytes (size_bytes size) v in
-    let len : length new ≡ size_bytes size = length_low (size_bytes size) v in
-    let fits : a - base region + length new ≤ length (window m region) = omega (arith, c.0, c.1) in
-    with_memory p m region (overwritten (window m region) (a - base region) new) im (length_overwritten (window m region) (a - base region) new fits) (bytes_overwritten (window m region) (a - base region) new (window_bytes p m region im) (bytes_low (size_bytes size) v))
+    written_kept p m region a (low_bytes (size_bytes size) v) im (subst (Covers m region a) (sym (length_low (size_bytes size) v)) c) (bytes_low (size_bytes size) v)

@@ -18,13 +18,16 @@ use Rattle.bpfimage.specs.Form.{next_of, target_of, GoesTo, IsSuccessor, IsPath,
 use Rattle.verifier.specs.Program.{Program}
 use Rattle.verifier.specs.declared.rule.KindRule.{KindRule}
 use Rattle.verifier.specs.declared.rule.KindRule.TheVariants.{UnsetRead, FrameWritten, PointerOperand, OutsideWindow, InputStored, PointerStored, PointerAnswer}
-use Rattle.verifier.specs.Rules.{Row, kind_at, entry, is_unset, is_pointer, is_input_pointer, any_unset, is_frame, first_offset, end_offset, is_inside, broken_if, bad_result, class_rules, rules_of, first_of, row_after, row_taken}
+use Rattle.verifier.specs.Registers.{Row, kind_at, entry, is_unset, is_pointer, is_input_pointer, any_unset, first_offset, end_offset, is_inside}
+use Rattle.helpers.specs.Calls.{Callee}
+use Rattle.verifier.specs.Rules.{callee_in, is_frame, broken_if, bad_result, class_rules, rules_of, first_of, row_after, row_taken}
 use Rattle.verifier.specs.Table.{Edge, next_edge, target_edge, edges_from, join_rows, joined, into, edges_of, arrivals, table, broken_with, IsAccepted}
 use Rattle.verifier.specs.Plain.{IsIn, WrittenOn, SetAtStart, window_of, IsPlainInsn, IsPlain, InWindow, StaysInside, IsWellBehaved}
 use Rattle.verifier.proofs.Fits.{IsRow, length_join}
 use Rattle.verifier.proofs.Shape.{Leads, NextStarts, next_leads, target_leads}
 use Rattle.verifier.proofs.Classes.{AllNone, or_right}
 use Rattle.verifier.proofs.Soundness.{after_is_row, taken_is_row}
+use Rattle.verifier.proofs.SameReads.{reads_plain}
 use Rattle.verifier.proofs.Tables.{length_rows, table_at}
 use Rattle.verifier.proofs.PlainRows.{IsNum, IsNumOrUnset, PlainAt, PlainRow, GivesNumber, operand_number, register_number, alu_number, swap_result, Follows, after_follows, taken_follows, join_plain, unset_of_one}
 
@@ -138,15 +141,15 @@ module _ (p : Program) (some : 1 ≤ length p.code) (formed : IsFormed p.code) (
   same_slot : (j k : ℕ) → pos k ≡ pos j → j ≡ k
   same_slot j k e = cc
 
-  edges_plain : (i : ℕ) (x : Insn) (row : Row) → slice_get p.code i ≡ Some x → slice_get (table p) i ≡ Some (Some row) → IsPlainAt p.code i row → AllPlain p.code (edges_from i row x)
+  edges_plain : (i : ℕ) (x : Insn) (row : Row) → slice_get p.code i ≡ Some x → slice_get (table p) i ≡ Some (Some row) → IsPlainAt p.code i row → AllPlain p.code (edges_from (callee_in p.sigs x) i row x)
   edges_plain i x row at here is =
       let set = reads_set i x row at here is in
       all_append p.code _ _
-      (next_plain p.code (next_of i x) (row_after row x) (λ k e. carried p.code i k x row (row_after row x) at is (successor i k x at (inl e) (next_leads p.code i x k formed starts at e)) (after_is_row row x is.long) (after_follows row x is.long is.plain (plain i x at) set)))
+      (next_plain p.code (next_of i x) (row_after (callee_in p.sigs x) row x) (λ k e. carried p.code i k x row (row_after (callee_in p.sigs x) row x) at is (successor i k x at (inl e) (next_leads p.code i x k formed starts at e)) (after_is_row (callee_in p.sigs x) row x is.long) (after_follows (callee_in p.sigs x) row x is.long is.plain (plain i x at) set)))
       (target_plain p.code (target_of i x) (row_taken row x) (λ k e. let l = target_leads p.code i x (pos k) formed at e in
       carried p.code i k x row (row_taken row x) at is (successor i k x at (inr e) (subst (Leads p.code i) (same_slot l.0 k l.1) l.2)) (taken_is_row row x is.long) (taken_follows row x (pos k) i e is.long is.plain (plain i x at) set)))
 
-  edges_of_plain : (i : ℕ) (x : Option Insn) (o : Option (Option Row)) → slice_get p.code i ≡ x → slice_get (table p) i ≡ o → PlainSlot p.code i o → AllPlain p.code (edges_of i x o)
+  edges_of_plain : (i : ℕ) (x : Option Insn) (o : Option (Option Row)) → slice_get p.code i ≡ x → slice_get (table p) i ≡ o → PlainSlot p.code i o → AllPlain p.code (edges_of p.sigs i x o)
   edges_of_plain i None o at here h = tt
   edges_of_plain i (Some x) None at here h = tt
   edges_of_plain i (Some x) (Some None) at here h = tt
@@ -272,27 +275,27 @@ kind_no_pointer Unset h = refl
 kind_no_pointer (Num lo hi) h = refl
 kind_no_pointer (Ptr q lo hi) h = absurd h
 
-class_kept : (p : Program) (row : Row) (x : Insn) → PlainRow row → IsPlainInsn x → StaysInside p x → any_unset row (reads no_calls x) ≡ false → AllNone (class_rules p row x)
-class_kept p row (insn.Alu o w dst src) plain is inside u = (no_bad _ (alu_number row plain w dst src is.no_address o u), tt)
-class_kept p row (insn.Swap kind n dst) plain is inside u = (no_bad _ (swap_result kind n (kind_at row dst) (register_number row dst [] plain (is.no_address dst (inl refl)) u)), tt)
-class_kept p row (insn.Load size extend dst base offset) plain is inside u = (not_told _ OutsideWindow (not_true _ (inside_at p base (kind_at row base) offset (size_bytes size) (plain base) inside)), tt)
-class_kept p row (insn.Store size base offset src) plain is inside u = (
+class_kept : (p : Program) (callee : Callee) (row : Row) (x : Insn) → PlainRow row → IsPlainInsn x → StaysInside p x → any_unset row (reads no_calls x) ≡ false → AllNone (class_rules p callee row x)
+class_kept p callee row (insn.Alu o w dst src) plain is inside u = (no_bad _ (alu_number row plain w dst src is.no_address o u), tt)
+class_kept p callee row (insn.Swap kind n dst) plain is inside u = (no_bad _ (swap_result kind n (kind_at row dst) (register_number row dst [] plain (is.no_address dst (inl refl)) u)), tt)
+class_kept p callee row (insn.Load size extend dst base offset) plain is inside u = (not_told _ OutsideWindow (not_true _ (inside_at p base (kind_at row base) offset (size_bytes size) (plain base) inside)), tt)
+class_kept p callee row (insn.Store size base offset src) plain is inside u = (
   not_told _ OutsideWindow (not_true _ (inside_at p base (kind_at row base) offset (size_bytes size) (plain base) inside.0)),
   (
     not_told _ InputStored (not_input_at p base (kind_at row base) offset (size_bytes size) (plain base) inside.0 inside.1),
     (not_told _ PointerStored (no_pointer _ (operand_number row src plain is.no_address (or_right (is_unset (kind_at row base)) (any_unset row (operand_reads src)) u))), tt),
   ),
 )
-class_kept p row (insn.Jump d) plain is inside u = tt
-class_kept p row (insn.JumpIf c w left right o) plain is inside u = (
+class_kept p callee row (insn.Jump d) plain is inside u = tt
+class_kept p callee row (insn.JumpIf c w left right o) plain is inside u = (
   not_told _ PointerOperand
       (or_false _ _ (no_pointer _ (register_number row left (operand_reads right) plain (is.no_address left (inl refl)) u)) (no_pointer _ (operand_number row right plain (λ r h. is.no_address r (inr h)) (or_right (is_unset (kind_at row left)) (any_unset row (operand_reads right)) u)))),
   tt,
 )
-class_kept p row (insn.Call h) plain is inside u = absurd (is.no_call h refl)
-class_kept p row insn.Exit plain is inside u = (not_told _ PointerAnswer (kind_no_pointer (kind_at row R0) (plain R0)), tt)
-class_kept p row (insn.Wide dst n) plain is inside u = tt
-class_kept p row insn.Tail plain is inside u = tt
+class_kept p callee row (insn.Call h) plain is inside u = absurd (is.no_call h refl)
+class_kept p callee row insn.Exit plain is inside u = (not_told _ PointerAnswer (kind_no_pointer (kind_at row R0) (plain R0)), tt)
+class_kept p callee row (insn.Wide dst n) plain is inside u = tt
+class_kept p callee row insn.Tail plain is inside u = tt
 
 none_first : {A : Type 0} (xs : List (Option A)) → AllNone xs → first_of xs ≡ None
 none_first [] h = refl
@@ -317,7 +320,7 @@ module _ (p : Program) (some : 1 ≤ length p.code) (starts : NextStarts p.code)
   kept_here k (Some x) (Some None) at here h = refl
   kept_here k (Some x) (Some (Some row)) at here h =
       let u = reads_are_set k x row at here h in
-      none_first (rules_of p row x) (not_told _ UnsetRead u, (not_told _ FrameWritten (no_frame x (plain k x at)), class_kept p row x h.plain (plain k x at) (good.inside k x at) u))
+      none_first (rules_of p row x) (not_told _ UnsetRead (ap (any_unset row) (reads_plain (callee_in p.sigs x) x (plain k x at).no_call) ∙ u), (not_told _ FrameWritten (no_frame x (plain k x at)), class_kept p (callee_in p.sigs x) row x h.plain (plain k x at) (good.inside k x at) u))
 
   pub well_behaved_accepted : IsAccepted p
   well_behaved_accepted = record {

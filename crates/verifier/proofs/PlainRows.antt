@@ -25,7 +25,9 @@ use Rattle.ranges.specs.declared.kind.Kind.TheVariants.{Unset, Num, Ptr}
 use Rattle.ranges.specs.declared.kind.Bad.{Bad}
 use Rattle.ranges.specs.Transfer.{transfer_of, of_one, of_two, swap_of, refine_of, join_of}
 use Rattle.bpfimage.specs.Form.{target_of}
-use Rattle.verifier.specs.Rules.{Row, kind_at, with_kind, kind_from, one_number, is_unset, any_unset, result_kind, loaded, refined, row_after, row_taken}
+use Rattle.helpers.specs.Calls.{Callee}
+use Rattle.verifier.specs.Registers.{Row, kind_at, with_kind, kind_from, one_number, is_unset, any_unset}
+use Rattle.verifier.specs.Rules.{result_kind, loaded, refined, row_after, row_taken}
 use Rattle.verifier.specs.Table.{join_rows}
 use Rattle.verifier.specs.Plain.{IsIn, window_of, IsPlainInsn}
 use Rattle.verifier.proofs.Classes.{or_left, or_right}
@@ -278,17 +280,17 @@ refined_follows row c w left (operand.Immediate i) o t long plain na u =
       unset = λ r e. let one = unset_before row left r _ long n.0 e in (one.0, λ q. cc);
     }
 
-pub after_follows : (row : Row) (x : Insn) → length row ≡ 11 → PlainRow row → IsPlainInsn x → any_unset row (reads no_calls x) ≡ false → Follows row (row_after row x) x
-after_follows row (insn.Alu o w dst src) long plain is u = written_follows row _ dst _ long plain (is.no_address dst (inl refl)) (result_number _ (alu_number row plain w dst src is.no_address o u)) refl
-after_follows row (insn.Swap kind n dst) long plain is u = written_follows row _ dst _ long plain (is.no_address dst (inl refl)) (result_number _ (swap_result kind n (kind_at row dst) (register_number row dst [] plain (is.no_address dst (inl refl)) u))) refl
-after_follows row (insn.Load size extend dst base offset) long plain is u = written_follows row _ dst _ long plain (is.no_address dst (inl refl)) (loaded_number size extend) refl
-after_follows row (insn.Store size base offset src) long plain is u = same_follows row _ plain refl
-after_follows row (insn.Jump distance) long plain is u = same_follows row _ plain refl
-after_follows row (insn.JumpIf c w left right o) long plain is u = refined_follows row c w left right o false long plain is.no_address u
-after_follows row (insn.Call helper) long plain is u = same_follows row _ plain refl
-after_follows row insn.Exit long plain is u = same_follows row _ plain refl
-after_follows row (insn.Wide dst n) long plain is u = written_follows row _ dst _ long plain (is.no_address dst (inl refl)) (n, n, refl) refl
-after_follows row insn.Tail long plain is u = same_follows row _ plain refl
+pub after_follows : (callee : Callee) (row : Row) (x : Insn) → length row ≡ 11 → PlainRow row → IsPlainInsn x → any_unset row (reads no_calls x) ≡ false → Follows row (row_after callee row x) x
+after_follows callee row (insn.Alu o w dst src) long plain is u = written_follows row _ dst _ long plain (is.no_address dst (inl refl)) (result_number _ (alu_number row plain w dst src is.no_address o u)) refl
+after_follows callee row (insn.Swap kind n dst) long plain is u = written_follows row _ dst _ long plain (is.no_address dst (inl refl)) (result_number _ (swap_result kind n (kind_at row dst) (register_number row dst [] plain (is.no_address dst (inl refl)) u))) refl
+after_follows callee row (insn.Load size extend dst base offset) long plain is u = written_follows row _ dst _ long plain (is.no_address dst (inl refl)) (loaded_number size extend) refl
+after_follows callee row (insn.Store size base offset src) long plain is u = same_follows row _ plain refl
+after_follows callee row (insn.Jump distance) long plain is u = same_follows row _ plain refl
+after_follows callee row (insn.JumpIf c w left right o) long plain is u = refined_follows row c w left right o false long plain is.no_address u
+after_follows callee row (insn.Call helper) long plain is u = absurd (is.no_call helper refl)
+after_follows callee row insn.Exit long plain is u = same_follows row _ plain refl
+after_follows callee row (insn.Wide dst n) long plain is u = written_follows row _ dst _ long plain (is.no_address dst (inl refl)) (n, n, refl) refl
+after_follows callee row insn.Tail long plain is u = same_follows row _ plain refl
 
 pub taken_follows : (row : Row) (x : Insn) (z : ℤ) (i : ℕ) → target_of i x ≡ Some z → length row ≡ 11 → PlainRow row → IsPlainInsn x → any_unset row (reads no_calls x) ≡ false → Follows row (row_taken row x) x
 taken_follows row (insn.Alu o w dst src) z i e long plain is u = cc

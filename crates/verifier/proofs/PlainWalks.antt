@@ -1,4 +1,4 @@
--- Accepted programs read what was written on every path, and plain ones stay in their windows.
+-- Accepted plain programs read what was written on every path, and stay in their windows.
 use Rattle.std.proofs.Common.{◌≡◌, ◌≢◌, ℕ, zero, suc, ℤ, pos, ◌<◌, ◌≤◌, Bool, true, false, cond, eqb, List, [], ◌∷◌, ◌++◌, length, get_or, set, Option, Some, None, refl, sym, ap, ◌∙◌, subst, inl, inr, ⊎_elim, arith}
 use Rattle.std.specs.Prelude.{◌⊎◌, ◌≤ℤ◌, ◌+ℤ◌, int_le, slice_get}
 use Rattle.std.proofs.lemmas.Int.{ints}
@@ -23,11 +23,14 @@ use Rattle.bpfimage.specs.declared.form.FormRule.TheVariants.{Unreachable}
 use Rattle.bpfimage.specs.Form.{next_of, GoesTo, IsPath}
 use Rattle.verifier.specs.Program.{Program}
 use Rattle.verifier.specs.declared.rule.KindRule.TheVariants.{UnsetRead, OutsideWindow, InputStored}
-use Rattle.verifier.specs.Rules.{Row, kind_at, with_kind, entry, is_unset, is_input_pointer, any_unset, first_offset, end_offset, is_inside, rules_of, class_rules, refined, row_after, row_taken}
+use Rattle.verifier.specs.Registers.{Row, kind_at, with_kind, entry, is_unset, is_input_pointer, any_unset, first_offset, end_offset, is_inside}
+use Rattle.helpers.specs.Calls.{Callee}
+use Rattle.verifier.specs.Rules.{callee_in, rules_of, class_rules, refined, row_after, row_taken}
 use Rattle.verifier.specs.Table.{Edge, next_edge, target_edge, edges_from, join_rows, joined, into, edges_of, arrivals, table, broken_with, IsAccepted}
 use Rattle.verifier.specs.Plain.{IsIn, WrittenOn, SetAtStart, SetOnPaths, IsPlain, InWindow, StaysInside, IsWellBehaved}
 use Rattle.verifier.proofs.Shape.{keeps, NextStarts}
 use Rattle.verifier.proofs.Classes.{AllNone, none_each, untold, untold_not, or_left, or_right}
+use Rattle.verifier.proofs.SameReads.{reads_less}
 use Rattle.verifier.proofs.Tables.{table_at}
 use Rattle.verifier.proofs.PlainRows.{IsNumOrUnset, PlainAt, PlainRow, same_register, at_join}
 use Rattle.verifier.proofs.PlainPrograms.{IsPlainAt, PlainSlot, table_plain}
@@ -62,15 +65,15 @@ module _ (P : Row → Type 0) (left : (a b : Row) → P a → P (join_rows a b))
   into_new k (e ∷ es) o (inl s) =
       into_old k es _ (subst (λ b. Holds P (cond b (joined o e.1) o)) (sym (eq-eqb e.0 k s.0)) (joined_new o e.1 s.1))
 
-  arrives : (p : Program) (i n k : ℕ) (x : Insn) (row : Row) → i < n → slice_get p.code i ≡ Some x → slice_get (table p) i ≡ Some (Some row) → SomeEdge P k (edges_from i row x) → Holds P (arrivals p (table p) n k)
+  arrives : (p : Program) (i n k : ℕ) (x : Insn) (row : Row) → i < n → slice_get p.code i ≡ Some x → slice_get (table p) i ≡ Some (Some row) → SomeEdge P k (edges_from (callee_in p.sigs x) i row x) → Holds P (arrivals p (table p) n k)
   arrives p i zero k x row lt at here e = absurd (omega arith)
   arrives p i (suc n) k x row lt at here e =
       ⊎_elim
       (λ same. let at' = ap (slice_get p.code) (sym same) ∙ at in
       let here' = ap (slice_get (table p)) (sym same) ∙ here in
-      into_new k (edges_of n (slice_get p.code n) (slice_get (table p) n)) (arrivals p (table p) n k)
-      (subst (λ o. SomeEdge P k (edges_of n o (slice_get (table p) n))) (sym at') (subst (λ o. SomeEdge P k (edges_of n (Some x) o)) (sym here') (subst (λ j. SomeEdge P k (edges_from j row x)) same e))))
-      (λ other. into_old k (edges_of n (slice_get p.code n) (slice_get (table p) n)) (arrivals p (table p) n k) (arrives p i n k x row (omega arith) at here e))
+      into_new k (edges_of p.sigs n (slice_get p.code n) (slice_get (table p) n)) (arrivals p (table p) n k)
+      (subst (λ o. SomeEdge P k (edges_of p.sigs n o (slice_get (table p) n))) (sym at') (subst (λ o. SomeEdge P k (edges_of p.sigs n (Some x) o)) (sym here') (subst (λ j. SomeEdge P k (edges_from (callee_in p.sigs x) j row x)) same e))))
+      (λ other. into_old k (edges_of p.sigs n (slice_get p.code n) (slice_get (table p) n)) (arrivals p (table p) n k) (arrives p i n k x row (omega arith) at here e))
       (cases_eq i n)
 
 some_left : (P : Row → Type 0) (k : ℕ) (es fs : List Edge) → SomeEdge P k es → SomeEdge P k (es ++ fs)
@@ -83,9 +86,9 @@ some_right P k [] fs h = h
 some_right P k (e ∷ es) fs h = inr (some_right P k es fs h)
 
 -- the edge by which an instruction goes to a slot
-edge_to : (P : Row → Type 0) (i k : ℕ) (row : Row) (x : Insn) → GoesTo i x k → P (row_after row x) → P (row_taken row x) → SomeEdge P k (edges_from i row x)
-edge_to P i k row x (inl e) a t = some_left P k (next_edge (next_of i x) (row_after row x)) _ (subst (λ o. SomeEdge P k (next_edge o (row_after row x))) (sym e) (inl (refl, a)))
-edge_to P i k row x (inr e) a t = some_right P k (next_edge (next_of i x) (row_after row x)) _ (subst (λ o. SomeEdge P k (target_edge o (row_taken row x))) (sym e) (inl (refl, t)))
+edge_to : (callee : Callee) (P : Row → Type 0) (i k : ℕ) (row : Row) (x : Insn) → GoesTo i x k → P (row_after callee row x) → P (row_taken row x) → SomeEdge P k (edges_from (callee) i row x)
+edge_to callee P i k row x (inl e) a t = some_left P k (next_edge (next_of i x) (row_after callee row x)) _ (subst (λ o. SomeEdge P k (next_edge o (row_after callee row x))) (sym e) (inl (refl, a)))
+edge_to callee P i k row x (inr e) a t = some_right P k (next_edge (next_of i x) (row_after callee row x)) _ (subst (λ o. SomeEdge P k (target_edge o (row_taken row x))) (sym e) (inl (refl, t)))
 
 some_row : (o : Option Row) (P : Row → Type 0) → Holds P o → (row : Row) × (o ≡ Some row) × P row
 some_row None P h = absurd h
@@ -136,17 +139,17 @@ refined_unset row c w left (operand.Register right) t r h u =
     (λ _. still_unset _ right r _ (other_register row (left ∷ right ∷ []) right r h (inr (inl refl)) u) (still_unset row left r _ (other_register row (left ∷ right ∷ []) left r h (inl refl) u) u))
 refined_unset row c w left (operand.Immediate n) t r h u = still_unset row left r _ (other_register row (left ∷ []) left r h (inl refl) u) u
 
-after_unset : (row : Row) (x : Insn) (r : Register) → any_unset row (reads no_calls x) ≡ false → kind_at row r ≡ Unset → (writes x ≡ Some r) ⊎ (kind_at (row_after row x) r ≡ Unset)
-after_unset row (insn.Alu o w dst src) r h u = written_or_unset row (insn.Alu o w dst src) dst r _ refl u
-after_unset row (insn.Swap kind n dst) r h u = written_or_unset row (insn.Swap kind n dst) dst r _ refl u
-after_unset row (insn.Load size extend dst base offset) r h u = written_or_unset row (insn.Load size extend dst base offset) dst r _ refl u
-after_unset row (insn.Store size base offset src) r h u = inr u
-after_unset row (insn.Jump d) r h u = inr u
-after_unset row (insn.JumpIf c w left right o) r h u = inr (refined_unset row c w left right false r h u)
-after_unset row (insn.Call n) r h u = inr u
-after_unset row insn.Exit r h u = inr u
-after_unset row (insn.Wide dst n) r h u = written_or_unset row (insn.Wide dst n) dst r _ refl u
-after_unset row insn.Tail r h u = inr u
+after_unset : (callee : Callee) (row : Row) (x : Insn) (r : Register) → ((n : ℕ) → x ≢ insn.Call n) → any_unset row (reads no_calls x) ≡ false → kind_at row r ≡ Unset → (writes x ≡ Some r) ⊎ (kind_at (row_after callee row x) r ≡ Unset)
+after_unset callee row (insn.Alu o w dst src) r other h u = written_or_unset row (insn.Alu o w dst src) dst r _ refl u
+after_unset callee row (insn.Swap kind n dst) r other h u = written_or_unset row (insn.Swap kind n dst) dst r _ refl u
+after_unset callee row (insn.Load size extend dst base offset) r other h u = written_or_unset row (insn.Load size extend dst base offset) dst r _ refl u
+after_unset callee row (insn.Store size base offset src) r other h u = inr u
+after_unset callee row (insn.Jump d) r other h u = inr u
+after_unset callee row (insn.JumpIf c w left right o) r other h u = inr (refined_unset row c w left right false r h u)
+after_unset callee row (insn.Call n) r other h u = absurd (other n refl)
+after_unset callee row insn.Exit r other h u = inr u
+after_unset callee row (insn.Wide dst n) r other h u = written_or_unset row (insn.Wide dst n) dst r _ refl u
+after_unset callee row insn.Tail r other h u = inr u
 
 taken_unset : (row : Row) (x : Insn) (r : Register) → any_unset row (reads no_calls x) ≡ false → kind_at row r ≡ Unset → kind_at (row_taken row x) r ≡ Unset
 taken_unset row (insn.Alu o w dst src) r h u = u
@@ -185,7 +188,7 @@ module _ (p : Program) (some : 1 ≤ length p.code) (accepted : IsAccepted p) wh
       none_each (rules_of p row x) (subst (λ o. broken_with p (Some x) o ≡ None) here (subst (λ o. broken_with p o (slice_get (table p) i) ≡ None) at (accepted.unbroken i)))
 
   reads_set : (i : ℕ) (x : Insn) (row : Row) → slice_get p.code i ≡ Some x → slice_get (table p) i ≡ Some (Some row) → any_unset row (reads no_calls x) ≡ false
-  reads_set i x row at here = untold _ UnsetRead (rules_at i x row at here).0
+  reads_set i x row at here = reads_less (callee_in p.sigs x) row x (untold _ UnsetRead (rules_at i x row at here).0)
 
   within : (i : ℕ) (x : Insn) → slice_get p.code i ≡ Some x → i < length p.code
   within i x at = slice_get_within p.code i x at
@@ -196,16 +199,16 @@ module _ (p : Program) (some : 1 ≤ length p.code) (accepted : IsAccepted p) wh
   reached j (i ∷ path) h =
       let before = reached i path h.1 in
       let s = h.0 in
-      let edge = edge_to Something i j before.0 s.0 s.2 tt tt in
+      let edge = edge_to (callee_in p.sigs s.0) Something i j before.0 s.0 s.2 tt tt in
       let row = some_row (arrivals p (table p) j j) Something (arrives Something (λ a b t. tt) (λ a b t. tt) p i j j s.0 before.0 s.3 s.1 before.1 edge) in
       (row.0, table_at p j (within j s.4.0 s.4.1) ∙ ap Some row.1)
 
   -- and a register that is not written on it is unset there, unless it is set at the start
-  walked : (r : Register) (j : ℕ) (path : List ℕ) → IsPath p.code (j ∷ path) → (row : Row) → slice_get (table p) j ≡ Some (Some row) → (WrittenOn p.code path r ⊎ SetAtStart r) ⊎ (kind_at row r ≡ Unset)
-  walked r j [] h row here =
+  walked : IsPlain p.code → (r : Register) (j : ℕ) (path : List ℕ) → IsPath p.code (j ∷ path) → (row : Row) → slice_get (table p) j ≡ Some (Some row) → (WrittenOn p.code path r ⊎ SetAtStart r) ⊎ (kind_at row r ≡ Unset)
+  walked plain r j [] h row here =
       let is = same_rows (slice_get (table p) j) (Some row) (Some (entry p)) here (subst (λ k. slice_get (table p) k ≡ Some (Some (entry p))) (sym h) (table_at p 0 some)) in
       ⊎_elim (λ s. inl (inr s)) (λ u. inr (ap (λ q. kind_at q r) (same_Some _ _ is) ∙ u)) (start_or_unset p r)
-  walked r j (i ∷ path) h row here =
+  walked plain r j (i ∷ path) h row here =
       let s = h.0 in
       let before = reached i path h.1 in
       let set = reads_set i s.0 before.0 s.1 before.1 in
@@ -214,18 +217,18 @@ module _ (p : Program) (some : 1 ≤ length p.code) (accepted : IsAccepted p) wh
       (λ done. inl (⊎_elim (λ w. inl (inr w)) (λ t. inr t) done))
       (λ u. ⊎_elim
       (λ w. inl (inl (inl (s.0, s.1, w))))
-      (λ a. let edge = edge_to P i j before.0 s.0 s.2 a (taken_unset before.0 s.0 r set u) in
+      (λ a. let edge = edge_to (callee_in p.sigs s.0) P i j before.0 s.0 s.2 a (taken_unset before.0 s.0 r set u) in
       let here' = some_row (arrivals p (table p) j j) P (arrives P (unset_left r) (unset_right r) p i j j s.0 before.0 s.3 s.1 before.1 edge) in
       let is = same_rows (slice_get (table p) j) (Some row) (Some here'.0) here (table_at p j (within j s.4.0 s.4.1) ∙ ap Some here'.1) in
       inr (ap (λ q. kind_at q r) (same_Some _ _ is) ∙ here'.2))
-      (after_unset before.0 s.0 r set u))
-      (walked r i path h.1 before.0 before.1)
+      (after_unset (callee_in p.sigs s.0) before.0 s.0 r (plain i s.0 s.1).no_call set u))
+      (walked plain r i path h.1 before.0 before.1)
 
-  -- accepted programs read what was written on every path
-  pub set_on_paths : SetOnPaths p.code
-  set_on_paths j path h x at r i =
+  -- accepted plain programs read what was written on every path
+  pub set_on_paths : IsPlain p.code → SetOnPaths p.code
+  set_on_paths plain j path h x at r i =
       let row = reached j path h in
-      ⊎_elim (λ done. done) (λ u. absurd (read_set row.0 (reads no_calls x) r (reads_set j x row.0 at row.1) i u)) (walked r j path h row.0 row.1)
+      ⊎_elim (λ done. done) (λ u. absurd (read_set row.0 (reads no_calls x) r (reads_set j x row.0 at row.1) i u)) (walked plain r j path h row.0 row.1)
 
   -- each instruction has a row
   row_of : (k : ℕ) (x : Insn) → slice_get p.code k ≡ Some x → x ≢ insn.Tail → (row : Row) × (slice_get (table p) k ≡ Some (Some row))
@@ -283,18 +286,18 @@ input_pointer k e f = let t : is_input_pointer k ≡ true = ap is_input_pointer 
     both_ways : (b : Bool) → b ≡ true → b ≡ false → ⊥
     both_ways b t f = cc
 
-stays : (p : Program) (row : Row) (x : Insn) → PlainRow row → AllNone (class_rules p row x) → StaysInside p x
-stays p row (insn.Alu o w dst src) plain h = tt
-stays p row (insn.Swap kind n dst) plain h = tt
-stays p row (insn.Load size extend dst base offset) plain h = window_at p base (kind_at row base) offset (size_bytes size) (plain base) (untold_not _ OutsideWindow h.0)
-stays p row (insn.Store size base offset src) plain h =
+stays : (p : Program) (callee : Callee) (row : Row) (x : Insn) → PlainRow row → AllNone (class_rules p callee row x) → StaysInside p x
+stays p callee row (insn.Alu o w dst src) plain h = tt
+stays p callee row (insn.Swap kind n dst) plain h = tt
+stays p callee row (insn.Load size extend dst base offset) plain h = window_at p base (kind_at row base) offset (size_bytes size) (plain base) (untold_not _ OutsideWindow h.0)
+stays p callee row (insn.Store size base offset src) plain h =
     (window_at p base (kind_at row base) offset (size_bytes size) (plain base) (untold_not _ OutsideWindow h.0), λ e. input_pointer (kind_at row base) (subst (λ r. PlainAt r (kind_at row base)) e (plain base)) (untold _ InputStored h.1.0))
-stays p row (insn.Jump d) plain h = tt
-stays p row (insn.JumpIf c w left right o) plain h = tt
-stays p row (insn.Call n) plain h = tt
-stays p row insn.Exit plain h = tt
-stays p row (insn.Wide dst n) plain h = tt
-stays p row insn.Tail plain h = tt
+stays p callee row (insn.Jump d) plain h = tt
+stays p callee row (insn.JumpIf c w left right o) plain h = tt
+stays p callee row (insn.Call n) plain h = tt
+stays p callee row insn.Exit plain h = tt
+stays p callee row (insn.Wide dst n) plain h = tt
+stays p callee row insn.Tail plain h = tt
 
 module _ (p : Program) (some : 1 ≤ length p.code) (starts : NextStarts p.code) (plain : IsPlain p.code) (accepted : IsAccepted p) where
   inside_of : (k : ℕ) (x : Insn) → slice_get p.code k ≡ Some x → x ≢ insn.Tail → StaysInside p x
@@ -302,7 +305,7 @@ module _ (p : Program) (some : 1 ≤ length p.code) (starts : NextStarts p.code)
       let row = row_of p some accepted k x at begins in
       let known = table_plain p some accepted.formed starts plain (λ i y q at' here is. reads_set p some accepted i y q at' here) (suc k) k (omega arith) in
       let is : IsPlainAt p.code k row.0 = subst (PlainSlot p.code k) row.1 known in
-      stays p row.0 x is.plain (rules_at p some accepted k x row.0 at row.1).1.1
+      stays p (callee_in p.sigs x) row.0 x is.plain (rules_at p some accepted k x row.0 at row.1).1.1
 
   inside_each : (k : ℕ) (x : Insn) → slice_get p.code k ≡ Some x → StaysInside p x
   inside_each k (insn.Alu o w dst src) at = tt
@@ -317,4 +320,4 @@ module _ (p : Program) (some : 1 ≤ length p.code) (starts : NextStarts p.code)
   inside_each k insn.Tail at = tt
 
   pub accepted_well_behaved : IsWellBehaved p
-  accepted_well_behaved = record { formed = accepted.formed; set = set_on_paths p some accepted; inside = inside_each }
+  accepted_well_behaved = record { formed = accepted.formed; set = set_on_paths p some accepted plain; inside = inside_each }

@@ -1,11 +1,12 @@
 -- Rows that change at one register, and rows joined from the front.
-use Rattle.std.proofs.Common.{◌≡◌, ℕ, zero, suc, ◌+◌, ◌<◌, List, [], ◌∷◌, ◌++◌, length, get_or, set, take, drop, Option, Some, refl, sym, ap, ◌∙◌, subst, arith, add-one}
+use Rattle.std.proofs.Common.{◌≡◌, ℕ, zero, suc, ◌+◌, ◌<◌, ◌≤◌, List, [], ◌∷◌, ◌++◌, length, get_or, set, take, drop, Option, Some, refl, sym, ap, ◌∙◌, subst, arith, add-one}
+use Rattle.std.proofs.Math.Seq.{drop-cons}
 use Rattle.std.specs.Prelude.{slice_get}
 use Rattle.ranges.specs.Kinds.{IsKind}
 use Rattle.ranges.specs.Transfer.{join_of}
 use Rattle.ranges.specs.declared.kind.Kind.{Kind}
 use Rattle.ranges.specs.declared.kind.Kind.TheVariants.{Unset}
-use Rattle.verifier.specs.Rules.{Row}
+use Rattle.verifier.specs.Registers.{Row}
 use Rattle.verifier.specs.Table.{join_rows, joined, AreKinds}
 use Rattle.verifier.specs.Rows.{row_at, AreRowKinds}
 
@@ -17,6 +18,37 @@ kinds_set (x ∷ row) zero k h hk zero = hk
 kinds_set (x ∷ row) zero k h hk (suc r) = h (suc r)
 kinds_set (x ∷ row) (suc i) k h hk zero = h zero
 kinds_set (x ∷ row) (suc i) k h hk (suc r) = kinds_set row i k (λ n. h (suc n)) hk r
+
+pub kinds_drop : (n : ℕ) (row : Row) → AreKinds row → AreKinds (drop n row)
+kinds_drop zero row h = h
+kinds_drop (suc n) [] h = h
+kinds_drop (suc n) (x ∷ row) h = kinds_drop n row (λ r. h (suc r))
+
+pub kinds_take : (n : ℕ) (row : Row) → AreKinds row → AreKinds (take n row)
+kinds_take zero row h r = tt
+kinds_take (suc n) [] h r = tt
+kinds_take (suc n) (x ∷ row) h zero = h zero
+kinds_take (suc n) (x ∷ row) h (suc r) = kinds_take n row (λ i. h (suc i)) r
+
+-- the registers that a call leaves
+drop_none : (n : ℕ) (row : Row) → length row ≤ n → drop n row ≡ []
+drop_none zero [] h = refl
+drop_none zero (x ∷ row) h = absurd (omega arith)
+drop_none (suc n) [] h = refl
+drop_none (suc n) (x ∷ row) h = drop_none n row (omega arith)
+
+pub rest_of_row : (row : Row) → length row ≡ 11 → get_or row 6 Unset ∷ get_or row 7 Unset ∷ get_or row 8 Unset ∷ get_or row 9 Unset ∷ get_or row 10 Unset ∷ [] ≡ drop 6 row
+rest_of_row row long =
+    sym
+    (drop-cons row 6 Unset (omega (arith, long))
+    ∙ ap (λ ks. get_or row 6 Unset ∷ ks)
+    (drop-cons row 7 Unset (omega (arith, long))
+    ∙ ap (λ ks. get_or row 7 Unset ∷ ks)
+    (drop-cons row 8 Unset (omega (arith, long))
+    ∙ ap (λ ks. get_or row 8 Unset ∷ ks)
+    (drop-cons row 9 Unset (omega (arith, long))
+    ∙ ap (λ ks. get_or row 9 Unset ∷ ks)
+    (drop-cons row 10 Unset (omega (arith, long)) ∙ ap (λ ks. get_or row 10 Unset ∷ ks) (drop_none 11 row (omega (arith, long))))))))
 
 same_row : (o : Option Row) (row : Row) → Some (Some row) ≡ Some o → o ≡ Some row
 same_row o row e = cc

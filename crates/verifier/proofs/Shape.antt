@@ -10,7 +10,9 @@ use Rattle.insn.proofs.Paired.{IsPaired}
 use Rattle.bpfimage.specs.declared.form.FormRule.{FormRule}
 use Rattle.bpfimage.specs.declared.form.FormRule.TheVariants.{TargetOutside, TargetTail, TargetBack, RunsPast}
 use Rattle.bpfimage.specs.Form.{target_of, next_of, slot_at, BreaksRule, IsFormed}
-use Rattle.verifier.specs.Rules.{Row, row_after, row_taken}
+use Rattle.helpers.specs.Calls.{Callee}
+use Rattle.verifier.specs.Registers.{Row}
+use Rattle.verifier.specs.Rules.{row_after, row_taken}
 use Rattle.verifier.specs.Table.{Edge, next_edge, target_edge, edges_from}
 
 -- an instruction of formed code keeps each rule
@@ -131,9 +133,9 @@ target_all code i (Some (pos k)) row h = let l = h (pos k) refl in (subst (Leads
 target_all code i (Some (negsuc k)) row h = tt
 
 -- every edge of an instruction leads to a higher slot that starts one
-pub edges_lead : (code : List Insn) (i : ℕ) (x : Insn) (row : Row) → IsFormed code → NextStarts code → slice_get code i ≡ Some x → AllLead code i (edges_from i row x)
-edges_lead code i x row formed starts at =
-    all_append code i _ _ (next_all code i (next_of i x) (row_after row x) (λ k e. next_leads code i x k formed starts at e)) (target_all code i (target_of i x) (row_taken row x) (λ z e. target_leads code i x z formed at e))
+pub edges_lead : (callee : Callee) (code : List Insn) (i : ℕ) (x : Insn) (row : Row) → IsFormed code → NextStarts code → slice_get code i ≡ Some x → AllLead code i (edges_from callee i row x)
+edges_lead callee code i x row formed starts at =
+    all_append code i _ _ (next_all code i (next_of i x) (row_after callee row x) (λ k e. next_leads code i x k formed starts at e)) (target_all code i (target_of i x) (row_taken row x) (λ z e. target_leads code i x z formed at e))
 
 pub target_edge_at : (z : ℤ) (k : ℕ) (row : Row) → z ≡ pos k → target_edge (Some z) row ≡ (k, row) ∷ []
 target_edge_at z k row e = ap (λ y. target_edge (Some y) row) e
@@ -160,9 +162,9 @@ above_target i (Some (negsuc k)) row h = tt
 same_pos : (j k : ℕ) → pos k ≡ pos j → j ≡ k
 same_pos j k e = cc
 
-pub edges_above : (code : List Insn) (i : ℕ) (x : Insn) (row : Row) → IsFormed code → slice_get code i ≡ Some x → AllAbove i (edges_from i row x)
-edges_above code i x row formed at =
-    above_append i _ _ (above_next i (next_of i x) (row_after row x) (λ k e. next_above i x k e))
+pub edges_above : (callee : Callee) (code : List Insn) (i : ℕ) (x : Insn) (row : Row) → IsFormed code → slice_get code i ≡ Some x → AllAbove i (edges_from callee i row x)
+edges_above callee code i x row formed at =
+    above_append i _ _ (above_next i (next_of i x) (row_after callee row x) (λ k e. next_above i x k e))
     (above_target i (target_of i x) (row_taken row x) (λ k e. let l = target_leads code i x (pos k) formed at e in subst (λ j. i < j) (same_pos l.0 k l.1) l.2.above))
 
 pub next_within : (code : List Insn) (i : ℕ) (x : Insn) (k : ℕ) → IsFormed code → slice_get code i ≡ Some x → next_of i x ≡ Some k → k < length code

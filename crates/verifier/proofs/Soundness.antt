@@ -1,5 +1,5 @@
 -- A formed program of which no slot breaks a rule is safe.
-use Rattle.std.proofs.Common.{◌≡◌, ◌≢◌, ℕ, zero, suc, ℤ, pos, negsuc, ◌<◌, ◌≤◌, Bool, true, false, eqb, List, [], ◌∷◌, ◌++◌, length, take, Option, Some, None, refl, sym, ap, ◌∙◌, subst, inl, inr, ⊎_elim, arith, length-set}
+use Rattle.std.proofs.Common.{◌≡◌, ◌≢◌, ℕ, zero, suc, ℤ, pos, negsuc, ◌<◌, ◌≤◌, Bool, true, false, eqb, List, [], ◌∷◌, ◌++◌, length, take, Option, Some, None, refl, sym, ap, ◌∙◌, subst, inl, inr, ⊎_elim, arith, length-set, length-drop}
 use Rattle.std.specs.Prelude.{slice_get}
 use Rattle.std.proofs.lemmas.List.{length-replicate}
 use Rattle.std.proofs.lemmas.Int.{ints}
@@ -14,12 +14,15 @@ use Rattle.insn.specs.declared.Operand.TheVariants as operand
 use Rattle.insn.specs.declared.Insn.{Insn}
 use Rattle.insn.specs.declared.Insn.TheVariants as insn
 use Rattle.insn.proofs.Paired.{IsPaired}
-use Rattle.memory.specs.State.{State, no_calls, Row as Row_of}
+use Rattle.memory.specs.State.{State, Row as Row_of}
 use Rattle.memory.specs.Step.{Step, Faults, Runs, IsInput, start, instruction_at, starting, instruction_count}
 use Rattle.memory.specs.declared.Fault.{Fault}
 use Rattle.bpfimage.specs.Form.{next_of, target_of}
+use Rattle.helpers.specs.declared.sig.Entry.{Entry}
+use Rattle.helpers.specs.Calls.{Callee, calls_of}
 use Rattle.verifier.specs.Program.{Program, HasLimits, IsSafeProgram}
-use Rattle.verifier.specs.Rules.{Row, entry, refined, row_after, row_taken, rules_of}
+use Rattle.verifier.specs.Registers.{Row, entry}
+use Rattle.verifier.specs.Rules.{callee_in, refined, row_after, row_taken, rules_of}
 use Rattle.verifier.specs.Table.{Edge, next_edge, target_edge, edges_from, edges_of, arrivals, table, broken_with, IsAccepted}
 use Rattle.verifier.proofs.Words.{bytes_zero}
 use Rattle.verifier.proofs.Fits.{FitsRow, IsRow, IsRowIfAny, AreRows, FitsSome, SomeEdge, into_is_row, into_old, into_new}
@@ -36,17 +39,17 @@ refined_is_row c w l (operand.Register r) t row h =
     cond_both (eqb (number l) (number r)) _ _ IsRow (λ _. h) (λ _. length-set _ _ _ ∙ length-set _ _ _ ∙ h)
 refined_is_row c w l (operand.Immediate n) t row h = length-set _ _ _ ∙ h
 
-pub after_is_row : (row : Row) (x : Insn) → IsRow row → IsRow (row_after row x)
-after_is_row row (insn.Alu o w d src) h = length-set _ _ _ ∙ h
-after_is_row row (insn.Swap k n d) h = length-set _ _ _ ∙ h
-after_is_row row (insn.Load size x d r o) h = length-set _ _ _ ∙ h
-after_is_row row (insn.Store size r o src) h = h
-after_is_row row (insn.Jump d) h = h
-after_is_row row (insn.JumpIf c w l r o) h = refined_is_row c w l r false row h
-after_is_row row (insn.Call n) h = h
-after_is_row row insn.Exit h = h
-after_is_row row (insn.Wide d n) h = length-set _ _ _ ∙ h
-after_is_row row insn.Tail h = h
+pub after_is_row : (callee : Callee) (row : Row) (x : Insn) → IsRow row → IsRow (row_after callee row x)
+after_is_row callee row (insn.Alu o w d src) h = length-set _ _ _ ∙ h
+after_is_row callee row (insn.Swap k n d) h = length-set _ _ _ ∙ h
+after_is_row callee row (insn.Load size x d r o) h = length-set _ _ _ ∙ h
+after_is_row callee row (insn.Store size r o src) h = h
+after_is_row callee row (insn.Jump d) h = h
+after_is_row callee row (insn.JumpIf c w l r o) h = refined_is_row c w l r false row h
+after_is_row callee row (insn.Call n) h = simp (length-drop) (omega (arith, h))
+after_is_row callee row insn.Exit h = h
+after_is_row callee row (insn.Wide d n) h = length-set _ _ _ ∙ h
+after_is_row callee row insn.Tail h = h
 
 pub taken_is_row : (row : Row) (x : Insn) → IsRow row → IsRow (row_taken row x)
 taken_is_row row (insn.Alu o w d src) h = h
@@ -73,23 +76,23 @@ target_rows None row h = tt
 target_rows (Some (pos k)) row h = (h, tt)
 target_rows (Some (negsuc k)) row h = tt
 
-edge_rows : (i : ℕ) (row : Row) (x : Insn) → IsRow row → AreRows (edges_from i row x)
-edge_rows i row x h = rows_append _ _ (next_rows (next_of i x) (row_after row x) (after_is_row row x h)) (target_rows (target_of i x) (row_taken row x) (taken_is_row row x h))
+edge_rows : (callee : Callee) (i : ℕ) (row : Row) (x : Insn) → IsRow row → AreRows (edges_from callee i row x)
+edge_rows callee i row x h = rows_append _ _ (next_rows (next_of i x) (row_after callee row x) (after_is_row callee row x h)) (target_rows (target_of i x) (row_taken row x) (taken_is_row row x h))
 
 abbrev IsRowAt : Option (Option Row) → Type 0
 IsRowAt None = Unit {0}
 IsRowAt (Some o) = IsRowIfAny o
 
-edges_are_rows : (i : ℕ) (x : Option Insn) (row : Option (Option Row)) → IsRowAt row → AreRows (edges_of i x row)
-edges_are_rows i None row h = tt
-edges_are_rows i (Some x) None h = tt
-edges_are_rows i (Some x) (Some None) h = tt
-edges_are_rows i (Some x) (Some (Some row)) h = edge_rows i row x h
+edges_are_rows : (sigs : List Entry) (i : ℕ) (x : Option Insn) (row : Option (Option Row)) → IsRowAt row → AreRows (edges_of sigs i x row)
+edges_are_rows sigs i None row h = tt
+edges_are_rows sigs i (Some x) None h = tt
+edges_are_rows sigs i (Some x) (Some None) h = tt
+edges_are_rows sigs i (Some x) (Some (Some row)) h = edge_rows (callee_in sigs x) i row x h
 
 arrival_rows : (p : Program) (rows : List (Option Row)) (n k : ℕ) → ((i : ℕ) → i < n → IsRowAt (slice_get rows i)) → IsRowIfAny (arrivals p rows n k)
 arrival_rows p rows zero k h = cond_both (eqb k 0) _ _ IsRowIfAny (λ _. refl) (λ _. tt)
 arrival_rows p rows (suc n) k h =
-    into_is_row k _ _ (edges_are_rows n (slice_get p.code n) (slice_get rows n) (h n (omega arith))) (arrival_rows p rows n k (λ i lt. h i (omega arith)))
+    into_is_row k _ _ (edges_are_rows p.sigs n (slice_get p.code n) (slice_get rows n) (h n (omega arith))) (arrival_rows p rows n k (λ i lt. h i (omega arith)))
 
 table_rows : (p : Program) (n k : ℕ) → k < n → IsRowAt (slice_get (table p) k)
 table_rows p zero k h = absurd (omega arith)
@@ -101,17 +104,17 @@ table_rows p (suc n) k h =
 
 -- ---- an edge is joined into its slot's row
 
-arrives : (p : Program) (i n k : ℕ) (x : Insn) (row : Row) (vs : List (Option ℕ)) → i < n → slice_get p.code i ≡ Some x → slice_get (table p) i ≡ Some (Some row) → SomeEdge (pos k) vs (edges_from i row x) → FitsSome (arrivals p (table p) n k) vs
+arrives : (p : Program) (i n k : ℕ) (x : Insn) (row : Row) (vs : List (Option ℕ)) → i < n → slice_get p.code i ≡ Some x → slice_get (table p) i ≡ Some (Some row) → SomeEdge (pos k) vs (edges_from (callee_in p.sigs x) i row x) → FitsSome (arrivals p (table p) n k) vs
 arrives p i zero k x row vs lt at here e = absurd (omega arith)
 arrives p i (suc n) k x row vs lt at here e =
     let all : (m : ℕ) → IsRowAt (slice_get (table p) m) = λ m. table_rows p (suc m) m (omega arith) in
-    let edges = edges_are_rows n (slice_get p.code n) (slice_get (table p) n) (all n) in
+    let edges = edges_are_rows p.sigs n (slice_get p.code n) (slice_get (table p) n) (all n) in
     let before = arrival_rows p (table p) n k (λ m _. all m) in
     ⊎_elim
     (λ same. let at' = ap (slice_get p.code) (sym same) ∙ at in
     let here' = ap (slice_get (table p)) (sym same) ∙ here in
     into_new k _ _ vs edges before
-    (subst (λ o. SomeEdge (pos k) vs (edges_of n o (slice_get (table p) n))) (sym at') (subst (λ o. SomeEdge (pos k) vs (edges_of n (Some x) o)) (sym here') (subst (λ j. SomeEdge (pos k) vs (edges_from j row x)) same e))))
+    (subst (λ o. SomeEdge (pos k) vs (edges_of p.sigs n o (slice_get (table p) n))) (sym at') (subst (λ o. SomeEdge (pos k) vs (edges_of p.sigs n (Some x) o)) (sym here') (subst (λ j. SomeEdge (pos k) vs (edges_from (callee_in p.sigs x) j row x)) same e))))
     (λ other. into_old k _ _ vs edges before (arrives p i n k x row vs (omega arith) at here e))
     (cases_eq i n)
 
@@ -152,7 +155,7 @@ module _ (p : Program) (limits : HasLimits p) (paired : IsPaired p.code) (some :
   there : (n : ℕ) (s : State) (g : Stands p n s) → instruction_at p.code s.slot ≡ Some g.here
   there n s g = ap (instruction_at p.code) g.slot ∙ ap starting g.found ∙ starts_there g.here g.starts
 
-  faultless : (n : ℕ) (s : State) → Stands p n s → (f : Fault) → ¬ Faults no_calls p.code s f
+  faultless : (n : ℕ) (s : State) → Stands p n s → (f : Fault) → ¬ Faults (calls_of p.sigs) p.code s f
   faultless n s g f (inl e) = none_there (instruction_at p.code s.slot) g.here e.0 (there n s g)
     where
       none_there : (o : Option Insn) (x : Insn) → o ≡ None → o ≡ Some x → ⊥
@@ -161,13 +164,13 @@ module _ (p : Program) (limits : HasLimits p) (paired : IsPaired p.code) (some :
       let same : e.0 ≡ g.here = same_Some _ _ (sym e.1 ∙ there n s g) in
       no_fault p g.at g.row s limits g.fits g.slot g.memory e.0 (subst (λ x. AllNone (rules_of p g.row x)) (sym same) (rules_kept n s g)) f e.2.stands
 
-  goes_on : (n : ℕ) (s : State) (g : Stands p n s) (t : State) → SomeEdge t.slot t.registers (edges_from g.at g.row g.here) → IsMemory p t.memory → Stands p (suc n) t
+  goes_on : (n : ℕ) (s : State) (g : Stands p n s) (t : State) → SomeEdge t.slot t.registers (edges_from (callee_in p.sigs g.here) g.at g.row g.here) → IsMemory p t.memory → Stands p (suc n) t
   goes_on n s g t e m =
-      let to = lead_any p g.at (edges_from g.at g.row g.here) t.slot t.registers (edges_lead p.code g.at g.here g.row accepted.formed (paired_starts p.code paired) g.found) e in
+      let to = lead_any p g.at (edges_from (callee_in p.sigs g.here) g.at g.row g.here) t.slot t.registers (edges_lead (callee_in p.sigs g.here) p.code g.at g.here g.row accepted.formed (paired_starts p.code paired) g.found) e in
       let k = to.0 in
       let l = to.2 in
       let within = slice_get_within p.code k l.to l.there in
-      let arrived = arrives p g.at k k g.here g.row t.registers l.above g.found g.kinds (subst (λ z. SomeEdge z t.registers (edges_from g.at g.row g.here)) to.1 e) in
+      let arrived = arrives p g.at k k g.here g.row t.registers l.above g.found g.kinds (subst (λ z. SomeEdge z t.registers (edges_from (callee_in p.sigs g.here) g.at g.row g.here)) to.1 e) in
       let next = stand_at p k (arrivals p (table p) k k) t.registers (table_at p k within) arrived in
       record {
         at = k;
@@ -182,10 +185,10 @@ module _ (p : Program) (limits : HasLimits p) (paired : IsPaired p.code) (some :
         steps = omega (arith, counted p.code g.at k g.here g.found g.starts l.above, g.steps);
       }
 
-  one_step : (n : ℕ) (s t : State) → Stands p n s → Step no_calls p.code s t → Stands p (suc n) t
+  one_step : (n : ℕ) (s t : State) → Stands p n s → Step (calls_of p.sigs) p.code s t → Stands p (suc n) t
   one_step n s t g d =
       let same : d.0 ≡ g.here = same_Some _ _ (sym d.1 ∙ there n s g) in
-      let row = subst (λ x. Row_of no_calls x s t) same d.2.row in
+      let row = subst (λ x. Row_of (calls_of p.sigs) x s t) same d.2.row in
       let to : (z : ℤ) → target_of g.at g.here ≡ Some z → (k : ℕ) × (z ≡ pos k) = λ z e. let l = target_leads p.code g.at g.here z accepted.formed g.found e in (l.0, l.1) in
       let l = lands p g.at g.row s limits g.fits g.slot g.memory g.here t (paired.instructions g.at g.here g.found g.starts) to (rules_kept n s g) row in
       goes_on n s g t l.0 l.1
@@ -209,7 +212,7 @@ module _ (p : Program) (limits : HasLimits p) (paired : IsPaired p.code) (some :
         steps = omega arith;
       }
 
-  all_stand : (input : List ℕ) (used : ℕ) → IsInput p.in_len input used → (n : ℕ) (t : State) → Runs no_calls p.code n (start input used p.out_len) t → Stands p n t
+  all_stand : (input : List ℕ) (used : ℕ) → IsInput p.in_len input used → (n : ℕ) (t : State) → Runs (calls_of p.sigs) p.code n (start input used p.out_len) t → Stands p n t
   all_stand input used h zero t e = subst (Stands p 0) e (stands_first input used h)
   all_stand input used h (suc n) t (u, before, last) = one_step n u t (all_stand input used h n u before) last
 

@@ -5,7 +5,7 @@ use Rattle.std.proofs.lemmas.Bool.{cases_lt, cases_eq, cond-true, cond-false, eq
 use Rattle.std.proofs.lemmas.List.{length-replicate}
 use Rattle.std.proofs.lemmas.Option.{same_Some}
 use Rattle.verifier.specs.Program.{Program}
-use Rattle.verifier.specs.Rules.{Row, entry}
+use Rattle.verifier.specs.Registers.{Row, entry}
 use Rattle.verifier.specs.Rows.{row_at, push_one, pushed, IsPass}
 use Rattle.verifier.specs.Table.{Edge, joined, into, edges_of, arrivals, rows_before, table}
 use Rattle.verifier.proofs.Shape.{AllAbove}
@@ -41,8 +41,8 @@ at_rows p (suc n) m h =
 same_below : (p : Program) (rows rows' : List (Option Row)) (n k : ℕ) → ((m : ℕ) → m < n → slice_get rows m ≡ slice_get rows' m) → arrivals p rows n k ≡ arrivals p rows' n k
 same_below p rows rows' zero k h = refl
 same_below p rows rows' (suc n) k h =
-    ap (λ r. into k (edges_of n (slice_get p.code n) r) (arrivals p rows n k)) (h n (omega arith))
-    ∙ ap (into k (edges_of n (slice_get p.code n) (slice_get rows' n))) (same_below p rows rows' n k (λ m lt. h m (omega arith)))
+    ap (λ r. into k (edges_of p.sigs n (slice_get p.code n) r) (arrivals p rows n k)) (h n (omega arith))
+    ∙ ap (into k (edges_of p.sigs n (slice_get p.code n) (slice_get rows' n))) (same_below p rows rows' n k (λ m lt. h m (omega arith)))
 
 pub table_at : (p : Program) (k : ℕ) → k < length p.code → slice_get (table p) k ≡ Some (arrivals p (table p) k k)
 table_at p k h =
@@ -95,7 +95,7 @@ row_here p rows i h lt =
     h.rows_are i (omega (arith, h.long)) ∙ ap (λ n. Some (arrivals p (table p) n i)) m ∙ sym (table_at p i lt)
 
 -- one slot more
-pub pass_more : (p : Program) (rows : List (Option Row)) (i : ℕ) (es : List Edge) → IsPass p rows i → i < length p.code → es ≡ edges_of i (slice_get p.code i) (slice_get (table p) i) → AllAbove i es → IsPass p (pushed rows es) (i + 1)
+pub pass_more : (p : Program) (rows : List (Option Row)) (i : ℕ) (es : List Edge) → IsPass p rows i → i < length p.code → es ≡ edges_of p.sigs i (slice_get p.code i) (slice_get (table p) i) → AllAbove i es → IsPass p (pushed rows es) (i + 1)
 pass_more p rows i es h lt is a =
     let len = length_pushed es rows in
     record {

@@ -11,7 +11,9 @@ use Rattle.std.proofs.Common.{⊎_elim}
 use Rattle.insn.specs.declared.Insn.{Insn}
 use Rattle.bpfimage.specs.Form.{IsFormed}
 use Rattle.verifier.specs.Program.{Program}
-use Rattle.verifier.specs.Rules.{Row, broken_in}
+use Rattle.verifier.specs.Registers.{Row}
+use Rattle.helpers.specs.declared.sig.Entry.{Entry}
+use Rattle.verifier.specs.Rules.{callee_in, broken_in}
 use Rattle.verifier.specs.Rows.{pushed, IsPass}
 use Rattle.verifier.specs.Table.{edges_from, edges_of, table, broken_with, broken_at, IsAccepted}
 use Rattle.verifier.specs.declared.rule.KindRule.{KindRule}
@@ -22,9 +24,9 @@ no_rule : (p : Program) (o : Option Insn) → broken_with p o (Some None) ≡ No
 no_rule p None = refl
 no_rule p (Some x) = refl
 
-no_edges : (i : ℕ) (o : Option Insn) → [] ≡ edges_of i o (Some None)
-no_edges i None = refl
-no_edges i (Some x) = refl
+no_edges : (sigs : List Entry) (i : ℕ) (o : Option Insn) → [] ≡ edges_of sigs i o (Some None)
+no_edges sigs i None = refl
+no_edges sigs i (Some x) = refl
 
 module _ (p : Program) (rows : List (Option Row)) (i : ℕ) (pass : IsPass p rows i) (within : i < length p.code) where
   kinds_are : (o : Option Row) → slice_get rows i ≡ Some o → slice_get (table p) i ≡ Some o
@@ -35,15 +37,15 @@ module _ (p : Program) (rows : List (Option Row)) (i : ℕ) (pass : IsPass p row
   none_unbroken e = ap (broken_with p (slice_get p.code i)) (kinds_are None e) ∙ no_rule p (slice_get p.code i)
 
   pub none_pass : slice_get rows i ≡ Some None → IsPass p rows (i + 1)
-  none_pass e = pass_more p rows i [] pass within (no_edges i (slice_get p.code i) ∙ ap (edges_of i (slice_get p.code i)) (sym (kinds_are None e))) tt
+  none_pass e = pass_more p rows i [] pass within (no_edges p.sigs i (slice_get p.code i) ∙ ap (edges_of p.sigs i (slice_get p.code i)) (sym (kinds_are None e))) tt
 
   -- a slot that some reach
   pub broken_here : (row : Row) (x : Insn) → slice_get rows i ≡ Some (Some row) → slice_get p.code i ≡ Some x → broken_at p i ≡ broken_in p row x
   broken_here row x e at = ap (λ o. broken_with p o (slice_get (table p) i)) at ∙ ap (broken_with p (Some x)) (kinds_are (Some row) e)
 
-  pub pass_here : (row : Row) (x : Insn) → IsFormed p.code → slice_get rows i ≡ Some (Some row) → slice_get p.code i ≡ Some x → IsPass p (pushed rows (edges_from i row x)) (i + 1)
+  pub pass_here : (row : Row) (x : Insn) → IsFormed p.code → slice_get rows i ≡ Some (Some row) → slice_get p.code i ≡ Some x → IsPass p (pushed rows (edges_from (callee_in p.sigs x) i row x)) (i + 1)
   pass_here row x formed e at =
-      pass_more p rows i (edges_from i row x) pass within (ap (λ r. edges_of i (Some x) r) (sym (kinds_are (Some row) e)) ∙ ap (λ o. edges_of i o (slice_get (table p) i)) (sym at)) (edges_above p.code i x row formed at)
+      pass_more p rows i (edges_from (callee_in p.sigs x) i row x) pass within (ap (λ r. edges_of p.sigs i (Some x) r) (sym (kinds_are (Some row) e)) ∙ ap (λ o. edges_of p.sigs i o (slice_get (table p) i)) (sym at)) (edges_above (callee_in p.sigs x) p.code i x row formed at)
 
 past_code : (p : Program) (k : ℕ) → length p.code ≤ k → broken_at p k ≡ None
 past_code p k h = ap (λ o. broken_with p o (slice_get (table p) k)) (slice_get_past p.code k h)

@@ -40,10 +40,13 @@ bytes_low zero v k = omega arith
 bytes_low (suc n) v zero = mod-lt v (omega arith)
 bytes_low (suc n) v (suc k) = bytes_low n (v / 256) k
 
+pub bytes_replicate : (n b : ℕ) → b < 256 → AreBytes (replicate n b)
+bytes_replicate zero b h k = omega arith
+bytes_replicate (suc n) b h zero = h
+bytes_replicate (suc n) b h (suc k) = bytes_replicate n b h k
+
 pub bytes_zero : (n : ℕ) → AreBytes (replicate n 0)
-bytes_zero zero k = omega arith
-bytes_zero (suc n) zero = omega arith
-bytes_zero (suc n) (suc k) = bytes_zero n k
+bytes_zero n = bytes_replicate n 0 (omega arith)
 
 pub bytes_overwritten : (bytes : List ℕ) (at : ℕ) (new : List ℕ) → AreBytes bytes → AreBytes new → AreBytes (overwritten bytes at new)
 bytes_overwritten bytes at new h g =

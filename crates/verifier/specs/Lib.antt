@@ -1,5 +1,8 @@
 pub mod Numbers
 pub mod Program
+pub mod Candidates
+pub mod Registers
+pub mod CallKinds
 pub mod Rules
 pub mod Table
 pub mod Rows

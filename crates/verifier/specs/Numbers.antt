@@ -2,7 +2,7 @@
 use Rattle.std.specs.Prelude.{ℕ, ◌+◌, Option, None, Some}
 use Rattle.bpfimage.specs.Form.{rank}
 use Rattle.verifier.specs.declared.rule.KindRule.{KindRule}
-use Rattle.verifier.specs.declared.rule.KindRule.TheVariants.{UnsetRead, FrameWritten, PointerOperand, FarOffset, OutsideWindow, InputStored, PointerStored, UnknownHelper, PointerAnswer}
+use Rattle.verifier.specs.declared.rule.KindRule.TheVariants.{UnsetRead, FrameWritten, PointerOperand, FarOffset, OutsideWindow, InputStored, PointerStored, UnknownHelper, ArgumentRule, PointerAnswer}
 use Rattle.verifier.specs.declared.rule.Rule.{Rule}
 use Rattle.verifier.specs.declared.rule.Rule.TheVariants.{Form, Kinds, NoMemory}
 
@@ -15,6 +15,7 @@ kind_rule_number OutsideWindow = 24
 kind_rule_number InputStored = 25
 kind_rule_number PointerStored = 26
 kind_rule_number UnknownHelper = 27
+kind_rule_number ArgumentRule = 28
 kind_rule_number PointerAnswer = 29
 
 abbrev pub rule_number : Rule → Option ℕ

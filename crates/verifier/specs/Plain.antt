@@ -11,7 +11,7 @@ use Rattle.memory.specs.declared.Region.{Region}
 use Rattle.memory.specs.declared.Region.TheVariants.{Stack, Input, Output}
 use Rattle.bpfimage.specs.Form.{IsPath, IsFormed}
 use Rattle.verifier.specs.Program.{Program}
-use Rattle.verifier.specs.Rules.{first_offset, end_offset}
+use Rattle.verifier.specs.Registers.{first_offset, end_offset}
 
 -- a register of a list
 abbrev pub IsIn : Register → List Register → Type 0

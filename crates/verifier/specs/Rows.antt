@@ -1,7 +1,7 @@
 -- A list of rows with edges joined in.
 use Rattle.std.specs.Prelude.{◌≡◌, ℕ, zero, suc, ◌<◌, min, List, [], ◌∷◌, Option, Some, None, length, slice_get, slice_set}
 use Rattle.verifier.specs.Program.{Program}
-use Rattle.verifier.specs.Rules.{Row}
+use Rattle.verifier.specs.Registers.{Row}
 use Rattle.verifier.specs.Table.{Edge, joined, arrivals, table, AreKinds}
 
 abbrev pub row_at : List (Option Row) → ℕ → Option Row

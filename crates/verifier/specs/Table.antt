@@ -6,7 +6,10 @@ use Rattle.ranges.specs.Kinds.{IsKind}
 use Rattle.ranges.specs.Transfer.{join_of}
 use Rattle.ranges.specs.declared.kind.Kind.TheVariants.{Unset}
 use Rattle.verifier.specs.Program.{Program}
-use Rattle.verifier.specs.Rules.{Row, entry, row_after, row_taken, broken_in}
+use Rattle.verifier.specs.Registers.{Row, entry}
+use Rattle.helpers.specs.declared.sig.Entry.{Entry}
+use Rattle.helpers.specs.Calls.{Callee}
+use Rattle.verifier.specs.Rules.{callee_in, row_after, row_taken, broken_in}
 use Rattle.verifier.specs.declared.rule.KindRule.{KindRule}
 
 -- ---- edges
@@ -24,9 +27,9 @@ target_edge None row = []
 target_edge (Some (pos k)) row = (k, row) ∷ []
 target_edge (Some (negsuc k)) row = []
 
--- the edges of an instruction at slot i, which a row of kinds reaches: to the next slot, and to the target of its jump
-abbrev pub edges_from : ℕ → Row → Insn → List Edge
-edges_from i row x = next_edge (next_of i x) (row_after row x) ++ target_edge (target_of i x) (row_taken row x)
+-- the edges of an instruction at slot i, with what it calls, which a row of kinds reaches: to the next slot, and to the target of its jump
+abbrev pub edges_from : Callee → ℕ → Row → Insn → List Edge
+edges_from callee i row x = next_edge (next_of i x) (row_after callee row x) ++ target_edge (target_of i x) (row_taken row x)
 
 -- ---- joins
 
@@ -47,14 +50,14 @@ into k (e ∷ es) before = into k es (if e.0 == k then joined before e.1 else be
 -- ---- the table
 
 -- the edges of slot i, if some row of kinds reaches it
-abbrev pub edges_of : ℕ → Option Insn → Option (Option Row) → List Edge
-edges_of i (Some x) (Some (Some row)) = edges_from i row x
-edges_of i x row = []
+abbrev pub edges_of : List Entry → ℕ → Option Insn → Option (Option Row) → List Edge
+edges_of sigs i (Some x) (Some (Some row)) = edges_from (callee_in sigs x) i row x
+edges_of sigs i x row = []
 
 -- the join over all edges into slot k from the first n slots of a table; slot 0 has the entry too
 abbrev pub arrivals : Program → List (Option Row) → ℕ → ℕ → Option Row
 arrivals p rows zero k = if k == 0 then Some (entry p) else None
-arrivals p rows (suc n) k = into k (edges_of n (slice_get p.code n) (slice_get rows n)) (arrivals p rows n k)
+arrivals p rows (suc n) k = into k (edges_of p.sigs n (slice_get p.code n) (slice_get rows n)) (arrivals p rows n k)
 
 -- the rows of the first n slots: each is the join over all edges into its slot, which come from lower ones
 abbrev pub rows_before : Program → ℕ → List (Option Row)

@@ -5,10 +5,13 @@ ghost use Rattle.alu.specs.Value.{bits, wrapped};
 ghost use Rattle.insn.specs.Encoding.{size_bytes};
 ghost use Rattle.bpfimage.specs.Form.{next_of, target_of};
 ghost use Rattle.ranges.specs.Kinds.{IsKind};
-ghost use Rattle.verifier.specs.Rules.{kind_at, with_kind, kind_from, loaded, refined, row_after, row_taken};
+ghost use Rattle.verifier.specs.Registers.{kind_at, with_kind, kind_from};
+ghost use Rattle.verifier.specs.CallKinds.{callee_from};
+ghost use Rattle.verifier.specs.Rules.{loaded, refined, row_after, row_taken};
 ghost use Rattle.verifier.specs.Table.{join_rows, joined, edges_from, AreKinds};
 ghost use Rattle.verifier.specs.Rows.{push_one, pushed, AreRowKinds};
 
+use crate::callee::{Called, row_after_call};
 use alu::{Cond, Width};
 use bpfimage::form::{next_of, target_of};
 use insn::{Extend, Insn, Operand, Register, Size};
@@ -102,9 +105,9 @@ fn refined(cond: Cond, width: Width, left: Register, right: Operand, taken: bool
 }
 
 /// The kinds where an instruction goes on to the next slot.
-fn row_after(row: &Row, insn: Insn) -> Row
+fn row_after(callee: &Called, row: &Row, insn: Insn) -> Row
     requires { AreKinds row.now }
-    ensures table { result ≡ row_after row.now insn }
+    ensures table { result ≡ row_after (callee_from callee.now) row.now insn }
     ensures kinds { AreKinds result }
 {
     match insn {
@@ -137,6 +140,7 @@ fn row_after(row: &Row, insn: Insn) -> Row
             right,
             ..
         } => refined(cond, width, left, right, false, row),
+        Insn::Call { .. } => row_after_call(row, callee),
         Insn::Wide { dst, value } => with_kind(row, dst, one_number(value)),
         _ => *row,
     }
@@ -189,18 +193,18 @@ fn push_edge(rows: &mut Vec<Option<Row>>, to: usize, row: &Row)
 }
 
 /// Joins each of an instruction's edges into its target's row.
-pub fn push_edges(rows: &mut Vec<Option<Row>>, at: usize, row: &Row, insn: Insn)
+pub fn push_edges(rows: &mut Vec<Option<Row>>, callee: &Called, at: usize, row: &Row, insn: Insn)
     requires small { at < 4096 }
     requires next { (k : ℕ) → next_of at insn ≡ Some k → k < vec_len rows.old }
     requires target { (z : ℤ) → target_of at insn ≡ Some z → (k : ℕ) × (z ≡ pos k) × (k < vec_len rows.old) }
     requires kinds { AreKinds row.now }
     requires old { AreRowKinds rows.old.items }
-    ensures items { rows.new.items ≡ pushed rows.old.items (edges_from at row.now insn) }
+    ensures items { rows.new.items ≡ pushed rows.old.items (edges_from (callee_from callee.now) at row.now insn) }
     ensures len { vec_len rows.new ≡ vec_len rows.old }
     ensures kinds { AreRowKinds rows.new.items }
 {
     if let Some(next) = next_of(at, insn) {
-        push_edge(rows, next, &row_after(row, insn));
+        push_edge(rows, next, &row_after(callee, row, insn));
     }
     if let Some(target) = target_of(at, insn) {
         push_edge(rows, target as usize, &row_taken(row, insn));

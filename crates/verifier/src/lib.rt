@@ -1,6 +1,10 @@
 //! The verifier: which programs are accepted, and that these never go wrong.
 #![tactic(auto)]
 
+#[cfg(test)]
+mod call_rows;
+mod callee;
+mod candidate;
 mod kinds;
 #[cfg(test)]
 mod rows;
@@ -8,6 +12,7 @@ pub mod rule;
 mod rules;
 pub mod verified;
 pub mod verifying;
+mod windows;
 
 pub use bpfimage::{FormRule, Image, ImageFault, ImageKind, raw_image, read_image};
 pub use rule::{KindRule, Refused, Rule};

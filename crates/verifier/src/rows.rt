@@ -1,17 +1,18 @@
 //! Programs, and what the verifier tells of them.
 use crate::{ImageFault, raw_image, read_image, verify};
+use helpers::Sigs;
 use std::alloc::Global;
 use std::test::Fail;
 
 /// What is told of a program: how many slots it has, or the rule that it breaks and where.
 #[derive(Clone, Copy, Debug, PartialEq, Eq)]
-enum Told {
+pub enum Told {
     Accepted(usize),
     Refused { number: Option<u8>, slot: u32 },
 }
 
 /// A refusal by a rule's number.
-fn refused(number: u8, slot: u32) -> Told {
+pub fn refused(number: u8, slot: u32) -> Told {
     Told::Refused {
         number: Some(number),
         slot,
@@ -19,13 +20,13 @@ fn refused(number: u8, slot: u32) -> Told {
 }
 
 /// What is told of an image, or of raw code.
-fn verdict_of(alloc: Global, bytes: &[u8]) -> Result<Told, ImageFault> {
+pub fn verdict_of(alloc: Global, bytes: &[u8], sigs: &Sigs) -> Result<Told, ImageFault> {
     let image = if bytes.starts_with(b"RBPF") {
         read_image(alloc, bytes)?
     } else {
         raw_image(alloc, bytes)?
     };
-    match verify(alloc, image) {
+    match verify(alloc, image, sigs) {
         Ok(verified) => Ok(Told::Accepted(verified.image().code.len())),
         Err(refused) => Ok(Told::Refused {
             number: refused.rule.number(),
@@ -34,9 +35,9 @@ fn verdict_of(alloc: Global, bytes: &[u8]) -> Result<Told, ImageFault> {
     }
 }
 
-const EXIT: [u8; 8] = [0x95, 0, 0, 0, 0, 0, 0, 0];
+pub const EXIT: [u8; 8] = [0x95, 0, 0, 0, 0, 0, 0, 0];
 
-const CLEAR: [u8; 8] = [0xb7, 0, 0, 0, 0, 0, 0, 0];
+pub const CLEAR: [u8; 8] = [0xb7, 0, 0, 0, 0, 0, 0, 0];
 
 const NOTHING: [u8; 8] = [0x05, 0, 0, 0, 0, 0, 0, 0];
 /// The head of an image with a window of 256 bytes as its input, and none as its output.
@@ -50,7 +51,7 @@ fn tells(
     code: &[[u8; 8]],
     want: Told,
 ) -> Result<(), Fail> {
-    let got = verdict_of(alloc, code.as_flattened())?;
+    let got = verdict_of(alloc, code.as_flattened(), &Sigs::new(alloc))?;
     assert_eq!(rt; got, want, "{name}");
     Ok(())
 }
@@ -250,8 +251,8 @@ fn raw_programs(rt: HostRuntime) -> Result<(), Fail> {
             refused(26, 1),
         ),
         (
-            "call",
-            [CLEAR, [0x85, 0, 0, 0, 1, 0, 0, 0], NOTHING, NOTHING, EXIT],
+            "unknown helper",
+            [CLEAR, [0x85, 0, 0, 0, 4, 0, 0, 0], NOTHING, NOTHING, EXIT],
             refused(27, 1),
         ),
         (
@@ -315,7 +316,7 @@ fn with_input(
     let mut bytes = Vec::new(alloc);
     bytes.extend_from_slice(&HEAD)?;
     bytes.extend_from_slice(code.as_flattened())?;
-    let got = verdict_of(alloc, &bytes)?;
+    let got = verdict_of(alloc, &bytes, &Sigs::new(alloc))?;
     assert_eq!(rt; got, want, "{name}");
     Ok(())
 }

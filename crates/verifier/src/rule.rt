@@ -23,6 +23,8 @@ pub enum KindRule {
     PointerStored,
     /// V27: no helper has the number.
     UnknownHelper,
+    /// V28: an argument of a call that its helper is not known to take.
+    ArgumentRule,
     /// V29: the answer is a pointer.
     PointerAnswer,
 }
@@ -62,6 +64,7 @@ impl KindRule {
             KindRule::InputStored => 25,
             KindRule::PointerStored => 26,
             KindRule::UnknownHelper => 27,
+            KindRule::ArgumentRule => 28,
             KindRule::PointerAnswer => 29,
         }
     }

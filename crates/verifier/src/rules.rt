@@ -1,17 +1,23 @@
 //! The rules over kinds, at one slot.
 
-ghost use Rattle.std.specs.Prelude.{◌≡◌, ◌<◌, ◌≤◌, ◌+◌, ◌-◌, ◌^◌, ◌∷◌, ℕ, ℤ, pos, negsuc, List, Option, Some, None, int_le, ◌≤ℤ◌, ◌+ℤ◌, ◌&&◌, ◌||◌};
+ghost use Rattle.std.specs.Prelude.{◌≡◌, ◌∷◌, ◌||◌, ℕ, List, Option, Some, None};
 ghost use Rattle.insn.specs.Encoding.{size_bytes};
-ghost use Rattle.memory.specs.State.{no_calls, reads, writes, operand_reads};
+ghost use Rattle.insn.specs.declared.Insn.TheVariants as insn;
+ghost use Rattle.memory.specs.State.{no_calls, writes, operand_reads};
+ghost use Rattle.helpers.specs.Calls.{Unknown};
 ghost use Rattle.ranges.specs.Kinds.{IsKind};
-ghost use Rattle.verifier.specs.Program.{program_of};
-ghost use Rattle.verifier.specs.Rules.{kind_at, kind_from, is_unset, is_pointer, is_frame, any_unset, first_offset, end_offset, is_inside, bad_result, first_of, class_rules, broken_in};
+ghost use Rattle.verifier.specs.Candidates.{program_in};
+ghost use Rattle.verifier.specs.Registers.{kind_at, kind_from, is_unset, is_pointer, any_unset, is_inside};
+ghost use Rattle.verifier.specs.CallKinds.{callee_from};
+ghost use Rattle.verifier.specs.Rules.{is_frame, bad_result, first_of, reads_by, call_rules, class_rules, rules_by};
 ghost use Rattle.verifier.specs.Table.{AreKinds};
 
+use crate::callee::{Called, is_argument_unset, is_given};
+use crate::candidate::Candidate;
 use crate::kinds::{Row, kind_of, kind_of_operand};
 use crate::rule::KindRule;
+use crate::windows::is_inside;
 use alu::Op;
-use bpfimage::Image;
 use insn::{Insn, Operand, Register, Size};
 use memory::Region;
 use ranges::{Bad, Kind, transfer, transfer_swap};
@@ -34,8 +40,8 @@ fn is_operand_unset(row: &Row, operand: Operand) -> bool
 }
 
 /// Whether an instruction reads a register that is not known to be set.
-fn reads_unset(row: &Row, insn: Insn) -> bool
-    ensures { result ≡ any_unset row.now (reads no_calls insn) }
+fn reads_unset(callee: &Called, row: &Row, insn: Insn) -> bool
+    ensures { result ≡ any_unset row.now (reads_by (callee_from callee.now) insn) }
 {
     match insn {
         Insn::Alu {
@@ -49,7 +55,8 @@ fn reads_unset(row: &Row, insn: Insn) -> bool
         Insn::Store { base, src, .. } => is_unset(row, base) || is_operand_unset(row, src),
         Insn::JumpIf { left, right, .. } => is_unset(row, left) || is_operand_unset(row, right),
         Insn::Exit => is_unset(row, Register::R0),
-        Insn::Jump { .. } | Insn::Call { .. } | Insn::Wide { .. } | Insn::Tail => false,
+        Insn::Call { .. } => is_argument_unset(row, callee),
+        Insn::Jump { .. } | Insn::Wide { .. } | Insn::Tail => false,
     }
 }
 
@@ -66,47 +73,12 @@ fn writes_frame(insn: Insn) -> bool
     }
 }
 
-/// The offset of a window's first byte.
-fn first_offset(region: Region) -> i64
-    ensures { result ≡ first_offset region }
-{
-    match region {
-        Region::Stack => -512,
-        Region::Input | Region::Output => 0,
-    }
-}
-
-/// The offset of a window's end.
-fn end_offset(image: &Image, region: Region) -> i64
-    ensures { result ≡ end_offset (program_of image.now) region }
-{
-    match region {
-        Region::Stack => 0,
-        Region::Input => i64::from(image.in_len),
-        Region::Output => i64::from(image.out_len),
-    }
-}
-
-/// Whether an access through a pointer lies in its window.
-fn lies_inside(first: i64, end: i64, lo: i64, hi: i64, offset: i16, size: i64) -> bool
-    requires { (negsuc (2 ^ 20 - 1) ≤ℤ lo) × (lo ≤ℤ hi) × (hi ≤ℤ pos (2 ^ 20)) × (pos 0 ≤ℤ size) × (size ≤ℤ pos 8) }
-    ensures { result ≡ (int_le first (lo +ℤ offset) && int_le (hi +ℤ offset +ℤ size) end) }
-{
-    let offset = i64::from(offset);
-    first <= lo + offset && hi + offset + size <= end
-}
-
-/// Whether an access lies in its window.
-fn is_inside(image: &Image, kind: Kind, offset: i16, size: Size) -> bool
+/// Whether a load or store lies in its window.
+fn is_access_inside(program: &Candidate, kind: Kind, offset: i16, size: Size) -> bool
     requires { IsKind kind }
-    ensures { result ≡ is_inside (program_of image.now) kind offset (size_bytes size) }
+    ensures { result ≡ is_inside (program_in program.now) kind offset (size_bytes size) }
 {
-    let Kind::Ptr { region, lo, hi } = kind else {
-        return false;
-    };
-    let first = first_offset(region);
-    let end = end_offset(image, region);
-    lies_inside(first, end, lo, hi, offset, size.bytes() as i64)
+    is_inside(program, kind, offset, size.bytes() as u32)
 }
 
 /// The rule that a refused operation breaks.
@@ -122,7 +94,7 @@ fn bad_rule(outcome: Result<Kind, Bad>) -> Option<KindRule>
 
 /// The first rule that a store breaks, of those that only it can break.
 fn store_rule(
-    image: &Image,
+    program: &Candidate,
     row: &Row,
     size: Size,
     base: Register,
@@ -130,10 +102,10 @@ fn store_rule(
     src: Operand,
 ) -> Option<KindRule>
     requires kinds { AreKinds row.now }
-    ensures { result ≡ first_of (class_rules (program_of image.now) row.now (Insn.Store size base offset src)) }
+    ensures { result ≡ first_of (class_rules (program_in program.now) Unknown row.now (Insn.Store size base offset src)) }
 {
     let address = kind_of(row, base);
-    if !is_inside(image, address, offset, size) {
+    if !is_access_inside(program, address, offset, size) {
         return Some(KindRule::OutsideWindow);
     }
     if matches!(
@@ -151,10 +123,25 @@ fn store_rule(
     }
 }
 
-/// The first rule that an instruction breaks, of those that its class can break.
-fn class_rule(image: &Image, row: &Row, insn: Insn) -> Option<KindRule>
+/// The first rule that a call breaks, of those that only it can break.
+fn call_rule(program: &Candidate, callee: &Called, row: &Row) -> Option<KindRule>
     requires kinds { AreKinds row.now }
-    ensures { result ≡ first_of (class_rules (program_of image.now) row.now insn) }
+    ensures { result ≡ first_of (call_rules (program_in program.now) (callee_from callee.now) row.now) }
+{
+    if matches!(callee, Called::Unknown) {
+        return Some(KindRule::UnknownHelper);
+    }
+    if is_given(program, callee, row) {
+        None
+    } else {
+        Some(KindRule::ArgumentRule)
+    }
+}
+
+/// The first rule that an instruction breaks, of those that its class can break.
+fn class_rule(program: &Candidate, callee: &Called, row: &Row, insn: Insn) -> Option<KindRule>
+    requires kinds { AreKinds row.now }
+    ensures { result ≡ first_of (class_rules (program_in program.now) (callee_from callee.now) row.now insn) }
 {
     match insn {
         Insn::Alu {
@@ -170,7 +157,7 @@ fn class_rule(image: &Image, row: &Row, insn: Insn) -> Option<KindRule>
             offset,
             ..
         } => {
-            if is_inside(image, kind_of(row, base), offset, size) {
+            if is_access_inside(program, kind_of(row, base), offset, size) {
                 None
             } else {
                 Some(KindRule::OutsideWindow)
@@ -181,14 +168,14 @@ fn class_rule(image: &Image, row: &Row, insn: Insn) -> Option<KindRule>
             base,
             offset,
             src,
-        } => store_rule(image, row, size, base, offset, src),
+        } => store_rule(program, row, size, base, offset, src),
         Insn::JumpIf { left, right, .. } => {
             match (kind_of(row, left), kind_of_operand(row, right)) {
                 (Kind::Ptr { .. }, _) | (_, Kind::Ptr { .. }) => Some(KindRule::PointerOperand),
                 _ => None,
             }
         }
-        Insn::Call { .. } => Some(KindRule::UnknownHelper),
+        Insn::Call { .. } => call_rule(program, callee, row),
         Insn::Exit => match kind_of(row, Register::R0) {
             Kind::Ptr { .. } => Some(KindRule::PointerAnswer),
             _ => None,
@@ -197,16 +184,16 @@ fn class_rule(image: &Image, row: &Row, insn: Insn) -> Option<KindRule>
     }
 }
 
-/// The lowest rule that an instruction breaks at a row of kinds.
-pub fn broken_rule(image: &Image, row: &Row, insn: Insn) -> Option<KindRule>
+/// The lowest rule that an instruction, with what it calls, breaks at a row of kinds.
+pub fn broken_rule(program: &Candidate, callee: &Called, row: &Row, insn: Insn) -> Option<KindRule>
     requires kinds { AreKinds row.now }
-    ensures { result ≡ broken_in (program_of image.now) row.now insn }
+    ensures { result ≡ first_of (rules_by (program_in program.now) (callee_from callee.now) row.now insn) }
 {
-    if reads_unset(row, insn) {
+    if reads_unset(callee, row, insn) {
         return Some(KindRule::UnsetRead);
     }
     if writes_frame(insn) {
         return Some(KindRule::FrameWritten);
     }
-    class_rule(image, row, insn)
+    class_rule(program, callee, row, insn)
 }

@@ -1,6 +1,6 @@
 use Rattle.std.proofs.Common.{ap, ◌∙◌, ⊎_elim, arith}
 use Rattle.std.proofs.lemmas.Bool.{cases_eq}
-use Rattle.verifier.specs.Program.{program_of}
+use Rattle.verifier.specs.Candidates.{program_in}
 use Rattle.verifier.specs.Table.{broken_at}
 use Rattle.verifier.proofs.Visits.{all_visited}
 use Rattle.verifier.proofs.verifying.check_kinds.Goals as goal
@@ -9,9 +9,9 @@ pub loop-at-preserved : goal.loop-at-preserved
 loop-at-preserved c = record {
   pass = c.in_default-visit.ensures.pass;
   kinds = c.in_default-visit.ensures.kinds;
-  unbroken = λ k lt. ⊎_elim (λ same. ap (broken_at (program_of c.args.image.now)) same ∙ c.in_default-visit.ensures.unbroken) (λ other. c.loop-at.invariant.unbroken k (omega arith)) (cases_eq k c.loop-at.at);
+  unbroken = λ k lt. ⊎_elim (λ same. ap (broken_at (program_in c.args.program.now)) same ∙ c.in_default-visit.ensures.unbroken) (λ other. c.loop-at.invariant.unbroken k (omega arith)) (cases_eq k c.loop-at.at);
 }
 
 pub returns-clause-ok : goal.returns-clause-ok
 returns-clause-ok c =
-    all_visited (program_of c.args.image.now) c.loop-at.at c.requires (omega (arith, c.len-at-end.ensures, c.args.image.now.code.ok.0, c.loop-at-test.false)) c.loop-at.invariant.unbroken
+    all_visited (program_in c.args.program.now) c.loop-at.at c.requires (omega (arith, c.len-at-end.ensures, c.args.program.now.image.code.ok.0, c.loop-at-test.false)) c.loop-at.invariant.unbroken

@@ -3,6 +3,8 @@ use Rattle.std.proofs.Math.Logic.{∥∥₁_elim}
 use Rattle.std.proofs.Props.{props}
 use Rattle.insn.proofs.Paired.{code_paired}
 use Rattle.verifier.specs.Program.{program_of, IsSafeProgram}
+use Rattle.verifier.specs.Table.{IsAccepted}
+use Rattle.verifier.specs.Verdict.{IsRefused}
 use Rattle.verifier.proofs.Soundness.{safe}
 use Rattle.verifier.proofs.Visits.{only_memory}
 use Rattle.verifier.proofs.Shape.{NextStarts, paired_starts}
@@ -11,29 +13,46 @@ use Rattle.verifier.proofs.PlainWalks.{accepted_well_behaved}
 use Rattle.std.proofs.lemmas.Result.{err_from_is_err_and}
 use Rattle.verifier.proofs.verifying.verify.Goals as goal
 
+pub returns-in_err-check_form-clause-only : goal.returns-in_err-check_form-clause-only
+returns-in_err-check_form-clause-only c = λ accepted.
+    let p = program_of c.args.image c.args.sigs.now in
+    let e = err_from_is_err_and c.from_residual.result c.from_residual.ensures.1 in
+    let fault = c.in_err-check_form.field-0.0 in
+    rw (e.1, e.2) (only_memory p fault.rule fault.slot (c.in_err-check_form.ensures.refused c.args.sigs.now) (λ no. no accepted))
+
+pub returns-in_err-check_form-clause-plain_only : goal.returns-in_err-check_form-clause-plain_only
+returns-in_err-check_form-clause-plain_only c = λ plain good.
+    let p = program_of c.args.image c.args.sigs.now in
+    let e = err_from_is_err_and c.from_residual.result c.from_residual.ensures.1 in
+    let fault = c.in_err-check_form.field-0.0 in
+    let starts : NextStarts p.code = ∥∥₁_elim c.args.image.is_code (hlevel props) (λ code. paired_starts p.code (code_paired p.code code)) in
+    rw (e.1, e.2) (only_memory p fault.rule fault.slot (c.in_err-check_form.ensures.refused c.args.sigs.now) (λ no. no (well_behaved_accepted p c.args.image.some_slots starts plain good)))
+
+pub returns-in_err-check_kinds-clause-plain_only : goal.returns-in_err-check_kinds-clause-plain_only
+returns-in_err-check_kinds-clause-plain_only c = λ plain good.
+    let p = program_of c.args.image c.args.sigs.now in
+    let e = err_from_is_err_and c.from_residual-in_err-check_kinds.result c.from_residual-in_err-check_kinds.ensures.1 in
+    let fault = c.in_err-check_kinds.field-0.0 in
+    let starts : NextStarts p.code = ∥∥₁_elim c.args.image.is_code (hlevel props) (λ code. paired_starts p.code (code_paired p.code code)) in
+    let refused = subst (λ sigs. IsRefused (program_of c.args.image sigs) fault.rule fault.slot) c.in-Ok.ensures c.in_err-check_kinds.ensures.refused in
+    rw (e.1, e.2) (only_memory p fault.rule fault.slot refused (λ no. no (well_behaved_accepted p c.args.image.some_slots starts plain good)))
+
 pub new-requires : goal.new-requires
 new-requires c =
-    let p = program_of c.args.image in
+    let p = program_of c.args.image c.in-Ok.sigs in
     ∥∥₁_elim c.args.image.is_code (hlevel props)
-    (λ code. safe p record { slots = c.args.image.few_slots; input = c.args.image.in_small; output = c.args.image.out_small } (code_paired p.code code) c.args.image.some_slots c.in_ok-check.ensures.ok)
+    (λ code. safe p record { slots = c.args.image.few_slots; input = c.args.image.in_small; output = c.args.image.out_small } (code_paired p.code code) c.args.image.some_slots c.in_ok-check_kinds.ensures.ok)
 
 pub returns-clause-safe : goal.returns-clause-safe
 returns-clause-safe c =
-    let p = program_of c.args.image in
+    let p = program_of c.args.image c.in-Ok.sigs in
     subst IsSafeProgram (sym c.new.ensures)
     (∥∥₁_elim c.args.image.is_code (hlevel props)
-    (λ code. safe p record { slots = c.args.image.few_slots; input = c.args.image.in_small; output = c.args.image.out_small } (code_paired p.code code) c.args.image.some_slots c.in_ok-check.ensures.ok))
-
-pub returns-in_err-check-clause-plain_only : goal.returns-in_err-check-clause-plain_only
-returns-in_err-check-clause-plain_only c = λ plain good.
-    let p = program_of c.args.image in
-    let e = err_from_is_err_and c.from_residual.result c.from_residual.ensures.1 in
-    let fault = c.in_err-check.field-0.0 in
-    let starts : NextStarts p.code = ∥∥₁_elim c.args.image.is_code (hlevel props) (λ code. paired_starts p.code (code_paired p.code code)) in
-    rw (e.1, e.2) (only_memory p fault.rule fault.slot c.in_err-check.ensures.refused (λ no. no (well_behaved_accepted p c.args.image.some_slots starts plain good)))
+    (λ code. safe p record { slots = c.args.image.few_slots; input = c.args.image.in_small; output = c.args.image.out_small } (code_paired p.code code) c.args.image.some_slots c.in_ok-check_kinds.ensures.ok))
 
 pub returns-clause-plain_accepted : goal.returns-clause-plain_accepted
 returns-clause-plain_accepted c = λ plain.
-    let p = program_of c.args.image in
+    let p = program_of c.args.image c.args.sigs.now in
     let starts : NextStarts p.code = ∥∥₁_elim c.args.image.is_code (hlevel props) (λ code. paired_starts p.code (code_paired p.code code)) in
-    accepted_well_behaved p c.args.image.some_slots starts plain c.in_ok-check.ensures.ok
+    let accepted = subst (λ sigs. IsAccepted (program_of c.args.image sigs)) c.in-Ok.ensures c.in_ok-check_kinds.ensures.ok in
+    accepted_well_behaved p c.args.image.some_slots starts plain accepted

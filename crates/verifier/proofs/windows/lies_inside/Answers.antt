@@ -1,7 +1,7 @@
 use Rattle.std.proofs.Common.{◌≡◌, ℤ, Bool, true, false, ◌&&◌, ap, ◌∙◌, arith, to_z, of_z, w64}
 use Rattle.std.specs.Prelude.{◌≤ℤ◌, ◌<ℤ◌, ◌+ℤ◌, int_le}
 use Rattle.std.proofs.lemmas.Int.{ints}
-use Rattle.verifier.proofs.rules.lies_inside.Goals as goal
+use Rattle.verifier.proofs.windows.lies_inside.Goals as goal
 
 is_le : (a b : ℤ) → a ≤ℤ b → int_le a b ≡ true
 is_le a b h = grind (arith, ints)

@@ -1,0 +1,249 @@
+-- Calls: what is given to one that breaks no rule fits, and what it answers is admitted.
+use Rattle.std.proofs.Common.{◌≡◌, ◌≢◌, ℕ, zero, suc, pos, ◌-◌, ◌%◌, ◌^◌, ◌<◌, ◌≤◌, true, false, cond, not, leb, List, [], ◌∷◌, length, drop, replicate, Option, Some, None, refl, sym, ap, ◌∙◌, subst, inl, inr, ⊎_elim, arith, length-take, length-drop}
+use Rattle.std.specs.Prelude.{◌⊎◌, ◌+ℤ◌, map}
+use Rattle.std.proofs.Math.Nat.{mod-lt}
+use Rattle.std.proofs.lemmas.Int.{ints}
+use Rattle.std.proofs.lemmas.Bool.{cases_eq, cases_Bool, and_parts, not-true, leb-true}
+use Rattle.std.proofs.lemmas.List.{length-replicate}
+use Rattle.alu.specs.Value.{wrapped}
+use Rattle.insn.specs.declared.Register.{Register}
+use Rattle.insn.specs.declared.Register.TheVariants.{R1, R2, R3, R4, R5}
+use Rattle.memory.specs.Windows.{Memory, Covers, base, window, written}
+use Rattle.memory.specs.State.{State, number_in}
+use Rattle.memory.specs.Step.{AreBytes}
+use Rattle.memory.specs.declared.Region.{Region}
+use Rattle.memory.specs.declared.Region.TheVariants.{Input}
+use Rattle.ranges.specs.declared.kind.Kind.{Kind}
+use Rattle.ranges.specs.declared.kind.Kind.TheVariants.{Unset, Num, Ptr}
+use Rattle.ranges.specs.Kinds.{Admits}
+use Rattle.helpers.specs.declared.sig.ArgRule.{ArgRule}
+use Rattle.helpers.specs.declared.sig.ArgRule.TheVariants as rule
+use Rattle.helpers.specs.declared.sig.Sig.{Sig}
+use Rattle.helpers.specs.Rules.{reads_of}
+use Rattle.helpers.specs.Answers.{Given, FitsRules, FitsReads, Fits}
+use Rattle.helpers.specs.Calls.{argument_registers, Spans, bytes_at, Copies, Fills, Compares, HasAnswer, numbers_of, places_of, HoldsAll, Gives, Callee, Copy, Fill, Same, Helper, Unknown, fits_with, answers_with}
+use Rattle.verifier.specs.Program.{Program, HasLimits}
+use Rattle.verifier.specs.Registers.{Row, kind_at, is_inside, is_input_pointer}
+use Rattle.verifier.specs.CallKinds.{has_bytes, reaches, is_number, is_within, are_arguments, argument_kinds, is_read, is_written, is_given, answer_kind}
+use Rattle.verifier.proofs.Words.{wrapped_small, bytes_take, bytes_drop, bytes_replicate}
+use Rattle.verifier.proofs.Fits.{FitsRow}
+use Rattle.verifier.proofs.Places.{IsMemory, place_in, covers_less, not_input, window_bytes, written_kept}
+
+-- ---- kinds and numbers
+
+-- the kinds of a list admit the numbers of another, which may have more of them
+abbrev pub Fitting : List Kind → List ℕ → Type 0
+Fitting [] ns = Unit {0}
+Fitting (k ∷ ks) [] = ⊥
+Fitting (k ∷ ks) (n ∷ ns) = Admits k (Some n) × (n < 2 ^ 64) × Fitting ks ns
+
+abbrev FitsAt : Row → State → Register → Type 0
+FitsAt row s r = Admits (kind_at row r) (Some (number_in s r)) × (number_in s r < 2 ^ 64)
+
+arguments_fit : (row : Row) (s : State) → ((r : Register) → FitsAt row s r) → Fitting (argument_kinds row) (map (number_in s) argument_registers)
+arguments_fit [] s at = tt
+arguments_fit (k ∷ []) s at = tt
+arguments_fit (k ∷ a ∷ []) s at = ((at R1).0, (at R1).1, tt)
+arguments_fit (k ∷ a ∷ b ∷ []) s at = ((at R1).0, (at R1).1, ((at R2).0, (at R2).1, tt))
+arguments_fit (k ∷ a ∷ b ∷ c ∷ []) s at = ((at R1).0, (at R1).1, ((at R2).0, (at R2).1, ((at R3).0, (at R3).1, tt)))
+arguments_fit (k ∷ a ∷ b ∷ c ∷ d ∷ []) s at = ((at R1).0, (at R1).1, ((at R2).0, (at R2).1, ((at R3).0, (at R3).1, ((at R4).0, (at R4).1, tt))))
+arguments_fit (k ∷ a ∷ b ∷ c ∷ d ∷ e ∷ row) s at =
+    ((at R1).0, (at R1).1, ((at R2).0, (at R2).1, ((at R3).0, (at R3).1, ((at R4).0, (at R4).1, ((at R5).0, (at R5).1, tt)))))
+
+in_range : (lo hi : ℕ) (k : Kind) (n : ℕ) → Admits k (Some n) → is_within lo hi k ≡ true → (lo ≤ n) × (n ≤ hi)
+in_range lo hi Unset n a t = cc
+in_range lo hi (Num low high) n a t =
+    let parts = and_parts (leb lo low) (leb high hi) t in
+    let below = leb-true lo low parts.0 in
+    let above = leb-true high hi parts.1 in
+    (omega (arith, a.0), omega (arith, a.1))
+in_range lo hi (Ptr q low high) n a t = cc
+
+-- ---- places
+
+-- where the bytes of each Read stand, and that they are few enough
+abbrev pub Places : Memory → List ℕ → List (ℕ × ℕ) → Type 0
+Places m [] [] = Unit {0}
+Places m [] (q ∷ places) = ⊥
+Places m (max ∷ maxes) [] = ⊥
+Places m (max ∷ maxes) (q ∷ places) = ((region : Region) × Covers m region q.0 q.1 × (q.1 ≤ max)) × Places m maxes places
+
+length_bytes : (m : Memory) (region : Region) (a n : ℕ) → Covers m region a n → length (bytes_at m region a n) ≡ n
+length_bytes m region a n c = simp (length-take, length-drop) (omega (arith, c.0, c.1))
+
+few_bytes : (m : Memory) (region : Region) (a n max : ℕ) → Covers m region a n → n ≤ max → length (bytes_at m region a n) ≤ max
+few_bytes m region a n max c h = let e = length_bytes m region a n c in omega (arith, e, h)
+
+-- the bytes that a call gives
+bytes_of : (m : Memory) (maxes : List ℕ) (places : List (ℕ × ℕ)) → Places m maxes places → (first : List ℕ) × (second : List ℕ) × HoldsAll m places first second × FitsReads maxes first second
+bytes_of m [] [] h = ([], [], (refl, refl), (refl, refl))
+bytes_of m [] (q ∷ places) h = absurd h
+bytes_of m (max ∷ maxes) [] h = absurd h
+bytes_of m (max ∷ []) (q ∷ []) h = let a = h.0 in
+    (bytes_at m a.0 q.0 q.1, [], ((a.0, a.1, refl), refl), (few_bytes m a.0 q.0 q.1 max a.1 a.2, refl))
+bytes_of m (max ∷ []) (q ∷ r ∷ places) h = absurd h.1
+bytes_of m (max ∷ more ∷ maxes) (q ∷ []) h = absurd h.1
+bytes_of m (max ∷ more ∷ maxes) (q ∷ r ∷ places) h =
+    let a = h.0 in
+    let b = h.1.0 in
+    (bytes_at m a.0 q.0 q.1, bytes_at m b.0 r.0 r.1, ((a.0, a.1, refl), (b.0, b.1, refl)), (few_bytes m a.0 q.0 q.1 max a.1 a.2, few_bytes m b.0 r.0 r.1 more b.1 b.2))
+
+same_or_not : (xs ys : List ℕ) → (xs ≡ ys) ⊎ ((xs ≡ ys) → ⊥)
+same_or_not [] [] = inl refl
+same_or_not [] (y ∷ ys) = inr (λ e. cc)
+same_or_not (x ∷ xs) [] = inr (λ e. cc)
+same_or_not (x ∷ xs) (y ∷ ys) =
+    ⊎_elim
+    (λ e. ⊎_elim (λ f. inl (ap (λ n. n ∷ xs) e ∙ ap (λ zs. y ∷ zs) f)) (λ g. inr (λ q. g (tails x y xs ys q))) (same_or_not xs ys))
+    (λ g. inr (λ q. g (heads x y xs ys q)))
+    (cases_eq x y)
+  where
+    tails : (x y : ℕ) (xs ys : List ℕ) → x ∷ xs ≡ y ∷ ys → xs ≡ ys
+    tails x y xs ys q = cc
+
+    heads : (x y : ℕ) (xs ys : List ℕ) → x ∷ xs ≡ y ∷ ys → x ≡ y
+    heads x y xs ys q = cc
+
+fits_drop : (n : ℕ) (row : Row) (vs : List (Option ℕ)) → FitsRow row vs → FitsRow (drop n row) (drop n vs)
+fits_drop zero row vs h = h
+fits_drop (suc n) [] [] h = tt
+fits_drop (suc n) [] (v ∷ vs) h = absurd h
+fits_drop (suc n) (k ∷ row) [] h = absurd h
+fits_drop (suc n) (k ∷ row) (v ∷ vs) h = fits_drop n row vs h.2
+
+module _ (p : Program) (row : Row) (s : State) (limits : HasLimits p) (fits : FitsRow row s.registers) (memory : IsMemory p s.memory) (at : (r : Register) → FitsAt row s r) where
+  -- a place that is known to lie in a window
+  inside : (k : Kind) (a n size : ℕ) → Admits k (Some a) → a < 2 ^ 64 → n ≤ size → is_inside p k (pos 0) size ≡ true → (region : Region) × Covers s.memory region a n × (is_input_pointer k ≡ false → region ≢ Input)
+  inside Unset a n size h w le t = cc
+  inside (Num lo hi) a n size h w le t = cc
+  inside (Ptr region lo hi) a n size h w le t =
+      let c = place_in p s.memory region lo hi a (pos 0) size limits memory h t in
+      let e : wrapped 64 (pos a +ℤ pos 0) ≡ a = ap (wrapped 64) (plus_zero a) ∙ wrapped_small 64 a w in
+      (region, covers_less s.memory region a n size le (subst (λ x. Covers s.memory region x size) e c), not_input region lo hi)
+    where
+      plus_zero : (a : ℕ) → (pos a +ℤ pos 0) ≡ pos a
+      plus_zero a = omega (arith, ints)
+
+  place : (limit : ℕ) (k len : Kind) (a n : ℕ) → Admits k (Some a) → a < 2 ^ 64 → Admits len (Some n) → reaches p limit k len ≡ true → (region : Region) × Covers s.memory region a n × (n ≤ limit) × (is_input_pointer k ≡ false → region ≢ Input)
+  place limit k Unset a n h w l t = cc
+  place limit k (Ptr q lo hi) a n h w l t = cc
+  place limit k (Num lo hi) a n h w l t =
+      ⊎_elim
+      (λ yes. let q = inside k a n hi h w l.1 (ap (λ b. has_bytes p k (cond b (Some hi) None)) (sym yes) ∙ t) in
+      let le = leb-true hi limit yes in
+      (q.0, q.1, omega (arith, l.1), q.2))
+      (λ no. absurd (never (ap (λ b. has_bytes p k (cond b (Some hi) None)) (sym no) ∙ t)))
+      (cases_Bool (leb hi limit))
+    where
+      never : false ≡ true → ⊥
+      never e = cc
+
+  -- ---- the machine's own calls
+  read_place : (r : Register) → is_read p row (kind_at row r) ≡ true → (region : Region) × Spans s.memory region (number_in s r) (number_in s R3) × (is_input_pointer (kind_at row r) ≡ false → region ≢ Input)
+  read_place r t =
+      let q = place 65536 (kind_at row r) (kind_at row R3) (number_in s r) (number_in s R3) (at r).0 (at r).1 (at R3).0 t in
+      (q.0, (q.1, q.2), q.3)
+
+  written_place : (r : Register) → is_written p row (kind_at row r) ≡ true → (region : Region) × Spans s.memory region (number_in s r) (number_in s R3) × (region ≢ Input)
+  written_place r t =
+      let parts = and_parts (is_read p row (kind_at row r)) (not (is_input_pointer (kind_at row r))) t in
+      let q = read_place r parts.0 in
+      (q.0, q.1, q.2 (not-true _ parts.1))
+
+  fits_copy : is_given p Copy row ≡ true → HasAnswer (Copies s)
+  fits_copy t =
+      let parts = and_parts (is_written p row (kind_at row R1)) (is_read p row (kind_at row R2)) t in
+      let to = written_place R1 parts.0 in
+      let from = read_place R2 parts.1 in
+      (0, written s.memory to.0 (number_in s R1 - base to.0) (bytes_at s.memory from.0 (number_in s R2) (number_in s R3)), (to.0, from.0, to.1, from.1, to.2, refl, refl))
+
+  fits_fill : is_given p Fill row ≡ true → HasAnswer (Fills s)
+  fits_fill t =
+      let parts = and_parts (is_written p row (kind_at row R1)) (is_number (kind_at row R2)) t in
+      let to = written_place R1 parts.0 in
+      (0, written s.memory to.0 (number_in s R1 - base to.0) (replicate (number_in s R3) (number_in s R2 % 256)), (to.0, to.1, to.2, refl, refl))
+
+  fits_same : is_given p Same row ≡ true → HasAnswer (Compares s)
+  fits_same t =
+      let parts = and_parts (is_read p row (kind_at row R1)) (is_read p row (kind_at row R2)) t in
+      let left = read_place R1 parts.0 in
+      let right = read_place R2 parts.1 in
+      ⊎_elim
+      (λ yes. (1, s.memory, (left.0, right.0, left.1, right.1, refl, inl (yes, refl))))
+      (λ no. (0, s.memory, (left.0, right.0, left.1, right.1, refl, inr (no, refl))))
+      (same_or_not (bytes_at s.memory left.0 (number_in s R1) (number_in s R3)) (bytes_at s.memory right.0 (number_in s R2) (number_in s R3)))
+
+  -- ---- the calls of helpers
+  arguments : (rules : List ArgRule) (ks : List Kind) (ns : List ℕ) → Fitting ks ns → are_arguments p rules ks ≡ true → FitsRules rules (numbers_of rules ns) × Places s.memory (reads_of rules) (places_of rules ns)
+  arguments [] ks ns h t = (tt, tt)
+  arguments (r ∷ rules) [] ns h t = cc
+  arguments (r ∷ rules) (k ∷ ks) [] h t = absurd h
+  arguments (rule.Unused ∷ rules) (k ∷ ks) (n ∷ ns) h t =
+      let more = arguments rules ks ns h.2 (and_parts true (are_arguments p rules ks) t).1 in
+      ((refl, more.0), more.1)
+  arguments (rule.Num lo hi ∷ rules) (k ∷ ks) (n ∷ ns) h t =
+      let parts = and_parts (is_within lo hi k) (are_arguments p rules ks) t in
+      let more = arguments rules ks ns h.2 parts.1 in
+      ((in_range lo hi k n h.0 parts.0, more.0), more.1)
+  arguments (rule.Read max ∷ rules) (k ∷ []) (n ∷ ns) h t = let parts = and_parts (reaches p max k Unset) (are_arguments p rules []) t in absurd (never parts.0)
+    where
+      never : false ≡ true → ⊥
+      never e = cc
+  arguments (rule.Read max ∷ rules) (k ∷ l ∷ ks) (n ∷ []) h t = absurd h.2
+  arguments (rule.Read max ∷ rules) (k ∷ l ∷ ks) (n ∷ len ∷ ns) h t =
+      let parts = and_parts (reaches p max k l) (are_arguments p rules (l ∷ ks)) t in
+      let q = place max k l n len h.0 h.1 h.2.0 parts.0 in
+      let more = arguments rules (l ∷ ks) (len ∷ ns) h.2 parts.1 in
+      ((refl, more.0), ((q.0, q.1, q.2), more.1))
+  arguments (rule.Len ∷ rules) (k ∷ ks) (n ∷ ns) h t =
+      let more = arguments rules ks ns h.2 (and_parts true (are_arguments p rules ks) t).1 in
+      ((refl, more.0), more.1)
+
+  fits_helper : (sig : Sig) → are_arguments p sig.args (argument_kinds row) ≡ true → (g : Given) × Gives s sig.args g × Fits sig.args g
+  fits_helper sig t =
+      let ns = map (number_in s) argument_registers in
+      let a = arguments sig.args (argument_kinds row) ns (arguments_fit row s at) t in
+      let b = bytes_of s.memory (reads_of sig.args) (places_of sig.args ns) a.1 in
+      (record { numbers = numbers_of sig.args ns; first = b.0; second = b.1 }, record { numbers = refl; reads = b.2 }, record { numbers = a.0; reads = b.3 })
+
+  pub given_fits : (callee : Callee) → is_given p callee row ≡ true → fits_with callee s
+  given_fits Copy t = fits_copy t
+  given_fits Fill t = fits_fill t
+  given_fits Same t = fits_same t
+  given_fits (Helper sig) t = fits_helper sig t
+  given_fits Unknown t = cc
+
+  -- ---- answers
+  abbrev pub Answered : Callee → ℕ → Memory → Type 0
+  Answered callee answer after = Admits (answer_kind callee) (Some answer) × (answer < 2 ^ 64) × IsMemory p after
+
+  bytes_there : (region : Region) (a n : ℕ) → AreBytes (bytes_at s.memory region a n)
+  bytes_there region a n =
+      bytes_take n (drop (a - base region) (window s.memory region)) (bytes_drop (a - base region) (window s.memory region) (window_bytes p s.memory region memory))
+
+  memory_after : (region : Region) (a n : ℕ) (new : List ℕ) (after : Memory) → Covers s.memory region a n → length new ≡ n → AreBytes new → after ≡ written s.memory region (a - base region) new → IsMemory p after
+  memory_after region a n new after c len h e = subst (IsMemory p) (sym e) (written_kept p s.memory region a new memory (subst (Covers s.memory region a) (sym len) c) h)
+
+  pub answered : (n : ℕ) (callee : Callee) (answer : ℕ) (after : Memory) → answers_with n callee s answer after → Answered callee answer after
+  answered n Copy answer after h = (
+    (omega arith, omega (arith, h.5)),
+    omega (arith, h.5),
+    memory_after h.0 (number_in s R1) (number_in s R3) (bytes_at s.memory h.1 (number_in s R2) (number_in s R3)) after h.2.0 (length_bytes s.memory h.1 (number_in s R2) (number_in s R3) h.3.0) (bytes_there h.1 (number_in s R2) (number_in s R3)) h.6,
+  )
+  answered n Fill answer after h = (
+    (omega arith, omega (arith, h.3)),
+    omega (arith, h.3),
+    memory_after h.0 (number_in s R1) (number_in s R3) (replicate (number_in s R3) (number_in s R2 % 256)) after h.1.0 (length-replicate {A = ℕ} (number_in s R3) (number_in s R2 % 256)) (bytes_replicate (number_in s R3) (number_in s R2 % 256) (mod-lt (number_in s R2) (omega arith))) h.4,
+  )
+  answered n Same answer after h =
+      ⊎_elim
+      (λ yes. ((omega arith, omega (arith, yes.1)), omega (arith, yes.1), subst (IsMemory p) (sym h.4) memory))
+      (λ no. ((omega arith, omega (arith, no.1)), omega (arith, no.1), subst (IsMemory p) (sym h.4) memory))
+      h.5
+  answered n (Helper sig) answer after h =
+      ((h.3.0, h.3.1), omega (arith, h.3.1, sig.word), subst (IsMemory p) (sym h.4) memory)
+  answered n Unknown answer after h = absurd h
+
+  -- the registers after a call
+  pub row_fits : (k : Kind) (answer : ℕ) → Admits k (Some answer) → answer < 2 ^ 64 → FitsRow (k ∷ Unset ∷ Unset ∷ Unset ∷ Unset ∷ Unset ∷ drop 6 row) (Some answer ∷ None ∷ None ∷ None ∷ None ∷ None ∷ drop 6 s.registers)
+  row_fits k answer a w = (a, w, (tt, tt, (tt, tt, (tt, tt, (tt, tt, (tt, tt, fits_drop 6 row s.registers fits))))))

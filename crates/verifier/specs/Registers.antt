@@ -1,0 +1,71 @@
+-- What is known of the registers, and of the bytes to which a pointer leads (this store's profile).
+use Rattle.std.specs.Prelude.{ℕ, ℤ, pos, negsuc, ◌+ℤ◌, int_le, Bool, true, false, ◌&&◌, ◌||◌, List, [], ◌∷◌, slice_index_or, slice_set}
+use Rattle.alu.specs.Value.{wrapped}
+use Rattle.insn.specs.Encoding.{number}
+use Rattle.insn.specs.declared.Register.{Register}
+use Rattle.insn.specs.declared.Operand.{Operand}
+use Rattle.insn.specs.declared.Operand.TheVariants as operand
+use Rattle.memory.specs.declared.Region.{Region}
+use Rattle.memory.specs.declared.Region.TheVariants.{Stack, Input, Output}
+use Rattle.ranges.specs.declared.kind.Kind.{Kind}
+use Rattle.ranges.specs.declared.kind.Kind.TheVariants.{Unset, Num, Ptr}
+use Rattle.verifier.specs.Program.{Program}
+
+-- the kinds of R0 to R10
+abbrev pub Row : Type 0
+Row = List Kind
+
+abbrev pub kind_at : Row → Register → Kind
+kind_at row r = slice_index_or row (number r) Unset
+
+abbrev pub with_kind : Row → Register → Kind → Row
+with_kind row r k = slice_set row (number r) k
+
+abbrev pub one_number : ℕ → Kind
+one_number n = Num n n
+
+-- the kind of an operand: an immediate is one number, with its sign extended
+abbrev pub kind_from : Row → Operand → Kind
+kind_from row (operand.Register r) = kind_at row r
+kind_from row (operand.Immediate n) = one_number (wrapped 64 n)
+
+-- the kinds before the first slot: R1 the input, R2 its used length, R3 the output, R4 its length, R10 the stack's end
+abbrev pub entry : Program → Row
+entry p =
+    Unset ∷ Ptr Input (pos 0) (pos 0) ∷ Num 0 p.in_len ∷ Ptr Output (pos 0) (pos 0) ∷ one_number p.out_len ∷ Unset ∷ Unset ∷ Unset ∷ Unset ∷ Unset ∷ Ptr Stack (pos 0) (pos 0) ∷ []
+
+abbrev pub is_unset : Kind → Bool
+is_unset Unset = true
+is_unset k = false
+
+abbrev pub is_pointer : Kind → Bool
+is_pointer (Ptr region lo hi) = true
+is_pointer k = false
+
+abbrev pub is_input_pointer : Kind → Bool
+is_input_pointer (Ptr Input lo hi) = true
+is_input_pointer k = false
+
+-- whether a register of a list is not known to be set
+abbrev pub any_unset : Row → List Register → Bool
+any_unset row [] = false
+any_unset row (r ∷ rs) = is_unset (kind_at row r) || any_unset row rs
+
+-- ---- windows
+
+-- the offsets of a window's first byte and of its end: those of the stack count from its end
+abbrev pub first_offset : Region → ℤ
+first_offset Stack = negsuc 511
+first_offset Input = pos 0
+first_offset Output = pos 0
+
+abbrev pub end_offset : Program → Region → ℤ
+end_offset p Stack = pos 0
+end_offset p Input = pos p.in_len
+end_offset p Output = pos p.out_len
+
+-- whether every byte that an access may touch lies in its window
+abbrev pub is_inside : Program → Kind → ℤ → ℕ → Bool
+is_inside p (Ptr region lo hi) offset size =
+    int_le (first_offset region) (lo +ℤ offset) && int_le (hi +ℤ offset +ℤ pos size) (end_offset p region)
+is_inside p k offset size = false

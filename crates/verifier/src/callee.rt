@@ -1,0 +1,236 @@
+//! What calls call, and what is known of them.
+
+ghost use Rattle.std.specs.Prelude.{◌≡◌};
+ghost use Rattle.helpers.specs.Calls.{callee_of, arguments_with, used_of};
+ghost use Rattle.ranges.specs.Kinds.{IsKind};
+ghost use Rattle.verifier.specs.Candidates.{program_in};
+ghost use Rattle.verifier.specs.Registers.{any_unset};
+ghost use Rattle.verifier.specs.CallKinds.{callee_from, reaches, is_within, is_argument, are_arguments, is_read, is_written, is_given, answer_kind, row_after_call, first_kind};
+ghost use Rattle.verifier.specs.Rules.{callee_in};
+ghost use Rattle.verifier.specs.Table.{AreKinds};
+
+use crate::candidate::Candidate;
+use crate::kinds::{Row, kind_of};
+use crate::windows::is_inside;
+use helpers::{ArgRule, Sig, Sigs};
+use insn::{Insn, Register};
+use memory::Region;
+use ranges::Kind;
+
+/// What a call's number stands for.
+#[derive(Clone, Copy)]
+pub enum Called {
+    /// 1: copies bytes.
+    Copy,
+    /// 2: fills bytes.
+    Fill,
+    /// 3: compares bytes.
+    Same,
+    /// A helper, by its Sig.
+    Helper(Sig),
+    /// Nothing.
+    Unknown,
+}
+
+/// The most bytes that the machine's own calls read or write.
+const MAX_BYTES: u32 = 65_536;
+
+/// The registers of a call's arguments.
+const ARGUMENTS: [Register; 5] = [
+    Register::R1,
+    Register::R2,
+    Register::R3,
+    Register::R4,
+    Register::R5,
+];
+
+/// What a number stands for.
+fn callee_of(sigs: &Sigs, helper: u32) -> Called
+    ensures { callee_from result ≡ callee_of sigs.now helper }
+{
+    match helper {
+        1 => Called::Copy,
+        2 => Called::Fill,
+        3 => Called::Same,
+        _ => match sigs.sig(helper) {
+            Some(sig) => Called::Helper(sig),
+            None => Called::Unknown,
+        },
+    }
+}
+
+/// What an instruction calls: nothing, unless it is a call.
+pub fn callee_in(sigs: &Sigs, insn: Insn) -> Called
+    ensures { callee_from result ≡ callee_in sigs.now insn }
+{
+    match insn {
+        Insn::Call { helper } => callee_of(sigs, helper),
+        _ => Called::Unknown,
+    }
+}
+
+/// Whether a register that these rules use is not known to be set.
+fn is_used_unset(row: &Row, rules: &[ArgRule], registers: &[Register]) -> bool
+    ensures { result ≡ any_unset row.now (used_of rules.now registers.now) }
+{
+    match rules {
+        [] => false,
+        [rule, rules @ ..] => match registers {
+            [] => false,
+            [register, registers @ ..] => {
+                let unset = *rule != ArgRule::Unused && kind_of(row, *register) == Kind::Unset;
+                unset || is_used_unset(row, rules, registers)
+            }
+        },
+    }
+}
+
+/// Whether a register that a call reads is not known to be set.
+pub fn is_argument_unset(row: &Row, callee: &Called) -> bool
+    ensures { result ≡ any_unset row.now (arguments_with (callee_from callee.now)) }
+{
+    match callee {
+        Called::Copy | Called::Fill | Called::Same => {
+            kind_of(row, Register::R1) == Kind::Unset
+                || kind_of(row, Register::R2) == Kind::Unset
+                || kind_of(row, Register::R3) == Kind::Unset
+        }
+        Called::Helper(sig) => is_used_unset(row, &sig.args, &ARGUMENTS),
+        Called::Unknown => false,
+    }
+}
+
+/// Whether a pointer, and a length up to a limit, name bytes of one window.
+fn reaches(program: &Candidate, limit: u32, address: Kind, len: Kind) -> bool
+    requires { IsKind address }
+    ensures { result ≡ reaches (program_in program.now) limit address len }
+{
+    match len {
+        Kind::Num { hi, .. } if hi <= u64::from(limit) => is_inside(program, address, 0, hi as u32),
+        _ => false,
+    }
+}
+
+/// Whether a kind is known to lie in a range.
+fn is_within(lo: u64, hi: u64, kind: Kind) -> bool
+    ensures { result ≡ is_within lo hi kind }
+{
+    match kind {
+        Kind::Num { lo: low, hi: high } => lo <= low && high <= hi,
+        _ => false,
+    }
+}
+
+/// Whether an argument is as its rule says; a Read needs the kind of the next one, its length.
+fn is_argument(program: &Candidate, rule: ArgRule, kind: Kind, next: Kind) -> bool
+    requires { IsKind kind }
+    ensures { result ≡ is_argument (program_in program.now) rule kind next }
+{
+    match rule {
+        ArgRule::Unused | ArgRule::Len => true,
+        ArgRule::Num { lo, hi } => is_within(lo, hi, kind),
+        ArgRule::Read { max } => reaches(program, max, kind, next),
+    }
+}
+
+/// The first kind of some.
+fn first_kind(kinds: &[Kind]) -> Kind
+    ensures { result ≡ first_kind kinds.now }
+{
+    match kinds {
+        [] => Kind::Unset,
+        [kind, ..] => *kind,
+    }
+}
+
+/// Whether the arguments are as their rules say.
+fn are_arguments(program: &Candidate, rules: &[ArgRule], kinds: &[Kind]) -> bool
+    requires { AreKinds kinds.now }
+    ensures { result ≡ are_arguments (program_in program.now) rules.now kinds.now }
+{
+    match rules {
+        [] => true,
+        [rule, rules @ ..] => match kinds {
+            [] => false,
+            [kind, kinds @ ..] => {
+                is_argument(program, *rule, *kind, first_kind(kinds))
+                    && are_arguments(program, rules, kinds)
+            }
+        },
+    }
+}
+
+/// Whether a call of the machine's own may read from there.
+fn is_read(program: &Candidate, row: &Row, address: Kind) -> bool
+    requires { IsKind address }
+    ensures { result ≡ is_read (program_in program.now) row.now address }
+{
+    reaches(program, MAX_BYTES, address, kind_of(row, Register::R3))
+}
+
+/// Whether a call of the machine's own may write there.
+fn is_written(program: &Candidate, row: &Row, address: Kind) -> bool
+    requires { IsKind address }
+    ensures { result ≡ is_written (program_in program.now) row.now address }
+{
+    let is_input = matches!(
+        address,
+        Kind::Ptr {
+            region: Region::Input,
+            ..
+        }
+    );
+    is_read(program, row, address) && !is_input
+}
+
+/// Whether a call fits, whatever the registers hold.
+pub fn is_given(program: &Candidate, callee: &Called, row: &Row) -> bool
+    requires kinds { AreKinds row.now }
+    ensures { result ≡ is_given (program_in program.now) (callee_from callee.now) row.now }
+{
+    let first = kind_of(row, Register::R1);
+    let second = kind_of(row, Register::R2);
+    match callee {
+        Called::Copy => is_written(program, row, first) && is_read(program, row, second),
+        Called::Fill => is_written(program, row, first) && matches!(second, Kind::Num { .. }),
+        Called::Same => is_read(program, row, first) && is_read(program, row, second),
+        Called::Helper(sig) => are_arguments(program, &sig.args, &row[1..6]),
+        Called::Unknown => false,
+    }
+}
+
+/// What a call answers.
+fn answer_kind(callee: &Called) -> Kind
+    ensures table { result ≡ answer_kind (callee_from callee.now) }
+    ensures kind { IsKind result }
+{
+    match callee {
+        Called::Copy | Called::Fill => Kind::Num { lo: 0, hi: 0 },
+        Called::Same => Kind::Num { lo: 0, hi: 1 },
+        Called::Helper(sig) => Kind::Num {
+            lo: sig.lo,
+            hi: sig.hi,
+        },
+        Called::Unknown => Kind::Unset,
+    }
+}
+
+/// The kinds after a call.
+pub fn row_after_call(row: &Row, callee: &Called) -> Row
+    ensures table { result ≡ row_after_call (callee_from callee.now) row.now }
+    ensures kinds { AreKinds row.now → AreKinds result }
+{
+    [
+        answer_kind(callee),
+        Kind::Unset,
+        Kind::Unset,
+        Kind::Unset,
+        Kind::Unset,
+        Kind::Unset,
+        kind_of(row, Register::R6),
+        kind_of(row, Register::R7),
+        kind_of(row, Register::R8),
+        kind_of(row, Register::R9),
+        kind_of(row, Register::R10),
+    ]
+}
