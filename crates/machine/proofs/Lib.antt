@@ -1,6 +1,12 @@
 pub mod Starting
-pub mod Ended
 pub mod Covered
 pub mod Carried
 pub mod Runs
 pub mod Inputs
+pub mod Lifted
+pub mod Keeping
+pub mod Fitting
+pub mod Calling
+pub mod Helping
+pub mod Once
+pub mod Ended

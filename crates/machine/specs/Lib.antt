@@ -1,2 +1,4 @@
 pub mod Stepped
 pub mod Running
+pub mod Called
+pub mod Settled

@@ -1,8 +1,11 @@
 //! Accepted programs give the same by `run` as by `drive`, which tests each step.
-ghost use Rattle.std.specs.Prelude.{◌≡◌, ◌≤◌, length, replicate};
+ghost use Rattle.std.specs.Prelude.{◌≡◌, ◌≤◌, length, max, replicate};
 ghost use Rattle.memory.specs.Step.{IsInput};
+ghost use Rattle.helpers.specs.Layout.{newest_of};
+ghost use Rattle.helpers.specs.Text.{order_of, place_of, spelled};
 
 use crate::{Done, State, Stop, drive, padded, run};
+use helpers::{ArgRule, Body, Helper, Sig, Table, decimal, find, newest, order, written_sig};
 use memory::Windows;
 use std::alloc::Global;
 use std::process::Abort;
@@ -10,7 +13,7 @@ use std::test::Fail;
 use verifier::{Verified, raw_image, read_image, verify};
 
 /// How a program ends by `drive`, and what it leaves in the output.
-fn driven(verified: &Verified, input: &[u8], used: u32, output: &mut [u8]) -> Stop
+fn driven(verified: &Verified, table: &Table, input: &[u8], used: u32, output: &mut [u8]) -> Stop
     requires input { IsInput verified.now.in_len input.now used }
     requires output { output.old ≡ replicate verified.now.out_len 0 }
 {
@@ -21,15 +24,19 @@ fn driven(verified: &Verified, input: &[u8], used: u32, output: &mut [u8]) -> St
         output,
     };
     let mut state = State::start(windows, used);
-    drive(&mut state, &image.code, 4096)
+    drive(&mut state, &image.code, 4096, table)
 }
 
 /// Runs a program both ways on windows of the lengths that it names.
 fn both(
     alloc: Global,
     verified: &Verified,
+    table: &Table,
     input: &[u8],
 ) -> Result<(Done, Stop, Vec<u8>, Vec<u8>), Fail> {
+    if !table.agrees(verified.sigs()) {
+        return Err(Fail::from("the table"));
+    }
     let image = verified.image();
     let in_len = image.in_len as usize;
     let out_len = image.out_len as usize;
@@ -40,8 +47,8 @@ fn both(
     let window = padded(alloc, input, in_len)?;
     let mut output = vec![in alloc; 0u8; out_len]?;
     let mut checked = vec![in alloc; 0u8; out_len]?;
-    let done = run(verified, &window, used, &mut output);
-    let stop = driven(verified, &window, used, &mut checked);
+    let done = run(verified, table, &window, used, &mut output);
+    let stop = driven(verified, table, &window, used, &mut checked);
     Ok((done, stop, output, checked))
 }
 
@@ -49,6 +56,7 @@ fn both(
 fn alike(
     rt: &impl Abort,
     alloc: Global,
+    table: &Table,
     name: &str,
     bytes: &[u8],
     input: &[u8],
@@ -59,9 +67,9 @@ fn alike(
     } else {
         raw_image(alloc, bytes)?
     };
-    let verified = verify(alloc, image)?;
+    let verified = verify(alloc, image, &table.sigs(alloc)?)?;
     let (answer, steps, front) = want;
-    let (done, stop, output, checked) = both(alloc, &verified, input)?;
+    let (done, stop, output, checked) = both(alloc, &verified, table, input)?;
     assert_eq!(rt; done, Done { answer, steps }, "{name}");
     let exit = Stop::Exit {
         answer,
@@ -241,14 +249,24 @@ fn raw_programs_alike(rt: HostRuntime) -> Result<(), Fail> {
             (0, 5, &[0, 7]),
         ),
     ];
+    let table = Table::new(rt.alloc());
     for (name, code, input, want) in &rows {
-        alike(&rt, rt.alloc(), name, code.as_flattened(), input, *want)?;
+        alike(
+            &rt,
+            rt.alloc(),
+            &table,
+            name,
+            code.as_flattened(),
+            input,
+            *want,
+        )?;
     }
     Ok(())
 }
 
 #[test]
 fn images_alike(rt: HostRuntime) -> Result<(), Fail> {
+    let table = Table::new(rt.alloc());
     let indexed_byte = [
         0x52, 0x42, 0x50, 0x46, 1, 0, 0, 0, 0, 1, 0, 0, 0, 0, 0, 0, 0xbf, 0x26, 0, 0, 0, 0, 0, 0,
         0x57, 6, 0, 0, 0xff, 0, 0, 0, 0x0f, 0x61, 0, 0, 0, 0, 0, 0, 0x71, 0x10, 0, 0, 0, 0, 0, 0,
@@ -257,6 +275,7 @@ fn images_alike(rt: HostRuntime) -> Result<(), Fail> {
     alike(
         &rt,
         rt.alloc(),
+        &table,
         "indexed_byte",
         &indexed_byte,
         &[42; 256],
@@ -270,6 +289,7 @@ fn images_alike(rt: HostRuntime) -> Result<(), Fail> {
     alike(
         &rt,
         rt.alloc(),
+        &table,
         "jmp64 not taken",
         &bounded,
         &[3, 0, 0, 0, 0, 0, 0, 0],
@@ -278,9 +298,188 @@ fn images_alike(rt: HostRuntime) -> Result<(), Fail> {
     alike(
         &rt,
         rt.alloc(),
+        &table,
         "jmp64 taken",
         &bounded,
         &[3, 1, 0, 0, 0, 0, 0, 0],
         (0, 4, &[]),
     )
+}
+
+/// An image's head with windows of 16 and of 8 bytes.
+const HEAD: [u8; 16] = [0x52, 0x42, 0x50, 0x46, 1, 0, 0, 0, 16, 0, 0, 0, 8, 0, 0, 0];
+
+/// The slots of an image that calls, its input, and its answer, steps and output.
+const CALLS: [(&str, &[[u8; 8]], &[u8], (u64, u32, &[u8])); 10] = [
+    (
+        "copy",
+        &[
+            [0xbf, 0x12, 0, 0, 0, 0, 0, 0],
+            [0xbf, 0x31, 0, 0, 0, 0, 0, 0],
+            [0xb7, 3, 0, 0, 4, 0, 0, 0],
+            [0x85, 0, 0, 0, 1, 0, 0, 0],
+            EXIT,
+        ],
+        &[1, 2, 3, 4],
+        (0, 5, &[1, 2, 3, 4]),
+    ),
+    (
+        "copy of nothing to the end",
+        &[
+            [0xbf, 0x12, 0, 0, 0, 0, 0, 0],
+            [0xbf, 0x31, 0, 0, 0, 0, 0, 0],
+            [7, 1, 0, 0, 8, 0, 0, 0],
+            [0xb7, 3, 0, 0, 0, 0, 0, 0],
+            [0x85, 0, 0, 0, 1, 0, 0, 0],
+            EXIT,
+        ],
+        &[1, 2, 3, 4],
+        (0, 6, &[]),
+    ),
+    (
+        "fill and same",
+        &[
+            [0xbf, 0x31, 0, 0, 0, 0, 0, 0],
+            [0xbf, 0x36, 0, 0, 0, 0, 0, 0],
+            [0xb7, 2, 0, 0, 0xff, 1, 0, 0],
+            [0xb7, 3, 0, 0, 3, 0, 0, 0],
+            [0x85, 0, 0, 0, 2, 0, 0, 0],
+            [0xbf, 0x61, 0, 0, 0, 0, 0, 0],
+            [0xbf, 0x62, 0, 0, 0, 0, 0, 0],
+            [7, 2, 0, 0, 1, 0, 0, 0],
+            [0xb7, 3, 0, 0, 2, 0, 0, 0],
+            [0x85, 0, 0, 0, 3, 0, 0, 0],
+            EXIT,
+        ],
+        &[],
+        (1, 11, &[255, 255, 255]),
+    ),
+    (
+        "same of nothing at the end of the stack",
+        &[
+            [0xbf, 0xa2, 0, 0, 0, 0, 0, 0],
+            [0xb7, 3, 0, 0, 0, 0, 0, 0],
+            [0x85, 0, 0, 0, 3, 0, 0, 0],
+            EXIT,
+        ],
+        &[],
+        (1, 4, &[]),
+    ),
+    (
+        "order of two Reads",
+        &[
+            [0xb7, 2, 0, 0, 2, 0, 0, 0],
+            [0xbf, 0x13, 0, 0, 0, 0, 0, 0],
+            [7, 3, 0, 0, 2, 0, 0, 0],
+            [0xb7, 4, 0, 0, 2, 0, 0, 0],
+            [0x85, 0, 0, 0, 16, 0, 0, 0],
+            EXIT,
+        ],
+        b"acab",
+        (2, 6, &[]),
+    ),
+    (
+        "find the second Read",
+        &[
+            [0xb7, 2, 0, 0, 4, 0, 0, 0],
+            [0xbf, 0x13, 0, 0, 0, 0, 0, 0],
+            [7, 3, 0, 0, 2, 0, 0, 0],
+            [0xb7, 4, 0, 0, 2, 0, 0, 0],
+            [0x85, 0, 0, 0, 17, 0, 0, 0],
+            EXIT,
+        ],
+        b"xyab",
+        (3, 6, &[]),
+    ),
+    (
+        "newest of no layout",
+        &[[0x85, 0, 0, 0, 19, 0, 0, 0], EXIT],
+        &[0; 16],
+        (64, 2, &[]),
+    ),
+    (
+        "decimal",
+        &[[0x85, 0, 0, 0, 18, 0, 0, 0], EXIT],
+        b"123",
+        (123, 2, &[]),
+    ),
+    (
+        "decimal of nothing",
+        &[[0x85, 0, 0, 0, 18, 0, 0, 0], EXIT],
+        b"",
+        (u64::MAX, 2, &[]),
+    ),
+    (
+        "helper_indexes_output",
+        &[
+            [0xbf, 0x36, 0, 0, 0, 0, 0, 0],
+            [0xbf, 0x21, 0, 0, 0, 0, 0, 0],
+            [0x85, 0, 0, 0, 64, 0, 0, 0],
+            [0x0f, 6, 0, 0, 0, 0, 0, 0],
+            [0x72, 6, 0, 0, 1, 0, 0, 0],
+            EXIT,
+        ],
+        &[0, 0, 0],
+        (3, 6, &[0, 0, 0, 1]),
+    ),
+];
+
+#[test]
+fn calls_alike(rt: HostRuntime) -> Result<(), Fail> {
+    let mut table = Table::new(rt.alloc());
+    let body: Body = Box::new(
+        rt.alloc(),
+        |_numbers: [u64; 5], first: &[u8], second: &[u8]| -> u64
+            ensures value { result ≡ order_of first.now second.now }
+            ensures range { result ≤ 2 }
+        { order(first, second) },
+    )?;
+    let sig = written_sig(16).ok_or("a Sig")?;
+    assert!(rt; table.add(Helper::new(16, sig, body)).is_ok());
+    let body: Body = Box::new(
+        rt.alloc(),
+        |_numbers: [u64; 5], first: &[u8], second: &[u8]| -> u64
+            ensures value { result ≡ place_of first.now second.now }
+            ensures range { result ≤ max 1 (length first.now) }
+        { find(first, second) },
+    )?;
+    let sig = written_sig(17).ok_or("a Sig")?;
+    assert!(rt; table.add(Helper::new(17, sig, body)).is_ok());
+    let body: Body = Box::new(
+        rt.alloc(),
+        |_numbers: [u64; 5], first: &[u8], _second: &[u8]| -> u64
+            ensures value { result ≡ newest_of first.now }
+            ensures range { result ≤ 64 }
+        { newest(first) },
+    )?;
+    let sig = written_sig(19).ok_or("a Sig")?;
+    assert!(rt; table.add(Helper::new(19, sig, body)).is_ok());
+    let body: Body = Box::new(
+        rt.alloc(),
+        |_numbers: [u64; 5], first: &[u8], _second: &[u8]| -> u64
+            ensures { result ≡ spelled first.now }
+        { decimal(first) },
+    )?;
+    let sig = written_sig(18).ok_or("a Sig")?;
+    assert!(rt; table.add(Helper::new(18, sig, body)).is_ok());
+    let any = ArgRule::Num {
+        lo: 0,
+        hi: u64::MAX,
+    };
+    let unused = ArgRule::Unused;
+    let sig = Sig::new([any, unused, unused, unused, unused], (0, 7)).ok_or("a Sig")?;
+    let modulo_8: Body = Box::new(
+        rt.alloc(),
+        |numbers: [u64; 5], _first: &[u8], _second: &[u8]| -> u64
+            ensures { result ≤ 7 }
+        { numbers[0] % 8 },
+    )?;
+    assert!(rt; table.add(Helper::new(64, sig, modulo_8)).is_ok());
+    for (name, slots, input, want) in CALLS {
+        let mut bytes = Vec::new(rt.alloc());
+        bytes.extend_from_slice(&HEAD)?;
+        bytes.extend_from_slice(slots.as_flattened())?;
+        alike(&rt, rt.alloc(), &table, name, &bytes, input, want)?;
+    }
+    Ok(())
 }

@@ -1,5 +1,6 @@
 //! A case for each opcode and each fault, with values from the instruction table of RFC 9669, sections 4 and 5.
 use crate::{State, Stop, drive};
+use helpers::Table;
 use insn::decode::decode;
 use memory::{Fault, Windows};
 use std::alloc::{AllocError, Global};
@@ -14,12 +15,12 @@ const NARROW: u64 = 0xffff_ffff;
 const NARROW_LEAST: u64 = 0x8000_0000;
 
 /// A slot: its opcode, destination, source, offset and immediate.
-type Fields = (u8, u8, u8, i16, i32);
+pub(crate) type Fields = (u8, u8, u8, i16, i32);
 
-const EXIT: Fields = (0x95, 0, 0, 0, 0);
+pub(crate) const EXIT: Fields = (0x95, 0, 0, 0, 0);
 
 /// Adds the bytes of a slot.
-fn push(code: &mut Vec<u8>, slot: Fields) -> Result<(), AllocError> {
+pub(crate) fn push(code: &mut Vec<u8>, slot: Fields) -> Result<(), AllocError> {
     let (opcode, dst, src, offset, imm) = slot;
     let [offset_low, offset_high] = offset.to_le_bytes();
     let [i0, i1, i2, i3] = imm.to_le_bytes();
@@ -36,13 +37,23 @@ fn push(code: &mut Vec<u8>, slot: Fields) -> Result<(), AllocError> {
 }
 
 /// Adds the bytes of a wide instruction.
-fn push_wide(code: &mut Vec<u8>, dst: u8, value: u64) -> Result<(), AllocError> {
+pub(crate) fn push_wide(code: &mut Vec<u8>, dst: u8, value: u64) -> Result<(), AllocError> {
     let [b0, b1, b2, b3, b4, b5, b6, b7] = value.to_le_bytes();
     code.extend_from_slice(&[0x18, dst, 0, 0, b0, b1, b2, b3, 0, 0, 0, 0, b4, b5, b6, b7])
 }
 
-/// How code ends on an input, and what it leaves in an output of eight bytes.
+/// How code ends on an input where no helper is, and what it leaves in an output of eight bytes.
 fn end_of(alloc: Global, bytes: &[u8], input: &[u8]) -> Result<(Stop, [u8; 8]), Fail> {
+    end_with(alloc, &Table::new(alloc), bytes, input)
+}
+
+/// How code ends on an input with the helpers of a table, and what it leaves in an output of eight bytes.
+pub(crate) fn end_with(
+    alloc: Global,
+    table: &Table,
+    bytes: &[u8],
+    input: &[u8],
+) -> Result<(Stop, [u8; 8]), Fail> {
     let Ok(code) = decode(alloc, bytes) else {
         return Err(Fail::from("refused"));
     };
@@ -56,7 +67,7 @@ fn end_of(alloc: Global, bytes: &[u8], input: &[u8]) -> Result<(Stop, [u8; 8]), 
         output: &mut output,
     };
     let mut state = State::start(windows, input.len() as u32);
-    let stop = drive(&mut state, &code, 100);
+    let stop = drive(&mut state, &code, 100, table);
     Ok((stop, output))
 }
 
@@ -425,7 +436,7 @@ fn stores(rt: HostRuntime) -> Result<(), Fail> {
 }
 
 /// The slots of a program that faults, why, and at which slot.
-const FAULTS: [(&[Fields], Fault, i64); 22] = [
+const FAULTS: [(&[Fields], Fault, i64); 24] = [
     // A register that is read holds nothing.
     (&[EXIT], Fault::Unset, 0),
     (&[(0x0f, 1, 5, 0, 0)], Fault::Unset, 0),
@@ -451,7 +462,9 @@ const FAULTS: [(&[Fields], Fault, i64); 22] = [
         Fault::Slot,
         2,
     ),
-    // Every call, for now.
+    // No helper has the number, or a range is in no window.
+    (&[(0x85, 0, 0, 0, 64)], Fault::Helper, 0),
+    (&[(0x85, 0, 0, 0, 4)], Fault::Helper, 0),
     (&[(0x85, 0, 0, 0, 1)], Fault::Helper, 0),
     // A write to the frame pointer.
     (&[(0xb7, 10, 0, 0, 0)], Fault::ReadOnly, 0),
@@ -488,6 +501,7 @@ fn fuel(rt: HostRuntime) -> Result<(), Fail> {
         slot: 1,
     };
     let zero: Fields = (0xb7, 0, 0, 0, 0);
+    let table = Table::new(alloc);
     for (last, fuel, want) in [
         (Some(EXIT), 0, Stop::Fuel),
         (Some(EXIT), 1, Stop::Fuel),
@@ -511,7 +525,7 @@ fn fuel(rt: HostRuntime) -> Result<(), Fail> {
             output: &mut output,
         };
         let mut state = State::start(windows, 0);
-        assert_eq!(rt; drive(&mut state, &code, fuel), want, "{fuel}");
+        assert_eq!(rt; drive(&mut state, &code, fuel, &table), want, "{fuel}");
     }
     Ok(())
 }

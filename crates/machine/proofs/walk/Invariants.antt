@@ -1,12 +1,12 @@
 use Rattle.std.proofs.Common.{◌≡◌}
-use Rattle.memory.specs.State.{no_calls}
+use Rattle.helpers.specs.Calls.{calls_of}
 use Rattle.memory.specs.Step.{Runs}
 use Rattle.machine.specs.Stepped.{state_of, loan_of}
 use Rattle.machine.proofs.walk.Given as goal
 
 abbrev pub invariant-loop-taken : goal.invariant-loop-taken
-invariant-loop-taken l = record {
-  runs : Runs no_calls l.code l.taken (state_of l.fn.state) (state_of l.state);
+invariant-loop-taken g l = record {
+  runs : Runs (calls_of l.table.listed) l.code l.taken (state_of l.fn.state) (state_of l.state);
   input : (state_of l.state).memory.input ≡ (state_of l.fn.state).memory.input;
   loan : loan_of l.state ≡ loan_of l.fn.state;
 }

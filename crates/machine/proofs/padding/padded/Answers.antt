@@ -1,4 +1,4 @@
-use Rattle.std.proofs.Common.{◌≡◌, ℕ, ◌-◌, List, ◌++◌, length, replicate, rules}
+use Rattle.std.proofs.Common.{rules}
 use Rattle.machine.proofs.Inputs.{put_at_front, padded_input}
 use Rattle.machine.proofs.padding.padded.Goals as goal
 
