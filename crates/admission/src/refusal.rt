@@ -1,0 +1,57 @@
+//! Why bytes are not let in.
+
+use bpfimage::ImageFault;
+use std::fmt;
+use verifier::Refused;
+
+/// Why bytes are not let in. `{}` writes a fault of the image or its code (`I2`, `D7 0`), the rule that is broken and its slot
+/// (`V24 3`), or `G2` for another kind; want of memory is `E1 0`.
+#[derive(Clone, Copy, Debug, PartialEq, Eq)]
+pub enum Refusal {
+    /// The bytes are no image, or no code.
+    Image(ImageFault),
+    /// The program breaks a rule of the verifier.
+    Rule(Refused),
+    /// The image is of another kind than is asked for.
+    OtherKind,
+}
+
+impl From<ImageFault> for Refusal {
+    ghost use Rattle.std.specs.Prelude.{◌≡◌};
+    ghost use Rattle.admission.specs.declared.refusal.Refusal.TheVariants.{Image};
+
+    ghost from_gives = { λ fault refusal. refusal ≡ Image fault };
+
+    fn from(fault: ImageFault) -> Refusal {
+        Refusal::Image(fault)
+    }
+}
+
+impl From<Refused> for Refusal {
+    ghost use Rattle.std.specs.Prelude.{◌≡◌};
+    ghost use Rattle.admission.specs.declared.refusal.Refusal.TheVariants.{Rule};
+
+    ghost from_gives = { λ refused refusal. refusal ≡ Rule refused };
+
+    fn from(refused: Refused) -> Refusal {
+        Refusal::Rule(refused)
+    }
+}
+
+impl fmt::Display for Refusal {
+    ghost use Rattle.std.specs.Prelude.{Some};
+    ghost use Rattle.admission.specs.Admissions.{refusal_text};
+
+    ghost output = { λ refusal. Some (refusal_text refusal) };
+
+    fn fmt<W: fmt::Write>(&self, f: &mut fmt::Formatter<W>) -> fmt::Result {
+        match self {
+            Refusal::Image(fault) => write!(f, "{fault}"),
+            Refusal::Rule(Refused { rule, slot }) => match rule.number() {
+                Some(number) => write!(f, "V{number} {slot}"),
+                None => f.write_str("E1 0"),
+            },
+            Refusal::OtherKind => f.write_str("G2"),
+        }
+    }
+}

@@ -1,0 +1,74 @@
+//! What is let in, and why bytes are not.
+use crate::{Refusal, admit_hook, admit_image, admit_program};
+use bpfimage::ImageKind;
+use helpers::Sigs;
+use std::alloc::Global;
+use std::process::Abort;
+use std::test::Fail;
+use verifier::Verified;
+
+/// A resolver with an input window of 128 bytes and no output, that takes the first sibling.
+const TAKES_FIRST: [u8; 32] = [
+    0x52, 0x42, 0x50, 0x46, 1, 2, 0, 0, 128, 0, 0, 0, 0, 0, 0, 0, 0xb7, 0, 0, 0, 0, 1, 0, 0, 0x95,
+    0, 0, 0, 0, 0, 0, 0,
+];
+
+/// Code that ends at once, with an answer that is not set.
+const EXIT: [u8; 8] = [0x95, 0, 0, 0, 0, 0, 0, 0];
+
+/// Code that answers 0.
+const ZERO: [u8; 16] = [0xb7, 0, 0, 0, 0, 0, 0, 0, 0x95, 0, 0, 0, 0, 0, 0, 0];
+
+/// The text of a refusal.
+fn told(alloc: Global, outcome: Result<Verified, Refusal>) -> Result<String, Fail> {
+    match outcome {
+        Ok(_) => Err(Fail::new("it was let in")),
+        Err(refusal) => Ok(format!(in alloc; "{refusal}")?),
+    }
+}
+
+/// The kind of what was let in, and the length of its input.
+fn shape(outcome: Result<Verified, Refusal>) -> Option<(ImageKind, u32)> {
+    let verified = outcome.ok()?;
+    Some((verified.image().kind, verified.image().in_len))
+}
+
+#[test]
+fn hooks_and_programs(rt: HostRuntime) {
+    let alloc = rt.alloc();
+    let sigs = Sigs::new(alloc);
+    let resolver = Some((ImageKind::Resolver, 128));
+    let hook = admit_hook(alloc, &TAKES_FIRST, ImageKind::Resolver, &sigs);
+    assert_eq!(rt; shape(hook), resolver);
+    assert_eq!(rt; shape(admit_image(alloc, &TAKES_FIRST, &sigs)), resolver);
+    assert_eq!(rt; shape(admit_program(alloc, &TAKES_FIRST, &sigs)), resolver);
+    let raw = Some((ImageKind::Plain, 4096));
+    assert_eq!(rt; shape(admit_program(alloc, &ZERO, &sigs)), raw);
+}
+
+#[test]
+fn refusals(rt: HostRuntime) -> Result<(), Fail> {
+    let alloc = rt.alloc();
+    let sigs = Sigs::new(alloc);
+    let other = admit_hook(alloc, &TAKES_FIRST, ImageKind::PreCommit, &sigs);
+    assert_eq!(rt; told(alloc, other)?.as_str(), "G2");
+    assert_eq!(rt;
+        told(alloc, admit_image(alloc, &EXIT, &sigs))?.as_str(),
+        "I1"
+    );
+    assert_eq!(rt;
+        told(alloc, admit_image(alloc, &ZERO, &sigs))?.as_str(),
+        "I2"
+    );
+    assert_eq!(rt;
+        told(alloc, admit_program(alloc, &EXIT, &sigs))?.as_str(),
+        "V20 0"
+    );
+    let cut = admit_program(alloc, &EXIT[..7], &sigs);
+    assert_eq!(rt; told(alloc, cut)?.as_str(), "D1 0");
+    assert_eq!(rt;
+        told(alloc, admit_program(alloc, &[], &sigs))?.as_str(),
+        "D2 0"
+    );
+    Ok(())
+}
