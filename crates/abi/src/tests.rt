@@ -1,6 +1,6 @@
 //! Worked rows of the hook input, and the table of verdicts.
 
-use crate::{BadAnswer, HookKind, TooLarge, Verdict, fill_input, read_answer};
+use crate::{BadAnswer, HookKind, TooLarge, Verdict, fill_input, octet_stream, read_answer};
 use dvv::Dot;
 use object::{Bytes, Content, Sibling};
 use std::alloc::{AllocError, Global};
@@ -166,5 +166,22 @@ fn shown_as_numbers(rt: HostRuntime) -> Result<(), Fail> {
         assert_eq!(rt; format!(in alloc; "{bad}")?.as_str(), want);
     }
     assert_eq!(rt; format!(in alloc; "{}", TooLarge)?.as_str(), "large");
+    Ok(())
+}
+
+#[test]
+fn written_bytes(rt: HostRuntime) -> Result<(), Fail> {
+    for bytes in [b"".as_slice(), &[0, 0xff]] {
+        match octet_stream(rt.alloc(), bytes)? {
+            Content::Value {
+                media,
+                bytes: shared,
+            } => {
+                assert_eq!(rt; media.as_slice(), b"application/octet-stream".as_slice());
+                assert_eq!(rt; shared.as_slice(), bytes);
+            }
+            Content::Tombstone => assert!(rt; false),
+        }
+    }
     Ok(())
 }
