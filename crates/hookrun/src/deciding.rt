@@ -1,0 +1,137 @@
+//! A run of a hook on the siblings of a key, and its verdict.
+
+ghost use Rattle.std.specs.Prelude.{◌≡◌, ◌≤◌, ◌<◌, ◌⊎◌, length, replicate, IfOk, OnOk, OnErr, MatchResult, Ok, Err};
+ghost use Rattle.std.specs.Option.{option_copied};
+ghost use Rattle.memory.specs.Step.{IsInput};
+ghost use Rattle.abi.specs.Input.{contents_shown, used_by, window_of};
+ghost use Rattle.helpers.specs.Entries.{AgreesWith};
+ghost use Rattle.abi.specs.Verdicts.{meaning_of};
+ghost use Rattle.hookrun.specs.Decisions.{hook_kind, IsDecision, IsRuling};
+
+use abi::{BadAnswer, HookKind, TooLarge, Verdict, fill_input, read_answer};
+use bpfimage::ImageKind;
+use helpers::Table;
+use machine::run;
+use object::{Content, Sibling};
+use std::alloc::{AllocError, Global};
+use verifier::Verified;
+
+/// Why a hook decides nothing.
+#[derive(Clone, Copy, Debug, PartialEq, Eq, Drop)]
+pub enum RunFault {
+    /// The table doesn't have each helper that the program was verified with, under the same Sig.
+    Disagrees,
+    /// There are over 64 siblings, or the input window is too short to show the contents.
+    TooLarge,
+    /// The run's answer has no meaning.
+    Bad(BadAnswer),
+    /// Memory ran out before the run.
+    NoMemory,
+}
+
+/// The windows of hooks. They are kept from run to run and grow to the longest that was needed.
+#[derive(Drop)]
+pub struct Room {
+    input: Vec<u8>,
+    output: Vec<u8>,
+}
+
+impl Room {
+    /// Room for no byte as yet.
+    pub fn new(alloc: Global) -> Room {
+        Room {
+            input: Vec::new(alloc),
+            output: Vec::new(alloc),
+        }
+    }
+}
+
+/// What the program of an image is run for.
+pub fn hook_kind(kind: ImageKind) -> HookKind
+    ensures { result ≡ hook_kind kind }
+{
+    match kind {
+        ImageKind::Plain => HookKind::Plain,
+        ImageKind::PreCommit => HookKind::PreCommit,
+        ImageKind::Resolver => HookKind::Resolver,
+    }
+}
+
+/// Runs a hook on the siblings of a key, and on a new content where there is one. The verdict is that of a run of the program
+/// on their layout; it borrows the output window.
+///
+/// `Disagrees`, `TooLarge` and `Bad`, the first that stands; `NoMemory` where a window could not grow.
+pub fn decide<'a>(
+    room: &'a mut Room,
+    hook: &Verified,
+    table: &Table,
+    new: Option<&Content>,
+    siblings: &[Sibling],
+) -> Result<Verdict<'a>, RunFault>
+    ensures { MatchResult result (λ verdict. IsDecision hook.now (option_copied new.entry) siblings.now table.now.listed (Ok (meaning_of verdict))) (λ fault. IsDecision hook.now (option_copied new.entry) siblings.now table.now.listed (Err fault)) }
+{
+    if !table.agrees(hook.sigs()) {
+        return Err(RunFault::Disagrees);
+    }
+    let image = hook.image();
+    let Ok(input) = window(&mut room.input, image.in_len as usize) else {
+        return Err(RunFault::NoMemory);
+    };
+    let Ok(output) = window(&mut room.output, image.out_len as usize) else {
+        return Err(RunFault::NoMemory);
+    };
+    output.fill(0);
+    rule(hook, table, new, siblings, input, output)
+}
+
+/// So many bytes at the front of a buffer, which grows where it is shorter.
+fn window(buffer: &mut Vec<u8>, len: usize) -> Result<&mut [u8], AllocError>
+    ensures { IfOk result (λ bytes. length bytes.now ≡ len) }
+{
+    if buffer.len() < len {
+        buffer.resize(len, 0)?;
+    }
+    Ok(&mut buffer[..len])
+}
+
+/// Runs a hook in windows of its lengths.
+fn rule<'a>(
+    hook: &Verified,
+    table: &Table,
+    new: Option<&Content>,
+    siblings: &[Sibling],
+    input: &mut [u8],
+    output: &'a mut [u8],
+) -> Result<Verdict<'a>, RunFault>
+    requires agrees { AgreesWith table.now.listed hook.now.sigs }
+    requires input { length input.old ≡ hook.now.in_len }
+    requires output { output.old ≡ replicate hook.now.out_len 0 }
+    ensures { MatchResult result (λ verdict. IsRuling hook.now (option_copied new.entry) siblings.now (Ok (meaning_of verdict))) (λ fault. IsRuling hook.now (option_copied new.entry) siblings.now (Err fault)) }
+{
+    let kind = hook_kind(hook.image().kind);
+    let Ok(used) = show(kind, new, siblings, input) else {
+        return Err(RunFault::TooLarge);
+    };
+    let done = run(hook, table, input, used, output);
+    match read_answer(kind, done.answer, siblings.len() as u32, output) {
+        Ok(verdict) => Ok(verdict),
+        Err(bad) => Err(RunFault::Bad(bad)),
+    }
+}
+
+/// Lays out in the whole window what a hook reads, and answers how many bytes are used.
+fn show(
+    kind: HookKind,
+    new: Option<&Content>,
+    siblings: &[Sibling],
+    window: &mut [u8],
+) -> Result<u32, TooLarge>
+    requires { length window.old ≤ 65536 }
+    ensures used { IfOk result (λ used. used ≡ used_by (contents_shown (option_copied new.entry) siblings.now)) }
+    ensures shown { OnOk result (window.new ≡ window_of (length window.old) kind (contents_shown (option_copied new.entry) siblings.now)) }
+    ensures room { OnOk result ((length siblings.now ≤ 64) × (used_by (contents_shown (option_copied new.entry) siblings.now) ≤ length window.old)) }
+    ensures large { OnErr result ((64 < length siblings.now) ⊎ (length window.old < used_by (contents_shown (option_copied new.entry) siblings.now))) }
+    ensures input { IfOk result (λ used. IsInput (length window.old) window.new used) }
+{
+    fill_input(kind, new, siblings, window)
+}

@@ -1,0 +1,47 @@
+//! A hook from the bytes of its image.
+
+ghost use Rattle.std.specs.Prelude.{◌≡◌, MatchResult, Ok, Err};
+ghost use Rattle.std.specs.Option.{option_copied};
+ghost use Rattle.abi.specs.Verdicts.{meaning_of};
+ghost use Rattle.hookrun.specs.Images.{Decides, IsUndecided};
+
+use crate::deciding::{Room, RunFault, decide};
+use abi::Verdict;
+use admission::{Refusal, admit_hook};
+use bpfimage::ImageKind;
+use helpers::Table;
+use object::{Content, Sibling};
+use std::alloc::Global;
+
+/// Why the bytes of an image decide nothing.
+#[derive(Clone, Copy, Debug, PartialEq, Eq, Drop)]
+pub enum Undecided {
+    /// They are no image, the verifier doesn't accept it, or it is of another kind.
+    Refused(Refusal),
+    /// The hook's run gave no verdict.
+    Fault(RunFault),
+}
+
+/// Reads an image, verifies it for the table, and runs it on the siblings of a key, and on a new content where there is one.
+///
+/// An answer is the verdict of a run of the image's program on the layout of the contents, to its exit.
+pub fn decide_image<'a>(
+    alloc: Global,
+    room: &'a mut Room,
+    bytes: &[u8],
+    kind: ImageKind,
+    table: &Table,
+    new: Option<&Content>,
+    siblings: &[Sibling],
+) -> Result<Verdict<'a>, Undecided>
+    ensures { MatchResult result (λ verdict. Decides bytes.now kind table.now.listed (option_copied new.entry) siblings.now (Ok (meaning_of verdict))) (IsUndecided bytes.now kind table.now.listed (option_copied new.entry) siblings.now) }
+{
+    let hook = match admit_hook(alloc, bytes, kind, &table.listed) {
+        Ok(hook) => hook,
+        Err(refusal) => return Err(Undecided::Refused(refusal)),
+    };
+    match decide(room, &hook, table, new, siblings) {
+        Ok(verdict) => Ok(verdict),
+        Err(fault) => Err(Undecided::Fault(fault)),
+    }
+}

@@ -1,0 +1,10 @@
+//! Runs of hooks: from the bytes of an image and the siblings of a key to a verdict.
+#![tactic(auto)]
+
+pub mod deciding;
+pub mod image;
+#[cfg(test)]
+mod tests;
+
+pub use deciding::{Room, RunFault, decide, hook_kind};
+pub use image::{Undecided, decide_image};
