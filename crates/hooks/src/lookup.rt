@@ -24,7 +24,7 @@ pub trait Hooks {
     ghost names: { Self → List ℕ → Kind → Result (Option (List ℕ)) Fault → Self → Type 0 };
 
     /// The program that is bound to a bucket and a kind.
-    fn find_hook(
+    fn hook_of(
         &mut self,
         bucket: &Bytes,
         kind: ImageKind,
@@ -32,7 +32,7 @@ pub trait Hooks {
         ensures { finds self.old bucket.now kind (programs_of result) self.new };
 
     /// The name that is bound to a bucket and a kind.
-    fn find_name(&mut self, bucket: &Bytes, kind: ImageKind) -> Result<Option<Bytes>, HookFault>
+    fn bound(&mut self, bucket: &Bytes, kind: ImageKind) -> Result<Option<Bytes>, HookFault>
         ensures { names self.old bucket.now kind result self.new };
 }
 
@@ -41,15 +41,15 @@ impl Hooks for Registry {
 
     ghost names = { λ before bucket kind answer after. (after ≡ before) × MatchResult answer (λ name. name ≡ bound_in before.bindings bucket kind) (λ fault. fault ≡ NoMemory) };
 
-    fn find_hook(
+    fn hook_of(
         &mut self,
         bucket: &Bytes,
         kind: ImageKind,
     ) -> Result<Option<Arc<Verified>>, HookFault> {
-        self.hook_of(bucket, kind)
+        Registry::hook_of(self, bucket, kind)
     }
 
-    fn find_name(&mut self, bucket: &Bytes, kind: ImageKind) -> Result<Option<Bytes>, HookFault> {
-        self.bound(bucket, kind)
+    fn bound(&mut self, bucket: &Bytes, kind: ImageKind) -> Result<Option<Bytes>, HookFault> {
+        Registry::bound(self, bucket, kind)
     }
 }

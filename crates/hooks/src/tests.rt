@@ -2,6 +2,7 @@
 
 use crate::{HookFault, Hooks, Registry};
 use bpfimage::{ImageKind, read_image};
+use helpers::Sigs;
 use object::Bytes;
 use std::alloc::{AllocError, Global};
 use std::sync::Arc;
@@ -17,7 +18,7 @@ fn program(alloc: Global, kind: u8, answer: u8) -> Result<Arc<Verified>, Fail> {
     let Ok(image) = read_image(alloc, &bytes) else {
         return Err("no image")?;
     };
-    let Ok(verified) = verify(alloc, image) else {
+    let Ok(verified) = verify(alloc, image, &Sigs::new(alloc)) else {
         return Err("refused")?;
     };
     Ok(Arc::new(alloc, verified)?)
@@ -65,11 +66,11 @@ fn changes_take_effect_at_once(rt: HostRuntime) -> Result<(), Fail> {
     let bound = registry.bound(&b, RESOLVER)?;
     assert!(rt; bound == Some(take.copy()?));
     registry.install(take, program(alloc, 2, 0)?)?;
-    assert!(rt; registry.find_hook(&b, RESOLVER)?.is_some());
+    assert!(rt; Hooks::hook_of(&mut registry, &b, RESOLVER)?.is_some());
     let unbind = [(RESOLVER, None)];
     assert_eq!(rt; registry.bind(&b, &unbind), Ok(()));
     assert_eq!(rt; kind_of(&registry, &b, RESOLVER), Ok(None));
-    assert!(rt; registry.find_name(&b, RESOLVER)?.is_none());
+    assert!(rt; Hooks::bound(&mut registry, &b, RESOLVER)?.is_none());
     assert_eq!(rt; kind_of(&registry, &b, BEFORE), Ok(Some(BEFORE)));
     Ok(())
 }
