@@ -10,11 +10,13 @@ use Rattle.object.specs.declared.content.Key.{Key}
 use Rattle.object.specs.declared.content.Content.{Content}
 use Rattle.object.specs.Known.{Write}
 use Rattle.journal.proofs.Keyed.{one_key}
+use Rattle.helpers.specs.declared.sig.Entry.{Entry as Helper}
+use Rattle.std.specs.Prelude.{Option}
 use Rattle.world.specs.declared.event.Event.{Event}
 use Rattle.world.specs.declared.event.Refusal.{Refusal}
 use Rattle.world.specs.declared.event.Reply.{Reply}
-use Rattle.world.specs.Knowledge.{Knowledge, KeyedWrite, Left, Nothing, Copied, Failed, opened, known_at, under, is_of, write_of, after_refusal, after_put, after_copy, after_delivery, after_restart}
-use Rattle.world.specs.Happening.{Happens, wants_memory, refused_alike, stored, put_refused, found, sent, delivered, delivery_refused, restarted, full, Run, IsKnown}
+use Rattle.world.specs.Knowledge.{Knowledge, KeyedWrite, Left, Nothing, Copied, Chosen, Failed, opened, known_at, under, is_of, write_of, after_refusal, after_put, after_copy, after_delivery, after_restart, after_run, after_nothing}
+use Rattle.world.specs.Happening.{Happens, wants_memory, refused_alike, stored, put_refused, found, sent, delivered, delivery_refused, restarted, full, resolved, choice_stored, choice_refused, nothing_chosen, Run, IsKnown}
 use Rattle.world.specs.Causality.{IsCausal, IsFresh, EachAfter}
 use Rattle.world.specs.Numbering.{IsNumbered, IsLawful}
 use Rattle.dvv.specs.Clock.{covers}
@@ -81,6 +83,12 @@ lawful_refusal old r lawful = leaves_lawful old (after_refusal old r) (Failed r)
 pub lawful_restart : (old : Knowledge) (v : ℕ) → IsLawful old → IsLawful (after_restart old v)
 lawful_restart old v lawful = leaves_lawful old (after_restart old v) Nothing lawful refl refl refl (λ key writes e. absurd (cc))
 
+pub lawful_run : (old : Knowledge) (key : Key) (writes : List Write) (content : Option Content) → IsLawful old → IsLawful (after_run old key writes content)
+lawful_run old key writes content lawful = leaves_lawful old (after_run old key writes content) (Chosen key writes content) lawful refl refl refl (λ k ws e. absurd (cc))
+
+pub lawful_nothing : (old : Knowledge) → IsLawful old → IsLawful (after_nothing old)
+lawful_nothing old lawful = leaves_lawful old (after_nothing old) Nothing lawful refl refl refl (λ key writes e. absurd (cc))
+
 pub known_put : (old : Knowledge) (v : ℕ) (key : Key) → IsLawful old → (w : Write) → Contains (known_at old v key) w → Contains old.puts (record { key = key; write = w })
 known_put old v key lawful w c = lawful.known v (record { key = key; write = w }) (from_of_key key (get_or old.known v []) w c)
 
@@ -143,23 +151,27 @@ lawful_delivery old v key writes lawful was_put = record {
 }
 
 -- an event keeps it
-pub happens_lawful : (old : Knowledge) (event : Event) (reply : Reply) (new : Knowledge) → IsLawful old → Happens old event reply new → IsLawful new
-happens_lawful old event reply new lawful (wants_memory may r e) = subst IsLawful (sym e) (lawful_refusal old _ lawful)
-happens_lawful old event reply new lawful (refused_alike name refusal n l r e) = subst IsLawful (sym e) (lawful_refusal old refusal lawful)
-happens_lawful old event reply new lawful (stored v key seen content clock is means may r e) = subst IsLawful (sym e) (lawful_put old v key clock content lawful may.context)
-happens_lawful old event reply new lawful (put_refused v key seen content clock refusal is means why r e) = subst IsLawful (sym e) (lawful_refusal old refusal lawful)
-happens_lawful old event reply new lawful (found v key state is shows place r e) = subst IsLawful (sym e) (lawful_copy old v key lawful)
-happens_lawful old event reply new lawful (sent v key message is carries place r e) = subst IsLawful (sym e) (lawful_copy old v key lawful)
-happens_lawful old event reply new lawful (delivered message v key writes changed is l may c r e) = subst IsLawful (sym e) (lawful_delivery old v key writes lawful (lawful.copied message key writes l))
-happens_lawful old event reply new lawful (delivery_refused message v key writes refusal is l why r e) = subst IsLawful (sym e) (lawful_refusal old refusal lawful)
-happens_lawful old event reply new lawful (restarted v is place r e) = subst IsLawful (sym e) (lawful_restart old v lawful)
-happens_lawful old event reply new lawful (full v is f r e) = subst IsLawful (sym e) (lawful_refusal old _ lawful)
+pub happens_lawful : (listed : List Helper) (old : Knowledge) (event : Event) (reply : Reply) (new : Knowledge) → IsLawful old → Happens listed old event reply new → IsLawful new
+happens_lawful listed old event reply new lawful (wants_memory may r e) = subst IsLawful (sym e) (lawful_refusal old _ lawful)
+happens_lawful listed old event reply new lawful (refused_alike name refusal n l r e) = subst IsLawful (sym e) (lawful_refusal old refusal lawful)
+happens_lawful listed old event reply new lawful (stored v key seen content clock is means may r e) = subst IsLawful (sym e) (lawful_put old v key clock content lawful may.context)
+happens_lawful listed old event reply new lawful (put_refused v key seen content clock refusal is means why r e) = subst IsLawful (sym e) (lawful_refusal old refusal lawful)
+happens_lawful listed old event reply new lawful (found v key state is shows place r e) = subst IsLawful (sym e) (lawful_copy old v key lawful)
+happens_lawful listed old event reply new lawful (sent v key message is carries place r e) = subst IsLawful (sym e) (lawful_copy old v key lawful)
+happens_lawful listed old event reply new lawful (delivered message v key writes changed is l may c r e) = subst IsLawful (sym e) (lawful_delivery old v key writes lawful (lawful.copied message key writes l))
+happens_lawful listed old event reply new lawful (delivery_refused message v key writes refusal is l why r e) = subst IsLawful (sym e) (lawful_refusal old refusal lawful)
+happens_lawful listed old event reply new lawful (restarted v is place r e) = subst IsLawful (sym e) (lawful_restart old v lawful)
+happens_lawful listed old event reply new lawful (full v is f r e) = subst IsLawful (sym e) (lawful_refusal old _ lawful)
+happens_lawful listed old event reply new lawful (resolved get hook key writes state resolution is l shows res r e) = subst IsLawful (sym e) (lawful_run old key writes _ lawful)
+happens_lawful listed old event reply new lawful (choice_stored run v key writes content clock is l context may r e) = subst IsLawful (sym e) (lawful_put old v key clock content lawful may.context)
+happens_lawful listed old event reply new lawful (choice_refused run v key writes content clock refusal is l context why r e) = subst IsLawful (sym e) (lawful_refusal old refusal lawful)
+happens_lawful listed old event reply new lawful (nothing_chosen run v key writes is l r e) = subst IsLawful (sym e) (lawful_nothing old lawful)
 
-pub run_lawful : (old : Knowledge) (events : List Event) (replies : List Reply) (new : Knowledge) → IsLawful old → Run old events replies new → IsLawful new
-run_lawful old [] [] new lawful run = subst IsLawful (sym run) lawful
-run_lawful old (event ∷ events) (reply ∷ replies) new lawful run = run_lawful run.0 events replies new (happens_lawful old event reply run.0 lawful run.1) run.2
-run_lawful old [] (reply ∷ replies) new lawful run = absurd run
-run_lawful old (event ∷ events) [] new lawful run = absurd run
+pub run_lawful : (listed : List Helper) (old : Knowledge) (events : List Event) (replies : List Reply) (new : Knowledge) → IsLawful old → Run listed old events replies new → IsLawful new
+run_lawful listed old [] [] new lawful run = subst IsLawful (sym run) lawful
+run_lawful listed old (event ∷ events) (reply ∷ replies) new lawful run = run_lawful listed run.0 events replies new (happens_lawful listed old event reply run.0 lawful run.1) run.2
+run_lawful listed old [] (reply ∷ replies) new lawful run = absurd run
+run_lawful listed old (event ∷ events) [] new lawful run = absurd run
 
 -- vnodes that know nothing
 pub none_known : (n v : ℕ) → get_or (replicate n (let x : List KeyedWrite = [] in x)) v [] ≡ []
@@ -177,5 +189,5 @@ lawful_opened ids = record {
 pub lawful_causal : (world : Knowledge) → IsLawful world → IsCausal world.puts
 lawful_causal world lawful = causal [] world.puts tt lawful.puts
 
-pub run_causal : (ids : List ℕ) (events : List Event) (replies : List Reply) (world : Knowledge) → Run (opened ids) events replies world → IsCausal world.puts
-run_causal ids events replies world run = lawful_causal world (run_lawful (opened ids) events replies world (lawful_opened ids) run)
+pub run_causal : (listed : List Helper) (ids : List ℕ) (events : List Event) (replies : List Reply) (world : Knowledge) → Run listed (opened ids) events replies world → IsCausal world.puts
+run_causal listed ids events replies world run = lawful_causal world (run_lawful listed (opened ids) events replies world (lawful_opened ids) run)

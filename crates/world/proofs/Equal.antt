@@ -7,13 +7,15 @@ use Rattle.dvv.specs.declared.Dot.{Dot}
 use Rattle.object.specs.declared.content.Content.{Content}
 use Rattle.object.specs.declared.content.Key.{Key}
 use Rattle.object.specs.declared.content.Sibling.{Sibling}
-use Rattle.object.specs.State.{State, AreInOrder, IsBefore, content_at, is_dot}
+use Rattle.object.specs.State.{State, IsState, AreInOrder, IsBefore, content_at, is_dot}
 use Rattle.object.specs.Known.{Write}
+use Rattle.object.proofs.Same.{same_state}
+use Rattle.object.proofs.Siblings.{found_covers}
 use Rattle.world.specs.Knowledge.{Knowledge, IsStateOf}
 use Rattle.world.specs.Numbering.{IsLawful, WerePut}
 use Rattle.world.proofs.Lists.{Contains-nil, Contains-first, Contains-later, Contains-cases}
 use Rattle.world.proofs.Numbers.{one_write}
-use Rattle.world.proofs.Shown.{is_dot-same, is_dot-true}
+use Rattle.world.proofs.Shown.{is_dot-same, is_dot-true, same_options}
 
 is_dot-other : (a b : Dot) → a ≢ b → is_dot a b ≡ false
 is_dot-other a b ne = elim (cases_Bool (is_dot a b)) [ inl t ↦ absurd (ne (is_dot-true a b t)) | inr f ↦ f ]
@@ -55,3 +57,17 @@ equal_states w key mine theirs a b lawful put_mine put_theirs is_a is_b dots clo
         let p = (is_a.shows.siblings x.dot x.content).0 (found_at a.siblings x is_a.in_order cx) in
         let q = (is_b.shows.siblings y.dot y.content).0 (found_at b.siblings y is_b.in_order cy) in
         sym p.3 ∙ ap (λ (z : Write). z.content) (one_write w key p.0 q.0 lawful (put_mine p.0 p.1.is_known) (put_theirs q.0 q.1.is_known) (p.2 ∙ d ∙ sym q.2)) ∙ q.3
+
+-- the state of some writes is a state
+whole_state : (known : List Write) (state : State) → IsStateOf known state → IsState state
+whole_state known state is = record {
+  in_order = is.in_order;
+  covered = found_covers state.clock state.siblings (λ d c e. let r = (is.shows.siblings d c).0 e in (is.shows.clock d).1 (r.0, r.1.is_known, inl r.2));
+  clock = is.clock;
+}
+
+-- Some writes have one state.
+pub one_state : (known : List Write) (a b : State) → IsStateOf known a → IsStateOf known b → a ≡ b
+one_state known a b is_a is_b = same_state a b (whole_state known a is_a) (whole_state known b is_b)
+    (λ d. same_options (content_at a.siblings d) (content_at b.siblings d) (λ c h. (is_b.shows.siblings d c).1 ((is_a.shows.siblings d c).0 h)) (λ c h. (is_a.shows.siblings d c).1 ((is_b.shows.siblings d c).0 h)))
+    (λ d. (λ h. (is_b.shows.clock d).1 ((is_a.shows.clock d).0 h), λ h. (is_a.shows.clock d).1 ((is_b.shows.clock d).0 h)))

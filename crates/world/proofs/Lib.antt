@@ -6,3 +6,4 @@ pub mod Steps
 pub mod Equal
 pub mod Runs
 pub mod Whole
+pub mod Resolvers

@@ -18,23 +18,29 @@ use Rattle.vnode.specs.declared.fault.VnodeFault.{VnodeFault}
 use Rattle.vnode.specs.declared.fault.VnodeFault.TheVariants as vnode
 use Rattle.vnode.specs.Refusals.{RefusesMerge}
 use Rattle.world.specs.Appending.{refusal_of_vnode, Appends, RefusesPutAt, RefusesMergeAt, RefusesEntryAt}
-use Rattle.world.proofs.Steps.{put_step, copy_step, restart_step, refusal_step, delivery_step, shown, state_shown, state_next_is, known_seen, may_put, may_deliver, were_put}
+use Rattle.world.proofs.Steps.{put_step, copy_step, restart_step, refusal_step, run_step, nothing_step, delivery_step, shown, state_shown, state_next_is, known_seen, may_put, may_deliver, were_put}
 use Rattle.std.proofs.lemmas.Bool.{cases_lt}
 use Rattle.dvv.specs.Clock.{HasRoom, vnodes_together}
 use Rattle.journal.specs.Limits.{TakesDot, AcceptsPut}
+use Rattle.helpers.specs.declared.sig.Entry.{Entry as Helper}
+use Rattle.verifier.specs.Program.{Program}
+use Rattle.std.specs.Prelude.{None}
 use Rattle.world.specs.declared.event.Event.{Event}
-use Rattle.world.specs.declared.event.Event.TheVariants.{Put, Get, Send, Deliver, Restart}
+use Rattle.world.specs.declared.event.Event.TheVariants.{Put, Get, Send, Deliver, Restart, ResolveRead, ResolveWrite}
 use Rattle.world.specs.declared.event.Refusal.TheVariants.{ContextAhead, TooManySiblings, ClockFull, MergeFull, JournalFull, NoMemory}
 use Rattle.world.specs.declared.event.Message.{Message}
 use Rattle.world.specs.declared.event.Refusal.{Refusal}
 use Rattle.world.specs.declared.event.Seen.{Seen}
 use Rattle.world.specs.declared.event.Seen.TheVariants.{Clock as Given, Get as ContextOf}
+use Rattle.world.specs.declared.event.Resolution.{Resolution}
 use Rattle.world.specs.declared.event.Reply.{Reply}
-use Rattle.world.specs.declared.event.Reply.TheVariants.{Stored, Found, Sent, Changed, Restarted, Refused}
-use Rattle.world.specs.Knowledge.{Knowledge, Failed, below, left_by, id_of, next_dot, write_of, after_refusal, after_put, after_copy, after_delivery, after_restart, IsStateOf}
-use Rattle.world.specs.Happening.{Means, Happens, wants_memory, refused_alike, stored, put_refused, found, sent, delivered, delivery_refused, restarted, full, RefusesPut, RefusesDelivery, IsAt, HasPlace, MayPut, MayDeliver, MayHappen}
+use Rattle.world.specs.declared.event.Reply.TheVariants.{Stored, Found, Sent, Changed, Restarted, Resolved, Nothing, Refused}
+use Rattle.world.specs.Knowledge.{Knowledge, Copied, Chosen, Failed, below, left_by, id_of, next_dot, write_of, after_refusal, after_put, after_copy, after_delivery, after_restart, after_run, after_nothing, IsStateOf}
+use Rattle.world.specs.Resolving.{IsResolution, chosen_by}
+use Rattle.world.proofs.Equal.{one_state}
+use Rattle.world.specs.Happening.{Means, Happens, wants_memory, refused_alike, stored, put_refused, found, sent, delivered, delivery_refused, restarted, full, resolved, choice_stored, choice_refused, nothing_chosen, RefusesPut, RefusesDelivery, IsAt, HasPlace, MayPut, MayDeliver, MayHappen}
 use Rattle.world.specs.Represents.{Represents, log_at, empty_logs}
-use Rattle.world.specs.Running.{Remember, Holds, ReplyAt, IsFoundOrRefused, IsSentOrRefused, IsRefusedContext, IsMessageOf}
+use Rattle.world.specs.Running.{Remember, Holds, Recall, ReplyAt, IsFoundOrRefused, IsSentOrRefused, IsRefusedContext, IsMessageOf, IsChoiceOf}
 
 -- one vnode more
 pub opened_more : (n : ℕ) → empty_logs (below (n + 1)) ≡ empty_logs (below n) ++ record { vnode = n; entries = [] } ∷ []
@@ -63,9 +69,9 @@ appended_follows : (logs new : List Log) (w : Knowledge) (v : ℕ) (e : Entry) �
 appended_follows logs new w v e rep inside appends = subst (λ (i : ℕ). MayFollow i (log_at logs v).entries e) (rep.ids v inside) appends.follows
 
 -- A put that was accepted is the world's.
-pub put_happened : (logs new : List Log) (w : Knowledge) (v stamp : ℕ) (key : Key) (seen : Seen) (content : Content) (clock : List Dot) (dot : Dot) → Represents logs w → v < length logs → Means w seen clock → Appends logs new v (entry.Put stamp key clock content dot)
-    → (after : Knowledge) × Happens w (Put v key seen content) (Stored dot) after × Represents new after
-put_happened logs new w v stamp key seen content clock dot rep inside means appends =
+pub put_happened : (listed : List Helper) (logs new : List Log) (w : Knowledge) (v stamp : ℕ) (key : Key) (seen : Seen) (content : Content) (clock : List Dot) (dot : Dot) → Represents logs w → v < length logs → Means w seen clock → Appends logs new v (entry.Put stamp key clock content dot)
+    → (after : Knowledge) × Happens listed w (Put v key seen content) (Stored dot) after × Represents new after
+put_happened listed logs new w v stamp key seen content clock dot rep inside means appends =
     let r = put_step logs w v stamp key clock content dot rep inside (appended_follows logs new w v (entry.Put stamp key clock content dot) rep inside appends) in
     (after_put w v key (write_of w v key clock content), stored v key seen content clock refl means r.1 (ap (λ (d : Dot). Stored d) r.0) refl, subst (λ (ls : List Log). Represents ls (after_put w v key (write_of w v key clock content))) (sym appends.entries) r.2)
 
@@ -109,35 +115,35 @@ merge_so log key other vnode.JournalFull h = h
 merge_so log key other vnode.NoMemory h = h
 
 -- a refusal, as the world's
-refused_so : (logs : List Log) (w : Knowledge) (what : Event) (r : Refusal) → Represents logs w → Happens w what (Refused r) (after_refusal w r) → (after : Knowledge) × Happens w what (Refused r) after × Represents logs after
-refused_so logs w what r rep happens = (after_refusal w r, happens, refusal_step logs w r rep)
+refused_so : (listed : List Helper) (logs : List Log) (w : Knowledge) (what : Event) (r : Refusal) → Represents logs w → Happens listed w what (Refused r) (after_refusal w r) → (after : Knowledge) × Happens listed w what (Refused r) after × Represents logs after
+refused_so listed logs w what r rep happens = (after_refusal w r, happens, refusal_step logs w r rep)
 
-pub put_was_refused : (logs : List Log) (w : Knowledge) (v : ℕ) (key : Key) (seen : Seen) (content : Content) (clock : List Dot) (r : Refusal) → Represents logs w → v < length logs → Means w seen clock → RefusesPutAt (log_at logs v) key clock r
-    → (after : Knowledge) × Happens w (Put v key seen content) (Refused r) after × Represents logs after
-put_was_refused logs w v key seen content clock r rep inside means why = refused_so logs w (Put v key seen content) r rep (elim (put_refusal logs w v key clock r rep inside why) [
+pub put_was_refused : (listed : List Helper) (logs : List Log) (w : Knowledge) (v : ℕ) (key : Key) (seen : Seen) (content : Content) (clock : List Dot) (r : Refusal) → Represents logs w → v < length logs → Means w seen clock → RefusesPutAt (log_at logs v) key clock r
+    → (after : Knowledge) × Happens listed w (Put v key seen content) (Refused r) after × Represents logs after
+put_was_refused listed logs w v key seen content clock r rep inside means why = refused_so listed logs w (Put v key seen content) r rep (elim (put_refusal logs w v key clock r rep inside why) [
   | inl memory ↦ wants_memory (clock, means, memory.1) (ap (λ (x : Refusal). Refused x) memory.0) (ap (λ (x : Refusal). after_refusal w x) memory.0)
   | inr refuses ↦ put_refused v key seen content clock r refl means refuses refl refl
 ])
 
-pub context_was_refused : (logs : List Log) (w : Knowledge) (v : ℕ) (key : Key) (seen : Seen) (content : Content) (r : Refusal) → Represents logs w → IsRefusedContext w seen r
-    → (after : Knowledge) × Happens w (Put v key seen content) (Refused r) after × Represents logs after
-context_was_refused logs w v key (Given clock) content r rep failed = absurd failed
-context_was_refused logs w v key (ContextOf get) content r rep failed = refused_so logs w (Put v key (ContextOf get) content) r rep (refused_alike get r refl failed refl refl)
+pub context_was_refused : (listed : List Helper) (logs : List Log) (w : Knowledge) (v : ℕ) (key : Key) (seen : Seen) (content : Content) (r : Refusal) → Represents logs w → IsRefusedContext w seen r
+    → (after : Knowledge) × Happens listed w (Put v key seen content) (Refused r) after × Represents logs after
+context_was_refused listed logs w v key (Given clock) content r rep failed = absurd failed
+context_was_refused listed logs w v key (ContextOf get) content r rep failed = refused_so listed logs w (Put v key (ContextOf get) content) r rep (refused_alike get r refl failed refl refl)
 
 -- vnodes that stayed as they were
-pub with_same : (logs new : List Log) (w : Knowledge) (what : Event) (reply : Reply) → new ≡ logs → (after : Knowledge) × Happens w what reply after × Represents logs after → (after : Knowledge) × Happens w what reply after × Represents new after
-with_same logs new w what reply same (after, happens, rep) = (after, happens, subst (λ (ls : List Log). Represents ls after) (sym same) rep)
+pub with_same : (listed : List Helper) (logs new : List Log) (w : Knowledge) (what : Event) (reply : Reply) → new ≡ logs → (after : Knowledge) × Happens listed w what reply after × Represents logs after → (after : Knowledge) × Happens listed w what reply after × Represents new after
+with_same listed logs new w what reply same (after, happens, rep) = (after, happens, subst (λ (ls : List Log). Represents ls after) (sym same) rep)
 
 -- A get and a send.
-pub get_happened : (logs new : List Log) (w : Knowledge) (v stamp : ℕ) (key : Key) (state : State) → Represents logs w → v < length logs → Appends logs new v (entry.Read stamp key) → IsReplay (log_at logs v).entries key state
-    → (after : Knowledge) × Happens w (Get v key) (Found state) after × Represents new after
-get_happened logs new w v stamp key state rep inside appends replay =
+pub get_happened : (listed : List Helper) (logs new : List Log) (w : Knowledge) (v stamp : ℕ) (key : Key) (state : State) → Represents logs w → v < length logs → Appends logs new v (entry.Read stamp key) → IsReplay (log_at logs v).entries key state
+    → (after : Knowledge) × Happens listed w (Get v key) (Found state) after × Represents new after
+get_happened listed logs new w v stamp key state rep inside appends replay =
     let r = copy_step logs w v stamp key rep inside appends.follows in
     (after_copy w v key, found v key state refl (state_shown logs w v key state rep inside replay) r.0 refl refl, subst (λ (ls : List Log). Represents ls (after_copy w v key)) (sym appends.entries) r.1)
 
-pub send_happened : (logs new : List Log) (w : Knowledge) (v stamp : ℕ) (key : Key) (message : Message) → Represents logs w → v < length logs → Appends logs new v (entry.Read stamp key) → IsReplay (log_at logs v).entries key message.state → message.key ≡ key → message.from ≡ (log_at logs v).vnode → message.at ≡ length (log_at logs v).entries
-    → (after : Knowledge) × Happens w (Send v key) (Sent message) after × Represents new after
-send_happened logs new w v stamp key message rep inside appends replay key_is from at =
+pub send_happened : (listed : List Helper) (logs new : List Log) (w : Knowledge) (v stamp : ℕ) (key : Key) (message : Message) → Represents logs w → v < length logs → Appends logs new v (entry.Read stamp key) → IsReplay (log_at logs v).entries key message.state → message.key ≡ key → message.from ≡ (log_at logs v).vnode → message.at ≡ length (log_at logs v).entries
+    → (after : Knowledge) × Happens listed w (Send v key) (Sent message) after × Represents new after
+send_happened listed logs new w v stamp key message rep inside appends replay key_is from at =
     let r = copy_step logs w v stamp key rep inside appends.follows in
     (after_copy w v key, sent v key message refl (record { key_is = key_is; from_is = from ∙ rep.ids v inside; at_is = at ∙ rep.accepted v inside; state_is = state_shown logs w v key message.state rep inside replay }) r.0 refl refl, subst (λ (ls : List Log). Represents ls (after_copy w v key)) (sym appends.entries) r.1)
 
@@ -148,18 +154,20 @@ place_may w (Send u key) v at place = subst (HasPlace w) (sym at) place
 place_may w (Restart u) v at place = subst (HasPlace w) (sym at) place
 place_may w (Put u key seen content) v at place = absurd at
 place_may w (Deliver message u) v at place = absurd at
+place_may w (ResolveRead get hook) v at place = absurd at
+place_may w (ResolveWrite run u) v at place = absurd at
 
 -- why a vnode refuses a read or a restart is why the world does
-pub entry_was_refused : (logs : List Log) (w : Knowledge) (v : ℕ) (what : Event) (r : Refusal) → Represents logs w → v < length logs → IsAt what v → RefusesEntryAt (log_at logs v) r
-    → (after : Knowledge) × Happens w what (Refused r) after × Represents logs after
-entry_was_refused logs w v what JournalFull rep inside at why = refused_so logs w what JournalFull rep (full v at (sym (rep.accepted v inside) ∙ why) refl refl)
-entry_was_refused logs w v what NoMemory rep inside at why = refused_so logs w what NoMemory rep (wants_memory (place_may w what v at (subst (λ (n : ℕ). n < 2 ^ 32) (rep.accepted v inside) why)) refl refl)
-entry_was_refused logs w v what r rep inside at why = absurd why
+pub entry_was_refused : (listed : List Helper) (logs : List Log) (w : Knowledge) (v : ℕ) (what : Event) (r : Refusal) → Represents logs w → v < length logs → IsAt what v → RefusesEntryAt (log_at logs v) r
+    → (after : Knowledge) × Happens listed w what (Refused r) after × Represents logs after
+entry_was_refused listed logs w v what JournalFull rep inside at why = refused_so listed logs w what JournalFull rep (full v at (sym (rep.accepted v inside) ∙ why) refl refl)
+entry_was_refused listed logs w v what NoMemory rep inside at why = refused_so listed logs w what NoMemory rep (wants_memory (place_may w what v at (subst (λ (n : ℕ). n < 2 ^ 32) (rep.accepted v inside) why)) refl refl)
+entry_was_refused listed logs w v what r rep inside at why = absurd why
 
 -- A restart.
-pub restart_happened : (logs new : List Log) (w : Knowledge) (v stamp : ℕ) → Represents logs w → v < length logs → Appends logs new v (entry.Restart stamp)
-    → (after : Knowledge) × Happens w (Restart v) Restarted after × Represents new after
-restart_happened logs new w v stamp rep inside appends =
+pub restart_happened : (listed : List Helper) (logs new : List Log) (w : Knowledge) (v stamp : ℕ) → Represents logs w → v < length logs → Appends logs new v (entry.Restart stamp)
+    → (after : Knowledge) × Happens listed w (Restart v) Restarted after × Represents new after
+restart_happened listed logs new w v stamp rep inside appends =
     let r = restart_step logs w v stamp rep inside appends.follows in
     (after_restart w v, restarted v refl r.0 refl refl, subst (λ (ls : List Log). Represents ls (after_restart w v)) (sym appends.entries) r.1)
 
@@ -180,20 +188,85 @@ merge_refusal logs w v key state writes NoMemory rep inside is why = inl (refl, 
 merge_refusal logs w v key state writes r rep inside is why = absurd why
 
 -- A delivery.
-pub delivery_happened : (logs new : List Log) (w : Knowledge) (v stamp place : ℕ) (message : Message) (changed : Bool) → Represents logs w → v < length logs → IsMessageOf w place message → Appends logs new v (entry.Merge stamp message.key message.from message.at message.state)
+pub delivery_happened : (listed : List Helper) (logs new : List Log) (w : Knowledge) (v stamp place : ℕ) (message : Message) (changed : Bool) → Represents logs w → v < length logs → IsMessageOf w place message → Appends logs new v (entry.Merge stamp message.key message.from message.at message.state)
     → TellsChange (log_at logs v).entries (entry.Merge stamp message.key message.from message.at message.state) message.key changed
-    → (after : Knowledge) × Happens w (Deliver place v) (Changed changed) after × Represents new after
-delivery_happened logs new w v stamp place message changed rep inside is appends tells =
+    → (after : Knowledge) × Happens listed w (Deliver place v) (Changed changed) after × Represents new after
+delivery_happened listed logs new w v stamp place message changed rep inside is appends tells =
     let r = delivery_step logs w v stamp message.key message.from message.at message.state is.0 rep inside (appended_follows logs new w v (entry.Merge stamp message.key message.from message.at message.state) rep inside appends) (were_put w place message.key is.0 rep.lawful is.1) is.2 in
     (after_delivery w v message.key is.0, delivered place v message.key is.0 changed refl is.1 r.0 (tell_so changed r.2 tells) refl refl, subst (λ (ls : List Log). Represents ls (after_delivery w v message.key is.0)) (sym appends.entries) r.1)
 
-pub delivery_was_refused : (logs : List Log) (w : Knowledge) (v place : ℕ) (message : Message) (r : Refusal) → Represents logs w → v < length logs → IsMessageOf w place message → RefusesMergeAt (log_at logs v) message.key message.state r
-    → (after : Knowledge) × Happens w (Deliver place v) (Refused r) after × Represents logs after
-delivery_was_refused logs w v place message r rep inside is why = refused_so logs w (Deliver place v) r rep (elim (merge_refusal logs w v message.key message.state is.0 r rep inside is.2 why) [
+pub delivery_was_refused : (listed : List Helper) (logs : List Log) (w : Knowledge) (v place : ℕ) (message : Message) (r : Refusal) → Represents logs w → v < length logs → IsMessageOf w place message → RefusesMergeAt (log_at logs v) message.key message.state r
+    → (after : Knowledge) × Happens listed w (Deliver place v) (Refused r) after × Represents logs after
+delivery_was_refused listed logs w v place message r rep inside is why = refused_so listed logs w (Deliver place v) r rep (elim (merge_refusal logs w v message.key message.state is.0 r rep inside is.2 why) [
   | inl memory ↦ wants_memory (message.key, is.0, is.1, memory.1) (ap (λ (x : Refusal). Refused x) memory.0) (ap (λ (x : Refusal). after_refusal w x) memory.0)
   | inr refuses ↦ delivery_refused place v message.key is.0 r refl is.1 refuses refl refl
 ])
 
-pub message_was_refused : (logs : List Log) (w : Knowledge) (v place : ℕ) (r : Refusal) → Represents logs w → left_by w place ≡ Failed r
-    → (after : Knowledge) × Happens w (Deliver place v) (Refused r) after × Represents logs after
-message_was_refused logs w v place r rep failed = refused_so logs w (Deliver place v) r rep (refused_alike place r refl failed refl refl)
+pub message_was_refused : (listed : List Helper) (logs : List Log) (w : Knowledge) (v place : ℕ) (r : Refusal) → Represents logs w → left_by w place ≡ Failed r
+    → (after : Knowledge) × Happens listed w (Deliver place v) (Refused r) after × Represents logs after
+message_was_refused listed logs w v place r rep failed = refused_so listed logs w (Deliver place v) r rep (refused_alike place r refl failed refl refl)
+
+-- what is told of a reply that stands at a place
+pub replied_at : (replies : List Reply) (place : ℕ) (r reply : Reply) (P : Reply → Type 0) → ReplyAt replies place P → r ≡ get_or replies place r → r ≡ reply → slice_get replies place ≡ Some reply
+replied_at replies place r reply P at is e = read_at replies place r at.0 at.1 is ∙ ap (λ (x : Reply). Some x) e
+
+-- A resolver's run decides on what its get answered.
+pub run_happened : (listed : List Helper) (logs : List Log) (w : Knowledge) (replies : List Reply) (get : ℕ) (hook : Program) (state : State) (resolution : Resolution) → Represents logs w → Remember replies w → slice_get replies get ≡ Some (Found state) → IsResolution listed hook state.siblings resolution
+    → (after : Knowledge) × Happens listed w (ResolveRead get hook) (Resolved resolution) after × Represents logs after
+run_happened listed logs w replies get hook state resolution rep remember at decides =
+    let h : Holds (Found state) (left_by w get) = remember.each get (Found state) at in
+    (after_run w h.0 h.1 (chosen_by resolution state.siblings), resolved get hook h.0 h.1 state resolution refl h.2 h.3 decides refl refl, run_step logs w h.0 h.1 (chosen_by resolution state.siblings) rep)
+
+pub run_wants : (listed : List Helper) (logs : List Log) (w : Knowledge) (replies : List Reply) (get : ℕ) (hook : Program) (state : State) → Represents logs w → Remember replies w → slice_get replies get ≡ Some (Found state)
+    → (after : Knowledge) × Happens listed w (ResolveRead get hook) (Refused NoMemory) after × Represents logs after
+run_wants listed logs w replies get hook state rep remember at =
+    let h : Holds (Found state) (left_by w get) = remember.each get (Found state) at in
+    refused_so listed logs w (ResolveRead get hook) NoMemory rep (wants_memory (h.0, h.1, h.2) refl refl)
+
+pub get_was_refused : (listed : List Helper) (logs : List Log) (w : Knowledge) (replies : List Reply) (get : ℕ) (hook : Program) (r : Refusal) → Represents logs w → Remember replies w → slice_get replies get ≡ Some (Refused r)
+    → (after : Knowledge) × Happens listed w (ResolveRead get hook) (Refused r) after × Represents logs after
+get_was_refused listed logs w replies get hook r rep remember at = refused_so listed logs w (ResolveRead get hook) r rep (refused_alike get r refl (remember.each get (Refused r) at) refl refl)
+
+-- What the events and replies tell of a run is what it left.
+pub choice_held : (events : List Event) (replies : List Reply) (w : Knowledge) (run get vnode : ℕ) (hook : Program) (key : Key) (resolution : Resolution) (state : State) → Remember replies w → Recall events replies w
+    → slice_get events run ≡ Some (ResolveRead get hook) → slice_get replies run ≡ Some (Resolved resolution) → slice_get events get ≡ Some (Get vnode key) → slice_get replies get ≡ Some (Found state) → IsChoiceOf w run key state.clock (chosen_by resolution state.siblings)
+choice_held events replies w run get vnode hook key resolution state remember recall names decided asked answered =
+    let c = recall.chosen run get hook resolution names decided in
+    let h : Holds (Found state) (left_by w get) = remember.each get (Found state) answered in
+    let same_key : c.0 ≡ key = recall.keys get vnode key c.0 c.1 asked c.3 in
+    let copies : Copied h.0 h.1 ≡ Copied c.0 c.1 = sym h.2 ∙ c.3 in
+    let writes : h.1 ≡ c.1 = cc in
+    let is : IsStateOf c.1 state = subst (λ (ws : List Write). IsStateOf ws state) writes h.3 in
+    let same : c.2 ≡ state = one_state c.1 c.2 state c.4 is in
+    (c.1, c.5 ∙ ap (λ (k : Key). Chosen k c.1 (chosen_by resolution c.2.siblings)) same_key ∙ ap (λ (x : State). Chosen key c.1 (chosen_by resolution x.siblings)) same, (is.clock, is.shows.clock))
+
+-- A run that was replied names no refused get.
+pub never_refused : (events : List Event) (replies : List Reply) (w : Knowledge) (run get : ℕ) (hook : Program) (resolution : Resolution) (r : Refusal) → Remember replies w → Recall events replies w
+    → slice_get events run ≡ Some (ResolveRead get hook) → slice_get replies run ≡ Some (Resolved resolution) → slice_get replies get ≡ Some (Refused r) → ⊥
+never_refused events replies w run get hook resolution r remember recall names decided refused =
+    let c = recall.chosen run get hook resolution names decided in
+    let h : left_by w get ≡ Failed r = remember.each get (Refused r) refused in
+    let e : Copied c.0 c.1 ≡ Failed r = sym c.3 ∙ h in
+    cc
+
+-- A put of what a run chose.
+pub choice_happened : (listed : List Helper) (logs new : List Log) (w : Knowledge) (run v stamp : ℕ) (key : Key) (content : Content) (clock : List Dot) (dot : Dot) → Represents logs w → v < length logs → IsChoiceOf w run key clock (Some content) → Appends logs new v (entry.Put stamp key clock content dot)
+    → (after : Knowledge) × Happens listed w (ResolveWrite run v) (Stored dot) after × Represents new after
+choice_happened listed logs new w run v stamp key content clock dot rep inside is appends =
+    let r = put_step logs w v stamp key clock content dot rep inside (appended_follows logs new w v (entry.Put stamp key clock content dot) rep inside appends) in
+    (after_put w v key (write_of w v key clock content), choice_stored run v key is.0 content clock refl is.1 is.2 r.1 (ap (λ (d : Dot). Stored d) r.0) refl, subst (λ (ls : List Log). Represents ls (after_put w v key (write_of w v key clock content))) (sym appends.entries) r.2)
+
+pub choice_was_refused : (listed : List Helper) (logs : List Log) (w : Knowledge) (run v : ℕ) (key : Key) (content : Content) (clock : List Dot) (r : Refusal) → Represents logs w → v < length logs → IsChoiceOf w run key clock (Some content) → RefusesPutAt (log_at logs v) key clock r
+    → (after : Knowledge) × Happens listed w (ResolveWrite run v) (Refused r) after × Represents logs after
+choice_was_refused listed logs w run v key content clock r rep inside is why = refused_so listed logs w (ResolveWrite run v) r rep (elim (put_refusal logs w v key clock r rep inside why) [
+  | inl memory ↦ wants_memory (key, is.0, content, clock, is.1, is.2, memory.1) (ap (λ (x : Refusal). Refused x) memory.0) (ap (λ (x : Refusal). after_refusal w x) memory.0)
+  | inr refuses ↦ choice_refused run v key is.0 content clock r refl is.1 is.2 refuses refl refl
+])
+
+pub nothing_was_chosen : (listed : List Helper) (logs : List Log) (w : Knowledge) (run v : ℕ) (key : Key) (clock : List Dot) → Represents logs w → IsChoiceOf w run key clock None
+    → (after : Knowledge) × Happens listed w (ResolveWrite run v) Nothing after × Represents logs after
+nothing_was_chosen listed logs w run v key clock rep is = (after_nothing w, nothing_chosen run v key is.0 refl is.1 refl refl, nothing_step logs w rep)
+
+pub run_was_refused : (listed : List Helper) (logs : List Log) (w : Knowledge) (run v : ℕ) (r : Refusal) → Represents logs w → left_by w run ≡ Failed r
+    → (after : Knowledge) × Happens listed w (ResolveWrite run v) (Refused r) after × Represents logs after
+run_was_refused listed logs w run v r rep failed = refused_so listed logs w (ResolveWrite run v) r rep (refused_alike run r refl failed refl refl)

@@ -1,7 +1,7 @@
 -- One entry more at a vnode is one event more of the world.
 use Rattle.std.proofs.Common.{◌≡◌, ◌≢◌, ℕ, zero, suc, ◌+◌, ◌^◌, ◌<◌, ◌≤◌, ◌&&◌, Bool, true, false, cond, List, [], ◌∷◌, ◌++◌, length, get_or, refl, sym, ap, subst, ◌∙◌, inl, inr, arith, MatchBool, append_assoc, length-append, length-set, replicate}
 use Rattle.std.proofs.lemmas.List.{length-replicate, length-map}
-use Rattle.std.specs.Prelude.{Contains, ◌↔◌, nat_le, nat_lt}
+use Rattle.std.specs.Prelude.{Contains, ◌↔◌, nat_le, nat_lt, Option}
 use Rattle.std.proofs.lemmas.Bool.{cases_eq, and_parts, and_from, both_ways, le-leb, lt-ltb, leb-true, ltb-true}
 use Rattle.std.proofs.lemmas.List.{append-nil, get_or-set_same, get_or-set_other}
 use Rattle.std.proofs.lemmas.List.Elements.{Contains-append_cases, Contains-push, Contains-push_cases}
@@ -22,13 +22,13 @@ use Rattle.object.specs.Known.{ShowsKnown}
 use Rattle.journal.specs.Brought.{Brings, BringsAll, nothing, one_more}
 use Rattle.journal.proofs.Keyed.{one_key}
 use Rattle.journal.proofs.Replayed.{journal_end}
-use Rattle.world.specs.Knowledge.{Knowledge, opened, KeyedWrite, Copied, known_at, of_key, under, learns, accepts, accepted_at, id_of, next_dot, write_of, left_by, IsStateOf, after_refusal, after_put, after_copy, after_delivery, after_restart}
+use Rattle.world.specs.Knowledge.{Knowledge, opened, KeyedWrite, Copied, known_at, of_key, under, learns, accepts, accepted_at, id_of, next_dot, write_of, left_by, IsStateOf, after_refusal, after_put, after_copy, after_delivery, after_restart, after_run, after_nothing}
 use Rattle.world.specs.Happening.{MayPut, IsKnown, MayDeliver, LookAlike, HasPlace}
 use Rattle.world.specs.declared.event.Refusal.{Refusal}
 use Rattle.world.specs.Numbering.{IsLawful, KnowOwn, WerePut}
 use Rattle.world.specs.Represents.{ShowsAt, Represents, AreDistinct, log_at, with_entry_at, empty_logs}
 use Rattle.world.proofs.Lists.{same_key-same, Contains-nil}
-use Rattle.world.proofs.Causal.{lawful_put, lawful_copy, lawful_delivery, lawful_restart, lawful_refusal, lawful_opened, none_known, known_put}
+use Rattle.world.proofs.Causal.{lawful_put, lawful_copy, lawful_delivery, lawful_restart, lawful_refusal, lawful_run, lawful_nothing, lawful_opened, none_known, known_put}
 use Rattle.world.proofs.Shown.{shows_at, replay_is, shows_known, same_options, same_tests}
 use Rattle.world.proofs.Numbers.{next_is, known_unique, none_itself, one_write, learned, known_other, grows}
 
@@ -184,6 +184,13 @@ restart_step logs w v stamp rep inside place = (
 -- a refused event changes nothing but what it left
 pub refusal_step : (logs : List Log) (w : Knowledge) (r : Refusal) → Represents logs w → Represents logs (after_refusal w r)
 refusal_step logs w r rep = record { lawful = lawful_refusal w r rep.lawful; own = rep.own; distinct = rep.distinct; size = rep.size; counts = rep.counts; ids = rep.ids; accepted = rep.accepted; legal = rep.legal; brings = rep.brings }
+
+-- nor what a run chose, or nothing, left for later events
+pub run_step : (logs : List Log) (w : Knowledge) (key : Key) (writes : List Write) (content : Option Content) → Represents logs w → Represents logs (after_run w key writes content)
+run_step logs w key writes content rep = record { lawful = lawful_run w key writes content rep.lawful; own = rep.own; distinct = rep.distinct; size = rep.size; counts = rep.counts; ids = rep.ids; accepted = rep.accepted; legal = rep.legal; brings = rep.brings }
+
+pub nothing_step : (logs : List Log) (w : Knowledge) → Represents logs w → Represents logs (after_nothing w)
+nothing_step logs w rep = record { lawful = lawful_nothing w rep.lawful; own = rep.own; distinct = rep.distinct; size = rep.size; counts = rep.counts; ids = rep.ids; accepted = rep.accepted; legal = rep.legal; brings = rep.brings }
 
 -- what was put and known stays a put, when something is left
 pub were_put : (w : Knowledge) (message : ℕ) (key : Key) (writes : List Write) → IsLawful w → left_by w message ≡ Copied key writes → WerePut w key writes

@@ -1,5 +1,7 @@
 -- What an event may reply and lead to (Riak KV documentation: siblings and causal contexts; the limits are this store's profile).
 use Rattle.std.specs.Prelude.{◌≡◌, ℕ, ◌^◌, ◌<◌, ◌≤◌, ◌↔◌, Bool, List, [], ◌∷◌, ◌++◌, length, MatchBool, Option, Some, None}
+use Rattle.helpers.specs.declared.sig.Entry.{Entry}
+use Rattle.verifier.specs.Program.{Program}
 use Rattle.dvv.specs.declared.Dot.{Dot}
 use Rattle.dvv.specs.Clock.{Covers, HasRoom, vnodes_together}
 use Rattle.object.specs.declared.content.Content.{Content}
@@ -7,15 +9,17 @@ use Rattle.object.specs.declared.content.Key.{Key}
 use Rattle.object.specs.State.{State, kept}
 use Rattle.object.specs.Known.{Write, InContext, IsCurrent}
 use Rattle.world.specs.declared.event.Event.{Event}
-use Rattle.world.specs.declared.event.Event.TheVariants.{Put, Get, Send, Deliver, Restart}
+use Rattle.world.specs.declared.event.Event.TheVariants.{Put, Get, Send, Deliver, Restart, ResolveRead, ResolveWrite}
 use Rattle.world.specs.declared.event.Message.{Message}
+use Rattle.world.specs.declared.event.Resolution.{Resolution}
 use Rattle.world.specs.declared.event.Seen.{Seen}
 use Rattle.world.specs.declared.event.Seen.TheVariants.{Clock as Given, Get as ContextOf}
 use Rattle.world.specs.declared.event.Refusal.{Refusal}
 use Rattle.world.specs.declared.event.Refusal.TheVariants.{ContextAhead, TooManySiblings, ClockFull, MergeFull, JournalFull, NoMemory}
 use Rattle.world.specs.declared.event.Reply.{Reply}
-use Rattle.world.specs.declared.event.Reply.TheVariants.{Stored, Found, Sent, Changed, Restarted, Refused}
-use Rattle.world.specs.Knowledge.{Knowledge, Copied, Failed, left_by, known_at, id_of, accepted_at, IsContext, IsStateOf, write_of, next_dot, after_refusal, after_put, after_copy, after_delivery, after_restart}
+use Rattle.world.specs.declared.event.Reply.TheVariants.{Stored, Found, Sent, Changed, Restarted, Resolved, Nothing, Refused}
+use Rattle.world.specs.Knowledge.{Knowledge, Copied, Chosen, Failed, left_by, known_at, id_of, accepted_at, IsContext, IsStateOf, write_of, next_dot, after_refusal, after_put, after_copy, after_delivery, after_restart, after_run, after_nothing}
+use Rattle.world.specs.Resolving.{IsResolution, chosen_by}
 
 -- the earlier event that an event names, by its place
 abbrev pub named : Event → Option ℕ
@@ -25,6 +29,8 @@ named (Get vnode key) = None
 named (Send vnode key) = None
 named (Deliver message vnode) = Some message
 named (Restart vnode) = None
+named (ResolveRead get hook) = Some get
+named (ResolveWrite run vnode) = Some run
 
 -- the events that a put had seen: those of a given clock, or the context that a get answered
 abbrev pub Means : Knowledge → Seen → List Dot → Type 0
@@ -113,6 +119,8 @@ IsAt (Send at key) vnode = at ≡ vnode
 IsAt (Restart at) vnode = at ≡ vnode
 IsAt (Put at key seen content) vnode = ⊥
 IsAt (Deliver message at) vnode = ⊥
+IsAt (ResolveRead get hook) vnode = ⊥
+IsAt (ResolveWrite run at) vnode = ⊥
 
 -- nothing stands against an event
 abbrev pub MayHappen : Knowledge → Event → Type 0
@@ -121,47 +129,64 @@ MayHappen world (Get vnode key) = HasPlace world vnode
 MayHappen world (Send vnode key) = HasPlace world vnode
 MayHappen world (Deliver message vnode) = (key : Key) × (writes : List Write) × (left_by world message ≡ Copied key writes) × MayDeliver world vnode key writes
 MayHappen world (Restart vnode) = HasPlace world vnode
+MayHappen world (ResolveRead get hook) = (key : Key) × (writes : List Write) × (left_by world get ≡ Copied key writes)
+MayHappen world (ResolveWrite run vnode) = (key : Key) × (writes : List Write) × (content : Content) × (clock : List Dot) × (left_by world run ≡ Chosen key writes (Some content)) × IsContext writes clock × MayPut world vnode key clock
 
--- From old, the event may be replied so and lead to new.
-pub data Happens (old : Knowledge) (event : Event) (reply : Reply) (new : Knowledge) : Type 0 where
+-- From old, with a table of these helpers, the event may be replied so and lead to new.
+pub data Happens (listed : List Entry) (old : Knowledge) (event : Event) (reply : Reply) (new : Knowledge) : Type 0 where
   -- an event against which nothing stands may want memory, and then it didn't happen
-  wants_memory : MayHappen old event → reply ≡ Refused NoMemory → new ≡ after_refusal old NoMemory → Happens old event reply new
+  wants_memory : MayHappen old event → reply ≡ Refused NoMemory → new ≡ after_refusal old NoMemory → Happens listed old event reply new
   -- an event that names a refused one is refused alike
   refused_alike : (name : ℕ) (refusal : Refusal) → named event ≡ Some name → left_by old name ≡ Failed refusal
-      → reply ≡ Refused refusal → new ≡ after_refusal old refusal → Happens old event reply new
+      → reply ≡ Refused refusal → new ≡ after_refusal old refusal → Happens listed old event reply new
   -- a put gets the next identifier of its vnode and key, and its write joins what its vnode knows
   stored : (vnode : ℕ) (key : Key) (seen : Seen) (content : Content) (clock : List Dot) → event ≡ Put vnode key seen content
       → Means old seen clock → MayPut old vnode key clock
-      → reply ≡ Stored (next_dot old vnode key) → new ≡ after_put old vnode key (write_of old vnode key clock content) → Happens old event reply new
+      → reply ≡ Stored (next_dot old vnode key) → new ≡ after_put old vnode key (write_of old vnode key clock content) → Happens listed old event reply new
   put_refused : (vnode : ℕ) (key : Key) (seen : Seen) (content : Content) (clock : List Dot) (refusal : Refusal) → event ≡ Put vnode key seen content
       → Means old seen clock → RefusesPut old vnode key clock refusal
-      → reply ≡ Refused refusal → new ≡ after_refusal old refusal → Happens old event reply new
+      → reply ≡ Refused refusal → new ≡ after_refusal old refusal → Happens listed old event reply new
   -- a get answers the current writes and their context
   found : (vnode : ℕ) (key : Key) (state : State) → event ≡ Get vnode key
       → IsStateOf (known_at old vnode key) state → HasPlace old vnode
-      → reply ≡ Found state → new ≡ after_copy old vnode key → Happens old event reply new
+      → reply ≡ Found state → new ≡ after_copy old vnode key → Happens listed old event reply new
   sent : (vnode : ℕ) (key : Key) (message : Message) → event ≡ Send vnode key
       → Carries old vnode key message → HasPlace old vnode
-      → reply ≡ Sent message → new ≡ after_copy old vnode key → Happens old event reply new
+      → reply ≡ Sent message → new ≡ after_copy old vnode key → Happens listed old event reply new
   -- a delivery unites what its vnode knows with the message's writes, and tells whether current writes or context became others
   delivered : (message vnode : ℕ) (key : Key) (writes : List Write) (changed : Bool) → event ≡ Deliver message vnode
       → left_by old message ≡ Copied key writes
       → MayDeliver old vnode key writes
       → MatchBool changed (LookAlike (known_at old vnode key) (known_at old vnode key ++ writes) → ⊥) (LookAlike (known_at old vnode key) (known_at old vnode key ++ writes))
-      → reply ≡ Changed changed → new ≡ after_delivery old vnode key writes → Happens old event reply new
+      → reply ≡ Changed changed → new ≡ after_delivery old vnode key writes → Happens listed old event reply new
   delivery_refused : (message vnode : ℕ) (key : Key) (writes : List Write) (refusal : Refusal) → event ≡ Deliver message vnode
       → left_by old message ≡ Copied key writes → RefusesDelivery old vnode key writes refusal
-      → reply ≡ Refused refusal → new ≡ after_refusal old refusal → Happens old event reply new
+      → reply ≡ Refused refusal → new ≡ after_refusal old refusal → Happens listed old event reply new
   -- a restart changes nothing
   restarted : (vnode : ℕ) → event ≡ Restart vnode → HasPlace old vnode
-      → reply ≡ Restarted → new ≡ after_restart old vnode → Happens old event reply new
+      → reply ≡ Restarted → new ≡ after_restart old vnode → Happens listed old event reply new
   -- a full journal takes no get, send or restart
   full : (vnode : ℕ) → IsAt event vnode → IsFull old vnode
-      → reply ≡ Refused JournalFull → new ≡ after_refusal old JournalFull → Happens old event reply new
+      → reply ≡ Refused JournalFull → new ≡ after_refusal old JournalFull → Happens listed old event reply new
+  -- a resolver decides on the current writes that a get answered, and changes nothing
+  resolved : (get : ℕ) (hook : Program) (key : Key) (writes : List Write) (state : State) (resolution : Resolution) → event ≡ ResolveRead get hook
+      → left_by old get ≡ Copied key writes → IsStateOf writes state → IsResolution listed hook state.siblings resolution
+      → reply ≡ Resolved resolution → new ≡ after_run old key writes (chosen_by resolution state.siblings) → Happens listed old event reply new
+  -- the content that a run chose is put with the context that its get answered, whatever is known by now
+  choice_stored : (run vnode : ℕ) (key : Key) (writes : List Write) (content : Content) (clock : List Dot) → event ≡ ResolveWrite run vnode
+      → left_by old run ≡ Chosen key writes (Some content) → IsContext writes clock → MayPut old vnode key clock
+      → reply ≡ Stored (next_dot old vnode key) → new ≡ after_put old vnode key (write_of old vnode key clock content) → Happens listed old event reply new
+  choice_refused : (run vnode : ℕ) (key : Key) (writes : List Write) (content : Content) (clock : List Dot) (refusal : Refusal) → event ≡ ResolveWrite run vnode
+      → left_by old run ≡ Chosen key writes (Some content) → IsContext writes clock → RefusesPut old vnode key clock refusal
+      → reply ≡ Refused refusal → new ≡ after_refusal old refusal → Happens listed old event reply new
+  -- where a run chose nothing, nothing is put
+  nothing_chosen : (run vnode : ℕ) (key : Key) (writes : List Write) → event ≡ ResolveWrite run vnode
+      → left_by old run ≡ Chosen key writes None
+      → reply ≡ Nothing → new ≡ after_nothing old → Happens listed old event reply new
 
--- the events may be replied so, one after another
-abbrev pub Run : Knowledge → List Event → List Reply → Knowledge → Type 0
-Run old [] [] new = new ≡ old
-Run old (event ∷ events) (reply ∷ replies) new = (next : Knowledge) × Happens old event reply next × Run next events replies new
-Run old [] (reply ∷ replies) new = ⊥
-Run old (event ∷ events) [] new = ⊥
+-- with a table of these helpers the events may be replied so, one after another
+abbrev pub Run : List Entry → Knowledge → List Event → List Reply → Knowledge → Type 0
+Run listed old [] [] new = new ≡ old
+Run listed old (event ∷ events) (reply ∷ replies) new = (next : Knowledge) × Happens listed old event reply next × Run listed next events replies new
+Run listed old [] (reply ∷ replies) new = ⊥
+Run listed old (event ∷ events) [] new = ⊥

@@ -1,5 +1,5 @@
 -- What the vnodes of a world know: sets of writes, by causal histories (Preguiça, Baquero, Almeida, Fonte, Gonçalves, 2010).
-use Rattle.std.specs.Prelude.{ℕ, zero, suc, ◌+◌, ◌==◌, ◌&&◌, ◌↔◌, Bool, List, [], ◌∷◌, ◌++◌, length, map, filter, count_by, replicate, slice_set, slice_index_or}
+use Rattle.std.specs.Prelude.{ℕ, zero, suc, ◌+◌, ◌==◌, ◌&&◌, ◌↔◌, Bool, Option, List, [], ◌∷◌, ◌++◌, length, map, filter, count_by, replicate, slice_set, slice_index_or}
 use Rattle.dvv.specs.declared.Dot.{Dot}
 use Rattle.dvv.specs.Clock.{Covers, covers, IsClock}
 use Rattle.object.specs.declared.content.Content.{Content}
@@ -14,10 +14,12 @@ pub record KeyedWrite : Type 0 where
   pub key : Key
   pub write : Write
 
--- what an event left for later ones that name it: nothing, the writes of a key that it copied, or its refusal
+-- what an event left for later ones that name it: nothing, the writes of a key that it copied, the writes among which a resolver chose and the
+-- content that is to be written, if any, or its refusal
 pub data Left : Type 0 where
   Nothing : Left
   Copied : (key : Key) (writes : List Write) → Left
+  Chosen : (key : Key) (writes : List Write) (content : Option Content) → Left
   Failed : (refusal : Refusal) → Left
 
 -- the vnodes' identifiers by index; all accepted puts, oldest first; what each vnode knows; how many events each accepted; and what each event left
@@ -142,5 +144,25 @@ after_restart world vnode = record {
   puts = world.puts;
   known = world.known;
   accepted = accepts world vnode;
+  left = world.left ++ Nothing ∷ [];
+}
+
+-- a resolver's run changes nothing, and what it chose is remembered
+abbrev pub after_run : Knowledge → Key → List Write → Option Content → Knowledge
+after_run world key writes content = record {
+  ids = world.ids;
+  puts = world.puts;
+  known = world.known;
+  accepted = world.accepted;
+  left = world.left ++ Chosen key writes content ∷ [];
+}
+
+-- where nothing was chosen nothing is put
+abbrev pub after_nothing : Knowledge → Knowledge
+after_nothing world = record {
+  ids = world.ids;
+  puts = world.puts;
+  known = world.known;
+  accepted = world.accepted;
   left = world.left ++ Nothing ∷ [];
 }

@@ -1,4 +1,5 @@
 pub mod Knowledge
+pub mod Resolving
 pub mod Happening
 pub mod Causality
 pub mod Numbering

@@ -1,8 +1,10 @@
 //! Events of a world, and the replies to them.
 
+use abi::BadAnswer;
 use dvv::{Clock, Dot};
 use object::{Content, Key, KeyState};
 use thiserror::Error;
+use verifier::Verified;
 
 /// What a put had seen.
 #[derive(Drop)]
@@ -42,6 +44,16 @@ pub enum Event {
     Restart {
         vnode: usize,
     },
+    /// A resolver runs on the siblings that an earlier get answered.
+    ResolveRead {
+        get: usize,
+        hook: Verified,
+    },
+    /// The content that an earlier run of a resolver chose is put, with the context that the run's get answered.
+    ResolveWrite {
+        run: usize,
+        vnode: usize,
+    },
 }
 
 /// Why an event changed nothing. It shows its number.
@@ -78,6 +90,23 @@ pub struct Message {
     pub state: KeyState,
 }
 
+/// What a resolver decided.
+#[derive(Drop)]
+pub enum Resolution {
+    /// The siblings stay as they are.
+    Keep,
+    /// The content of the sibling at this place, from 0, is to be written.
+    Take(u32),
+    /// This value, of the media type `application/octet-stream`, is to be written.
+    Write(Content),
+    /// A tombstone is to be written.
+    Delete,
+    /// Nothing: its input window is too short for the siblings.
+    TooLarge,
+    /// Nothing: its answer has no meaning.
+    Bad(BadAnswer),
+}
+
 /// What an event replies.
 #[derive(Drop)]
 pub enum Reply {
@@ -91,6 +120,10 @@ pub enum Reply {
     Changed(bool),
     /// A vnode has started again.
     Restarted,
+    /// What a resolver decided.
+    Resolved(Resolution),
+    /// The named run chose no content, and nothing was put.
+    Nothing,
     /// The event changed nothing.
     Refused(Refusal),
 }

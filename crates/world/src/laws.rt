@@ -2,6 +2,7 @@
 
 ghost use Rattle.std.specs.Prelude.{◌≡◌, ℕ, ◌<◌, ◌≤◌, ◌↔◌, ◌++◌, ◌∷◌, [], List, length, map};
 ghost use Rattle.dvv.specs.declared.Dot.{Dot};
+ghost use Rattle.helpers.specs.declared.sig.Entry.{Entry as Helper};
 ghost use Rattle.object.specs.declared.content.Content.{Content};
 ghost use Rattle.object.specs.declared.content.Key.{Key};
 ghost use Rattle.object.specs.declared.content.Sibling.{Sibling};
@@ -23,7 +24,7 @@ ghost use Rattle.world.specs.Represents.{ShowsAt, Represents, AreDistinct, log_a
 
 /// Whatever happens, a put had seen only earlier puts of its key, and no identifier of a key stands for two.
 pub fn run_is_causal()
-    ensures { (ids : List ℕ) (events : List Event) (replies : List Reply) (known : Knowledge) → Run (opened ids) events replies known → IsCausal known.puts }
+    ensures { (listed : List Helper) (ids : List ℕ) (events : List Event) (replies : List Reply) (known : Knowledge) → Run listed (opened ids) events replies known → IsCausal known.puts }
 {}
 
 /// Vnodes at which nothing happened know nothing.
@@ -62,6 +63,11 @@ pub fn merges_are_of_world()
 pub fn restarts_are_of_world()
     ensures { (logs : List Log) (world : Knowledge) (vnode stamp : ℕ) → Represents logs world → vnode < length logs → TakesEntry (log_at logs vnode).entries
         → HasPlace world vnode × Represents (with_entry_at logs vnode (Restart stamp)) (after_restart world vnode) }
+{}
+
+/// Some writes have one state. So a resolver decided on what its get answered, whichever state of the writes is looked at.
+pub fn states_are_told_by_writes()
+    ensures { (known : List Write) (a b : State) → IsStateOf known a → IsStateOf known b → a ≡ b }
 {}
 
 /// Two states of one key in one world with equal dots and clocks are equal.

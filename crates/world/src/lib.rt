@@ -1,9 +1,12 @@
-//! Interleavings of events over vnodes, and what each vnode knows.
+//! Interleavings of events over vnodes, resolvers' runs among them, and what each vnode knows.
 #![tactic(auto)]
 
 mod event;
 pub mod laws;
+mod resolving;
+#[cfg(test)]
+mod tests;
 mod world;
 
-pub use event::{Event, Message, Refusal, Reply, Seen};
+pub use event::{Event, Message, Refusal, Reply, Resolution, Seen};
 pub use world::{MAX_VNODES, World};

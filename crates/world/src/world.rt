@@ -1,6 +1,9 @@
 //! Whole runs.
 
-ghost use Rattle.std.specs.Prelude.{◌≡◌, ◌≢◌, ℕ, ◌<◌, ◌≤◌, ◌^◌, ◌+◌, ◌⊎◌, ◌++◌, ◌∷◌, [], List, length, IfOk, IfErr, OnOk, OnErr};
+ghost use Rattle.std.specs.Option.{option_copied};
+ghost use Rattle.helpers.specs.declared.sig.Entry.{Entry as Helper};
+ghost use Rattle.std.specs.Prelude.{◌≡◌, ◌≢◌, ℕ, ◌<◌, ◌≤◌, ◌^◌, ◌+◌, ◌⊎◌, ◌++◌, ◌∷◌, [], List, length, slice_get, Some, IfOk, IfErr, OnOk, OnErr};
+ghost use Rattle.verifier.specs.Program.{Program};
 ghost use Rattle.dvv.specs.declared.Dot.{Dot as Identifier};
 ghost use Rattle.object.specs.declared.content.Key.{Key as StoredKey};
 ghost use Rattle.journal.specs.declared.entry.Entry.TheVariants.{Put, Merge, Read, Restart};
@@ -13,14 +16,19 @@ ghost use Rattle.world.specs.Knowledge.{Knowledge, start, opened, below, left_by
 ghost use Rattle.world.specs.Happening.{Happens, Means};
 ghost use Rattle.world.specs.Represents.{Represents, log_at, with_entry_at, empty_logs};
 ghost use Rattle.world.specs.Appending.{Appends, RefusesPutAt, RefusesMergeAt, RefusesEntryAt, refusal_of_vnode};
-ghost use Rattle.world.specs.Running.{IsWorldOf, IsMessageOf, Remember, IsReady, IsReadyContext, ReplyAt, IsSentOrRefused, IsRefusedContext, AreRunnable, MayReply};
+ghost use Rattle.world.specs.Running.{IsWorldOf, IsMessageOf, Remember, IsReady, IsReadyContext, ReplyAt, IsSentOrRefused, IsRefusedContext, AreRunnable, MayReply, Recall, IsReadyRun, IsGetAt, IsRunAt, IsChoiceOf, IsFoundOrRefused, IsResolvedOrRefused};
+ghost use Rattle.world.specs.Resolving.{MayRun};
 
-use crate::event::{Event, Message, Refusal, Reply, Seen};
+use crate::event::{Event, Message, Refusal, Reply, Resolution, Seen};
+use crate::resolving::{chosen, resolve};
 use dvv::{Clock, Dot};
+use helpers::Table;
+use hookrun::Room;
 use journal::MAX_ENTRIES;
 use object::{Content, Key, KeyState};
 use std::alloc::{AllocError, Global};
 use std::marker::Model;
+use verifier::Verified;
 use vnode::{Vnode, VnodeFault};
 
 /// A world after a run: its vnodes, each seen as its journal, and what each event replied.
@@ -48,14 +56,21 @@ impl World {
     /// Runs events, one after another, over so many vnodes at which nothing has happened. A vnode's index is its identifier,
     /// and an event's place is its entry's stamp.
     ///
-    /// Each event's vnode exists, and what it names is an earlier get (of a context) or send (of a message). The only error is
-    /// want of memory for the vnodes and the list of replies; within an event it is that event's reply.
-    pub fn run(alloc: Global, vnodes: usize, events: &[Event]) -> Result<World, AllocError>
+    /// Each event's vnode exists, and what it names is an earlier get (of a context or an answer), send (of a message) or
+    /// resolver's run (of a choice). What runs as a resolver is a resolver's program, and the table has the helpers that it was
+    /// verified with. The only error is want of memory for the vnodes and the list of replies; within an event it is that
+    /// event's reply.
+    pub fn run(
+        alloc: Global,
+        vnodes: usize,
+        table: &Table,
+        events: &[Event],
+    ) -> Result<World, AllocError>
         requires few { vnodes ≤ MAX_VNODES }
-        requires runnable { AreRunnable vnodes events.now }
-        ensures { IfOk result (IsWorldOf vnodes events.now) }
+        requires runnable { AreRunnable vnodes table.now.listed events.now }
+        ensures { IfOk result (IsWorldOf vnodes table.now.listed events.now) }
     {
-        let (vnodes, replies) = run_all(alloc, vnodes, events)?;
+        let (vnodes, replies) = run_all(alloc, vnodes, table, events)?;
         Ok(World { vnodes, replies })
     }
 
@@ -79,16 +94,27 @@ impl World {
 fn run_all(
     alloc: Global,
     vnodes: usize,
+    table: &Table,
     events: &[Event],
 ) -> Result<(Vec<Vnode>, Vec<Reply>), AllocError>
     requires few { vnodes ≤ MAX_VNODES }
-    requires runnable { AreRunnable vnodes events.now }
-    ensures { IfOk result (λ ran. IsWorldOf vnodes events.now (record { logs = ran.0.items; replies = ran.1.items })) }
+    requires runnable { AreRunnable vnodes table.now.listed events.now }
+    ensures { IfOk result (λ ran. IsWorldOf vnodes table.now.listed events.now (record { logs = ran.0.items; replies = ran.1.items })) }
 {
     let mut states = open(alloc, vnodes)?;
     let mut replies = Vec::with_capacity(alloc, events.len())?;
+    let mut room = Room::new(alloc);
     for event in events {
-        let reply = happen(&mut states, &replies, event);
+        let before = &events[..replies.len()];
+        let reply = happen(
+            alloc,
+            &mut room,
+            table,
+            &mut states,
+            before,
+            &replies,
+            event,
+        );
         replies.push(reply)?;
     }
     Ok((states, replies))
@@ -237,7 +263,7 @@ fn put(
 ) -> Reply
     requires inside { vnode < length vnodes.old }
     requires ready { IsReadyContext replies.now seen.now }
-    ensures step { (old : Knowledge) → Represents vnodes.old old → Remember replies.now old → (new : Knowledge) × Happens old (event.Put vnode key.now seen.now content.now) result new × Represents vnodes.new new }
+    ensures step { (listed : List Helper) (old : Knowledge) → Represents vnodes.old old → Remember replies.now old → (new : Knowledge) × Happens listed old (event.Put vnode key.now seen.now content.now) result new × Represents vnodes.new new }
 {
     let clock = match context(replies, seen) {
         Ok(clock) => clock,
@@ -252,7 +278,7 @@ fn put(
 // A get, and its reply.
 fn get(vnodes: &mut [Vnode], replies: &[Reply], vnode: usize, key: &Key) -> Reply
     requires inside { vnode < length vnodes.old }
-    ensures step { (old : Knowledge) → Represents vnodes.old old → (new : Knowledge) × Happens old (event.Get vnode key.now) result new × Represents vnodes.new new }
+    ensures step { (listed : List Helper) (old : Knowledge) → Represents vnodes.old old → (new : Knowledge) × Happens listed old (event.Get vnode key.now) result new × Represents vnodes.new new }
 {
     match read_at(vnodes, vnode, replies.len() as u64, key) {
         Ok((state, _)) => Reply::Found(state),
@@ -263,7 +289,7 @@ fn get(vnodes: &mut [Vnode], replies: &[Reply], vnode: usize, key: &Key) -> Repl
 // A send, and its reply.
 fn send(vnodes: &mut [Vnode], replies: &[Reply], vnode: usize, key: &Key) -> Reply
     requires inside { vnode < length vnodes.old }
-    ensures step { (old : Knowledge) → Represents vnodes.old old → (new : Knowledge) × Happens old (event.Send vnode key.now) result new × Represents vnodes.new new }
+    ensures step { (listed : List Helper) (old : Knowledge) → Represents vnodes.old old → (new : Knowledge) × Happens listed old (event.Send vnode key.now) result new × Represents vnodes.new new }
 {
     let Ok(copy) = key.copy() else {
         return Reply::Refused(want_of_memory(&vnodes[vnode]));
@@ -295,7 +321,7 @@ fn want_of_memory(vnode: &Vnode) -> Refusal
 fn deliver(vnodes: &mut [Vnode], replies: &[Reply], message: usize, vnode: usize) -> Reply
     requires inside { vnode < length vnodes.old }
     requires sent { ReplyAt replies.now message IsSentOrRefused }
-    ensures step { (old : Knowledge) → Represents vnodes.old old → Remember replies.now old → (new : Knowledge) × Happens old (event.Deliver message vnode) result new × Represents vnodes.new new }
+    ensures step { (listed : List Helper) (old : Knowledge) → Represents vnodes.old old → Remember replies.now old → (new : Knowledge) × Happens listed old (event.Deliver message vnode) result new × Represents vnodes.new new }
 {
     let sent = match message_of(replies, message) {
         Ok(sent) => sent,
@@ -310,7 +336,7 @@ fn deliver(vnodes: &mut [Vnode], replies: &[Reply], message: usize, vnode: usize
 // A restart, and its reply.
 fn restart(vnodes: &mut [Vnode], replies: &[Reply], vnode: usize) -> Reply
     requires inside { vnode < length vnodes.old }
-    ensures step { (old : Knowledge) → Represents vnodes.old old → (new : Knowledge) × Happens old (event.Restart vnode) result new × Represents vnodes.new new }
+    ensures step { (listed : List Helper) (old : Knowledge) → Represents vnodes.old old → (new : Knowledge) × Happens listed old (event.Restart vnode) result new × Represents vnodes.new new }
 {
     match restart_at(vnodes, vnode, replies.len() as u64) {
         Ok(()) => Reply::Restarted,
@@ -318,10 +344,158 @@ fn restart(vnodes: &mut [Vnode], replies: &[Reply], vnode: usize) -> Reply
     }
 }
 
-// One event, and its reply.
-fn happen(vnodes: &mut [Vnode], replies: &[Reply], event: &Event) -> Reply
-    requires ready { IsReady (length vnodes.old) replies.now event.now }
-    ensures step { (old : Knowledge) → Represents vnodes.old old → Remember replies.now old → (new : Knowledge) × Happens old event.now result new × Represents vnodes.new new }
+// The state that an earlier get answered, or why it was refused.
+fn answer_of(replies: &[Reply], get: usize) -> Result<&KeyState, Refusal>
+    requires answered { ReplyAt replies.now get IsFoundOrRefused }
+    ensures found { IfOk result (λ state. slice_get replies.now get ≡ Some (Reply.Found state.now)) }
+    ensures refused { IfErr result (λ refusal. slice_get replies.now get ≡ Some (Reply.Refused refusal)) }
+{
+    match &replies[get] {
+        Reply::Found(state) => Ok(state),
+        Reply::Refused(refusal) => Err(*refusal),
+        _ => unreachable!(),
+    }
+}
+
+// What an earlier run decided, or why it was refused.
+fn resolution_of(replies: &[Reply], run: usize) -> Result<&Resolution, Refusal>
+    requires replied { ReplyAt replies.now run IsResolvedOrRefused }
+    ensures resolved { IfOk result (λ resolution. slice_get replies.now run ≡ Some (Reply.Resolved resolution.now)) }
+    ensures refused { IfErr result (λ refusal. slice_get replies.now run ≡ Some (Reply.Refused refusal)) }
+{
+    match &replies[run] {
+        Reply::Resolved(resolution) => Ok(resolution),
+        Reply::Refused(refusal) => Err(*refusal),
+        _ => unreachable!(),
+    }
+}
+
+// The get that an earlier run names.
+fn get_of(events: &[Event], run: usize) -> usize
+    requires { IsRunAt events.now run }
+    ensures { (hook : Program) × (slice_get events.now run ≡ Some (event.ResolveRead result hook)) }
+{
+    match &events[run] {
+        Event::ResolveRead { get, .. } => *get,
+        _ => unreachable!(),
+    }
+}
+
+// The key that an earlier get names.
+fn key_of(events: &[Event], get: usize) -> &Key
+    requires { IsGetAt events.now get }
+    ensures { (vnode : ℕ) × (slice_get events.now get ≡ Some (event.Get vnode result.now)) }
+{
+    match &events[get] {
+        Event::Get { key, .. } => key,
+        _ => unreachable!(),
+    }
+}
+
+// What an earlier run left to be put: a content, if any, under a key, and the context that its get answered.
+#[derive(Clone, Copy)]
+struct Choice<'a> {
+    key: &'a Key,
+    seen: &'a Clock,
+    content: Option<&'a Content>,
+}
+
+// What an earlier run left to be put, or why it was refused. A tombstone is lent for a delete.
+fn choice_of<'a>(
+    events: &'a [Event],
+    replies: &'a [Reply],
+    run: usize,
+    tombstone: &'a Content,
+) -> Result<Choice<'a>, Refusal>
+    requires ready { IsReadyRun events.now replies.now run }
+    requires tombstone { tombstone.now ≡ Content.Tombstone }
+    ensures chosen { IfOk result (λ choice. (old : Knowledge) → Remember replies.now old → Recall events.now replies.now old → IsChoiceOf old run choice.key.now choice.seen.now (option_copied choice.content)) }
+    ensures refused { IfErr result (λ refusal. (old : Knowledge) → Remember replies.now old → Recall events.now replies.now old → left_by old run ≡ Failed refusal) }
+{
+    let resolution = match resolution_of(replies, run) {
+        Ok(resolution) => resolution,
+        Err(refusal) => return Err(refusal),
+    };
+    let get = get_of(events, run);
+    match answer_of(replies, get) {
+        Ok(state) => Ok(Choice {
+            key: key_of(events, get),
+            seen: state.clock(),
+            content: chosen(resolution, state.siblings(), tombstone),
+        }),
+        Err(refusal) => Err(refusal),
+    }
+}
+
+// A resolver's run, and its reply.
+fn resolve_read(
+    alloc: Global,
+    room: &mut Room,
+    table: &Table,
+    replies: &[Reply],
+    get: usize,
+    hook: &Verified,
+) -> Reply
+    requires answered { ReplyAt replies.now get IsFoundOrRefused }
+    requires may { MayRun table.now.listed hook.now }
+    ensures step { (logs : List Log) (old : Knowledge) → Represents logs old → Remember replies.now old → (new : Knowledge) × Happens table.now.listed old (event.ResolveRead get hook.now) result new × Represents logs new }
+{
+    let state = match answer_of(replies, get) {
+        Ok(state) => state,
+        Err(refusal) => return Reply::Refused(refusal),
+    };
+    match resolve(alloc, room, table, hook, state.siblings()) {
+        Ok(resolution) => Reply::Resolved(resolution),
+        Err(_) => Reply::Refused(Refusal::NoMemory),
+    }
+}
+
+// A put of what a run chose, and its reply.
+fn resolve_write(
+    vnodes: &mut [Vnode],
+    events: &[Event],
+    replies: &[Reply],
+    run: usize,
+    vnode: usize,
+) -> Reply
+    requires inside { vnode < length vnodes.old }
+    requires ready { IsReadyRun events.now replies.now run }
+    ensures step { (listed : List Helper) (old : Knowledge) → Represents vnodes.old old → Remember replies.now old → Recall events.now replies.now old → (new : Knowledge) × Happens listed old (event.ResolveWrite run vnode) result new × Represents vnodes.new new }
+{
+    let tombstone = Content::Tombstone;
+    let choice = match choice_of(events, replies, run, &tombstone) {
+        Ok(choice) => choice,
+        Err(refusal) => return Reply::Refused(refusal),
+    };
+    let content = match choice.content {
+        Some(content) => content,
+        None => return Reply::Nothing,
+    };
+    match put_at(
+        vnodes,
+        vnode,
+        replies.len() as u64,
+        choice.key,
+        choice.seen,
+        content,
+    ) {
+        Ok(dot) => Reply::Stored(dot),
+        Err(refusal) => Reply::Refused(refusal),
+    }
+}
+
+// One event after others, and its reply.
+fn happen(
+    alloc: Global,
+    room: &mut Room,
+    table: &Table,
+    vnodes: &mut [Vnode],
+    before: &[Event],
+    replies: &[Reply],
+    event: &Event,
+) -> Reply
+    requires ready { IsReady (length vnodes.old) table.now.listed before.now replies.now event.now }
+    ensures step { (old : Knowledge) → Represents vnodes.old old → Remember replies.now old → Recall before.now replies.now old → (new : Knowledge) × Happens table.now.listed old event.now result new × Represents vnodes.new new }
 {
     match event {
         Event::Put {
@@ -334,5 +508,7 @@ fn happen(vnodes: &mut [Vnode], replies: &[Reply], event: &Event) -> Reply
         Event::Send { vnode, key } => send(vnodes, replies, *vnode, key),
         Event::Deliver { message, vnode } => deliver(vnodes, replies, *message, *vnode),
         Event::Restart { vnode } => restart(vnodes, replies, *vnode),
+        Event::ResolveRead { get, hook } => resolve_read(alloc, room, table, replies, *get, hook),
+        Event::ResolveWrite { run, vnode } => resolve_write(vnodes, before, replies, *run, *vnode),
     }
 }

@@ -4,4 +4,4 @@ use Rattle.world.proofs.world.run_all.Given as goal
 
 -- the events so far were run
 abbrev pub invariant-loop-event : goal.invariant-loop-event
-invariant-loop-event l = IsRunSoFar l.vnodes (take l.event-index l.events) l.replies.items l.states.items
+invariant-loop-event o l = IsRunSoFar l.vnodes l.table.listed (take l.event-index l.events) l.replies.items l.states.items
