@@ -1,13 +1,18 @@
 -- Events that can be run, with one more.
 use Rattle.std.proofs.Common.{◌≡◌, ℕ, ◌<◌, ◌≤◌, ◌⊎◌, List, [], ◌∷◌, ◌++◌, length, get_or, take, refl, sym, ap, subst, ◌∙◌, inl, inr, arith, Some, length-append}
-use Rattle.std.specs.Prelude.{slice_get}
+use Rattle.std.specs.Prelude.{slice_get, min}
 use Rattle.std.proofs.Math.ListN.{get_or-append}
 use Rattle.std.proofs.Math.Seq.{get_or-append_seam, take-append_seam}
+use Rattle.std.proofs.Math.Nat.{min-le_left, min-le_right}
 use Rattle.std.proofs.lemmas.Bool.{cases_lt}
-use Rattle.std.proofs.lemmas.List.{take-append-le}
+use Rattle.std.proofs.lemmas.List.{take-append-le, get_or-take, length-take}
 use Rattle.std.proofs.lemmas.Option.{slice_get_read, slice_get_within, get_or_from_slice_get}
 use Rattle.world.specs.declared.event.Event.{Event}
-use Rattle.world.specs.declared.event.Event.TheVariants.{Put, Get, Send, Deliver, Restart}
+use Rattle.helpers.specs.declared.sig.Entry.{Entry}
+use Rattle.script.specs.declared.script.Script.{Script}
+use Rattle.script.specs.declared.script.Answered.{Answered}
+use Rattle.script.specs.Scripts.{IsRunnable, IsOneMore}
+use Rattle.world.specs.declared.event.Event.TheVariants.{Put, Get, Send, Deliver, Restart, ResolveRead, ResolveWrite}
 use Rattle.world.specs.Running.{AreRunnable, MayCome}
 
 -- what stands in a list with one more at its end
@@ -26,20 +31,43 @@ more_cases xs x y place h = go (cases_lt place (length xs))
         inr (is, sym (get_or-append_seam xs x [] y) ∙ ap (λ (n : ℕ). get_or (xs ++ x ∷ []) n y) (sym is) ∙ value)
 
 -- an event that may come is run after the others
-pub runnable_more : (n : ℕ) (events : List Event) (event : Event) → AreRunnable n events → MayCome n events event → AreRunnable n (events ++ event ∷ [])
-runnable_more n events event runnable comes place e at = elim (more_cases events event e place at) [
-  | inl before ↦ subst (λ (es : List Event). MayCome n es e) (sym (take-append-le place events (event ∷ []) (let lt = before.0 in omega arith))) (runnable place e before.1)
-  | inr last ↦ subst (λ (k : ℕ). MayCome n (take k (events ++ event ∷ [])) e) (sym last.0) (subst (λ (es : List Event). MayCome n es e) (sym (take-append_seam events (event ∷ []))) (subst (MayCome n events) last.1 comes))
+runnable_more : (n : ℕ) (listed : List Entry) (events : List Event) (event : Event) → AreRunnable n listed events → MayCome n listed events event → AreRunnable n listed (events ++ event ∷ [])
+runnable_more n listed events event runnable comes place e at = elim (more_cases events event e place at) [
+  | inl before ↦ subst (λ (es : List Event). MayCome n listed es e) (sym (take-append-le place events (event ∷ []) (let lt = before.0 in omega arith))) (runnable place e before.1)
+  | inr last ↦ subst (λ (k : ℕ). MayCome n listed (take k (events ++ event ∷ [])) e) (sym last.0) (subst (λ (es : List Event). MayCome n listed es e) (sym (take-append_seam events (event ∷ []))) (subst (MayCome n listed events) last.1 comes))
 ]
 
+-- a script that can be run still can with one event more that may come
+pub one_more : (listed : List Entry) (old new : Script) (event : Event) (answered : Answered) → IsRunnable listed old → MayCome old.vnodes listed old.events.items event → IsOneMore old event answered new → IsRunnable listed new
+one_more listed old new event answered runnable comes more = record {
+  few = subst (λ (n : ℕ). n ≤ 64) (sym more.vnodes) runnable.few;
+  events = subst (λ (n : ℕ). AreRunnable n listed new.events.items) (sym more.vnodes) (subst (λ (es : List Event). AreRunnable old.vnodes listed es) (sym more.events) (runnable_more old.vnodes listed old.events.items event runnable.events comes));
+}
+
+-- what stands in the front of a list stands in the list
+stands_in_whole : (events : List Event) (n place : ℕ) (event : Event) → slice_get (take n events) place ≡ Some event → slice_get events place ≡ Some event
+stands_in_whole events n place event h =
+    let within : place < length (take n events) = slice_get_within (take n events) place event h in
+    let size : length (take n events) ≡ min n (length events) = length-take n events in
+    let short : min n (length events) ≤ n = min-le_left n (length events) in
+    let whole : min n (length events) ≤ length events = min-le_right n (length events) in
+    slice_get_read events (length events) place event refl (omega (arith, within, size, whole)) (sym (sym (get_or-take n events place event (omega (arith, within, size, short))) ∙ get_or_from_slice_get (take n events) place event event h))
+
 -- where there is no vnode no event may come
-none_comes : (before : List Event) (event : Event) → MayCome 0 before event → ⊥
-none_comes before (Put v key seen content) h = let lt = h.0 in omega arith
-none_comes before (Get v key) h = omega (arith, h)
-none_comes before (Send v key) h = omega (arith, h)
-none_comes before (Deliver message v) h = let lt = h.0 in omega arith
-none_comes before (Restart v) h = omega (arith, h)
+none_comes : (listed : List Entry) (events : List Event) (place : ℕ) (event : Event) → AreRunnable 0 listed events → MayCome 0 listed (take place events) event → ⊥
+none_comes listed events place (Put v key seen content) runnable h = let lt = h.0 in omega arith
+none_comes listed events place (Get v key) runnable h = omega (arith, h)
+none_comes listed events place (Send v key) runnable h = omega (arith, h)
+none_comes listed events place (Deliver message v) runnable h = let lt = h.0 in omega arith
+none_comes listed events place (Restart v) runnable h = omega (arith, h)
+none_comes listed events place (ResolveRead get hook) runnable h =
+    let asked = h.0 in
+    let lt : asked.0 < 0 = runnable get (Get asked.0 asked.1) (stands_in_whole events place get (Get asked.0 asked.1) asked.2) in
+    omega (arith, lt)
+none_comes listed events place (ResolveWrite run v) runnable h = let lt = h.0 in omega arith
 
 -- so whatever ran there runs over more
-pub runs_over : (m n : ℕ) (events : List Event) → m ≡ 0 → AreRunnable m events → AreRunnable n events
-runs_over m n events none runnable place event at = absurd (none_comes (take place events) event (subst (λ (k : ℕ). MayCome k (take place events) event) none (runnable place event at)))
+pub runs_over : (m n : ℕ) (listed : List Entry) (events : List Event) → m ≡ 0 → AreRunnable m listed events → AreRunnable n listed events
+runs_over m n listed events none runnable place event at =
+    let at_none : AreRunnable 0 listed events = subst (λ (k : ℕ). AreRunnable k listed events) none runnable in
+    absurd (none_comes listed events place event at_none (at_none place event at))

@@ -2,6 +2,7 @@
 
 use crate::words::{is_name, number};
 use std::alloc::{AllocError, Global};
+use std::str;
 
 // What a put had seen, as a line says it.
 #[derive(Clone, Copy)]
@@ -39,6 +40,20 @@ pub(crate) enum Line<'a> {
     Restart {
         vnode: usize,
     },
+    Resolve {
+        name: &'a [u8],
+        file: &'a str,
+    },
+    Commit {
+        vnode: usize,
+        name: &'a [u8],
+    },
+    Check {
+        vnode: usize,
+        key: &'a [u8],
+        value: &'a [u8],
+        file: &'a str,
+    },
 }
 
 // The line that these bytes spell, which end by a line feed.
@@ -70,6 +85,9 @@ fn spelled<'a>(words: &[&'a [u8]]) -> Option<Line<'a>> {
         b"send" => send(arguments),
         b"deliver" => deliver(arguments),
         b"restart" => restart(arguments),
+        b"resolve" => resolve(arguments),
+        b"commit" => commit(arguments),
+        b"check" => check(arguments),
         _ => None,
     }
 }
@@ -146,9 +164,46 @@ fn restart<'a>(arguments: &[&'a [u8]]) -> Option<Line<'a>> {
     })
 }
 
+fn resolve<'a>(arguments: &[&'a [u8]]) -> Option<Line<'a>> {
+    let [answer, file] = arguments else {
+        return None;
+    };
+    Some(Line::Resolve {
+        name: name(answer)?,
+        file: file_name(file)?,
+    })
+}
+
+fn commit<'a>(arguments: &[&'a [u8]]) -> Option<Line<'a>> {
+    let [vnode, answer] = arguments else {
+        return None;
+    };
+    Some(Line::Commit {
+        vnode: number(vnode)?,
+        name: name(answer)?,
+    })
+}
+
+fn check<'a>(arguments: &[&'a [u8]]) -> Option<Line<'a>> {
+    let [vnode, key, value, file] = arguments else {
+        return None;
+    };
+    Some(Line::Check {
+        vnode: number(vnode)?,
+        key: name(key)?,
+        value: name(value)?,
+        file: file_name(file)?,
+    })
+}
+
 // A key, a value or a name.
 fn name<'a>(word: &'a [u8]) -> Option<&'a [u8]> {
     is_name(word).then_some(word)
+}
+
+// The name of a file, which is text.
+fn file_name<'a>(word: &'a [u8]) -> Option<&'a str> {
+    str::from_utf8(word).ok()
 }
 
 // The context that a word stands for.

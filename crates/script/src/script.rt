@@ -1,10 +1,15 @@
 //! Whole scripts.
 
 ghost use Rattle.std.specs.Prelude.{◌≡◌, ◌<◌, ◌≤◌, ℕ, List, length, Some, slice_get, IfOk, OnOk, IfSome};
-ghost use Rattle.script.specs.Scripts.{IsRunnable};
-ghost use Rattle.world.specs.Running.{AreRunnable, MayCome, IsGetAt, IsSendAt, IsEarlierContext};
+ghost use Rattle.helpers.specs.declared.sig.Entry.{Entry};
+ghost use Rattle.script.specs.Scripts.{IsRunnable, IsOneMore};
+ghost use Rattle.world.specs.Running.{AreRunnable, MayCome, IsGetAt, IsSendAt, IsRunAt, IsEarlierContext};
 
+use crate::check::Check;
+use crate::images::{Images, NoHook};
 use crate::line::{Context, Line, line_of};
+use admission::Refusal;
+use bpfimage::ImageKind;
 use dvv::Clock;
 use object::{Bytes, Content, Key};
 use std::alloc::{AllocError, Global};
@@ -17,12 +22,18 @@ use world::{Event, Seen};
 pub const MAX_VNODES: usize = 64;
 
 /// What a line that was read prints.
-#[derive(Clone, Copy, Debug)]
+#[derive(Drop)]
 pub enum Answered {
     /// The reply of the next event.
     Reply,
+    /// What a hook says of a new content, beside the siblings that the next event finds.
+    Checked(Check),
     /// The refusal of its token.
     Refused(TokenFault),
+    /// The refusal of its image.
+    NotLetIn(Refusal),
+    /// That there is nothing to be written.
+    Nothing,
 }
 
 /// A script: its events, what its lines print, in order, and the number (from 1) of the line that is bad, where there is
@@ -35,12 +46,21 @@ pub struct Script {
     pub bad: Option<usize>,
 }
 
-// Places of gets and sends by name, the latest of each.
-type Names<'a> = BTreeMap<&'a [u8], usize>;
+// Places of events by name.
+type Places<'a> = BTreeMap<&'a [u8], usize>;
 
-/// The script that these bytes spell, up to its first bad line.
-pub fn parse(alloc: Global, bytes: &[u8]) -> Result<Script, AllocError>
-    ensures { IfOk result IsRunnable }
+// What names stand for.
+#[derive(Drop)]
+struct Names<'a> {
+    /// The latest get or send.
+    events: Places<'a>,
+    /// The latest run of a resolver on a get of that name, where no later one was refused.
+    runs: Places<'a>,
+}
+
+/// The script that these bytes spell, up to its first bad line. A line whose file can't be read is bad.
+pub fn parse<I: Images>(alloc: Global, bytes: &[u8], images: &I) -> Result<Script, AllocError>
+    ensures { IfOk result (IsRunnable (I.listed images.now)) }
 {
     let mut script = Script {
         vnodes: 0,
@@ -48,12 +68,16 @@ pub fn parse(alloc: Global, bytes: &[u8]) -> Result<Script, AllocError>
         answered: Vec::new(alloc),
         bad: None,
     };
-    let mut names = Names::new(alloc);
+    let mut names = Names {
+        events: Places::new(alloc),
+        runs: Places::new(alloc),
+    };
     let mut number: usize = 0;
-    for bytes in bytes.split_inclusive(|byte| *byte == b'\n') {
+    let lines = lines_of(alloc, bytes)?;
+    for line in &lines {
         number = number.saturating_add(1);
-        let is_read = match line_of(alloc, bytes)? {
-            Some(line) => read_line(alloc, &mut script, &mut names, line)?,
+        let is_read = match line_of(alloc, line)? {
+            Some(line) => read_line(alloc, &mut script, &mut names, images, line)?,
             None => false,
         };
         if !is_read {
@@ -64,15 +88,25 @@ pub fn parse(alloc: Global, bytes: &[u8]) -> Result<Script, AllocError>
     Ok(script)
 }
 
+// The lines, each with its line feed.
+fn lines_of<'a>(alloc: Global, bytes: &'a [u8]) -> Result<Vec<&'a [u8]>, AllocError> {
+    let mut lines = Vec::new(alloc);
+    for line in bytes.split_inclusive(|byte| *byte == b'\n') {
+        lines.push(line)?;
+    }
+    Ok(lines)
+}
+
 // Adds what a line asks for. Tells whether the line may stand there.
-fn read_line<'a>(
+fn read_line<'a, I: Images>(
     alloc: Global,
     script: &mut Script,
     names: &mut Names<'a>,
+    images: &I,
     line: Line<'a>,
 ) -> Result<bool, AllocError>
-    requires { IsRunnable script.old }
-    ensures { OnOk result (IsRunnable script.new) }
+    requires { IsRunnable (I.listed images.now) script.old }
+    ensures { OnOk result (IsRunnable (I.listed images.now) script.new) }
 {
     match line {
         Line::PassedOver => Ok(true),
@@ -90,7 +124,7 @@ fn read_line<'a>(
             let place = script.events.len();
             let key = key_of(alloc, key)?;
             push(script, Event::Get { vnode, key })?;
-            names.insert(name, place)?;
+            names.events.insert(name, place)?;
             Ok(true)
         }
         Line::Send { vnode, key, name } => {
@@ -100,11 +134,11 @@ fn read_line<'a>(
             let place = script.events.len();
             let key = key_of(alloc, key)?;
             push(script, Event::Send { vnode, key })?;
-            names.insert(name, place)?;
+            names.events.insert(name, place)?;
             Ok(true)
         }
         Line::Deliver { name, vnode } => {
-            let Some(message) = sent(&script.events, names, name) else {
+            let Some(message) = sent(&script.events, &names.events, name) else {
                 return Ok(false);
             };
             if vnode >= script.vnodes {
@@ -120,13 +154,102 @@ fn read_line<'a>(
             push(script, Event::Restart { vnode })?;
             Ok(true)
         }
+        Line::Resolve { name, file } => read_resolve(alloc, script, names, images, name, file),
+        Line::Commit { vnode, name } => read_commit(script, names, vnode, name),
+        Line::Check {
+            vnode,
+            key,
+            value,
+            file,
+        } => read_check(alloc, script, images, vnode, key, value, file),
+    }
+}
+
+// A run of a resolver on what the get of a name answered, or the refusal of its image.
+fn read_resolve<'a, I: Images>(
+    alloc: Global,
+    script: &mut Script,
+    names: &mut Names<'a>,
+    images: &I,
+    name: &'a [u8],
+    file: &str,
+) -> Result<bool, AllocError>
+    requires { IsRunnable (I.listed images.now) script.old }
+    ensures { OnOk result (IsRunnable (I.listed images.now) script.new) }
+{
+    let Some(get) = found(&script.events, &names.events, name) else {
+        return Ok(false);
+    };
+    let place = script.events.len();
+    match images.hook(alloc, file, ImageKind::Resolver) {
+        Ok(hook) => {
+            push(script, Event::ResolveRead { get, hook })?;
+            names.runs.insert(name, place)?;
+            Ok(true)
+        }
+        Err(NoHook::Refused(refusal)) => {
+            names.runs.remove(name);
+            script.answered.push(Answered::NotLetIn(refusal))?;
+            Ok(true)
+        }
+        Err(NoHook::Unreadable) => Ok(false),
+    }
+}
+
+// A put of what the latest run of a name chose, or nothing where there is no such run.
+fn read_commit(
+    script: &mut Script,
+    names: &Names<'_>,
+    vnode: usize,
+    name: &[u8],
+) -> Result<bool, AllocError>
+    ensures { (listed : List Entry) → IsRunnable listed script.old → OnOk result (IsRunnable listed script.new) }
+{
+    if vnode >= script.vnodes {
+        return Ok(false);
+    }
+    match resolved(&script.events, &names.runs, name) {
+        Some(run) => push(script, Event::ResolveWrite { run, vnode })?,
+        None => script.answered.push(Answered::Nothing)?,
+    }
+    Ok(true)
+}
+
+// A get, and what a hook says of a new value beside its answer, or the refusal of its image.
+fn read_check<I: Images>(
+    alloc: Global,
+    script: &mut Script,
+    images: &I,
+    vnode: usize,
+    key: &[u8],
+    value: &[u8],
+    file: &str,
+) -> Result<bool, AllocError>
+    requires { IsRunnable (I.listed images.now) script.old }
+    ensures { OnOk result (IsRunnable (I.listed images.now) script.new) }
+{
+    if vnode >= script.vnodes {
+        return Ok(false);
+    }
+    match images.hook(alloc, file, ImageKind::PreCommit) {
+        Ok(hook) => {
+            let key = key_of(alloc, key)?;
+            let new = content_of(alloc, Some(value))?;
+            let check = Check { hook, new };
+            push_answered(script, Event::Get { vnode, key }, Answered::Checked(check))?;
+            Ok(true)
+        }
+        Err(NoHook::Refused(refusal)) => {
+            script.answered.push(Answered::NotLetIn(refusal))?;
+            Ok(true)
+        }
+        Err(NoHook::Unreadable) => Ok(false),
     }
 }
 
 // The first line tells how many vnodes there are, and no other does.
 fn read_vnodes(script: &mut Script, count: usize) -> bool
-    requires { IsRunnable script.old }
-    ensures { IsRunnable script.new }
+    ensures { (listed : List Entry) → IsRunnable listed script.old → IsRunnable listed script.new }
 {
     if script.vnodes != 0 || count == 0 || count > MAX_VNODES {
         return false;
@@ -145,15 +268,14 @@ fn read_put<'a>(
     value: Option<&[u8]>,
     context: Context<'a>,
 ) -> Result<bool, AllocError>
-    requires { IsRunnable script.old }
-    ensures { OnOk result (IsRunnable script.new) }
+    ensures { (listed : List Entry) → IsRunnable listed script.old → OnOk result (IsRunnable listed script.new) }
 {
     if vnode >= script.vnodes {
         return Ok(false);
     }
     let seen = match context {
         Context::Nothing => Seen::Clock(Clock::new(alloc)),
-        Context::OfGet(name) => match found(&script.events, names, name) {
+        Context::OfGet(name) => match found(&script.events, &names.events, name) {
             Some(get) => Seen::Get(get),
             None => return Ok(false),
         },
@@ -182,21 +304,26 @@ fn read_put<'a>(
 
 // Adds an event that may come.
 fn push(script: &mut Script, event: Event) -> Result<(), AllocError>
-    requires runnable { IsRunnable script.old }
-    requires comes { MayCome script.old.vnodes script.old.events.items event }
-    ensures { OnOk result (IsRunnable script.new) }
+    ensures { OnOk result (IsOneMore script.old event Answered.Reply script.new) }
+{
+    push_answered(script, event, Answered::Reply)
+}
+
+// Adds an event that may come, and what its line prints.
+fn push_answered(script: &mut Script, event: Event, answered: Answered) -> Result<(), AllocError>
+    ensures { OnOk result (IsOneMore script.old event answered script.new) }
 {
     script.answered.reserve(1)?;
     script.events.push(event)?;
-    script.answered.push(Answered::Reply)?;
+    script.answered.push(answered)?;
     Ok(())
 }
 
 // The place of the latest event of a name, where that is a get.
-fn found(events: &[Event], names: &Names<'_>, name: &[u8]) -> Option<usize>
+fn found(events: &[Event], places: &Places<'_>, name: &[u8]) -> Option<usize>
     ensures { IfSome result (IsGetAt events.now) }
 {
-    let place = *names.get(name)?;
+    let place = *places.get(name)?;
     match events.get(place) {
         Some(Event::Get { .. }) => Some(place),
         _ => None,
@@ -204,12 +331,23 @@ fn found(events: &[Event], names: &Names<'_>, name: &[u8]) -> Option<usize>
 }
 
 // The place of the latest event of a name, where that is a send.
-fn sent(events: &[Event], names: &Names<'_>, name: &[u8]) -> Option<usize>
+fn sent(events: &[Event], places: &Places<'_>, name: &[u8]) -> Option<usize>
     ensures { IfSome result (IsSendAt events.now) }
 {
-    let place = *names.get(name)?;
+    let place = *places.get(name)?;
     match events.get(place) {
         Some(Event::Send { .. }) => Some(place),
+        _ => None,
+    }
+}
+
+// The place of the latest run of a name.
+fn resolved(events: &[Event], places: &Places<'_>, name: &[u8]) -> Option<usize>
+    ensures { IfSome result (IsRunAt events.now) }
+{
+    let place = *places.get(name)?;
+    match events.get(place) {
+        Some(Event::ResolveRead { .. }) => Some(place),
         _ => None,
     }
 }

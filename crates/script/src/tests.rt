@@ -1,10 +1,100 @@
 //! Scripts, and what they print.
 
+ghost use Rattle.std.specs.Prelude.{[]};
+
 use super::*;
+use admission::admit_hook;
+use bpfimage::ImageKind;
+use helpers::{Sigs, Table};
 use std::alloc::Global;
 use std::fmt::Write;
 use std::process::Abort;
 use std::test::Fail;
+use verifier::Verified;
+
+// Some images by name, for a table without helpers.
+struct Shelf;
+
+impl Images for Shelf {
+    ghost listed = { λ _. [] };
+
+    fn hook(&self, alloc: Global, file: &str, kind: ImageKind) -> Result<Verified, NoHook> {
+        let bytes = match image_of(file) {
+            Some(bytes) => bytes,
+            None => return Err(NoHook::Unreadable),
+        };
+        let sigs = Sigs::new(alloc);
+        admit_hook(alloc, bytes, kind, &sigs).map_err(NoHook::Refused)
+    }
+}
+
+// An image of the shelf.
+fn image_of(file: &str) -> Option<&'static [u8]> {
+    match file {
+        "take.img" => Some(
+            b"\x52\x42\x50\x46\x01\x02\x00\x00\x80\x00\x00\x00\x00\x00\x00\x00\xb7\x00\x00\x00\x00\x01\x00\x00\x95\x00\x00\x00\x00\x00\x00\x00",
+        ),
+        "keep.img" => Some(
+            b"\x52\x42\x50\x46\x01\x02\x00\x00\x80\x00\x00\x00\x00\x00\x00\x00\xb7\x00\x00\x00\x00\x00\x00\x00\x95\x00\x00\x00\x00\x00\x00\x00",
+        ),
+        "delete.img" => Some(
+            b"\x52\x42\x50\x46\x01\x02\x00\x00\x80\x00\x00\x00\x00\x00\x00\x00\xb7\x00\x00\x00\x02\x00\x00\x00\x95\x00\x00\x00\x00\x00\x00\x00",
+        ),
+        "wordless.img" => Some(
+            b"\x52\x42\x50\x46\x01\x02\x00\x00\x80\x00\x00\x00\x10\x00\x00\x00\x62\x03\x00\x00\x02\x00\x00\x00\x6a\x03\x04\x00\xff\x0a\x00\x00\xb7\x00\x00\x00\x01\x00\x00\x00\x95\x00\x00\x00\x00\x00\x00\x00",
+        ),
+        "empty.img" => Some(
+            b"\x52\x42\x50\x46\x01\x02\x00\x00\x80\x00\x00\x00\x04\x00\x00\x00\xb7\x00\x00\x00\x01\x00\x00\x00\x95\x00\x00\x00\x00\x00\x00\x00",
+        ),
+        "unknown.img" => Some(
+            b"\x52\x42\x50\x46\x01\x02\x00\x00\x80\x00\x00\x00\x00\x00\x00\x00\xb7\x00\x00\x00\x03\x00\x00\x00\x95\x00\x00\x00\x00\x00\x00\x00",
+        ),
+        "roomless.img" => Some(
+            b"\x52\x42\x50\x46\x01\x02\x00\x00\x80\x00\x00\x00\x03\x00\x00\x00\xb7\x00\x00\x00\x01\x00\x00\x00\x95\x00\x00\x00\x00\x00\x00\x00",
+        ),
+        "tenth.img" => Some(
+            b"\x52\x42\x50\x46\x01\x02\x00\x00\x80\x00\x00\x00\x00\x00\x00\x00\xb7\x00\x00\x00\x09\x01\x00\x00\x95\x00\x00\x00\x00\x00\x00\x00",
+        ),
+        "narrow.img" => Some(
+            b"\x52\x42\x50\x46\x01\x02\x00\x00\x28\x00\x00\x00\x00\x00\x00\x00\xb7\x00\x00\x00\x00\x01\x00\x00\x95\x00\x00\x00\x00\x00\x00\x00",
+        ),
+        "no.img" => Some(
+            b"\x52\x42\x50\x46\x01\x01\x00\x00\x80\x00\x00\x00\x00\x00\x00\x00\xb7\x00\x00\x00\x01\x01\x00\x00\x95\x00\x00\x00\x00\x00\x00\x00",
+        ),
+        "no40.img" => Some(
+            b"\x52\x42\x50\x46\x01\x01\x00\x00\x28\x00\x00\x00\x00\x00\x00\x00\xb7\x00\x00\x00\x01\x01\x00\x00\x95\x00\x00\x00\x00\x00\x00\x00",
+        ),
+        "no41.img" => Some(
+            b"\x52\x42\x50\x46\x01\x01\x00\x00\x29\x00\x00\x00\x00\x00\x00\x00\xb7\x00\x00\x00\x01\x01\x00\x00\x95\x00\x00\x00\x00\x00\x00\x00",
+        ),
+        "pass.img" => Some(
+            b"\x52\x42\x50\x46\x01\x01\x00\x00\x80\x00\x00\x00\x00\x00\x00\x00\xb7\x00\x00\x00\x00\x00\x00\x00\x95\x00\x00\x00\x00\x00\x00\x00",
+        ),
+        "change.img" => Some(
+            b"\x52\x42\x50\x46\x01\x01\x00\x00\x80\x00\x00\x00\x08\x00\x00\x00\x62\x03\x00\x00\x03\x00\x00\x00\x72\x03\x04\x00\x61\x00\x00\x00\xb7\x00\x00\x00\x01\x00\x00\x00\x95\x00\x00\x00\x00\x00\x00\x00",
+        ),
+        "odd.img" => Some(
+            b"\x52\x42\x50\x46\x01\x01\x00\x00\x80\x00\x00\x00\x00\x00\x00\x00\xb7\x00\x00\x00\x02\x00\x00\x00\x95\x00\x00\x00\x00\x00\x00\x00",
+        ),
+        "wide.img" => Some(
+            b"\x52\x42\x50\x46\x01\x01\x00\x00\x80\x00\x00\x00\x04\x00\x00\x00\x62\x03\x00\x00\x01\x00\x00\x00\xb7\x00\x00\x00\x01\x00\x00\x00\x95\x00\x00\x00\x00\x00\x00\x00",
+        ),
+        "mark.img" => Some(
+            b"\x52\x42\x50\x58\x01\x02\x00\x00\x80\x00\x00\x00\x00\x00\x00\x00\xb7\x00\x00\x00\x00\x00\x00\x00\x95\x00\x00\x00\x00\x00\x00\x00",
+        ),
+        "short.img" => Some(b"\x52\x42\x50\x46"),
+        "outside.img" => Some(
+            b"\x52\x42\x50\x46\x01\x02\x00\x00\x10\x00\x00\x00\x00\x00\x00\x00\x71\x10\x10\x00\x00\x00\x00\x00\x95\x00\x00\x00\x00\x00\x00\x00",
+        ),
+        "code.img" => Some(
+            b"\x52\x42\x50\x46\x01\x02\x00\x00\x10\x00\x00\x00\x00\x00\x00\x00\x18\x00\x00\x00\x00\x00\x00\x00",
+        ),
+        "plain.img" => Some(
+            b"\x52\x42\x50\x46\x01\x00\x00\x00\x10\x00\x00\x00\x00\x00\x00\x00\xb7\x00\x00\x00\x00\x00\x00\x00\x95\x00\x00\x00\x00\x00\x00\x00",
+        ),
+        _ => None,
+    }
+}
 
 // A script prints this, with this status.
 fn check(
@@ -16,7 +106,8 @@ fn check(
     status: u8,
 ) -> Result<(), Fail> {
     let mut out = Vec::new(alloc);
-    let got = sim(alloc, script, &mut out)?;
+    let table = Table::new(alloc);
+    let got = sim(alloc, script, &table, &Shelf, &mut out)?;
     assert_eq!(rt; out.as_slice(), want.as_bytes(), "{name}");
     assert_eq!(rt; got, status, "{name}");
     Ok(())
@@ -69,6 +160,51 @@ fn worked_rows(rt: HostRuntime) -> Result<(), Fail> {
             "an event that names a refused one",
             "vnodes 1\n# a comment\n\nput 0 k a =AQABAAAAAAAAAAAAAAAB\nput 0 k a -\n",
             "P1\n0-1\n",
+        ),
+        (
+            "resolver_takes_first",
+            "vnodes 3\nput 0 k a -\nput 1 k b -\nsend 1 k m\ndeliver m 0\nget 0 k g\nresolve g take.img\nput 2 k c -\nsend 2 k n\ndeliver n 0\ncommit 0 g\nget 0 k h\n",
+            "0-1\n1-1\nok\nchanged\n0-1=a 1-1=b AQACAAAAAAAAAAAAAAABAAAAAQAAAAAAAAAB\ntake 0\n2-1\nok\nchanged\n0-2\n0-2=a 2-1=c AQADAAAAAAAAAAAAAAACAAAAAQAAAAAAAAABAAAAAgAAAAAAAAAB\n",
+        ),
+        (
+            "verdicts of a resolver",
+            "vnodes 1\nput 0 k a -\nget 0 k g\nresolve g keep.img\ncommit 0 g\nresolve g delete.img\ncommit 0 g\nget 0 k h\nresolve h wordless.img\ncommit 0 h\nget 0 k i\nresolve i empty.img\ncommit 0 i\nget 0 k j\nresolve j unknown.img\ncommit 0 j\nresolve j roomless.img\ncommit 0 j\nresolve j tenth.img\ncommit 0 j\nresolve j narrow.img\ncommit 0 j\nget 0 k l\n",
+            "0-1\n0-1=a AQABAAAAAAAAAAAAAAAB\nkeep\nnothing\ndelete\n0-2\n0-2! AQABAAAAAAAAAAAAAAAC\nwrite ff0a\n0-3\n0-3:ff0a AQABAAAAAAAAAAAAAAAD\nwrite \n0-4\n0-4: AQABAAAAAAAAAAAAAAAE\nbad B1\nnothing\nbad B2\nnothing\nbad B3\nnothing\ntake 0\n0-5\n0-5: AQABAAAAAAAAAAAAAAAF\n",
+        ),
+        (
+            "a window with no room",
+            "vnodes 1\nput 0 k a -\nget 0 k g\nresolve g narrow.img\ncommit 0 g\n",
+            "0-1\n0-1=a AQABAAAAAAAAAAAAAAAB\nlarge\nnothing\n",
+        ),
+        (
+            "what is committed keeps its context",
+            "vnodes 2\nput 0 k a -\nget 0 k g\nresolve g take.img\ncommit 1 g\nsend 0 k m\ndeliver m 1\ncommit 1 g\ncommit 1 g\nput 0 k b -\ncommit 0 g\nget 0 k h\nget 1 k i\n",
+            "0-1\n0-1=a AQABAAAAAAAAAAAAAAAB\ntake 0\nP1\nok\nchanged\n1-1\n1-2\n0-2\n0-3\n0-2=b 0-3=a AQABAAAAAAAAAAAAAAAD\n1-1=a 1-2=a AQACAAAAAAAAAAAAAAABAAAAAQAAAAAAAAAC\n",
+        ),
+        (
+            "the last resolve of a name counts",
+            "vnodes 1\ncommit 0 g\nput 0 k a -\nget 0 k g\ncommit 0 g\nresolve g take.img\nresolve g keep.img\ncommit 0 g\nresolve g take.img\nresolve g no.img\ncommit 0 g\nresolve g take.img\nget 0 l g\ncommit 0 g\nsend 0 k g\ncommit 0 g\n",
+            "nothing\n0-1\n0-1=a AQABAAAAAAAAAAAAAAAB\nnothing\ntake 0\nkeep\nnothing\ntake 0\nrefused G2\nnothing\ntake 0\nnone AQAA\n0-2\nok\n0-3\n",
+        ),
+        (
+            "a tombstone is taken",
+            "vnodes 1\ndel 0 k -\nget 0 k g\nresolve g take.img\ncommit 0 g\nget 0 k h\n",
+            "0-1\n0-1! AQABAAAAAAAAAAAAAAAB\ntake 0\n0-2\n0-2! AQABAAAAAAAAAAAAAAAC\n",
+        ),
+        (
+            "nothing to take",
+            "vnodes 1\nget 0 k g\nresolve g take.img\ncommit 0 g\nget 0 k h\n",
+            "none AQAA\nbad B3\nnothing\nnone AQAA\n",
+        ),
+        (
+            "images that are refused",
+            "vnodes 1\nget 0 k g\nresolve g mark.img\nresolve g short.img\nresolve g outside.img\nresolve g code.img\nresolve g plain.img\nresolve g no.img\ncheck 0 k a take.img\ncheck 0 k a mark.img\ncheck 0 k a outside.img\ncommit 0 g\n",
+            "none AQAA\nrefused I2\nrefused I1\nrefused V24 0\nrefused D7 0\nrefused G2\nrefused G2\nrefused G2\nrefused I2\nrefused V24 0\nnothing\n",
+        ),
+        (
+            "verdicts of a pre-commit hook",
+            "vnodes 1\ncheck 0 k a no.img\ncheck 0 k a no40.img\ncheck 0 k a no41.img\ncheck 0 k a pass.img\ncheck 0 k a change.img\ncheck 0 k a odd.img\ncheck 0 k a wide.img\nget 0 k g\nput 0 k b -\ncheck 0 k a no41.img\ncheck 0 k a no.img\nget 0 k h\n",
+            "reject 1\nlarge\nreject 1\npass\nwrite 610000\nbad B1\nbad B2\nnone AQAA\n0-1\nlarge\nreject 1\n0-1=b AQABAAAAAAAAAAAAAAAB\n",
         ),
         ("nothing at all", "", ""),
         ("no line that counts", "\n# nothing\n\n", ""),
@@ -147,6 +283,34 @@ fn bad_lines(rt: HostRuntime) -> Result<(), Fail> {
         ("vnodes 1\nsend 0 k m\ndeliver m 1\n", "ok\nbad line 3\n"),
         ("vnodes 1\nrestart 1\n", "bad line 2\n"),
         ("vnodes 1\nrestart 00\n", "bad line 2\n"),
+        ("vnodes 1\nresolve g take.img\n", "bad line 2\n"),
+        (
+            "vnodes 1\nsend 0 k g\nresolve g take.img\n",
+            "ok\nbad line 3\n",
+        ),
+        (
+            "vnodes 1\nget 0 k g\nresolve g absent.img\n",
+            "none AQAA\nbad line 3\n",
+        ),
+        (
+            "vnodes 1\nget 0 k g\nresolve g\n",
+            "none AQAA\nbad line 3\n",
+        ),
+        (
+            "vnodes 1\nget 0 k g\nresolve g take.img x\n",
+            "none AQAA\nbad line 3\n",
+        ),
+        ("vnodes 1\ncommit 1 g\n", "bad line 2\n"),
+        ("vnodes 1\ncommit 0\n", "bad line 2\n"),
+        ("vnodes 1\ncommit 0 g g\n", "bad line 2\n"),
+        ("vnodes 1\ncheck 1 k a no.img\n", "bad line 2\n"),
+        ("vnodes 1\ncheck 0 k a absent.img\n", "bad line 2\n"),
+        ("vnodes 1\ncheck 0 k a- no.img\n", "bad line 2\n"),
+        ("vnodes 1\ncheck 0 k a\n", "bad line 2\n"),
+        (
+            "vnodes 1\nput 0 k a -\ncheck 0 k a no.img\ncheck 0 k a absent.img\nput 0 k b -\n",
+            "0-1\nreject 1\nbad line 4\n",
+        ),
         ("vnodes 1\nfrobnicate\n", "bad line 2\n"),
         ("vnodes 1\nput 0 k é -\n", "bad line 2\n"),
         (
@@ -184,11 +348,12 @@ fn bytes_that_are_no_text(rt: HostRuntime) -> Result<(), Fail> {
 fn parses(rt: HostRuntime) -> Result<(), Fail> {
     let script = parse(
         rt.alloc(),
-        b"vnodes 2\nput 1 k a -\nput 0 k a =AgAA\nget 1 k g\nrestart 2\n",
+        b"vnodes 2\nput 1 k a -\nput 0 k a =AgAA\nget 1 k g\ncommit 1 g\nresolve g take.img\ncommit 1 g\ncheck 0 k a no.img\nrestart 2\n",
+        &Shelf,
     )?;
     assert_eq!(rt; script.vnodes, 2);
-    assert_eq!(rt; script.events.len(), 2);
-    assert_eq!(rt; script.answered.len(), 3);
-    assert_eq!(rt; script.bad, Some(5));
+    assert_eq!(rt; script.events.len(), 5);
+    assert_eq!(rt; script.answered.len(), 7);
+    assert_eq!(rt; script.bad, Some(9));
     Ok(())
 }

@@ -3,4 +3,4 @@ use Rattle.script.proofs.Growing.{runs_over}
 use Rattle.script.proofs.script.read_vnodes.Goals as goal
 
 pub returns : goal.returns
-returns c = record { few = omega arith; events = runs_over c.args.script.now.vnodes c.args.count c.args.script.now.events.items c.if-script-ne0.false c.requires.events }
+returns c listed runnable = record { few = omega arith; events = runs_over c.args.script.now.vnodes c.args.count listed c.args.script.now.events.items c.if-script-ne0.false runnable.events }
