@@ -1,5 +1,8 @@
 pub mod CallLemmas
+pub mod JudgedLemmas
 pub mod LocalLemmas
 pub mod MergeLemmas
 pub mod PutLemmas
+pub mod ResolveLemmas
 pub mod RisenLemmas
+pub mod ShowLemmas

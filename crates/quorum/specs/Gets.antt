@@ -4,12 +4,13 @@ use Rattle.std.specs.Global.{Vec}
 use Rattle.dvv.specs.Clock.{vnodes_together}
 use Rattle.object.specs.declared.content.Key.{Key}
 use Rattle.object.specs.State.{State}
+use Rattle.object.specs.Known.{Write, Shows}
 use Rattle.journal.specs.Replay.{IsMergeOf}
 use Rattle.vnode.specs.declared.fault.VnodeFault.TheVariants.{MergedClockFull, NoMemory}
 use Rattle.quorum.specs.declared.peers.Answer.{Answer}
 use Rattle.quorum.specs.declared.fault.PeerFault.{PeerFault}
 use Rattle.quorum.specs.declared.fault.QuorumFault.{QuorumFault}
-use Rattle.quorum.specs.declared.fault.QuorumFault.TheVariants.{TooFew, Refused}
+use Rattle.quorum.specs.declared.fault.QuorumFault.TheVariants.{TooFew, Refused, Unseen, Disagrees, TooLarge, BadVerdict, Rejected}
 use Rattle.quorum.specs.Calls.{Call, StateOf}
 
 -- a read at each of these vnodes, in order, with what came back from each
@@ -27,6 +28,13 @@ answers (Err fault ∷ backs) = answers backs
 -- their states
 abbrev pub states_of : List Answer → List State
 states_of found = map (λ answer. answer.state) found
+
+-- each state shows the writes beside it: its siblings are the current ones, and its clock is their context
+abbrev pub EachShows : List (List Write) → List State → Type 0
+EachShows [] [] = Unit {0}
+EachShows (known ∷ knowns) (state ∷ states) = Shows known state × EachShows knowns states
+EachShows [] (state ∷ states) = ⊥
+EachShows (known ∷ knowns) [] = ⊥
 
 -- a merge of states passes the clock's limit: one of them and the merge of those before it count over 1,024 vnodes together
 pub record PassesClock (key : Key) (states : List State) : Type 0 where
@@ -50,3 +58,8 @@ GetsAnswer key vnodes r backs (Err TooFew) = (length backs ≡ length vnodes) ×
 GetsAnswer key vnodes r backs (Err (Refused MergedClockFull)) = Suffice vnodes r backs × PassesClock key (states_of (answers backs))
 GetsAnswer key vnodes r backs (Err (Refused NoMemory)) = (backs ≡ []) ⊎ Suffice vnodes r backs
 GetsAnswer key vnodes r backs (Err (Refused fault)) = ⊥
+GetsAnswer key vnodes r backs (Err (Unseen fault)) = ⊥
+GetsAnswer key vnodes r backs (Err Disagrees) = ⊥
+GetsAnswer key vnodes r backs (Err TooLarge) = ⊥
+GetsAnswer key vnodes r backs (Err (BadVerdict bad)) = ⊥
+GetsAnswer key vnodes r backs (Err (Rejected code)) = ⊥

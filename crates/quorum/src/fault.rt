@@ -1,5 +1,8 @@
 //! Why a call on a vnode, a get or a put gives no answer.
 
+use abi::BadAnswer;
+use hookrun::RunFault;
+use hooks::HookFault;
 use object::MergeFault;
 use std::alloc::AllocError;
 use thiserror::Error;
@@ -8,7 +11,7 @@ use vnode::VnodeFault;
 /// Why a call on a vnode gave no answer.
 #[derive(Clone, Copy, Debug, PartialEq, Eq, Error)]
 pub enum PeerFault {
-    /// The vnode was not reached. The call was not made there.
+    /// No answer came. Whether the call was made there isn't known.
     #[error("lost")]
     Lost,
     /// The vnode refused it.
@@ -16,15 +19,32 @@ pub enum PeerFault {
     Refused(VnodeFault),
 }
 
-/// Why a get or a put gives no answer.
+/// Why a get or a put gives no answer. Where a pre-commit hook lets nothing through, nothing was put; of `Disagrees`, `TooLarge`,
+/// `BadVerdict` and `Rejected` the first that stands is told. It is shown as its number, a rejection's code after it.
 #[derive(Clone, Copy, Debug, PartialEq, Eq, Error)]
 pub enum QuorumFault {
-    /// Fewer vnodes answered than were asked for, or the coordinator of a put was not reached. What was stored stays.
+    /// Fewer vnodes answered than were asked for, or the coordinator of a put did not. What was stored stays.
     #[error("Q1")]
     TooFew,
-    /// A refusal: the coordinator's of a put, or what came of a get can't be merged.
+    /// A refusal: the coordinator's of a put, or what came of a get can't be merged. `NoMemory` also where memory ran out in
+    /// the get or the put itself, as for a hook's windows or for the value that it wrote.
     #[error("{0}")]
     Refused(VnodeFault),
+    /// The look-up of a put's pre-commit hook was refused. No call on a vnode was made.
+    #[error("{0}")]
+    Unseen(HookFault),
+    /// The pre-commit hook's table lacks a helper that the hook was verified with, or has it under another Sig.
+    #[error("X4")]
+    Disagrees,
+    /// The new content and the coordinator's siblings are too large for the pre-commit hook's input window.
+    #[error("X1")]
+    TooLarge,
+    /// The pre-commit hook's answer has no meaning.
+    #[error("X2")]
+    BadVerdict(BadAnswer),
+    /// The pre-commit hook refused the new content, with this code of its own.
+    #[error("X3 {0}")]
+    Rejected(u8),
 }
 
 impl From<AllocError> for QuorumFault {
@@ -49,6 +69,22 @@ impl From<MergeFault> for QuorumFault {
         match fault {
             MergeFault::ClockFull => QuorumFault::Refused(VnodeFault::MergedClockFull),
             MergeFault::NoMemory => QuorumFault::Refused(VnodeFault::NoMemory),
+        }
+    }
+}
+
+impl From<RunFault> for QuorumFault {
+    ghost use Rattle.std.specs.Prelude.{◌≡◌};
+    ghost use Rattle.quorum.specs.Faults.{fault_of_run};
+
+    ghost from_gives = { λ fault answer. answer ≡ fault_of_run fault };
+
+    fn from(fault: RunFault) -> Self {
+        match fault {
+            RunFault::Disagrees => QuorumFault::Disagrees,
+            RunFault::TooLarge => QuorumFault::TooLarge,
+            RunFault::Bad(bad) => QuorumFault::BadVerdict(bad),
+            RunFault::NoMemory => QuorumFault::Refused(VnodeFault::NoMemory),
         }
     }
 }

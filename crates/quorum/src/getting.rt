@@ -2,21 +2,22 @@
 
 ghost use Rattle.std.specs.Prelude.{◌≡◌, ◌+◌, ◌≤◌, ◌<◌, ℕ, [], List, length, IfOk, OnOk, Result, Err, vec_capacity};
 ghost use Rattle.object.specs.declared.content.Key.{Key as StoredKey};
-ghost use Rattle.object.specs.Known.{Write, ShowsKnown};
+ghost use Rattle.object.specs.Known.{Write, AreUnique, NoneSawItself, Shows, ShowsKnown};
 ghost use Rattle.journal.specs.Replay.{IsMergeOf};
 ghost use Rattle.journal.specs.Brought.{AllShow, all_writes};
 ghost use Rattle.quorum.specs.declared.peers.Answer.{Answer as Answered};
 ghost use Rattle.quorum.specs.declared.fault.PeerFault.{PeerFault};
 ghost use Rattle.quorum.specs.Calls.{Made};
 ghost use Rattle.quorum.specs.Counts.{HasRisen};
-ghost use Rattle.quorum.specs.Gets.{reads, answers, states_of, PassesClock, GetsAnswer};
+ghost use Rattle.quorum.specs.Gets.{reads, answers, states_of, PassesClock, EachShows, GetsAnswer};
 
 use crate::fault::QuorumFault;
 use crate::peers::{Answer, Peers};
 use object::{Key, KeyState, MergeFault};
 use std::alloc::Global;
 
-/// Reads the key at each of these vnodes, in order. Answers the merge of all states that came, and these.
+/// Reads the key at each of these vnodes, in order. Answers the merge of all states that came, and these. Each answer counts
+/// towards r, so the vnodes have to be different.
 ///
 /// `TooFew` where fewer than r vnodes answered; then `Refused` with `MergedClockFull` where the merge's clock passes its
 /// limit, and with `NoMemory` where a growth was refused, before the first read or after the last. The reads made are
@@ -34,9 +35,13 @@ pub fn get<P: Peers>(
     ensures few { result ≡ Err QuorumFault.TooFew → r ≤ length vnodes.now → HasRisen (P.failures peers.old) (P.failures peers.new) }
     // Where each state that came shows some known writes, the answer shows what is current among all of these, and their context.
     ensures current { IfOk result (λ found. (knowns : List (List Write)) → AllShow (states_of found.1.items) knowns → ShowsKnown found.0 (all_writes knowns)) }
+    // The same, told by sets of writes: of vnodes of one world, where no identifier stands for two writes and none had seen
+    // itself, the answer shows the union of what each that came shows.
+    ensures union { IfOk result (λ found. (knowns : List (List Write)) → EachShows knowns (states_of found.1.items) → AreUnique (all_writes knowns) → NoneSawItself (all_writes knowns) → Shows (all_writes knowns) found.0) }
     ensures origin { P.origin peers.new ≡ P.origin peers.old }
 {
     journal::laws::merges_are_current();
+    object::laws::forms_agree();
     let mut found = Vec::with_capacity(alloc, vnodes.len())?;
     read_all(peers, key, vnodes, &mut found);
     if found.len() < r {

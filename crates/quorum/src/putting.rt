@@ -1,26 +1,41 @@
-//! A put: at the coordinator, then its state to the other vnodes of the list.
+//! A put: the bucket's pre-commit hook, then the coordinator, then its state to the other vnodes of the list.
 
-ghost use Rattle.std.specs.Prelude.{◌≡◌, ◌+◌, ◌≤◌, ◌<◌, ℕ, List, length, Bool, Result, Ok, Err, ◌^◌};
+ghost use Rattle.std.specs.Prelude.{◌≡◌, ◌+◌, ◌≤◌, ◌<◌, List, length, Bool, Option, Some, Result, Ok, Err, ◌^◌};
+ghost use Rattle.verifier.specs.Program.{Program};
+ghost use Rattle.hooks.specs.declared.fault.HookFault.{HookFault as LookUpFault};
 ghost use Rattle.quorum.specs.declared.fault.PeerFault.{PeerFault as Failure};
 ghost use Rattle.quorum.specs.Calls.{Call, Made};
 ghost use Rattle.quorum.specs.Counts.{HasRisen};
 ghost use Rattle.quorum.specs.Faults.{fault_of};
-ghost use Rattle.quorum.specs.Puts.{Brought, gathers, merges, copies, AfterRead, AfterPut, AfterFirst, IsPut, is_ahead};
+ghost use Rattle.quorum.specs.Judged.{IsJudgedPut};
+ghost use Rattle.quorum.specs.Puts.{Brought, gathers, merges, copies, AfterPut, IsPut, is_ahead};
 
 use crate::fault::{PeerFault, QuorumFault};
+use crate::hooking::Hooking;
 use crate::peers::{Answer, Peers};
+use bpfimage::ImageKind;
 use dvv::{Clock, Dot};
+use hooks::Hooks;
 use object::{Content, Key};
+use verifier::Verified;
 use vnode::VnodeFault;
 
 /// Puts a content at the coordinator, as one who had seen what the clock counts, and brings its state to the other vnodes
 /// of the list. Where the context is ahead of the coordinator, the others' states are brought to it and the put is tried
-/// once more. An Ok means that at least w vnodes have a copy, the coordinator among them.
+/// once more. An Ok means that at least w vnodes have a copy, the coordinator among them: each merge that was taken counts as
+/// one, so the others have to be different vnodes and leave the coordinator out.
 ///
-/// `TooFew` where the coordinator was not reached, or fewer than w copies were stored; `Refused` with what the
-/// coordinator refused. What was stored stays.
-pub fn put<P: Peers>(
+/// The bucket's pre-commit hook, if it has one, first decides on the content and the siblings that are read at the
+/// coordinator. It may change the value: the media type is then kept, and a tombstone becomes a value of
+/// `application/octet-stream`.
+///
+/// `Unseen` where the hook's look-up was refused; `Disagrees`, `TooLarge`, `BadVerdict` and `Rejected`, the first that
+/// stands, where it lets nothing through, and `Refused` with `NoMemory` where memory ran out for its windows or for the value
+/// that it wrote: in all these nothing is put. `TooFew` where the coordinator did not answer, or fewer than w copies were
+/// stored; `Refused` with what the coordinator refused. What was stored stays.
+pub fn put<P: Peers, H: Hooks>(
     peers: &mut P,
+    hooking: &mut Hooking<H>,
     coordinator: usize,
     others: &[usize],
     key: &Key,
@@ -31,9 +46,71 @@ pub fn put<P: Peers>(
     requires { length others.now < 2 ^ 32 }
     // Too few copies come only of calls that were lost or refused.
     ensures few { result ≡ Err QuorumFault.TooFew → w ≤ 1 + length others.now → HasRisen (P.failures peers.old) (P.failures peers.new) }
-    // Which calls are made, and what is answered to what came back.
-    ensures calls { (calls : List Call) × Made P.happens peers.old calls peers.new × IsPut coordinator others.now key.now w seen.now content.now calls result }
+    // What the look-up found, which calls are made, and what is answered to what came back.
+    ensures calls { (found : Result (Option Program) LookUpFault) × (calls : List Call) × H.finds hooking.old.hooks key.now.bucket ImageKind.PreCommit found hooking.new.hooks
+        × Made P.happens peers.old calls peers.new × IsJudgedPut hooking.old.table.listed coordinator others.now key.now w seen.now content.now found calls result }
+    ensures table { hooking.new.table ≡ hooking.old.table }
     ensures origin { P.origin peers.new ≡ P.origin peers.old }
+{
+    match hooking.hooks.hook_of(&key.bucket, ImageKind::PreCommit) {
+        Ok(Some(hook)) => {
+            put_judged(
+                peers,
+                hooking,
+                &hook,
+                coordinator,
+                others,
+                key,
+                seen,
+                content,
+                w,
+            )
+        }
+        Ok(None) => put_content(peers, coordinator, others, key, seen, content, w),
+        Err(fault) => Err(QuorumFault::Unseen(fault)),
+    }
+}
+
+// Puts what a pre-commit hook makes of a content.
+fn put_judged<P: Peers, H: Hooks>(
+    peers: &mut P,
+    hooking: &mut Hooking<H>,
+    hook: &Verified,
+    coordinator: usize,
+    others: &[usize],
+    key: &Key,
+    seen: &Clock,
+    content: &Content,
+    w: usize,
+) -> Result<Dot, QuorumFault>
+    requires { length others.now < 2 ^ 32 }
+    ensures calls { (calls : List Call) × Made P.happens peers.old calls peers.new × IsJudgedPut hooking.old.table.listed coordinator others.now key.now w seen.now content.now (Ok (Some hook.now)) calls result }
+    ensures hooks { hooking.new.hooks ≡ hooking.old.hooks }
+    ensures table { hooking.new.table ≡ hooking.old.table }
+{
+    match peers.state_of(coordinator, key) {
+        Ok(answer) => match hooking.judge(hook, content, answer.state.siblings()) {
+            Ok(Some(changed)) => put_content(peers, coordinator, others, key, seen, &changed, w),
+            Ok(None) => put_content(peers, coordinator, others, key, seen, content, w),
+            Err(fault) => Err(fault),
+        },
+        Err(fault) => Err(quorum_fault(fault)),
+    }
+}
+
+// Puts a content at the coordinator, once more where its context was ahead and the others' states were brought, and brings
+// the coordinator's state to the others.
+fn put_content<P: Peers>(
+    peers: &mut P,
+    coordinator: usize,
+    others: &[usize],
+    key: &Key,
+    seen: &Clock,
+    content: &Content,
+    w: usize,
+) -> Result<Dot, QuorumFault>
+    requires { length others.now < 2 ^ 32 }
+    ensures { (calls : List Call) × Made P.happens peers.old calls peers.new × IsPut coordinator others.now key.now w seen.now content.now calls result }
 {
     let first = peers.put_at(coordinator, key, seen, content);
     if is_ahead(&first) {

@@ -4,6 +4,8 @@ use Rattle.quorum.specs.declared.peers.Answer.{Answer}
 use Rattle.quorum.specs.Gets.{reads, states_of}
 use Rattle.quorum.proofs.CallLemmas.{made_stays}
 use Rattle.quorum.proofs.RisenLemmas.{made_risen, few_reads}
+use Rattle.quorum.proofs.ShowLemmas.{each_shows}
+use Rattle.journal.specs.Brought.{all_writes}
 use Rattle.quorum.proofs.getting.get.Goals as goal
 
 pub returns-then-len-r-clause-few : goal.returns-then-len-r-clause-few
@@ -28,3 +30,9 @@ returns-in-Ok-clause-calls g c =
 
 pub returns-in-Ok-clause-current : goal.returns-in-Ok-clause-current
 returns-in-Ok-clause-current g c knowns show = c.merges_are_current.ensures c.args.key.now (states_of c.read_all.new.found.items) knowns c.in-Ok.merged show (subst (λ (found : List Answer). IsMergeOf c.args.key.now (states_of found) c.in-Ok.merged) c.deref.ensures.value (c.in-Ok.ensures.merge c.args.key.now))
+
+pub returns-in-Ok-clause-union : goal.returns-in-Ok-clause-union
+returns-in-Ok-clause-union g c knowns show unique none =
+    (c.forms_agree.ensures.shows (all_writes knowns) c.in-Ok.merged unique none).1
+    (c.merges_are_current.ensures c.args.key.now (states_of c.read_all.new.found.items) knowns c.in-Ok.merged (each_shows c.forms_agree.ensures.shows knowns (states_of c.read_all.new.found.items) show unique none)
+    (subst (λ (found : List Answer). IsMergeOf c.args.key.now (states_of found) c.in-Ok.merged) c.deref.ensures.value (c.in-Ok.ensures.merge c.args.key.now)))

@@ -1,0 +1,62 @@
+-- A put with its bucket's pre-commit hook in front (Riak KV documentation, pre-commit hooks; this store's profile).
+use Rattle.std.specs.Prelude.{◌≡◌, ℕ, ◌⊎◌, List, [], ◌∷◌, Option, Some, None, Result, Ok, Err}
+use Rattle.dvv.specs.declared.Dot.{Dot}
+use Rattle.object.specs.declared.content.Key.{Key}
+use Rattle.object.specs.declared.content.Content.{Content}
+use Rattle.object.specs.declared.content.Content.TheVariants.{Value, Tombstone}
+use Rattle.vnode.specs.declared.fault.VnodeFault.TheVariants.{NoMemory}
+use Rattle.verifier.specs.Program.{Program}
+use Rattle.helpers.specs.declared.sig.Entry.{Entry}
+use Rattle.abi.specs.declared.answer.BadAnswer.TheVariants.{UnknownCode}
+use Rattle.abi.specs.Verdicts.{Meaning, Pass, Write, Reject, Keep, Delete, Take}
+use Rattle.abi.specs.Written.{octet_stream}
+use Rattle.hookrun.specs.declared.deciding.RunFault.{RunFault}
+use Rattle.hookrun.specs.Decisions.{IsDecision}
+use Rattle.hooks.specs.declared.fault.HookFault.{HookFault}
+use Rattle.quorum.specs.declared.peers.Answer.{Answer}
+use Rattle.quorum.specs.declared.fault.PeerFault.{PeerFault}
+use Rattle.quorum.specs.declared.fault.QuorumFault.{QuorumFault}
+use Rattle.quorum.specs.declared.fault.QuorumFault.TheVariants.{Refused, Unseen, BadVerdict, Rejected}
+use Rattle.quorum.specs.Faults.{fault_of, fault_of_run}
+use Rattle.quorum.specs.Calls.{Call, StateOf}
+use Rattle.quorum.specs.Puts.{IsPut}
+
+-- a content with the value that a hook wrote: its media type is kept, and a tombstone becomes a value of application/octet-stream
+abbrev pub rewritten : Content → List ℕ → Content
+rewritten (Value media bytes) written = Value media written
+rewritten Tombstone written = octet_stream written
+
+-- what a pre-commit hook's decision makes of the new content: what is put, or why nothing is; for a written value memory may
+-- lack, and a verdict that is a resolver's alone is a bad one
+abbrev pub Judges : Content → Result Meaning RunFault → Result Content QuorumFault → Type 0
+Judges content (Ok Pass) judged = judged ≡ Ok content
+Judges content (Ok (Write bytes)) judged = (judged ≡ Ok (rewritten content bytes)) ⊎ (judged ≡ Err (Refused NoMemory))
+Judges content (Ok (Reject code)) judged = judged ≡ Err (Rejected code)
+Judges content (Ok Keep) judged = judged ≡ Err (BadVerdict UnknownCode)
+Judges content (Ok Delete) judged = judged ≡ Err (BadVerdict UnknownCode)
+Judges content (Ok (Take index)) judged = judged ≡ Err (BadVerdict UnknownCode)
+Judges content (Err fault) judged = judged ≡ Err (fault_of_run fault)
+
+-- what is put where a judge names only a content that it changed
+abbrev pub or_same : Content → Result (Option Content) QuorumFault → Result Content QuorumFault
+or_same content (Ok (Some changed)) = Ok changed
+or_same content (Ok None) = Ok content
+or_same content (Err fault) = Err fault
+
+module _ (listed : List Entry) (coordinator : ℕ) (others : List ℕ) (key : Key) (w : ℕ) (seen : List Dot) (content : Content) where
+  -- what follows the hook's decision: the put of what it let through, or no further call
+  abbrev pub AfterJudged : Result Content QuorumFault → List Call → Result Dot QuorumFault → Type 0
+  AfterJudged (Ok judged) calls result = IsPut coordinator others key w seen judged calls result
+  AfterJudged (Err fault) calls result = (calls ≡ []) × (result ≡ Err fault)
+
+  -- what follows the coordinator's read of its own state: the hook decides on the new content and the siblings there
+  abbrev pub AfterSiblings : Program → Result Answer PeerFault → List Call → Result Dot QuorumFault → Type 0
+  AfterSiblings hook (Ok answer) calls result = (decided : Result Meaning RunFault) × (judged : Result Content QuorumFault)
+      × IsDecision hook (Some content) answer.state.siblings listed decided × Judges content decided judged × AfterJudged judged calls result
+  AfterSiblings hook (Err fault) calls result = (calls ≡ []) × (result ≡ Err (fault_of fault))
+
+  -- the calls of a put and its answer, by what the look-up of the pre-commit hook found
+  abbrev pub IsJudgedPut : Result (Option Program) HookFault → List Call → Result Dot QuorumFault → Type 0
+  IsJudgedPut (Ok None) calls result = IsPut coordinator others key w seen content calls result
+  IsJudgedPut (Ok (Some hook)) calls result = (own : Result Answer PeerFault) × (rest : List Call) × (calls ≡ StateOf coordinator key own ∷ rest) × AfterSiblings hook own rest result
+  IsJudgedPut (Err fault) calls result = (calls ≡ []) × (result ≡ Err (Unseen fault))

@@ -1,0 +1,127 @@
+//! What a bucket's hooks make of the siblings of a key.
+
+ghost use Rattle.std.specs.Prelude.{◌≡◌, List, Option, Some, None, Result, Ok, Err, IfOk};
+ghost use Rattle.abi.specs.Verdicts.{Meaning, meaning_of};
+ghost use Rattle.hookrun.specs.declared.deciding.RunFault.{RunFault as Failure};
+ghost use Rattle.hookrun.specs.Decisions.{IsDecision};
+ghost use Rattle.quorum.specs.Judged.{Judges, or_same, rewritten};
+ghost use Rattle.quorum.specs.Resolves.{Chooses, chosen_of};
+
+use crate::fault::QuorumFault;
+use abi::{BadAnswer, Verdict, octet_stream};
+use helpers::Table;
+use hookrun::{Room, decide};
+use object::{Bytes, Content, Sibling};
+use std::alloc::{AllocError, Global};
+use verifier::Verified;
+
+/// What the hooks of buckets are found and run with.
+#[derive(Drop)]
+pub struct Hooking<H> {
+    /// Where they are looked up.
+    pub hooks: H,
+    /// The helpers that they may call.
+    pub table: Table,
+    room: Room,
+    alloc: Global,
+}
+
+impl<H> Hooking<H> {
+    /// Hooks that are looked up here and run with this table.
+    pub fn new(alloc: Global, hooks: H, table: Table) -> Hooking<H>
+        ensures hooks { result.hooks ≡ hooks }
+        ensures table { result.table ≡ table }
+    {
+        Hooking {
+            hooks,
+            table,
+            room: Room::new(alloc),
+            alloc,
+        }
+    }
+
+    // What a pre-commit hook makes of a new content beside the coordinator's siblings: the content that it changed, or none
+    // where it passes as it is.
+    pub(crate) fn judge(
+        &mut self,
+        hook: &Verified,
+        content: &Content,
+        siblings: &[Sibling],
+    ) -> Result<Option<Content>, QuorumFault>
+        ensures judges { (decided : Result Meaning Failure) × IsDecision hook.now (Some content.now) siblings.now self.old.table.listed decided × Judges content.now decided (or_same content.now result) }
+        ensures hooks { self.new.hooks ≡ self.old.hooks }
+        ensures table { self.new.table ≡ self.old.table }
+    {
+        match decide(&mut self.room, hook, &self.table, Some(content), siblings) {
+            Ok(verdict) => judged(self.alloc, content, verdict),
+            Err(fault) => Err(QuorumFault::from(fault)),
+        }
+    }
+
+    // What a resolver chose of siblings, if it writes.
+    pub(crate) fn choose(&mut self, hook: &Verified, siblings: &[Sibling]) -> Option<Choice>
+        ensures chooses { (decided : Result Meaning Failure) × IsDecision hook.now None siblings.now self.old.table.listed decided × Chooses siblings.now decided (chosen_of siblings.now result) }
+        ensures hooks { self.new.hooks ≡ self.old.hooks }
+        ensures table { self.new.table ≡ self.old.table }
+    {
+        match decide(&mut self.room, hook, &self.table, None, siblings) {
+            Ok(verdict) => chosen(self.alloc, verdict),
+            Err(_) => None,
+        }
+    }
+}
+
+/// A content that a resolver chose.
+#[derive(Drop)]
+pub(crate) enum Choice {
+    /// That of the sibling at this place.
+    Sibling(u32),
+    /// One of its own.
+    Made(Content),
+}
+
+// What a pre-commit hook's verdict makes of the new content.
+fn judged(
+    alloc: Global,
+    content: &Content,
+    verdict: Verdict,
+) -> Result<Option<Content>, QuorumFault>
+    ensures { Judges content.now (Ok (meaning_of verdict.entry)) (or_same content.now result) }
+{
+    match verdict {
+        Verdict::Pass => Ok(None),
+        Verdict::Write(bytes) => Ok(Some(rewritten(alloc, content, bytes)?)),
+        Verdict::Reject(code) => Err(QuorumFault::Rejected(code)),
+        Verdict::Keep | Verdict::Delete | Verdict::Take(_) => {
+            Err(QuorumFault::BadVerdict(BadAnswer::UnknownCode))
+        }
+    }
+}
+
+// What a resolver's verdict chose, if it writes. For a written value memory may lack, and then it chose nothing.
+fn chosen(alloc: Global, verdict: Verdict) -> Option<Choice>
+    ensures { (siblings : List Sibling) → Chooses siblings (Ok (meaning_of verdict.entry)) (chosen_of siblings result) }
+{
+    match verdict {
+        Verdict::Take(index) => Some(Choice::Sibling(index)),
+        Verdict::Write(bytes) => match octet_stream(alloc, bytes) {
+            Ok(content) => Some(Choice::Made(content)),
+            Err(_) => None,
+        },
+        Verdict::Delete => Some(Choice::Made(Content::Tombstone)),
+        Verdict::Pass | Verdict::Reject(_) | Verdict::Keep => None,
+    }
+}
+
+// The content with the value that a hook wrote, its media type shared with this one.
+fn rewritten(alloc: Global, content: &Content, written: &[u8]) -> Result<Content, AllocError>
+    ensures { IfOk result (λ changed. changed ≡ rewritten content.now written.now) }
+{
+    match content {
+        Content::Value { media, .. } => Ok(Content::Value {
+            media: media.copy()?,
+            bytes: Bytes::from_slice(alloc, written)?,
+        }),
+        Content::Tombstone => octet_stream(alloc, written),
+    }
+}
