@@ -1,6 +1,8 @@
 -- One key more of an exchange, and equal dots.
-use Rattle.std.proofs.Common.{◌≡◌, ℕ, zero, suc, ◌+◌, ◌<◌, List, [], ◌∷◌, ◌++◌, length, length-append, get_or, map, refl, ap, sym, ◌∙◌, subst, arith, append_assoc, count_by, cond, Bool, Ok}
+use Rattle.std.proofs.Common.{◌≡◌, ℕ, zero, suc, ◌+◌, ◌<◌, List, [], ◌∷◌, ◌++◌, length, length-append, get_or, map, refl, ap, sym, ◌∙◌, subst, arith, append_assoc, count_by, cond, Bool, Ok, ◌==◌, ◌&&◌}
+use Rattle.std.specs.Bool.{Decides}
 use Rattle.std.specs.List.{AllByRecursion}
+use Rattle.std.proofs.lemmas.Bool.Decides.{Decides-and, Decides-eqb}
 use Rattle.std.proofs.lemmas.List.{append-nil, get_or_default}
 use Rattle.std.proofs.lemmas.List.Sums.{sum_by-append}
 use Rattle.dvv.specs.declared.Dot.{Dot}
@@ -74,12 +76,16 @@ dots_length [] (y ∷ ys) same = absurd cc
 dots_length (x ∷ xs) [] same = absurd cc
 dots_length (x ∷ xs) (y ∷ ys) same = ap suc (dots_length xs ys cc)
 
--- entries that are equal at each place are equal
-pub entries_same : (own other : List Dot) → length own ≡ length other → ((k : ℕ) (d : Dot) → k < length own → get_or own k d ≡ get_or other k d) → own ≡ other
-entries_same [] [] len each = refl
-entries_same [] (y ∷ ys) len each = absurd (omega arith)
-entries_same (x ∷ xs) [] len each = absurd (omega arith)
-entries_same (x ∷ xs) (y ∷ ys) len each = let first : x ≡ y = each 0 x (omega arith) in let rest : xs ≡ ys = entries_same xs ys (omega arith) (λ k d lt. each (suc k) d (omega arith)) in cc
+abbrev dot_of : ℕ → ℕ → Dot
+dot_of vnode n = record { vnode = vnode; n = n }
+
+-- the comparison of two dots tells whether they are one
+pub same_dot : (a b : Dot) → Decides ((a.vnode == b.vnode) && (a.n == b.n)) (a ≡ b)
+same_dot a b =
+    let tells = Decides-and (a.vnode == b.vnode) (a.n == b.n) (Decides-eqb a.vnode b.vnode) (Decides-eqb a.n b.n) in (
+      λ t. let fields = tells.0 t in ap (λ x. dot_of x a.n) fields.0 ∙ ap (λ x. dot_of b.vnode x) fields.1,
+      λ e. tells.1 (ap (λ (d : Dot). d.vnode) e, ap (λ (d : Dot). d.n) e),
+    )
 
 -- a vnode named its keys, and each was brought
 pub keys_brought : {S : Type 0} (happens : S → Call → S → Type 0) (start mid next : S) (from to : ℕ) (keys : Vec Key) (ks : List Key) (taken : ℕ) → ks ≡ keys.items → happens start (KeysOf from (Ok keys)) mid

@@ -5,7 +5,6 @@ ghost use Rattle.std.specs.List.{AllByRecursion};
 ghost use Rattle.quorum.specs.Calls.{Call, Made};
 ghost use Rattle.repair.specs.Exchanges.{Sent, sends, sends_all, IsFair, is_taken, BringsKeys, HaveEqualDots};
 
-use dvv::Dot;
 use object::{Key, KeyState, Sibling};
 use quorum::Peers;
 
@@ -71,24 +70,7 @@ fn bring<P: Peers>(peers: &mut P, key: &Key, from: usize, to: usize) -> bool
 fn have_equal_dots(own: &KeyState, other: &KeyState) -> bool
     ensures { IsTrue result ↔ HaveEqualDots own.now other.now }
 {
-    let clocks = same_entries(own.clock().entries(), other.clock().entries());
-    let siblings = same_dots(own.siblings(), other.siblings());
-    clocks && siblings
-}
-
-// Whether the entries of two clocks are the same.
-fn same_entries(own: &[Dot], other: &[Dot]) -> bool
-    ensures { IsTrue result ↔ (own.now ≡ other.now) }
-{
-    if own.len() != other.len() {
-        return false;
-    }
-    for (i, entry) in own.iter().enumerate() {
-        if !is_same(*entry, other[i]) {
-            return false;
-        }
-    }
-    true
+    own.clock().entries() == other.clock().entries() && same_dots(own.siblings(), other.siblings())
 }
 
 // Whether siblings have the same dots.
@@ -99,16 +81,9 @@ fn same_dots(own: &[Sibling], other: &[Sibling]) -> bool
         return false;
     }
     for (i, sibling) in own.iter().enumerate() {
-        if !is_same(sibling.dot, other[i].dot) {
+        if sibling.dot != other[i].dot {
             return false;
         }
     }
     true
-}
-
-// Whether two dots are one.
-fn is_same(own: Dot, other: Dot) -> bool
-    ensures { IsTrue result ↔ (own ≡ other) }
-{
-    own == other
 }

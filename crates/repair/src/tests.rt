@@ -2,8 +2,10 @@
 
 use super::*;
 use dvv::{Clock, Dot};
-use object::{Bytes, Content, Key};
-use quorum::{Local, Peers, QuorumFault, get, put};
+use helpers::Table;
+use hooks::Registry;
+use object::{Bytes, Content, Key, KeyState};
+use quorum::{Hooking, Local, Peers, QuorumFault, get, put};
 use std::alloc::{AllocError, Global};
 use std::test::Fail;
 
@@ -21,6 +23,11 @@ fn content_of(alloc: Global, value: &[u8]) -> Result<Content, AllocError> {
     })
 }
 
+// No hook at all.
+fn hookless(alloc: Global) -> Hooking<Registry> {
+    Hooking::new(alloc, Registry::new(alloc), Table::new(alloc))
+}
+
 // How many entries the journals of the first three vnodes have.
 fn lengths(local: &Local) -> [usize; 3] {
     let at = |i: usize| local
@@ -28,6 +35,21 @@ fn lengths(local: &Local) -> [usize; 3] {
         .get(i)
         .map_or(0, |vnode| vnode.journal().len());
     [at(0), at(1), at(2)]
+}
+
+// Whether the one sibling is the value `a`, put first at vnode 0.
+fn is_the_put(state: &KeyState) -> bool {
+    match state.siblings() {
+        [sibling] => match &sibling.content {
+            Content::Value { media, bytes } => {
+                sibling.dot == (Dot { vnode: 0, n: 1 })
+                    && media.as_slice() == b"text/plain".as_slice()
+                    && bytes.as_slice() == b"a".as_slice()
+            }
+            Content::Tombstone => false,
+        },
+        _ => false,
+    }
 }
 
 // A put, and then a get and read repair, after some calls of the put were lost.
@@ -39,7 +61,7 @@ fn lost_calls(rt: HostRuntime) -> Result<(), Fail> {
     let lost: [&[u64]; 4] = [&[], &[3], &[2, 3], &[0]];
     let puts = [stored, stored, few, few];
     let after_put = [[2, 1, 1], [2, 1, 0], [2, 0, 0], [0, 0, 0]];
-    let siblings = [1, 1, 1, 0];
+    let is_found = [true, true, true, false];
     let repaired = [0, 2, 2, 0];
     let after_get = [[3, 2, 2], [3, 2, 3], [3, 2, 2], [1, 1, 1]];
     for row in 0..4usize {
@@ -48,11 +70,21 @@ fn lost_calls(rt: HostRuntime) -> Result<(), Fail> {
         let key = key_of(alloc, b"k")?;
         let seen = Clock::new(alloc);
         let content = content_of(alloc, b"a")?;
-        let back = put(&mut local, 0, &[1, 2], &key, &seen, &content, 2);
+        let back = put(
+            &mut local,
+            &mut hookless(alloc),
+            0,
+            &[1, 2],
+            &key,
+            &seen,
+            &content,
+            2,
+        );
         assert_eq!(rt; back, puts[row], "row {row}");
         assert_eq!(rt; lengths(&local), after_put[row], "row {row}");
         let (state, answers) = get(alloc, &mut local, &key, &[0, 1, 2], 1)?;
-        assert_eq!(rt; state.siblings().len(), siblings[row], "row {row}");
+        assert_eq!(rt; is_the_put(&state), is_found[row], "row {row}");
+        assert_eq!(rt; state.siblings().is_empty(), !is_found[row], "row {row}");
         assert!(rt; answers.len() < 4);
         assert_eq!(rt;
             repair(&mut local, &key, &answers),
@@ -68,17 +100,34 @@ fn lost_calls(rt: HostRuntime) -> Result<(), Fail> {
 fn brings_each_key_to_the_other_side(rt: HostRuntime) -> Result<(), Fail> {
     let alloc = rt.alloc();
     let mut local = Local::open(alloc, 2, 0)?;
+    let mut hooking = hookless(alloc);
     let seen = Clock::new(alloc);
     let both = key_of(alloc, b"both")?;
     let ours = key_of(alloc, b"ours")?;
     let theirs = key_of(alloc, b"theirs")?;
     let content = content_of(alloc, b"a")?;
     for (vnode, key) in [(0usize, &ours), (1, &theirs), (0, &both), (1, &both)] {
-        assert!(rt; put(&mut local, vnode, &[], key, &seen, &content, 1).is_ok());
+        assert!(rt;
+            put(
+                &mut local,
+                &mut hooking,
+                vnode,
+                &[],
+                key,
+                &seen,
+                &content,
+                1
+            )
+            .is_ok()
+        );
     }
     // To vnode 1 go `both` and `ours`; back come `both`, whose clock grew, and `theirs`; `ours` is alike by then.
+    assert_eq!(rt; lengths(&local), [4, 4, 0]);
     assert_eq!(rt; exchange(&mut local, 0, 1), 4);
+    assert_eq!(rt; lengths(&local), [11, 11, 0]);
+    // Each of the three keys is read on both sides, there and back, and no more.
     assert_eq!(rt; exchange(&mut local, 0, 1), 0);
+    assert_eq!(rt; lengths(&local), [17, 17, 0]);
     for key in [&both, &ours, &theirs] {
         let (mine, _) = get(alloc, &mut local, key, &[0], 1)?;
         let (other, _) = get(alloc, &mut local, key, &[1], 1)?;
