@@ -1,5 +1,5 @@
 pub mod Outcome
-pub mod Program
+pub mod Own
 pub mod Run
 pub mod Verdict
 pub mod Words

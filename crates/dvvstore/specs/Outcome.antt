@@ -1,11 +1,6 @@
 -- What a run, and a refusal, is told as (this store's profile).
-use Rattle.std.specs.Prelude.{ℕ, ◌==◌, ◌&&◌, if◌then◌else◌, List, [], ◌∷◌, ◌++◌, length, Option, None, Some, codes, decimal, string_bytes}
-use Rattle.insn.specs.Refusal.{name_of}
-use Rattle.bpfimage.specs.declared.image.ImageFault.{ImageFault}
-use Rattle.bpfimage.specs.declared.image.ImageFault.TheVariants as fault
-use Rattle.verifier.specs.Numbers.{rule_number}
-use Rattle.dvvstore.specs.declared.program.Refusal.{Refusal}
-use Rattle.dvvstore.specs.declared.program.Refusal.TheVariants as refusal
+use Rattle.std.specs.Prelude.{ℕ, ◌==◌, ◌&&◌, if◌then◌else◌, List, [], ◌∷◌, ◌++◌, length, codes, decimal, string_bytes}
+use Rattle.admission.specs.Admissions.{refusal_text}
 use Rattle.dvvstore.specs.declared.outcome.Outcome.{Outcome}
 use Rattle.dvvstore.specs.declared.outcome.Outcome.TheVariants as outcome
 
@@ -21,29 +16,6 @@ or_dash (c ∷ cs) = c ∷ cs
 
 abbrev pub line : List ℕ → List ℕ
 line text = text ++ 10 ∷ []
-
--- a name, and the slot with which it is told
-abbrev pub at_slot : List ℕ → ℕ → List ℕ
-at_slot name slot = name ++ codes " " ++ decimal slot
-
--- why bytes are no program: a head by its number, code by its number and slot
-abbrev pub fault_text : ImageFault → List ℕ
-fault_text fault.Short = codes "I1"
-fault_text fault.Mark = codes "I2"
-fault_text fault.Version = codes "I3"
-fault_text fault.Kind = codes "I4"
-fault_text fault.Window = codes "I5"
-fault_text (fault.Code decoding) = at_slot (name_of decoding.why) decoding.slot
-fault_text fault.NoMemory = codes "E1 0"
-
--- the verifier's rule by its number and slot
-abbrev pub rule_text : Option ℕ → ℕ → List ℕ
-rule_text None slot = codes "E1 0"
-rule_text (Some n) slot = at_slot (codes "V" ++ decimal n) slot
-
-abbrev pub refusal_text : Refusal → List ℕ
-refusal_text (refusal.Image why) = fault_text why
-refusal_text (refusal.Rule refused) = rule_text (rule_number refused.rule) refused.slot
 
 -- the lines that tell what a run came to
 abbrev pub text_of : Outcome → List ℕ

@@ -2,15 +2,16 @@
 use Rattle.std.specs.Prelude.{◌≡◌, ℕ, List, ◌++◌, length, codes, decimal}
 use Rattle.verifier.specs.Program.{Program}
 use Rattle.dvvstore.specs.Run.{IsLetIn}
-use Rattle.dvvstore.specs.Program.{IsTurnedAway}
-use Rattle.dvvstore.specs.Outcome.{line, refusal_text}
+use Rattle.helpers.specs.declared.sig.Entry.{Entry}
+use Rattle.admission.specs.Admissions.{IsNotRun, refusal_text}
+use Rattle.dvvstore.specs.Outcome.{line}
 use Rattle.dvvstore.specs.declared.verify.Verdict.{Verdict}
 use Rattle.dvvstore.specs.declared.verify.Verdict.TheVariants.{Accepted, Refused}
 
 -- the verdict on the bytes of a file: how many slots the accepted program has, or why there is none
-unfoldable pub IsVerdict : List ℕ → Verdict → Type 0
-IsVerdict bytes (Accepted slots) = (p : Program) × IsLetIn bytes p × (slots ≡ length p.code)
-IsVerdict bytes (Refused refusal) = IsTurnedAway bytes refusal
+unfoldable pub IsVerdict : List Entry → List ℕ → Verdict → Type 0
+IsVerdict sigs bytes (Accepted slots) = (p : Program) × IsLetIn sigs bytes p × (slots ≡ length p.code)
+IsVerdict sigs bytes (Refused refusal) = IsNotRun bytes sigs refusal
 
 -- the line that tells it, and the status that goes with it
 abbrev pub verdict_text : Verdict → List ℕ

@@ -9,6 +9,7 @@ use crate::run::run;
 use crate::simulate::simulate;
 use crate::verify::verify;
 use crate::words::{Request, parse};
+use helpers::Table;
 use std::alloc::Global;
 use std::io;
 use std::io::Write;
@@ -43,21 +44,22 @@ const FAILED: u8 = 2;
 /// script, which is told on `out`, or a [`Failure`], whose name is then all that stands on `err`.
 pub fn command<F: Files, O: Write, E: Write>(
     alloc: Global,
+    table: &Table,
     words: &[&str],
     files: &mut F,
     out: &mut O,
     err: &mut E,
 ) -> u8
     ensures status { result ≤ 2 }
-    ensures ran { (image input : Bor (List ℕ)) → request_of words.now ≡ Some (Request.Run image input) → result < 2 → Ran (F.held files.old image.now) (F.held files.old input.now) (O.contents out.old) (O.contents out.new) result }
-    ensures judged { (image : Bor (List ℕ)) → request_of words.now ≡ Some (Request.Verify image) → result < 2 → Judged (F.held files.old image.now) (O.contents out.old) (O.contents out.new) result }
+    ensures ran { (image input : Bor (List ℕ)) → request_of words.now ≡ Some (Request.Run image input) → result < 2 → Ran table.now.listed (F.held files.old image.now) (F.held files.old input.now) (O.contents out.old) (O.contents out.new) result }
+    ensures judged { (image : Bor (List ℕ)) → request_of words.now ≡ Some (Request.Verify image) → result < 2 → Judged table.now.listed (F.held files.old image.now) (O.contents out.old) (O.contents out.new) result }
     ensures wrong_words { request_of words.now ≡ None → result ≡ 2 }
     ensures untouched { request_of words.now ≡ None → out.new ≡ out.old }
 {
     let done = match parse(words) {
-        Some(Request::Run { image, input }) => run(alloc, image, input, files, out),
-        Some(Request::Verify { image }) => verify(alloc, image, files, out),
-        Some(Request::Sim { script }) => simulate(alloc, script, files, out),
+        Some(Request::Run { image, input }) => run(alloc, table, image, input, files, out),
+        Some(Request::Verify { image }) => verify(alloc, table, image, files, out),
+        Some(Request::Sim { script }) => simulate(alloc, table, script, files, out),
         None => Err(Failure::Usage),
     };
     match done {

@@ -4,7 +4,7 @@
 mod command;
 mod files;
 mod outcome;
-mod program;
+mod own;
 mod run;
 mod simulate;
 #[cfg(test)]
@@ -13,6 +13,7 @@ mod verify;
 mod words;
 
 use crate::files::Disk;
+use crate::own::command_with_helpers;
 use std::process::ExitCode;
 use std::{env, io};
 
@@ -30,6 +31,12 @@ fn main(rt: HostRuntime) -> io::Result<ExitCode> {
         words.push(argument.as_str())?;
     }
     let mut disk = Disk { rt: &rt };
-    let status = command::command(alloc, &words, &mut disk, &mut rt.stdout(), &mut rt.stderr());
+    let status = command_with_helpers(
+        alloc,
+        &words,
+        &mut disk,
+        &mut rt.stdout(),
+        &mut rt.stderr(),
+    )?;
     Ok(ExitCode::from(status))
 }

@@ -2,7 +2,7 @@
 ghost use Rattle.std.specs.Prelude.{◌≡◌};
 ghost use Rattle.dvvstore.specs.Outcome.{or_dash, up_to_last_set};
 
-use crate::program::{NO_MEMORY, Refusal};
+use admission::Refusal;
 use std::fmt;
 
 /// What a run came to.
@@ -56,7 +56,7 @@ impl fmt::Display for Outcome {
             }
             Outcome::Refused(refusal) => write!(f, "refused {refusal}\n"),
             Outcome::RefusedInput => write!(f, "refused input\n"),
-            Outcome::NoMemory => write!(f, "refused {NO_MEMORY}\n"),
+            Outcome::NoMemory => f.write_str("refused E1 0\n"),
         }
     }
 }

@@ -1,15 +1,44 @@
 //! The command `sim SCRIPT`.
 ghost use Rattle.std.specs.Prelude.{◌≤◌, IfOk};
+ghost use Rattle.helpers.specs.Entries.{AgreesWith};
 
 use crate::command::Failure;
 use crate::files::Files;
-use script::sim;
+use admission::admit_hook;
+use bpfimage::ImageKind;
+use helpers::{Sigs, Table};
+use script::{Images, NoHook, sim};
 use std::alloc::Global;
 use std::io::Write;
+use verifier::Verified;
 
-/// Runs the script in the file `script`, tells on `out` what its lines print, and gives the status.
+/// The images of hooks in files, for a table with these helpers.
+#[derive(Drop)]
+struct FileImages<'a, F> {
+    files: &'a F,
+    sigs: &'a Sigs,
+    ghost whole: { AgreesWith sigs.now sigs.now },
+}
+
+impl<F: Files> Images for FileImages<'_, F> {
+    ghost listed = { λ images. images.sigs.now };
+
+    fn hook(&self, alloc: Global, file: &str, kind: ImageKind) -> Result<Verified, NoHook> {
+        let Ok(bytes) = self.files.read(alloc, file) else {
+            return Err(NoHook::Unreadable);
+        };
+        match admit_hook(alloc, &bytes, kind, self.sigs) {
+            Ok(hook) => Ok(hook),
+            Err(refusal) => Err(NoHook::Refused(refusal)),
+        }
+    }
+}
+
+/// Runs the script in the file `script`, whose hooks may call the table's helpers, tells on `out` what its lines print, and gives
+/// the status.
 pub fn simulate<F: Files, O: Write>(
     alloc: Global,
+    table: &Table,
     script: &str,
     files: &F,
     out: &mut O,
@@ -17,5 +46,9 @@ pub fn simulate<F: Files, O: Write>(
     ensures { IfOk result (λ status. status ≤ 2) }
 {
     let script = files.read(alloc, script)?;
-    Ok(sim(alloc, &script, out)?)
+    let images = FileImages {
+        files,
+        sigs: &table.listed,
+    };
+    Ok(sim(alloc, &script, table, &images, out)?)
 }

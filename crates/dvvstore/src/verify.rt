@@ -5,7 +5,8 @@ ghost use Rattle.dvvstore.specs.Verdict.{IsVerdict};
 
 use crate::command::Failure;
 use crate::files::Files;
-use crate::program::{Refusal, let_in};
+use admission::{Refusal, admit_program};
+use helpers::Table;
 use std::alloc::Global;
 use std::fmt;
 use std::io::Write;
@@ -48,11 +49,11 @@ impl fmt::Display for Verdict {
     }
 }
 
-/// The verdict on the program of these bytes.
-pub fn verdict_on(alloc: Global, bytes: &[u8]) -> Verdict
-    ensures { IsVerdict bytes.now result }
+/// The verdict on the program of these bytes, which may call the table's helpers.
+pub fn verdict_on(alloc: Global, table: &Table, bytes: &[u8]) -> Verdict
+    ensures { IsVerdict table.now.listed bytes.now result }
 {
-    match let_in(alloc, bytes) {
+    match admit_program(alloc, bytes, &table.listed) {
         Ok(verified) => Verdict::Accepted(verified.image().code.len() as u32),
         Err(refusal) => Verdict::Refused(refusal),
     }
@@ -61,14 +62,15 @@ pub fn verdict_on(alloc: Global, bytes: &[u8]) -> Verdict
 /// Tells on `out` the verdict on the program in the file `image`, and gives the status.
 pub fn verify<F: Files, O: Write>(
     alloc: Global,
+    table: &Table,
     image: &str,
     files: &F,
     out: &mut O,
 ) -> Result<u8, Failure>
-    ensures { IfOk result (Judged (F.held files.now image.now) (O.contents out.old) (O.contents out.new)) }
+    ensures { IfOk result (Judged table.now.listed (F.held files.now image.now) (O.contents out.old) (O.contents out.new)) }
 {
     let image = files.read(alloc, image)?;
-    let verdict = verdict_on(alloc, &image);
+    let verdict = verdict_on(alloc, table, &image);
     write!(out, "{verdict}")?;
     Ok(verdict.status())
 }

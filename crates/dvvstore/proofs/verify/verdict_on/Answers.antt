@@ -4,8 +4,8 @@ use Rattle.dvvstore.proofs.verify.verdict_on.Goals as goal
 
 pub returns-in-Ok : goal.returns-in-Ok
 unfolding IsVerdict
-returns-in-Ok c = (c.in-Ok.verified, c.in-Ok.ensures.accepted, search rules)
+returns-in-Ok g c = (c.in-Ok.verified, c.in-Ok.ensures.admitted, search rules)
 
 pub returns-in-Err : goal.returns-in-Err
 unfolding IsVerdict
-returns-in-Err c = c.in-Err.ensures.refused
+returns-in-Err g c = c.in-Err.ensures.refused
