@@ -1,13 +1,17 @@
 //! Times the verifier and the run of an image: `bench IMAGE TURNS` prints nanoseconds an instruction.
 #![tactic(auto)]
 
+ghost use Rattle.helpers.specs.Entries.{AgreesWith};
+
+use admission::admit_program;
+use helpers::Table;
 use machine::{padded, run};
 use std::alloc::Global;
 use std::process::ExitCode;
 use std::rt::Clock;
 use std::time::{Duration, Instant};
 use std::{env, fs, io};
-use verifier::{Verified, raw_image, read_image, verify};
+use verifier::Verified;
 
 /// What is printed without words.
 const WORDS: &str = "bench IMAGE TURNS: nanoseconds an instruction, of the verifier and of the run";
@@ -40,20 +44,11 @@ impl Tally {
     }
 }
 
-/// The program that a file holds, as the verifier accepts it; none where it is refused.
-fn accepted(alloc: Global, bytes: &[u8]) -> Option<Verified> {
-    let image = if bytes.starts_with(b"RBPF") {
-        read_image(alloc, bytes)
-    } else {
-        raw_image(alloc, bytes)
-    };
-    verify(alloc, image.ok()?).ok()
-}
-
 /// Times the verifier, from the image's bytes on.
 fn time_verify(
     clock: &impl Clock,
     alloc: Global,
+    table: &Table,
     bytes: &[u8],
     slots: u32,
     turns: u32,
@@ -61,7 +56,7 @@ fn time_verify(
     let mut tally = Tally::NONE;
     for _ in 0..turns {
         let start = Instant::now(clock)?;
-        let verified = accepted(alloc, bytes);
+        let verified = admit_program(alloc, bytes, &table.listed);
         tally = tally.with(start.elapsed(clock)?, slots);
         let _ = verified;
     }
@@ -72,16 +67,19 @@ fn time_verify(
 fn time_run(
     clock: &impl Clock,
     alloc: Global,
+    table: &Table,
     verified: &Verified,
     turns: u32,
-) -> io::Result<Tally> {
+) -> io::Result<Tally>
+    requires { AgreesWith table.now.listed verified.now.sigs }
+{
     let image = verified.image();
     let input = padded(alloc, &[], image.in_len as usize)?;
     let mut tally = Tally::NONE;
     for _ in 0..turns {
         let mut output = vec![in alloc; 0u8; image.out_len as usize]?;
         let start = Instant::now(clock)?;
-        let done = run(verified, &input, 0, &mut output);
+        let done = run(verified, table, &input, 0, &mut output);
         tally = tally.with(start.elapsed(clock)?, done.steps);
     }
     Ok(tally)
@@ -96,13 +94,17 @@ fn main(rt: HostRuntime) -> io::Result<ExitCode> {
     };
     let bytes = fs::read(&rt, name.as_str())?;
     let turns = turns.parse().unwrap_or(1);
-    let Some(verified) = accepted(alloc, &bytes) else {
-        println!(rt; "refused")?;
-        return Ok(ExitCode::FAILURE);
+    let table = Table::new(alloc);
+    let verified = match admit_program(alloc, &bytes, &table.listed) {
+        Ok(verified) if table.agrees(verified.sigs()) => verified,
+        _ => {
+            println!(rt; "refused")?;
+            return Ok(ExitCode::FAILURE);
+        }
     };
     let slots = verified.image().code.len() as u32;
-    let verifying = time_verify(&rt, alloc, &bytes, slots, turns)?.hundredths();
-    let running = time_run(&rt, alloc, &verified, turns)?.hundredths();
+    let verifying = time_verify(&rt, alloc, &table, &bytes, slots, turns)?.hundredths();
+    let running = time_run(&rt, alloc, &table, &verified, turns)?.hundredths();
     println!(rt; "verify {}.{:02} ns", verifying / 100, verifying % 100)?;
     println!(rt; "run {}.{:02} ns", running / 100, running % 100)?;
     Ok(ExitCode::SUCCESS)
