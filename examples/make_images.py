@@ -1,5 +1,5 @@
 #!/usr/bin/env python3
-"""Writes the images that the program `bench` times: straight.img, branchy.img and memory.img, each of some thousand instructions."""
+"""Writes the images that the program `bench` times: straight.img, branchy.img, memory.img and calls.img, each of some thousand instructions."""
 import struct
 from pathlib import Path
 
@@ -66,7 +66,34 @@ def memory():
     return image(64, 64, code + [EXIT])
 
 
+def calls():
+    """The machine's own calls: copies of 16 bytes from the input to the output and from there to the stack, a fill and a comparison."""
+    code = [(0xBF, 6, 1), (0xBF, 7, 3)]
+    rounds = [
+        (0xBF, 1, 7),  # r1 = output
+        (0xBF, 2, 6),  # r2 = input
+        (0xB7, 3, 0, 0, 16),
+        (0x85, 0, 0, 0, 1),  # copy
+        (0xBF, 1, 10),
+        (0x07, 1, 0, 0, -16),  # r1 = the last 16 bytes of the stack
+        (0xBF, 2, 7),  # r2 = output
+        (0xB7, 3, 0, 0, 16),
+        (0x85, 0, 0, 0, 1),  # copy
+        (0xBF, 1, 7),  # r1 = output
+        (0xB7, 2, 0, 0, 5),
+        (0xB7, 3, 0, 0, 8),
+        (0x85, 0, 0, 0, 2),  # fill
+        (0xBF, 1, 6),  # r1 = input
+        (0xBF, 2, 7),  # r2 = output
+        (0xB7, 3, 0, 0, 8),
+        (0x85, 0, 0, 0, 3),  # same
+    ]
+    for _ in range(200):
+        code += rounds
+    return image(64, 64, code + [EXIT])
+
+
 if __name__ == "__main__":
     here = Path(__file__).parent
-    for name, make in (("straight", straight), ("branchy", branchy), ("memory", memory)):
+    for name, make in (("straight", straight), ("branchy", branchy), ("memory", memory), ("calls", calls)):
         (here / f"{name}.img").write_bytes(make())
