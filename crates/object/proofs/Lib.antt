@@ -4,4 +4,3 @@ pub mod Same
 pub mod Told
 pub mod Shown
 pub mod Forms
-pub mod KnownWrites

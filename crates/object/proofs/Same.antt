@@ -249,19 +249,6 @@ own_count {a = a} {other = other} p q = ap (λ (s : State). vnodes_together s.cl
 pub merged_state_differs : (own other new : State) → IsState other → is_changed_by own other ≡ true → Merges own other new → HaveSameDots own new → ⊥
 merged_state_differs own other new b changed m same = both_ways (is_changed_by own other) (same_is_unchanged own other new b m same) changed
 
--- a merge that changes nothing leaves the state
-pub unchanged_same : (own other new : State) → IsState own → IsState other → IsState new → Merges own other new → is_changed_by own other ≡ false → new ≡ own
-unchanged_same own other new a b c m unchanged = let z = unchanged_merges own other b unchanged in same_state new own c a (λ d. m.siblings d ∙ sym (z.siblings d)) (λ d. (λ h. (z.clock d).1 ((m.clock d).0 h), λ h. (m.clock d).1 ((z.clock d).0 h)))
-
--- what a merge was told to change is what it changed
-pub dots_told : (own other new : State) (b : Bool) → IsState own → IsState other → IsState new → Merges own other new → b ≡ is_changed_by own other → IsTrue b ↔ (HaveSameDots own new → ⊥)
-dots_told own other new true sa sb sc m told = (λ t same. merged_state_differs own other new sb (sym told) m same, λ h. refl)
-dots_told own other new false sa sb sc m told = (λ t. absurd (let z : false ≡ true = t in cc), λ h. absurd (h (equal_dots own new (sym (unchanged_same own other new sa sb sc m (sym told))))))
-
-pub change_told : (own other new : State) (b : Bool) → IsState own → IsState other → IsState new → Merges own other new → b ≡ is_changed_by own other → IsTrue b ↔ (new ≢ own)
-change_told own other new true sa sb sc m told = (λ t is. merged_state_differs own other new sb (sym told) m (equal_dots own new (sym is)), λ h. refl)
-change_told own other new false sa sb sc m told = (λ t. absurd (let z : false ≡ true = t in cc), λ h. absurd (h (unchanged_same own other new sa sb sc m (sym told))))
-
 -- a test that tells a set within another is the one by its entries
 pub within_told : (small large : List Dot) (b : Bool) → IsClock small → IsTrue b ↔ Within small large → b ≡ is_within small large
 within_told small large true good told = sym (within_to small large good (told.0 refl))

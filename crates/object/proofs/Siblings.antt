@@ -224,18 +224,3 @@ found_covers clock (x ∷ xs) each = (each x.dot x.content (rw (is_dot-same x.do
     later : (d : Dot) (c : Content) → content_at xs d ≡ Some c → (q : Bool) → is_dot x.dot d ≡ q → Covers clock d
     later d c e true f = each d x.content (rw f refl)
     later d c e false f = each d c (rw f e)
-
--- what a test on dots keeps
-pub content_at-filter : (p : Dot → Bool) (xs : List Sibling) (d : Dot) → content_at (filter (λ s. p s.dot) xs) d ≡ cond (p d) (content_at xs d) None
-content_at-filter p [] d = go (p d)
-  where
-    go : (b : Bool) → None ≡ cond b (let o : Option Content = None in o) None
-    go true = refl
-    go false = refl
-content_at-filter p (x ∷ xs) d = go (content_at-filter p xs d) (p x.dot) (is_dot x.dot d) refl refl
-  where
-    go : content_at (filter (λ s. p s.dot) xs) d ≡ cond (p d) (content_at xs d) None → (b q : Bool) → p x.dot ≡ b → is_dot x.dot d ≡ q → content_at (cond b (x ∷ filter (λ s. p s.dot) xs) (filter (λ s. p s.dot) xs)) d ≡ cond (p d) (cond q (Some x.content) (content_at xs d)) None
-    go rest true true e f = let t : p d ≡ true = ap p (sym (is_dot-true x.dot d f)) ∙ e in rw (f, t) refl
-    go rest true false e f = rw f rest
-    go rest false true e f = let t : p d ≡ false = ap p (sym (is_dot-true x.dot d f)) ∙ e in rest ∙ (rw t refl)
-    go rest false false e f = rest

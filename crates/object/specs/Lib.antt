@@ -1,6 +1,6 @@
 pub mod State
+pub mod Limits
 pub mod Faults
 pub mod Placing
 pub mod Merging
 pub mod Known
-pub mod KnownState

@@ -5,7 +5,19 @@ ghost use Rattle.dvv.specs.declared.Dot.{Dot};
 ghost use Rattle.dvv.specs.Clock.{Covers, Within};
 ghost use Rattle.object.specs.declared.content.Content.{Content};
 ghost use Rattle.object.specs.State.{State, Puts, Merges, IsState, HaveSameDots, content_at};
+ghost use Rattle.object.specs.Limits.{most_siblings, longest_bucket, longest_key, longest_media, longest_value};
 ghost use Rattle.object.specs.Known.{Write, write_of, IsCurrent, InContext, Shows, AreUnique, NoneSawItself, current_among, context_of, ShowsKnown};
+
+use crate::limits::{MAX_BUCKET, MAX_KEY, MAX_MEDIA, MAX_SIBLINGS, MAX_VALUE};
+
+/// The constants are the limits' numbers.
+pub fn limits()
+    ensures siblings { MAX_SIBLINGS ≡ most_siblings }
+    ensures bucket { MAX_BUCKET ≡ longest_bucket }
+    ensures key { MAX_KEY ≡ longest_key }
+    ensures media { MAX_MEDIA ≡ longest_media }
+    ensures value { MAX_VALUE ≡ longest_value }
+{}
 
 /// A put keeps what a state shows: the current writes and the context of what is known.
 pub fn put_shows()

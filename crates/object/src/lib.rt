@@ -4,9 +4,8 @@
 mod bytes;
 mod content;
 mod fault;
-#[cfg(test)]
-mod known;
 pub mod laws;
+mod limits;
 mod merging;
 mod placing;
 mod state;
@@ -16,4 +15,5 @@ mod tests;
 pub use bytes::Bytes;
 pub use content::{Content, Key, Sibling};
 pub use fault::{MergeFault, PutFault, PutRefusal};
-pub use state::{KeyState, MAX_SIBLINGS};
+pub use limits::{MAX_BUCKET, MAX_KEY, MAX_MEDIA, MAX_SIBLINGS, MAX_VALUE};
+pub use state::KeyState;

@@ -1,7 +1,7 @@
 //! One sibling put into its place among others.
 
 ghost use Rattle.std.specs.Prelude.{◌≡◌, ◌<◌, ◌≤◌, ◌↔◌, None, IsTrue, vec_len, vec_capacity};
-ghost use Rattle.object.specs.State.{kept, content_at, is_dot, AreInOrder, IsBefore};
+ghost use Rattle.object.specs.State.{kept, content_at, AreInOrder, IsBefore};
 ghost use Rattle.object.specs.Placing.{IsSiblingGap, InsertsSibling, ReplacesSeen};
 
 use crate::content::Sibling;
@@ -28,7 +28,7 @@ fn drop_seen(siblings: &mut Vec<Sibling>, seen: &Clock)
 }
 
 // Puts a sibling at its place. There is room for it, and none of its dot yet.
-pub(crate) fn insert_sibling(siblings: &mut Vec<Sibling>, sibling: Sibling)
+fn insert_sibling(siblings: &mut Vec<Sibling>, sibling: Sibling)
     requires room { vec_len siblings.old < vec_capacity siblings.old }
     requires order { AreInOrder siblings.old.items }
     requires absent { content_at siblings.old.items sibling.dot ≡ None }
@@ -60,11 +60,4 @@ pub(crate) fn is_before(a: Dot, b: Dot) -> bool
     ensures { IsTrue result ↔ IsBefore a b }
 {
     a.vnode < b.vnode || (a.vnode == b.vnode && a.n < b.n)
-}
-
-// Whether two dots are one.
-pub(crate) fn is_dot(a: Dot, b: Dot) -> bool
-    ensures { result ≡ is_dot a b }
-{
-    a.vnode == b.vnode && a.n == b.n
 }

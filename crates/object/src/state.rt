@@ -1,17 +1,15 @@
 //! The state of a key: siblings and one clock.
 
-ghost use Rattle.std.specs.Prelude.{◌≡◌, ◌≢◌, ◌<◌, ◌≤◌, ◌↔◌, length, IsTrue, OnOk, OnErr, IfOk};
+ghost use Rattle.std.specs.Prelude.{◌≡◌, ◌≢◌, ◌<◌, ◌≤◌, ◌↔◌, false, length, IsTrue, OnOk, OnErr, IfOk};
 
 use crate::content::{Content, Sibling};
 use crate::fault::{MergeFault, PutFault, PutRefusal};
+use crate::limits::MAX_SIBLINGS;
 use crate::merging::{drops_some, merge_siblings};
 use crate::placing::replace_seen;
 use dvv::{Clock, ClockFault, Dot, MAX_ENTRIES};
 use std::alloc::{AllocError, Global};
 use std::marker::Model;
-
-/// The most siblings after a put.
-pub const MAX_SIBLINGS: usize = 64;
 
 /// The siblings and the clock of a key: what is kept of all its known writes (dotted version vectors, Preguiça et al.
 /// 2010; Riak KV documentation, siblings and causal contexts).
@@ -33,6 +31,7 @@ impl Model for KeyState {
 
 impl KeyState {
     ghost use Rattle.dvv.specs.Clock.{Within, HasRoom, vnodes_together};
+    ghost use Rattle.object.specs.Limits.{most_siblings};
     ghost use Rattle.object.specs.State.{empty, next, kept, is_changed_by, Puts, Merges, AreInOrder, AreCovered, IsState, HaveSameDots};
 
     /// Nothing written.
@@ -86,11 +85,11 @@ impl KeyState {
     pub fn check_put(&self, vnode: u32, seen: &Clock) -> Result<Dot, PutRefusal>
         ensures dot { IfOk result (λ dot. dot ≡ next self.now vnode) }
         ensures seen { OnOk result (Within seen.now self.now.clock) }
-        ensures limits { OnOk result ((length (kept seen.now self.now.siblings) < MAX_SIBLINGS) × HasRoom self.now.clock (next self.now vnode)) }
+        ensures limits { OnOk result ((length (kept seen.now self.now.siblings) < most_siblings) × HasRoom self.now.clock (next self.now vnode)) }
 
         ensures ahead { result ≡ Err PutRefusal.ContextAhead ↔ (Within seen.now self.now.clock → ⊥) }
-        ensures many { result ≡ Err PutRefusal.TooManySiblings ↔ (Within seen.now self.now.clock × (MAX_SIBLINGS ≤ length (kept seen.now self.now.siblings))) }
-        ensures full { result ≡ Err PutRefusal.ClockFull ↔ (Within seen.now self.now.clock × (length (kept seen.now self.now.siblings) < MAX_SIBLINGS) × (HasRoom self.now.clock (next self.now vnode) → ⊥)) }
+        ensures many { result ≡ Err PutRefusal.TooManySiblings ↔ (Within seen.now self.now.clock × (most_siblings ≤ length (kept seen.now self.now.siblings))) }
+        ensures full { result ≡ Err PutRefusal.ClockFull ↔ (Within seen.now self.now.clock × (length (kept seen.now self.now.siblings) < most_siblings) × (HasRoom self.now.clock (next self.now vnode) → ⊥)) }
     {
         if !seen.le(&self.clock) {
             return Err(PutRefusal::ContextAhead);
@@ -114,11 +113,11 @@ impl KeyState {
         ensures ok { IfOk result (λ dot. (dot ≡ next self.old vnode) × Puts self.old self.new dot seen.now content) }
         ensures state { OnOk result (IsState self.new) }
         ensures seen { OnOk result (Within seen.now self.old.clock) }
-        ensures limits { OnOk result ((length (kept seen.now self.old.siblings) < MAX_SIBLINGS) × HasRoom self.old.clock (next self.old vnode)) }
+        ensures limits { OnOk result ((length (kept seen.now self.old.siblings) < most_siblings) × HasRoom self.old.clock (next self.old vnode)) }
 
         ensures ahead { result ≡ Err PutFault.ContextAhead ↔ (Within seen.now self.old.clock → ⊥) }
-        ensures many { result ≡ Err PutFault.TooManySiblings ↔ (Within seen.now self.old.clock × (MAX_SIBLINGS ≤ length (kept seen.now self.old.siblings))) }
-        ensures full { result ≡ Err PutFault.ClockFull ↔ (Within seen.now self.old.clock × (length (kept seen.now self.old.siblings) < MAX_SIBLINGS) × (HasRoom self.old.clock (next self.old vnode) → ⊥)) }
+        ensures many { result ≡ Err PutFault.TooManySiblings ↔ (Within seen.now self.old.clock × (most_siblings ≤ length (kept seen.now self.old.siblings))) }
+        ensures full { result ≡ Err PutFault.ClockFull ↔ (Within seen.now self.old.clock × (length (kept seen.now self.old.siblings) < most_siblings) × (HasRoom self.old.clock (next self.old vnode) → ⊥)) }
         ensures err { OnErr result (self.new ≡ self.old) }
     {
         let dot = match self.check_put(vnode, seen) {
@@ -172,6 +171,8 @@ impl KeyState {
         ensures told { IfOk result (λ changed. changed ≡ is_changed_by self.old other.now) }
         ensures changed { IfOk result (λ changed. IsTrue changed ↔ (self.new ≢ self.old)) }
         ensures dots { IfOk result (λ changed. IsTrue changed ↔ (HaveSameDots self.old self.new → ⊥)) }
+        // One that changes nothing takes no memory and is never refused.
+        ensures idle { is_changed_by self.old other.now ≡ false → result ≡ Ok false }
 
         ensures full { result ≡ Err MergeFault.ClockFull ↔ (MAX_ENTRIES < vnodes_together self.old.clock other.now.clock) }
         ensures err { OnErr result (self.new ≡ self.old) }
@@ -224,7 +225,7 @@ fn count_kept(siblings: &[Sibling], seen: &Clock) -> usize
 }
 
 // Copies of siblings.
-pub(crate) fn copies_of(alloc: Global, siblings: &[Sibling]) -> Result<Vec<Sibling>, AllocError>
+fn copies_of(alloc: Global, siblings: &[Sibling]) -> Result<Vec<Sibling>, AllocError>
     ensures { IfOk result (λ copies. copies.items ≡ siblings.now) }
 {
     let mut copies = Vec::with_capacity(alloc, siblings.len())?;
@@ -255,7 +256,7 @@ fn vnodes_together(own: &Clock, other: &Clock) -> usize
 }
 
 // The union of two clocks, for a merge.
-pub(crate) fn join_clocks(alloc: Global, own: &Clock, other: &Clock) -> Result<Clock, MergeFault>
+fn join_clocks(alloc: Global, own: &Clock, other: &Clock) -> Result<Clock, MergeFault>
     ensures clock { IfOk result (λ union. IsClock union) }
     ensures union { IfOk result (λ union. IsUnion own.now other.now union) }
     ensures full { result ≡ Err MergeFault.ClockFull ↔ (MAX_ENTRIES < vnodes_together own.now other.now) }

@@ -1,0 +1,16 @@
+//! The limits of keys, contents and siblings.
+
+/// The most siblings after a put.
+pub const MAX_SIBLINGS: usize = 64;
+
+/// The most bytes of a bucket. It has one at least.
+pub const MAX_BUCKET: usize = 64;
+
+/// The most bytes of a key's name in its bucket. It has one at least.
+pub const MAX_KEY: usize = 255;
+
+/// The most bytes of a media type. It has one at least.
+pub const MAX_MEDIA: usize = 127;
+
+/// The most bytes of a value, which may have none.
+pub const MAX_VALUE: usize = 65_536;
