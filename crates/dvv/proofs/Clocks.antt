@@ -8,7 +8,7 @@ use Rattle.std.proofs.Common.{length-set}
 use Rattle.std.proofs.lemmas.Bool.{cases_lt, cases_eq}
 use Rattle.std.proofs.lemmas.Bool.Decides.{nat_tests}
 use Rattle.dvv.specs.declared.Dot.{Dot}
-use Rattle.dvv.specs.Clock.{counter, Covers, IsUnion, AddsEvent, AddsVnode, IsGreatest, AreRising, IsClock, IsPlaceOf, IsGapFor}
+use Rattle.dvv.specs.Clock.{counter, Covers, IsUnion, AddsEvent, AddsVnode, IsGreatest, AreRising, IsClock, IsPlaceOf, IsGapFor, vnodes_together}
 
 -- dots are equal by their parts
 pub same_dot : (a b : Dot) → a.vnode ≡ b.vnode → a.n ≡ b.n → a ≡ b
@@ -233,3 +233,7 @@ union_covers own other union greater d = (
   λ h. elim (cases_lt (counter own d.vnode) d.n) [ inl low ↦ inr (h.0, omega (arith, h.1, greater d.vnode)) | inr high ↦ inl (h.0, high) ],
   λ h. elim h [ inl a ↦ (a.0, omega (arith, a.1, greater d.vnode)) | inr b ↦ (b.0, omega (arith, b.1, greater d.vnode)) ],
 )
+
+-- the count of the fields is that of the clocks
+pub same_count : {a b x y : List Dot} → a ≡ x → b ≡ y → vnodes_together a b ≡ vnodes_together x y
+same_count {b = b} {x = x} p q = ap (λ (es : List Dot). vnodes_together es b) p ∙ ap (λ (es : List Dot). vnodes_together x es) q

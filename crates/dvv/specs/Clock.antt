@@ -37,15 +37,22 @@ AddsVnode old new last = (dot : Dot) → Covers new dot ↔ (Covers old dot ⊎ 
 abbrev pub IsGreatest : List Dot → Dot → Type 0
 IsGreatest clock last = Covers clock last × ((dot : Dot) → dot.vnode ≡ last.vnode → Covers clock dot → dot.n ≤ last.n)
 
+-- the greatest counter of an entry, and the most entries (this store's profile)
+abbrev pub greatest_counter : ℕ
+greatest_counter = 2 ^ 62
+
+abbrev pub most_entries : ℕ
+most_entries = 1024
+
 -- entries whose vnodes are above a bound and strictly rise, with counters from 1 to 2^62 (this store's profile)
 abbrev pub AreRising : ℕ → List Dot → Type 0
 AreRising bound [] = Unit {0}
-AreRising bound (entry ∷ entries) = (bound ≤ entry.vnode) × (1 ≤ entry.n) × (entry.n ≤ 2 ^ 62) × AreRising (entry.vnode + 1) entries
+AreRising bound (entry ∷ entries) = (bound ≤ entry.vnode) × (1 ≤ entry.n) × (entry.n ≤ greatest_counter) × AreRising (entry.vnode + 1) entries
 
 -- the entries of a clock: one for each vnode, rising, at most 1,024 (this store's profile)
 pub record IsClock (entries : List Dot) : Type 0 where
   pub rising : AreRising 0 entries
-  pub few : length entries ≤ 1024
+  pub few : length entries ≤ most_entries
 
 -- how many vnodes two clocks count together
 abbrev pub vnodes_together : List Dot → List Dot → ℕ
@@ -80,5 +87,5 @@ pub record IsNextVnode (own other : List Dot) (vnode own_count other_count : ℕ
 
 -- The next event of a vnode is within the limits (this store's profile).
 pub record HasRoom (clock : List Dot) (next : Dot) : Type 0 where
-  pub counter : next.n ≤ 2 ^ 62
-  pub entries : next.n ≡ 1 → length clock < 1024
+  pub counter : next.n ≤ greatest_counter
+  pub entries : next.n ≡ 1 → length clock < most_entries

@@ -148,6 +148,7 @@ fn refuses_past_the_limits(rt: HostRuntime) -> Result<(), Fail> {
     assert!(rt; full.counter(5) == 0 && full.counter(20) == 2);
 
     let further = row_of(rt.alloc(), 0, 1)?;
+    assert!(rt; !full.can_join(&further) && !further.can_join(&full));
     assert!(rt;
         full.join(rt.alloc(), &further)
             .is_err_and(|fault| fault == ClockFault::TooManyEntries)
@@ -158,7 +159,24 @@ fn refuses_past_the_limits(rt: HostRuntime) -> Result<(), Fail> {
             .is_err_and(|fault| fault == ClockFault::TooManyEntries)
     );
     let within = row_of(rt.alloc(), 11, 1023)?;
+    assert!(rt; full.can_join(&within) && within.can_join(&full));
     assert_eq!(rt; full.join(rt.alloc(), &within)?.entries().len(), 1024);
     assert!(rt; within.le(&full) && !full.le(&within));
     Ok(())
+}
+
+#[test]
+fn dots_in_order(rt: HostRuntime) {
+    for (a, b, want) in [
+        ((0, 1), (0, 1), false),
+        ((0, 1), (0, 2), true),
+        ((0, 2), (0, 1), false),
+        ((0, 9), (1, 1), true),
+        ((1, 1), (0, 9), false),
+        ((65_535, 3), (65_536, 2), true),
+    ] {
+        let first = Dot { vnode: a.0, n: a.1 };
+        let second = Dot { vnode: b.0, n: b.1 };
+        assert_eq!(rt; first.is_before(second), want);
+    }
 }
