@@ -1,7 +1,8 @@
 -- What a key's state shows: siblings and a clock (Riak KV documentation, siblings and causal contexts).
 use Rattle.std.specs.List.{AllByRecursion, list_all, list_any}
-use Rattle.std.specs.Prelude.{◌≡◌, ◌≢◌, ℕ, ◌+◌, ◌<◌, ◌⊎◌, ◌↔◌, ◌==◌, ◌&&◌, ◌||◌, not, Bool, if◌then◌else◌, List, [], ◌∷◌, Option, None, Some, filter, is_some}
+use Rattle.std.specs.Prelude.{◌≡◌, ◌≢◌, ℕ, ◌+◌, ◌↔◌, ◌==◌, ◌&&◌, ◌||◌, not, Bool, if◌then◌else◌, List, [], ◌∷◌, Option, None, Some, filter, is_some}
 use Rattle.dvv.specs.declared.Dot.{Dot}
+pub use Rattle.dvv.specs.Dots.{IsBefore}
 use Rattle.dvv.specs.Clock.{counter, Covers, covers, AddsEvent, IsUnion, IsClock}
 use Rattle.object.specs.declared.content.Content.{Content}
 use Rattle.object.specs.declared.content.Sibling.{Sibling}
@@ -49,10 +50,6 @@ merged None None own_covers other_covers = None
 pub record Merges (own other new : State) : Type 0 where
   pub siblings : (dot : Dot) → content_at new.siblings dot ≡ merged (content_at own.siblings dot) (content_at other.siblings dot) (covers own.clock dot) (covers other.clock dot)
   pub clock : IsUnion own.clock other.clock new.clock
-
--- a dot is before another: by vnode, then by number
-abbrev pub IsBefore : Dot → Dot → Type 0
-IsBefore a b = (a.vnode < b.vnode) ⊎ ((a.vnode ≡ b.vnode) × (a.n < b.n))
 
 -- siblings rise by dot
 abbrev pub AreInOrder : List Sibling → Type 0

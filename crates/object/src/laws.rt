@@ -1,9 +1,10 @@
 //! Laws of the definitions.
 
-ghost use Rattle.std.specs.Prelude.{◌≡◌, ◌↔◌, ◌++◌, ◌∷◌, [], List, Some, IsTrue};
+ghost use Rattle.std.specs.Prelude.{◌≡◌, ◌↔◌, ◌++◌, ◌∷◌, [], List, Some, IsTrue, map};
 ghost use Rattle.dvv.specs.declared.Dot.{Dot};
 ghost use Rattle.dvv.specs.Clock.{Covers, Within};
 ghost use Rattle.object.specs.declared.content.Content.{Content};
+ghost use Rattle.object.specs.declared.content.Sibling.{Sibling as OneSibling};
 ghost use Rattle.object.specs.State.{State, Puts, Merges, IsState, HaveSameDots, content_at};
 ghost use Rattle.object.specs.Limits.{most_siblings, longest_bucket, longest_key, longest_media, longest_value};
 ghost use Rattle.object.specs.Known.{Write, write_of, IsCurrent, InContext, Shows, AreUnique, NoneSawItself, current_among, context_of, ShowsKnown};
@@ -45,4 +46,9 @@ pub fn states_are_told_by_contents()
 /// Two states of one key in one world are told by their dots and clocks, where no identifier stands for two writes.
 pub fn states_are_told_by_dots()
     ensures { (mine theirs : List Write) (a b : State) → IsState a → IsState b → Shows mine a → Shows theirs b → AreUnique (mine ++ theirs) → HaveSameDots a b → a ≡ b }
+{}
+
+/// So are two whose siblings have equal dots in order and whose clocks have equal entries: what a repair compares.
+pub fn states_are_told_by_dots_and_clocks()
+    ensures { (mine theirs : List Write) (a b : State) → IsState a → IsState b → Shows mine a → Shows theirs b → AreUnique (mine ++ theirs) → map (λ (s : OneSibling). s.dot) a.siblings ≡ map (λ (s : OneSibling). s.dot) b.siblings → a.clock ≡ b.clock → a ≡ b }
 {}

@@ -4,7 +4,6 @@ ghost use Rattle.std.specs.Prelude.{◌≡◌, ◌++◌, ◌∷◌, [], ◌⊎�
 ghost use Rattle.object.specs.State.{kept, AreInOrder};
 
 use crate::content::Sibling;
-use crate::placing::is_before;
 use dvv::Clock;
 use std::alloc::{AllocError, Global};
 
@@ -102,10 +101,10 @@ fn next_side(own: &[Sibling], i: usize, others: &[Sibling], j: usize) -> Side
         return Side::Other;
     }
     let (dot, other) = (own[i].dot, others[j].dot);
-    if is_before(dot, other) {
+    if dot.is_before(other) {
         return Side::Own;
     }
-    if is_before(other, dot) {
+    if other.is_before(dot) {
         return Side::Other;
     }
     Side::Both

@@ -1,7 +1,7 @@
 //! One sibling put into its place among others.
 
-ghost use Rattle.std.specs.Prelude.{◌≡◌, ◌<◌, ◌≤◌, ◌↔◌, None, IsTrue, vec_len, vec_capacity};
-ghost use Rattle.object.specs.State.{kept, content_at, AreInOrder, IsBefore};
+ghost use Rattle.std.specs.Prelude.{◌≡◌, ◌<◌, ◌≤◌, None, vec_len, vec_capacity};
+ghost use Rattle.object.specs.State.{kept, content_at, AreInOrder};
 ghost use Rattle.object.specs.Placing.{IsSiblingGap, InsertsSibling, ReplacesSeen};
 
 use crate::content::Sibling;
@@ -48,16 +48,9 @@ fn place_of(siblings: &[Sibling], dot: Dot) -> usize
     ensures { IsSiblingGap siblings.now result dot }
 {
     for (i, sibling) in siblings.iter().enumerate() {
-        if is_before(dot, sibling.dot) {
+        if dot.is_before(sibling.dot) {
             return i;
         }
     }
     siblings.len()
-}
-
-// Whether a dot comes before another: by vnode, then by number.
-pub(crate) fn is_before(a: Dot, b: Dot) -> bool
-    ensures { IsTrue result ↔ IsBefore a b }
-{
-    a.vnode < b.vnode || (a.vnode == b.vnode && a.n < b.n)
 }

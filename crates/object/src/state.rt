@@ -7,7 +7,7 @@ use crate::fault::{MergeFault, PutFault, PutRefusal};
 use crate::limits::MAX_SIBLINGS;
 use crate::merging::{drops_some, merge_siblings};
 use crate::placing::replace_seen;
-use dvv::{Clock, ClockFault, Dot, MAX_ENTRIES};
+use dvv::{Clock, ClockFault, Dot};
 use std::alloc::{AllocError, Global};
 use std::marker::Model;
 
@@ -30,7 +30,7 @@ impl Model for KeyState {
 }
 
 impl KeyState {
-    ghost use Rattle.dvv.specs.Clock.{Within, HasRoom, vnodes_together};
+    ghost use Rattle.dvv.specs.Clock.{Within, HasRoom, vnodes_together, most_entries};
     ghost use Rattle.object.specs.Limits.{most_siblings};
     ghost use Rattle.object.specs.State.{empty, next, kept, is_changed_by, Puts, Merges, AreInOrder, AreCovered, IsState, HaveSameDots};
 
@@ -157,10 +157,9 @@ impl KeyState {
 
     /// Whether a merge of another state keeps the clock within its 1,024 entries.
     pub fn can_merge(&self, other: &KeyState) -> bool
-        ensures { IsTrue result ↔ (vnodes_together self.now.clock other.now.clock ≤ MAX_ENTRIES) }
+        ensures { IsTrue result ↔ (vnodes_together self.now.clock other.now.clock ≤ most_entries) }
     {
-        entries_of_both(&self.clock, &other.clock) <= MAX_ENTRIES
-            || vnodes_together(&self.clock, &other.clock) <= MAX_ENTRIES
+        self.clock.can_join(&other.clock)
     }
 
     /// Merges another state of the key into this one, and tells whether siblings or clock changed. A sibling stays that both
@@ -174,7 +173,7 @@ impl KeyState {
         // One that changes nothing takes no memory and is never refused.
         ensures idle { is_changed_by self.old other.now ≡ false → result ≡ Ok false }
 
-        ensures full { result ≡ Err MergeFault.ClockFull ↔ (MAX_ENTRIES < vnodes_together self.old.clock other.now.clock) }
+        ensures full { result ≡ Err MergeFault.ClockFull ↔ (most_entries < vnodes_together self.old.clock other.now.clock) }
         ensures err { OnErr result (self.new ≡ self.old) }
     {
         let (others, other_clock) = (other.siblings(), other.clock());
@@ -210,7 +209,7 @@ impl KeyState {
     }
 }
 
-ghost use Rattle.dvv.specs.Clock.{IsClock, IsUnion, vnodes_together};
+ghost use Rattle.dvv.specs.Clock.{IsClock, IsUnion, vnodes_together, most_entries};
 ghost use Rattle.object.specs.State.{kept, is_within};
 ghost use Rattle.object.specs.Merging.{drops_some};
 
@@ -235,31 +234,11 @@ fn copies_of(alloc: Global, siblings: &[Sibling]) -> Result<Vec<Sibling>, AllocE
     Ok(copies)
 }
 
-// How many entries two clocks have, one after the other.
-fn entries_of_both(own: &Clock, other: &Clock) -> usize
-    ensures { vnodes_together own.now other.now ≤ result }
-{
-    own.entries().len() + other.entries().len()
-}
-
-// How many vnodes have an entry in either clock.
-fn vnodes_together(own: &Clock, other: &Clock) -> usize
-    ensures { result ≡ vnodes_together own.now other.now }
-{
-    let entries = own.entries();
-    let others = other.entries();
-    entries.len()
-        + others
-            .iter()
-            .filter(|entry| own.counter(entry.vnode) == 0)
-            .count()
-}
-
 // The union of two clocks, for a merge.
 fn join_clocks(alloc: Global, own: &Clock, other: &Clock) -> Result<Clock, MergeFault>
     ensures clock { IfOk result (λ union. IsClock union) }
     ensures union { IfOk result (λ union. IsUnion own.now other.now union) }
-    ensures full { result ≡ Err MergeFault.ClockFull ↔ (MAX_ENTRIES < vnodes_together own.now other.now) }
+    ensures full { result ≡ Err MergeFault.ClockFull ↔ (most_entries < vnodes_together own.now other.now) }
 {
     match own.join(alloc, other) {
         Ok(clock) => Ok(clock),

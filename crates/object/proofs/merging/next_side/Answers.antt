@@ -14,7 +14,7 @@ pub returns-then-i-own : goal.returns-then-i-own
 returns-then-i-own c = begins_last c.args.others.now c.args.own.now c.args.j c.args.i c.if-j-others.false c.if-i-own.true
 
 pub returns-then-is_before : goal.returns-then-is_before
-returns-then-is_before c = begins_before c.args.own.now c.args.others.now c.args.i c.args.j c.index-own-i.result c.index-others-j.result c.if-i-own.false c.if-j-others.false c.requires.others_order c.index-own-i.is c.index-others-j.is (c.is_before.ensures.0 c.if-is_before.true)
+returns-then-is_before c = begins_before c.args.own.now c.args.others.now c.args.i c.args.j c.index-own-i.result c.index-others-j.result c.if-i-own.false c.if-j-others.false c.requires.others_order c.index-own-i.is c.index-others-j.is (c.is_before.ensures.order.0 c.if-is_before.true)
 
 pub returns-then-is_before-2 : goal.returns-then-is_before-2
-returns-then-is_before-2 c = begins_before c.args.others.now c.args.own.now c.args.j c.args.i c.index-others-j.result c.index-own-i.result c.if-j-others.false c.if-i-own.false c.requires.order c.index-others-j.is c.index-own-i.is (c.is_before-2.ensures.0 c.if-is_before-2.true)
+returns-then-is_before-2 c = begins_before c.args.others.now c.args.own.now c.args.j c.args.i c.index-others-j.result c.index-own-i.result c.if-j-others.false c.if-i-own.false c.requires.order c.index-others-j.is c.index-own-i.is (c.is_before-2.ensures.order.0 c.if-is_before-2.true)
