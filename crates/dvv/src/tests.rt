@@ -3,6 +3,7 @@
 ghost use Rattle.std.specs.Prelude.{◌+◌, ◌^◌, ◌<◌};
 
 use super::*;
+use std::alloc::Global;
 use std::test::Fail;
 
 const LIMIT: u64 = 4_611_686_018_427_387_904;
