@@ -1,4 +1,4 @@
-use Rattle.std.proofs.Common.{◌≡◌, ◌<◌, ℕ, List, true, sym, subst, refl, arith}
+use Rattle.std.proofs.Common.{◌≡◌, ◌<◌, ℕ, List, true, sym, subst, refl, arith, rules}
 use Rattle.dvv.specs.declared.Dot.{Dot}
 use Rattle.dvv.specs.Clock.{vnodes_together, IsUnion}
 use Rattle.object.specs.declared.content.Sibling.{Sibling}
@@ -8,7 +8,9 @@ use Rattle.object.proofs.Same.{merges_state, unchanged_merges, unchanged_fits, e
 use Rattle.object.proofs.state.KeyState.merge.Goals as goal
 
 pub returns-then-not-is_changed_by-clause-ok : goal.returns-then-not-is_changed_by-clause-ok
-returns-then-not-is_changed_by-clause-ok c = unchanged_merges c.args.self.now c.args.other.now c.siblings-others.ensures.state (sym c.if-not-is_changed_by.ensures)
+returns-then-not-is_changed_by-clause-ok c =
+    let same : Merges c.args.self.now c.args.other.now c.args.self.now = unchanged_merges c.args.self.now c.args.other.now c.siblings-others.ensures.state (sym c.if-not-is_changed_by.ensures) in
+    search rules
 
 pub returns-then-not-is_changed_by-clause-full : goal.returns-then-not-is_changed_by-clause-full
 returns-then-not-is_changed_by-clause-full c = (λ e. absurd (cc), λ h. absurd (omega (arith, h, unchanged_fits c.args.self.now c.args.other.now (subst IsState c.self.view_is c.self.invariant) (sym c.if-not-is_changed_by.ensures))))
