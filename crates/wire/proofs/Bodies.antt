@@ -10,7 +10,8 @@ use Rattle.object.specs.declared.content.Key.{Key}
 use Rattle.object.specs.declared.content.Sibling.{Sibling}
 use Rattle.object.specs.State.{AreCovered, State}
 use Rattle.wire.specs.declared.record.Record.{Record}
-use Rattle.wire.specs.Records.{AreContents, AreNarrow, IsKey, IsRecord, body, clock, key, siblings, state}
+use Rattle.object.specs.Limits.{IsKey}
+use Rattle.wire.specs.Records.{AreContents, AreNarrow, IsRecord, body, clock, key, siblings, state}
 use Rattle.wire.specs.Reading.{body_at, clock_at, key_at, number_at, placed_at, record_in, sent_at, siblings_at, state_at}
 use Rattle.wire.proofs.Fields.{AreSiblings, IsEntries, IsSibling, clock_format, key_format, siblings_format}
 use Rattle.wire.proofs.Formats.{IsBytes, IsFormat, bind_some, format_as, guard_some, number_format, pair_format, wide32}

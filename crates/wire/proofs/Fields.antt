@@ -4,14 +4,16 @@ use Rattle.std.specs.List.{flat_map, AllByRecursion}
 use Rattle.std.specs.Int.{w16, w32, w64, to_be_bytes}
 use Rattle.std.proofs.lemmas.Bool.{ltb-true, lt-ltb, leb-true, le-leb, eqb-true, eq-eqb, and_parts, and_from, or_cases, or_left, or_right}
 use Rattle.dvv.specs.declared.Dot.{Dot}
+use Rattle.dvv.specs.Dots.{IsBefore, is_before}
 use Rattle.dvv.specs.Clock.{counter, Covers, covers, AreRising, IsClock}
 use Rattle.object.specs.declared.content.Content.{Content}
 use Rattle.object.specs.declared.content.Content.TheVariants.{Value, Tombstone}
 use Rattle.object.specs.declared.content.Key.{Key}
 use Rattle.object.specs.declared.content.Sibling.{Sibling}
-use Rattle.object.specs.State.{AreCovered, AreInOrder, IsBefore}
-use Rattle.wire.specs.Records.{AreNarrow, IsContent, IsKey, clock, content, dot, key, long_text, short_text, sibling, siblings}
-use Rattle.wire.specs.Reading.{Reader, ◌>>=◌, chain_at, clock_at, content_at, dot_at, entries_at, is_before, key_at, next_entry, next_sibling, no_dot, number_at, sibling_at, siblings_at, text_at, value_at}
+use Rattle.object.specs.Limits.{IsContent, IsKey}
+use Rattle.object.specs.State.{AreCovered, AreInOrder}
+use Rattle.wire.specs.Records.{AreNarrow, clock, content, dot, key, long_text, short_text, sibling, siblings}
+use Rattle.wire.specs.Reading.{Reader, ◌>>=◌, chain_at, clock_at, content_at, dot_at, entries_at, key_at, next_entry, next_sibling, no_dot, number_at, sibling_at, siblings_at, text_at, value_at}
 use Rattle.wire.proofs.Formats.{Follow, IsBytes, IsBytes-rest, IsFormat, bind_some, chain_again, chain_takes, format_as, guard_some, number_format, pair_format, rest_is_bytes, some_is, text_format, wide16, wide32, wide64}
 
 pub key_format : IsFormat key_at key IsKey

@@ -1,5 +1,5 @@
 -- A record's frame: mark, length, body and digest.
-use Rattle.std.proofs.Common.{◌≡◌, ℕ, ◌+◌, ◌^◌, ◌<◌, List, ◌++◌, length, take, drop, Some, None, refl, sym, ap, subst, ◌∙◌, append_assoc, arith, inl, inr, length-append, length-take, length-drop}
+use Rattle.std.proofs.Common.{◌≡◌, ℕ, ◌+◌, ◌^◌, ◌<◌, List, ◌++◌, ◌↔◌, length, take, drop, Some, None, Result, Ok, Err, refl, sym, ap, subst, ◌∙◌, append_assoc, arith, inl, inr, length-append, length-take, length-drop}
 use Rattle.std.specs.Int.{w32, from_be_bytes, to_be_bytes}
 use Rattle.std.proofs.lemmas.Bool.{cases_lt}
 use Rattle.std.proofs.lemmas.List.{append_cancel_left, drop-drop, drop-take, drop_at, take-append-drop, take-take, take_at}
@@ -8,7 +8,7 @@ use Rattle.sha1.specs.Sha1.{digest_bytes, sha1}
 use Rattle.wire.specs.declared.record.Record.{Record}
 use Rattle.wire.specs.declared.fault.WireFault.{WireFault}
 use Rattle.wire.specs.declared.fault.WireFault.TheVariants.{Cut, Digest, Mark, NoMemory, NotCanonical}
-use Rattle.wire.specs.Records.{Begins, HasFault, IsRecord, IsWhole, body, body_in, body_length, digest_in, long_text, mark, spelling}
+use Rattle.wire.specs.Records.{Begins, HasFault, IsOfFrame, IsRecord, IsWhole, body, body_in, body_length, digest_in, long_text, mark, spelling}
 use Rattle.wire.specs.Reading.{Fails, record_in}
 use Rattle.wire.proofs.Bodies.{record_again, record_takes}
 use Rattle.wire.proofs.Formats.{IsBytes, IsBytes-drop, IsBytes-take, some_is, wide32}
@@ -140,9 +140,55 @@ read_begins bytes r fits whole digest read =
 
 -- why a whole input with the right digest isn't read
 pub unread : (bytes inside : List ℕ) (fault : WireFault) → IsWhole bytes → sha1 (body_in bytes) ≡ digest_in bytes → inside ≡ body_in bytes → Fails fault (record_in inside) → HasFault bytes fault
-unread bytes inside NoMemory whole digest is fails = tt
+unread bytes inside NoMemory whole digest is fails = (whole, digest)
 unread bytes inside Cut whole digest is fails = absurd fails
 unread bytes inside Mark whole digest is fails = absurd fails
 unread bytes inside Digest whole digest is fails = absurd fails
 unread bytes inside NotCanonical whole digest is fails =
     (whole, digest, λ r is_record e. (let again : record_in (body r) ≡ Some r = record_again r is_record in let none : record_in (body r) ≡ None = sym (ap record_in (is ∙ e)) ∙ fails in cc))
+
+-- ---- a frame has one fault at most
+
+cut_not_whole : (bytes : List ℕ) → HasFault bytes Cut → IsWhole bytes → ⊥
+cut_not_whole bytes fault w =
+    let head = w.head in
+    let whole = w.whole in
+    elim fault [ inl short ↦ omega arith | inr cut ↦ (let lt = cut.1 in omega arith) ]
+
+cut_not_mark : (bytes : List ℕ) → HasFault bytes Cut → HasFault bytes Mark → ⊥
+cut_not_mark bytes fault mark_ =
+    let head = mark_.0 in
+    elim fault [ inl short ↦ omega arith | inr cut ↦ mark_.1 cut.0 ]
+
+one_fault : (bytes : List ℕ) (f g : WireFault) → IsOfFrame f → HasFault bytes f → HasFault bytes g → f ≡ g
+one_fault bytes Cut Cut is a b = refl
+one_fault bytes Cut Mark is a b = absurd (cut_not_mark bytes a b)
+one_fault bytes Cut Digest is a b = absurd (cut_not_whole bytes a b.0)
+one_fault bytes Cut NotCanonical is a b = absurd (cut_not_whole bytes a b.0)
+one_fault bytes Cut NoMemory is a b = absurd (cut_not_whole bytes a b.0)
+one_fault bytes Mark Cut is a b = absurd (cut_not_mark bytes b a)
+one_fault bytes Mark Mark is a b = refl
+one_fault bytes Mark Digest is a b = absurd (a.1 b.0.marked)
+one_fault bytes Mark NotCanonical is a b = absurd (a.1 b.0.marked)
+one_fault bytes Mark NoMemory is a b = absurd (a.1 b.0.marked)
+one_fault bytes Digest Cut is a b = absurd (cut_not_whole bytes b a.0)
+one_fault bytes Digest Mark is a b = absurd (b.1 a.0.marked)
+one_fault bytes Digest Digest is a b = refl
+one_fault bytes Digest NotCanonical is a b = absurd (a.1 b.1)
+one_fault bytes Digest NoMemory is a b = absurd (a.1 b.1)
+one_fault bytes NotCanonical g is a b = absurd is
+one_fault bytes NoMemory g is a b = absurd is
+
+-- a fault that is told is the frame's, where the frame has one
+pub told_fault : {X : Type 0} (bytes : List ℕ) (r : Result X WireFault) (g : WireFault) → r ≡ Err g → HasFault bytes g → (f : WireFault) → IsOfFrame f → (r ≡ Err f) ↔ HasFault bytes f
+told_fault bytes r g e has f is = (
+  λ h. let same : g ≡ f = cc in subst (HasFault bytes) same has,
+  λ h. e ∙ ap Err (sym (one_fault bytes f g is h has)),
+)
+
+-- where the frame is right it has none
+pub told_none : {X : Type 0} (bytes : List ℕ) (r : Result X WireFault) (x : X) → r ≡ Ok x → IsWhole bytes → sha1 (body_in bytes) ≡ digest_in bytes → (f : WireFault) → IsOfFrame f → (r ≡ Err f) ↔ HasFault bytes f
+told_none bytes r x e whole digest f is = (
+  λ h. absurd (cc),
+  λ h. absurd (subst IsOfFrame (one_fault bytes f NoMemory is h (whole, digest)) is),
+)

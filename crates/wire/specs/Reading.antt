@@ -1,12 +1,14 @@
 -- Reading a record's body from left to right: what stands at the front, and the bytes after it. Nothing where no record's body begins so.
-use Rattle.std.specs.Prelude.{◌≡◌, ℕ, zero, suc, ◌+◌, ◌^◌, ◌==◌, nat_lt, nat_le, ◌&&◌, ◌||◌, Bool, List, [], ◌∷◌, length, take, drop, Option, Some, None, Result, Ok, Err, if◌then◌else◌}
+use Rattle.std.specs.Prelude.{◌≡◌, ℕ, zero, suc, ◌+◌, ◌==◌, nat_lt, nat_le, ◌&&◌, List, [], ◌∷◌, length, take, drop, Option, Some, None, Result, Ok, Err, if◌then◌else◌}
 use Rattle.std.specs.Int.{Width, w16, w32, w64, byte_len, from_be_bytes}
 use Rattle.dvv.specs.declared.Dot.{Dot}
-use Rattle.dvv.specs.Clock.{covers}
+use Rattle.dvv.specs.Dots.{is_before}
+use Rattle.dvv.specs.Clock.{covers, greatest_counter, most_entries}
 use Rattle.object.specs.declared.content.Content.{Content}
 use Rattle.object.specs.declared.content.Content.TheVariants.{Value, Tombstone}
 use Rattle.object.specs.declared.content.Key.{Key}
 use Rattle.object.specs.declared.content.Sibling.{Sibling}
+use Rattle.object.specs.Limits.{longest_bucket, longest_key, longest_media, longest_value}
 use Rattle.object.specs.State.{State}
 use Rattle.wire.specs.declared.record.Record.{Record}
 use Rattle.wire.specs.declared.fault.WireFault.{WireFault}
@@ -49,8 +51,8 @@ text_at w least most bytes = do
 
 unfoldable pub key_at : Reader Key
 key_at bytes = do
-  bucket ← text_at w16 1 64 bytes
-  key ← text_at w16 1 255 bucket.1
+  bucket ← text_at w16 1 longest_bucket bytes
+  key ← text_at w16 1 longest_key bucket.1
   Some (record { bucket = bucket.0; key = key.0 }, key.1)
 
 unfoldable pub dot_at : Reader Dot
@@ -61,8 +63,8 @@ dot_at bytes = do
 
 unfoldable pub value_at : Reader Content
 value_at bytes = do
-  media ← text_at w16 1 127 bytes
-  value ← text_at w32 0 65536 media.1
+  media ← text_at w16 1 longest_media bytes
+  value ← text_at w32 0 longest_value media.1
   Some (Value media.0 value.0, value.1)
 
 unfoldable pub content_at : Reader Content
@@ -88,10 +90,10 @@ chain_at item next (suc n) before bytes = do
 
 -- the entries of a clock: each vnode from a bound on, each counter within its limits
 abbrev pub next_entry : ℕ → Dot → Option ℕ
-next_entry bound entry = if nat_le bound entry.vnode && nat_le 1 entry.n && nat_le entry.n (2 ^ 62) then Some (entry.vnode + 1) else None
+next_entry bound entry = if nat_le bound entry.vnode && nat_le 1 entry.n && nat_le entry.n greatest_counter then Some (entry.vnode + 1) else None
 
 abbrev pub entries_at : ℕ → Reader (List Dot)
-entries_at count bytes = if nat_le count 1024 then chain_at dot_at next_entry count 0 bytes else None
+entries_at count bytes = if nat_le count most_entries then chain_at dot_at next_entry count 0 bytes else None
 
 unfoldable pub clock_at : Reader (List Dot)
 clock_at bytes = do
@@ -99,9 +101,6 @@ clock_at bytes = do
   entries_at count.0 count.1
 
 -- siblings: each above the one before it, and covered by the clock
-abbrev pub is_before : Dot → Dot → Bool
-is_before a b = nat_lt a.vnode b.vnode || ((a.vnode == b.vnode) && nat_lt a.n b.n)
-
 abbrev pub next_sibling : List Dot → Dot → Sibling → Option Dot
 next_sibling clock before sibling = if is_before before sibling.dot && covers clock sibling.dot then Some sibling.dot else None
 

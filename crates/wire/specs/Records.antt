@@ -8,6 +8,7 @@ use Rattle.object.specs.declared.content.Content.{Content}
 use Rattle.object.specs.declared.content.Content.TheVariants.{Value, Tombstone}
 use Rattle.object.specs.declared.content.Key.{Key}
 use Rattle.object.specs.declared.content.Sibling.{Sibling}
+use Rattle.object.specs.Limits.{IsKey, IsContent}
 use Rattle.object.specs.State.{State, IsState}
 use Rattle.wire.specs.declared.record.Record.{Record}
 use Rattle.wire.specs.declared.fault.WireFault.{WireFault}
@@ -58,18 +59,6 @@ mark = 68 ∷ 86 ∷ 82 ∷ 49 ∷ []
 abbrev pub spelling : Record → List ℕ
 spelling r = mark ++ long_text (body r) ++ sha1 (body r)
 
--- the limits of a key: a bucket of 1 to 64 bytes and a name of 1 to 255
-pub record IsKey (k : Key) : Type 0 where
-  pub bucket_some : 1 ≤ length k.bucket
-  pub bucket_short : length k.bucket ≤ 64
-  pub key_some : 1 ≤ length k.key
-  pub key_short : length k.key ≤ 255
-
--- the limits of a content: a media type of 1 to 127 bytes, and at most 65,536 bytes
-abbrev pub IsContent : Content → Type 0
-IsContent (Value media bytes) = (1 ≤ length media) × (length media ≤ 127) × (length bytes ≤ 65536)
-IsContent Tombstone = Unit {0}
-
 abbrev pub AreContents : List Sibling → Type 0
 AreContents ss = AllByRecursion (λ s. IsContent s.content) ss
 
@@ -109,10 +98,18 @@ pub record IsWhole (bytes : List ℕ) : Type 0 where
   pub marked : take 4 bytes ≡ mark
   pub whole : 8 + body_length bytes + 20 ≤ length bytes
 
--- which fault the input has, the first from the left. Memory may run out on any.
+-- which fault the input has, the first from the left. Memory may run out on the body alone, where the frame is right.
 abbrev pub HasFault : List ℕ → WireFault → Type 0
 HasFault bytes Cut = (length bytes < 8) ⊎ ((take 4 bytes ≡ mark) × (length bytes < 8 + body_length bytes + 20))
 HasFault bytes Mark = (8 ≤ length bytes) × (take 4 bytes ≢ mark)
 HasFault bytes Digest = IsWhole bytes × (sha1 (body_in bytes) ≢ digest_in bytes)
 HasFault bytes NotCanonical = IsWhole bytes × (sha1 (body_in bytes) ≡ digest_in bytes) × ((r : Record) → IsRecord r → body_in bytes ≢ body r)
-HasFault bytes NoMemory = Unit {0}
+HasFault bytes NoMemory = IsWhole bytes × (sha1 (body_in bytes) ≡ digest_in bytes)
+
+-- the faults of the frame: they are told without memory
+abbrev pub IsOfFrame : WireFault → Type 0
+IsOfFrame Cut = Unit {0}
+IsOfFrame Mark = Unit {0}
+IsOfFrame Digest = Unit {0}
+IsOfFrame NotCanonical = ⊥
+IsOfFrame NoMemory = ⊥

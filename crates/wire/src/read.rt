@@ -1,28 +1,20 @@
 //! Reading a record.
 
-ghost use Rattle.std.specs.Prelude.{◌≡◌, List, ℕ, ◌≤◌, ◌<◌, ◌+◌, ◌^◌, ◌++◌, ◌↔◌, length, IfOk, IfErr, IsTrue, MatchResult};
+ghost use Rattle.std.specs.Prelude.{◌≡◌, List, ℕ, ◌≤◌, ◌<◌, ◌+◌, ◌^◌, ◌++◌, ◌↔◌, length, IfOk, IfErr, IsTrue, Err, MatchResult};
 ghost use Rattle.sha1.specs.Sha1.{sha1};
 ghost use Rattle.std.specs.Int.{w16, w32, w64};
-ghost use Rattle.wire.specs.Reading.{Gives, chain_at, clock_at, content_at, dot_at, is_before, key_at, next_entry, next_sibling, no_dot, number_at, record_in, sibling_at, siblings_at, state_at, taken_at, text_at, value_at};
-ghost use Rattle.wire.specs.Records.{Begins, HasFault, IsWhole, body_in, body_length, digest_in};
+ghost use Rattle.wire.specs.Reading.{Gives, chain_at, clock_at, content_at, dot_at, key_at, next_entry, next_sibling, no_dot, number_at, record_in, sibling_at, siblings_at, state_at, taken_at, text_at, value_at};
+ghost use Rattle.wire.specs.Records.{Begins, HasFault, IsOfFrame, IsWhole, body_in, body_length, digest_in};
+ghost use Rattle.wire.specs.declared.fault.WireFault.{WireFault as OneFault};
 ghost use Rattle.wire.specs.declared.record.Record.{Record as OneRecord};
 
 use crate::fault::WireFault;
 use crate::record::Record;
 use crate::write::{DIGEST_LEN, HEAD_LEN, MARK, TOMBSTONE, VALUE};
 use dvv::{Clock, Dot, MAX_COUNTER, MAX_ENTRIES};
-use object::{Bytes, Content, Key, KeyState, Sibling};
+use object::{Bytes, Content, Key, KeyState, MAX_BUCKET, MAX_KEY, MAX_MEDIA, MAX_VALUE, Sibling};
 use sha1::Sha1;
 use std::alloc::Global;
-
-/// The most bytes of a bucket, a key's name, a media type and a value.
-const MAX_BUCKET: usize = 64;
-
-const MAX_KEY: usize = 255;
-
-const MAX_MEDIA: usize = 127;
-
-const MAX_VALUE: usize = 65_536;
 
 /// No event: before each that there is.
 const NO_DOT: Dot = Dot { vnode: 0, n: 0 };
@@ -209,18 +201,11 @@ fn each_sibling_at<'a>(
 fn next_sibling(clock: &Clock, last: Dot, sibling: &Sibling) -> Result<Dot, WireFault>
     ensures { Gives (λ next. next) result (next_sibling clock.now last sibling.now) }
 {
-    if is_before(last, sibling.dot) && clock.covers(sibling.dot) {
+    if last.is_before(sibling.dot) && clock.covers(sibling.dot) {
         Ok(sibling.dot)
     } else {
         Err(WireFault::NotCanonical)
     }
-}
-
-/// Whether a dot comes before another: by vnode, then by number.
-fn is_before(a: Dot, b: Dot) -> bool
-    ensures { result ≡ is_before a b }
-{
-    a.vnode < b.vnode || (a.vnode == b.vnode && a.n < b.n)
 }
 
 #[tactic(auto, unfolding(crate::specs::Reading::state_at))]
@@ -296,10 +281,15 @@ pub fn read_record(alloc: Global, bytes: &[u8]) -> Result<(Record, usize), WireF
     ensures within { IfOk result (λ x. x.1 ≤ length bytes.now) }
     // What begins the input is read, unless memory runs out.
     ensures only { (r : OneRecord) (len : ℕ) → Begins bytes.now r len → MatchResult result (λ x. (x.0 ≡ r) × (x.1 ≡ len)) (λ fault. fault ≡ WireFault.NoMemory) }
-    // Which fault it is.
+    // Which fault it is. Memory runs out only on the body of a record whose frame is right.
     ensures fault { IfErr result (HasFault bytes.now) }
+    // A fault of the frame is told exactly where it stands.
+    ensures exact { (fault : OneFault) → IsOfFrame fault → (result ≡ Err fault) ↔ HasFault bytes.now fault }
 {
-    let (body, len) = framed(bytes)?;
+    let (body, len) = match framed(bytes) {
+        Ok(front) => front,
+        Err(fault) => return Err(fault),
+    };
     let record_ = record_in(alloc, body)?;
     Ok((record_, len))
 }

@@ -4,7 +4,8 @@ ghost use Rattle.std.specs.Prelude.{◌≡◌, ℕ, ◌≤◌, ◌<◌, ◌+◌,
 ghost use Rattle.std.specs.Option.{SomeIff};
 ghost use Rattle.std.specs.List.{flat_map};
 ghost use Rattle.std.specs.Int.{w16, w32, to_be_bytes};
-ghost use Rattle.wire.specs.Records.{AreContents, AreNarrow, IsContent, IsKey, IsRecord, body, clock, content, dot, key, long_text, mark, short_text, sibling, siblings, spelling, state};
+ghost use Rattle.object.specs.Limits.{IsContent, IsKey};
+ghost use Rattle.wire.specs.Records.{AreContents, AreNarrow, IsRecord, body, clock, content, dot, key, long_text, mark, short_text, sibling, siblings, spelling, state};
 ghost use Rattle.wire.specs.declared.record.Record.{Record};
 
 use dvv::{Clock, Dot};
