@@ -5,7 +5,7 @@ mod limits;
 mod puts_and_merges;
 
 use crate::{Bytes, Content, KeyState};
-use dvv::{Clock, Dot};
+use dvv::Dot;
 use std::alloc::{AllocError, Global};
 use std::test::Fail;
 
