@@ -40,6 +40,7 @@ impl Helper {
         requires answers { AnswersOn number sig.args sig.lo sig.hi (Body.post body) }
         ensures number { result.number ≡ number }
         ensures sig { result.sig ≡ sig }
+        ensures body { result.body ≡ body }
     {
         Helper { number, sig, body }
     }
@@ -47,7 +48,8 @@ impl Helper {
     /// The answer to a call that fits.
     pub fn call(&self, call: &Call) -> u64
         requires { Fits self.now.sig.args (given call.now) }
-        ensures { HelperAnswers self.now.number self.now.sig.lo self.now.sig.hi (given call.now) result }
+        ensures answers { HelperAnswers self.now.number self.now.sig.lo self.now.sig.hi (given call.now) result }
+        ensures called { Body.post self.now.body call.now.numbers call.now.first call.now.second result }
     {
         (self.body)(call.numbers, call.first, call.second)
     }

@@ -3,8 +3,19 @@
 ghost use Rattle.std.specs.Prelude.{◌≡◌, ◌<◌, ◌≤◌, ◌^◌, ◌↔◌, IsTrue, IsSome, IfSome};
 ghost use Rattle.helpers.specs.Rules.{are_laid_out, is_signature, is_helper_number};
 
-/// The most bytes that a Read may allow.
+use insn::Register;
+
+/// The most bytes of one range that a call reads or writes: no Read allows more.
 pub const MAX_READ: u32 = 65_536;
+
+/// The registers of the arguments of a call, in order.
+pub const ARGUMENT_REGISTERS: [Register; 5] = [
+    Register::R1,
+    Register::R2,
+    Register::R3,
+    Register::R4,
+    Register::R5,
+];
 
 /// What an argument register of a call holds.
 #[derive(Clone, Copy, PartialEq, Eq, Debug)]

@@ -1,5 +1,6 @@
 //! The table of helpers.
 
+ghost use Rattle.std.specs.List.{Any, Contains};
 ghost use Rattle.std.specs.Prelude.{◌≡◌, ◌↔◌, ℕ, List, [], ◌∷◌, ◌++◌, map, OnOk, OnErr, IfOk, IfErr, IfSome, IfNone, Some, None, Option, IsTrue};
 ghost use Rattle.helpers.specs.declared.sig.Sig.{Sig};
 ghost use Rattle.helpers.specs.declared.sig.Entry.{Entry};
@@ -7,7 +8,7 @@ ghost use Rattle.helpers.specs.Answers.{Fits, HelperAnswers};
 ghost use Rattle.helpers.specs.Parts.{given};
 ghost use Rattle.helpers.specs.Entries.{sig_of, AgreesWith, IsAdmitted, Refuses};
 
-use crate::helper::{Call, Helper};
+use crate::helper::{Body, Call, Helper};
 use crate::sig::{Entry, Sig, is_helper_number};
 use crate::sigs::Sigs;
 use crate::written::is_as_written;
@@ -107,6 +108,7 @@ impl Table {
     pub fn helper(&self, number: u32) -> Option<&Helper>
         ensures some { IfSome result (λ helper. (helper.now.number ≡ number) × (sig_of self.now.listed number ≡ Some helper.now.sig)) }
         ensures none { IfNone result (sig_of self.now.listed number ≡ None) }
+        ensures held { IfSome result (λ helper. Contains self.now.helpers.items helper.now) }
     {
         find_helper(self.helpers.as_slice(), number)
     }
@@ -114,7 +116,8 @@ impl Table {
     /// The answer of a helper to a call that fits its Sig.
     pub fn call(&self, number: u32, call: &Call) -> u64
         requires { (sig : Sig) × (sig_of self.now.listed number ≡ Some sig) × Fits sig.args (given call.now) }
-        ensures { (sig : Sig) → sig_of self.now.listed number ≡ Some sig → HelperAnswers number sig.lo sig.hi (given call.now) result }
+        ensures answers { (sig : Sig) → sig_of self.now.listed number ≡ Some sig → HelperAnswers number sig.lo sig.hi (given call.now) result }
+        ensures called { Any (λ helper. (helper.number ≡ number) × Body.post helper.body call.now.numbers call.now.first call.now.second result) self.now.helpers.items }
     {
         match self.helper(number) {
             Some(helper) => helper.call(call),
@@ -147,6 +150,7 @@ impl Sigs {
 fn find_helper(helpers: &[Helper], number: u32) -> Option<&Helper>
     ensures some { IfSome result (λ helper. (helper.now.number ≡ number) × (sig_of (map {B = Entry} (λ h. record { number = h.number; sig = h.sig }) helpers.now) number ≡ Some helper.now.sig)) }
     ensures none { IfNone result (sig_of (map {B = Entry} (λ h. record { number = h.number; sig = h.sig }) helpers.now) number ≡ None) }
+    ensures held { IfSome result (λ helper. Contains helpers.now helper.now) }
 {
     for helper in helpers {
         if helper.number == number {

@@ -16,7 +16,7 @@ pub fn written_sig(number: u32) -> Option<Sig>
     let two = [read, len, read, len, unused];
     match number {
         16 => Sig::new(two, (0, 2)),
-        17 => Sig::new(two, (0, 65_536)),
+        17 => Sig::new(two, (0, u64::from(MAX_READ))),
         18 => Sig::new(one, (0, u64::MAX)),
         19 => Sig::new(one, (0, 64)),
         _ => None,
