@@ -15,21 +15,9 @@ ghost use Rattle.machine.specs.Stepped.{state_of, loan_of, Applied};
 
 use crate::State;
 use crate::parts::{first_place, numbers, part, second_place};
-use helpers::{ArgRule, Call, Table, fits};
+use helpers::{ARGUMENT_REGISTERS, ArgRule, Call, MAX_READ, Table, fits};
 use insn::Register;
 use memory::{Fault, Region};
-
-/// The most bytes that copy, fill and same take.
-const MAX_RANGE: u64 = 65_536;
-
-/// The registers of the arguments of a call.
-const ARGUMENTS: [Register; 5] = [
-    Register::R1,
-    Register::R2,
-    Register::R3,
-    Register::R4,
-    Register::R5,
-];
 
 impl<'a> State<'a> {
     /// The number in a register, 0 where it is unset.
@@ -58,7 +46,7 @@ impl<'a> State<'a> {
         ensures ok { IfOk result (λ place. Spans (memory_of self.now.windows) place.0 address n × (place.1 ≡ address - base place.0)) }
         ensures err { IfErr result (λ f. (f ≡ Fault.Helper) × ((region : Region) → ¬ Spans (memory_of self.now.windows) region address n)) }
     {
-        if n > MAX_RANGE {
+        if n > u64::from(MAX_READ) {
             return Err(Fault::Helper);
         }
         self.windows
@@ -174,7 +162,7 @@ impl<'a> State<'a> {
         let Some(helper) = table.helper(number) else {
             return Err(Fault::Helper);
         };
-        if self.lacks(&helper.sig.args, &ARGUMENTS) {
+        if self.lacks(&helper.sig.args, &ARGUMENT_REGISTERS) {
             return Err(Fault::Unset);
         }
         let call = self.give(&helper.sig.args)?;
@@ -188,13 +176,7 @@ impl<'a> State<'a> {
     fn arguments(&self) -> [u64; 5]
         ensures { result ≡ map (number_in (state_of self.now)) argument_registers }
     {
-        [
-            self.number(Register::R1),
-            self.number(Register::R2),
-            self.number(Register::R3),
-            self.number(Register::R4),
-            self.number(Register::R5),
-        ]
+        ARGUMENT_REGISTERS.map(|register| self.number(register))
     }
 
     /// Calls copy, fill, same or a helper of the table.
