@@ -6,3 +6,4 @@ pub mod Orders
 pub mod Laid
 pub mod Agreement
 pub mod SameSigs
+pub mod LaidRows

@@ -1,5 +1,6 @@
 -- What the written helper answers of a hook's input (this store's profile): its newest sibling.
-use Rattle.std.specs.Prelude.{ℕ, zero, suc, ◌+◌, ◌*◌, Bool, ◌&&◌, ◌||◌, not, ◌==◌, nat_le, nat_lt, List, [], ◌∷◌, length, position, unwrap_or, if◌then◌else◌}
+use Rattle.std.specs.Prelude.{ℕ, zero, suc, ◌≡◌, ◌<◌, ◌^◌, ◌+◌, ◌*◌, Bool, ◌&&◌, ◌||◌, not, ◌==◌, nat_le, nat_lt, All, List, [], ◌∷◌, ◌++◌, length, position, unwrap_or, if◌then◌else◌}
+use Rattle.std.specs.Int.{w32, w64, to_le_bytes}
 use Rattle.std.specs.List.{list_all}
 use Rattle.memory.specs.Windows.{little_endian, range}
 use Rattle.helpers.specs.declared.layout.Row.{Row}
@@ -38,3 +39,24 @@ is_newest rows r = not (r.n == 0) && list_all (λ other. not (is_newer other r))
 -- the index of the first such row, 64 where there is none
 abbrev pub newest_of : List ℕ → ℕ
 newest_of layout = let rows = rows_of layout in unwrap_or (position (is_newest rows) rows) 64
+
+-- ---- bytes that lay out rows, as a hook's input does
+
+-- a row: its vnode, flags, its n, and where its value stands and how long it is, all little-endian
+abbrev pub row_bytes : Row → ℕ → ℕ → ℕ → List ℕ
+row_bytes r flags place len = to_le_bytes w32 r.vnode ++ to_le_bytes w32 flags ++ to_le_bytes w64 r.n ++ to_le_bytes w32 place ++ to_le_bytes w32 len
+
+-- the bytes begin with these rows, whatever the flags and the values are
+abbrev pub ShowRows : List Row → List ℕ → Type 0
+ShowRows [] bytes = Unit {0}
+ShowRows (r ∷ rows) bytes = (flags place len : ℕ) × (more : List ℕ) × (bytes ≡ row_bytes r flags place len ++ more) × ShowRows rows more
+
+-- a window with a head of four words, of which the second is the number of rows, and then these rows
+abbrev pub LaysOut : List ℕ → List Row → Type 0
+LaysOut window rows =
+    (kind used zeros : ℕ) × (more : List ℕ)
+    × (window ≡ to_le_bytes w32 kind ++ to_le_bytes w32 (length rows) ++ to_le_bytes w32 used ++ to_le_bytes w32 zeros ++ more) × ShowRows rows more
+
+-- rows whose numbers fit their fields
+abbrev pub AreRows : List Row → Type 0
+AreRows rows = All (λ r. (r.vnode < 2 ^ 32) × (r.n < 2 ^ 64)) rows

@@ -3,6 +3,7 @@
 
 mod fit;
 mod helper;
+pub mod laws;
 mod layout;
 mod sig;
 mod sigs;
