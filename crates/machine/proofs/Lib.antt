@@ -10,3 +10,4 @@ pub mod Calling
 pub mod Helping
 pub mod Once
 pub mod Ended
+pub mod Agreeing
