@@ -5,14 +5,8 @@ use Rattle.std.specs.Int.{w32, w64, to_le_bytes}
 use Rattle.object.specs.declared.content.Content.{Content}
 use Rattle.object.specs.declared.content.Content.TheVariants.{Value, Tombstone}
 use Rattle.object.specs.declared.content.Sibling.{Sibling}
-use Rattle.abi.specs.declared.kind.HookKind.{HookKind}
-use Rattle.abi.specs.declared.kind.HookKind.TheVariants.{Plain, PreCommit, Resolver}
-
--- a hook's kind as a number
-abbrev pub number_of : HookKind → ℕ
-number_of Plain = 0
-number_of PreCommit = 1
-number_of Resolver = 2
+use Rattle.bpfimage.specs.declared.image.ImageKind.{ImageKind}
+use Rattle.bpfimage.specs.Image.{kind_number}
 
 -- the bytes that a content shows: a tombstone none. Media types aren't shown.
 abbrev pub shown : Content → List ℕ
@@ -35,8 +29,8 @@ contents_shown None siblings = siblings
 contents_shown (Some content) siblings = (record { dot = record { vnode = 0; n = 0 }; content = content }) ∷ siblings
 
 -- a head: the kind, how many rows there are, how many bytes are used, and a zero
-abbrev pub head : HookKind → ℕ → ℕ → List ℕ
-head kind count used = to_le_bytes w32 (number_of kind) ++ to_le_bytes w32 count ++ to_le_bytes w32 used ++ to_le_bytes w32 0
+abbrev pub head : ImageKind → ℕ → ℕ → List ℕ
+head kind count used = to_le_bytes w32 (kind_number kind) ++ to_le_bytes w32 count ++ to_le_bytes w32 used ++ to_le_bytes w32 0
 
 -- a row: vnode, flag, counter, and at which offset its value stands and how long it is
 abbrev pub row : ℕ → Sibling → List ℕ
@@ -60,9 +54,9 @@ abbrev pub used_by : List Sibling → ℕ
 used_by ss = values_at ss + length (values ss)
 
 -- the input's used bytes
-abbrev pub layout : HookKind → List Sibling → List ℕ
+abbrev pub layout : ImageKind → List Sibling → List ℕ
 layout kind ss = head kind (length ss) (used_by ss) ++ rows (values_at ss) ss ++ values ss
 
 -- the whole window: the used bytes, and zeros to its end
-abbrev pub window_of : ℕ → HookKind → List Sibling → List ℕ
+abbrev pub window_of : ℕ → ImageKind → List Sibling → List ℕ
 window_of len kind ss = layout kind ss ++ replicate (len - used_by ss) 0

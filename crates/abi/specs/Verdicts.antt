@@ -1,8 +1,8 @@
 -- What a hook's answer means (this store's profile).
 use Rattle.std.specs.Prelude.{ℕ, ◌+◌, ◌-◌, ◌==◌, nat_lt, nat_le, ◌&&◌, List, length, take, drop, if◌then◌else◌, Result, Ok, Err}
 use Rattle.std.specs.Int.{w32, from_le_bytes}
-use Rattle.abi.specs.declared.kind.HookKind.{HookKind}
-use Rattle.abi.specs.declared.kind.HookKind.TheVariants.{Plain, PreCommit, Resolver}
+use Rattle.bpfimage.specs.declared.image.ImageKind.{ImageKind}
+use Rattle.bpfimage.specs.declared.image.ImageKind.TheVariants.{Plain, PreCommit, Resolver}
 use Rattle.abi.specs.declared.answer.BadAnswer.{BadAnswer}
 use Rattle.abi.specs.declared.answer.BadAnswer.TheVariants.{UnknownCode, LengthPastWindow, NoSuchSibling}
 use Rattle.abi.specs.declared.answer.Verdict.{Verdict}
@@ -38,7 +38,7 @@ abbrev pub sibling_in : ℕ → ℕ → Result Meaning BadAnswer
 sibling_in place count = if nat_lt place count then Ok (Take place) else Err NoSuchSibling
 
 -- the table of verdicts: by the hook's kind and R0, of so many siblings and an output
-abbrev pub verdict_of : HookKind → ℕ → ℕ → List ℕ → Result Meaning BadAnswer
+abbrev pub verdict_of : ImageKind → ℕ → ℕ → List ℕ → Result Meaning BadAnswer
 verdict_of Plain r0 count output = Ok Pass
 verdict_of PreCommit r0 count output =
     if r0 == 0 then Ok Pass

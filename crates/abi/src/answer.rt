@@ -3,7 +3,7 @@
 ghost use Rattle.std.specs.Prelude.{◌≡◌, Result, Ok, Err, MatchResult};
 ghost use Rattle.abi.specs.Verdicts.{meaning_of, sibling_in, value_in, verdict_of};
 
-use crate::kind::HookKind;
+use bpfimage::ImageKind;
 use thiserror::Error;
 
 /// What a hook decided. A written value lies in the output window.
@@ -51,7 +51,7 @@ pub enum BadAnswer {
 /// `count` to 255, and `LengthPastWindow` where it tells a written value and the output is shorter than the value's
 /// length says. It takes no memory.
 pub fn read_answer(
-    kind: HookKind,
+    kind: ImageKind,
     r0: u64,
     count: u32,
     output: &[u8],
@@ -59,11 +59,11 @@ pub fn read_answer(
     ensures { MatchResult result (λ verdict. verdict_of kind r0 count output.now ≡ Ok (meaning_of verdict)) (λ bad. verdict_of kind r0 count output.now ≡ Err bad) }
 {
     match (kind, r0) {
-        (HookKind::Plain, _) | (HookKind::PreCommit, 0) => Ok(Verdict::Pass),
-        (HookKind::PreCommit, 256..=511) => Ok(Verdict::Reject((r0 - 256) as u8)),
-        (HookKind::Resolver, 0) => Ok(Verdict::Keep),
-        (HookKind::Resolver, 2) => Ok(Verdict::Delete),
-        (HookKind::Resolver, 256..=511) => sibling_taken((r0 - 256) as u32, count),
+        (ImageKind::Plain, _) | (ImageKind::PreCommit, 0) => Ok(Verdict::Pass),
+        (ImageKind::PreCommit, 256..=511) => Ok(Verdict::Reject((r0 - 256) as u8)),
+        (ImageKind::Resolver, 0) => Ok(Verdict::Keep),
+        (ImageKind::Resolver, 2) => Ok(Verdict::Delete),
+        (ImageKind::Resolver, 256..=511) => sibling_taken((r0 - 256) as u32, count),
         (_, 1) => written_value(output),
         _ => Err(BadAnswer::UnknownCode),
     }

@@ -4,7 +4,7 @@ ghost use Rattle.std.specs.Prelude.{◌≡◌, ◌≤◌, ◌<◌, ◌+◌, ◌-
 ghost use Rattle.std.specs.Option.{SomeIff, option_copied};
 ghost use Rattle.abi.specs.Input.{contents_shown, flag_of, head, layout, new_shown, row, rows, shown, used_by, values, window_of};
 
-use crate::kind::HookKind;
+use bpfimage::ImageKind;
 use dvv::Dot;
 use object::{Content, Sibling};
 use thiserror::Error;
@@ -32,7 +32,7 @@ pub struct TooLarge;
 /// `TooLarge` where there are over 64 siblings, or the window is shorter than the used bytes; the window is then
 /// unchanged. It takes no memory. A window longer than a `u32` tells isn't asked for (an image's are at most 65,536).
 pub fn fill_input(
-    kind: HookKind,
+    kind: ImageKind,
     new: Option<&Content>,
     siblings: &[Sibling],
     window: &mut [u8],
@@ -90,7 +90,7 @@ fn room_after(siblings: &[Sibling], room: usize) -> Option<usize>
 
 /// Writes the used bytes of an input to the window's front.
 fn write_used(
-    kind: HookKind,
+    kind: ImageKind,
     new: Option<&Content>,
     siblings: &[Sibling],
     used: u32,
@@ -111,12 +111,12 @@ fn write_used(
 }
 
 /// Writes the head to the window's front.
-fn write_head(window: &mut [u8], kind: HookKind, count: u32, used: u32) -> usize
+fn write_head(window: &mut [u8], kind: ImageKind, count: u32, used: u32) -> usize
     requires room { HEAD_LEN ≤ length window.old }
     ensures end { result ≡ HEAD_LEN }
     ensures front { take result window.new ≡ head kind count used }
 {
-    let at = write(window, 0, &kind.number().to_le_bytes());
+    let at = write(window, 0, &u32::from(kind.number()).to_le_bytes());
     let at = write(window, at, &count.to_le_bytes());
     let at = write(window, at, &used.to_le_bytes());
     write(window, at, &[0; 4])

@@ -7,12 +7,10 @@
 
 mod answer;
 mod input;
-mod kind;
 #[cfg(test)]
 mod tests;
 mod written;
 
 pub use answer::{BadAnswer, Verdict, read_answer};
 pub use input::{MAX_SIBLINGS, TooLarge, fill_input};
-pub use kind::HookKind;
 pub use written::octet_stream;

@@ -1,6 +1,7 @@
 //! Worked rows of the hook input, and the table of verdicts.
 
-use crate::{BadAnswer, HookKind, TooLarge, Verdict, fill_input, octet_stream, read_answer};
+use crate::{BadAnswer, TooLarge, Verdict, fill_input, octet_stream, read_answer};
+use bpfimage::ImageKind;
 use dvv::Dot;
 use object::{Bytes, Content, Sibling};
 use std::alloc::{AllocError, Global};
@@ -36,11 +37,11 @@ fn resolver_input(rt: HostRuntime) -> Result<(), Fail> {
         sibling(1, 1, value(alloc, b"b")?),
     ];
     let mut window = [0xff; 80];
-    let used = fill_input(HookKind::Resolver, None, &siblings, &mut window);
+    let used = fill_input(ImageKind::Resolver, None, &siblings, &mut window);
     assert_eq!(rt; used, Ok(66));
     assert_eq!(rt; window.as_slice(), TWO_SIBLINGS.as_slice());
     let mut short = [0xff; 65];
-    let refused = fill_input(HookKind::Resolver, None, &siblings, &mut short);
+    let refused = fill_input(ImageKind::Resolver, None, &siblings, &mut short);
     assert_eq!(rt; refused, Err(TooLarge));
     assert_eq!(rt; short.as_slice(), [0xff; 65].as_slice());
     Ok(())
@@ -64,7 +65,7 @@ fn pre_commit_input(rt: HostRuntime) -> Result<(), Fail> {
         sibling(u32::MAX, 1 << 62, value(alloc, b"ok")?),
     ];
     let mut window = [0xff; 93];
-    let used = fill_input(HookKind::PreCommit, Some(&new), &siblings, &mut window);
+    let used = fill_input(ImageKind::PreCommit, Some(&new), &siblings, &mut window);
     assert_eq!(rt; used, Ok(93));
     assert_eq!(rt; window.as_slice(), NEW_AND_TOMBSTONE.as_slice());
     Ok(())
@@ -75,9 +76,9 @@ fn pre_commit_input(rt: HostRuntime) -> Result<(), Fail> {
 fn smallest_window(rt: HostRuntime) -> Result<(), Fail> {
     let new = value(rt.alloc(), b"a")?;
     let mut window = [0xff; 41];
-    let large = fill_input(HookKind::PreCommit, Some(&new), &[], &mut window[..40]);
+    let large = fill_input(ImageKind::PreCommit, Some(&new), &[], &mut window[..40]);
     assert_eq!(rt; large, Err(TooLarge));
-    let fits = fill_input(HookKind::PreCommit, Some(&new), &[], &mut window);
+    let fits = fill_input(ImageKind::PreCommit, Some(&new), &[], &mut window);
     assert_eq!(rt; fits, Ok(41));
     assert_eq!(rt; window[40], b'a');
     Ok(())
@@ -91,11 +92,11 @@ fn most_siblings(rt: HostRuntime) -> Result<(), Fail> {
         siblings.push(sibling(0, n, Content::Tombstone))?;
     }
     let mut window = [0xff; 2000];
-    let used = fill_input(HookKind::Resolver, None, &siblings, &mut window);
+    let used = fill_input(ImageKind::Resolver, None, &siblings, &mut window);
     assert_eq!(rt; used, Ok(16 + 24 * 64));
     siblings.push(sibling(0, 65, Content::Tombstone))?;
     let mut again = [0xff; 2000];
-    let large = fill_input(HookKind::Resolver, None, &siblings, &mut again);
+    let large = fill_input(ImageKind::Resolver, None, &siblings, &mut again);
     assert_eq!(rt; large, Err(TooLarge));
     assert_eq!(rt; again[0], 0xff);
     Ok(())
@@ -110,9 +111,9 @@ fn verdicts(rt: HostRuntime) {
     let huge: &[u8] = &[0xff, 0xff, 0xff, 0xff, b'o', b'k', b'!'];
     let cut: &[u8] = &[0, 0, 0];
     let empty: &[u8] = &[0, 0, 0, 0];
-    let plain = HookKind::Plain;
-    let before = HookKind::PreCommit;
-    let resolver = HookKind::Resolver;
+    let plain = ImageKind::Plain;
+    let before = ImageKind::PreCommit;
+    let resolver = ImageKind::Resolver;
     let table = [
         (plain, 0, none, Ok(Verdict::Pass)),
         (plain, 1, none, Ok(Verdict::Pass)),
@@ -148,9 +149,6 @@ fn verdicts(rt: HostRuntime) {
     ];
     for (kind, r0, output, want) in table {
         assert_eq!(rt; read_answer(kind, r0, 2, output), want, "{kind:?} {r0}");
-    }
-    for (kind, number) in [(plain, 0), (before, 1), (resolver, 2)] {
-        assert_eq!(rt; kind.number(), number);
     }
 }
 

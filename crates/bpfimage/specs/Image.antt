@@ -12,7 +12,7 @@ use Rattle.bpfimage.specs.declared.image.ImageKind.TheVariants.{Plain, PreCommit
 use Rattle.bpfimage.specs.declared.image.ImageFault.{ImageFault}
 use Rattle.bpfimage.specs.declared.image.ImageFault.TheVariants.{Short, Mark, Version, Kind, Window, Code, NoMemory}
 
--- the byte of a kind
+-- a kind's number: its byte in an image, and its word in a hook's input
 abbrev pub kind_number : ImageKind → ℕ
 kind_number Plain = 0
 kind_number PreCommit = 1

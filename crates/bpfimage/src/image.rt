@@ -77,6 +77,17 @@ impl ImageKind {
     ghost use Rattle.std.specs.Prelude.{◌≡◌, ◌<◌, ◌↔◌, IfSome, IsNone};
     ghost use Rattle.bpfimage.specs.Image.{kind_number};
 
+    /// The kind's number, in an image and in a hook's input: 0, 1 or 2.
+    pub fn number(self) -> u8
+        ensures { result ≡ kind_number self }
+    {
+        match self {
+            ImageKind::Plain => 0,
+            ImageKind::PreCommit => 1,
+            ImageKind::Resolver => 2,
+        }
+    }
+
     /// The kind of this number.
     pub fn from_number(number: u8) -> Option<ImageKind>
         ensures found { IfSome result (λ kind. number ≡ kind_number kind) }

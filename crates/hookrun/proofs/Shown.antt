@@ -4,14 +4,14 @@ use Rattle.std.proofs.lemmas.List.{length-replicate, drop_at}
 use Rattle.memory.specs.Step.{AreBytes, IsInput, instruction_count}
 use Rattle.object.specs.declared.content.Content.{Content}
 use Rattle.object.specs.declared.content.Sibling.{Sibling}
-use Rattle.abi.specs.declared.kind.HookKind.{HookKind}
+use Rattle.bpfimage.specs.declared.image.ImageKind.{ImageKind}
 use Rattle.abi.specs.declared.answer.BadAnswer.{BadAnswer}
 use Rattle.abi.specs.Input.{contents_shown, used_by, window_of}
 use Rattle.abi.specs.Verdicts.{Meaning, verdict_of}
 use Rattle.helpers.specs.Calls.{calls_of}
 use Rattle.verifier.specs.Program.{Program}
 use Rattle.machine.specs.Running.{EndsWith}
-use Rattle.hookrun.specs.Decisions.{hook_kind, IsVerdict}
+use Rattle.hookrun.specs.Decisions.{IsVerdict}
 
 -- bytes and zeros behind them, where the bytes are as many as are said to be used
 zeros_behind : (len used : ℕ) (front window : List ℕ) → length window ≡ len → used ≤ len → window ≡ front ++ replicate (len - used) 0 → drop used window ≡ replicate (len - used) 0
@@ -33,13 +33,13 @@ ok_with (Ok a) p q s f = f a p q s
 ok_with (Err e) p q s f = tt
 
 -- a run on what was shown, and what the table of verdicts says of it
-pub ruled : (p : Program) (new : Option Content) (siblings : List Sibling) (told : Result Meaning BadAnswer) (len used steps answer count : ℕ) (kind : HookKind) (window output : List ℕ)
-    → kind ≡ hook_kind p.kind → len ≡ p.in_len → length siblings ≤ 64 → used_by (contents_shown new siblings) ≤ len → used ≡ used_by (contents_shown new siblings)
+pub ruled : (p : Program) (new : Option Content) (siblings : List Sibling) (told : Result Meaning BadAnswer) (len used steps answer count : ℕ) (kind : ImageKind) (window output : List ℕ)
+    → kind ≡ p.kind → len ≡ p.in_len → length siblings ≤ 64 → used_by (contents_shown new siblings) ≤ len → used ≡ used_by (contents_shown new siblings)
     → window ≡ window_of len kind (contents_shown new siblings) → EndsWith (calls_of p.sigs) p.code window used p.out_len steps answer output → steps ≤ instruction_count p.code
     → count ≡ length siblings → verdict_of kind answer count output ≡ told → IsVerdict p new siblings told
 ruled p new siblings told len used steps answer count kind window output is_kind is_len few fits is_used shown ends short counted says =
     let ss = contents_shown new siblings in
-    let full : window ≡ window_of p.in_len (hook_kind p.kind) ss = shown ∙ ap (λ n. window_of n kind ss) is_len ∙ ap (λ k. window_of p.in_len k ss) is_kind in (
+    let full : window ≡ window_of p.in_len p.kind ss = shown ∙ ap (λ n. window_of n kind ss) is_len ∙ ap (λ k. window_of p.in_len k ss) is_kind in (
       (few, subst (λ n. used_by ss ≤ n) is_len fits),
       (
         answer,

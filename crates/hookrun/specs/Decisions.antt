@@ -1,8 +1,6 @@
 -- What a hook decides: from the siblings of a key to the verdict of a run on their layout (this store's profile).
 use Rattle.std.specs.Prelude.{◌≡◌, ℕ, ◌<◌, ◌≤◌, ◌⊎◌, List, length, Option, Result, Ok, Err}
 use Rattle.memory.specs.Step.{instruction_count}
-use Rattle.bpfimage.specs.declared.image.ImageKind.{ImageKind}
-use Rattle.bpfimage.specs.declared.image.ImageKind.TheVariants as image
 use Rattle.helpers.specs.declared.sig.Entry.{Entry}
 use Rattle.helpers.specs.Entries.{AgreesWith}
 use Rattle.helpers.specs.Calls.{calls_of}
@@ -10,19 +8,11 @@ use Rattle.verifier.specs.Program.{Program}
 use Rattle.machine.specs.Running.{EndsWith}
 use Rattle.object.specs.declared.content.Content.{Content}
 use Rattle.object.specs.declared.content.Sibling.{Sibling}
-use Rattle.abi.specs.declared.kind.HookKind.{HookKind}
-use Rattle.abi.specs.declared.kind.HookKind.TheVariants as hook
 use Rattle.abi.specs.declared.answer.BadAnswer.{BadAnswer}
 use Rattle.abi.specs.Input.{contents_shown, used_by, window_of}
 use Rattle.abi.specs.Verdicts.{Meaning, verdict_of}
 use Rattle.hookrun.specs.declared.deciding.RunFault.{RunFault}
 use Rattle.hookrun.specs.declared.deciding.RunFault.TheVariants.{Disagrees, TooLarge, Bad, NoMemory}
-
--- what a program of an image is run for
-abbrev pub hook_kind : ImageKind → HookKind
-hook_kind image.Plain = hook.Plain
-hook_kind image.PreCommit = hook.PreCommit
-hook_kind image.Resolver = hook.Resolver
 
 module _ (p : Program) (new : Option Content) (siblings : List Sibling) where
   -- how many bytes of the input show the contents
@@ -40,11 +30,11 @@ module _ (p : Program) (new : Option Content) (siblings : List Sibling) where
   pub record IsRun (answer : ℕ) (output : List ℕ) : Type 0 where
     pub steps : ℕ
     pub short : steps ≤ instruction_count p.code
-    pub ends : EndsWith (calls_of p.sigs) p.code (window_of p.in_len (hook_kind p.kind) (contents_shown new siblings)) used p.out_len steps answer output
+    pub ends : EndsWith (calls_of p.sigs) p.code (window_of p.in_len p.kind (contents_shown new siblings)) used p.out_len steps answer output
 
   -- what the table of verdicts says of such a run
   abbrev pub IsVerdict : Result Meaning BadAnswer → Type 0
-  IsVerdict told = HasRoom × ((answer : ℕ) × (output : List ℕ) × IsRun answer output × (verdict_of (hook_kind p.kind) answer (length siblings) output ≡ told))
+  IsVerdict told = HasRoom × ((answer : ℕ) × (output : List ℕ) × IsRun answer output × (verdict_of p.kind answer (length siblings) output ≡ told))
 
   -- what a hook decides: the verdict of a run, or that the input is too large, or that the answer has no meaning; or memory ran out
   abbrev pub IsRuling : Result Meaning RunFault → Type 0

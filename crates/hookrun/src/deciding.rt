@@ -6,9 +6,9 @@ ghost use Rattle.memory.specs.Step.{IsInput};
 ghost use Rattle.abi.specs.Input.{contents_shown, used_by, window_of};
 ghost use Rattle.helpers.specs.Entries.{AgreesWith};
 ghost use Rattle.abi.specs.Verdicts.{meaning_of};
-ghost use Rattle.hookrun.specs.Decisions.{hook_kind, IsDecision, IsRuling};
+ghost use Rattle.hookrun.specs.Decisions.{IsDecision, IsRuling};
 
-use abi::{BadAnswer, HookKind, TooLarge, Verdict, fill_input, read_answer};
+use abi::{BadAnswer, TooLarge, Verdict, fill_input, read_answer};
 use bpfimage::ImageKind;
 use helpers::Table;
 use machine::run;
@@ -43,17 +43,6 @@ impl Room {
             input: Vec::new(alloc),
             output: Vec::new(alloc),
         }
-    }
-}
-
-/// What the program of an image is run for.
-pub fn hook_kind(kind: ImageKind) -> HookKind
-    ensures { result ≡ hook_kind kind }
-{
-    match kind {
-        ImageKind::Plain => HookKind::Plain,
-        ImageKind::PreCommit => HookKind::PreCommit,
-        ImageKind::Resolver => HookKind::Resolver,
     }
 }
 
@@ -108,7 +97,7 @@ fn rule<'a>(
     requires output { output.old ≡ replicate hook.now.out_len 0 }
     ensures { MatchResult result (λ verdict. IsRuling hook.now (option_copied new.entry) siblings.now (Ok (meaning_of verdict))) (λ fault. IsRuling hook.now (option_copied new.entry) siblings.now (Err fault)) }
 {
-    let kind = hook_kind(hook.image().kind);
+    let kind = hook.image().kind;
     let Ok(used) = show(kind, new, siblings, input) else {
         return Err(RunFault::TooLarge);
     };
@@ -121,7 +110,7 @@ fn rule<'a>(
 
 /// Lays out in the whole window what a hook reads, and answers how many bytes are used.
 fn show(
-    kind: HookKind,
+    kind: ImageKind,
     new: Option<&Content>,
     siblings: &[Sibling],
     window: &mut [u8],

@@ -6,5 +6,5 @@ pub mod image;
 #[cfg(test)]
 mod tests;
 
-pub use deciding::{Room, RunFault, decide, hook_kind};
+pub use deciding::{Room, RunFault, decide};
 pub use image::{Undecided, decide_image};
