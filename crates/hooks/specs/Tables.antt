@@ -8,7 +8,7 @@ use Rattle.std.specs.Arc.{arc_value}
 use Rattle.bpfimage.specs.declared.image.ImageKind.{ImageKind}
 use Rattle.verifier.specs.Program.{Program}
 use Rattle.hooks.specs.declared.bindings.Bindings.{Bindings}
-use Rattle.hooks.specs.declared.fault.HookFault.{HookFault}
+use Rattle.hooks.specs.declared.fault.NotSeen.{NotSeen}
 use Rattle.hooks.specs.Bindings.{bound_if}
 use Rattle.hooks.specs.Changes.{Change, bound_at, hook_named, is_name, name_after, program_after, program_at}
 
@@ -40,6 +40,6 @@ pub record ChangesBy (old new : Shown) (change : Change) : Type 0 where
   pub names : (bucket : List ℕ) (kind : ImageKind) → bound_in new.bindings bucket kind ≡ name_after bucket kind (bound_in old.bindings bucket kind) change
 
 -- what a look-up answered, without where the program lies
-abbrev pub programs_of : Result (Option (Arc Program Global)) HookFault → Result (Option Program) HookFault
+abbrev pub programs_of : Result (Option (Arc Program Global)) NotSeen → Result (Option Program) NotSeen
 programs_of (Ok hook) = Ok (option_map arc_value hook)
 programs_of (Err fault) = Err fault

@@ -1,4 +1,4 @@
-//! Why a registry isn't changed or seen.
+//! Why a registry isn't changed, and why a look-up answers nothing.
 
 ghost use Rattle.std.specs.Prelude.{◌≡◌};
 ghost use Rattle.hooks.specs.declared.fault.HookFault.TheVariants.{NoMemory};
@@ -6,7 +6,7 @@ ghost use Rattle.hooks.specs.declared.fault.HookFault.TheVariants.{NoMemory};
 use std::alloc::{AllocError, AllocFailed};
 use thiserror::Error;
 
-/// Why a registry isn't changed or seen. It is shown as its number.
+/// Why a registry isn't changed. It is shown as its number.
 #[derive(Clone, Copy, Debug, PartialEq, Eq, Drop, Error)]
 pub enum HookFault {
     /// No program has the name.
@@ -15,9 +15,6 @@ pub enum HookFault {
     /// The program of a name is of another kind.
     #[error("G2")]
     KindDiffers,
-    /// The registry can't be seen now, or the program can have no further owner.
-    #[error("G3")]
-    NotSeen,
     /// Memory ran out.
     #[error("E1")]
     NoMemory,
@@ -36,5 +33,32 @@ impl<T: Drop> From<AllocFailed<T>> for HookFault {
 
     fn from(_error: AllocFailed<T>) -> HookFault {
         HookFault::NoMemory
+    }
+}
+
+/// Why a look-up of a hook answers nothing: the registry can't be seen now, or the program can have no further owner. It is
+/// shown as its number.
+#[derive(Clone, Copy, Debug, PartialEq, Eq, Drop, Error)]
+#[error("G3")]
+pub struct NotSeen;
+
+/// Why a look-up of a bound name answers nothing. It is shown as its number.
+#[derive(Clone, Copy, Debug, PartialEq, Eq, Drop, Error)]
+pub enum NameFault {
+    /// The registry can't be seen now.
+    #[error("G3")]
+    NotSeen,
+    /// Memory ran out.
+    #[error("E1")]
+    NoMemory,
+}
+
+impl From<AllocError> for NameFault {
+    ghost use Rattle.hooks.specs.declared.fault.NameFault.TheVariants as name;
+
+    ghost from_gives = { λ _ fault. fault ≡ name.NoMemory };
+
+    fn from(_error: AllocError) -> NameFault {
+        NameFault::NoMemory
     }
 }

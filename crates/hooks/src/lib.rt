@@ -9,6 +9,6 @@ mod registry;
 #[cfg(test)]
 mod tests;
 
-pub use fault::HookFault;
+pub use fault::{HookFault, NameFault, NotSeen};
 pub use lookup::Hooks;
 pub use registry::Registry;

@@ -1,13 +1,14 @@
 //! Where hooks are looked up.
 
-ghost use Rattle.std.specs.Prelude.{◌≡◌, ℕ, List, Option, Result, MatchResult};
+ghost use Rattle.std.specs.Prelude.{◌≡◌, ℕ, List, Option, Result, IfOk, MatchResult};
 ghost use Rattle.bpfimage.specs.declared.image.ImageKind.{ImageKind as Kind};
 ghost use Rattle.verifier.specs.Program.{Program};
-ghost use Rattle.hooks.specs.declared.fault.HookFault.{HookFault as Fault};
-ghost use Rattle.hooks.specs.declared.fault.HookFault.TheVariants.{NoMemory, NotSeen};
+ghost use Rattle.hooks.specs.declared.fault.NotSeen.{NotSeen as Unseen};
+ghost use Rattle.hooks.specs.declared.fault.NameFault.{NameFault as Fault};
+ghost use Rattle.hooks.specs.declared.fault.NameFault.TheVariants.{NoMemory};
 ghost use Rattle.hooks.specs.Tables.{bound_in, hook_in, programs_of};
 
-use crate::fault::HookFault;
+use crate::fault::{NameFault, NotSeen};
 use crate::registry::Registry;
 use bpfimage::ImageKind;
 use object::Bytes;
@@ -18,26 +19,22 @@ use verifier::Verified;
 /// before and after.
 pub trait Hooks {
     /// A look-up of a hook may come back so.
-    ghost finds: { Self → List ℕ → Kind → Result (Option Program) Fault → Self → Type 0 };
+    ghost finds: { Self → List ℕ → Kind → Result (Option Program) Unseen → Self → Type 0 };
 
     /// A look-up of a bound name may come back so.
     ghost names: { Self → List ℕ → Kind → Result (Option (List ℕ)) Fault → Self → Type 0 };
 
     /// The program that is bound to a bucket and a kind.
-    fn hook_of(
-        &mut self,
-        bucket: &Bytes,
-        kind: ImageKind,
-    ) -> Result<Option<Arc<Verified>>, HookFault>
+    fn hook_of(&mut self, bucket: &Bytes, kind: ImageKind) -> Result<Option<Arc<Verified>>, NotSeen>
         ensures { finds self.old bucket.now kind (programs_of result) self.new };
 
     /// The name that is bound to a bucket and a kind.
-    fn bound(&mut self, bucket: &Bytes, kind: ImageKind) -> Result<Option<Bytes>, HookFault>
+    fn bound(&mut self, bucket: &Bytes, kind: ImageKind) -> Result<Option<Bytes>, NameFault>
         ensures { names self.old bucket.now kind result self.new };
 }
 
 impl Hooks for Registry {
-    ghost finds = { λ before bucket kind answer after. (after ≡ before) × MatchResult answer (λ hook. hook ≡ hook_in before bucket kind) (λ fault. fault ≡ NotSeen) };
+    ghost finds = { λ before bucket kind answer after. (after ≡ before) × IfOk answer (λ hook. hook ≡ hook_in before bucket kind) };
 
     ghost names = { λ before bucket kind answer after. (after ≡ before) × MatchResult answer (λ name. name ≡ bound_in before.bindings bucket kind) (λ fault. fault ≡ NoMemory) };
 
@@ -45,11 +42,11 @@ impl Hooks for Registry {
         &mut self,
         bucket: &Bytes,
         kind: ImageKind,
-    ) -> Result<Option<Arc<Verified>>, HookFault> {
+    ) -> Result<Option<Arc<Verified>>, NotSeen> {
         Registry::hook_of(self, bucket, kind)
     }
 
-    fn bound(&mut self, bucket: &Bytes, kind: ImageKind) -> Result<Option<Bytes>, HookFault> {
-        Registry::bound(self, bucket, kind)
+    fn bound(&mut self, bucket: &Bytes, kind: ImageKind) -> Result<Option<Bytes>, NameFault> {
+        Ok(Registry::bound(self, bucket, kind)?)
     }
 }

@@ -10,7 +10,7 @@ ghost use Rattle.hooks.specs.Bindings.{bound_by, bound_if};
 ghost use Rattle.hooks.specs.Tables.{ChangesBy, Shows, bound_in, hook_in, program_in};
 
 use crate::bindings::{Bindings, copy_of};
-use crate::fault::HookFault;
+use crate::fault::{HookFault, NotSeen};
 use bpfimage::ImageKind;
 use object::Bytes;
 use std::alloc::{AllocError, Global};
@@ -81,7 +81,6 @@ impl Registry {
         ensures ok { OnOk result (ChangesBy self.old self.new (Bind bucket.now bindings.now)) }
         ensures unknown { result ≡ Err HookFault.NameUnknown ↔ (are_known (program_in self.old.programs) bindings.now ≡ false) }
         ensures differs { result ≡ Err HookFault.KindDiffers ↔ ((are_known (program_in self.old.programs) bindings.now ≡ true) × (are_fitting (program_in self.old.programs) bindings.now ≡ false)) }
-        ensures seen { result ≢ Err HookFault.NotSeen }
         ensures err { OnErr result (self.new ≡ self.old) }
     {
         if !are_known(&self.programs, bindings) {
@@ -97,12 +96,8 @@ impl Registry {
 
     /// The program that is bound to a bucket and a kind: none where none is bound, its name is gone, or its program is
     /// now of another kind. It takes no memory; `NotSeen` where the program can have no further owner.
-    pub fn hook_of(
-        &self,
-        bucket: &Bytes,
-        kind: ImageKind,
-    ) -> Result<Option<Arc<Verified>>, HookFault>
-        ensures { MatchResult result (λ hook. option_map arc_value hook ≡ hook_in self.now bucket.now kind) (λ fault. fault ≡ HookFault.NotSeen) }
+    pub fn hook_of(&self, bucket: &Bytes, kind: ImageKind) -> Result<Option<Arc<Verified>>, NotSeen>
+        ensures { IfOk result (λ hook. option_map arc_value hook ≡ hook_in self.now bucket.now kind) }
     {
         let Some(bindings) = self.bindings.get(bucket) else {
             return Ok(None);
@@ -114,14 +109,11 @@ impl Registry {
     }
 
     /// The name that is bound to a bucket and a kind.
-    pub fn bound(&self, bucket: &Bytes, kind: ImageKind) -> Result<Option<Bytes>, HookFault>
-        ensures { MatchResult result (λ name. name ≡ bound_in self.now.bindings bucket.now kind) (λ fault. fault ≡ HookFault.NoMemory) }
+    pub fn bound(&self, bucket: &Bytes, kind: ImageKind) -> Result<Option<Bytes>, AllocError>
+        ensures { IfOk result (λ name. name ≡ bound_in self.now.bindings bucket.now kind) }
     {
         match self.bindings.get(bucket) {
-            Some(bindings) => match copy_of(bindings.bound(kind)) {
-                Ok(name) => Ok(name),
-                Err(_) => Err(HookFault::NoMemory),
-            },
+            Some(bindings) => copy_of(bindings.bound(kind)),
             None => Ok(None),
         }
     }
@@ -131,13 +123,13 @@ impl Registry {
 fn shared(
     program: Option<&Arc<Verified>>,
     kind: ImageKind,
-) -> Result<Option<Arc<Verified>>, HookFault>
-    ensures { MatchResult result (λ hook. option_map arc_value hook ≡ of_kind kind (option_map arc_value (option_copied program.entry))) (λ fault. fault ≡ HookFault.NotSeen) }
+) -> Result<Option<Arc<Verified>>, NotSeen>
+    ensures { IfOk result (λ hook. option_map arc_value hook ≡ of_kind kind (option_map arc_value (option_copied program.entry))) }
 {
     match program {
         Some(program) if is_of_kind(program, kind) => match Arc::try_clone(program) {
             Ok(program) => Ok(Some(program)),
-            Err(_) => Err(HookFault::NotSeen),
+            Err(_) => Err(NotSeen),
         },
         _ => Ok(None),
     }

@@ -1,6 +1,6 @@
 //! Changes of a registry, and what it then shows.
 
-use crate::{HookFault, Hooks, Registry};
+use crate::{HookFault, Hooks, NameFault, NotSeen, Registry};
 use bpfimage::{ImageKind, read_image};
 use helpers::Sigs;
 use object::Bytes;
@@ -33,7 +33,7 @@ fn kind_of(
     registry: &Registry,
     bucket: &Bytes,
     kind: ImageKind,
-) -> Result<Option<ImageKind>, HookFault> {
+) -> Result<Option<ImageKind>, NotSeen> {
     match registry.hook_of(bucket, kind)? {
         Some(program) => Ok(Some(program.image().kind)),
         None => Ok(None),
@@ -91,9 +91,12 @@ fn refused_bindings(rt: HostRuntime) -> Result<(), Fail> {
     for (fault, want) in [
         (HookFault::NameUnknown, "G1"),
         (HookFault::KindDiffers, "G2"),
-        (HookFault::NotSeen, "G3"),
         (HookFault::NoMemory, "E1"),
     ] {
+        assert_eq!(rt; format!(in alloc; "{fault}")?.as_str(), want);
+    }
+    assert_eq!(rt; format!(in alloc; "{}", NotSeen)?.as_str(), "G3");
+    for (fault, want) in [(NameFault::NotSeen, "G3"), (NameFault::NoMemory, "E1")] {
         assert_eq!(rt; format!(in alloc; "{fault}")?.as_str(), want);
     }
     Ok(())
