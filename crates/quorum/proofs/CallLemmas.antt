@@ -2,9 +2,9 @@
 use Rattle.std.proofs.Common.{◌≡◌, ℕ, ◌≤◌, ◌<◌, List, [], ◌∷◌, ◌++◌, length, length-append, get_or, refl, ap, sym, ◌∙◌, subst, arith, Result, Ok, Err}
 use Rattle.std.proofs.lemmas.List.{append-nil}
 use Rattle.object.specs.declared.content.Key.{Key}
-use Rattle.quorum.specs.declared.peers.Answer.{Answer}
-use Rattle.quorum.specs.declared.fault.PeerFault.{PeerFault}
-use Rattle.quorum.specs.Calls.{Call, StateOf, Made}
+use Rattle.peers.specs.declared.peers.Answer.{Answer}
+use Rattle.peers.specs.declared.fault.PeerFault.{PeerFault}
+use Rattle.peers.specs.Calls.{Call, StateOf, Made}
 use Rattle.quorum.specs.Gets.{reads, answers}
 
 pub made_end : {S : Type 0} (happens : S → Call → S → Type 0) (a b c : S) (calls : List Call) (call : Call) → Made happens a calls b → happens b call c → Made happens a (calls ++ call ∷ []) c

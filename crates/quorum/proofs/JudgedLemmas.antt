@@ -12,10 +12,10 @@ use Rattle.hookrun.specs.declared.deciding.RunFault.TheVariants.{Disagrees, TooL
 use Rattle.hooks.specs.declared.fault.HookFault.{HookFault}
 use Rattle.quorum.specs.declared.fault.QuorumFault.{QuorumFault}
 use Rattle.quorum.specs.declared.fault.QuorumFault.TheVariants.{TooFew}
-use Rattle.quorum.specs.declared.peers.Answer.{Answer}
-use Rattle.quorum.specs.declared.fault.PeerFault.{PeerFault}
-use Rattle.quorum.specs.Calls.{Call, StateOf}
-use Rattle.quorum.specs.Counts.{has_failed}
+use Rattle.peers.specs.declared.peers.Answer.{Answer}
+use Rattle.peers.specs.declared.fault.PeerFault.{PeerFault}
+use Rattle.peers.specs.Calls.{Call, StateOf}
+use Rattle.peers.specs.Counts.{has_failed}
 use Rattle.quorum.specs.Judged.{Judges, AfterSiblings, IsJudgedPut}
 use Rattle.quorum.proofs.RisenLemmas.{few_put}
 

@@ -1,6 +1,5 @@
 pub mod CallLemmas
 pub mod JudgedLemmas
-pub mod LocalLemmas
 pub mod MergeLemmas
 pub mod PutLemmas
 pub mod ResolveLemmas

@@ -1,7 +1,7 @@
 -- The states of the first answers, and of one more.
 use Rattle.std.proofs.Common.{◌≡◌, ℕ, zero, suc, ◌+◌, ◌<◌, List, [], ◌∷◌, ◌++◌, length, take, drop, get_or, ap, sym, ◌∙◌, arith}
 use Rattle.std.proofs.lemmas.List.{map-append, take_more}
-use Rattle.quorum.specs.declared.peers.Answer.{Answer}
+use Rattle.peers.specs.declared.peers.Answer.{Answer}
 use Rattle.quorum.specs.Gets.{states_of}
 
 pub states_more : (found : List Answer) (i : ℕ) (a : Answer) → i < length found → a ≡ get_or found i a → states_of (take (i + 1) found) ≡ states_of (take i found) ++ a.state ∷ []

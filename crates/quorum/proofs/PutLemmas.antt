@@ -7,9 +7,9 @@ use Rattle.quorum.specs.declared.fault.QuorumFault.{QuorumFault}
 use Rattle.quorum.specs.declared.fault.QuorumFault.TheVariants.{TooFew}
 use Rattle.object.specs.declared.content.Content.{Content}
 use Rattle.object.specs.declared.content.Key.{Key}
-use Rattle.quorum.specs.declared.peers.Answer.{Answer}
-use Rattle.quorum.specs.declared.fault.PeerFault.{PeerFault}
-use Rattle.quorum.specs.Calls.{Call, MergeAt, StateOf, Made}
+use Rattle.peers.specs.declared.peers.Answer.{Answer}
+use Rattle.peers.specs.declared.fault.PeerFault.{PeerFault}
+use Rattle.peers.specs.Calls.{Call, MergeAt, StateOf, Made}
 use Rattle.quorum.specs.Puts.{Brought, PassedOver, Merged, gathers, merges, copies, is_ahead, TriesAgain, AfterPut, AfterFirst}
 use Rattle.quorum.proofs.CallLemmas.{made_end, made_append}
 

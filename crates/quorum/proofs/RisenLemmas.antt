@@ -8,10 +8,10 @@ use Rattle.object.specs.declared.content.Content.{Content}
 use Rattle.object.specs.declared.content.Key.{Key}
 use Rattle.quorum.specs.declared.fault.QuorumFault.{QuorumFault}
 use Rattle.quorum.specs.declared.fault.QuorumFault.TheVariants.{TooFew}
-use Rattle.quorum.specs.declared.peers.Answer.{Answer}
-use Rattle.quorum.specs.declared.fault.PeerFault.{PeerFault}
-use Rattle.quorum.specs.Calls.{Call, PutAt, StateOf, Made}
-use Rattle.quorum.specs.Counts.{has_failed, Counts, HasRisen}
+use Rattle.peers.specs.declared.peers.Answer.{Answer}
+use Rattle.peers.specs.declared.fault.PeerFault.{PeerFault}
+use Rattle.peers.specs.Calls.{Call, PutAt, StateOf, Made}
+use Rattle.peers.specs.Counts.{has_failed, Counts, HasRisen}
 use Rattle.quorum.specs.Gets.{reads, answers}
 use Rattle.quorum.specs.Puts.{merges, copies, AfterRead, AfterPut, AfterFirst, IsPut}
 

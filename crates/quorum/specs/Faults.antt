@@ -2,7 +2,7 @@
 use Rattle.object.specs.declared.fault.MergeFault as merge
 use Rattle.vnode.specs.declared.fault.VnodeFault as vnode
 use Rattle.hookrun.specs.declared.deciding.RunFault as run
-use Rattle.quorum.specs.declared.fault.PeerFault as peer
+use Rattle.peers.specs.declared.fault.PeerFault as peer
 use Rattle.quorum.specs.declared.fault.QuorumFault as quorum
 
 -- what came of a get can't be merged

@@ -7,11 +7,11 @@ use Rattle.object.specs.State.{State}
 use Rattle.object.specs.Known.{Write, Shows}
 use Rattle.journal.specs.Replay.{IsMergeOf}
 use Rattle.vnode.specs.declared.fault.VnodeFault.TheVariants.{MergedClockFull, NoMemory}
-use Rattle.quorum.specs.declared.peers.Answer.{Answer}
-use Rattle.quorum.specs.declared.fault.PeerFault.{PeerFault}
+use Rattle.peers.specs.declared.peers.Answer.{Answer}
+use Rattle.peers.specs.declared.fault.PeerFault.{PeerFault}
 use Rattle.quorum.specs.declared.fault.QuorumFault.{QuorumFault}
 use Rattle.quorum.specs.declared.fault.QuorumFault.TheVariants.{TooFew, Refused, Unseen, Disagrees, TooLarge, BadVerdict, Rejected}
-use Rattle.quorum.specs.Calls.{Call, StateOf}
+use Rattle.peers.specs.Calls.{Call, StateOf}
 
 -- a read at each of these vnodes, in order, with what came back from each
 abbrev pub reads : Key → List ℕ → List (Result Answer PeerFault) → List Call

@@ -13,12 +13,12 @@ use Rattle.abi.specs.Written.{octet_stream}
 use Rattle.hookrun.specs.declared.deciding.RunFault.{RunFault}
 use Rattle.hookrun.specs.Decisions.{IsDecision}
 use Rattle.hooks.specs.declared.fault.HookFault.{HookFault}
-use Rattle.quorum.specs.declared.peers.Answer.{Answer}
-use Rattle.quorum.specs.declared.fault.PeerFault.{PeerFault}
+use Rattle.peers.specs.declared.peers.Answer.{Answer}
+use Rattle.peers.specs.declared.fault.PeerFault.{PeerFault}
 use Rattle.quorum.specs.declared.fault.QuorumFault.{QuorumFault}
 use Rattle.quorum.specs.declared.fault.QuorumFault.TheVariants.{Refused, Unseen, BadVerdict, Rejected}
 use Rattle.quorum.specs.Faults.{fault_of, fault_of_run}
-use Rattle.quorum.specs.Calls.{Call, StateOf}
+use Rattle.peers.specs.Calls.{Call, StateOf}
 use Rattle.quorum.specs.Puts.{IsPut}
 
 -- a content with the value that a hook wrote: its media type is kept, and a tombstone becomes a value of application/octet-stream

@@ -4,13 +4,13 @@ use Rattle.dvv.specs.declared.Dot.{Dot}
 use Rattle.object.specs.declared.content.Key.{Key}
 use Rattle.object.specs.declared.content.Content.{Content}
 use Rattle.vnode.specs.declared.fault.VnodeFault.TheVariants.{ContextAhead, TooManySiblings, ClockFull, MergedClockFull, JournalFull, NoMemory}
-use Rattle.quorum.specs.declared.peers.Answer.{Answer}
-use Rattle.quorum.specs.declared.fault.PeerFault.{PeerFault}
-use Rattle.quorum.specs.declared.fault.PeerFault.TheVariants.{Lost, Refused}
+use Rattle.peers.specs.declared.peers.Answer.{Answer}
+use Rattle.peers.specs.declared.fault.PeerFault.{PeerFault}
+use Rattle.peers.specs.declared.fault.PeerFault.TheVariants.{Lost, Refused}
 use Rattle.quorum.specs.declared.fault.QuorumFault.{QuorumFault}
 use Rattle.quorum.specs.declared.fault.QuorumFault.TheVariants.{TooFew}
 use Rattle.quorum.specs.Faults.{fault_of}
-use Rattle.quorum.specs.Calls.{Call, PutAt, MergeAt, StateOf}
+use Rattle.peers.specs.Calls.{Call, PutAt, MergeAt, StateOf}
 
 -- what came of bringing one vnode's state to the coordinator: its read failed and is passed over, or the state was merged, whatever that gave
 pub data Brought : Type 0 where

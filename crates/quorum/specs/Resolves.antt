@@ -13,11 +13,11 @@ use Rattle.abi.specs.Verdicts.{Meaning, Pass, Write, Reject, Keep, Delete, Take}
 use Rattle.hookrun.specs.declared.deciding.RunFault.{RunFault}
 use Rattle.hookrun.specs.Decisions.{IsDecision}
 use Rattle.hooks.specs.declared.fault.HookFault.{HookFault}
-use Rattle.quorum.specs.declared.peers.Answer.{Answer}
-use Rattle.quorum.specs.declared.fault.PeerFault.{PeerFault}
+use Rattle.peers.specs.declared.peers.Answer.{Answer}
+use Rattle.peers.specs.declared.fault.PeerFault.{PeerFault}
 use Rattle.quorum.specs.declared.hooking.Choice.{Choice}
 use Rattle.quorum.specs.declared.hooking.Choice.TheVariants as choice
-use Rattle.quorum.specs.Calls.{Call, PutAt, MergeAt, StateOf}
+use Rattle.peers.specs.Calls.{Call, PutAt, MergeAt, StateOf}
 use Rattle.abi.specs.Written.{octet_stream}
 
 -- whether an answer is another vnode's: an identifier's index is what it leaves of 65,536

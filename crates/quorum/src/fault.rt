@@ -1,4 +1,4 @@
-//! Why a call on a vnode, a get or a put gives no answer.
+//! Why a get or a put gives no answer.
 
 use abi::BadAnswer;
 use hookrun::RunFault;
@@ -7,17 +7,6 @@ use object::MergeFault;
 use std::alloc::AllocError;
 use thiserror::Error;
 use vnode::VnodeFault;
-
-/// Why a call on a vnode gave no answer.
-#[derive(Clone, Copy, Debug, PartialEq, Eq, Error)]
-pub enum PeerFault {
-    /// No answer came. Whether the call was made there isn't known.
-    #[error("lost")]
-    Lost,
-    /// The vnode refused it.
-    #[error("{0}")]
-    Refused(VnodeFault),
-}
 
 /// Why a get or a put gives no answer. Where a pre-commit hook lets nothing through, nothing was put; of `Disagrees`, `TooLarge`,
 /// `BadVerdict` and `Rejected` the first that stands is told. It is shown as its number, a rejection's code after it.

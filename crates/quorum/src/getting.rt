@@ -5,15 +5,15 @@ ghost use Rattle.object.specs.declared.content.Key.{Key as StoredKey};
 ghost use Rattle.object.specs.Known.{Write, AreUnique, NoneSawItself, Shows, ShowsKnown};
 ghost use Rattle.journal.specs.Replay.{IsMergeOf};
 ghost use Rattle.journal.specs.Brought.{AllShow, all_writes};
-ghost use Rattle.quorum.specs.declared.peers.Answer.{Answer as Answered};
-ghost use Rattle.quorum.specs.declared.fault.PeerFault.{PeerFault};
-ghost use Rattle.quorum.specs.Calls.{Made};
-ghost use Rattle.quorum.specs.Counts.{HasRisen};
+ghost use Rattle.peers.specs.declared.peers.Answer.{Answer as Answered};
+ghost use Rattle.peers.specs.declared.fault.PeerFault.{PeerFault};
+ghost use Rattle.peers.specs.Calls.{Made};
+ghost use Rattle.peers.specs.Counts.{HasRisen};
 ghost use Rattle.quorum.specs.Gets.{reads, answers, states_of, PassesClock, EachShows, GetsAnswer};
 
 use crate::fault::QuorumFault;
-use crate::peers::{Answer, Peers};
 use object::{Key, KeyState, MergeFault};
+use peers::{Answer, Peers};
 use std::alloc::Global;
 
 /// Reads the key at each of these vnodes, in order. Answers the merge of all states that came, and these. Each answer counts

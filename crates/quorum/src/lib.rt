@@ -5,17 +5,11 @@
 mod fault;
 mod getting;
 mod hooking;
-mod local;
-mod peers;
 mod putting;
 mod resolving;
-#[cfg(test)]
-mod tests;
 
-pub use fault::{PeerFault, QuorumFault};
+pub use fault::QuorumFault;
 pub use getting::get;
 pub use hooking::Hooking;
-pub use local::Local;
-pub use peers::{Answer, Peers};
 pub use putting::put;
 pub use resolving::resolve;

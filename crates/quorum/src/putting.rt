@@ -3,20 +3,20 @@
 ghost use Rattle.std.specs.Prelude.{◌≡◌, ◌+◌, ◌≤◌, ◌<◌, List, length, Bool, Option, Some, Result, Ok, Err, ◌^◌};
 ghost use Rattle.verifier.specs.Program.{Program};
 ghost use Rattle.hooks.specs.declared.fault.HookFault.{HookFault as LookUpFault};
-ghost use Rattle.quorum.specs.declared.fault.PeerFault.{PeerFault as Failure};
-ghost use Rattle.quorum.specs.Calls.{Call, Made};
-ghost use Rattle.quorum.specs.Counts.{HasRisen};
+ghost use Rattle.peers.specs.declared.fault.PeerFault.{PeerFault as Failure};
+ghost use Rattle.peers.specs.Calls.{Call, Made};
+ghost use Rattle.peers.specs.Counts.{HasRisen};
 ghost use Rattle.quorum.specs.Faults.{fault_of};
 ghost use Rattle.quorum.specs.Judged.{IsJudgedPut};
 ghost use Rattle.quorum.specs.Puts.{Brought, gathers, merges, copies, AfterPut, IsPut, is_ahead};
 
-use crate::fault::{PeerFault, QuorumFault};
+use crate::fault::QuorumFault;
 use crate::hooking::Hooking;
-use crate::peers::{Answer, Peers};
 use bpfimage::ImageKind;
 use dvv::{Clock, Dot};
 use hooks::Hooks;
 use object::{Content, Key};
+use peers::{Answer, PeerFault, Peers};
 use verifier::Verified;
 use vnode::VnodeFault;
 

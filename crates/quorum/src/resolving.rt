@@ -3,17 +3,17 @@
 ghost use Rattle.std.specs.Prelude.{◌≡◌, ◌<◌, ◌∷◌, List, Bool, Option, Some, None, Result, Ok, Err, MatchBool};
 ghost use Rattle.std.specs.Option.{unwrap_or};
 ghost use Rattle.object.specs.State.{State};
-ghost use Rattle.quorum.specs.declared.fault.PeerFault.{PeerFault as Failure};
+ghost use Rattle.peers.specs.declared.fault.PeerFault.{PeerFault as Failure};
 ghost use Rattle.dvv.specs.declared.Dot.{Dot};
-ghost use Rattle.quorum.specs.Calls.{Call, PutAt, Made};
+ghost use Rattle.peers.specs.Calls.{Call, PutAt, Made};
 ghost use Rattle.quorum.specs.Resolves.{is_others, others_of, brings, chosen_of, AllTaken, OneFailed, AfterCommit, Commits, AfterChoice, IsResolve};
 
 use crate::hooking::{Choice, Hooking};
-use crate::peers::{Answer, Peers};
 use bpfimage::ImageKind;
 use dvv::Clock;
 use hooks::Hooks;
 use object::{Content, Key, KeyState};
+use peers::{Answer, Peers};
 
 /// What becomes of a get's answer, once its states were repaired: where it has two siblings or more and its bucket has a
 /// resolver, this runs on them. Where it writes, each state that another vnode answered is merged into the coordinator, the

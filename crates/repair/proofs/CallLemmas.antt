@@ -1,6 +1,6 @@
 -- Calls after calls.
 use Rattle.std.proofs.Common.{◌≡◌, ℕ, List, [], ◌∷◌, ◌++◌, refl, ap, ◌∙◌, subst}
-use Rattle.quorum.specs.Calls.{Call, Made}
+use Rattle.peers.specs.Calls.{Call, Made}
 
 pub made_end : {S : Type 0} (happens : S → Call → S → Type 0) (a b c : S) (calls : List Call) (call : Call) → Made happens a calls b → happens b call c → Made happens a (calls ++ call ∷ []) c
 made_end happens a b c [] call m h = (c, subst (λ s. happens s call c) m h, refl)

@@ -9,7 +9,7 @@ use Rattle.dvv.specs.declared.Dot.{Dot}
 use Rattle.object.specs.declared.content.Key.{Key}
 use Rattle.object.specs.declared.content.Sibling.{Sibling}
 use Rattle.std.specs.Global.{Vec}
-use Rattle.quorum.specs.Calls.{Call, KeysOf, Made}
+use Rattle.peers.specs.Calls.{Call, KeysOf, Made}
 use Rattle.repair.specs.Exchanges.{Sent, sends, sends_all, IsFair, is_taken, BringsKeys}
 use Rattle.repair.proofs.CallLemmas.{made_append}
 

@@ -7,9 +7,9 @@ use Rattle.std.proofs.lemmas.Grind.{flat_map-append}
 use Rattle.std.proofs.lemmas.List.Sums.{sum_by-append}
 use Rattle.object.specs.declared.content.Key.{Key}
 use Rattle.object.specs.State.{is_changed_by}
-use Rattle.quorum.specs.declared.peers.Answer.{Answer}
-use Rattle.quorum.specs.declared.fault.PeerFault.{PeerFault}
-use Rattle.quorum.specs.Calls.{Call, MergeAt, Made}
+use Rattle.peers.specs.declared.peers.Answer.{Answer}
+use Rattle.peers.specs.declared.fault.PeerFault.{PeerFault}
+use Rattle.peers.specs.Calls.{Call, MergeAt, Made}
 use Rattle.repair.proofs.CallLemmas.{made_append}
 use Rattle.repair.specs.Repairs.{Delivery, index_of, deliveries_of, tries}
 

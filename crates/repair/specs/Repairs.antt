@@ -3,9 +3,9 @@ use Rattle.std.specs.Prelude.{ℕ, Bool, ◌%◌, List, [], ◌∷◌, Result, m
 use Rattle.std.specs.List.{flat_map}
 use Rattle.object.specs.declared.content.Key.{Key}
 use Rattle.object.specs.State.{is_changed_by}
-use Rattle.quorum.specs.declared.peers.Answer.{Answer}
-use Rattle.quorum.specs.declared.fault.PeerFault.{PeerFault}
-use Rattle.quorum.specs.Calls.{Call, MergeAt}
+use Rattle.peers.specs.declared.peers.Answer.{Answer}
+use Rattle.peers.specs.declared.fault.PeerFault.{PeerFault}
+use Rattle.peers.specs.Calls.{Call, MergeAt}
 
 -- a state that goes to the vnode of another answer
 pub record Delivery : Type 0 where

@@ -2,11 +2,11 @@
 
 ghost use Rattle.std.specs.Prelude.{◌≡◌, ◌+◌, ◌^◌, ◌<◌, ◌≤◌, ◌++◌, ◌↔◌, ℕ, List, length, map, count_by, Bool, IsTrue, Result};
 ghost use Rattle.std.specs.List.{AllByRecursion};
-ghost use Rattle.quorum.specs.Calls.{Call, Made};
+ghost use Rattle.peers.specs.Calls.{Call, Made};
 ghost use Rattle.repair.specs.Exchanges.{Sent, sends, sends_all, IsFair, is_taken, BringsKeys, HaveEqualDots};
 
 use object::{Key, KeyState, Sibling};
-use quorum::Peers;
+use peers::Peers;
 
 /// Brings each key of vnode i to vnode j, and then each of j to i, keys in the order in which `keys_of` names them. Where
 /// both answered equal dots and clocks nothing is sent. Answers how many states were taken. A call that is lost or refused

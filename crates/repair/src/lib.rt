@@ -4,8 +4,6 @@
 
 mod exchanging;
 mod repairing;
-#[cfg(test)]
-mod tests;
 
 pub use exchanging::exchange;
 pub use repairing::repair;

@@ -1,12 +1,12 @@
 //! Read repair: what came of a get goes to the vnodes that it would change.
 
 ghost use Rattle.std.specs.Prelude.{◌≡◌, ◌+◌, ◌<◌, ◌≤◌, ◌^◌, ℕ, List, length, count_by, is_ok, Bool, Result};
-ghost use Rattle.quorum.specs.declared.fault.PeerFault.{PeerFault};
-ghost use Rattle.quorum.specs.Calls.{Made};
+ghost use Rattle.peers.specs.declared.fault.PeerFault.{PeerFault};
+ghost use Rattle.peers.specs.Calls.{Made};
 ghost use Rattle.repair.specs.Repairs.{deliveries, deliveries_of, tries};
 
 use object::Key;
-use quorum::{Answer, Peers};
+use peers::{Answer, Peers};
 
 /// Read repair: each answered state goes to every other vnode that answered and whose answered state it would change,
 /// sender by sender. Answers how many took it. A delivery that is lost or refused is passed over.

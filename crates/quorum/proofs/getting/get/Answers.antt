@@ -1,6 +1,6 @@
 use Rattle.std.proofs.Common.{List, arith, length, ap, ◌∙◌, subst}
 use Rattle.journal.specs.Replay.{IsMergeOf}
-use Rattle.quorum.specs.declared.peers.Answer.{Answer}
+use Rattle.peers.specs.declared.peers.Answer.{Answer}
 use Rattle.quorum.specs.Gets.{reads, states_of}
 use Rattle.quorum.proofs.CallLemmas.{made_stays}
 use Rattle.quorum.proofs.RisenLemmas.{made_risen, few_reads}

@@ -3,7 +3,7 @@ use Rattle.std.proofs.lemmas.List.{take_all}
 use Rattle.object.specs.declared.fault.MergeFault
 use Rattle.object.specs.State.{State}
 use Rattle.journal.specs.Replay.{IsMergeOf}
-use Rattle.quorum.specs.declared.peers.Answer.{Answer}
+use Rattle.peers.specs.declared.peers.Answer.{Answer}
 use Rattle.quorum.specs.Gets.{states_of}
 use Rattle.quorum.proofs.MergeLemmas.{states_more, states_split}
 use Rattle.quorum.proofs.getting.merge_all.Goals as goal

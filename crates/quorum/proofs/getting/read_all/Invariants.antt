@@ -1,8 +1,8 @@
 use Rattle.std.proofs.Common.{◌≡◌, ◌≤◌, List, length, Result}
 use Rattle.std.specs.Vec.{vec_capacity}
-use Rattle.quorum.specs.declared.peers.Answer.{Answer}
-use Rattle.quorum.specs.declared.fault.PeerFault.{PeerFault}
-use Rattle.quorum.specs.Calls.{Made}
+use Rattle.peers.specs.declared.peers.Answer.{Answer}
+use Rattle.peers.specs.declared.fault.PeerFault.{PeerFault}
+use Rattle.peers.specs.Calls.{Made}
 use Rattle.quorum.specs.Gets.{reads, answers}
 use Rattle.quorum.proofs.getting.read_all.Given as goal
 

@@ -1,5 +1,5 @@
 use Rattle.std.proofs.Common.{[], ◌∷◌, ◌++◌, sym, arith, length-append, subst}
-use Rattle.quorum.specs.Calls.{Made}
+use Rattle.peers.specs.Calls.{Made}
 use Rattle.quorum.specs.Puts.{PassedOver, Merged, gathers}
 use Rattle.quorum.proofs.PutLemmas.{one_passed, one_merged, failed}
 use Rattle.quorum.proofs.putting.gather.Goals as goal

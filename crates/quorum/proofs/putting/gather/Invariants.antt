@@ -1,5 +1,5 @@
 use Rattle.std.proofs.Common.{◌≡◌, List, length}
-use Rattle.quorum.specs.Calls.{Made}
+use Rattle.peers.specs.Calls.{Made}
 use Rattle.quorum.specs.Puts.{Brought, gathers}
 use Rattle.quorum.proofs.putting.gather.Given as goal
 

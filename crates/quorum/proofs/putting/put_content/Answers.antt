@@ -1,5 +1,5 @@
 use Rattle.std.proofs.Common.{◌∷◌, ◌++◌, refl, sym, ◌∙◌}
-use Rattle.quorum.specs.Calls.{PutAt}
+use Rattle.peers.specs.Calls.{PutAt}
 use Rattle.quorum.specs.Puts.{gathers}
 use Rattle.quorum.proofs.CallLemmas.{made_append}
 use Rattle.quorum.proofs.PutLemmas.{one_first, tries_again, goes_on}

@@ -2,7 +2,7 @@ use Rattle.std.proofs.Common.{[], ◌∷◌, Ok, Err, Some, Option, refl, ap, �
 use Rattle.object.specs.declared.content.Content.{Content}
 use Rattle.object.specs.declared.content.Sibling.{Sibling}
 use Rattle.hookrun.specs.Decisions.{IsDecision}
-use Rattle.quorum.specs.Calls.{StateOf}
+use Rattle.peers.specs.Calls.{StateOf}
 use Rattle.quorum.specs.Judged.{Judges, or_same}
 use Rattle.quorum.proofs.PutLemmas.{one_first}
 use Rattle.quorum.proofs.putting.put_judged.Goals as goal

@@ -1,5 +1,5 @@
 use Rattle.std.proofs.Common.{[], ◌∷◌, refl, ap, arith, Ok, Err, subst}
-use Rattle.quorum.specs.Calls.{StateOf}
+use Rattle.peers.specs.Calls.{StateOf}
 use Rattle.quorum.specs.Puts.{merges, copies}
 use Rattle.quorum.proofs.PutLemmas.{one_first, chosen, refused_so}
 use Rattle.quorum.proofs.putting.replicate.Goals as goal

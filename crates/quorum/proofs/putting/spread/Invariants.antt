@@ -1,6 +1,6 @@
 use Rattle.std.proofs.Common.{◌≡◌, List, length, Result, Bool}
-use Rattle.quorum.specs.declared.fault.PeerFault.{PeerFault}
-use Rattle.quorum.specs.Calls.{Made}
+use Rattle.peers.specs.declared.fault.PeerFault.{PeerFault}
+use Rattle.peers.specs.Calls.{Made}
 use Rattle.quorum.specs.Puts.{merges, copies}
 use Rattle.quorum.proofs.putting.spread.Given as goal
 

@@ -1,5 +1,5 @@
 use Rattle.std.proofs.Common.{arith, Ok, sym, ◌∙◌, subst, ◌+◌, map, take}
-use Rattle.quorum.specs.Calls.{MergeAt, Made}
+use Rattle.peers.specs.Calls.{MergeAt, Made}
 use Rattle.quorum.specs.Resolves.{brings, others_of}
 use Rattle.quorum.proofs.ResolveLemmas.{was_own, was_taken, was_refused, took, failed}
 use Rattle.quorum.proofs.resolving.bring_others.Goals as goal

@@ -1,5 +1,5 @@
 use Rattle.std.proofs.Common.{◌≡◌, List, Bool, Ok, length, map, take}
-use Rattle.quorum.specs.Calls.{Made}
+use Rattle.peers.specs.Calls.{Made}
 use Rattle.quorum.specs.Resolves.{brings, others_of}
 use Rattle.quorum.proofs.resolving.bring_others.Given as goal
 

@@ -1,5 +1,5 @@
 use Rattle.std.proofs.Common.{◌∷◌, ◌++◌, refl, inl}
-use Rattle.quorum.specs.Calls.{PutAt}
+use Rattle.peers.specs.Calls.{PutAt}
 use Rattle.quorum.specs.Resolves.{brings, others_of}
 use Rattle.quorum.proofs.CallLemmas.{made_append}
 use Rattle.quorum.proofs.resolving.commit.Goals as goal

@@ -1,5 +1,5 @@
 use Rattle.std.proofs.Common.{[], ◌∷◌, Ok, Err, refl, subst}
-use Rattle.quorum.specs.Calls.{PutAt, StateOf}
+use Rattle.peers.specs.Calls.{PutAt, StateOf}
 use Rattle.quorum.proofs.resolving.put_and_read.Goals as goal
 
 pub returns-in-Ok-state_of : goal.returns-in-Ok-state_of

@@ -1,6 +1,6 @@
 use Rattle.std.proofs.Common.{refl, subst, Ok, Err}
 use Rattle.std.proofs.lemmas.Bool.{iff_false}
-use Rattle.quorum.specs.Calls.{StateOf, MergeAt}
+use Rattle.peers.specs.Calls.{StateOf, MergeAt}
 use Rattle.repair.specs.Exchanges.{Unread, Unmet, Alike, Brought}
 use Rattle.repair.proofs.exchanging.bring.Goals as goal
 

@@ -1,5 +1,5 @@
 use Rattle.std.proofs.Common.{refl, subst, [], ◌∷◌, Err}
-use Rattle.quorum.specs.Calls.{KeysOf}
+use Rattle.peers.specs.Calls.{KeysOf}
 use Rattle.repair.proofs.ExchangeLemmas.{keys_brought}
 use Rattle.repair.proofs.exchanging.bring_keys.Goals as goal
 

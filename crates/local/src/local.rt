@@ -1,0 +1,281 @@
+//! The vnodes of one thread, some of whose calls may be lost.
+
+ghost use Rattle.std.specs.Prelude.{◌≡◌, ◌<◌, ◌≤◌, ◌^◌, ◌==◌, [], length, slice_get, IfOk, MatchOption, Some, None, if◌then◌else◌};
+ghost use Rattle.std.specs.List.{list_any};
+ghost use Rattle.peers.specs.Calls.{PutAt, MergeAt, StateOf};
+ghost use Rattle.local.specs.Locals.{Does, KeysIn, fresh, counted};
+
+use dvv::{Clock, Dot};
+use object::{Content, Key, KeyState};
+use peers::{Answer, PeerFault, Peers};
+use place::place;
+use std::alloc::{AllocError, Global};
+use std::marker::Model;
+use vnode::{Vnode, VnodeFault};
+
+/// Vnodes that one thread owns, and the numbers of the calls that are lost and not made.
+#[derive(Drop)]
+pub struct Local {
+    alloc: Global,
+    vnodes: Vec<Vnode>,
+    first: Option<u32>,
+    lost: Vec<u64>,
+    calls: u64,
+    stamp: u64,
+    failures: u64,
+}
+
+impl Model for Local {
+    ghost use Rattle.local.specs.Locals.{LocalView};
+
+    ghost Value = { LocalView };
+
+    ghost view = { λ l. record { logs = l.vnodes.items; first = l.first; lost = l.lost.items; calls = l.calls; stamp = l.stamp; failures = l.failures } };
+}
+
+impl Local {
+    ghost use Rattle.place.specs.Places.{place_of};
+    ghost use Rattle.std.specs.Prelude.{unwrap_or};
+
+    /// So many vnodes of an incarnation, with nothing written. A key's place is by its digest.
+    pub fn open(alloc: Global, n: u32, incarnation: u16) -> Result<Local, AllocError>
+        requires { n ≤ 255 }
+        ensures { IfOk result (λ local. local ≡ record { logs = fresh incarnation n; first = None; lost = []; calls = 0; stamp = 0; failures = 0 }) }
+    {
+        Ok(Local {
+            alloc,
+            vnodes: fresh_vnodes(alloc, n, incarnation)?,
+            first: None,
+            lost: Vec::new(alloc),
+            calls: 0,
+            stamp: 0,
+            failures: 0,
+        })
+    }
+
+    /// The same, with one place for every key.
+    pub fn open_first(
+        alloc: Global,
+        n: u32,
+        incarnation: u16,
+        first: u32,
+    ) -> Result<Local, AllocError>
+        requires few { n ≤ 255 }
+        requires first { first < n }
+        ensures { IfOk result (λ local. local ≡ record { logs = fresh incarnation n; first = Some first; lost = []; calls = 0; stamp = 0; failures = 0 }) }
+    {
+        Ok(Local {
+            alloc,
+            vnodes: fresh_vnodes(alloc, n, incarnation)?,
+            first: Some(first),
+            lost: Vec::new(alloc),
+            calls: 0,
+            stamp: 0,
+            failures: 0,
+        })
+    }
+
+    /// From now on the calls of these numbers, counted from 0, are lost: they are not made.
+    pub fn lose(&mut self, lost: Vec<u64>)
+        ensures { self.new ≡ record self.old { lost = lost.items; calls = 0 } }
+    {
+        self.lost = lost;
+        self.calls = 0;
+    }
+
+    /// The vnodes.
+    pub fn vnodes(&self) -> &[Vnode]
+        ensures { result.now ≡ self.now.logs }
+    {
+        &self.vnodes
+    }
+
+    /// The place of a key: the vnode at which its preference list begins.
+    pub fn place_of(&self, bucket: &[u8], key: &[u8]) -> u32
+        requires some { 0 < length self.now.logs }
+        requires few { length self.now.logs < 2 ^ 32 }
+        requires short { length bucket.now < 2 ^ 32 }
+        ensures { result ≡ unwrap_or self.now.first (place_of bucket.now key.now (length self.now.logs)) }
+    {
+        match self.first {
+            Some(first) => first,
+            None => place(bucket, key, self.vnodes.len() as u32),
+        }
+    }
+
+    // Whether the next call is to be lost.
+    fn loses(&self) -> bool
+        ensures { result ≡ list_any (λ n. n == self.now.calls) self.now.lost }
+    {
+        let now = self.calls;
+        self.lost.iter().any(|n| *n == now)
+    }
+
+    // Counts a call that was made, or was lost.
+    fn count(&mut self, added: bool, failed: bool)
+        ensures { self.new ≡ record self.old { calls = counted self.old.calls; stamp = if added then counted self.old.stamp else self.old.stamp; failures = if failed then counted self.old.failures else self.old.failures } }
+    {
+        self.calls = self.calls.saturating_add(1);
+        if added {
+            self.stamp = self.stamp.saturating_add(1);
+        }
+        if failed {
+            self.failures = self.failures.saturating_add(1);
+        }
+    }
+}
+
+// So many vnodes of an incarnation, with nothing written.
+fn fresh_vnodes(alloc: Global, n: u32, incarnation: u16) -> Result<Vec<Vnode>, AllocError>
+    requires { n ≤ 255 }
+    ensures { IfOk result (λ vnodes. vnodes.items ≡ fresh incarnation n) }
+{
+    let mut vnodes = Vec::with_capacity(alloc, n as usize)?;
+    let first = u32::from(incarnation) * 65536;
+    for index in 0..n {
+        vnodes.push(Vnode::new(alloc, first + index))?;
+    }
+    Ok(vnodes)
+}
+
+// Puts at a vnode that is there.
+fn put_at(
+    vnodes: &mut Vec<Vnode>,
+    stamp: u64,
+    i: usize,
+    key: &Key,
+    seen: &Clock,
+    content: &Content,
+) -> Result<Dot, PeerFault>
+    ensures { Does stamp vnodes.old.items (PutAt i key.now seen.now content.now result) vnodes.new.items }
+{
+    match vnodes.get_mut(i) {
+        None => Err(PeerFault::Lost),
+        Some(vnode) => match vnode.put(stamp, key, seen, content) {
+            Ok((dot, _)) => Ok(dot),
+            Err(fault) => Err(PeerFault::Refused(fault)),
+        },
+    }
+}
+
+// Merges at a vnode that is there.
+fn merge_at(
+    vnodes: &mut Vec<Vnode>,
+    stamp: u64,
+    i: usize,
+    key: &Key,
+    from: u32,
+    at: u32,
+    state: &KeyState,
+) -> Result<bool, PeerFault>
+    ensures { Does stamp vnodes.old.items (MergeAt i key.now from at state.now result) vnodes.new.items }
+{
+    match vnodes.get_mut(i) {
+        None => Err(PeerFault::Lost),
+        Some(vnode) => match vnode.merge(stamp, key, from, at, state) {
+            Ok((changed, _)) => Ok(changed),
+            Err(fault) => Err(PeerFault::Refused(fault)),
+        },
+    }
+}
+
+// Reads at a vnode that is there.
+fn read_at(vnodes: &mut Vec<Vnode>, stamp: u64, i: usize, key: &Key) -> Result<Answer, PeerFault>
+    ensures { Does stamp vnodes.old.items (StateOf i key.now result) vnodes.new.items }
+{
+    match vnodes.get_mut(i) {
+        None => Err(PeerFault::Lost),
+        Some(vnode) => {
+            let from = vnode.journal().vnode();
+            match vnode.read(stamp, key) {
+                Ok((state, at)) => Ok(Answer { from, at, state }),
+                Err(fault) => Err(PeerFault::Refused(fault)),
+            }
+        }
+    }
+}
+
+// Names the keys of a vnode that is there.
+fn keys_at(vnodes: &[Vnode], i: usize) -> Result<Vec<Key>, PeerFault>
+    ensures { MatchOption (slice_get vnodes.now i) (result ≡ Err PeerFault.Lost) (λ log. KeysIn log result) }
+{
+    match vnodes.get(i) {
+        None => Err(PeerFault::Lost),
+        Some(vnode) => match vnode.keys() {
+            Ok(keys) => Ok(keys),
+            Err(_) => Err(PeerFault::Refused(VnodeFault::NoMemory)),
+        },
+    }
+}
+
+impl Peers for Local {
+    ghost use Rattle.std.specs.Prelude.{refl};
+    ghost use Rattle.local.specs.Locals.{LocalStep};
+
+    ghost happens = { LocalStep };
+
+    ghost failures = { λ l. l.failures };
+
+    ghost origin = { λ l. 0 };
+
+    ghost counted = { λ old new call h. h.count };
+
+    ghost stays = { λ old new call h. refl };
+
+    fn put_at(
+        &mut self,
+        i: usize,
+        key: &Key,
+        seen: &Clock,
+        content: &Content,
+    ) -> Result<Dot, PeerFault> {
+        let back = if self.loses() {
+            Err(PeerFault::Lost)
+        } else {
+            put_at(&mut self.vnodes, self.stamp, i, key, seen, content)
+        };
+        self.count(back.is_ok(), back.is_err());
+        back
+    }
+
+    fn merge_at(
+        &mut self,
+        i: usize,
+        key: &Key,
+        from: u32,
+        at: u32,
+        state: &KeyState,
+    ) -> Result<bool, PeerFault> {
+        let back = if self.loses() {
+            Err(PeerFault::Lost)
+        } else {
+            merge_at(&mut self.vnodes, self.stamp, i, key, from, at, state)
+        };
+        self.count(back.is_ok(), back.is_err());
+        back
+    }
+
+    fn state_of(&mut self, i: usize, key: &Key) -> Result<Answer, PeerFault> {
+        let back = if self.loses() {
+            Err(PeerFault::Lost)
+        } else {
+            read_at(&mut self.vnodes, self.stamp, i, key)
+        };
+        self.count(back.is_ok(), back.is_err());
+        back
+    }
+
+    fn keys_of(&mut self, i: usize) -> Result<Vec<Key>, PeerFault> {
+        let back = if self.loses() {
+            Err(PeerFault::Lost)
+        } else {
+            keys_at(&self.vnodes, i)
+        };
+        self.count(false, back.is_err());
+        back
+    }
+
+    fn failures(&self) -> u64 {
+        self.failures
+    }
+}

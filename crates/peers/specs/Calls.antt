@@ -1,0 +1,21 @@
+-- Calls on the vnodes, with what came back from each.
+use Rattle.std.specs.Prelude.{◌≡◌, ℕ, List, [], ◌∷◌, Result, Bool}
+use Rattle.std.specs.Global.{Vec}
+use Rattle.dvv.specs.declared.Dot.{Dot}
+use Rattle.object.specs.declared.content.Content.{Content}
+use Rattle.object.specs.declared.content.Key.{Key}
+use Rattle.object.specs.State.{State}
+use Rattle.peers.specs.declared.peers.Answer.{Answer}
+use Rattle.peers.specs.declared.fault.PeerFault.{PeerFault}
+
+-- a call on vnode i and what came back
+pub data Call : Type 0 where
+  PutAt : (i : ℕ) (key : Key) (seen : List Dot) (content : Content) (back : Result Dot PeerFault) → Call
+  MergeAt : (i : ℕ) (key : Key) (from at : ℕ) (state : State) (back : Result Bool PeerFault) → Call
+  StateOf : (i : ℕ) (key : Key) (back : Result Answer PeerFault) → Call
+  KeysOf : (i : ℕ) (back : Result (Vec Key) PeerFault) → Call
+
+-- these calls, one after another, lead from one state to the other
+abbrev pub Made : {S : Type 0} → (S → Call → S → Type 0) → S → List Call → S → Type 0
+Made happens old [] new = new ≡ old
+Made {S} happens old (call ∷ calls) new = (mid : S) × happens old call mid × Made happens mid calls new

@@ -1,0 +1,73 @@
+//! The vnodes, as whoever reaches them: calls, and what came back.
+
+ghost use Rattle.std.specs.Prelude.{◌≡◌, ℕ};
+
+use crate::fault::PeerFault;
+use dvv::{Clock, Dot};
+use object::{Content, Key, KeyState};
+
+/// What a vnode's read answered.
+#[derive(Debug, Drop)]
+pub struct Answer {
+    /// The identifier of the vnode.
+    pub from: u32,
+    /// The place of the read in its journal.
+    pub at: u32,
+    /// The state of the key there.
+    pub state: KeyState,
+}
+
+/// Vnodes that may be out of reach, by their indexes. A call on an index that has no vnode is lost.
+pub trait Peers {
+    ghost use Rattle.peers.specs.Calls.{Call, PutAt, MergeAt, StateOf, KeysOf};
+    ghost use Rattle.peers.specs.Counts.{Counts};
+
+    /// From one state, a call may come back so and leave the other.
+    ghost happens: { Self → Call → Self → Type 0 };
+
+    /// How many calls were lost or refused. The count stays at its greatest.
+    ghost failures: { Self → ℕ };
+
+    /// What no call changes, as whom a borrowed part was lent by.
+    ghost origin: { Self → ℕ };
+
+    /// Puts at a vnode, as one who had seen what the clock counts. Answers the dot of the put.
+    fn put_at(
+        &mut self,
+        i: usize,
+        key: &Key,
+        seen: &Clock,
+        content: &Content,
+    ) -> Result<Dot, PeerFault>
+        ensures { happens self.old (PutAt i key.now seen.now content.now result) self.new };
+
+    /// Merges a state that the vnode `from` answered, by the read at place `at` of its journal, into another. Answers
+    /// whether that changed something.
+    fn merge_at(
+        &mut self,
+        i: usize,
+        key: &Key,
+        from: u32,
+        at: u32,
+        state: &KeyState,
+    ) -> Result<bool, PeerFault>
+        ensures { happens self.old (MergeAt i key.now from at state.now result) self.new };
+
+    /// Reads at a vnode.
+    fn state_of(&mut self, i: usize, key: &Key) -> Result<Answer, PeerFault>
+        ensures { happens self.old (StateOf i key.now result) self.new };
+
+    /// The keys of a vnode whose clock isn't empty, in the order of bytes. It is no event there.
+    fn keys_of(&mut self, i: usize) -> Result<Vec<Key>, PeerFault>
+        ensures { happens self.old (KeysOf i result) self.new };
+
+    /// How many calls were lost or refused.
+    fn failures(&self) -> u64
+        ensures { result ≡ failures self.now };
+
+    /// A call that was lost or refused counts, and no other.
+    ghost counted: { (old new : Self) (call : Call) → happens old call new → Counts call (failures old) (failures new) };
+
+    /// No call changes the origin.
+    ghost stays: { (old new : Self) (call : Call) → happens old call new → origin new ≡ origin old };
+}
