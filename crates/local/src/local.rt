@@ -26,11 +26,14 @@ pub struct Local {
 }
 
 impl Model for Local {
-    ghost use Rattle.local.specs.Locals.{LocalView};
+    ghost use Rattle.std.specs.Prelude.{length};
+    ghost use Rattle.local.specs.Locals.{LocalView, IsPlaced};
 
     ghost Value = { LocalView };
 
     ghost view = { λ l. record { logs = l.vnodes.items; first = l.first; lost = l.lost.items; calls = l.calls; stamp = l.stamp; failures = l.failures } };
+
+    ghost invariant = { λ l. IsPlaced l.first (length l.vnodes.items) };
 }
 
 impl Local {
@@ -95,7 +98,8 @@ impl Local {
         requires some { 0 < length self.now.logs }
         requires few { length self.now.logs < 2 ^ 32 }
         requires short { length bucket.now < 2 ^ 32 }
-        ensures { result ≡ unwrap_or self.now.first (place_of bucket.now key.now (length self.now.logs)) }
+        ensures place { result ≡ unwrap_or self.now.first (place_of bucket.now key.now (length self.now.logs)) }
+        ensures within { result < length self.now.logs }
     {
         match self.first {
             Some(first) => first,
@@ -147,7 +151,8 @@ fn put_at(
     seen: &Clock,
     content: &Content,
 ) -> Result<Dot, PeerFault>
-    ensures { Does stamp vnodes.old.items (PutAt i key.now seen.now content.now result) vnodes.new.items }
+    ensures does { Does stamp vnodes.old.items (PutAt i key.now seen.now content.now result) vnodes.new.items }
+    ensures all { length vnodes.new.items ≡ length vnodes.old.items }
 {
     match vnodes.get_mut(i) {
         None => Err(PeerFault::Lost),
@@ -168,7 +173,8 @@ fn merge_at(
     at: u32,
     state: &KeyState,
 ) -> Result<bool, PeerFault>
-    ensures { Does stamp vnodes.old.items (MergeAt i key.now from at state.now result) vnodes.new.items }
+    ensures does { Does stamp vnodes.old.items (MergeAt i key.now from at state.now result) vnodes.new.items }
+    ensures all { length vnodes.new.items ≡ length vnodes.old.items }
 {
     match vnodes.get_mut(i) {
         None => Err(PeerFault::Lost),
@@ -181,7 +187,8 @@ fn merge_at(
 
 // Reads at a vnode that is there.
 fn read_at(vnodes: &mut Vec<Vnode>, stamp: u64, i: usize, key: &Key) -> Result<Answer, PeerFault>
-    ensures { Does stamp vnodes.old.items (StateOf i key.now result) vnodes.new.items }
+    ensures does { Does stamp vnodes.old.items (StateOf i key.now result) vnodes.new.items }
+    ensures all { length vnodes.new.items ≡ length vnodes.old.items }
 {
     match vnodes.get_mut(i) {
         None => Err(PeerFault::Lost),
