@@ -1,2 +1,3 @@
 pub mod Kinds
 pub mod Transfer
+pub mod Laws

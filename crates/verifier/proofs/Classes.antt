@@ -9,6 +9,7 @@ use Rattle.std.proofs.lemmas.Option.{unwrap_or-slice_get}
 use Rattle.alu.specs.Value.{bits, wrapped, signed, value, swapped, byte_count, compares, condition}
 use Rattle.alu.specs.declared.Op.{Op}
 use Rattle.alu.specs.declared.Width.{Width}
+use Rattle.alu.specs.declared.Width.TheVariants.{W32, W64}
 use Rattle.alu.specs.declared.Cond.{Cond}
 use Rattle.alu.specs.declared.SwapKind.{SwapKind}
 use Rattle.alu.specs.declared.SwapBits.{SwapBits}
@@ -36,9 +37,7 @@ use Rattle.ranges.specs.declared.kind.Bad.TheVariants.{V22, V23}
 use Rattle.ranges.specs.declared.kind.Range.{Range}
 use Rattle.ranges.specs.Kinds.{Admits}
 use Rattle.ranges.specs.Transfer.{single, full, transfer_of, swap_of}
-use Rattle.ranges.proofs.Numbers.{value_fits, swapped_fits}
-use Rattle.ranges.proofs.Operations.{transfer_sound, swap_sound}
-use Rattle.ranges.proofs.Comparisons.{refine_sound}
+use Rattle.ranges.specs.Laws.{IsSoundTable}
 use Rattle.bpfimage.specs.Form.{landing, target_of}
 use Rattle.helpers.specs.Calls.{Callee, Unknown, callee_of, calls_of}
 use Rattle.verifier.specs.Program.{Program, HasLimits}
@@ -120,11 +119,15 @@ one_on z i e = ap (λ y. y +ℤ pos 1) (sym e)
 two_on : (z : ℤ) (i : ℕ) → z ≡ pos i → pos (i + 2) ≡ (z +ℤ pos 1 +ℤ pos 1)
 two_on z i e = let h : pos (i + 2) ≡ (pos i +ℤ pos 1 +ℤ pos 1) = omega (arith, ints) in h ∙ ap (λ y. y +ℤ pos 1 +ℤ pos 1) (sym e)
 
-swapped_word : (kind : SwapKind) (n : SwapBits) (x : ℕ) → swapped kind n x < 2 ^ 64
-swapped_word kind n x =
-    subst (λ (r : Range). r.hi < 2 ^ 64) (cond-true (eqb x x) (single (swapped kind n x)) (full (8 * byte_count n)) (eq-eqb x x refl)) (swapped_fits kind n (single x)).1
+value_word : (o : Op) (w : Width) (x y : ℕ) → value o w x y < 2 ^ 64
+value_word o W32 x y = let small : value o W32 x y < 2 ^ 32 = wrapped_below 32 _ in omega (arith, small)
+value_word o W64 x y = wrapped_below 64 _
 
-module _ (p : Program) (i : ℕ) (row : Row) (s : State) (limits : HasLimits p) (fits : FitsRow row s.registers) (at : s.slot ≡ pos i) (memory : IsMemory p s.memory) where
+swapped_word : (sound : IsSoundTable) (kind : SwapKind) (n : SwapBits) (x : ℕ) → swapped kind n x < 2 ^ 64
+swapped_word sound kind n x =
+    subst (λ (r : Range). r.hi < 2 ^ 64) (cond-true (eqb x x) (single (swapped kind n x)) (full (8 * byte_count n)) (eq-eqb x x refl)) (sound.swap_kind kind n (one_number x)).1
+
+module _ (sound : IsSoundTable) (p : Program) (i : ℕ) (row : Row) (s : State) (limits : HasLimits p) (fits : FitsRow row s.registers) (at : s.slot ≡ pos i) (memory : IsMemory p s.memory) where
   -- ---- registers
   at_reg : (r : Register) → Admits (kind_at row r) (register s r) × IsWord (register s r)
   at_reg r =
@@ -218,15 +221,15 @@ module _ (p : Program) (i : ℕ) (row : Row) (s : State) (limits : HasLimits p) 
       let b = at_operand src in
       let m = number_in s dst in
       let n = operand_in s src in
-      let sound = transfer_sound o w (kind_at row dst) (kind_from row src) m n (number_fits _ a.1) b.1 (λ _. admits_number _ _ a.0) (λ _. b.0) in
-      written_lands (insn.Alu o w dst src) dst (result_kind (transfer_of o w (kind_at row dst) (kind_from row src))) (value o w m n) t refl (ok_result _ (Some (value o w m n)) h.0 sound) (value_fits o w m n) d
+      let admitted = sound.operation o w (kind_at row dst) (kind_from row src) m n (number_fits _ a.1) b.1 (λ _. admits_number _ _ a.0) (λ _. b.0) in
+      written_lands (insn.Alu o w dst src) dst (result_kind (transfer_of o w (kind_at row dst) (kind_from row src))) (value o w m n) t refl (ok_result _ (Some (value o w m n)) h.0 admitted) (value_word o w m n) d
 
   swap_lands : (kind : SwapKind) (n : SwapBits) (dst : Register) (t : State) → AllNone (class_rules p Unknown row (insn.Swap kind n dst)) → Does (calls_of p.sigs) (insn.Swap kind n dst) s t → Lands (insn.Swap kind n dst) t
   swap_lands kind n dst t h d =
       let a = at_reg dst in
       let m = number_in s dst in
-      let sound = swap_sound kind n (kind_at row dst) m (admits_number _ _ a.0) in
-      written_lands (insn.Swap kind n dst) dst (result_kind (swap_of kind n (kind_at row dst))) (swapped kind n m) t refl (ok_result _ (Some (swapped kind n m)) h.0 sound) (swapped_word kind n m) d
+      let admitted = sound.swap kind n (kind_at row dst) m (admits_number _ _ a.0) in
+      written_lands (insn.Swap kind n dst) dst (result_kind (swap_of kind n (kind_at row dst))) (swapped kind n m) t refl (ok_result _ (Some (swapped kind n m)) h.0 admitted) (swapped_word sound kind n m) d
 
   -- what a load reads is in the kind of its size
   in_loaded : (size : Size) (extend : Extend) (n : ℕ) → n < 2 ^ (8 * size_bytes size) → Admits (loaded size extend) (Some (extended extend size n)) × (extended extend size n < 2 ^ 64)
@@ -268,7 +271,7 @@ module _ (p : Program) (i : ℕ) (row : Row) (s : State) (limits : HasLimits p) 
       let b = at_reg right in
       let ha = is_set _ _ (or_left (is_unset (kind_at row left)) _ h) a.0 in
       let hb = is_set _ _ (or_left (is_unset (kind_at row right)) _ (or_right (is_unset (kind_at row left)) _ h)) b.0 in
-      let r = refine_sound c w (kind_at row left) (kind_at row right) taken (number_in s left) (number_in s right) (admits_number _ _ a.0) (admits_number _ _ b.0) t in
+      let r = sound.comparison c w (kind_at row left) (kind_at row right) taken (number_in s left) (number_in s right) (admits_number _ _ a.0) (admits_number _ _ b.0) t in
       let ea = unwrap_or-slice_get s.registers (number left) None in
       let eb = unwrap_or-slice_get s.registers (number right) None in
       cond_both (eqb (number left) (number right)) _ _ (λ q. FitsRow q s.registers) (λ _. fits)
@@ -279,7 +282,7 @@ module _ (p : Program) (i : ℕ) (row : Row) (s : State) (limits : HasLimits p) 
       let m = wrapped 64 n % 2 ^ bits w in
       let again : m % 2 ^ bits w ≡ wrapped 64 n % 2 ^ bits w = mod-eq_of_lt (mod-lt (wrapped 64 n) (pow_pos (bits w))) in
       let same : condition c w (number_in s left) m ≡ taken = ap (λ j. compares c (bits w) (number_in s left % 2 ^ bits w) j) again ∙ t in
-      let r = refine_sound c w (kind_at row left) (one_number m) taken (number_in s left) m (admits_number _ _ a.0) (omega arith, omega arith) same in
+      let r = sound.comparison c w (kind_at row left) (one_number m) taken (number_in s left) m (admits_number _ _ a.0) (omega arith, omega arith) same in
       at_learn row s.registers (number left) _ fits (subst (Admits _) (unwrap_or-slice_get s.registers (number left) None) (back _ _ ha r.0))
 
   branch_lands : (c : Cond) (w : Width) (left : Register) (right : Operand) (o : ℤ) (k : ℕ) (t : State) → landing i o ≡ pos k → any_unset row (left ∷ operand_reads right) ≡ false → Does (calls_of p.sigs) (insn.JumpIf c w left right o) s t → Lands (insn.JumpIf c w left right o) t

@@ -5,7 +5,7 @@ use Rattle.std.proofs.lemmas.Bool.{cond_both, eq-eqb}
 use Rattle.ranges.specs.declared.kind.Kind.{Kind}
 use Rattle.ranges.specs.declared.kind.Kind.TheVariants.{Unset}
 use Rattle.ranges.specs.Kinds.{Admits}
-use Rattle.ranges.proofs.Joins.{join_left, join_right}
+use Rattle.ranges.specs.Laws.{IsSoundTable}
 use Rattle.verifier.specs.Registers.{Row}
 use Rattle.verifier.specs.Table.{Edge, join_rows, joined, into}
 
@@ -53,19 +53,19 @@ SameLength [] (y ∷ ys) = ⊥
 SameLength (x ∷ xs) [] = ⊥
 SameLength (x ∷ xs) (y ∷ ys) = SameLength xs ys
 
-pub rows_left : (a b : Row) (vs : List (Option ℕ)) → SameLength a b → FitsRow a vs → FitsRow (join_rows a b) vs
-rows_left [] [] vs e h = h
-rows_left [] (l ∷ ls) vs e h = absurd e
-rows_left (k ∷ ks) [] vs e h = absurd e
-rows_left (k ∷ ks) (l ∷ ls) [] e h = absurd h
-rows_left (k ∷ ks) (l ∷ ls) (v ∷ vs) e h = (join_left k l v h.0, h.1, rows_left ks ls vs e h.2)
+pub rows_left : (sound : IsSoundTable) (a b : Row) (vs : List (Option ℕ)) → SameLength a b → FitsRow a vs → FitsRow (join_rows a b) vs
+rows_left sound [] [] vs e h = h
+rows_left sound [] (l ∷ ls) vs e h = absurd e
+rows_left sound (k ∷ ks) [] vs e h = absurd e
+rows_left sound (k ∷ ks) (l ∷ ls) [] e h = absurd h
+rows_left sound (k ∷ ks) (l ∷ ls) (v ∷ vs) e h = (sound.join_left k l v h.0, h.1, rows_left sound ks ls vs e h.2)
 
-pub rows_right : (a b : Row) (vs : List (Option ℕ)) → SameLength a b → FitsRow b vs → FitsRow (join_rows a b) vs
-rows_right [] [] vs e h = h
-rows_right [] (l ∷ ls) vs e h = absurd e
-rows_right (k ∷ ks) [] vs e h = absurd e
-rows_right (k ∷ ks) (l ∷ ls) [] e h = absurd h
-rows_right (k ∷ ks) (l ∷ ls) (v ∷ vs) e h = (join_right k l v h.0, h.1, rows_right ks ls vs e h.2)
+pub rows_right : (sound : IsSoundTable) (a b : Row) (vs : List (Option ℕ)) → SameLength a b → FitsRow b vs → FitsRow (join_rows a b) vs
+rows_right sound [] [] vs e h = h
+rows_right sound [] (l ∷ ls) vs e h = absurd e
+rows_right sound (k ∷ ks) [] vs e h = absurd e
+rows_right sound (k ∷ ks) (l ∷ ls) [] e h = absurd h
+rows_right sound (k ∷ ks) (l ∷ ls) (v ∷ vs) e h = (sound.join_right k l v h.0, h.1, rows_right sound ks ls vs e h.2)
 
 -- every row has the registers' number of kinds
 abbrev pub IsRow : Row → Type 0
@@ -104,13 +104,13 @@ joined_is_row : (o : Option Row) (row : Row) → IsRowIfAny o → IsRow row → 
 joined_is_row None row h r = r
 joined_is_row (Some old) row h r = length_join old row (h ∙ sym r) ∙ h
 
-joined_old : (o : Option Row) (row : Row) (vs : List (Option ℕ)) → IsRowIfAny o → IsRow row → FitsSome o vs → FitsSome (joined o row) vs
-joined_old None row vs h r f = absurd f
-joined_old (Some old) row vs h r f = rows_left old row vs (same_length old row (h ∙ sym r)) f
+joined_old : (sound : IsSoundTable) (o : Option Row) (row : Row) (vs : List (Option ℕ)) → IsRowIfAny o → IsRow row → FitsSome o vs → FitsSome (joined o row) vs
+joined_old sound None row vs h r f = absurd f
+joined_old sound (Some old) row vs h r f = rows_left sound old row vs (same_length old row (h ∙ sym r)) f
 
-joined_new : (o : Option Row) (row : Row) (vs : List (Option ℕ)) → IsRowIfAny o → IsRow row → FitsRow row vs → FitsSome (joined o row) vs
-joined_new None row vs h r f = f
-joined_new (Some old) row vs h r f = rows_right old row vs (same_length old row (h ∙ sym r)) f
+joined_new : (sound : IsSoundTable) (o : Option Row) (row : Row) (vs : List (Option ℕ)) → IsRowIfAny o → IsRow row → FitsRow row vs → FitsSome (joined o row) vs
+joined_new sound None row vs h r f = f
+joined_new sound (Some old) row vs h r f = rows_right sound old row vs (same_length old row (h ∙ sym r)) f
 
 step_is_row : (k : ℕ) (e : Edge) (o : Option Row) → IsRow e.1 → IsRowIfAny o → IsRowIfAny (cond (eqb e.0 k) (joined o e.1) o)
 step_is_row k e o a h = cond_both (eqb e.0 k) _ _ IsRowIfAny (λ _. joined_is_row o e.1 h a) (λ _. h)
@@ -119,17 +119,17 @@ pub into_is_row : (k : ℕ) (es : List Edge) (o : Option Row) → AreRows es →
 into_is_row k [] o a h = h
 into_is_row k (e ∷ es) o a h = into_is_row k es _ a.1 (step_is_row k e o a.0 h)
 
-pub into_old : (k : ℕ) (es : List Edge) (o : Option Row) (vs : List (Option ℕ)) → AreRows es → IsRowIfAny o → FitsSome o vs → FitsSome (into k es o) vs
-into_old k [] o vs a h f = f
-into_old k (e ∷ es) o vs a h f =
-    into_old k es _ vs a.1 (step_is_row k e o a.0 h) (cond_both (eqb e.0 k) _ _ (λ p. FitsSome p vs) (λ _. joined_old o e.1 vs h a.0 f) (λ _. f))
+pub into_old : (sound : IsSoundTable) (k : ℕ) (es : List Edge) (o : Option Row) (vs : List (Option ℕ)) → AreRows es → IsRowIfAny o → FitsSome o vs → FitsSome (into k es o) vs
+into_old sound k [] o vs a h f = f
+into_old sound k (e ∷ es) o vs a h f =
+    into_old sound k es _ vs a.1 (step_is_row k e o a.0 h) (cond_both (eqb e.0 k) _ _ (λ p. FitsSome p vs) (λ _. joined_old sound o e.1 vs h a.0 f) (λ _. f))
 
 same_slot : (j k : ℕ) → pos j ≡ pos k → j ≡ k
 same_slot j k e = cc
 
-pub into_new : (k : ℕ) (es : List Edge) (o : Option Row) (vs : List (Option ℕ)) → AreRows es → IsRowIfAny o → SomeEdge (pos k) vs es → FitsSome (into k es o) vs
-into_new k [] o vs a h s = absurd s
-into_new k (e ∷ es) o vs a h (inr s) = into_new k es _ vs a.1 (step_is_row k e o a.0 h) s
-into_new k (e ∷ es) o vs a h (inl s) =
-    into_old k es _ vs a.1 (step_is_row k e o a.0 h)
-    (subst (λ b. FitsSome (cond b (joined o e.1) o) vs) (sym (eq-eqb e.0 k (same_slot e.0 k s.0))) (joined_new o e.1 vs h a.0 s.1))
+pub into_new : (sound : IsSoundTable) (k : ℕ) (es : List Edge) (o : Option Row) (vs : List (Option ℕ)) → AreRows es → IsRowIfAny o → SomeEdge (pos k) vs es → FitsSome (into k es o) vs
+into_new sound k [] o vs a h s = absurd s
+into_new sound k (e ∷ es) o vs a h (inr s) = into_new sound k es _ vs a.1 (step_is_row k e o a.0 h) s
+into_new sound k (e ∷ es) o vs a h (inl s) =
+    into_old sound k es _ vs a.1 (step_is_row k e o a.0 h)
+    (subst (λ b. FitsSome (cond b (joined o e.1) o) vs) (sym (eq-eqb e.0 k (same_slot e.0 k s.0))) (joined_new sound o e.1 vs h a.0 s.1))

@@ -17,6 +17,7 @@ use Rattle.insn.proofs.Paired.{IsPaired}
 use Rattle.memory.specs.State.{State, Row as Row_of}
 use Rattle.memory.specs.Step.{Step, Faults, Runs, IsInput, start, instruction_at, starting, instruction_count}
 use Rattle.memory.specs.declared.Fault.{Fault}
+use Rattle.ranges.specs.Laws.{IsSoundTable}
 use Rattle.bpfimage.specs.Form.{next_of, target_of}
 use Rattle.helpers.specs.declared.sig.Entry.{Entry}
 use Rattle.helpers.specs.Calls.{Callee, calls_of}
@@ -104,18 +105,18 @@ table_rows p (suc n) k h =
 
 -- ---- an edge is joined into its slot's row
 
-arrives : (p : Program) (i n k : ℕ) (x : Insn) (row : Row) (vs : List (Option ℕ)) → i < n → slice_get p.code i ≡ Some x → slice_get (table p) i ≡ Some (Some row) → SomeEdge (pos k) vs (edges_from (callee_in p.sigs x) i row x) → FitsSome (arrivals p (table p) n k) vs
-arrives p i zero k x row vs lt at here e = absurd (omega arith)
-arrives p i (suc n) k x row vs lt at here e =
+arrives : (sound : IsSoundTable) (p : Program) (i n k : ℕ) (x : Insn) (row : Row) (vs : List (Option ℕ)) → i < n → slice_get p.code i ≡ Some x → slice_get (table p) i ≡ Some (Some row) → SomeEdge (pos k) vs (edges_from (callee_in p.sigs x) i row x) → FitsSome (arrivals p (table p) n k) vs
+arrives sound p i zero k x row vs lt at here e = absurd (omega arith)
+arrives sound p i (suc n) k x row vs lt at here e =
     let all : (m : ℕ) → IsRowAt (slice_get (table p) m) = λ m. table_rows p (suc m) m (omega arith) in
     let edges = edges_are_rows p.sigs n (slice_get p.code n) (slice_get (table p) n) (all n) in
     let before = arrival_rows p (table p) n k (λ m _. all m) in
     ⊎_elim
     (λ same. let at' = ap (slice_get p.code) (sym same) ∙ at in
     let here' = ap (slice_get (table p)) (sym same) ∙ here in
-    into_new k _ _ vs edges before
+    into_new sound k _ _ vs edges before
     (subst (λ o. SomeEdge (pos k) vs (edges_of p.sigs n o (slice_get (table p) n))) (sym at') (subst (λ o. SomeEdge (pos k) vs (edges_of p.sigs n (Some x) o)) (sym here') (subst (λ j. SomeEdge (pos k) vs (edges_from (callee_in p.sigs x) j row x)) same e))))
-    (λ other. into_old k _ _ vs edges before (arrives p i n k x row vs (omega arith) at here e))
+    (λ other. into_old sound k _ _ vs edges before (arrives sound p i n k x row vs (omega arith) at here e))
     (cases_eq i n)
 
 -- ---- one state
@@ -147,7 +148,7 @@ found_first : (code : List Insn) → 1 ≤ length code → (x : Insn) × (slice_
 found_first [] h = absurd (omega arith)
 found_first (x ∷ code) h = (x, refl)
 
-module _ (p : Program) (limits : HasLimits p) (paired : IsPaired p.code) (some : 1 ≤ length p.code) (accepted : IsAccepted p) where
+module _ (sound : IsSoundTable) (p : Program) (limits : HasLimits p) (paired : IsPaired p.code) (some : 1 ≤ length p.code) (accepted : IsAccepted p) where
   rules_kept : (n : ℕ) (s : State) (g : Stands p n s) → AllNone (rules_of p g.row g.here)
   rules_kept n s g =
       none_each (rules_of p g.row g.here) (subst (λ o. broken_with p (Some g.here) o ≡ None) g.kinds (subst (λ o. broken_with p o (slice_get (table p) g.at) ≡ None) g.found (accepted.unbroken g.at)))
@@ -162,7 +163,7 @@ module _ (p : Program) (limits : HasLimits p) (paired : IsPaired p.code) (some :
       none_there o x e h = cc
   faultless n s g f (inr e) =
       let same : e.0 ≡ g.here = same_Some _ _ (sym e.1 ∙ there n s g) in
-      no_fault p g.at g.row s limits g.fits g.slot g.memory e.0 (subst (λ x. AllNone (rules_of p g.row x)) (sym same) (rules_kept n s g)) f e.2.stands
+      no_fault sound p g.at g.row s limits g.fits g.slot g.memory e.0 (subst (λ x. AllNone (rules_of p g.row x)) (sym same) (rules_kept n s g)) f e.2.stands
 
   goes_on : (n : ℕ) (s : State) (g : Stands p n s) (t : State) → SomeEdge t.slot t.registers (edges_from (callee_in p.sigs g.here) g.at g.row g.here) → IsMemory p t.memory → Stands p (suc n) t
   goes_on n s g t e m =
@@ -170,7 +171,7 @@ module _ (p : Program) (limits : HasLimits p) (paired : IsPaired p.code) (some :
       let k = to.0 in
       let l = to.2 in
       let within = slice_get_within p.code k l.to l.there in
-      let arrived = arrives p g.at k k g.here g.row t.registers l.above g.found g.kinds (subst (λ z. SomeEdge z t.registers (edges_from (callee_in p.sigs g.here) g.at g.row g.here)) to.1 e) in
+      let arrived = arrives sound p g.at k k g.here g.row t.registers l.above g.found g.kinds (subst (λ z. SomeEdge z t.registers (edges_from (callee_in p.sigs g.here) g.at g.row g.here)) to.1 e) in
       let next = stand_at p k (arrivals p (table p) k k) t.registers (table_at p k within) arrived in
       record {
         at = k;
@@ -190,7 +191,7 @@ module _ (p : Program) (limits : HasLimits p) (paired : IsPaired p.code) (some :
       let same : d.0 ≡ g.here = same_Some _ _ (sym d.1 ∙ there n s g) in
       let row = subst (λ x. Row_of (calls_of p.sigs) x s t) same d.2.row in
       let to : (z : ℤ) → target_of g.at g.here ≡ Some z → (k : ℕ) × (z ≡ pos k) = λ z e. let l = target_leads p.code g.at g.here z accepted.formed g.found e in (l.0, l.1) in
-      let l = lands p g.at g.row s limits g.fits g.slot g.memory g.here t (paired.instructions g.at g.here g.found g.starts) to (rules_kept n s g) row in
+      let l = lands sound p g.at g.row s limits g.fits g.slot g.memory g.here t (paired.instructions g.at g.here g.found g.starts) to (rules_kept n s g) row in
       goes_on n s g t l.0 l.1
 
   -- the state before the first slot

@@ -20,7 +20,7 @@ use crate::verified::Verified;
 use bpfimage::{Image, form_fault};
 use helpers::Sigs;
 use memory::Region;
-use ranges::Kind;
+use ranges::{Kind, kinds_are_sound};
 use std::alloc::{AllocError, Global};
 
 /// The kind of the address of a window: of its first byte, or of the stack's end.
@@ -156,5 +156,7 @@ pub fn verify(alloc: Global, image: Image, sigs: &Sigs) -> Result<Verified, Refu
     };
     let program = Candidate { image, sigs };
     check_kinds(alloc, &program)?;
+    // That a table of kinds loses no value is why no run of the program goes wrong.
+    kinds_are_sound();
     Ok(Verified::new(program))
 }

@@ -41,14 +41,14 @@ pub new-requires : goal.new-requires
 new-requires c =
     let p = program_of c.args.image c.in-Ok.sigs in
     ∥∥₁_elim c.args.image.is_code (hlevel props)
-    (λ code. safe p record { slots = c.args.image.few_slots; input = c.args.image.in_small; output = c.args.image.out_small } (code_paired p.code code) c.args.image.some_slots c.in_ok-check_kinds.ensures.ok)
+    (λ code. safe c.kinds_are_sound.ensures p record { slots = c.args.image.few_slots; input = c.args.image.in_small; output = c.args.image.out_small } (code_paired p.code code) c.args.image.some_slots c.in_ok-check_kinds.ensures.ok)
 
 pub returns-clause-safe : goal.returns-clause-safe
 returns-clause-safe c =
     let p = program_of c.args.image c.in-Ok.sigs in
     subst IsSafeProgram (sym c.new.ensures)
     (∥∥₁_elim c.args.image.is_code (hlevel props)
-    (λ code. safe p record { slots = c.args.image.few_slots; input = c.args.image.in_small; output = c.args.image.out_small } (code_paired p.code code) c.args.image.some_slots c.in_ok-check_kinds.ensures.ok))
+    (λ code. safe c.kinds_are_sound.ensures p record { slots = c.args.image.few_slots; input = c.args.image.in_small; output = c.args.image.out_small } (code_paired p.code code) c.args.image.some_slots c.in_ok-check_kinds.ensures.ok))
 
 pub returns-clause-plain_accepted : goal.returns-clause-plain_accepted
 returns-clause-plain_accepted c = λ plain.
