@@ -13,13 +13,13 @@ u64 hook(const u8 *input, u64 used, u8 *output, u64 room)
     if (head->rows > SIBLINGS) return KEEP;
 #pragma unroll
     for (u64 i = 0; i < SIBLINGS; i++) {
-        if (i >= head->rows) break;
         u64 offset = rows[i].offset, length = rows[i].length;
-        if (length > DIGITS) continue;
-        /* Not read so near the end of the input window of 4,096 bytes, and it may be the largest. */
-        if (offset > 4000) return KEEP;
-        u64 number = decimal(input + offset, length);
-        if (number + 1 > best) { best = number + 1; taken = TAKE(i); }
+        if (i < head->rows && length <= DIGITS) {
+            /* Not read so near the end of the input window of 4,096 bytes, and it may be the largest. */
+            if (offset > 4000) return KEEP;
+            u64 number = decimal(input + offset, length);
+            if (number + 1 > best) { best = number + 1; taken = TAKE(i); }
+        }
     }
     return taken;
 }

@@ -21,7 +21,7 @@ u64 hook(const u8 *input, u64 used, u8 *output, u64 room)
     values[0] = first[0]; values[1] = first[1]; values[2] = first[2]; values[3] = first[3];
 #pragma unroll
     for (u64 i = 0; i < RECORDS; i++) {
-        if (left < (i + 1) * RECORD) break;
+        if (left < (i + 1) * RECORD) continue;
         u64 record = second[i];
         if (held >= 8 && first[0] == record) continue;
         if (held >= 16 && first[1] == record) continue;
