@@ -1,6 +1,7 @@
 pub mod Keys
 pub mod Entries
 pub mod Logs
+pub mod Stamps
 pub mod Replay
 pub mod Limits
 pub mod Journals

@@ -1,6 +1,10 @@
 -- A journal and whose it is.
-use Rattle.std.specs.Prelude.{ℕ, List, [], ◌∷◌, ◌++◌}
+use Rattle.std.specs.Prelude.{ℕ, ◌^◌, List, [], ◌∷◌, ◌++◌}
 use Rattle.journal.specs.declared.entry.Entry.{Entry}
+
+-- the most entries of a vnode (this store's profile)
+abbrev pub max_entries : ℕ
+max_entries = 2 ^ 32
 
 -- the entries of a vnode, oldest first
 pub record Log : Type 0 where

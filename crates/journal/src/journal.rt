@@ -1,6 +1,6 @@
 //! A list of entries that only grows.
 
-ghost use Rattle.std.specs.Prelude.{◌≡◌, ◌+◌, ◌≤◌, ◌<◌, ◌^◌, ◌↔◌, OnOk, OnErr, IfOk, [], length, Err, IsTrue, slice_get};
+ghost use Rattle.std.specs.Prelude.{◌≡◌, ◌≤◌, ◌<◌, ◌↔◌, OnOk, OnErr, IfOk, [], length, Err, IsTrue, false, slice_get};
 ghost use Rattle.std.specs.Option.{option_copied};
 
 use crate::entry::Entry;
@@ -8,8 +8,8 @@ use std::alloc::{AllocError, Global};
 use std::marker::Model;
 use thiserror::Error;
 
-/// The most entries of a journal.
-pub const MAX_ENTRIES: usize = 1 << 32;
+/// The most entries of a journal: a place is a `u32`.
+const MAX_LENGTH: usize = 1 << 32;
 
 /// Why an entry is not added, the first in this order.
 #[derive(Clone, Copy, Debug, PartialEq, Eq, Error)]
@@ -41,18 +41,19 @@ pub struct Journal {
 }
 
 impl Model for Journal {
-    ghost use Rattle.std.specs.Prelude.{◌≤◌, ◌^◌, ◌-◌, length, vec_len, vec_capacity};
-    ghost use Rattle.journal.specs.Logs.{RoomyLog};
+    ghost use Rattle.std.specs.Prelude.{◌≤◌, ◌-◌, length, vec_len, vec_capacity};
+    ghost use Rattle.journal.specs.Logs.{RoomyLog, max_entries};
 
     ghost Value = { RoomyLog };
 
     ghost view = { λ j. record { log = record { vnode = j.vnode; entries = j.entries.items }; room = vec_capacity j.entries - vec_len j.entries } };
 
-    ghost invariant = { λ j. length j.entries.items ≤ 2 ^ 32 };
+    ghost invariant = { λ j. length j.entries.items ≤ max_entries };
 }
 
 impl Journal {
-    ghost use Rattle.journal.specs.Logs.{with_entry};
+    ghost use Rattle.journal.specs.Logs.{max_entries, with_entry};
+    ghost use Rattle.journal.specs.Limits.{TakesEntry, IsFull};
 
     /// No entry.
     pub fn new(alloc: Global, vnode: u32) -> Self
@@ -74,7 +75,7 @@ impl Journal {
     /// How many entries there are.
     pub fn len(&self) -> usize
         ensures len { result ≡ length self.now.log.entries }
-        ensures limit { result ≤ MAX_ENTRIES }
+        ensures limit { result ≤ max_entries }
     {
         self.entries.len()
     }
@@ -88,9 +89,10 @@ impl Journal {
 
     /// Whether no entry can be added.
     pub fn is_full(&self) -> bool
-        ensures full { IsTrue result ↔ (length self.now.log.entries ≡ MAX_ENTRIES) }
+        ensures full { IsTrue result ↔ IsFull self.now.log.entries }
+        ensures room { result ≡ false → TakesEntry self.now.log.entries }
     {
-        self.len() == MAX_ENTRIES
+        self.len() == MAX_LENGTH
     }
 
     /// The entries.
@@ -110,9 +112,10 @@ impl Journal {
     /// Makes room for one more entry.
     pub fn reserve(&mut self) -> Result<(), JournalFault>
         ensures room { OnOk result (0 < self.new.room) }
-        ensures below { OnOk result (length self.new.log.entries < MAX_ENTRIES) }
-        ensures full { result ≡ Err JournalFault.Full ↔ (length self.old.log.entries ≡ MAX_ENTRIES) }
-        ensures memory { result ≡ Err JournalFault.NoMemory → length self.old.log.entries < MAX_ENTRIES }
+        ensures below { OnOk result (TakesEntry self.new.log.entries) }
+        ensures full { result ≡ Err JournalFault.Full ↔ IsFull self.old.log.entries }
+        ensures memory { result ≡ Err JournalFault.NoMemory → TakesEntry self.old.log.entries }
+        ensures grown { result ≡ Err JournalFault.NoMemory → self.old.room ≡ 0 }
         ensures same { self.new.log ≡ self.old.log }
     {
         if self.is_full() {
@@ -125,7 +128,7 @@ impl Journal {
     /// Adds an entry for which there is room, and answers its place.
     pub fn append(&mut self, entry: Entry) -> u32
         requires room { 0 < self.old.room }
-        requires below { length self.old.log.entries < MAX_ENTRIES }
+        requires below { TakesEntry self.old.log.entries }
         ensures place { result ≡ length self.old.log.entries }
         ensures entry { self.new.log ≡ with_entry self.old.log entry }
     {
@@ -138,8 +141,9 @@ impl Journal {
     pub fn push(&mut self, entry: Entry) -> Result<u32, JournalFault>
         ensures place { IfOk result (λ place. place ≡ length self.old.log.entries) }
         ensures entry { OnOk result (self.new.log ≡ with_entry self.old.log entry) }
-        ensures full { result ≡ Err JournalFault.Full ↔ (length self.old.log.entries ≡ MAX_ENTRIES) }
-        ensures memory { result ≡ Err JournalFault.NoMemory → length self.old.log.entries < MAX_ENTRIES }
+        ensures full { result ≡ Err JournalFault.Full ↔ IsFull self.old.log.entries }
+        ensures memory { result ≡ Err JournalFault.NoMemory → TakesEntry self.old.log.entries }
+        ensures grown { result ≡ Err JournalFault.NoMemory → self.old.room ≡ 0 }
         ensures err { OnErr result (self.new.log ≡ self.old.log) }
     {
         self.reserve()?;

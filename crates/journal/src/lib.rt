@@ -9,4 +9,4 @@ pub mod rows;
 mod tests;
 
 pub use entry::Entry;
-pub use journal::{Journal, JournalFault, MAX_ENTRIES};
+pub use journal::{Journal, JournalFault};

@@ -37,7 +37,7 @@ fn entries_stay_in_their_places(rt: HostRuntime) -> Result<(), Fail> {
         1
     );
     journal.reserve()?;
-    assert!(rt; journal.len() < MAX_ENTRIES);
+    assert_eq!(rt; journal.len(), 2);
     let put = Entry::Put {
         stamp: 8,
         key: key(alloc)?,
