@@ -34,6 +34,7 @@ impl Vnode {
     ghost use Rattle.journal.specs.declared.entry.Entry.TheVariants.{Put, Merge, Read, Restart};
     ghost use Rattle.journal.specs.Logs.{Log, with_entry};
     ghost use Rattle.object.specs.declared.content.Key.{Key};
+    ghost use Rattle.object.specs.State.{State};
     ghost use Rattle.std.specs.List.Sorted.{IsStrictlySortedBy};
     ghost use Rattle.journal.specs.Keys.{key_cmp};
     ghost use Rattle.journal.specs.Replay.{IsReplay, IsNextDot, IsKeyOf};
@@ -65,6 +66,7 @@ impl Vnode {
     pub fn journal(&self) -> &Journal
         ensures journal { result.now.log ≡ self.now }
         ensures legal { IsJournal self.now.vnode self.now.entries }
+        ensures leaves { (key : Key) → (state : State) × IsReplay self.now.entries key state }
     {
         &self.journal
     }
