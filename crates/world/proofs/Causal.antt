@@ -13,7 +13,7 @@ use Rattle.journal.proofs.Keyed.{one_key}
 use Rattle.helpers.specs.declared.sig.Entry.{Entry as Helper}
 use Rattle.std.specs.Prelude.{Option}
 use Rattle.world.specs.declared.event.Event.{Event}
-use Rattle.world.specs.declared.event.Refusal.{Refusal}
+use Rattle.vnode.specs.declared.fault.VnodeFault.{VnodeFault}
 use Rattle.world.specs.declared.event.Reply.{Reply}
 use Rattle.world.specs.Knowledge.{Knowledge, KeyedWrite, Left, Nothing, Copied, Chosen, Failed, opened, known_at, under, is_of, write_of, after_refusal, after_put, after_copy, after_delivery, after_restart, after_run, after_nothing}
 use Rattle.world.specs.Happening.{Happens, wants_memory, refused_alike, stored, put_refused, found, sent, delivered, delivery_refused, restarted, full, resolved, choice_stored, choice_refused, nothing_chosen, Run, IsKnown}
@@ -77,7 +77,7 @@ leaves_lawful old new left lawful puts known lefts copied = record {
   ]);
 }
 
-pub lawful_refusal : (old : Knowledge) (r : Refusal) → IsLawful old → IsLawful (after_refusal old r)
+pub lawful_refusal : (old : Knowledge) (r : VnodeFault) → IsLawful old → IsLawful (after_refusal old r)
 lawful_refusal old r lawful = leaves_lawful old (after_refusal old r) (Failed r) lawful refl refl refl (λ key writes e. absurd (cc))
 
 pub lawful_restart : (old : Knowledge) (v : ℕ) → IsLawful old → IsLawful (after_restart old v)

@@ -4,6 +4,7 @@ pub mod Shown
 pub mod Numbers
 pub mod Steps
 pub mod Equal
+pub mod Stamped
 pub mod Runs
 pub mod Whole
 pub mod Resolvers

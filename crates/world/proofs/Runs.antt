@@ -14,31 +14,29 @@ use Rattle.journal.specs.declared.entry.Entry.TheVariants as entry
 use Rattle.journal.specs.Answers.{TellsChange}
 use Rattle.journal.specs.Journals.{MayFollow}
 use Rattle.journal.specs.Replay.{IsReplay}
-use Rattle.vnode.specs.declared.fault.VnodeFault.{VnodeFault}
-use Rattle.vnode.specs.declared.fault.VnodeFault.TheVariants as vnode
-use Rattle.vnode.specs.Refusals.{RefusesMerge}
-use Rattle.world.specs.Appending.{refusal_of_vnode, Appends, RefusesPutAt, RefusesMergeAt, RefusesEntryAt}
-use Rattle.world.proofs.Steps.{put_step, copy_step, restart_step, refusal_step, run_step, nothing_step, delivery_step, shown, state_shown, state_next_is, known_seen, may_put, may_deliver, were_put}
+use Rattle.vnode.specs.Refusals.{RefusesPutAt as StateRefusesPut, RefusesMergeAt as StateRefusesMerge, RefusesPut as RefusesPutAt, RefusesMerge as RefusesMergeAt, RefusesEntry as RefusesEntryAt}
+use Rattle.world.specs.Appending.{Appends}
+use Rattle.world.proofs.Steps.{put_step, copy_step, restart_step, refusal_step, run_step, nothing_step, delivery_step, shown, state_shown, state_next_is, may_deliver, were_put}
 use Rattle.std.proofs.lemmas.Bool.{cases_lt}
-use Rattle.dvv.specs.Clock.{HasRoom, vnodes_together}
-use Rattle.journal.specs.Limits.{TakesDot, AcceptsPut}
+use Rattle.dvv.specs.Clock.{HasRoom, Within, vnodes_together}
+use Rattle.journal.specs.Limits.{TakesDot}
 use Rattle.helpers.specs.declared.sig.Entry.{Entry as Helper}
 use Rattle.verifier.specs.Program.{Program}
 use Rattle.std.specs.Prelude.{None}
 use Rattle.world.specs.declared.event.Event.{Event}
 use Rattle.world.specs.declared.event.Event.TheVariants.{Put, Get, Send, Deliver, Restart, ResolveRead, ResolveWrite}
-use Rattle.world.specs.declared.event.Refusal.TheVariants.{ContextAhead, TooManySiblings, ClockFull, MergeFull, JournalFull, NoMemory}
+use Rattle.vnode.specs.declared.fault.VnodeFault.TheVariants.{ContextAhead, TooManySiblings, ClockFull, MergedClockFull, JournalFull, NoMemory}
 use Rattle.world.specs.declared.event.Message.{Message}
-use Rattle.world.specs.declared.event.Refusal.{Refusal}
+use Rattle.vnode.specs.declared.fault.VnodeFault.{VnodeFault}
 use Rattle.world.specs.declared.event.Seen.{Seen}
 use Rattle.world.specs.declared.event.Seen.TheVariants.{Clock as Given, Get as ContextOf}
 use Rattle.world.specs.declared.event.Resolution.{Resolution}
 use Rattle.world.specs.declared.event.Reply.{Reply}
 use Rattle.world.specs.declared.event.Reply.TheVariants.{Stored, Found, Sent, Changed, Restarted, Resolved, Nothing, Refused}
-use Rattle.world.specs.Knowledge.{Knowledge, Copied, Chosen, Failed, below, left_by, id_of, next_dot, write_of, after_refusal, after_put, after_copy, after_delivery, after_restart, after_run, after_nothing, IsStateOf}
+use Rattle.world.specs.Knowledge.{Knowledge, Copied, Chosen, Failed, below, left_by, known_at, id_of, next_dot, write_of, after_refusal, after_put, after_copy, after_delivery, after_restart, after_run, after_nothing, IsStateOf}
 use Rattle.world.specs.Resolving.{IsResolution, chosen_by}
 use Rattle.world.proofs.Equal.{one_state}
-use Rattle.world.specs.Happening.{Means, Happens, wants_memory, refused_alike, stored, put_refused, found, sent, delivered, delivery_refused, restarted, full, resolved, choice_stored, choice_refused, nothing_chosen, RefusesPut, RefusesDelivery, IsAt, HasPlace, MayPut, MayDeliver, MayHappen}
+use Rattle.world.specs.Happening.{Means, Happens, wants_memory, refused_alike, stored, put_refused, found, sent, delivered, delivery_refused, restarted, full, resolved, choice_stored, choice_refused, nothing_chosen, RefusesPut, RefusesDelivery, IsAt, IsKnown, CountTogether, HasPlace, MayPut, MayDeliver, MayHappen}
 use Rattle.world.specs.Represents.{Represents, log_at, empty_logs}
 use Rattle.world.specs.Running.{Remember, Holds, Recall, ReplyAt, IsFoundOrRefused, IsSentOrRefused, IsRefusedContext, IsMessageOf, IsChoiceOf}
 
@@ -57,7 +55,7 @@ found_means replies old get r state remember at is is_found =
     (h.0, h.1, h.2, (h.3.clock, h.3.shows.clock))
 
 -- a refused event's reply holds its refusal
-pub refusal_held : (replies : List Reply) (old : Knowledge) (place : ℕ) (r : Reply) (refusal : Refusal) (P : Reply → Type 0) → Remember replies old → ReplyAt replies place P → r ≡ get_or replies place r → r ≡ Refused refusal → left_by old place ≡ Failed refusal
+pub refusal_held : (replies : List Reply) (old : Knowledge) (place : ℕ) (r : Reply) (refusal : VnodeFault) (P : Reply → Type 0) → Remember replies old → ReplyAt replies place P → r ≡ get_or replies place r → r ≡ Refused refusal → left_by old place ≡ Failed refusal
 refusal_held replies old place r refusal P remember at is refused = subst (λ (x : Reply). Holds x (left_by old place)) refused (remember.each place r (read_at replies place r at.0 at.1 is))
 
 -- a send's reply holds what it copied
@@ -92,40 +90,40 @@ next_room : (logs : List Log) (w : Knowledge) (v : ℕ) (key : Key) (state : Sta
 next_room logs w v key state rep inside replay room = subst (HasRoom state.clock) (sym (next_at logs w v key state rep inside replay)) room
 
 -- why a vnode refuses a put is why the world does
-put_refusal : (logs : List Log) (w : Knowledge) (v : ℕ) (key : Key) (clock : List Dot) (r : Refusal) → Represents logs w → v < length logs → RefusesPutAt (log_at logs v) key clock r → ((r ≡ NoMemory) × MayPut w v key clock) ⊎ RefusesPut w v key clock r
-put_refusal logs w v key clock ContextAhead rep inside why = inr (λ h. why (λ d c. ((shown logs w v key rep inside).clock d).1 (h d c)))
-put_refusal logs w v key clock TooManySiblings rep inside why =
-    inr (known_seen logs w v key clock rep inside why.0, (length (kept clock why.1.0.siblings), (why.1.0, state_shown logs w v key why.1.0 rep inside why.1.1, refl), not_below (length (kept clock why.1.0.siblings)) 64 why.1.2))
-put_refusal logs w v key clock ClockFull rep inside why =
-    let is = state_shown logs w v key why.1.0 rep inside why.1.1 in
-    inr (known_seen logs w v key clock rep inside why.0, (length (kept clock why.1.0.siblings), (why.1.0, is, refl), why.1.2.0), (why.1.0.clock, (is.clock, is.shows.clock), λ room. why.1.2.1 (next_room logs w v key why.1.0 rep inside why.1.1 room)))
-put_refusal logs w v key clock MergeFull rep inside why = absurd why
-put_refusal logs w v key clock JournalFull rep inside why =
-    let is = state_shown logs w v key why.1.0 rep inside why.1.1 in
-    inr (known_seen logs w v key clock rep inside why.0, (length (kept clock why.1.0.siblings), (why.1.0, is, refl), why.1.2.0), (why.1.0.clock, (is.clock, is.shows.clock), room_next logs w v key why.1.0 rep inside why.1.1 why.1.2.1), sym (rep.accepted v inside) ∙ why.2)
-put_refusal logs w v key clock NoMemory rep inside why = inl (refl, may_put logs w v key clock rep inside (subst (λ (i : ℕ). AcceptsPut i (log_at logs v).entries key clock) (rep.ids v inside) why))
+put_refusal : (logs : List Log) (w : Knowledge) (v : ℕ) (key : Key) (clock : List Dot) (r : VnodeFault) → Represents logs w → v < length logs → RefusesPutAt (log_at logs v) key clock r → ((r ≡ NoMemory) × MayPut w v key clock) ⊎ RefusesPut w v key clock r
+put_refusal logs w v key clock r rep inside (state, replay, why) = by_cause r why
+  where
+    own : IsStateOf (known_at w v key) state
+    own = state_shown logs w v key state rep inside replay
 
--- a vnode's refusal of a merge
-pub merge_so : (log : Log) (key : Key) (other : State) (fault : VnodeFault) → RefusesMerge log key other fault → RefusesMergeAt log key other (refusal_of_vnode fault)
-merge_so log key other vnode.ContextAhead h = h
-merge_so log key other vnode.TooManySiblings h = h
-merge_so log key other vnode.ClockFull h = h
-merge_so log key other vnode.MergedClockFull h = h
-merge_so log key other vnode.JournalFull h = h
-merge_so log key other vnode.NoMemory h = h
+    known : Within clock state.clock → IsKnown (known_at w v key) clock
+    known within d c = (own.shows.clock d).0 (within d c)
+
+    by_cause : (r : VnodeFault) → StateRefusesPut (log_at logs v) clock state r → ((r ≡ NoMemory) × MayPut w v key clock) ⊎ RefusesPut w v key clock r
+    by_cause ContextAhead why = inr (λ h. why (λ d c. (own.shows.clock d).1 (h d c)))
+    by_cause TooManySiblings why = inr (known why.0, (length (kept clock state.siblings), (state, own, refl), not_below (length (kept clock state.siblings)) 64 why.1))
+    by_cause ClockFull why = inr (known why.0, (length (kept clock state.siblings), (state, own, refl), why.1), (state.clock, (own.clock, own.shows.clock), λ room. why.2 (next_room logs w v key state rep inside replay room)))
+    by_cause MergedClockFull why = absurd why
+    by_cause JournalFull why = inr (known why.0.context, (length (kept clock state.siblings), (state, own, refl), why.0.sibling), (state.clock, (own.clock, own.shows.clock), room_next logs w v key state rep inside replay why.0.dot), sym (rep.accepted v inside) ∙ why.1)
+    by_cause NoMemory why = inl (refl, record {
+      context = known why.0.context;
+      siblings = (length (kept clock state.siblings), (state, own, refl), why.0.sibling);
+      clock = (state.clock, (own.clock, own.shows.clock), room_next logs w v key state rep inside replay why.0.dot);
+      journal = subst (λ (n : ℕ). n < 2 ^ 32) (rep.accepted v inside) why.1;
+    })
 
 -- a refusal, as the world's
-refused_so : (listed : List Helper) (logs : List Log) (w : Knowledge) (what : Event) (r : Refusal) → Represents logs w → Happens listed w what (Refused r) (after_refusal w r) → (after : Knowledge) × Happens listed w what (Refused r) after × Represents logs after
+refused_so : (listed : List Helper) (logs : List Log) (w : Knowledge) (what : Event) (r : VnodeFault) → Represents logs w → Happens listed w what (Refused r) (after_refusal w r) → (after : Knowledge) × Happens listed w what (Refused r) after × Represents logs after
 refused_so listed logs w what r rep happens = (after_refusal w r, happens, refusal_step logs w r rep)
 
-pub put_was_refused : (listed : List Helper) (logs : List Log) (w : Knowledge) (v : ℕ) (key : Key) (seen : Seen) (content : Content) (clock : List Dot) (r : Refusal) → Represents logs w → v < length logs → Means w seen clock → RefusesPutAt (log_at logs v) key clock r
+pub put_was_refused : (listed : List Helper) (logs : List Log) (w : Knowledge) (v : ℕ) (key : Key) (seen : Seen) (content : Content) (clock : List Dot) (r : VnodeFault) → Represents logs w → v < length logs → Means w seen clock → RefusesPutAt (log_at logs v) key clock r
     → (after : Knowledge) × Happens listed w (Put v key seen content) (Refused r) after × Represents logs after
 put_was_refused listed logs w v key seen content clock r rep inside means why = refused_so listed logs w (Put v key seen content) r rep (elim (put_refusal logs w v key clock r rep inside why) [
-  | inl memory ↦ wants_memory (clock, means, memory.1) (ap (λ (x : Refusal). Refused x) memory.0) (ap (λ (x : Refusal). after_refusal w x) memory.0)
+  | inl memory ↦ wants_memory (clock, means, memory.1) (ap (λ (x : VnodeFault). Refused x) memory.0) (ap (λ (x : VnodeFault). after_refusal w x) memory.0)
   | inr refuses ↦ put_refused v key seen content clock r refl means refuses refl refl
 ])
 
-pub context_was_refused : (listed : List Helper) (logs : List Log) (w : Knowledge) (v : ℕ) (key : Key) (seen : Seen) (content : Content) (r : Refusal) → Represents logs w → IsRefusedContext w seen r
+pub context_was_refused : (listed : List Helper) (logs : List Log) (w : Knowledge) (v : ℕ) (key : Key) (seen : Seen) (content : Content) (r : VnodeFault) → Represents logs w → IsRefusedContext w seen r
     → (after : Knowledge) × Happens listed w (Put v key seen content) (Refused r) after × Represents logs after
 context_was_refused listed logs w v key (Given clock) content r rep failed = absurd failed
 context_was_refused listed logs w v key (ContextOf get) content r rep failed = refused_so listed logs w (Put v key (ContextOf get) content) r rep (refused_alike get r refl failed refl refl)
@@ -158,11 +156,14 @@ place_may w (ResolveRead get hook) v at place = absurd at
 place_may w (ResolveWrite run u) v at place = absurd at
 
 -- why a vnode refuses a read or a restart is why the world does
-pub entry_was_refused : (listed : List Helper) (logs : List Log) (w : Knowledge) (v : ℕ) (what : Event) (r : Refusal) → Represents logs w → v < length logs → IsAt what v → RefusesEntryAt (log_at logs v) r
+pub entry_was_refused : (listed : List Helper) (logs : List Log) (w : Knowledge) (v : ℕ) (what : Event) (r : VnodeFault) → Represents logs w → v < length logs → IsAt what v → RefusesEntryAt (log_at logs v) r
     → (after : Knowledge) × Happens listed w what (Refused r) after × Represents logs after
 entry_was_refused listed logs w v what JournalFull rep inside at why = refused_so listed logs w what JournalFull rep (full v at (sym (rep.accepted v inside) ∙ why) refl refl)
 entry_was_refused listed logs w v what NoMemory rep inside at why = refused_so listed logs w what NoMemory rep (wants_memory (place_may w what v at (subst (λ (n : ℕ). n < 2 ^ 32) (rep.accepted v inside) why)) refl refl)
-entry_was_refused listed logs w v what r rep inside at why = absurd why
+entry_was_refused listed logs w v what ContextAhead rep inside at why = absurd why
+entry_was_refused listed logs w v what TooManySiblings rep inside at why = absurd why
+entry_was_refused listed logs w v what ClockFull rep inside at why = absurd why
+entry_was_refused listed logs w v what MergedClockFull rep inside at why = absurd why
 
 -- A restart.
 pub restart_happened : (listed : List Helper) (logs new : List Log) (w : Knowledge) (v stamp : ℕ) → Represents logs w → v < length logs → Appends logs new v (entry.Restart stamp)
@@ -177,15 +178,22 @@ tell_so true same tells = λ h. tells (same.1 h)
 tell_so false same tells = same.0 tells
 
 -- why a vnode refuses a merge is why the world does
-merge_refusal : (logs : List Log) (w : Knowledge) (v : ℕ) (key : Key) (state : State) (writes : List Write) (r : Refusal) → Represents logs w → v < length logs → IsStateOf writes state → RefusesMergeAt (log_at logs v) key state r → ((r ≡ NoMemory) × MayDeliver w v key writes) ⊎ RefusesDelivery w v key writes r
-merge_refusal logs w v key state writes MergeFull rep inside is why =
-    let own = state_shown logs w v key why.0 rep inside why.1 in
-    inr (vnodes_together why.0.clock state.clock, (why.0.clock, state.clock, (own.clock, own.shows.clock), (is.clock, is.shows.clock), refl), not_within (vnodes_together why.0.clock state.clock) 1024 why.2)
-merge_refusal logs w v key state writes JournalFull rep inside is why =
-    let own = state_shown logs w v key why.0.0 rep inside why.0.1 in
-    inr (vnodes_together why.0.0.clock state.clock, (why.0.0.clock, state.clock, (own.clock, own.shows.clock), (is.clock, is.shows.clock), refl), why.0.2, sym (rep.accepted v inside) ∙ why.1)
-merge_refusal logs w v key state writes NoMemory rep inside is why = inl (refl, may_deliver logs w v key state writes rep inside why.0 why.1 is)
-merge_refusal logs w v key state writes r rep inside is why = absurd why
+merge_refusal : (logs : List Log) (w : Knowledge) (v : ℕ) (key : Key) (state : State) (writes : List Write) (r : VnodeFault) → Represents logs w → v < length logs → IsStateOf writes state → RefusesMergeAt (log_at logs v) key state r → ((r ≡ NoMemory) × MayDeliver w v key writes) ⊎ RefusesDelivery w v key writes r
+merge_refusal logs w v key state writes r rep inside is (mine, replay, why) = by_cause r why
+  where
+    own : IsStateOf (known_at w v key) mine
+    own = state_shown logs w v key mine rep inside replay
+
+    together : CountTogether (known_at w v key) writes (vnodes_together mine.clock state.clock)
+    together = (mine.clock, state.clock, (own.clock, own.shows.clock), (is.clock, is.shows.clock), refl)
+
+    by_cause : (r : VnodeFault) → StateRefusesMerge (log_at logs v) state.clock mine r → ((r ≡ NoMemory) × MayDeliver w v key writes) ⊎ RefusesDelivery w v key writes r
+    by_cause MergedClockFull why = inr (vnodes_together mine.clock state.clock, together, not_within (vnodes_together mine.clock state.clock) 1024 (λ le. why (record { clock = le })))
+    by_cause JournalFull why = inr (vnodes_together mine.clock state.clock, together, why.0.clock, sym (rep.accepted v inside) ∙ why.1)
+    by_cause NoMemory why = inl (refl, may_deliver logs w v key state writes rep inside (mine, replay, why.0.clock) why.1 is)
+    by_cause ContextAhead why = absurd why
+    by_cause TooManySiblings why = absurd why
+    by_cause ClockFull why = absurd why
 
 -- A delivery.
 pub delivery_happened : (listed : List Helper) (logs new : List Log) (w : Knowledge) (v stamp place : ℕ) (message : Message) (changed : Bool) → Represents logs w → v < length logs → IsMessageOf w place message → Appends logs new v (entry.Merge stamp message.key message.from message.at message.state)
@@ -195,14 +203,14 @@ delivery_happened listed logs new w v stamp place message changed rep inside is 
     let r = delivery_step logs w v stamp message.key message.from message.at message.state is.0 rep inside (appended_follows logs new w v (entry.Merge stamp message.key message.from message.at message.state) rep inside appends) (were_put w place message.key is.0 rep.lawful is.1) is.2 in
     (after_delivery w v message.key is.0, delivered place v message.key is.0 changed refl is.1 r.0 (tell_so changed r.2 tells) refl refl, subst (λ (ls : List Log). Represents ls (after_delivery w v message.key is.0)) (sym appends.entries) r.1)
 
-pub delivery_was_refused : (listed : List Helper) (logs : List Log) (w : Knowledge) (v place : ℕ) (message : Message) (r : Refusal) → Represents logs w → v < length logs → IsMessageOf w place message → RefusesMergeAt (log_at logs v) message.key message.state r
+pub delivery_was_refused : (listed : List Helper) (logs : List Log) (w : Knowledge) (v place : ℕ) (message : Message) (r : VnodeFault) → Represents logs w → v < length logs → IsMessageOf w place message → RefusesMergeAt (log_at logs v) message.key message.state r
     → (after : Knowledge) × Happens listed w (Deliver place v) (Refused r) after × Represents logs after
 delivery_was_refused listed logs w v place message r rep inside is why = refused_so listed logs w (Deliver place v) r rep (elim (merge_refusal logs w v message.key message.state is.0 r rep inside is.2 why) [
-  | inl memory ↦ wants_memory (message.key, is.0, is.1, memory.1) (ap (λ (x : Refusal). Refused x) memory.0) (ap (λ (x : Refusal). after_refusal w x) memory.0)
+  | inl memory ↦ wants_memory (message.key, is.0, is.1, memory.1) (ap (λ (x : VnodeFault). Refused x) memory.0) (ap (λ (x : VnodeFault). after_refusal w x) memory.0)
   | inr refuses ↦ delivery_refused place v message.key is.0 r refl is.1 refuses refl refl
 ])
 
-pub message_was_refused : (listed : List Helper) (logs : List Log) (w : Knowledge) (v place : ℕ) (r : Refusal) → Represents logs w → left_by w place ≡ Failed r
+pub message_was_refused : (listed : List Helper) (logs : List Log) (w : Knowledge) (v place : ℕ) (r : VnodeFault) → Represents logs w → left_by w place ≡ Failed r
     → (after : Knowledge) × Happens listed w (Deliver place v) (Refused r) after × Represents logs after
 message_was_refused listed logs w v place r rep failed = refused_so listed logs w (Deliver place v) r rep (refused_alike place r refl failed refl refl)
 
@@ -223,7 +231,7 @@ run_wants listed logs w replies get hook state rep remember at =
     let h : Holds (Found state) (left_by w get) = remember.each get (Found state) at in
     refused_so listed logs w (ResolveRead get hook) NoMemory rep (wants_memory (h.0, h.1, h.2) refl refl)
 
-pub get_was_refused : (listed : List Helper) (logs : List Log) (w : Knowledge) (replies : List Reply) (get : ℕ) (hook : Program) (r : Refusal) → Represents logs w → Remember replies w → slice_get replies get ≡ Some (Refused r)
+pub get_was_refused : (listed : List Helper) (logs : List Log) (w : Knowledge) (replies : List Reply) (get : ℕ) (hook : Program) (r : VnodeFault) → Represents logs w → Remember replies w → slice_get replies get ≡ Some (Refused r)
     → (after : Knowledge) × Happens listed w (ResolveRead get hook) (Refused r) after × Represents logs after
 get_was_refused listed logs w replies get hook r rep remember at = refused_so listed logs w (ResolveRead get hook) r rep (refused_alike get r refl (remember.each get (Refused r) at) refl refl)
 
@@ -241,7 +249,7 @@ choice_held events replies w run get vnode hook key resolution state remember re
     (c.1, c.5 ∙ ap (λ (k : Key). Chosen k c.1 (chosen_by resolution c.2.siblings)) same_key ∙ ap (λ (x : State). Chosen key c.1 (chosen_by resolution x.siblings)) same, (is.clock, is.shows.clock))
 
 -- A run that was replied names no refused get.
-pub never_refused : (events : List Event) (replies : List Reply) (w : Knowledge) (run get : ℕ) (hook : Program) (resolution : Resolution) (r : Refusal) → Remember replies w → Recall events replies w
+pub never_refused : (events : List Event) (replies : List Reply) (w : Knowledge) (run get : ℕ) (hook : Program) (resolution : Resolution) (r : VnodeFault) → Remember replies w → Recall events replies w
     → slice_get events run ≡ Some (ResolveRead get hook) → slice_get replies run ≡ Some (Resolved resolution) → slice_get replies get ≡ Some (Refused r) → ⊥
 never_refused events replies w run get hook resolution r remember recall names decided refused =
     let c = recall.chosen run get hook resolution names decided in
@@ -256,10 +264,10 @@ choice_happened listed logs new w run v stamp key content clock dot rep inside i
     let r = put_step logs w v stamp key clock content dot rep inside (appended_follows logs new w v (entry.Put stamp key clock content dot) rep inside appends) in
     (after_put w v key (write_of w v key clock content), choice_stored run v key is.0 content clock refl is.1 is.2 r.1 (ap (λ (d : Dot). Stored d) r.0) refl, subst (λ (ls : List Log). Represents ls (after_put w v key (write_of w v key clock content))) (sym appends.entries) r.2)
 
-pub choice_was_refused : (listed : List Helper) (logs : List Log) (w : Knowledge) (run v : ℕ) (key : Key) (content : Content) (clock : List Dot) (r : Refusal) → Represents logs w → v < length logs → IsChoiceOf w run key clock (Some content) → RefusesPutAt (log_at logs v) key clock r
+pub choice_was_refused : (listed : List Helper) (logs : List Log) (w : Knowledge) (run v : ℕ) (key : Key) (content : Content) (clock : List Dot) (r : VnodeFault) → Represents logs w → v < length logs → IsChoiceOf w run key clock (Some content) → RefusesPutAt (log_at logs v) key clock r
     → (after : Knowledge) × Happens listed w (ResolveWrite run v) (Refused r) after × Represents logs after
 choice_was_refused listed logs w run v key content clock r rep inside is why = refused_so listed logs w (ResolveWrite run v) r rep (elim (put_refusal logs w v key clock r rep inside why) [
-  | inl memory ↦ wants_memory (key, is.0, content, clock, is.1, is.2, memory.1) (ap (λ (x : Refusal). Refused x) memory.0) (ap (λ (x : Refusal). after_refusal w x) memory.0)
+  | inl memory ↦ wants_memory (key, is.0, content, clock, is.1, is.2, memory.1) (ap (λ (x : VnodeFault). Refused x) memory.0) (ap (λ (x : VnodeFault). after_refusal w x) memory.0)
   | inr refuses ↦ choice_refused run v key is.0 content clock r refl is.1 is.2 refuses refl refl
 ])
 
@@ -267,6 +275,6 @@ pub nothing_was_chosen : (listed : List Helper) (logs : List Log) (w : Knowledge
     → (after : Knowledge) × Happens listed w (ResolveWrite run v) Nothing after × Represents logs after
 nothing_was_chosen listed logs w run v key clock rep is = (after_nothing w, nothing_chosen run v key is.0 refl is.1 refl refl, nothing_step logs w rep)
 
-pub run_was_refused : (listed : List Helper) (logs : List Log) (w : Knowledge) (run v : ℕ) (r : Refusal) → Represents logs w → left_by w run ≡ Failed r
+pub run_was_refused : (listed : List Helper) (logs : List Log) (w : Knowledge) (run v : ℕ) (r : VnodeFault) → Represents logs w → left_by w run ≡ Failed r
     → (after : Knowledge) × Happens listed w (ResolveWrite run v) (Refused r) after × Represents logs after
 run_was_refused listed logs w run v r rep failed = refused_so listed logs w (ResolveWrite run v) r rep (refused_alike run r refl failed refl refl)

@@ -24,7 +24,7 @@ use Rattle.journal.proofs.Keyed.{one_key}
 use Rattle.journal.proofs.Replayed.{journal_end}
 use Rattle.world.specs.Knowledge.{Knowledge, opened, KeyedWrite, Copied, known_at, of_key, under, learns, accepts, accepted_at, id_of, next_dot, write_of, left_by, IsStateOf, after_refusal, after_put, after_copy, after_delivery, after_restart, after_run, after_nothing}
 use Rattle.world.specs.Happening.{MayPut, IsKnown, MayDeliver, LookAlike, HasPlace}
-use Rattle.world.specs.declared.event.Refusal.{Refusal}
+use Rattle.vnode.specs.declared.fault.VnodeFault.{VnodeFault}
 use Rattle.world.specs.Numbering.{IsLawful, KnowOwn, WerePut}
 use Rattle.world.specs.Represents.{ShowsAt, Represents, AreDistinct, log_at, with_entry_at, empty_logs}
 use Rattle.world.proofs.Lists.{same_key-same, Contains-nil}
@@ -182,7 +182,7 @@ restart_step logs w v stamp rep inside place = (
 )
 
 -- a refused event changes nothing but what it left
-pub refusal_step : (logs : List Log) (w : Knowledge) (r : Refusal) → Represents logs w → Represents logs (after_refusal w r)
+pub refusal_step : (logs : List Log) (w : Knowledge) (r : VnodeFault) → Represents logs w → Represents logs (after_refusal w r)
 refusal_step logs w r rep = record { lawful = lawful_refusal w r rep.lawful; own = rep.own; distinct = rep.distinct; size = rep.size; counts = rep.counts; ids = rep.ids; accepted = rep.accepted; legal = rep.legal; brings = rep.brings }
 
 -- nor what a run chose, or nothing, left for later events

@@ -14,20 +14,23 @@ use Rattle.object.specs.Known.{Write}
 use Rattle.object.specs.State.{State}
 use Rattle.world.specs.declared.event.Event.{Event}
 use Rattle.world.specs.declared.event.Event.TheVariants.{Put, Get, Send, Deliver, Restart, ResolveRead, ResolveWrite}
-use Rattle.world.specs.declared.event.Refusal.{Refusal}
-use Rattle.world.specs.declared.event.Refusal.TheVariants.{NoMemory, JournalFull}
+use Rattle.vnode.specs.declared.fault.VnodeFault.{VnodeFault}
+use Rattle.vnode.specs.declared.fault.VnodeFault.TheVariants.{NoMemory, JournalFull}
 use Rattle.world.specs.declared.event.Resolution.{Resolution}
 use Rattle.world.specs.declared.event.Reply.{Reply}
-use Rattle.world.specs.declared.event.Reply.TheVariants.{Restarted, Resolved, Refused}
+use Rattle.world.specs.declared.event.Reply.TheVariants.{Restarted, Found, Sent, Resolved, Refused}
 use Rattle.world.specs.declared.event.Seen.{Seen}
 use Rattle.world.specs.declared.event.Seen.TheVariants.{Clock as Given, Get as ContextOf}
 use Rattle.world.specs.Knowledge.{Knowledge, Left, Nothing, Copied, Chosen, Failed, below, start, known_at, left_by, IsStateOf}
 use Rattle.world.specs.Resolving.{chosen_by}
 use Rattle.world.specs.Happening.{Run, Happens, wants_memory, refused_alike, stored, put_refused, found, sent, delivered, delivery_refused, restarted, full, resolved, choice_stored, choice_refused, nothing_chosen}
 use Rattle.world.specs.Represents.{Represents, AreDistinct, empty_logs}
-use Rattle.world.specs.Running.{Holds, Remember, Recall, MayReply, MayCome, IsReady, IsReadyContext, IsGetAt, IsFoundOrRefused, IsSentOrRefused, IsResolvedOrRefused, IsEarlierContext, ReplyAt, AreRunnable, IsRunSoFar, IsWorldOf}
+use Rattle.world.specs.Running.{Holds, Remember, Recall, MayReply, MayCome, IsReady, IsReadyContext, IsGetAt, IsFoundOrRefused, IsSentOrRefused, IsResolvedOrRefused, IsEarlierContext, ReplyAt, AreRunnable, IsRunSoFar, IsAnswered, found as was_found, copied as was_copied, kept as was_kept, IsWorldOf}
+use Rattle.world.specs.Stamped.{AreStamped}
+use Rattle.world.specs.Numbering.{WerePut}
 use Rattle.world.proofs.Causal.{lawful_causal, known_put}
 use Rattle.world.proofs.Equal.{equal_states}
+use Rattle.world.proofs.Stamped.{none_stamped}
 use Rattle.world.proofs.Steps.{opened_represents, shown, state_shown}
 
 -- what stands in a list with one more at its end
@@ -60,7 +63,7 @@ record IsLeft (old : Knowledge) (event : Event) (reply : Reply) (left : Left) : 
       → (key : Key) × (writes : List Write) × (state : State) × (left_by old get ≡ Copied key writes) × IsStateOf writes state × (left ≡ Chosen key writes (chosen_by resolution state.siblings))
 
 -- a refusal
-failed_left : (old : Knowledge) (event : Event) (reply : Reply) (refusal : Refusal) → reply ≡ Refused refusal → IsLeft old event reply (Failed refusal)
+failed_left : (old : Knowledge) (event : Event) (reply : Reply) (refusal : VnodeFault) → reply ≡ Refused refusal → IsLeft old event reply (Failed refusal)
 failed_left old event reply refusal r = record {
   holds = subst (λ (x : Reply). Holds x (Failed refusal)) (sym r) refl;
   key = λ v k other writes e l. absurd (cc);
@@ -192,7 +195,7 @@ recall_more listed events replies old event reply new len remember recall names 
     same_copy get key writes c = left_before old new h.0 get h.1 (copied_within old.left get key writes c) ∙ c
 
 -- an event's reply is of its kind
-refusal_may : (event : Event) (refusal : Refusal) → MayReply event (Refused refusal)
+refusal_may : (event : Event) (refusal : VnodeFault) → MayReply event (Refused refusal)
 refusal_may (Put v key seen content) refusal = tt
 refusal_may (Get v key) refusal = tt
 refusal_may (Send v key) refusal = tt
@@ -218,32 +221,32 @@ kind_is listed old event reply new (choice_refused run v key writes content cloc
 kind_is listed old event reply new (nothing_chosen run v key writes is l r e) = subst (λ (x : Event). MayReply x reply) (sym is) tt
 
 -- what a named event replied
-replied : (n : ℕ) (listed : List Helper) (events : List Event) (replies : List Reply) (logs : List Log) (place : ℕ) (event : Event) → IsRunSoFar n listed events replies logs → slice_get events place ≡ Some event → ReplyAt replies place (MayReply event)
-replied n listed events replies logs place event so_far at =
+replied : (n : ℕ) (listed : List Helper) (events : List Event) (replies : List Reply) (logs : List Log) (made place : ℕ) (event : Event) → IsRunSoFar n listed events replies logs made → slice_get events place ≡ Some event → ReplyAt replies place (MayReply event)
+replied n listed events replies logs made place event so_far at =
     let lt : place < length replies = let l = so_far.len in let h = slice_get_within events place event at in omega arith in
     let r : Reply = get_or replies place Restarted in
     let is : slice_get replies place ≡ Some r = slice_get_read replies (length replies) place (get_or replies place Restarted) refl lt (get_or_default replies place Restarted (get_or replies place Restarted) lt) in
     (get_or replies place Restarted, is, so_far.kinds place event (get_or replies place Restarted) at is)
 
 -- an event that may come is ready
-pub is_ready : (n : ℕ) (listed : List Helper) (events : List Event) (replies : List Reply) (logs : List Log) (event : Event) → IsRunSoFar n listed events replies logs → MayCome n listed events event → IsReady (length logs) listed events replies event
-is_ready n listed events replies logs (Put v key seen content) so_far come = (subst (λ (m : ℕ). v < m) (sym so_far.size) come.0, context seen come.1)
+pub is_ready : (n : ℕ) (listed : List Helper) (events : List Event) (replies : List Reply) (logs : List Log) (made : ℕ) (event : Event) → IsRunSoFar n listed events replies logs made → MayCome n listed events event → IsReady (length logs) listed events replies event
+is_ready n listed events replies logs made (Put v key seen content) so_far come = (subst (λ (m : ℕ). v < m) (sym so_far.size) come.0, context seen come.1)
   where
     context : (s : Seen) → IsEarlierContext events s → IsReadyContext replies s
     context (Given clock) h = tt
-    context (ContextOf get) h = replied n listed events replies logs get (Get h.0 h.1) so_far h.2
-is_ready n listed events replies logs (Get v key) so_far come = subst (λ (m : ℕ). v < m) (sym so_far.size) come
-is_ready n listed events replies logs (Send v key) so_far come = subst (λ (m : ℕ). v < m) (sym so_far.size) come
-is_ready n listed events replies logs (Deliver message v) so_far come = (subst (λ (m : ℕ). v < m) (sym so_far.size) come.0, let h = come.1 in replied n listed events replies logs message (Send h.0 h.1) so_far h.2)
-is_ready n listed events replies logs (Restart v) so_far come = subst (λ (m : ℕ). v < m) (sym so_far.size) come
-is_ready n listed events replies logs (ResolveRead get hook) so_far come = (let h = come.0 in replied n listed events replies logs get (Get h.0 h.1) so_far h.2, come.1)
-is_ready n listed events replies logs (ResolveWrite run v) so_far come = (
+    context (ContextOf get) h = replied n listed events replies logs made get (Get h.0 h.1) so_far h.2
+is_ready n listed events replies logs made (Get v key) so_far come = subst (λ (m : ℕ). v < m) (sym so_far.size) come
+is_ready n listed events replies logs made (Send v key) so_far come = subst (λ (m : ℕ). v < m) (sym so_far.size) come
+is_ready n listed events replies logs made (Deliver message v) so_far come = (subst (λ (m : ℕ). v < m) (sym so_far.size) come.0, let h = come.1 in replied n listed events replies logs made message (Send h.0 h.1) so_far h.2)
+is_ready n listed events replies logs made (Restart v) so_far come = subst (λ (m : ℕ). v < m) (sym so_far.size) come
+is_ready n listed events replies logs made (ResolveRead get hook) so_far come = (let h = come.0 in replied n listed events replies logs made get (Get h.0 h.1) so_far h.2, come.1)
+is_ready n listed events replies logs made (ResolveWrite run v) so_far come = (
   subst (λ (m : ℕ). v < m) (sym so_far.size) come.0,
   record {
     event = come.1;
-    reply = let h = come.1 in replied n listed events replies logs run (ResolveRead h.0 h.1) so_far h.2;
+    reply = let h = come.1 in replied n listed events replies logs made run (ResolveRead h.0 h.1) so_far h.2;
     asked = λ get hook at. so_far.recall.named run get hook at;
-    answered = λ get hook at. let g = so_far.recall.named run get hook at in replied n listed events replies logs get (Get g.0 g.1) so_far g.2;
+    answered = λ get hook at. let g = so_far.recall.named run get hook at in replied n listed events replies logs made get (Get g.0 g.1) so_far g.2;
   },
 )
 
@@ -252,8 +255,8 @@ names_get : (n : ℕ) (listed : List Helper) (events : List Event) (event : Even
 names_get n listed events event come get hook is = let c : MayCome n listed events (ResolveRead get hook) = subst (MayCome n listed events) is come in c.0
 
 -- one event more was run
-pub goes_on : (n : ℕ) (listed : List Helper) (events : List Event) (replies : List Reply) (logs new : List Log) (event : Event) (reply : Reply) → IsRunSoFar n listed events replies logs → MayCome n listed events event → length new ≡ length logs → ((old : Knowledge) → Represents logs old → Remember replies old → Recall events replies old → (after : Knowledge) × Happens listed old event reply after × Represents new after) → IsRunSoFar n listed (events ++ event ∷ []) (replies ++ reply ∷ []) new
-goes_on n listed events replies logs new event reply so_far come same step =
+pub goes_on : (n : ℕ) (listed : List Helper) (events : List Event) (replies : List Reply) (logs new : List Log) (made more : ℕ) (event : Event) (reply : Reply) → IsRunSoFar n listed events replies logs made → MayCome n listed events event → length new ≡ length logs → (AreStamped logs made → AreStamped new more) → more ≤ made + 1 → ((old : Knowledge) → Represents logs old → Remember replies old → Recall events replies old → (after : Knowledge) × Happens listed old event reply after × Represents new after) → IsRunSoFar n listed (events ++ event ∷ []) (replies ++ reply ∷ []) new more
+goes_on n listed events replies logs new made more event reply so_far come same stamps few step =
     let h = step so_far.known so_far.represents so_far.remember so_far.recall in
     record {
       known = h.0;
@@ -261,6 +264,8 @@ goes_on n listed events replies logs new event reply so_far come same step =
       size = same ∙ so_far.size;
       len = length-append replies (reply ∷ []) ∙ ap (λ (k : ℕ). k + 1) so_far.len ∙ sym (length-append events (event ∷ []));
       represents = h.2;
+      stamped = stamps so_far.stamped;
+      few = let f = so_far.few in let l = length-append replies (reply ∷ []) in omega (arith, f, few, l);
       remember = remember_more listed replies so_far.known event reply h.0 so_far.remember h.1;
       recall = recall_more listed events replies so_far.known event reply h.0 so_far.len so_far.remember so_far.recall (names_get n listed events event come) h.1;
       kinds = λ place e r ate atr. elim (more_cases events event e place ate) [
@@ -300,13 +305,15 @@ below_at (suc n) v lt = elim (cases_lt v n) [
 ]
 
 -- nothing was run
-pub nothing_run : (n : ℕ) (listed : List Helper) → IsRunSoFar n listed [] [] (empty_logs (below n))
+pub nothing_run : (n : ℕ) (listed : List Helper) → IsRunSoFar n listed [] [] (empty_logs (below n)) 0
 nothing_run n listed = record {
   known = start n;
   run = refl;
   size = length-map (below n) (λ (id : ℕ). let l : Log = record { vnode = id; entries = [] } in l) ∙ below_len n;
   len = refl;
   represents = opened_represents (below n) distinct;
+  stamped = none_stamped (below n);
+  few = omega arith;
   remember = record { len = refl; each = λ place reply at. absurd (let h = slice_get_within [] place reply at in omega arith) };
   recall = record {
     keys = λ place v k other writes at l. absurd (let h = slice_get_within [] place (Get v k) at in omega arith);
@@ -319,15 +326,31 @@ nothing_run n listed = record {
     distinct : AreDistinct (below n)
     distinct u v lu lv e = let l = below_len n in sym (below_at n u (omega (arith, lu))) ∙ e ∙ below_at n v (omega (arith, lv))
 
+-- what was answered for a key was put under it
+answered : (n : ℕ) (listed : List Helper) (events : List Event) (replies : List Reply) (logs : List Log) (made : ℕ) (so_far : IsRunSoFar n listed events replies logs made) (key : Key) (state : State) → IsAnswered events (record { logs = logs; replies = replies }) key state
+    → (writes : List Write) × WerePut so_far.known key writes × IsStateOf writes state
+answered n listed events replies logs made so_far key state (was_found place v at reply) =
+    let h : Holds (Found state) (left_by so_far.known place) = so_far.remember.each place (Found state) reply in
+    (h.1, so_far.represents.lawful.copied place key h.1 (h.2 ∙ ap (λ (k : Key). Copied k h.1) (so_far.recall.keys place v key h.0 h.1 at h.2)), h.3)
+answered n listed events replies logs made so_far key state (was_copied place message reply is_key is_state) =
+    let h : Holds (Sent message) (left_by so_far.known place) = so_far.remember.each place (Sent message) reply in
+    (h.0, so_far.represents.lawful.copied place key h.0 (h.1 ∙ ap (λ (k : Key). Copied k h.0) is_key), subst (IsStateOf h.0) is_state h.2)
+answered n listed events replies logs made so_far key state (was_kept v lt replay) =
+    (known_at so_far.known v key, known_put so_far.known v key so_far.represents.lawful, state_shown logs so_far.known v key state so_far.represents lt replay)
+
 -- a whole run is a world
-pub world_of : (n : ℕ) (listed : List Helper) (events : List Event) (replies : List Reply) (logs : List Log) → IsRunSoFar n listed events replies logs → IsWorldOf n listed events (record { logs = logs; replies = replies })
-world_of n listed events replies logs so_far = record {
+pub world_of : (n : ℕ) (listed : List Helper) (events : List Event) (replies : List Reply) (logs : List Log) (made : ℕ) → IsRunSoFar n listed events replies logs made → IsWorldOf n listed events (record { logs = logs; replies = replies })
+world_of n listed events replies logs made so_far = record {
   known = so_far.known;
   run = so_far.run;
   size = so_far.size;
+  represents = so_far.represents;
+  stamped = subst (AreStamped logs) (sym so_far.stamped.count) so_far.stamped;
   siblings = λ v key lt. shown logs so_far.known v key so_far.represents (subst (λ (m : ℕ). v < m) (sym so_far.size) lt);
   states = λ v key state lt replay. state_shown logs so_far.known v key state so_far.represents (subst (λ (m : ℕ). v < m) (sym so_far.size) lt) replay;
   causal = lawful_causal so_far.known so_far.represents.lawful;
-  told = λ key mine theirs a b. equal_states so_far.known key mine theirs a b so_far.represents.lawful;
-  put_here = λ v key lt. known_put so_far.known v key so_far.represents.lawful;
+  told = λ key a b mine theirs.
+      let m = answered n listed events replies logs made so_far key a mine in
+      let t = answered n listed events replies logs made so_far key b theirs in
+      equal_states so_far.known key m.0 t.0 a b so_far.represents.lawful m.1 t.1 m.2 t.2;
 }

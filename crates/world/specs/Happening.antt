@@ -1,5 +1,5 @@
 -- What an event may reply and lead to (Riak KV documentation: siblings and causal contexts; the limits are this store's profile).
-use Rattle.std.specs.Prelude.{◌≡◌, ℕ, ◌^◌, ◌<◌, ◌≤◌, ◌↔◌, Bool, List, [], ◌∷◌, ◌++◌, length, MatchBool, Option, Some, None}
+use Rattle.std.specs.Prelude.{◌≡◌, ℕ, ◌<◌, ◌≤◌, ◌↔◌, Bool, List, [], ◌∷◌, ◌++◌, length, MatchBool, Option, Some, None}
 use Rattle.helpers.specs.declared.sig.Entry.{Entry}
 use Rattle.verifier.specs.Program.{Program}
 use Rattle.dvv.specs.declared.Dot.{Dot}
@@ -8,14 +8,15 @@ use Rattle.object.specs.declared.content.Content.{Content}
 use Rattle.object.specs.declared.content.Key.{Key}
 use Rattle.object.specs.State.{State, kept}
 use Rattle.object.specs.Known.{Write, InContext, IsCurrent}
+use Rattle.journal.specs.Logs.{max_entries}
 use Rattle.world.specs.declared.event.Event.{Event}
 use Rattle.world.specs.declared.event.Event.TheVariants.{Put, Get, Send, Deliver, Restart, ResolveRead, ResolveWrite}
 use Rattle.world.specs.declared.event.Message.{Message}
 use Rattle.world.specs.declared.event.Resolution.{Resolution}
 use Rattle.world.specs.declared.event.Seen.{Seen}
 use Rattle.world.specs.declared.event.Seen.TheVariants.{Clock as Given, Get as ContextOf}
-use Rattle.world.specs.declared.event.Refusal.{Refusal}
-use Rattle.world.specs.declared.event.Refusal.TheVariants.{ContextAhead, TooManySiblings, ClockFull, MergeFull, JournalFull, NoMemory}
+use Rattle.vnode.specs.declared.fault.VnodeFault.{VnodeFault}
+use Rattle.vnode.specs.declared.fault.VnodeFault.TheVariants.{ContextAhead, TooManySiblings, ClockFull, MergedClockFull, JournalFull, NoMemory}
 use Rattle.world.specs.declared.event.Reply.{Reply}
 use Rattle.world.specs.declared.event.Reply.TheVariants.{Stored, Found, Sent, Changed, Restarted, Resolved, Nothing, Refused}
 use Rattle.world.specs.Knowledge.{Knowledge, Copied, Chosen, Failed, left_by, known_at, id_of, accepted_at, IsContext, IsStateOf, write_of, next_dot, after_refusal, after_put, after_copy, after_delivery, after_restart, after_run, after_nothing}
@@ -55,11 +56,11 @@ IsFullFor known dot = (clock : List Dot) × IsContext known clock × (HasRoom cl
 
 -- a vnode's journal takes one event more
 abbrev pub HasPlace : Knowledge → ℕ → Type 0
-HasPlace world vnode = accepted_at world vnode < 2 ^ 32
+HasPlace world vnode = accepted_at world vnode < max_entries
 
 -- a vnode's journal is full
 abbrev pub IsFull : Knowledge → ℕ → Type 0
-IsFull world vnode = accepted_at world vnode ≡ 2 ^ 32
+IsFull world vnode = accepted_at world vnode ≡ max_entries
 
 -- nothing stands against a put that had seen the events of a clock
 pub record MayPut (world : Knowledge) (vnode : ℕ) (key : Key) (seen : List Dot) : Type 0 where
@@ -69,7 +70,7 @@ pub record MayPut (world : Knowledge) (vnode : ℕ) (key : Key) (seen : List Dot
   pub journal : HasPlace world vnode
 
 -- why such a put is refused: the first of these that stands against it
-abbrev pub RefusesPut : Knowledge → ℕ → Key → List Dot → Refusal → Type 0
+abbrev pub RefusesPut : Knowledge → ℕ → Key → List Dot → VnodeFault → Type 0
 RefusesPut world vnode key seen ContextAhead = IsKnown (known_at world vnode key) seen → ⊥
 RefusesPut world vnode key seen TooManySiblings =
     IsKnown (known_at world vnode key) seen × ((count : ℕ) × Keeps (known_at world vnode key) seen count × (64 ≤ count))
@@ -79,7 +80,7 @@ RefusesPut world vnode key seen ClockFull =
 RefusesPut world vnode key seen JournalFull =
     IsKnown (known_at world vnode key) seen × ((count : ℕ) × Keeps (known_at world vnode key) seen count × (count < 64))
     × TakesOneMore (known_at world vnode key) (next_dot world vnode key) × IsFull world vnode
-RefusesPut world vnode key seen MergeFull = ⊥
+RefusesPut world vnode key seen MergedClockFull = ⊥
 RefusesPut world vnode key seen NoMemory = ⊥
 
 -- how many vnodes the clocks of two sets of writes count together
@@ -92,8 +93,8 @@ pub record MayDeliver (world : Knowledge) (vnode : ℕ) (key : Key) (writes : Li
   pub journal : HasPlace world vnode
 
 -- why a delivery of some writes is refused
-abbrev pub RefusesDelivery : Knowledge → ℕ → Key → List Write → Refusal → Type 0
-RefusesDelivery world vnode key writes MergeFull = (count : ℕ) × CountTogether (known_at world vnode key) writes count × (1024 < count)
+abbrev pub RefusesDelivery : Knowledge → ℕ → Key → List Write → VnodeFault → Type 0
+RefusesDelivery world vnode key writes MergedClockFull = (count : ℕ) × CountTogether (known_at world vnode key) writes count × (1024 < count)
 RefusesDelivery world vnode key writes JournalFull = (count : ℕ) × CountTogether (known_at world vnode key) writes count × (count ≤ 1024) × IsFull world vnode
 RefusesDelivery world vnode key writes ContextAhead = ⊥
 RefusesDelivery world vnode key writes TooManySiblings = ⊥
@@ -137,13 +138,13 @@ pub data Happens (listed : List Entry) (old : Knowledge) (event : Event) (reply 
   -- an event against which nothing stands may want memory, and then it didn't happen
   wants_memory : MayHappen old event → reply ≡ Refused NoMemory → new ≡ after_refusal old NoMemory → Happens listed old event reply new
   -- an event that names a refused one is refused alike
-  refused_alike : (name : ℕ) (refusal : Refusal) → named event ≡ Some name → left_by old name ≡ Failed refusal
+  refused_alike : (name : ℕ) (refusal : VnodeFault) → named event ≡ Some name → left_by old name ≡ Failed refusal
       → reply ≡ Refused refusal → new ≡ after_refusal old refusal → Happens listed old event reply new
   -- a put gets the next identifier of its vnode and key, and its write joins what its vnode knows
   stored : (vnode : ℕ) (key : Key) (seen : Seen) (content : Content) (clock : List Dot) → event ≡ Put vnode key seen content
       → Means old seen clock → MayPut old vnode key clock
       → reply ≡ Stored (next_dot old vnode key) → new ≡ after_put old vnode key (write_of old vnode key clock content) → Happens listed old event reply new
-  put_refused : (vnode : ℕ) (key : Key) (seen : Seen) (content : Content) (clock : List Dot) (refusal : Refusal) → event ≡ Put vnode key seen content
+  put_refused : (vnode : ℕ) (key : Key) (seen : Seen) (content : Content) (clock : List Dot) (refusal : VnodeFault) → event ≡ Put vnode key seen content
       → Means old seen clock → RefusesPut old vnode key clock refusal
       → reply ≡ Refused refusal → new ≡ after_refusal old refusal → Happens listed old event reply new
   -- a get answers the current writes and their context
@@ -159,7 +160,7 @@ pub data Happens (listed : List Entry) (old : Knowledge) (event : Event) (reply 
       → MayDeliver old vnode key writes
       → MatchBool changed (LookAlike (known_at old vnode key) (known_at old vnode key ++ writes) → ⊥) (LookAlike (known_at old vnode key) (known_at old vnode key ++ writes))
       → reply ≡ Changed changed → new ≡ after_delivery old vnode key writes → Happens listed old event reply new
-  delivery_refused : (message vnode : ℕ) (key : Key) (writes : List Write) (refusal : Refusal) → event ≡ Deliver message vnode
+  delivery_refused : (message vnode : ℕ) (key : Key) (writes : List Write) (refusal : VnodeFault) → event ≡ Deliver message vnode
       → left_by old message ≡ Copied key writes → RefusesDelivery old vnode key writes refusal
       → reply ≡ Refused refusal → new ≡ after_refusal old refusal → Happens listed old event reply new
   -- a restart changes nothing
@@ -176,7 +177,7 @@ pub data Happens (listed : List Entry) (old : Knowledge) (event : Event) (reply 
   choice_stored : (run vnode : ℕ) (key : Key) (writes : List Write) (content : Content) (clock : List Dot) → event ≡ ResolveWrite run vnode
       → left_by old run ≡ Chosen key writes (Some content) → IsContext writes clock → MayPut old vnode key clock
       → reply ≡ Stored (next_dot old vnode key) → new ≡ after_put old vnode key (write_of old vnode key clock content) → Happens listed old event reply new
-  choice_refused : (run vnode : ℕ) (key : Key) (writes : List Write) (content : Content) (clock : List Dot) (refusal : Refusal) → event ≡ ResolveWrite run vnode
+  choice_refused : (run vnode : ℕ) (key : Key) (writes : List Write) (content : Content) (clock : List Dot) (refusal : VnodeFault) → event ≡ ResolveWrite run vnode
       → left_by old run ≡ Chosen key writes (Some content) → IsContext writes clock → RefusesPut old vnode key clock refusal
       → reply ≡ Refused refusal → new ≡ after_refusal old refusal → Happens listed old event reply new
   -- where a run chose nothing, nothing is put

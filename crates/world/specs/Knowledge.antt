@@ -7,7 +7,7 @@ use Rattle.object.specs.declared.content.Key.{Key}
 use Rattle.object.specs.State.{State, AreInOrder}
 use Rattle.object.specs.Known.{Write, InContext, Shows}
 use Rattle.journal.specs.Keys.{same_key}
-use Rattle.world.specs.declared.event.Refusal.{Refusal}
+use Rattle.vnode.specs.declared.fault.VnodeFault.{VnodeFault}
 
 -- a write under its key
 pub record KeyedWrite : Type 0 where
@@ -20,7 +20,7 @@ pub data Left : Type 0 where
   Nothing : Left
   Copied : (key : Key) (writes : List Write) → Left
   Chosen : (key : Key) (writes : List Write) (content : Option Content) → Left
-  Failed : (refusal : Refusal) → Left
+  Failed : (refusal : VnodeFault) → Left
 
 -- the vnodes' identifiers by index; all accepted puts, oldest first; what each vnode knows; how many events each accepted; and what each event left
 pub record Knowledge : Type 0 where
@@ -98,7 +98,7 @@ abbrev pub write_of : Knowledge → ℕ → Key → List Dot → Content → Wri
 write_of world vnode key seen content = record { dot = next_dot world vnode key; content = content; seen = covers seen }
 
 -- a refused event changes nothing, and is remembered for those that name it
-abbrev pub after_refusal : Knowledge → Refusal → Knowledge
+abbrev pub after_refusal : Knowledge → VnodeFault → Knowledge
 after_refusal world refusal = record {
   ids = world.ids;
   puts = world.puts;

@@ -4,5 +4,6 @@ pub mod Happening
 pub mod Causality
 pub mod Numbering
 pub mod Represents
+pub mod Stamped
 pub mod Appending
 pub mod Running

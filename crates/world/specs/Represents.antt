@@ -5,14 +5,11 @@ use Rattle.object.specs.declared.content.Content.{Content}
 use Rattle.object.specs.declared.content.Key.{Key}
 use Rattle.object.specs.Known.{Write, IsCurrent, InContext}
 use Rattle.journal.specs.declared.entry.Entry.{Entry}
-use Rattle.journal.specs.declared.entry.Entry.TheVariants.{Put, Merge, Read, Restart}
 use Rattle.journal.specs.Logs.{Log, with_entry}
 use Rattle.journal.specs.Replay.{sibling_in, known_in}
 use Rattle.journal.specs.Journals.{IsJournal}
 use Rattle.journal.specs.Brought.{BringsAll}
-use Rattle.world.specs.declared.event.Event as event
-use Rattle.world.specs.declared.event.Seen.TheVariants.{Clock as Given}
-use Rattle.world.specs.Knowledge.{Knowledge, Copied, id_of, known_at, accepted_at, left_by, IsStateOf}
+use Rattle.world.specs.Knowledge.{Knowledge, id_of, known_at, accepted_at}
 use Rattle.world.specs.Numbering.{IsLawful, KnowOwn}
 
 -- The siblings that a journal leaves at a key are the current ones of some writes, each under its identifier, and the clock stands for their context.
@@ -47,10 +44,3 @@ pub record Represents (logs : List Log) (world : Knowledge) : Type 0 where
   pub accepted : (vnode : ℕ) → vnode < length logs → length (log_at logs vnode).entries ≡ accepted_at world vnode
   pub legal : (vnode : ℕ) → vnode < length logs → IsJournal (id_of world vnode) (log_at logs vnode).entries
   pub brings : (vnode : ℕ) (key : Key) → vnode < length logs → BringsAll key (log_at logs vnode).entries (known_at world vnode key)
-
--- the event that an entry at a vnode is: a merge is the delivery of an earlier copy of the key whose writes its state shows
-abbrev pub IsEventOf : Knowledge → ℕ → Entry → event.Event → Type 0
-IsEventOf world vnode (Put stamp key seen content dot) what = what ≡ event.TheVariants.Put vnode key (Given seen) content
-IsEventOf world vnode (Merge stamp key from at state) what = (message : ℕ) × (what ≡ event.TheVariants.Deliver message vnode) × ((writes : List Write) × (left_by world message ≡ Copied key writes) × IsStateOf writes state)
-IsEventOf world vnode (Read stamp key) what = what ≡ event.TheVariants.Send vnode key
-IsEventOf world vnode (Restart stamp) what = what ≡ event.TheVariants.Restart vnode

@@ -1,5 +1,5 @@
 -- Runs of the code: which events may be run, what is kept of those that were, and what then holds.
-use Rattle.std.specs.Prelude.{◌≡◌, ℕ, ◌<◌, List, length, take, map, slice_get, Option, Some}
+use Rattle.std.specs.Prelude.{◌≡◌, ℕ, ◌<◌, ◌≤◌, List, length, take, map, slice_get, Option, Some}
 use Rattle.dvv.specs.declared.Dot.{Dot}
 use Rattle.helpers.specs.declared.sig.Entry.{Entry}
 use Rattle.verifier.specs.Program.{Program}
@@ -15,21 +15,25 @@ use Rattle.world.specs.declared.event.Event.TheVariants.{Put, Get, Send, Deliver
 use Rattle.world.specs.declared.event.Seen.{Seen}
 use Rattle.world.specs.declared.event.Seen.TheVariants.{Clock as Given, Get as ContextOf}
 use Rattle.world.specs.declared.event.Message.{Message}
-use Rattle.world.specs.declared.event.Refusal.{Refusal}
+use Rattle.vnode.specs.declared.fault.VnodeFault.{VnodeFault}
 use Rattle.world.specs.declared.event.Resolution.{Resolution}
 use Rattle.world.specs.declared.event.Reply.{Reply}
 use Rattle.world.specs.declared.event.Reply.TheVariants.{Stored, Found, Sent, Changed, Restarted, Resolved, Nothing, Refused}
 use Rattle.world.specs.Causality.{IsCausal}
 use Rattle.world.specs.Happening.{Run}
 use Rattle.world.specs.Knowledge.{Knowledge, Left, Copied, Chosen, Failed, start, left_by, known_at, IsContext, IsStateOf}
-use Rattle.world.specs.Numbering.{WerePut}
 use Rattle.world.specs.Resolving.{MayRun, chosen_by}
 use Rattle.world.specs.Represents.{ShowsAt, Represents, log_at}
+use Rattle.world.specs.Stamped.{AreStamped, entries_of}
 
 -- the vnodes' journals and the replies
 pub record Ran : Type 0 where
   pub logs : List Log
   pub replies : List Reply
+
+-- the most vnodes: an index has 16 bits of an identifier
+abbrev pub max_vnodes : ℕ
+max_vnodes = 65536
 
 -- the event at a place is a get
 abbrev pub IsGetAt : List Event → ℕ → Type 0
@@ -163,7 +167,7 @@ abbrev pub IsMessageOf : Knowledge → ℕ → Message → Type 0
 IsMessageOf world place message = (writes : List Write) × (left_by world place ≡ Copied message.key writes) × IsStateOf writes message.state
 
 -- a context that is named was refused
-abbrev pub IsRefusedContext : Knowledge → Seen → Refusal → Type 0
+abbrev pub IsRefusedContext : Knowledge → Seen → VnodeFault → Type 0
 IsRefusedContext world (Given clock) refusal = ⊥
 IsRefusedContext world (ContextOf get) refusal = left_by world get ≡ Failed refusal
 
@@ -171,24 +175,34 @@ IsRefusedContext world (ContextOf get) refusal = left_by world get ≡ Failed re
 abbrev pub IsChoiceOf : Knowledge → ℕ → Key → List Dot → Option Content → Type 0
 IsChoiceOf world run key seen content = (writes : List Write) × (left_by world run ≡ Chosen key writes content) × IsContext writes seen
 
--- what is known once some events were run
-pub record IsRunSoFar (vnodes : ℕ) (listed : List Entry) (events : List Event) (replies : List Reply) (logs : List Log) : Type 0 where
+-- what is known once some events were run, and so many entries made
+pub record IsRunSoFar (vnodes : ℕ) (listed : List Entry) (events : List Event) (replies : List Reply) (logs : List Log) (made : ℕ) : Type 0 where
   pub known : Knowledge
   pub run : Run listed (start vnodes) events replies known
   pub size : length logs ≡ vnodes
   pub len : length replies ≡ length events
   pub represents : Represents logs known
+  pub stamped : AreStamped logs made
+  pub few : made ≤ length replies
   pub remember : Remember replies known
   pub recall : Recall events replies known
   pub kinds : (place : ℕ) (event : Event) (reply : Reply) → slice_get events place ≡ Some event → slice_get replies place ≡ Some reply → MayReply event reply
 
--- Siblings are the unseen writes: the replies are those of a run of the events, and of what is then known each vnode shows at each key the current writes and their context.
+-- a state of a key was answered: a get found it, a send copied it, or a vnode has it at the end
+pub data IsAnswered (events : List Event) (ran : Ran) (key : Key) (state : State) : Type 0 where
+  found : (place vnode : ℕ) → slice_get events place ≡ Some (Get vnode key) → slice_get ran.replies place ≡ Some (Found state) → IsAnswered events ran key state
+  copied : (place : ℕ) (message : Message) → slice_get ran.replies place ≡ Some (Sent message) → message.key ≡ key → message.state ≡ state → IsAnswered events ran key state
+  kept : (vnode : ℕ) → vnode < length ran.logs → IsReplay (log_at ran.logs vnode).entries key state → IsAnswered events ran key state
+
+-- Siblings are the unseen writes: the replies are those of a run of the events, the journals brought what is then known, and of this each vnode
+-- shows at each key the current writes and their context. Stamps tell in what order all entries were made. Answered states are told apart by dots and clocks.
 pub record IsWorldOf (vnodes : ℕ) (listed : List Entry) (events : List Event) (ran : Ran) : Type 0 where
   pub known : Knowledge
   pub run : Run listed (start vnodes) events ran.replies known
   pub size : length ran.logs ≡ vnodes
+  pub represents : Represents ran.logs known
+  pub stamped : AreStamped ran.logs (entries_of ran.logs)
   pub siblings : (vnode : ℕ) (key : Key) → vnode < vnodes → ShowsAt (log_at ran.logs vnode).entries key (known_at known vnode key)
   pub states : (vnode : ℕ) (key : Key) (state : State) → vnode < vnodes → IsReplay (log_at ran.logs vnode).entries key state → IsStateOf (known_at known vnode key) state
   pub causal : IsCausal known.puts
-  pub told : (key : Key) (mine theirs : List Write) (a b : State) → WerePut known key mine → WerePut known key theirs → IsStateOf mine a → IsStateOf theirs b → map (λ (s : Sibling). s.dot) a.siblings ≡ map (λ (s : Sibling). s.dot) b.siblings → a.clock ≡ b.clock → a ≡ b
-  pub put_here : (vnode : ℕ) (key : Key) → vnode < vnodes → WerePut known key (known_at known vnode key)
+  pub told : (key : Key) (a b : State) → IsAnswered events ran key a → IsAnswered events ran key b → map (λ (s : Sibling). s.dot) a.siblings ≡ map (λ (s : Sibling). s.dot) b.siblings → a.clock ≡ b.clock → a ≡ b

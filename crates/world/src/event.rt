@@ -3,8 +3,8 @@
 use abi::BadAnswer;
 use dvv::{Clock, Dot};
 use object::{Content, Key, KeyState};
-use thiserror::Error;
 use verifier::Verified;
+use vnode::VnodeFault;
 
 /// What a put had seen.
 #[derive(Drop)]
@@ -56,29 +56,6 @@ pub enum Event {
     },
 }
 
-/// Why an event changed nothing. It shows its number.
-#[derive(Clone, Copy, Debug, PartialEq, Eq, Error)]
-pub enum Refusal {
-    /// The put had seen what its vnode doesn't know.
-    #[error("P1")]
-    ContextAhead,
-    /// The key would have over 64 siblings.
-    #[error("P2")]
-    TooManySiblings,
-    /// The key's clock would pass its limits by the put.
-    #[error("P3")]
-    ClockFull,
-    /// The merged clock would pass its limit.
-    #[error("M1")]
-    MergeFull,
-    /// The vnode's journal is full.
-    #[error("J1")]
-    JournalFull,
-    /// Memory was refused.
-    #[error("E1")]
-    NoMemory,
-}
-
 /// The state of a key as an entry of a vnode's journal copied it.
 #[derive(Drop)]
 pub struct Message {
@@ -124,6 +101,6 @@ pub enum Reply {
     Resolved(Resolution),
     /// The named run chose no content, and nothing was put.
     Nothing,
-    /// The event changed nothing.
-    Refused(Refusal),
+    /// The event changed nothing: its vnode refused, or an event that it names was refused so.
+    Refused(VnodeFault),
 }

@@ -8,5 +8,5 @@ mod resolving;
 mod tests;
 mod world;
 
-pub use event::{Event, Message, Refusal, Reply, Resolution, Seen};
+pub use event::{Event, Message, Reply, Resolution, Seen};
 pub use world::{MAX_VNODES, World};

@@ -15,16 +15,17 @@ ghost use Rattle.journal.specs.Journals.{MayFollow};
 ghost use Rattle.world.specs.Knowledge.{Knowledge, start, opened, below, left_by, Failed};
 ghost use Rattle.world.specs.Happening.{Happens, Means};
 ghost use Rattle.world.specs.Represents.{Represents, log_at, with_entry_at, empty_logs};
-ghost use Rattle.world.specs.Appending.{Appends, RefusesPutAt, RefusesMergeAt, RefusesEntryAt, refusal_of_vnode};
-ghost use Rattle.world.specs.Running.{IsWorldOf, IsMessageOf, Remember, IsReady, IsReadyContext, ReplyAt, IsSentOrRefused, IsRefusedContext, AreRunnable, MayReply, Recall, IsReadyRun, IsGetAt, IsRunAt, IsChoiceOf, IsFoundOrRefused, IsResolvedOrRefused};
+ghost use Rattle.vnode.specs.Refusals.{RefusesPut, RefusesMerge, RefusesEntry};
+ghost use Rattle.world.specs.Appending.{Appends};
+ghost use Rattle.world.specs.Stamped.{AreStamped};
+ghost use Rattle.world.specs.Running.{IsMessageOf, Remember, IsReady, IsReadyContext, ReplyAt, IsSentOrRefused, IsRefusedContext, AreRunnable, MayReply, Recall, IsReadyRun, IsGetAt, IsRunAt, IsChoiceOf, IsFoundOrRefused, IsResolvedOrRefused};
 ghost use Rattle.world.specs.Resolving.{MayRun};
 
-use crate::event::{Event, Message, Refusal, Reply, Resolution, Seen};
+use crate::event::{Event, Message, Reply, Resolution, Seen};
 use crate::resolving::{chosen, resolve};
 use dvv::{Clock, Dot};
 use helpers::Table;
 use hookrun::Room;
-use journal::MAX_ENTRIES;
 use object::{Content, Key, KeyState};
 use std::alloc::{AllocError, Global};
 use std::marker::Model;
@@ -51,10 +52,11 @@ pub const MAX_VNODES: usize = 65_536;
 
 impl World {
     ghost use Rattle.std.specs.Prelude.{slice_index_or};
-    ghost use Rattle.world.specs.Running.{IsWorldOf};
+    ghost use Rattle.world.specs.Running.{IsWorldOf, max_vnodes};
 
-    /// Runs events, one after another, over so many vnodes at which nothing has happened. A vnode's index is its identifier,
-    /// and an event's place is its entry's stamp.
+    /// Runs events, one after another, over so many vnodes at which nothing has happened. A vnode's index is its identifier. The
+    /// stamp of an entry is the number of entries that all journals had before it: stamps rise in each journal, and no two
+    /// journals share one. An event that is refused makes no entry, and draws no stamp.
     ///
     /// Each event's vnode exists, and what it names is an earlier get (of a context or an answer), send (of a message) or
     /// resolver's run (of a choice). What runs as a resolver is a resolver's program, and the table has the helpers that it was
@@ -66,12 +68,32 @@ impl World {
         table: &Table,
         events: &[Event],
     ) -> Result<World, AllocError>
-        requires few { vnodes ≤ MAX_VNODES }
+        requires few { vnodes ≤ max_vnodes }
         requires runnable { AreRunnable vnodes table.now.listed events.now }
         ensures { IfOk result (IsWorldOf vnodes table.now.listed events.now) }
     {
-        let (vnodes, replies) = run_all(alloc, vnodes, table, events)?;
-        Ok(World { vnodes, replies })
+        let mut states = open(alloc, vnodes)?;
+        let mut replies = Vec::with_capacity(alloc, events.len())?;
+        let mut room = Room::new(alloc);
+        let mut made = 0;
+        for event in events {
+            let before = &events[..replies.len()];
+            let reply = happen(
+                alloc,
+                &mut room,
+                table,
+                &mut states,
+                &mut made,
+                before,
+                &replies,
+                event,
+            );
+            replies.push(reply)?;
+        }
+        Ok(World {
+            vnodes: states,
+            replies,
+        })
     }
 
     /// What each event replied.
@@ -90,36 +112,6 @@ impl World {
     }
 }
 
-// Runs events.
-fn run_all(
-    alloc: Global,
-    vnodes: usize,
-    table: &Table,
-    events: &[Event],
-) -> Result<(Vec<Vnode>, Vec<Reply>), AllocError>
-    requires few { vnodes ≤ MAX_VNODES }
-    requires runnable { AreRunnable vnodes table.now.listed events.now }
-    ensures { IfOk result (λ ran. IsWorldOf vnodes table.now.listed events.now (record { logs = ran.0.items; replies = ran.1.items })) }
-{
-    let mut states = open(alloc, vnodes)?;
-    let mut replies = Vec::with_capacity(alloc, events.len())?;
-    let mut room = Room::new(alloc);
-    for event in events {
-        let before = &events[..replies.len()];
-        let reply = happen(
-            alloc,
-            &mut room,
-            table,
-            &mut states,
-            before,
-            &replies,
-            event,
-        );
-        replies.push(reply)?;
-    }
-    Ok((states, replies))
-}
-
 // Vnodes at which nothing happened, each with its index as identifier.
 fn open(alloc: Global, vnodes: usize) -> Result<Vec<Vnode>, AllocError>
     requires { vnodes ≤ 2 ^ 32 }
@@ -133,7 +125,7 @@ fn open(alloc: Global, vnodes: usize) -> Result<Vec<Vnode>, AllocError>
 }
 
 // The events that a put had seen, or why the get that it names was refused.
-fn context<'a>(replies: &'a [Reply], seen: &'a Seen) -> Result<&'a Clock, Refusal>
+fn context<'a>(replies: &'a [Reply], seen: &'a Seen) -> Result<&'a Clock, VnodeFault>
     requires ready { IsReadyContext replies.now seen.now }
     ensures means { IfOk result (λ clock. (old : Knowledge) → Remember replies.now old → Means old seen.now clock.now) }
     ensures refused { IfErr result (λ refusal. (old : Knowledge) → Remember replies.now old → IsRefusedContext old seen.now refusal) }
@@ -149,7 +141,7 @@ fn context<'a>(replies: &'a [Reply], seen: &'a Seen) -> Result<&'a Clock, Refusa
 }
 
 // An earlier message, or why its send was refused.
-fn message_of(replies: &[Reply], message: usize) -> Result<&Message, Refusal>
+fn message_of(replies: &[Reply], message: usize) -> Result<&Message, VnodeFault>
     requires sent { ReplyAt replies.now message IsSentOrRefused }
     ensures copied { IfOk result (λ found. (old : Knowledge) → Remember replies.now old → IsMessageOf old message found.now) }
     ensures refused { IfErr result (λ refusal. (old : Knowledge) → Remember replies.now old → left_by old message ≡ Failed refusal) }
@@ -161,100 +153,116 @@ fn message_of(replies: &[Reply], message: usize) -> Result<&Message, Refusal>
     }
 }
 
-// Puts at a vnode.
+// Puts at a vnode. The entry's stamp is the number of entries made so far; so it is below.
 fn put_at(
     vnodes: &mut [Vnode],
+    made: &mut u64,
     at: usize,
-    stamp: u64,
     key: &Key,
     seen: &Clock,
     content: &Content,
-) -> Result<Dot, Refusal>
-    requires { at < length vnodes.old }
-    ensures stored { IfOk result (λ dot. Appends vnodes.old vnodes.new at (Put stamp key.now seen.now content.now dot)) }
-    ensures refused { IfErr result (RefusesPutAt (log_at vnodes.old at) key.now seen.now) }
+) -> Result<Dot, VnodeFault>
+    requires inside { at < length vnodes.old }
+    requires room { made.old + 1 < 2 ^ 64 }
+    ensures stored { IfOk result (λ dot. Appends vnodes.old vnodes.new at (Put made.old key.now seen.now content.now dot)) }
+    ensures refused { IfErr result (RefusesPut (log_at vnodes.old at) key.now seen.now) }
     ensures err { OnErr result (vnodes.new ≡ vnodes.old) }
+    ensures stamps { AreStamped vnodes.old made.old → AreStamped vnodes.new made.new }
+    ensures few { made.new ≤ made.old + 1 }
 {
     let vnode = &mut vnodes[at];
-    match vnode.put(stamp, key, seen, content) {
-        Ok((dot, _)) => Ok(dot),
-        Err(fault) => Err(refusal_of(fault)),
+    match vnode.put(*made, key, seen, content) {
+        Ok((dot, _)) => {
+            *made += 1;
+            Ok(dot)
+        }
+        Err(fault) => Err(fault),
     }
 }
 
 // Merges a message at a vnode.
-fn merge_at(vnodes: &mut [Vnode], at: usize, stamp: u64, message: &Message) -> Result<bool, Refusal>
-    requires { at < length vnodes.old }
-    ensures merged { OnOk result (Appends vnodes.old vnodes.new at (Merge stamp message.now.key message.now.from message.now.at message.now.state)) }
-    ensures changed { IfOk result (λ changed. TellsChange (log_at vnodes.old at).entries (Merge stamp message.now.key message.now.from message.now.at message.now.state) message.now.key changed) }
-    ensures refused { IfErr result (RefusesMergeAt (log_at vnodes.old at) message.now.key message.now.state) }
+fn merge_at(
+    vnodes: &mut [Vnode],
+    made: &mut u64,
+    at: usize,
+    message: &Message,
+) -> Result<bool, VnodeFault>
+    requires inside { at < length vnodes.old }
+    requires room { made.old + 1 < 2 ^ 64 }
+    ensures merged { OnOk result (Appends vnodes.old vnodes.new at (Merge made.old message.now.key message.now.from message.now.at message.now.state)) }
+    ensures changed { IfOk result (λ changed. TellsChange (log_at vnodes.old at).entries (Merge made.old message.now.key message.now.from message.now.at message.now.state) message.now.key changed) }
+    ensures refused { IfErr result (RefusesMerge (log_at vnodes.old at) message.now.key message.now.state) }
     ensures err { OnErr result (vnodes.new ≡ vnodes.old) }
+    ensures stamps { AreStamped vnodes.old made.old → AreStamped vnodes.new made.new }
+    ensures few { made.new ≤ made.old + 1 }
 {
     let vnode = &mut vnodes[at];
     match vnode.merge(
-        stamp,
+        *made,
         &message.key,
         message.from,
         message.at,
         &message.state,
     ) {
-        Ok((changed, _)) => Ok(changed),
-        Err(fault) => Err(refusal_of(fault)),
+        Ok((changed, _)) => {
+            *made += 1;
+            Ok(changed)
+        }
+        Err(fault) => Err(fault),
     }
 }
 
 // Reads a key at a vnode. The place of the entry is that of the answer.
 fn read_at(
     vnodes: &mut [Vnode],
+    made: &mut u64,
     at: usize,
-    stamp: u64,
     key: &Key,
-) -> Result<(KeyState, u32), Refusal>
-    requires { at < length vnodes.old }
-    ensures read { OnOk result (Appends vnodes.old vnodes.new at (Read stamp key.now)) }
+) -> Result<(KeyState, u32), VnodeFault>
+    requires inside { at < length vnodes.old }
+    requires room { made.old + 1 < 2 ^ 64 }
+    ensures read { OnOk result (Appends vnodes.old vnodes.new at (Read made.old key.now)) }
     ensures state { IfOk result (λ found. IsReplay (log_at vnodes.old at).entries key.now found.0) }
     ensures place { IfOk result (λ found. found.1 ≡ length (log_at vnodes.old at).entries) }
-    ensures refused { IfErr result (RefusesEntryAt (log_at vnodes.old at)) }
+    ensures refused { IfErr result (RefusesEntry (log_at vnodes.old at)) }
     ensures err { OnErr result (vnodes.new ≡ vnodes.old) }
+    ensures stamps { AreStamped vnodes.old made.old → AreStamped vnodes.new made.new }
+    ensures few { made.new ≤ made.old + 1 }
 {
     let vnode = &mut vnodes[at];
-    match vnode.read(stamp, key) {
-        Ok(found) => Ok(found),
-        Err(fault) => Err(refusal_of(fault)),
+    match vnode.read(*made, key) {
+        Ok(found) => {
+            *made += 1;
+            Ok(found)
+        }
+        Err(fault) => Err(fault),
     }
 }
 
 // Starts a vnode again.
-fn restart_at(vnodes: &mut [Vnode], at: usize, stamp: u64) -> Result<(), Refusal>
-    requires { at < length vnodes.old }
-    ensures restarted { OnOk result (Appends vnodes.old vnodes.new at (Restart stamp)) }
-    ensures refused { IfErr result (RefusesEntryAt (log_at vnodes.old at)) }
+fn restart_at(vnodes: &mut [Vnode], made: &mut u64, at: usize) -> Result<(), VnodeFault>
+    requires inside { at < length vnodes.old }
+    requires room { made.old + 1 < 2 ^ 64 }
+    ensures restarted { OnOk result (Appends vnodes.old vnodes.new at (Restart made.old)) }
+    ensures refused { IfErr result (RefusesEntry (log_at vnodes.old at)) }
     ensures err { OnErr result (vnodes.new ≡ vnodes.old) }
+    ensures stamps { AreStamped vnodes.old made.old → AreStamped vnodes.new made.new }
+    ensures few { made.new ≤ made.old + 1 }
 {
     let vnode = &mut vnodes[at];
-    match vnode.restart(stamp) {
-        Ok(_) => Ok(()),
-        Err(fault) => Err(refusal_of(fault)),
-    }
-}
-
-// A vnode's refusal, as that of an event.
-fn refusal_of(fault: VnodeFault) -> Refusal
-    ensures { result ≡ refusal_of_vnode fault }
-{
-    match fault {
-        VnodeFault::ContextAhead => Refusal::ContextAhead,
-        VnodeFault::TooManySiblings => Refusal::TooManySiblings,
-        VnodeFault::ClockFull => Refusal::ClockFull,
-        VnodeFault::MergedClockFull => Refusal::MergeFull,
-        VnodeFault::JournalFull => Refusal::JournalFull,
-        VnodeFault::NoMemory => Refusal::NoMemory,
+    match vnode.restart(*made) {
+        Ok(_) => {
+            *made += 1;
+            Ok(())
+        }
+        Err(fault) => Err(fault),
     }
 }
 
 // A put, and its reply.
 fn put(
     vnodes: &mut [Vnode],
+    made: &mut u64,
     replies: &[Reply],
     vnode: usize,
     key: &Key,
@@ -262,40 +270,49 @@ fn put(
     content: &Content,
 ) -> Reply
     requires inside { vnode < length vnodes.old }
+    requires room { made.old + 1 < 2 ^ 64 }
     requires ready { IsReadyContext replies.now seen.now }
     ensures step { (listed : List Helper) (old : Knowledge) → Represents vnodes.old old → Remember replies.now old → (new : Knowledge) × Happens listed old (event.Put vnode key.now seen.now content.now) result new × Represents vnodes.new new }
+    ensures stamps { AreStamped vnodes.old made.old → AreStamped vnodes.new made.new }
+    ensures few { made.new ≤ made.old + 1 }
 {
     let clock = match context(replies, seen) {
         Ok(clock) => clock,
         Err(refusal) => return Reply::Refused(refusal),
     };
-    match put_at(vnodes, vnode, replies.len() as u64, key, clock, content) {
+    match put_at(vnodes, made, vnode, key, clock, content) {
         Ok(dot) => Reply::Stored(dot),
         Err(refusal) => Reply::Refused(refusal),
     }
 }
 
 // A get, and its reply.
-fn get(vnodes: &mut [Vnode], replies: &[Reply], vnode: usize, key: &Key) -> Reply
+fn get(vnodes: &mut [Vnode], made: &mut u64, vnode: usize, key: &Key) -> Reply
     requires inside { vnode < length vnodes.old }
+    requires room { made.old + 1 < 2 ^ 64 }
     ensures step { (listed : List Helper) (old : Knowledge) → Represents vnodes.old old → (new : Knowledge) × Happens listed old (event.Get vnode key.now) result new × Represents vnodes.new new }
+    ensures stamps { AreStamped vnodes.old made.old → AreStamped vnodes.new made.new }
+    ensures few { made.new ≤ made.old + 1 }
 {
-    match read_at(vnodes, vnode, replies.len() as u64, key) {
+    match read_at(vnodes, made, vnode, key) {
         Ok((state, _)) => Reply::Found(state),
         Err(refusal) => Reply::Refused(refusal),
     }
 }
 
 // A send, and its reply.
-fn send(vnodes: &mut [Vnode], replies: &[Reply], vnode: usize, key: &Key) -> Reply
+fn send(vnodes: &mut [Vnode], made: &mut u64, vnode: usize, key: &Key) -> Reply
     requires inside { vnode < length vnodes.old }
+    requires room { made.old + 1 < 2 ^ 64 }
     ensures step { (listed : List Helper) (old : Knowledge) → Represents vnodes.old old → (new : Knowledge) × Happens listed old (event.Send vnode key.now) result new × Represents vnodes.new new }
+    ensures stamps { AreStamped vnodes.old made.old → AreStamped vnodes.new made.new }
+    ensures few { made.new ≤ made.old + 1 }
 {
     let Ok(copy) = key.copy() else {
         return Reply::Refused(want_of_memory(&vnodes[vnode]));
     };
     let from = vnodes[vnode].journal().vnode();
-    match read_at(vnodes, vnode, replies.len() as u64, key) {
+    match read_at(vnodes, made, vnode, key) {
         Ok((state, at)) => Reply::Sent(Message {
             key: copy,
             from,
@@ -307,45 +324,57 @@ fn send(vnodes: &mut [Vnode], replies: &[Reply], vnode: usize, key: &Key) -> Rep
 }
 
 // Want of memory for an entry at a vnode; a full journal is told before it.
-fn want_of_memory(vnode: &Vnode) -> Refusal
-    ensures { RefusesEntryAt vnode.now result }
+fn want_of_memory(vnode: &Vnode) -> VnodeFault
+    ensures { RefusesEntry vnode.now result }
 {
-    if vnode.journal().len() < MAX_ENTRIES {
-        Refusal::NoMemory
+    if vnode.journal().is_full() {
+        VnodeFault::JournalFull
     } else {
-        Refusal::JournalFull
+        VnodeFault::NoMemory
     }
 }
 
 // A delivery, and its reply.
-fn deliver(vnodes: &mut [Vnode], replies: &[Reply], message: usize, vnode: usize) -> Reply
+fn deliver(
+    vnodes: &mut [Vnode],
+    made: &mut u64,
+    replies: &[Reply],
+    message: usize,
+    vnode: usize,
+) -> Reply
     requires inside { vnode < length vnodes.old }
+    requires room { made.old + 1 < 2 ^ 64 }
     requires sent { ReplyAt replies.now message IsSentOrRefused }
     ensures step { (listed : List Helper) (old : Knowledge) → Represents vnodes.old old → Remember replies.now old → (new : Knowledge) × Happens listed old (event.Deliver message vnode) result new × Represents vnodes.new new }
+    ensures stamps { AreStamped vnodes.old made.old → AreStamped vnodes.new made.new }
+    ensures few { made.new ≤ made.old + 1 }
 {
     let sent = match message_of(replies, message) {
         Ok(sent) => sent,
         Err(refusal) => return Reply::Refused(refusal),
     };
-    match merge_at(vnodes, vnode, replies.len() as u64, sent) {
+    match merge_at(vnodes, made, vnode, sent) {
         Ok(changed) => Reply::Changed(changed),
         Err(refusal) => Reply::Refused(refusal),
     }
 }
 
 // A restart, and its reply.
-fn restart(vnodes: &mut [Vnode], replies: &[Reply], vnode: usize) -> Reply
+fn restart(vnodes: &mut [Vnode], made: &mut u64, vnode: usize) -> Reply
     requires inside { vnode < length vnodes.old }
+    requires room { made.old + 1 < 2 ^ 64 }
     ensures step { (listed : List Helper) (old : Knowledge) → Represents vnodes.old old → (new : Knowledge) × Happens listed old (event.Restart vnode) result new × Represents vnodes.new new }
+    ensures stamps { AreStamped vnodes.old made.old → AreStamped vnodes.new made.new }
+    ensures few { made.new ≤ made.old + 1 }
 {
-    match restart_at(vnodes, vnode, replies.len() as u64) {
+    match restart_at(vnodes, made, vnode) {
         Ok(()) => Reply::Restarted,
         Err(refusal) => Reply::Refused(refusal),
     }
 }
 
 // The state that an earlier get answered, or why it was refused.
-fn answer_of(replies: &[Reply], get: usize) -> Result<&KeyState, Refusal>
+fn answer_of(replies: &[Reply], get: usize) -> Result<&KeyState, VnodeFault>
     requires answered { ReplyAt replies.now get IsFoundOrRefused }
     ensures found { IfOk result (λ state. slice_get replies.now get ≡ Some (Reply.Found state.now)) }
     ensures refused { IfErr result (λ refusal. slice_get replies.now get ≡ Some (Reply.Refused refusal)) }
@@ -358,7 +387,7 @@ fn answer_of(replies: &[Reply], get: usize) -> Result<&KeyState, Refusal>
 }
 
 // What an earlier run decided, or why it was refused.
-fn resolution_of(replies: &[Reply], run: usize) -> Result<&Resolution, Refusal>
+fn resolution_of(replies: &[Reply], run: usize) -> Result<&Resolution, VnodeFault>
     requires replied { ReplyAt replies.now run IsResolvedOrRefused }
     ensures resolved { IfOk result (λ resolution. slice_get replies.now run ≡ Some (Reply.Resolved resolution.now)) }
     ensures refused { IfErr result (λ refusal. slice_get replies.now run ≡ Some (Reply.Refused refusal)) }
@@ -406,7 +435,7 @@ fn choice_of<'a>(
     replies: &'a [Reply],
     run: usize,
     tombstone: &'a Content,
-) -> Result<Choice<'a>, Refusal>
+) -> Result<Choice<'a>, VnodeFault>
     requires ready { IsReadyRun events.now replies.now run }
     requires tombstone { tombstone.now ≡ Content.Tombstone }
     ensures chosen { IfOk result (λ choice. (old : Knowledge) → Remember replies.now old → Recall events.now replies.now old → IsChoiceOf old run choice.key.now choice.seen.now (option_copied choice.content)) }
@@ -446,21 +475,25 @@ fn resolve_read(
     };
     match resolve(alloc, room, table, hook, state.siblings()) {
         Ok(resolution) => Reply::Resolved(resolution),
-        Err(_) => Reply::Refused(Refusal::NoMemory),
+        Err(_) => Reply::Refused(VnodeFault::NoMemory),
     }
 }
 
 // A put of what a run chose, and its reply.
 fn resolve_write(
     vnodes: &mut [Vnode],
+    made: &mut u64,
     events: &[Event],
     replies: &[Reply],
     run: usize,
     vnode: usize,
 ) -> Reply
     requires inside { vnode < length vnodes.old }
+    requires room { made.old + 1 < 2 ^ 64 }
     requires ready { IsReadyRun events.now replies.now run }
     ensures step { (listed : List Helper) (old : Knowledge) → Represents vnodes.old old → Remember replies.now old → Recall events.now replies.now old → (new : Knowledge) × Happens listed old (event.ResolveWrite run vnode) result new × Represents vnodes.new new }
+    ensures stamps { AreStamped vnodes.old made.old → AreStamped vnodes.new made.new }
+    ensures few { made.new ≤ made.old + 1 }
 {
     let tombstone = Content::Tombstone;
     let choice = match choice_of(events, replies, run, &tombstone) {
@@ -471,14 +504,7 @@ fn resolve_write(
         Some(content) => content,
         None => return Reply::Nothing,
     };
-    match put_at(
-        vnodes,
-        vnode,
-        replies.len() as u64,
-        choice.key,
-        choice.seen,
-        content,
-    ) {
+    match put_at(vnodes, made, vnode, choice.key, choice.seen, content) {
         Ok(dot) => Reply::Stored(dot),
         Err(refusal) => Reply::Refused(refusal),
     }
@@ -490,12 +516,16 @@ fn happen(
     room: &mut Room,
     table: &Table,
     vnodes: &mut [Vnode],
+    made: &mut u64,
     before: &[Event],
     replies: &[Reply],
     event: &Event,
 ) -> Reply
     requires ready { IsReady (length vnodes.old) table.now.listed before.now replies.now event.now }
+    requires room { made.old + 1 < 2 ^ 64 }
     ensures step { (old : Knowledge) → Represents vnodes.old old → Remember replies.now old → Recall before.now replies.now old → (new : Knowledge) × Happens table.now.listed old event.now result new × Represents vnodes.new new }
+    ensures stamps { AreStamped vnodes.old made.old → AreStamped vnodes.new made.new }
+    ensures few { made.new ≤ made.old + 1 }
 {
     match event {
         Event::Put {
@@ -503,12 +533,14 @@ fn happen(
             key,
             seen,
             content,
-        } => put(vnodes, replies, *vnode, key, seen, content),
-        Event::Get { vnode, key } => get(vnodes, replies, *vnode, key),
-        Event::Send { vnode, key } => send(vnodes, replies, *vnode, key),
-        Event::Deliver { message, vnode } => deliver(vnodes, replies, *message, *vnode),
-        Event::Restart { vnode } => restart(vnodes, replies, *vnode),
+        } => put(vnodes, made, replies, *vnode, key, seen, content),
+        Event::Get { vnode, key } => get(vnodes, made, *vnode, key),
+        Event::Send { vnode, key } => send(vnodes, made, *vnode, key),
+        Event::Deliver { message, vnode } => deliver(vnodes, made, replies, *message, *vnode),
+        Event::Restart { vnode } => restart(vnodes, made, *vnode),
         Event::ResolveRead { get, hook } => resolve_read(alloc, room, table, replies, *get, hook),
-        Event::ResolveWrite { run, vnode } => resolve_write(vnodes, before, replies, *run, *vnode),
+        Event::ResolveWrite { run, vnode } => resolve_write(
+            vnodes, made, before, replies, *run, *vnode,
+        ),
     }
 }

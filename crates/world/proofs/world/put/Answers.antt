@@ -4,11 +4,11 @@ use Rattle.world.specs.declared.event.Reply.TheVariants as reply
 use Rattle.world.proofs.Runs.{put_happened, put_was_refused, context_was_refused, with_same}
 use Rattle.world.proofs.world.put.Goals as goal
 
-pub returns-in-Err : goal.returns-in-Err
-returns-in-Err c = record { step = λ listed old rep remember. context_was_refused listed c.args.vnodes.now old c.args.vnode c.args.key.now c.args.seen.now c.args.content.now c.in-Err.refusal rep (c.in-Err.ensures.refused old remember) }
+pub returns-in-Err-clause-step : goal.returns-in-Err-clause-step
+returns-in-Err-clause-step c = λ listed old rep remember. context_was_refused listed c.args.vnodes.now old c.args.vnode c.args.key.now c.args.seen.now c.args.content.now c.in-Err.refusal rep (c.in-Err.ensures.refused old remember)
 
-pub returns-in-Ok-put_at : goal.returns-in-Ok-put_at
-returns-in-Ok-put_at c = record { step = λ listed old rep remember. put_happened listed c.args.vnodes.now c.put_at.new.vnodes old c.args.vnode (length c.args.replies.now) c.args.key.now c.args.seen.now c.args.content.now c.in-Ok.clock.now c.in-Ok-put_at.dot rep c.requires.inside (c.in-Ok.ensures.means old remember) c.in-Ok-put_at.ensures.stored }
+pub returns-in-Ok-put_at-clause-step : goal.returns-in-Ok-put_at-clause-step
+returns-in-Ok-put_at-clause-step c = λ listed old rep remember. put_happened listed c.args.vnodes.now c.put_at.new.vnodes old c.args.vnode c.args.made.now c.args.key.now c.args.seen.now c.args.content.now c.in-Ok.clock.now c.in-Ok-put_at.dot rep c.requires.inside (c.in-Ok.ensures.means old remember) c.in-Ok-put_at.ensures.stored
 
-pub returns-in-Err-put_at : goal.returns-in-Err-put_at
-returns-in-Err-put_at c = record { step = λ listed old rep remember. with_same listed c.args.vnodes.now c.put_at.new.vnodes old (event.Put c.args.vnode c.args.key.now c.args.seen.now c.args.content.now) (reply.Refused c.in-Err-put_at.refusal) c.in-Err-put_at.ensures.err (put_was_refused listed c.args.vnodes.now old c.args.vnode c.args.key.now c.args.seen.now c.args.content.now c.in-Ok.clock.now c.in-Err-put_at.refusal rep c.requires.inside (c.in-Ok.ensures.means old remember) c.in-Err-put_at.ensures.refused) }
+pub returns-in-Err-put_at-clause-step : goal.returns-in-Err-put_at-clause-step
+returns-in-Err-put_at-clause-step c = λ listed old rep remember. with_same listed c.args.vnodes.now c.put_at.new.vnodes old (event.Put c.args.vnode c.args.key.now c.args.seen.now c.args.content.now) (reply.Refused c.in-Err-put_at.refusal) c.in-Err-put_at.ensures.err (put_was_refused listed c.args.vnodes.now old c.args.vnode c.args.key.now c.args.seen.now c.args.content.now c.in-Ok.clock.now c.in-Err-put_at.refusal rep c.requires.inside (c.in-Ok.ensures.means old remember) c.in-Err-put_at.ensures.refused)

@@ -7,14 +7,14 @@ use Rattle.world.specs.Running.{IsChoiceOf}
 use Rattle.world.proofs.Runs.{choice_happened, choice_was_refused, nothing_was_chosen, run_was_refused, with_same}
 use Rattle.world.proofs.world.resolve_write.Goals as goal
 
-pub returns-in-Err : goal.returns-in-Err
-returns-in-Err c = record { step = λ listed old rep remember recall. run_was_refused listed c.args.vnodes.now old c.args.run c.args.vnode c.in-Err.refusal rep (c.in-Err.ensures.refused old remember recall) }
+pub returns-in-Err-clause-step : goal.returns-in-Err-clause-step
+returns-in-Err-clause-step c = λ listed old rep remember recall. run_was_refused listed c.args.vnodes.now old c.args.run c.args.vnode c.in-Err.refusal rep (c.in-Err.ensures.refused old remember recall)
 
-pub returns-in-None : goal.returns-in-None
-returns-in-None c = record { step = λ listed old rep remember recall. nothing_was_chosen listed c.args.vnodes.now old c.args.run c.args.vnode c.in-Ok.choice.key.now c.in-Ok.choice.seen.now rep (subst (λ (o : Option (Bor Content)). IsChoiceOf old c.args.run c.in-Ok.choice.key.now c.in-Ok.choice.seen.now (option_copied o)) c.in-None.is (c.in-Ok.ensures.chosen old remember recall)) }
+pub returns-in-None-clause-step : goal.returns-in-None-clause-step
+returns-in-None-clause-step c = λ listed old rep remember recall. nothing_was_chosen listed c.args.vnodes.now old c.args.run c.args.vnode c.in-Ok.choice.key.now c.in-Ok.choice.seen.now rep (subst (λ (o : Option (Bor Content)). IsChoiceOf old c.args.run c.in-Ok.choice.key.now c.in-Ok.choice.seen.now (option_copied o)) c.in-None.is (c.in-Ok.ensures.chosen old remember recall))
 
-pub returns-in-Ok-put_at : goal.returns-in-Ok-put_at
-returns-in-Ok-put_at c = record { step = λ listed old rep remember recall. choice_happened listed c.args.vnodes.now c.put_at.new.vnodes old c.args.run c.args.vnode (length c.args.replies.now) c.in-Ok.choice.key.now c.in-Some.content.now c.in-Ok.choice.seen.now c.in-Ok-put_at.dot rep c.requires.inside (subst (λ (o : Option (Bor Content)). IsChoiceOf old c.args.run c.in-Ok.choice.key.now c.in-Ok.choice.seen.now (option_copied o)) c.in-Some.is (c.in-Ok.ensures.chosen old remember recall)) c.in-Ok-put_at.ensures.stored }
+pub returns-in-Ok-put_at-clause-step : goal.returns-in-Ok-put_at-clause-step
+returns-in-Ok-put_at-clause-step c = λ listed old rep remember recall. choice_happened listed c.args.vnodes.now c.put_at.new.vnodes old c.args.run c.args.vnode c.args.made.now c.in-Ok.choice.key.now c.in-Some.content.now c.in-Ok.choice.seen.now c.in-Ok-put_at.dot rep c.requires.inside (subst (λ (o : Option (Bor Content)). IsChoiceOf old c.args.run c.in-Ok.choice.key.now c.in-Ok.choice.seen.now (option_copied o)) c.in-Some.is (c.in-Ok.ensures.chosen old remember recall)) c.in-Ok-put_at.ensures.stored
 
-pub returns : goal.returns
-returns c = record { step = λ listed old rep remember recall. with_same listed c.args.vnodes.now c.put_at.new.vnodes old (event.ResolveWrite c.args.run c.args.vnode) (reply.Refused c.in-Err-put_at.refusal) c.in-Err-put_at.ensures.err (choice_was_refused listed c.args.vnodes.now old c.args.run c.args.vnode c.in-Ok.choice.key.now c.in-Some.content.now c.in-Ok.choice.seen.now c.in-Err-put_at.refusal rep c.requires.inside (subst (λ (o : Option (Bor Content)). IsChoiceOf old c.args.run c.in-Ok.choice.key.now c.in-Ok.choice.seen.now (option_copied o)) c.in-Some.is (c.in-Ok.ensures.chosen old remember recall)) c.in-Err-put_at.ensures.refused) }
+pub returns-clause-step : goal.returns-clause-step
+returns-clause-step c = λ listed old rep remember recall. with_same listed c.args.vnodes.now c.put_at.new.vnodes old (event.ResolveWrite c.args.run c.args.vnode) (reply.Refused c.in-Err-put_at.refusal) c.in-Err-put_at.ensures.err (choice_was_refused listed c.args.vnodes.now old c.args.run c.args.vnode c.in-Ok.choice.key.now c.in-Some.content.now c.in-Ok.choice.seen.now c.in-Err-put_at.refusal rep c.requires.inside (subst (λ (o : Option (Bor Content)). IsChoiceOf old c.args.run c.in-Ok.choice.key.now c.in-Ok.choice.seen.now (option_copied o)) c.in-Some.is (c.in-Ok.ensures.chosen old remember recall)) c.in-Err-put_at.ensures.refused)
