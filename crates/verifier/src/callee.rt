@@ -12,7 +12,7 @@ ghost use Rattle.verifier.specs.Table.{AreKinds};
 use crate::candidate::Candidate;
 use crate::kinds::{Row, kind_of};
 use crate::windows::is_inside;
-use helpers::{ArgRule, Sig, Sigs};
+use helpers::{ARGUMENT_REGISTERS, ArgRule, MAX_READ, Sig, Sigs};
 use insn::{Insn, Register};
 use memory::Region;
 use ranges::Kind;
@@ -31,18 +31,6 @@ pub enum Called {
     /// Nothing.
     Unknown,
 }
-
-/// The most bytes that the machine's own calls read or write.
-const MAX_BYTES: u32 = 65_536;
-
-/// The registers of a call's arguments.
-const ARGUMENTS: [Register; 5] = [
-    Register::R1,
-    Register::R2,
-    Register::R3,
-    Register::R4,
-    Register::R5,
-];
 
 /// What a number stands for.
 fn callee_of(sigs: &Sigs, helper: u32) -> Called
@@ -95,7 +83,7 @@ pub fn is_argument_unset(row: &Row, callee: &Called) -> bool
                 || kind_of(row, Register::R2) == Kind::Unset
                 || kind_of(row, Register::R3) == Kind::Unset
         }
-        Called::Helper(sig) => is_used_unset(row, &sig.args, &ARGUMENTS),
+        Called::Helper(sig) => is_used_unset(row, &sig.args, &ARGUMENT_REGISTERS),
         Called::Unknown => false,
     }
 }
@@ -165,7 +153,7 @@ fn is_read(program: &Candidate, row: &Row, address: Kind) -> bool
     requires { IsKind address }
     ensures { result ≡ is_read (program_in program.now) row.now address }
 {
-    reaches(program, MAX_BYTES, address, kind_of(row, Register::R3))
+    reaches(program, MAX_READ, address, kind_of(row, Register::R3))
 }
 
 /// Whether a call of the machine's own may write there.

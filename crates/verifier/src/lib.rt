@@ -1,15 +1,13 @@
 //! The verifier: which programs are accepted, and that these never go wrong.
 #![tactic(auto)]
 
-#[cfg(test)]
-mod call_rows;
 mod callee;
 mod candidate;
 mod kinds;
-#[cfg(test)]
-mod rows;
 pub mod rule;
 mod rules;
+#[cfg(test)]
+mod tests;
 pub mod verified;
 pub mod verifying;
 mod windows;

@@ -3,14 +3,12 @@
 ghost use Rattle.std.specs.Prelude.{◌≡◌};
 ghost use Rattle.helpers.specs.Text.{spelled};
 
-use crate::rows::{CLEAR, EXIT, Told, refused, verdict_of};
+use super::slots::*;
+use super::{Lengths, Told, refused};
 use helpers::{ArgRule, Body, Helper, Sig, Sigs, Table, decimal, written_sig};
 use std::alloc::Global;
 use std::process::Abort;
 use std::test::Fail;
-
-/// The head of an image with a window of 16 bytes as its input, and of 8 bytes as its output.
-const HEAD: [u8; 16] = [0x52, 0x42, 0x50, 0x46, 1, 0, 0, 0, 16, 0, 0, 0, 8, 0, 0, 0];
 
 const ANY: ArgRule = ArgRule::Num {
     lo: 0,
@@ -59,41 +57,25 @@ fn sigs(rt: &impl Abort, alloc: Global) -> Result<Sigs, Fail> {
     Ok(table.sigs(alloc)?)
 }
 
-/// A call.
-fn call(number: u8) -> [u8; 8] {
-    [0x85, 0, 0, 0, number, 0, 0, 0]
-}
-
-/// A register's kind copied: `dst = src`.
-fn copied(dst: u8, src: u8) -> [u8; 8] {
-    [0xbf, (src % 16) * 16 + dst % 16, 0, 0, 0, 0, 0, 0]
-}
-
-/// A number put into a register.
-fn put(dst: u8, n: u8) -> [u8; 8] {
-    [0xb7, dst, 0, 0, n, 0, 0, 0]
-}
-
 /// A byte stored at an offset from R6, to which R0 was added before.
-fn stored(offset: u8) -> [u8; 8] {
-    [0x72, 6, offset, 0, 1, 0, 0, 0]
+fn stored(offset: i16) -> Slot {
+    store_byte(6, offset, 1)
 }
 
-/// Tells of an image of these slots.
+/// Tells of an image with a window of 16 bytes as its input, and of 8 bytes as its output.
 fn tells(
     rt: &impl Abort,
     alloc: Global,
     sigs: &Sigs,
     name: &str,
-    code: &[[u8; 8]],
+    code: &[Slot],
     want: Told,
 ) -> Result<(), Fail> {
-    let mut bytes = Vec::new(alloc);
-    bytes.extend_from_slice(&HEAD)?;
-    bytes.extend_from_slice(code.as_flattened())?;
-    let got = verdict_of(alloc, &bytes, sigs)?;
-    assert_eq!(rt; got, want, "{name}");
-    Ok(())
+    let lengths = Lengths {
+        input: 16,
+        output: 8,
+    };
+    super::tells(rt, alloc, sigs, lengths, name, code, want)
 }
 
 #[test]
@@ -102,7 +84,7 @@ fn copies(rt: HostRuntime) -> Result<(), Fail> {
     let sigs = Sigs::new(alloc);
     let to = copied(1, 3);
     let from = copied(2, 1);
-    let load = [0x71, 0x10, 0, 0, 0, 0, 0, 0];
+    let load = load_byte(0, 1, 0);
     tells(
         &rt,
         alloc,
@@ -135,11 +117,11 @@ fn own_calls(rt: HostRuntime) -> Result<(), Fail> {
     let sigs = Sigs::new(alloc);
     let to = copied(1, 3);
     let from = copied(2, 1);
-    let add = [0x0f, 0x06, 0, 0, 0, 0, 0, 0];
-    let load = [0x71, 0x10, 0, 0, 0, 0, 0, 0];
-    let end = [7, 1, 0, 0, 8, 0, 0, 0];
+    let add = added(6, 0);
+    let load = load_byte(0, 1, 0);
+    let end = raised(1, 8);
     let keep = copied(6, 3);
-    let rows: [(&str, [[u8; 8]; 8], Told); 21] = [
+    let rows: [(&str, [Slot; 8], Told); 21] = [
         (
             "copy",
             [CLEAR, CLEAR, CLEAR, from, to, put(3, 4), call(1), EXIT],
@@ -330,9 +312,9 @@ fn helper_calls(rt: HostRuntime) -> Result<(), Fail> {
     let sigs = sigs(&rt, alloc)?;
     let keep = copied(6, 3);
     let used = copied(1, 2);
-    let add = [0x0f, 0x06, 0, 0, 0, 0, 0, 0];
-    let next = [7, 1, 0, 0, 1, 0, 0, 0];
-    let rows: [(&str, [[u8; 8]; 6], Told); 22] = [
+    let add = added(6, 0);
+    let next = raised(1, 1);
+    let rows: [(&str, [Slot; 6], Told); 22] = [
         (
             "a number's helper",
             [keep, used, call(64), add, stored(0), EXIT],
@@ -405,26 +387,12 @@ fn helper_calls(rt: HostRuntime) -> Result<(), Fail> {
         ),
         (
             "the least answer",
-            [
-                keep,
-                CLEAR,
-                call(71),
-                add,
-                [0x72, 6, 0xfe, 0xff, 1, 0, 0, 0],
-                EXIT,
-            ],
+            [keep, CLEAR, call(71), add, store_byte(6, -2, 1), EXIT],
             Told::Accepted(6),
         ),
         (
             "below the least answer",
-            [
-                keep,
-                CLEAR,
-                call(71),
-                add,
-                [0x72, 6, 0xfd, 0xff, 1, 0, 0, 0],
-                EXIT,
-            ],
+            [keep, CLEAR, call(71), add, store_byte(6, -3, 1), EXIT],
             refused(24, 4),
         ),
         (
@@ -454,14 +422,7 @@ fn helper_calls(rt: HostRuntime) -> Result<(), Fail> {
         ),
         (
             "a negative number",
-            [
-                CLEAR,
-                CLEAR,
-                CLEAR,
-                CLEAR,
-                [0x85, 0, 0, 0, 0xff, 0xff, 0xff, 0xff],
-                EXIT,
-            ],
+            [CLEAR, CLEAR, CLEAR, CLEAR, call(-1), EXIT],
             refused(27, 4),
         ),
     ];
