@@ -5,7 +5,7 @@ pub mod form;
 pub mod image;
 pub mod read;
 #[cfg(test)]
-mod rows;
+mod tests;
 
 pub use form::{FormFault, FormRule, form_fault};
 pub use image::{Image, ImageFault, ImageKind, MAX_WINDOW};

@@ -1,12 +1,9 @@
-//! Images and code, and what is told of them.
-use crate::{FormFault, FormRule, ImageFault, ImageKind, form_fault, raw_image, read_image};
+//! Images, cut and changed.
+
+use crate::{FormFault, FormRule, ImageFault, ImageKind, form_fault, read_image};
 use insn::{DecodeFault, Refusal};
 use std::alloc::Global;
 use std::test::Fail;
-
-const EXIT: [u8; 8] = [0x95, 0, 0, 0, 0, 0, 0, 0];
-
-const CLEAR_ANSWER: [u8; 8] = [0xb7, 0, 0, 0, 0, 0, 0, 0];
 
 /// The program `indexed_byte`: it reads the byte of the input that its length names.
 const INDEXED_BYTE: [u8; 56] = [
@@ -81,75 +78,5 @@ fn heads(rt: HostRuntime) -> Result<(), Fail> {
     assert_eq!(rt; image.in_len, 256);
     assert_eq!(rt; image.out_len, 65536);
     assert_eq!(rt; image.code.len(), 5);
-    Ok(())
-}
-
-/// The first rule of form that raw code breaks.
-fn broken(alloc: Global, bytes: &[u8]) -> Result<Option<FormFault>, ImageFault> {
-    let image = raw_image(alloc, bytes)?;
-    Ok(form_fault(&image.code))
-}
-
-#[test]
-fn raw_code(rt: HostRuntime) -> Result<(), Fail> {
-    let image = raw_image(rt.alloc(), &EXIT)?;
-    assert_eq!(rt; image.kind, ImageKind::Plain);
-    assert_eq!(rt; (image.in_len, image.out_len), (4096, 4096));
-    let empty = Err(ImageFault::Code(DecodeFault {
-        slot: 0,
-        why: Refusal::Empty,
-    }));
-    assert_eq!(rt; broken(rt.alloc(), &[]), empty);
-    Ok(())
-}
-
-#[test]
-fn jump_targets(rt: HostRuntime) -> Result<(), Fail> {
-    let own = [0x05, 0, 0xff, 0xff, 0, 0, 0, 0];
-    let ahead = [0x05, 0, 1, 0, 0, 0, 0, 0];
-    let below = [0x05, 0, 0xfe, 0xff, 0, 0, 0, 0];
-    let past = [0x05, 0, 2, 0, 0, 0, 0, 0];
-    let wide = [0x18, 0, 0, 0, 0, 0, 0, 0];
-    let tail = [0; 8];
-    let next = [0x05, 0, 0, 0, 0, 0, 0, 0];
-    let rows = [
-        (
-            [own, EXIT, EXIT, EXIT, EXIT],
-            Some((FormRule::TargetBack, 0)),
-        ),
-        (
-            [CLEAR_ANSWER, ahead, wide, tail, EXIT],
-            Some((FormRule::TargetTail, 1)),
-        ),
-        (
-            [own, ahead, wide, tail, EXIT],
-            Some((FormRule::TargetBack, 0)),
-        ),
-        (
-            [below, EXIT, EXIT, EXIT, EXIT],
-            Some((FormRule::TargetOutside, 0)),
-        ),
-        (
-            [CLEAR_ANSWER, CLEAR_ANSWER, next, past, EXIT],
-            Some((FormRule::TargetOutside, 3)),
-        ),
-        (
-            [CLEAR_ANSWER, EXIT, CLEAR_ANSWER, CLEAR_ANSWER, EXIT],
-            Some((FormRule::Unreachable, 2)),
-        ),
-        (
-            [CLEAR_ANSWER, ahead, EXIT, CLEAR_ANSWER, EXIT],
-            Some((FormRule::Unreachable, 2)),
-        ),
-        (
-            [CLEAR_ANSWER, CLEAR_ANSWER, CLEAR_ANSWER, wide, tail],
-            Some((FormRule::RunsPast, 3)),
-        ),
-        ([CLEAR_ANSWER, CLEAR_ANSWER, wide, tail, EXIT], None),
-    ];
-    for (at, (slots, want)) in rows.iter().enumerate() {
-        let want = want.map(|(rule, slot)| FormFault { rule, slot });
-        assert_eq!(rt; broken(rt.alloc(), slots.as_flattened())?, want, "row {at}");
-    }
     Ok(())
 }

@@ -1,0 +1,5 @@
+//! Images and code, and what is told of them.
+
+mod forms;
+mod images;
+mod slots;
