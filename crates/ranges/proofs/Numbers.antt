@@ -277,13 +277,6 @@ numbers_sound op w a b x y px py =
     (single_sound op w (cut k a) (cut k b) x y ca.0 cb.0)
     (λ _. sound_else k (cut k a) (cut k b) (x % 2 ^ k) (y % 2 ^ k) ca.0 cb.0 ca.1 cb.1 (bits_wide w) op)
 
--- a result has the bits of the width
-pub value_fits : (op : Op) (w : Width) (x y : ℕ) → value op w x y < 2 ^ 64
-value_fits op w x y =
-    let k = bits w in
-    let le : 2 ^ k ≤ 2 ^ 64 = pow_mono (bits_wide w) in
-    omega (arith, wrapped_below k (exact op k (x % 2 ^ k) (y % 2 ^ k)))
-
 -- a range of results is not empty
 pub numbers_ordered : (op : Op) (w : Width) (a b : Range) → a.lo ≤ a.hi → b.lo ≤ b.hi → (numbers op w a b).lo ≤ (numbers op w a b).hi
 numbers_ordered op w a b h g =
