@@ -1,2 +1,4 @@
 pub mod Decisions
 pub mod Images
+pub mod Resolving
+pub mod Rooms

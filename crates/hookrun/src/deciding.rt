@@ -1,12 +1,13 @@
 //! A run of a hook on the siblings of a key, and its verdict.
 
-ghost use Rattle.std.specs.Prelude.{◌≡◌, ◌≤◌, ◌<◌, ◌⊎◌, length, replicate, IfOk, OnOk, OnErr, MatchResult, Ok, Err};
+ghost use Rattle.std.specs.Prelude.{◌≡◌, ◌≢◌, ◌≤◌, ◌<◌, ◌⊎◌, length, replicate, vec_len, IsOk, IfOk, IfErr, OnOk, OnErr, MatchResult, Ok, Err};
 ghost use Rattle.std.specs.Option.{option_copied};
 ghost use Rattle.memory.specs.Step.{IsInput};
 ghost use Rattle.abi.specs.Input.{contents_shown, used_by, window_of};
 ghost use Rattle.helpers.specs.Entries.{AgreesWith};
 ghost use Rattle.abi.specs.Verdicts.{meaning_of};
 ghost use Rattle.hookrun.specs.Decisions.{IsDecision, IsRuling};
+ghost use Rattle.hookrun.specs.Rooms.{IsKept, HasRoomFor};
 
 use abi::{BadAnswer, TooLarge, Verdict, fill_input, read_answer};
 use bpfimage::ImageKind;
@@ -14,6 +15,7 @@ use helpers::Table;
 use machine::run;
 use object::{Content, Sibling};
 use std::alloc::{AllocError, Global};
+use std::marker::Model;
 use verifier::Verified;
 
 /// Why a hook decides nothing.
@@ -29,27 +31,51 @@ pub enum RunFault {
     NoMemory,
 }
 
-/// The windows of hooks. They are kept from run to run and grow to the longest that was needed.
+/// The windows of hooks. They are kept from run to run, grow to the longest that was needed, and never shrink. Contracts see
+/// their lengths in bytes.
 #[derive(Drop)]
 pub struct Room {
     input: Vec<u8>,
     output: Vec<u8>,
 }
 
+impl Model for Room {
+    ghost use Rattle.std.specs.Prelude.{vec_len};
+    ghost use Rattle.hookrun.specs.Rooms.{Lengths};
+
+    ghost Value = { Lengths };
+
+    ghost view = { λ room. record { input = vec_len room.input; output = vec_len room.output } };
+}
+
 impl Room {
     /// Room for no byte as yet.
-    pub fn new(alloc: Global) -> Room {
+    pub fn new(alloc: Global) -> Room
+        ensures { result ≡ record { input = 0; output = 0 } }
+    {
         Room {
             input: Vec::new(alloc),
             output: Vec::new(alloc),
         }
+    }
+
+    /// Grows the windows that are shorter than a hook's, so that its runs want no memory. None shrinks.
+    pub fn fit(&mut self, hook: &Verified) -> Result<(), AllocError>
+        ensures fits { OnOk result (HasRoomFor self.new hook.now) }
+        ensures kept { IsKept self.old self.new }
+        ensures enough { HasRoomFor self.old hook.now → IsOk result }
+    {
+        let image = hook.image();
+        grow(&mut self.input, image.in_len as usize)?;
+        grow(&mut self.output, image.out_len as usize)
     }
 }
 
 /// Runs a hook on the siblings of a key, and on a new content where there is one. The verdict is that of a run of the program
 /// on their layout; it borrows the output window.
 ///
-/// `Disagrees`, `TooLarge` and `Bad`, the first that stands; `NoMemory` where a window could not grow.
+/// `Disagrees`, `TooLarge` and `Bad`, the first that stands; `NoMemory` where a window could not grow, and so never in a room that
+/// fits the hook.
 pub fn decide<'a>(
     room: &'a mut Room,
     hook: &Verified,
@@ -57,30 +83,32 @@ pub fn decide<'a>(
     new: Option<&Content>,
     siblings: &[Sibling],
 ) -> Result<Verdict<'a>, RunFault>
-    ensures { MatchResult result (λ verdict. IsDecision hook.now (option_copied new.entry) siblings.now table.now.listed (Ok (meaning_of verdict))) (λ fault. IsDecision hook.now (option_copied new.entry) siblings.now table.now.listed (Err fault)) }
+    ensures decision { MatchResult result (λ verdict. IsDecision hook.now (option_copied new.entry) siblings.now table.now.listed (Ok (meaning_of verdict))) (λ fault. IsDecision hook.now (option_copied new.entry) siblings.now table.now.listed (Err fault)) }
+    ensures enough { HasRoomFor room.old hook.now → IfErr result (λ fault. fault ≢ RunFault.NoMemory) }
 {
     if !table.agrees(hook.sigs()) {
         return Err(RunFault::Disagrees);
     }
+    if room.fit(hook).is_err() {
+        return Err(RunFault::NoMemory);
+    }
     let image = hook.image();
-    let Ok(input) = window(&mut room.input, image.in_len as usize) else {
-        return Err(RunFault::NoMemory);
-    };
-    let Ok(output) = window(&mut room.output, image.out_len as usize) else {
-        return Err(RunFault::NoMemory);
-    };
+    let input = &mut room.input[..image.in_len as usize];
+    let output = &mut room.output[..image.out_len as usize];
     output.fill(0);
     rule(hook, table, new, siblings, input, output)
 }
 
-/// So many bytes at the front of a buffer, which grows where it is shorter.
-fn window(buffer: &mut Vec<u8>, len: usize) -> Result<&mut [u8], AllocError>
-    ensures { IfOk result (λ bytes. length bytes.now ≡ len) }
+/// Grows a buffer to so many bytes, if it is shorter.
+fn grow(buffer: &mut Vec<u8>, len: usize) -> Result<(), AllocError>
+    ensures long { OnOk result (len ≤ vec_len buffer.new) }
+    ensures kept { vec_len buffer.old ≤ vec_len buffer.new }
+    ensures enough { len ≤ vec_len buffer.old → IsOk result }
 {
     if buffer.len() < len {
         buffer.resize(len, 0)?;
     }
-    Ok(&mut buffer[..len])
+    Ok(())
 }
 
 /// Runs a hook in windows of its lengths.
@@ -95,7 +123,8 @@ fn rule<'a>(
     requires agrees { AgreesWith table.now.listed hook.now.sigs }
     requires input { length input.old ≡ hook.now.in_len }
     requires output { output.old ≡ replicate hook.now.out_len 0 }
-    ensures { MatchResult result (λ verdict. IsRuling hook.now (option_copied new.entry) siblings.now (Ok (meaning_of verdict))) (λ fault. IsRuling hook.now (option_copied new.entry) siblings.now (Err fault)) }
+    ensures ruling { MatchResult result (λ verdict. IsRuling hook.now (option_copied new.entry) siblings.now (Ok (meaning_of verdict))) (λ fault. IsRuling hook.now (option_copied new.entry) siblings.now (Err fault)) }
+    ensures run { IfErr result (λ fault. fault ≢ RunFault.NoMemory) }
 {
     let kind = hook.image().kind;
     let Ok(used) = show(kind, new, siblings, input) else {

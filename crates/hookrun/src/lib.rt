@@ -3,8 +3,10 @@
 
 pub mod deciding;
 pub mod image;
+pub mod resolving;
 #[cfg(test)]
 mod tests;
 
 pub use deciding::{Room, RunFault, decide};
 pub use image::{Undecided, decide_image};
+pub use resolving::{Resolution, Unresolved, resolve};
