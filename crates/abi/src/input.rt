@@ -2,7 +2,7 @@
 
 ghost use Rattle.std.specs.Prelude.{◌≡◌, ◌≤◌, ◌<◌, ◌+◌, ◌-◌, ◌*◌, ◌^◌, ◌⊎◌, ◌↔◌, ◌++◌, [], length, take, replicate, IsErr, IfOk, OnOk, OnErr};
 ghost use Rattle.std.specs.Option.{SomeIff, option_copied};
-ghost use Rattle.abi.specs.Input.{contents_shown, flag_of, head, layout, new_shown, row, rows, shown, used_by, values, window_of};
+ghost use Rattle.abi.specs.Input.{contents_shown, flag_of, head, layout, most_siblings, new_shown, row, rows, shown, used_by, values, window_of};
 
 use bpfimage::ImageKind;
 use dvv::Dot;
@@ -40,8 +40,8 @@ pub fn fill_input(
     requires { length window.old < 2 ^ 32 }
     ensures used { IfOk result (λ used. used ≡ used_by (contents_shown (option_copied new.entry) siblings.now)) }
     ensures written { OnOk result (window.new ≡ window_of (length window.old) kind (contents_shown (option_copied new.entry) siblings.now)) }
-    ensures fits { OnOk result ((length siblings.now ≤ MAX_SIBLINGS) × (used_by (contents_shown (option_copied new.entry) siblings.now) ≤ length window.old)) }
-    ensures large { IsErr result ↔ ((MAX_SIBLINGS < length siblings.now) ⊎ (length window.old < used_by (contents_shown (option_copied new.entry) siblings.now))) }
+    ensures fits { OnOk result ((length siblings.now ≤ most_siblings) × (used_by (contents_shown (option_copied new.entry) siblings.now) ≤ length window.old)) }
+    ensures large { IsErr result ↔ ((most_siblings < length siblings.now) ⊎ (length window.old < used_by (contents_shown (option_copied new.entry) siblings.now))) }
     ensures unchanged { OnErr result (window.new ≡ window.old) }
 {
     if siblings.len() > MAX_SIBLINGS {
@@ -57,7 +57,7 @@ pub fn fill_input(
 
 /// How many rows the input has.
 fn row_count(new: Option<&Content>, siblings: &[Sibling]) -> usize
-    requires { length siblings.now ≤ MAX_SIBLINGS }
+    requires { length siblings.now ≤ most_siblings }
     ensures { result ≡ length (contents_shown (option_copied new.entry) siblings.now) }
 {
     match new {
@@ -68,7 +68,7 @@ fn row_count(new: Option<&Content>, siblings: &[Sibling]) -> usize
 
 /// How many bytes the input uses, where they fit a window of this length.
 fn used_length(new: Option<&Content>, siblings: &[Sibling], len: usize) -> Option<usize>
-    requires { length siblings.now ≤ MAX_SIBLINGS }
+    requires { length siblings.now ≤ most_siblings }
     ensures { SomeIff result (used_by (contents_shown (option_copied new.entry) siblings.now) ≤ len) (used_by (contents_shown (option_copied new.entry) siblings.now)) }
 {
     let room = len.checked_sub(HEAD_LEN + ROW_LEN * row_count(new, siblings))?;
@@ -96,7 +96,7 @@ fn write_used(
     used: u32,
     window: &mut [u8],
 )
-    requires few { length siblings.now ≤ MAX_SIBLINGS }
+    requires few { length siblings.now ≤ most_siblings }
     requires used { used ≡ used_by (contents_shown (option_copied new) siblings.now) }
     requires room { used ≤ length window.old }
     ensures { take used window.new ≡ layout kind (contents_shown (option_copied new.entry) siblings.now) }
