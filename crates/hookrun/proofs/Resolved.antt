@@ -1,5 +1,5 @@
 -- What comes of a run that gave no verdict.
-use Rattle.std.proofs.Common.{◌≡◌, List, None, Ok, Err, Result, refl, sym, subst}
+use Rattle.std.proofs.Common.{◌≡◌, List, None, Err, Result, refl, sym, subst}
 use Rattle.std.specs.Prelude.{MatchResult}
 use Rattle.helpers.specs.declared.sig.Entry.{Entry}
 use Rattle.verifier.specs.Program.{Program}
