@@ -47,3 +47,8 @@ answers_came backs back a h = answers_end backs back ∙ ap (λ b. answers backs
 
 pub length_end : {A : Type 0} (xs : List A) (x : A) (n m : ℕ) → length xs ≡ n → n < m → length (xs ++ x ∷ []) ≤ m
 length_end xs x n m h lt = simp length-append (omega arith)
+
+pub answers_few : (backs : List (Result Answer PeerFault)) → length (answers backs) ≤ length backs
+answers_few [] = omega arith
+answers_few (Ok a ∷ backs) = let few = answers_few backs in omega arith
+answers_few (Err e ∷ backs) = let few = answers_few backs in omega arith

@@ -9,7 +9,7 @@ use Rattle.helpers.specs.declared.sig.Entry.{Entry}
 use Rattle.abi.specs.Verdicts.{Meaning, Pass, Write, Reject, Keep, Delete, Take}
 use Rattle.hookrun.specs.declared.deciding.RunFault.{RunFault}
 use Rattle.hookrun.specs.declared.deciding.RunFault.TheVariants.{Disagrees, TooLarge, Bad, NoMemory}
-use Rattle.hooks.specs.declared.fault.HookFault.{HookFault}
+use Rattle.hooks.specs.declared.fault.NotSeen.{NotSeen}
 use Rattle.quorum.specs.declared.fault.QuorumFault.{QuorumFault}
 use Rattle.quorum.specs.declared.fault.QuorumFault.TheVariants.{TooFew}
 use Rattle.peers.specs.declared.peers.Answer.{Answer}
@@ -43,7 +43,7 @@ module _ (listed : List Entry) (coordinator : ℕ) (others : List ℕ) (key : Ke
       same e = cc
 
   -- where a put told that too few answered, a call of it was lost or refused
-  pub few_judged : (found : Result (Option Program) HookFault) (calls : List Call) → IsJudgedPut listed coordinator others key w seen content found calls (Err TooFew) → list_any has_failed calls ≡ true
+  pub few_judged : (found : Result (Option Program) NotSeen) (calls : List Call) → IsJudgedPut listed coordinator others key w seen content found calls (Err TooFew) → list_any has_failed calls ≡ true
   few_judged (Ok None) calls h = few_put coordinator others key w enough seen content calls h
   few_judged (Ok (Some hook)) calls (own, rest, is, after) = ap (list_any has_failed) is ∙ few_siblings hook own rest after
   few_judged (Err fault) calls (none, told) = cc

@@ -5,3 +5,4 @@ pub mod PutLemmas
 pub mod ResolveLemmas
 pub mod RisenLemmas
 pub mod ShowLemmas
+pub mod StoredLemmas

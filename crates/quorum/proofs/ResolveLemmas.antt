@@ -1,5 +1,5 @@
 -- One vnode's answered state more.
-use Rattle.std.proofs.Common.{◌≡◌, ℕ, zero, suc, ◌+◌, ◌<◌, List, [], ◌∷◌, ◌++◌, length, length-append, take, drop, map, get_or, refl, ap, sym, ◌∙◌, subst, arith, Result, Ok, Err, Bool, true, false, cond, is_err}
+use Rattle.std.proofs.Common.{◌≡◌, ℕ, zero, suc, ◌+◌, ◌<◌, List, [], ◌∷◌, ◌++◌, length, length-append, take, drop, map, get_or, refl, ap, sym, ◌∙◌, subst, arith, Result, Ok, Err, Bool, true, false, cond}
 use Rattle.std.proofs.lemmas.List.{take_more, append-nil, map-append}
 use Rattle.std.proofs.lemmas.List.Elements.{filter-append}
 use Rattle.object.specs.declared.content.Key.{Key}
@@ -25,13 +25,9 @@ length_map_ok : (changes : List Bool) → length (map {B = Result Bool PeerFault
 length_map_ok [] = refl
 length_map_ok (x ∷ changes) = ap suc (length_map_ok changes)
 
-pub took : (back : Result Bool PeerFault) → is_err back ≡ false → (changed : Bool) × (back ≡ Ok changed)
-took (Ok changed) h = (changed, refl)
-took (Err fault) h = cc
-
-pub failed : (back : Result Bool PeerFault) → is_err back ≡ true → (fault : PeerFault) × (back ≡ Err fault)
-failed (Ok changed) h = cc
-failed (Err fault) h = (fault, refl)
+pub took : (back : Result Bool PeerFault) → ((fault : PeerFault) → back ≡ Err fault → ⊥) → (changed : Bool) × (back ≡ Ok changed)
+took (Ok changed) none = (changed, refl)
+took (Err fault) none = absurd (none fault refl)
 
 module _ (coordinator : ℕ) (answers : List Answer) (i : ℕ) (a : Answer) (lt : i < length answers) (is : a ≡ get_or answers i a) where
   others_more : (b : Bool) → is_others coordinator a ≡ b → others_of coordinator (take (i + 1) answers) ≡ others_of coordinator (take i answers) ++ cond b (a ∷ []) []
@@ -68,7 +64,7 @@ module _ (coordinator : ℕ) (answers : List Answer) (i : ℕ) (a : Answer) (lt 
 
     -- it wasn't taken
     pub was_refused : (fault : PeerFault) → is_others coordinator a ≡ true → happens now (MergeAt coordinator key a.from a.at a.state (Err fault)) next
-        → (backs : List (Result Bool PeerFault)) × Made happens start (brings coordinator key (others_of coordinator answers) backs) next × OneFailed (others_of coordinator answers) backs
+        → (backs : List (Result Bool PeerFault)) × Made happens start (brings coordinator key (others_of coordinator answers) backs) next × OneFailed (others_of coordinator answers) backs fault
     was_refused fault e here =
         let parts = others_split e in
         let backs : List (Result Bool PeerFault) = map Ok changes in
@@ -78,5 +74,5 @@ module _ (coordinator : ℕ) (answers : List Answer) (i : ℕ) (a : Answer) (lt 
         = ap length parts ∙ length-append (others_of coordinator (take i answers)) (a ∷ others_of coordinator (drop (suc i) answers)) in (
           backs ++ Err fault ∷ [],
           subst (λ calls. Made happens start calls next) (sym whole) (made_end happens start now next (brings coordinator key (others_of coordinator (take i answers)) backs) (MergeAt coordinator key a.from a.at a.state (Err fault)) made here),
-          (changes, fault, refl, omega arith),
+          (changes, refl, omega arith),
         )

@@ -1,9 +1,9 @@
 -- A read of a key at each vnode of its preference list (Riak KV documentation, reads and quorums).
-use Rattle.std.specs.Prelude.{◌≡◌, ℕ, ◌≤◌, ◌<◌, ◌⊎◌, List, [], ◌∷◌, ◌++◌, Result, Ok, Err, map, length}
+use Rattle.std.specs.Prelude.{◌≡◌, ℕ, ◌≤◌, ◌<◌, ◌⊎◌, true, List, [], ◌∷◌, ◌++◌, Result, Ok, Err, map, length}
 use Rattle.std.specs.Global.{Vec}
 use Rattle.dvv.specs.Clock.{vnodes_together}
 use Rattle.object.specs.declared.content.Key.{Key}
-use Rattle.object.specs.State.{State}
+use Rattle.object.specs.State.{State, is_changed_by}
 use Rattle.object.specs.Known.{Write, Shows}
 use Rattle.journal.specs.Replay.{IsMergeOf}
 use Rattle.vnode.specs.declared.fault.VnodeFault.TheVariants.{MergedClockFull, NoMemory}
@@ -46,19 +46,32 @@ pub record PassesClock (key : Key) (states : List State) : Type 0 where
   pub is_merge : IsMergeOf key before merged
   pub many : 1024 < vnodes_together merged.clock state.clock
 
+-- a merge of states that memory may lack for: that of one of them into the merge of those before it, none of which passes the
+-- clock's limit, and which changes something
+pub record MayLackMemory (key : Key) (states : List State) : Type 0 where
+  pub before : List State
+  pub state : State
+  pub after : List State
+  pub merged : State
+  pub parts : states ≡ before ++ state ∷ after
+  pub is_merge : IsMergeOf key before merged
+  pub fits : ¬ PassesClock key (before ++ state ∷ [])
+  pub changes : is_changed_by merged state ≡ true
+
 -- each vnode was read, and at least r answered
 abbrev pub Suffice : List ℕ → ℕ → List (Result Answer PeerFault) → Type 0
 Suffice vnodes r backs = (length backs ≡ length vnodes) × (r ≤ length (answers backs))
 
--- what a get answers to what came back: the merge of all states that came, and these; too few where less than r came;
--- a full clock where their merge passes its limit; where memory lacked no vnode was read, or each was
+-- what a get answers to what came back: the merge of all states that came, and these; too few just where less than r came;
+-- a full clock just where their merge passes its limit. Memory may lack for what is read of one vnode or more, and then none
+-- was read; and for a merge of what came that changes something, where this one and those before it keep within the limit
 abbrev pub GetsAnswer : Key → List ℕ → ℕ → List (Result Answer PeerFault) → Result (State × Vec Answer) QuorumFault → Type 0
-GetsAnswer key vnodes r backs (Ok found) = Suffice vnodes r backs × IsMergeOf key (states_of (answers backs)) found.0 × (found.1.items ≡ answers backs)
+GetsAnswer key vnodes r backs (Ok found) = Suffice vnodes r backs × IsMergeOf key (states_of (answers backs)) found.0 × (¬ PassesClock key (states_of (answers backs))) × (found.1.items ≡ answers backs)
 GetsAnswer key vnodes r backs (Err TooFew) = (length backs ≡ length vnodes) × (length (answers backs) < r)
 GetsAnswer key vnodes r backs (Err (Refused MergedClockFull)) = Suffice vnodes r backs × PassesClock key (states_of (answers backs))
-GetsAnswer key vnodes r backs (Err (Refused NoMemory)) = (backs ≡ []) ⊎ Suffice vnodes r backs
+GetsAnswer key vnodes r backs (Err (Refused NoMemory)) = ((backs ≡ []) × (0 < length vnodes)) ⊎ (Suffice vnodes r backs × MayLackMemory key (states_of (answers backs)))
 GetsAnswer key vnodes r backs (Err (Refused fault)) = ⊥
-GetsAnswer key vnodes r backs (Err (Unseen fault)) = ⊥
+GetsAnswer key vnodes r backs (Err Unseen) = ⊥
 GetsAnswer key vnodes r backs (Err Disagrees) = ⊥
 GetsAnswer key vnodes r backs (Err TooLarge) = ⊥
 GetsAnswer key vnodes r backs (Err (BadVerdict bad)) = ⊥

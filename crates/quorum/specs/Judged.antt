@@ -12,7 +12,7 @@ use Rattle.abi.specs.Verdicts.{Meaning, Pass, Write, Reject, Keep, Delete, Take}
 use Rattle.abi.specs.Written.{octet_stream}
 use Rattle.hookrun.specs.declared.deciding.RunFault.{RunFault}
 use Rattle.hookrun.specs.Decisions.{IsDecision}
-use Rattle.hooks.specs.declared.fault.HookFault.{HookFault}
+use Rattle.hooks.specs.declared.fault.NotSeen.{NotSeen}
 use Rattle.peers.specs.declared.peers.Answer.{Answer}
 use Rattle.peers.specs.declared.fault.PeerFault.{PeerFault}
 use Rattle.quorum.specs.declared.fault.QuorumFault.{QuorumFault}
@@ -56,7 +56,7 @@ module _ (listed : List Entry) (coordinator : ℕ) (others : List ℕ) (key : Ke
   AfterSiblings hook (Err fault) calls result = (calls ≡ []) × (result ≡ Err (fault_of fault))
 
   -- the calls of a put and its answer, by what the look-up of the pre-commit hook found
-  abbrev pub IsJudgedPut : Result (Option Program) HookFault → List Call → Result Dot QuorumFault → Type 0
+  abbrev pub IsJudgedPut : Result (Option Program) NotSeen → List Call → Result Dot QuorumFault → Type 0
   IsJudgedPut (Ok None) calls result = IsPut coordinator others key w seen content calls result
   IsJudgedPut (Ok (Some hook)) calls result = (own : Result Answer PeerFault) × (rest : List Call) × (calls ≡ StateOf coordinator key own ∷ rest) × AfterSiblings hook own rest result
-  IsJudgedPut (Err fault) calls result = (calls ≡ []) × (result ≡ Err (Unseen fault))
+  IsJudgedPut (Err fault) calls result = (calls ≡ []) × (result ≡ Err Unseen)

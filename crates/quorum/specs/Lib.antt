@@ -1,5 +1,6 @@
 pub mod Faults
 pub mod Gets
 pub mod Judged
+pub mod Named
 pub mod Puts
 pub mod Resolves

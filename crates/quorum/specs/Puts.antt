@@ -1,5 +1,5 @@
 -- A put at a coordinator, and its way to the other vnodes of the list (Riak KV documentation, writes and quorums).
-use Rattle.std.specs.Prelude.{◌≡◌, ℕ, ◌+◌, List, [], ◌∷◌, ◌++◌, Result, Ok, Err, length, count_by, is_ok, nat_le, Bool, true, false, MatchBool, if◌then◌else◌}
+use Rattle.std.specs.Prelude.{◌≡◌, ℕ, ◌+◌, ◌≤◌, List, [], ◌∷◌, ◌++◌, Result, Ok, Err, length, count_by, is_ok, nat_le, Bool, true, false, MatchBool, if◌then◌else◌}
 use Rattle.dvv.specs.declared.Dot.{Dot}
 use Rattle.object.specs.declared.content.Key.{Key}
 use Rattle.object.specs.declared.content.Content.{Content}
@@ -69,3 +69,14 @@ module _ (coordinator : ℕ) (others : List ℕ) (key : Key) (w : ℕ) where
     -- the calls of a put, and its answer
     abbrev pub IsPut : List Call → Result Dot QuorumFault → Type 0
     IsPut calls result = (first : Result Dot PeerFault) × (rest : List Call) × (calls ≡ PutAt coordinator key seen content first ∷ rest) × AfterFirst first rest result
+
+-- the last calls of a put that went through: the coordinator stored it under this dot and answered its own state, which was then
+-- merged into each other vnode; with the coordinator, at least w vnodes answered that they have a copy
+pub record StoresCopies (coordinator : ℕ) (others : List ℕ) (key : Key) (w : ℕ) (seen : List Dot) (dot : Dot) (calls : List Call) : Type 0 where
+  pub before : List Call
+  pub content : Content
+  pub own : Answer
+  pub backs : List (Result Bool PeerFault)
+  pub parts : calls ≡ before ++ PutAt coordinator key seen content (Ok dot) ∷ StateOf coordinator key (Ok own) ∷ merges key own others backs
+  pub each : length backs ≡ length others
+  pub enough : w ≤ copies backs

@@ -1,24 +1,21 @@
 -- What a bucket's resolver makes of a get that found several siblings (this store's profile).
-use Rattle.std.specs.Prelude.{◌≡◌, ℕ, ◌%◌, ◌<◌, ◌⊎◌, ◌==◌, not, Bool, List, [], ◌∷◌, ◌++◌, Option, Some, None, Result, Ok, Err, map, filter, length, slice_get, nat_le, MatchBool}
-use Rattle.std.specs.Option.{option_map}
+use Rattle.std.specs.Prelude.{◌≡◌, ℕ, ◌%◌, ◌<◌, ◌⊎◌, ◌==◌, not, Bool, List, [], ◌∷◌, ◌++◌, Option, Some, None, Result, Ok, Err, map, filter, length, nat_le, MatchBool, MatchResult}
 use Rattle.dvv.specs.declared.Dot.{Dot}
 use Rattle.object.specs.declared.content.Key.{Key}
 use Rattle.object.specs.declared.content.Content.{Content}
-use Rattle.object.specs.declared.content.Content.TheVariants.{Tombstone}
 use Rattle.object.specs.declared.content.Sibling.{Sibling}
 use Rattle.object.specs.State.{State}
 use Rattle.verifier.specs.Program.{Program}
 use Rattle.helpers.specs.declared.sig.Entry.{Entry}
-use Rattle.abi.specs.Verdicts.{Meaning, Pass, Write, Reject, Keep, Delete, Take}
-use Rattle.hookrun.specs.declared.deciding.RunFault.{RunFault}
-use Rattle.hookrun.specs.Decisions.{IsDecision}
-use Rattle.hooks.specs.declared.fault.HookFault.{HookFault}
+use Rattle.hookrun.specs.declared.resolving.Resolution.{Resolution}
+use Rattle.hookrun.specs.declared.resolving.Unresolved.{Unresolved}
+use Rattle.hookrun.specs.Resolving.{IsResolution, IsUnresolved, chosen_by}
+use Rattle.hooks.specs.declared.fault.NotSeen.{NotSeen}
 use Rattle.peers.specs.declared.peers.Answer.{Answer}
 use Rattle.peers.specs.declared.fault.PeerFault.{PeerFault}
-use Rattle.quorum.specs.declared.hooking.Choice.{Choice}
-use Rattle.quorum.specs.declared.hooking.Choice.TheVariants as choice
+use Rattle.quorum.specs.declared.fault.ResolveFault.{ResolveFault}
+use Rattle.quorum.specs.declared.fault.ResolveFault.TheVariants.{Unseen, Undecided, Cut}
 use Rattle.peers.specs.Calls.{Call, PutAt, MergeAt, StateOf}
-use Rattle.abi.specs.Written.{octet_stream}
 
 -- whether an answer is another vnode's: an identifier's index is what it leaves of 65,536
 abbrev pub is_others : ℕ → Answer → Bool
@@ -27,26 +24,6 @@ is_others coordinator answer = not ((answer.from % 65536) == coordinator)
 -- the answers of other vnodes
 abbrev pub others_of : ℕ → List Answer → List Answer
 others_of coordinator answers = filter (is_others coordinator) answers
-
--- the content of the sibling at a place, if there is one
-abbrev pub content_of : List Sibling → ℕ → Option Content
-content_of siblings index = option_map (λ s. s.content) (slice_get siblings index)
-
--- the content that a resolver's decision on these siblings puts, if any; for a written value memory may lack
-abbrev pub Chooses : List Sibling → Result Meaning RunFault → Option Content → Type 0
-Chooses siblings (Ok Pass) chosen = chosen ≡ None
-Chooses siblings (Ok (Write bytes)) chosen = (chosen ≡ Some (octet_stream bytes)) ⊎ (chosen ≡ None)
-Chooses siblings (Ok (Reject code)) chosen = chosen ≡ None
-Chooses siblings (Ok Keep) chosen = chosen ≡ None
-Chooses siblings (Ok Delete) chosen = chosen ≡ Some Tombstone
-Chooses siblings (Ok (Take index)) chosen = chosen ≡ content_of siblings index
-Chooses siblings (Err fault) chosen = chosen ≡ None
-
--- the content of a choice among these siblings
-abbrev pub chosen_of : List Sibling → Option Choice → Option Content
-chosen_of siblings None = None
-chosen_of siblings (Some (choice.Sibling index)) = content_of siblings index
-chosen_of siblings (Some (choice.Made content)) = Some content
 
 -- these states are merged into the coordinator, in order, with what came back
 abbrev pub brings : ℕ → Key → List Answer → List (Result Bool PeerFault) → List Call
@@ -58,47 +35,68 @@ brings coordinator key (answer ∷ answers) (back ∷ backs) = MergeAt coordinat
 abbrev pub AllTaken : List Answer → List (Result Bool PeerFault) → Type 0
 AllTaken answers backs = (changes : List Bool) × (backs ≡ map Ok changes) × (length changes ≡ length answers)
 
--- some were taken, and the next was not
-abbrev pub OneFailed : List Answer → List (Result Bool PeerFault) → Type 0
-OneFailed answers backs = (changes : List Bool) × (fault : PeerFault) × (backs ≡ map Ok changes ++ Err fault ∷ []) × (length changes < length answers)
+-- some were taken, and the next was not, for this
+abbrev pub OneFailed : List Answer → List (Result Bool PeerFault) → PeerFault → Type 0
+OneFailed answers backs fault = (changes : List Bool) × (backs ≡ map Ok changes ++ Err fault ∷ []) × (length changes < length answers)
 
 -- what the coordinator's read after the put tells
-abbrev pub told_of : Result Answer PeerFault → Option State
-told_of (Ok answer) = Some answer.state
-told_of (Err fault) = None
+abbrev pub told_of : Result Answer PeerFault → Result State PeerFault
+told_of (Ok answer) = Ok answer.state
+told_of (Err fault) = Err fault
 
--- no further call is made, and nothing is told
-abbrev pub Leaves : List Call → Option State → Type 0
-Leaves calls told = (calls ≡ []) × (told ≡ None)
+-- what a resolve comes to, by what its calls told
+abbrev pub end_of : Result State PeerFault → Result (Option State) ResolveFault
+end_of (Ok state) = Ok (Some state)
+end_of (Err fault) = Err (Cut fault)
+
+-- no further call is made, and that is what it comes to
+abbrev pub EndsAt : List Call → Result (Option State) ResolveFault → Result (Option State) ResolveFault → Type 0
+EndsAt calls told end = (calls ≡ []) × (told ≡ end)
 
 module _ (coordinator : ℕ) (key : Key) where
   -- what follows the put
-  abbrev pub AfterCommit : Result Dot PeerFault → List Call → Option State → Type 0
+  abbrev pub AfterCommit : Result Dot PeerFault → List Call → Result State PeerFault → Type 0
   AfterCommit (Ok dot) calls told = (own : Result Answer PeerFault) × (calls ≡ StateOf coordinator key own ∷ []) × (told ≡ told_of own)
-  AfterCommit (Err fault) calls told = Leaves calls told
+  AfterCommit (Err fault) calls told = (calls ≡ []) × (told ≡ Err fault)
 
   module _ (answers : List Answer) (seen : List Dot) where
     -- each other vnode's answered state is merged into the coordinator, and then the content is put there; where one of the
     -- merges failed, nothing follows it
-    abbrev pub Commits : Content → List Call → Option State → Type 0
+    abbrev pub Commits : Content → List Call → Result State PeerFault → Type 0
     Commits content calls told =
         ((backs : List (Result Bool PeerFault)) × (back : Result Dot PeerFault) × (rest : List Call) × AllTaken (others_of coordinator answers) backs
         × (calls ≡ brings coordinator key (others_of coordinator answers) backs ++ PutAt coordinator key seen content back ∷ rest) × AfterCommit back rest told)
-        ⊎ ((backs : List (Result Bool PeerFault)) × OneFailed (others_of coordinator answers) backs × (calls ≡ brings coordinator key (others_of coordinator answers) backs) × (told ≡ None))
+        ⊎ ((backs : List (Result Bool PeerFault)) × (fault : PeerFault) × OneFailed (others_of coordinator answers) backs fault × (calls ≡ brings coordinator key (others_of coordinator answers) backs) × (told ≡ Err fault))
 
-    -- what follows the resolver's decision
-    abbrev pub AfterChoice : Option Content → List Call → Option State → Type 0
-    AfterChoice (Some content) calls told = Commits content calls told
-    AfterChoice None calls told = Leaves calls told
+    -- what follows the resolver's choice of a content, or of none
+    abbrev pub AfterChoice : Option Content → List Call → Result (Option State) ResolveFault → Type 0
+    AfterChoice (Some content) calls told = (back : Result State PeerFault) × Commits content calls back × (told ≡ end_of back)
+    AfterChoice None calls told = EndsAt calls told (Ok None)
 
-    -- what follows the look-up of the resolver: it decides on the siblings of the merged answer
-    abbrev pub AfterLookUp : List Entry → List Sibling → Result (Option Program) HookFault → List Call → Option State → Type 0
-    AfterLookUp listed siblings (Ok (Some hook)) calls told = (decided : Result Meaning RunFault) × (chosen : Option Content) × IsDecision hook None siblings listed decided × Chooses siblings decided chosen × AfterChoice chosen calls told
-    AfterLookUp listed siblings (Ok None) calls told = Leaves calls told
-    AfterLookUp listed siblings (Err fault) calls told = Leaves calls told
+    -- what follows the resolver's run on these siblings
+    abbrev pub AfterRun : List Sibling → Result Resolution Unresolved → List Call → Result (Option State) ResolveFault → Type 0
+    AfterRun siblings (Ok resolution) calls told = AfterChoice (chosen_by resolution siblings) calls told
+    AfterRun siblings (Err fault) calls told = EndsAt calls told (Err (Undecided fault))
 
-    -- the calls of a resolve, and the coordinator's state where all went through; the resolver is looked up just where there are
-    -- two siblings or more
-    abbrev pub IsResolve : {H : Type 0} → (H → Result (Option Program) HookFault → H → Type 0) → H → H → List Entry → List Sibling → List Call → Option State → Type 0
+    -- what follows the look-up of the resolver: it is run on the siblings of the merged answer
+    abbrev pub AfterLookUp : List Entry → List Sibling → Result (Option Program) NotSeen → List Call → Result (Option State) ResolveFault → Type 0
+    AfterLookUp listed siblings (Ok (Some hook)) calls told = (ran : Result Resolution Unresolved) × MatchResult ran (IsResolution listed hook siblings) (IsUnresolved listed hook siblings) × AfterRun siblings ran calls told
+    AfterLookUp listed siblings (Ok None) calls told = EndsAt calls told (Ok None)
+    AfterLookUp listed siblings (Err fault) calls told = EndsAt calls told (Err Unseen)
+
+    -- the calls of a resolve, and what it comes to: the coordinator's state where all went through, nothing where nothing was to be
+    -- written, or what cut it short; the resolver is looked up just where there are two siblings or more
+    abbrev pub IsResolve : {H : Type 0} → (H → Result (Option Program) NotSeen → H → Type 0) → H → H → List Entry → List Sibling → List Call → Result (Option State) ResolveFault → Type 0
     IsResolve finds old new listed siblings calls told = MatchBool (nat_le 2 (length siblings))
-        ((found : Result (Option Program) HookFault) × finds old found new × AfterLookUp listed siblings found calls told) ((new ≡ old) × Leaves calls told)
+        ((found : Result (Option Program) NotSeen) × finds old found new × AfterLookUp listed siblings found calls told) ((new ≡ old) × EndsAt calls told (Ok None))
+
+-- the state that is answered: the coordinator's, or the get's own
+abbrev pub state_told : State → Result (Option State) ResolveFault → State
+state_told got (Ok (Some state)) = state
+state_told got (Ok None) = got
+state_told got (Err fault) = got
+
+-- what cut it short, if anything did
+abbrev pub cut_of : Result (Option State) ResolveFault → Option ResolveFault
+cut_of (Ok told) = None
+cut_of (Err fault) = Some fault

@@ -1,9 +1,9 @@
 //! Why a get or a put gives no answer.
 
 use abi::BadAnswer;
-use hookrun::RunFault;
-use hooks::HookFault;
+use hookrun::{RunFault, Unresolved};
 use object::MergeFault;
+use peers::PeerFault;
 use std::alloc::AllocError;
 use thiserror::Error;
 use vnode::VnodeFault;
@@ -19,9 +19,9 @@ pub enum QuorumFault {
     /// the get or the put itself, as for a hook's windows or for the value that it wrote.
     #[error("{0}")]
     Refused(VnodeFault),
-    /// The look-up of a put's pre-commit hook was refused. No call on a vnode was made.
-    #[error("{0}")]
-    Unseen(HookFault),
+    /// The hooks can't be seen now, so a put's pre-commit hook isn't known. No call on a vnode was made.
+    #[error("G3")]
+    Unseen,
     /// The pre-commit hook's table lacks a helper that the hook was verified with, or has it under another Sig.
     #[error("X4")]
     Disagrees,
@@ -34,6 +34,18 @@ pub enum QuorumFault {
     /// The pre-commit hook refused the new content, with this code of its own.
     #[error("X3 {0}")]
     Rejected(u8),
+}
+
+/// Why what a resolver was to write is left out of a get's answer.
+#[derive(Clone, Copy, Debug, PartialEq, Eq)]
+pub enum ResolveFault {
+    /// The hooks can't be seen now, so the resolver isn't known. No call on a vnode was made.
+    Unseen,
+    /// The resolver's table lacks a helper, or memory ran out for its windows or for the value that it wrote. No call on a vnode
+    /// was made.
+    Undecided(Unresolved),
+    /// One of the merges into the coordinator, the put there or the read after it was lost or refused. What was stored stays.
+    Cut(PeerFault),
 }
 
 impl From<AllocError> for QuorumFault {

@@ -9,19 +9,21 @@ ghost use Rattle.peers.specs.declared.peers.Answer.{Answer as Answered};
 ghost use Rattle.peers.specs.declared.fault.PeerFault.{PeerFault};
 ghost use Rattle.peers.specs.Calls.{Made};
 ghost use Rattle.peers.specs.Counts.{HasRisen};
-ghost use Rattle.quorum.specs.Gets.{reads, answers, states_of, PassesClock, EachShows, GetsAnswer};
+ghost use Rattle.quorum.specs.Gets.{reads, answers, states_of, PassesClock, MayLackMemory, EachShows, GetsAnswer};
+ghost use Rattle.quorum.specs.Named.{AreDifferent};
 
 use crate::fault::QuorumFault;
 use object::{Key, KeyState, MergeFault};
 use peers::{Answer, Peers};
 use std::alloc::Global;
 
-/// Reads the key at each of these vnodes, in order. Answers the merge of all states that came, and these. Each answer counts
-/// towards r, so the vnodes have to be different.
+/// Reads the key at each of these vnodes, in order, no two of them alike. Answers the merge of all states that came, and
+/// these, at most one of each vnode.
 ///
-/// `TooFew` where fewer than r vnodes answered; then `Refused` with `MergedClockFull` where the merge's clock passes its
-/// limit, and with `NoMemory` where a growth was refused, before the first read or after the last. The reads made are
-/// events that stand.
+/// `TooFew` just where fewer than r vnodes answered; else `Refused`, at the first merge that can't be made: with
+/// `MergedClockFull` just where its clock passes the limit, and with `NoMemory` where a growth was refused for one that
+/// doesn't. `NoMemory` too, with no vnode read, where there is no room for what will come. The reads made are events that
+/// stand.
 pub fn get<P: Peers>(
     alloc: Global,
     peers: &mut P,
@@ -29,10 +31,12 @@ pub fn get<P: Peers>(
     vnodes: &[usize],
     r: usize,
 ) -> Result<(KeyState, Vec<Answer>), QuorumFault>
+    requires different { AreDifferent vnodes.now }
     // Which calls are made, and what is answered to what came back.
     ensures calls { (backs : List (Result Answered PeerFault)) × Made P.happens peers.old (reads key.now vnodes.now backs) peers.new × GetsAnswer key.now vnodes.now r backs result }
     // Too few answers come only of calls that were lost or refused.
     ensures few { result ≡ Err QuorumFault.TooFew → r ≤ length vnodes.now → HasRisen (P.failures peers.old) (P.failures peers.new) }
+    ensures within { IfOk result (λ found. length found.1.items ≤ length vnodes.now) }
     // Where each state that came shows some known writes, the answer shows what is current among all of these, and their context.
     ensures current { IfOk result (λ found. (knowns : List (List Write)) → AllShow (states_of found.1.items) knowns → ShowsKnown found.0 (all_writes knowns)) }
     // The same, told by sets of writes: of vnodes of one world, where no identifier stands for two writes and none had seen
@@ -71,9 +75,12 @@ fn read_all<P: Peers>(peers: &mut P, key: &Key, vnodes: &[usize], found: &mut Ve
 // The merge of what came.
 fn merge_all(alloc: Global, found: &[Answer]) -> Result<KeyState, MergeFault>
     ensures merge { IfOk result (λ merged. (key : StoredKey) → IsMergeOf key (states_of found.now) merged) }
+    ensures fits { OnOk result ((key : StoredKey) → PassesClock key (states_of found.now) → ⊥) }
     ensures full { result ≡ Err MergeFault.ClockFull → (key : StoredKey) → PassesClock key (states_of found.now) }
+    ensures memory { result ≡ Err MergeFault.NoMemory → (key : StoredKey) → MayLackMemory key (states_of found.now) }
 {
     journal::laws::merges_go_on();
+    journal::laws::replays_are_one();
     let mut merged = KeyState::new(alloc);
     for answer in found {
         match merged.merge(&answer.state) {

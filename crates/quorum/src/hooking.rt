@@ -1,16 +1,16 @@
 //! What a bucket's hooks make of the siblings of a key.
 
-ghost use Rattle.std.specs.Prelude.{◌≡◌, List, Option, Some, None, Result, Ok, Err, IfOk};
+ghost use Rattle.std.specs.Prelude.{◌≡◌, List, Option, Some, None, Result, Ok, Err, IfOk, MatchResult};
 ghost use Rattle.abi.specs.Verdicts.{Meaning, meaning_of};
 ghost use Rattle.hookrun.specs.declared.deciding.RunFault.{RunFault as Failure};
 ghost use Rattle.hookrun.specs.Decisions.{IsDecision};
+ghost use Rattle.hookrun.specs.Resolving.{IsResolution, IsUnresolved};
 ghost use Rattle.quorum.specs.Judged.{Judges, or_same, rewritten};
-ghost use Rattle.quorum.specs.Resolves.{Chooses, chosen_of};
 
 use crate::fault::QuorumFault;
 use abi::{BadAnswer, Verdict, octet_stream};
 use helpers::Table;
-use hookrun::{Room, decide};
+use hookrun::{Resolution, Room, Unresolved, decide};
 use object::{Bytes, Content, Sibling};
 use std::alloc::{AllocError, Global};
 use verifier::Verified;
@@ -58,26 +58,18 @@ impl<H> Hooking<H> {
         }
     }
 
-    // What a resolver chose of siblings, if it writes.
-    pub(crate) fn choose(&mut self, hook: &Verified, siblings: &[Sibling]) -> Option<Choice>
-        ensures chooses { (decided : Result Meaning Failure) × IsDecision hook.now None siblings.now self.old.table.listed decided × Chooses siblings.now decided (chosen_of siblings.now result) }
+    // What a resolver makes of siblings.
+    pub(crate) fn choose(
+        &mut self,
+        hook: &Verified,
+        siblings: &[Sibling],
+    ) -> Result<Resolution, Unresolved>
+        ensures chooses { MatchResult result (IsResolution self.old.table.listed hook.now siblings.now) (IsUnresolved self.old.table.listed hook.now siblings.now) }
         ensures hooks { self.new.hooks ≡ self.old.hooks }
         ensures table { self.new.table ≡ self.old.table }
     {
-        match decide(&mut self.room, hook, &self.table, None, siblings) {
-            Ok(verdict) => chosen(self.alloc, verdict),
-            Err(_) => None,
-        }
+        hookrun::resolve(self.alloc, &mut self.room, hook, &self.table, siblings)
     }
-}
-
-/// A content that a resolver chose.
-#[derive(Drop)]
-pub(crate) enum Choice {
-    /// That of the sibling at this place.
-    Sibling(u32),
-    /// One of its own.
-    Made(Content),
 }
 
 // What a pre-commit hook's verdict makes of the new content.
@@ -95,21 +87,6 @@ fn judged(
         Verdict::Keep | Verdict::Delete | Verdict::Take(_) => {
             Err(QuorumFault::BadVerdict(BadAnswer::UnknownCode))
         }
-    }
-}
-
-// What a resolver's verdict chose, if it writes. For a written value memory may lack, and then it chose nothing.
-fn chosen(alloc: Global, verdict: Verdict) -> Option<Choice>
-    ensures { (siblings : List Sibling) → Chooses siblings (Ok (meaning_of verdict.entry)) (chosen_of siblings result) }
-{
-    match verdict {
-        Verdict::Take(index) => Some(Choice::Sibling(index)),
-        Verdict::Write(bytes) => match octet_stream(alloc, bytes) {
-            Ok(content) => Some(Choice::Made(content)),
-            Err(_) => None,
-        },
-        Verdict::Delete => Some(Choice::Made(Content::Tombstone)),
-        Verdict::Pass | Verdict::Reject(_) | Verdict::Keep => None,
     }
 }
 

@@ -8,8 +8,8 @@ mod hooking;
 mod putting;
 mod resolving;
 
-pub use fault::QuorumFault;
+pub use fault::{QuorumFault, ResolveFault};
 pub use getting::get;
 pub use hooking::Hooking;
 pub use putting::put;
-pub use resolving::resolve;
+pub use resolving::{Resolved, resolve};

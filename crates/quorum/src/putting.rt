@@ -1,14 +1,15 @@
 //! A put: the bucket's pre-commit hook, then the coordinator, then its state to the other vnodes of the list.
 
-ghost use Rattle.std.specs.Prelude.{◌≡◌, ◌+◌, ◌≤◌, ◌<◌, List, length, Bool, Option, Some, Result, Ok, Err, ◌^◌};
+ghost use Rattle.std.specs.Prelude.{◌≡◌, ◌+◌, ◌≤◌, ◌<◌, ◌∷◌, List, length, Bool, Option, Some, Result, Ok, Err, IfOk, ◌^◌};
 ghost use Rattle.verifier.specs.Program.{Program};
-ghost use Rattle.hooks.specs.declared.fault.HookFault.{HookFault as LookUpFault};
+ghost use Rattle.hooks.specs.declared.fault.NotSeen.{NotSeen as LookUpFault};
 ghost use Rattle.peers.specs.declared.fault.PeerFault.{PeerFault as Failure};
 ghost use Rattle.peers.specs.Calls.{Call, Made};
 ghost use Rattle.peers.specs.Counts.{HasRisen};
 ghost use Rattle.quorum.specs.Faults.{fault_of};
 ghost use Rattle.quorum.specs.Judged.{IsJudgedPut};
-ghost use Rattle.quorum.specs.Puts.{Brought, gathers, merges, copies, AfterPut, IsPut, is_ahead};
+ghost use Rattle.quorum.specs.Named.{AreDifferent};
+ghost use Rattle.quorum.specs.Puts.{Brought, gathers, merges, copies, AfterPut, IsPut, StoresCopies, is_ahead};
 
 use crate::fault::QuorumFault;
 use crate::hooking::Hooking;
@@ -22,8 +23,8 @@ use vnode::VnodeFault;
 
 /// Puts a content at the coordinator, as one who had seen what the clock counts, and brings its state to the other vnodes
 /// of the list. Where the context is ahead of the coordinator, the others' states are brought to it and the put is tried
-/// once more. An Ok means that at least w vnodes have a copy, the coordinator among them: each merge that was taken counts as
-/// one, so the others have to be different vnodes and leave the coordinator out.
+/// once more. An Ok means that at least w vnodes answered that they have a copy, the coordinator among them. The coordinator
+/// and the others are different vnodes.
 ///
 /// The bucket's pre-commit hook, if it has one, first decides on the content and the siblings that are read at the
 /// coordinator. It may change the value: the media type is then kept, and a tombstone becomes a value of
@@ -43,7 +44,10 @@ pub fn put<P: Peers, H: Hooks>(
     content: &Content,
     w: usize,
 ) -> Result<Dot, QuorumFault>
-    requires { length others.now < 2 ^ 32 }
+    requires few_others { length others.now < 2 ^ 32 }
+    requires different { AreDifferent (coordinator ∷ others.now) }
+    // The coordinator stored it, and with it at least w vnodes answered that they have a copy.
+    ensures stored { IfOk result (λ dot. (calls : List Call) × Made P.happens peers.old calls peers.new × StoresCopies coordinator others.now key.now w seen.now dot calls) }
     // Too few copies come only of calls that were lost or refused.
     ensures few { result ≡ Err QuorumFault.TooFew → w ≤ 1 + length others.now → HasRisen (P.failures peers.old) (P.failures peers.new) }
     // What the look-up found, which calls are made, and what is answered to what came back.
@@ -67,7 +71,7 @@ pub fn put<P: Peers, H: Hooks>(
             )
         }
         Ok(None) => put_content(peers, coordinator, others, key, seen, content, w),
-        Err(fault) => Err(QuorumFault::Unseen(fault)),
+        Err(_) => Err(QuorumFault::Unseen),
     }
 }
 

@@ -1,19 +1,30 @@
 //! A resolve: what a bucket's resolver makes of a get that found several siblings.
 
-ghost use Rattle.std.specs.Prelude.{◌≡◌, ◌<◌, ◌∷◌, List, Bool, Option, Some, None, Result, Ok, Err, MatchBool};
-ghost use Rattle.std.specs.Option.{unwrap_or};
+ghost use Rattle.std.specs.Prelude.{◌≡◌, ◌<◌, ◌∷◌, List, Bool, Option, Some, None, Result, Ok, Err, MatchResult};
 ghost use Rattle.object.specs.State.{State};
 ghost use Rattle.peers.specs.declared.fault.PeerFault.{PeerFault as Failure};
 ghost use Rattle.dvv.specs.declared.Dot.{Dot};
 ghost use Rattle.peers.specs.Calls.{Call, PutAt, Made};
-ghost use Rattle.quorum.specs.Resolves.{is_others, others_of, brings, chosen_of, AllTaken, OneFailed, AfterCommit, Commits, AfterChoice, IsResolve};
+ghost use Rattle.quorum.specs.Resolves.{is_others, others_of, brings, AllTaken, OneFailed, AfterCommit, Commits, AfterRun, IsResolve, end_of, state_told, cut_of};
+ghost use Rattle.quorum.specs.declared.fault.ResolveFault.{ResolveFault as Unmade};
 
-use crate::hooking::{Choice, Hooking};
+use crate::fault::ResolveFault;
+use crate::hooking::Hooking;
 use bpfimage::ImageKind;
 use dvv::Clock;
+use hookrun::{Resolution, Unresolved};
 use hooks::Hooks;
 use object::{Content, Key, KeyState};
-use peers::{Answer, Peers};
+use peers::{Answer, PeerFault, Peers};
+
+/// What a get answers once its bucket's resolver was asked.
+#[derive(Debug, Drop)]
+pub struct Resolved {
+    /// The coordinator's state after what the resolver chose was put there, else the get's own answer.
+    pub state: KeyState,
+    /// Why what the resolver was to write is left out. None where it was put, or nothing was to be written.
+    pub cut: Option<ResolveFault>,
+}
 
 /// What becomes of a get's answer, once its states were repaired: where it has two siblings or more and its bucket has a
 /// resolver, this runs on them. Where it writes, each state that another vnode answered is merged into the coordinator, the
@@ -21,7 +32,8 @@ use peers::{Answer, Peers};
 /// pre-commit hook runs on this put, and it isn't brought to other vnodes.
 ///
 /// Else the get's own answer stands, and also where the look-up, the run, one of these merges, the put or the read was
-/// refused or lost, or memory ran out for what the resolver wrote. No further call is made then; what was stored stays.
+/// refused or lost, or memory ran out for the resolver's windows or for what it wrote: `cut` tells which. No further call is made then; what was
+/// stored stays.
 ///
 /// Which vnode answered is told by its identifier's index, the lower 16 bits.
 pub fn resolve<P: Peers, H: Hooks>(
@@ -31,78 +43,87 @@ pub fn resolve<P: Peers, H: Hooks>(
     key: &Key,
     got: KeyState,
     answers: &[Answer],
-) -> KeyState
+) -> Resolved
     // Which calls are made, and what is answered to what came back.
-    ensures calls { (calls : List Call) × (told : Option State) × Made P.happens peers.old calls peers.new
+    ensures calls { (calls : List Call) × (told : Result (Option State) Unmade) × Made P.happens peers.old calls peers.new
         × IsResolve coordinator key.now answers.now got.clock (λ old found new. H.finds old key.now.bucket ImageKind.Resolver found new) hooking.old.hooks hooking.new.hooks hooking.old.table.listed got.siblings calls told
-        × (result ≡ unwrap_or told got) }
+        × (result.state ≡ state_told got told) × (result.cut ≡ cut_of told) }
     ensures table { hooking.new.table ≡ hooking.old.table }
     ensures origin { P.origin peers.new ≡ P.origin peers.old }
 {
-    match resolved(peers, hooking, coordinator, key, &got, answers) {
-        Some(state) => state,
-        None => got,
+    match settle(peers, hooking, coordinator, key, &got, answers) {
+        Ok(Some(state)) => Resolved { state, cut: None },
+        Ok(None) => Resolved {
+            state: got,
+            cut: None,
+        },
+        Err(fault) => Resolved {
+            state: got,
+            cut: Some(fault),
+        },
     }
 }
 
-// The coordinator's state after what a resolver chose was put there, where all of that went through.
-fn resolved<P: Peers, H: Hooks>(
+// The coordinator's state after what a resolver chose was put there, where anything was to be put.
+fn settle<P: Peers, H: Hooks>(
     peers: &mut P,
     hooking: &mut Hooking<H>,
     coordinator: usize,
     key: &Key,
     got: &KeyState,
     answers: &[Answer],
-) -> Option<KeyState>
+) -> Result<Option<KeyState>, ResolveFault>
     ensures calls { (calls : List Call) × Made P.happens peers.old calls peers.new
         × IsResolve coordinator key.now answers.now got.now.clock (λ old found new. H.finds old key.now.bucket ImageKind.Resolver found new) hooking.old.hooks hooking.new.hooks hooking.old.table.listed got.now.siblings calls result }
     ensures table { hooking.new.table ≡ hooking.old.table }
 {
     if got.siblings().len() < 2 {
-        return None;
+        return Ok(None);
     }
     match hooking.hooks.hook_of(&key.bucket, ImageKind::Resolver) {
         Ok(Some(hook)) => {
-            let choice = hooking.choose(&hook, got.siblings());
-            commit_choice(peers, coordinator, key, got, answers, choice)
+            let ran = hooking.choose(&hook, got.siblings());
+            commit_choice(peers, coordinator, key, got, answers, ran)
         }
-        Ok(None) => None,
-        Err(_) => None,
+        Ok(None) => Ok(None),
+        Err(_) => Err(ResolveFault::Unseen),
     }
 }
 
-// Commits the content of a choice among the siblings of a get's answer.
+// Commits the content that a resolver chose among the siblings of a get's answer, if any.
 fn commit_choice<P: Peers>(
     peers: &mut P,
     coordinator: usize,
     key: &Key,
     got: &KeyState,
     answers: &[Answer],
-    choice: Option<Choice>,
-) -> Option<KeyState>
-    ensures { (calls : List Call) × Made P.happens peers.old calls peers.new × AfterChoice coordinator key.now answers.now got.now.clock (chosen_of got.now.siblings choice) calls result }
+    ran: Result<Resolution, Unresolved>,
+) -> Result<Option<KeyState>, ResolveFault>
+    ensures { (calls : List Call) × Made P.happens peers.old calls peers.new × AfterRun coordinator key.now answers.now got.now.clock got.now.siblings ran calls result }
 {
-    match choice {
-        Some(Choice::Sibling(index)) => match got.siblings().get(index as usize) {
-            Some(sibling) => commit(
+    match ran {
+        Ok(resolution) => match resolution.chosen(got.siblings(), &Content::Tombstone) {
+            Some(content) => written(commit(
                 peers,
                 coordinator,
                 key,
                 got.clock(),
                 answers,
-                &sibling.content,
-            ),
-            None => None,
+                content,
+            )),
+            None => Ok(None),
         },
-        Some(Choice::Made(content)) => commit(
-            peers,
-            coordinator,
-            key,
-            got.clock(),
-            answers,
-            &content,
-        ),
-        None => None,
+        Err(fault) => Err(ResolveFault::Undecided(fault)),
+    }
+}
+
+// What a commit comes to.
+fn written(back: Result<KeyState, PeerFault>) -> Result<Option<KeyState>, ResolveFault>
+    ensures { result ≡ end_of back }
+{
+    match back {
+        Ok(state) => Ok(Some(state)),
+        Err(fault) => Err(ResolveFault::Cut(fault)),
     }
 }
 
@@ -114,13 +135,13 @@ fn commit<P: Peers>(
     seen: &Clock,
     answers: &[Answer],
     content: &Content,
-) -> Option<KeyState>
+) -> Result<KeyState, PeerFault>
     ensures { (calls : List Call) × Made P.happens peers.old calls peers.new × Commits coordinator key.now answers.now seen.now content.now calls result }
 {
-    if !bring_others(peers, coordinator, key, answers) {
-        return None;
+    match bring_others(peers, coordinator, key, answers) {
+        Ok(()) => put_and_read(peers, coordinator, key, seen, content),
+        Err(fault) => Err(fault),
     }
-    put_and_read(peers, coordinator, key, seen, content)
 }
 
 // Puts the content at the coordinator, and reads there.
@@ -130,33 +151,42 @@ fn put_and_read<P: Peers>(
     key: &Key,
     seen: &Clock,
     content: &Content,
-) -> Option<KeyState>
+) -> Result<KeyState, PeerFault>
     ensures { (back : Result Dot Failure) × (rest : List Call) × Made P.happens peers.old (PutAt coordinator key.now seen.now content.now back ∷ rest) peers.new × AfterCommit coordinator key.now back rest result }
 {
-    let Ok(_) = peers.put_at(coordinator, key, seen, content) else {
-        return None;
-    };
-    match peers.state_of(coordinator, key) {
-        Ok(answer) => Some(answer.state),
-        Err(_) => None,
+    match peers.put_at(coordinator, key, seen, content) {
+        Ok(_) => match peers.state_of(coordinator, key) {
+            Ok(answer) => Ok(answer.state),
+            Err(fault) => Err(fault),
+        },
+        Err(fault) => Err(fault),
     }
 }
 
-// Merges each other vnode's answered state into the coordinator, up to the first that isn't taken. Answers whether all were.
-fn bring_others<P: Peers>(peers: &mut P, coordinator: usize, key: &Key, answers: &[Answer]) -> bool
+// Merges each other vnode's answered state into the coordinator, up to the first that isn't taken.
+fn bring_others<P: Peers>(
+    peers: &mut P,
+    coordinator: usize,
+    key: &Key,
+    answers: &[Answer],
+) -> Result<(), PeerFault>
     ensures { (backs : List (Result Bool Failure)) × Made P.happens peers.old (brings coordinator key.now (others_of coordinator answers.now) backs) peers.new
-        × MatchBool result (AllTaken (others_of coordinator answers.now) backs) (OneFailed (others_of coordinator answers.now) backs) }
+        × MatchResult result (λ _. AllTaken (others_of coordinator answers.now) backs) (λ fault. OneFailed (others_of coordinator answers.now) backs fault) }
 {
     for answer in answers {
-        if is_others(coordinator, answer)
-            && peers
-                .merge_at(coordinator, key, answer.from, answer.at, &answer.state)
-                .is_err()
-        {
-            return false;
+        if is_others(coordinator, answer) {
+            if let Err(fault) = peers.merge_at(
+                coordinator,
+                key,
+                answer.from,
+                answer.at,
+                &answer.state,
+            ) {
+                return Err(fault);
+            }
         }
     }
-    true
+    Ok(())
 }
 
 // Whether an answer is another vnode's.

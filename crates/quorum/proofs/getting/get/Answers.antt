@@ -1,8 +1,8 @@
 use Rattle.std.proofs.Common.{List, arith, length, ap, ◌∙◌, subst}
 use Rattle.journal.specs.Replay.{IsMergeOf}
 use Rattle.peers.specs.declared.peers.Answer.{Answer}
-use Rattle.quorum.specs.Gets.{reads, states_of}
-use Rattle.quorum.proofs.CallLemmas.{made_stays}
+use Rattle.quorum.specs.Gets.{reads, states_of, PassesClock}
+use Rattle.quorum.proofs.CallLemmas.{made_stays, answers_few}
 use Rattle.quorum.proofs.RisenLemmas.{made_risen, few_reads}
 use Rattle.quorum.proofs.ShowLemmas.{each_shows}
 use Rattle.journal.specs.Brought.{all_writes}
@@ -26,7 +26,15 @@ pub returns-in-Ok-clause-calls : goal.returns-in-Ok-clause-calls
 returns-in-Ok-clause-calls g c =
     let h = c.read_all.ensures.reads in
     let same = c.deref.ensures.value ∙ h.3 in
-    (h.0, h.1, ((h.2, let n = ap length h.3 in omega (arith, n, c.len.ensures, c.read_all.new.found.ok.0)), subst (λ (found : List Answer). IsMergeOf c.args.key.now (states_of found) c.in-Ok.merged) same (c.in-Ok.ensures.merge c.args.key.now), h.3))
+    (h.0, h.1, ((h.2, let n = ap length h.3 in omega (arith, n, c.len.ensures, c.read_all.new.found.ok.0)), subst (λ (found : List Answer). IsMergeOf c.args.key.now (states_of found) c.in-Ok.merged) same (c.in-Ok.ensures.merge c.args.key.now), subst (λ (found : List Answer). PassesClock c.args.key.now (states_of found) → ⊥) same (c.in-Ok.ensures.fits c.args.key.now), h.3))
+
+pub returns-in-Ok-clause-within : goal.returns-in-Ok-clause-within
+returns-in-Ok-clause-within g c =
+    let h = c.read_all.ensures.reads in
+    let few = answers_few h.0 in
+    let n = ap length h.3 in
+    let m = h.2 in
+    omega arith
 
 pub returns-in-Ok-clause-current : goal.returns-in-Ok-clause-current
 returns-in-Ok-clause-current g c knowns show = c.merges_are_current.ensures c.args.key.now (states_of c.read_all.new.found.items) knowns c.in-Ok.merged show (subst (λ (found : List Answer). IsMergeOf c.args.key.now (states_of found) c.in-Ok.merged) c.deref.ensures.value (c.in-Ok.ensures.merge c.args.key.now))

@@ -4,9 +4,9 @@ use Rattle.quorum.specs.Resolves.{brings, others_of}
 use Rattle.quorum.proofs.CallLemmas.{made_append}
 use Rattle.quorum.proofs.resolving.commit.Goals as goal
 
-pub returns : goal.returns
-returns g c =
-    let b = c.if-not-bring_others.ensures in
+pub returns-in-Ok : goal.returns-in-Ok
+returns-in-Ok g c =
+    let b = c.in-Ok.ensures in
     let p = c.put_and_read.ensures in
     let brought = brings c.args.coordinator c.args.key.now (others_of c.args.coordinator c.args.answers.now) b.0 in
     let more = PutAt c.args.coordinator c.args.key.now c.args.seen.now c.args.content.now p.0 ∷ p.1 in

@@ -14,14 +14,14 @@ returns-in-Ok-state_of g c = (
   (Ok c.in-Ok-state_of.answer, refl, refl),
 )
 
-pub returns-in-Err : goal.returns-in-Err
-returns-in-Err g c = (
+pub returns-in-Err-state_of : goal.returns-in-Err-state_of
+returns-in-Err-state_of g c = (
   Ok c.in-Ok.field-0,
-  StateOf c.args.coordinator c.args.key.now (Err c.in-Err.field-0) ∷ [],
+  StateOf c.args.coordinator c.args.key.now (Err c.in-Err-state_of.fault) ∷ [],
   (
     c.put_at.new.self,
     subst (λ b. g.P.Peers.happens c.args.peers.now (PutAt c.args.coordinator c.args.key.now c.args.seen.now c.args.content.now b) c.put_at.new.self) c.in-Ok.is c.put_at.ensures,
-    (c.state_of.new.self, subst (λ b. g.P.Peers.happens c.put_at.new.self (StateOf c.args.coordinator c.args.key.now b) c.state_of.new.self) c.in-Err.is c.state_of.ensures, refl),
+    (c.state_of.new.self, subst (λ b. g.P.Peers.happens c.put_at.new.self (StateOf c.args.coordinator c.args.key.now b) c.state_of.new.self) c.in-Err-state_of.is c.state_of.ensures, refl),
   ),
-  (Err c.in-Err.field-0, refl, refl),
+  (Err c.in-Err-state_of.fault, refl, refl),
 )

@@ -3,7 +3,7 @@ use Rattle.abi.specs.Verdicts.{meaning_of}
 use Rattle.quorum.proofs.hooking.Hooking.judge.Goals as goal
 
 pub returns-in-Ok-clause-judges : goal.returns-in-Ok-clause-judges
-returns-in-Ok-clause-judges g c = (Ok (meaning_of c.in-Ok.verdict), c.in-Ok.ensures, c.judged.ensures)
+returns-in-Ok-clause-judges g c = (Ok (meaning_of c.in-Ok.verdict), c.in-Ok.ensures.decision, c.judged.ensures)
 
 pub returns-in-Err-clause-judges : goal.returns-in-Err-clause-judges
-returns-in-Err-clause-judges g c = (Err c.in-Err.fault, c.in-Err.ensures, ap (λ e. Err e) c.from.ensures)
+returns-in-Err-clause-judges g c = (Err c.in-Err.fault, c.in-Err.ensures.decision, ap (λ e. Err e) c.from.ensures)
