@@ -1,3 +1,4 @@
 pub mod CallLemmas
+pub mod DotLemmas
 pub mod ExchangeLemmas
 pub mod RepairLemmas

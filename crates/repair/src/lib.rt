@@ -3,6 +3,7 @@
 #![tactic(auto)]
 
 mod exchanging;
+pub mod laws;
 mod repairing;
 
 pub use exchanging::exchange;
