@@ -1,0 +1,67 @@
+//! Why a line is bad.
+
+use std::fmt;
+
+/// Why a line may not stand where it stands. It shows the reason in a few words.
+#[derive(Clone, Copy, Debug, PartialEq, Eq)]
+pub enum BadLine<'a> {
+    /// The line doesn't end by a line feed.
+    NoLineFeed,
+    /// The first word is none of a line.
+    NoSuchLine,
+    /// There are more or fewer words than a line of its first word has.
+    WordCount,
+    /// A word is no decimal without sign and leading zeros, or one past `usize::MAX`.
+    NoNumber,
+    /// A key, a value or a name is no word of 1 to 64 letters and digits.
+    NoWord,
+    /// A context is none of `-`, `@NAME` and `=TOKEN`.
+    NoContext,
+    /// The name of a file is no text.
+    NoFileName,
+    /// A script has 1 to 64 vnodes.
+    VnodeCount,
+    /// There is a line `vnodes` already.
+    VnodesAgain,
+    /// The script has no vnode of this index.
+    NoVnode(usize),
+    /// The latest line of this name is no get, or there is none.
+    NoGet(&'a [u8]),
+    /// The latest line of this name is no send, or there is none.
+    NoSend(&'a [u8]),
+    /// There is no file of this name, or it can't be read.
+    NoFile(&'a str),
+}
+
+impl fmt::Display for BadLine<'_> {
+    fn fmt<W: fmt::Write>(&self, f: &mut fmt::Formatter<W>) -> fmt::Result {
+        match self {
+            BadLine::NoLineFeed => f.write_str("no line feed at the end"),
+            BadLine::NoSuchLine => f.write_str("no such line"),
+            BadLine::WordCount => f.write_str("too many or too few words"),
+            BadLine::NoNumber => f.write_str("a number that is no decimal"),
+            BadLine::NoWord => f.write_str("a word that is not 1 to 64 letters and digits"),
+            BadLine::NoContext => f.write_str("a context that is none of -, @NAME and =TOKEN"),
+            BadLine::NoFileName => f.write_str("a file name that is no text"),
+            BadLine::VnodeCount => f.write_str("vnodes are 1 to 64"),
+            BadLine::VnodesAgain => f.write_str("vnodes stands once"),
+            BadLine::NoVnode(vnode) => write!(f, "no vnode {vnode}"),
+            BadLine::NoGet(name) => write_named(f, "get", name),
+            BadLine::NoSend(name) => write_named(f, "send", name),
+            BadLine::NoFile(file) => write!(f, "no file {file}"),
+        }
+    }
+}
+
+// Writes that no line of this kind has the name, which is ASCII.
+fn write_named<W: fmt::Write>(
+    f: &mut fmt::Formatter<W>,
+    kind: &str,
+    name: &[u8],
+) -> fmt::Result {
+    write!(f, "no {kind} named ")?;
+    for byte in name {
+        f.write_char(*byte as char)?;
+    }
+    Ok(())
+}

@@ -1,0 +1,12 @@
+//! Lines of scripts: how they are parted, and how each is spelled.
+#![tactic(auto)]
+
+mod bad;
+mod cut;
+mod line;
+mod words;
+
+pub use bad::BadLine;
+pub use cut::first_line;
+pub use line::{Context, Line, Spelling, line_of};
+pub use words::{MAX_WORD, is_word, number};
