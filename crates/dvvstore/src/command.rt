@@ -11,19 +11,25 @@ use crate::verify::verify;
 use crate::words::{Request, parse};
 use helpers::Table;
 use std::alloc::Global;
-use std::io;
 use std::io::Write;
-use thiserror::Error;
+use std::{fmt, io};
 
 /// Why a command told nothing on its output, or not all.
-#[derive(Debug, Drop, Error)]
+#[derive(Clone, Copy, Debug)]
 pub enum Failure {
     /// The words are those of no command.
-    #[error("usage")]
     Usage,
     /// A file of the words, or the output, cannot be read or written.
-    #[error("unreadable")]
     Unreadable,
+}
+
+impl fmt::Display for Failure {
+    fn fmt<W: fmt::Write>(&self, f: &mut fmt::Formatter<W>) -> fmt::Result {
+        f.write_str(match self {
+            Failure::Usage => "usage",
+            Failure::Unreadable => "unreadable",
+        })
+    }
 }
 
 impl From<io::Error> for Failure {
@@ -41,7 +47,7 @@ impl From<io::Error> for Failure {
 const FAILED: u8 = 2;
 
 /// Does what the words ask for. Gives the status of the program: 0 where it is done, 1 where it was refused, and 2 after a bad line of a
-/// script, which is told on `out`, or a [`Failure`], whose name is then all that stands on `err`.
+/// script, which is told on `out` and why on `err`, or a [`Failure`], whose name is then all that stands on `err`.
 pub fn command<F: Files, O: Write, E: Write>(
     alloc: Global,
     table: &Table,
@@ -59,7 +65,7 @@ pub fn command<F: Files, O: Write, E: Write>(
     let done = match parse(words) {
         Some(Request::Run { image, input }) => run(alloc, table, image, input, files, out),
         Some(Request::Verify { image }) => verify(alloc, table, image, files, out),
-        Some(Request::Sim { script }) => simulate(alloc, table, script, files, out),
+        Some(Request::Sim { script }) => simulate(alloc, table, script, files, out, err),
         None => Err(Failure::Usage),
     };
     match done {

@@ -21,10 +21,14 @@ fn main(rt: HostRuntime) -> io::Result<ExitCode> {
     let alloc = rt.alloc();
     let mut arguments = Vec::new(alloc);
     // Words that are no text are those of no command.
-    if let Ok(all) = env::args(&rt) {
-        for argument in all.skip(1) {
-            arguments.push(argument)?;
+    match env::args(&rt) {
+        Ok(all) => {
+            for argument in all.skip(1) {
+                arguments.push(argument)?;
+            }
         }
+        Err(error) if error.kind() == io::ErrorKind::OutOfMemory => return Err(error),
+        Err(_) => {}
     }
     let mut words = Vec::new(alloc);
     for argument in &arguments {

@@ -4,11 +4,12 @@ ghost use Rattle.helpers.specs.Entries.{AgreesWith};
 
 use crate::command::Failure;
 use crate::files::Files;
-use admission::admit_hook;
-use bpfimage::ImageKind;
+use admission::{Refusal, admit_hook};
+use bpfimage::{ImageFault, ImageKind};
 use helpers::{Sigs, Table};
 use script::{Images, NoHook, sim};
 use std::alloc::Global;
+use std::io;
 use std::io::Write;
 use verifier::Verified;
 
@@ -24,8 +25,15 @@ impl<F: Files> Images for FileImages<'_, F> {
     ghost listed = { λ images. images.sigs.now };
 
     fn hook(&self, alloc: Global, file: &str, kind: ImageKind) -> Result<Verified, NoHook> {
-        let Ok(bytes) = self.files.read(alloc, file) else {
-            return Err(NoHook::Unreadable);
+        let bytes = match self.files.read(alloc, file) {
+            Ok(bytes) => bytes,
+            Err(error) => {
+                return Err(if error.kind() == io::ErrorKind::OutOfMemory {
+                    NoHook::Refused(Refusal::Image(ImageFault::NoMemory))
+                } else {
+                    NoHook::Unreadable
+                });
+            }
         };
         match admit_hook(alloc, &bytes, kind, self.sigs) {
             Ok(hook) => Ok(hook),
@@ -34,14 +42,15 @@ impl<F: Files> Images for FileImages<'_, F> {
     }
 }
 
-/// Runs the script in the file `script`, whose hooks may call the table's helpers, tells on `out` what its lines print, and gives
-/// the status.
-pub fn simulate<F: Files, O: Write>(
+/// Runs the script in the file `script`, whose hooks may call the table's helpers, tells on `out` what its lines print and on `err`
+/// why a line is bad, and gives the status.
+pub fn simulate<F: Files, O: Write, E: Write>(
     alloc: Global,
     table: &Table,
     script: &str,
     files: &F,
     out: &mut O,
+    err: &mut E,
 ) -> Result<u8, Failure>
     ensures { IfOk result (λ status. status ≤ 2) }
 {
@@ -50,5 +59,5 @@ pub fn simulate<F: Files, O: Write>(
         files,
         sigs: &table.listed,
     };
-    Ok(sim(alloc, &script, table, &images, out)?)
+    Ok(sim(alloc, &script, table, &images, out, err)?)
 }

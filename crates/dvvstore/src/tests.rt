@@ -857,7 +857,7 @@ fn scripts(rt: HostRuntime) {
         b"",
     );
     assert_eq!(rt; out.as_slice(), b"0-1\nbad line 3\n".as_slice());
-    assert!(rt; err.is_empty());
+    assert_eq!(rt; err.as_slice(), b"no vnode 1\n".as_slice());
     assert_eq!(rt; status, 2);
     let (out, err, status) = printed(alloc, &["sim", "none"], b"", b"");
     assert!(rt; out.is_empty());
@@ -1051,8 +1051,13 @@ fn hooks_in_scripts(rt: HostRuntime) -> Result<(), Fail> {
         };
         let words = ["sim", "script"];
         let given = command_with_helpers(alloc, &words, &mut files, &mut out, &mut err)?;
+        let why: &[u8] = if *status == 2 {
+            b"no file absent.img\n"
+        } else {
+            b""
+        };
         assert_eq!(rt; out.as_slice(), want.as_bytes(), "{name}");
-        assert!(rt; err.is_empty(), "{name}");
+        assert_eq!(rt; err.as_slice(), why, "{name}");
         assert_eq!(rt; given, *status, "{name}");
     }
     Ok(())

@@ -16,4 +16,3 @@ pub record IsOneMore (old : Script) (event : Event) (line : Answered) (new : Scr
   pub vnodes : new.vnodes ≡ old.vnodes
   pub events : new.events.items ≡ old.events.items ++ event ∷ []
   pub answered : new.answered.items ≡ old.answered.items ++ line ∷ []
-  pub bad : new.bad ≡ old.bad

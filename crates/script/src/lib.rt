@@ -3,14 +3,12 @@
 
 mod check;
 mod images;
-mod line;
 mod printing;
 mod script;
 #[cfg(test)]
 mod tests;
-mod words;
 
 pub use check::Check;
 pub use images::{Images, NoHook};
 pub use printing::sim;
-pub use script::{Answered, MAX_VNODES, Script, parse};
+pub use script::{Answered, BadAt, MAX_VNODES, Script, parse};

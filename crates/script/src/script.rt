@@ -7,10 +7,10 @@ ghost use Rattle.world.specs.Running.{AreRunnable, MayCome, IsGetAt, IsSendAt, I
 
 use crate::check::Check;
 use crate::images::{Images, NoHook};
-use crate::line::{Context, Line, line_of};
 use admission::Refusal;
 use bpfimage::ImageKind;
 use dvv::Clock;
+use lines::{BadLine, Context, Line, Spelling, first_line, line_of};
 use object::{Bytes, Content, Key};
 use std::alloc::{AllocError, Global};
 use std::collections::BTreeMap;
@@ -36,14 +36,19 @@ pub enum Answered {
     Nothing,
 }
 
-/// A script: its events, what its lines print, in order, and the number (from 1) of the line that is bad, where there is
-/// one. Nothing after that line was read.
+/// A script: its events, and what its lines print, in order.
 #[derive(Drop)]
 pub struct Script {
     pub vnodes: usize,
     pub events: Vec<Event>,
     pub answered: Vec<Answered>,
-    pub bad: Option<usize>,
+}
+
+/// A line that may not stand where it stands, by its number from 1, and why.
+#[derive(Clone, Copy, Debug, PartialEq, Eq)]
+pub struct BadAt<'a> {
+    pub line: usize,
+    pub why: BadLine<'a>,
 }
 
 // Places of events by name.
@@ -58,58 +63,53 @@ struct Names<'a> {
     runs: Places<'a>,
 }
 
-/// The script that these bytes spell, up to its first bad line. A line whose file can't be read is bad.
-pub fn parse<I: Images>(alloc: Global, bytes: &[u8], images: &I) -> Result<Script, AllocError>
-    ensures { IfOk result (IsRunnable (I.listed images.now)) }
+/// The script that these bytes spell, up to its first bad line, and that line. Nothing behind it was read. A line whose file
+/// can't be read is bad.
+pub fn parse<'a, I: Images>(
+    alloc: Global,
+    bytes: &'a [u8],
+    images: &I,
+) -> Result<(Script, Option<BadAt<'a>>), AllocError>
+    ensures { IfOk result (λ parsed. IsRunnable (I.listed images.now) parsed.0) }
 {
     let mut script = Script {
         vnodes: 0,
         events: Vec::new(alloc),
         answered: Vec::new(alloc),
-        bad: None,
     };
     let mut names = Names {
         events: Places::new(alloc),
         runs: Places::new(alloc),
     };
     let mut number: usize = 0;
-    let lines = lines_of(alloc, bytes)?;
-    for line in &lines {
+    let mut left = bytes;
+    while let Some((line, rest)) = first_line(left) {
+        left = rest;
         number = number.saturating_add(1);
-        let is_read = match line_of(alloc, line)? {
-            Some(line) => read_line(alloc, &mut script, &mut names, images, line)?,
-            None => false,
+        let bad = match line_of(alloc, line)? {
+            Spelling::PassedOver => None,
+            Spelling::Line(line) => read_line(alloc, &mut script, &mut names, images, line)?,
+            Spelling::Bad(why) => Some(why),
         };
-        if !is_read {
-            script.bad = Some(number);
-            return Ok(script);
+        if let Some(why) = bad {
+            return Ok((script, Some(BadAt { line: number, why })));
         }
     }
-    Ok(script)
+    Ok((script, None))
 }
 
-// The lines, each with its line feed.
-fn lines_of<'a>(alloc: Global, bytes: &'a [u8]) -> Result<Vec<&'a [u8]>, AllocError> {
-    let mut lines = Vec::new(alloc);
-    for line in bytes.split_inclusive(|byte| *byte == b'\n') {
-        lines.push(line)?;
-    }
-    Ok(lines)
-}
-
-// Adds what a line asks for. Tells whether the line may stand there.
+// Adds what a line asks for, or tells why it may not stand there.
 fn read_line<'a, I: Images>(
     alloc: Global,
     script: &mut Script,
     names: &mut Names<'a>,
     images: &I,
     line: Line<'a>,
-) -> Result<bool, AllocError>
+) -> Result<Option<BadLine<'a>>, AllocError>
     requires { IsRunnable (I.listed images.now) script.old }
     ensures { OnOk result (IsRunnable (I.listed images.now) script.new) }
 {
     match line {
-        Line::PassedOver => Ok(true),
         Line::Vnodes(count) => Ok(read_vnodes(script, count)),
         Line::Put {
             vnode,
@@ -119,40 +119,40 @@ fn read_line<'a, I: Images>(
         } => read_put(alloc, script, names, vnode, key, value, context),
         Line::Get { vnode, key, name } => {
             if vnode >= script.vnodes {
-                return Ok(false);
+                return Ok(Some(BadLine::NoVnode(vnode)));
             }
             let place = script.events.len();
             let key = key_of(alloc, key)?;
             push(script, Event::Get { vnode, key })?;
             names.events.insert(name, place)?;
-            Ok(true)
+            Ok(None)
         }
         Line::Send { vnode, key, name } => {
             if vnode >= script.vnodes {
-                return Ok(false);
+                return Ok(Some(BadLine::NoVnode(vnode)));
             }
             let place = script.events.len();
             let key = key_of(alloc, key)?;
             push(script, Event::Send { vnode, key })?;
             names.events.insert(name, place)?;
-            Ok(true)
+            Ok(None)
         }
         Line::Deliver { name, vnode } => {
             let Some(message) = sent(&script.events, &names.events, name) else {
-                return Ok(false);
+                return Ok(Some(BadLine::NoSend(name)));
             };
             if vnode >= script.vnodes {
-                return Ok(false);
+                return Ok(Some(BadLine::NoVnode(vnode)));
             }
             push(script, Event::Deliver { message, vnode })?;
-            Ok(true)
+            Ok(None)
         }
         Line::Restart { vnode } => {
             if vnode >= script.vnodes {
-                return Ok(false);
+                return Ok(Some(BadLine::NoVnode(vnode)));
             }
             push(script, Event::Restart { vnode })?;
-            Ok(true)
+            Ok(None)
         }
         Line::Resolve { name, file } => read_resolve(alloc, script, names, images, name, file),
         Line::Commit { vnode, name } => read_commit(script, names, vnode, name),
@@ -172,64 +172,68 @@ fn read_resolve<'a, I: Images>(
     names: &mut Names<'a>,
     images: &I,
     name: &'a [u8],
-    file: &str,
-) -> Result<bool, AllocError>
+    file: &'a str,
+) -> Result<Option<BadLine<'a>>, AllocError>
     requires { IsRunnable (I.listed images.now) script.old }
     ensures { OnOk result (IsRunnable (I.listed images.now) script.new) }
 {
     let Some(get) = found(&script.events, &names.events, name) else {
-        return Ok(false);
+        return Ok(Some(BadLine::NoGet(name)));
     };
     let place = script.events.len();
     match images.hook(alloc, file, ImageKind::Resolver) {
         Ok(hook) => {
             push(script, Event::ResolveRead { get, hook })?;
             names.runs.insert(name, place)?;
-            Ok(true)
+            Ok(None)
         }
         Err(NoHook::Refused(refusal)) => {
             names.runs.remove(name);
             script.answered.push(Answered::NotLetIn(refusal))?;
-            Ok(true)
+            Ok(None)
         }
-        Err(NoHook::Unreadable) => Ok(false),
+        Err(NoHook::Unreadable) => Ok(Some(BadLine::NoFile(file))),
     }
 }
 
-// A put of what the latest run of a name chose, or nothing where there is no such run.
-fn read_commit(
+// A put of what the latest run of a name chose, or nothing where the get of that name has no such run.
+fn read_commit<'a>(
     script: &mut Script,
-    names: &Names<'_>,
+    names: &Names<'a>,
     vnode: usize,
-    name: &[u8],
-) -> Result<bool, AllocError>
+    name: &'a [u8],
+) -> Result<Option<BadLine<'a>>, AllocError>
     ensures { (listed : List Entry) → IsRunnable listed script.old → OnOk result (IsRunnable listed script.new) }
 {
     if vnode >= script.vnodes {
-        return Ok(false);
+        return Ok(Some(BadLine::NoVnode(vnode)));
     }
-    match resolved(&script.events, &names.runs, name) {
-        Some(run) => push(script, Event::ResolveWrite { run, vnode })?,
-        None => script.answered.push(Answered::Nothing)?,
+    if let Some(run) = resolved(&script.events, &names.runs, name) {
+        push(script, Event::ResolveWrite { run, vnode })?;
+        return Ok(None);
     }
-    Ok(true)
+    if found(&script.events, &names.events, name).is_none() {
+        return Ok(Some(BadLine::NoGet(name)));
+    }
+    script.answered.push(Answered::Nothing)?;
+    Ok(None)
 }
 
 // A get, and what a hook says of a new value beside its answer, or the refusal of its image.
-fn read_check<I: Images>(
+fn read_check<'a, I: Images>(
     alloc: Global,
     script: &mut Script,
     images: &I,
     vnode: usize,
     key: &[u8],
     value: &[u8],
-    file: &str,
-) -> Result<bool, AllocError>
+    file: &'a str,
+) -> Result<Option<BadLine<'a>>, AllocError>
     requires { IsRunnable (I.listed images.now) script.old }
     ensures { OnOk result (IsRunnable (I.listed images.now) script.new) }
 {
     if vnode >= script.vnodes {
-        return Ok(false);
+        return Ok(Some(BadLine::NoVnode(vnode)));
     }
     match images.hook(alloc, file, ImageKind::PreCommit) {
         Ok(hook) => {
@@ -237,25 +241,28 @@ fn read_check<I: Images>(
             let new = content_of(alloc, Some(value))?;
             let check = Check { hook, new };
             push_answered(script, Event::Get { vnode, key }, Answered::Checked(check))?;
-            Ok(true)
+            Ok(None)
         }
         Err(NoHook::Refused(refusal)) => {
             script.answered.push(Answered::NotLetIn(refusal))?;
-            Ok(true)
+            Ok(None)
         }
-        Err(NoHook::Unreadable) => Ok(false),
+        Err(NoHook::Unreadable) => Ok(Some(BadLine::NoFile(file))),
     }
 }
 
 // The first line tells how many vnodes there are, and no other does.
-fn read_vnodes(script: &mut Script, count: usize) -> bool
+fn read_vnodes<'a>(script: &mut Script, count: usize) -> Option<BadLine<'a>>
     ensures { (listed : List Entry) → IsRunnable listed script.old → IsRunnable listed script.new }
 {
-    if script.vnodes != 0 || count == 0 || count > MAX_VNODES {
-        return false;
+    if script.vnodes != 0 {
+        return Some(BadLine::VnodesAgain);
+    }
+    if count == 0 || count > MAX_VNODES {
+        return Some(BadLine::VnodeCount);
     }
     script.vnodes = count;
-    true
+    None
 }
 
 // A put, or the refusal of its token.
@@ -267,24 +274,24 @@ fn read_put<'a>(
     key: &[u8],
     value: Option<&[u8]>,
     context: Context<'a>,
-) -> Result<bool, AllocError>
+) -> Result<Option<BadLine<'a>>, AllocError>
     ensures { (listed : List Entry) → IsRunnable listed script.old → OnOk result (IsRunnable listed script.new) }
 {
     if vnode >= script.vnodes {
-        return Ok(false);
+        return Ok(Some(BadLine::NoVnode(vnode)));
     }
     let seen = match context {
         Context::Nothing => Seen::Clock(Clock::new(alloc)),
         Context::OfGet(name) => match found(&script.events, &names.events, name) {
             Some(get) => Seen::Get(get),
-            None => return Ok(false),
+            None => return Ok(Some(BadLine::NoGet(name))),
         },
         Context::Token(text) => match clock_of(alloc, text) {
             Ok(clock) => Seen::Clock(clock),
             Err(TokenFault::NoMemory) => return Err(AllocError),
             Err(fault) => {
                 script.answered.push(Answered::Refused(fault))?;
-                return Ok(true);
+                return Ok(None);
             }
         },
     };
@@ -299,7 +306,7 @@ fn read_put<'a>(
             content,
         },
     )?;
-    Ok(true)
+    Ok(None)
 }
 
 // Adds an event that may come.

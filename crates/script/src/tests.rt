@@ -6,6 +6,7 @@ use super::*;
 use admission::admit_hook;
 use bpfimage::ImageKind;
 use helpers::{Sigs, Table};
+use lines::BadLine;
 use std::alloc::Global;
 use std::fmt::Write;
 use std::process::Abort;
@@ -106,10 +107,12 @@ fn check(
     status: u8,
 ) -> Result<(), Fail> {
     let mut out = Vec::new(alloc);
+    let mut err = Vec::new(alloc);
     let table = Table::new(alloc);
-    let got = sim(alloc, script, &table, &Shelf, &mut out)?;
+    let got = sim(alloc, script, &table, &Shelf, &mut out, &mut err)?;
     assert_eq!(rt; out.as_slice(), want.as_bytes(), "{name}");
     assert_eq!(rt; got, status, "{name}");
+    assert_eq!(rt; err.is_empty(), status < 2, "{name}");
     Ok(())
 }
 
@@ -183,8 +186,8 @@ fn worked_rows(rt: HostRuntime) -> Result<(), Fail> {
         ),
         (
             "the last resolve of a name counts",
-            "vnodes 1\ncommit 0 g\nput 0 k a -\nget 0 k g\ncommit 0 g\nresolve g take.img\nresolve g keep.img\ncommit 0 g\nresolve g take.img\nresolve g no.img\ncommit 0 g\nresolve g take.img\nget 0 l g\ncommit 0 g\nsend 0 k g\ncommit 0 g\n",
-            "nothing\n0-1\n0-1=a AQABAAAAAAAAAAAAAAAB\nnothing\ntake 0\nkeep\nnothing\ntake 0\nrefused G2\nnothing\ntake 0\nnone AQAA\n0-2\nok\n0-3\n",
+            "vnodes 1\nput 0 k a -\nget 0 k g\ncommit 0 g\nresolve g take.img\nresolve g keep.img\ncommit 0 g\nresolve g take.img\nresolve g no.img\ncommit 0 g\nresolve g take.img\nget 0 l g\ncommit 0 g\nsend 0 k g\ncommit 0 g\n",
+            "0-1\n0-1=a AQABAAAAAAAAAAAAAAAB\nnothing\ntake 0\nkeep\nnothing\ntake 0\nrefused G2\nnothing\ntake 0\nnone AQAA\n0-2\nok\n0-3\n",
         ),
         (
             "a tombstone is taken",
@@ -323,6 +326,46 @@ fn bad_lines(rt: HostRuntime) -> Result<(), Fail> {
     Ok(())
 }
 
+// Why a line is bad.
+#[test]
+fn reasons(rt: HostRuntime) -> Result<(), Fail> {
+    for (line, want) in [
+        ("restart 0", "no line feed at the end"),
+        ("frobnicate\n", "no such line"),
+        (" restart 0\n", "no such line"),
+        ("restart 0\r\n", "a number that is no decimal"),
+        ("restart\n", "too many or too few words"),
+        ("restart 0 0\n", "too many or too few words"),
+        ("restart 00\n", "a number that is no decimal"),
+        ("put 0 k- a -\n", "a word that is not 1 to 64 letters and digits"),
+        ("put 0 k a *\n", "a context that is none of -, @NAME and =TOKEN"),
+        ("vnodes 1\n", "vnodes stands once"),
+        ("restart 2\n", "no vnode 2"),
+        ("put 0 k a @m\n", "no get named m"),
+        ("put 0 k a @x\n", "no get named x"),
+        ("deliver g 0\n", "no send named g"),
+        ("resolve x take.img\n", "no get named x"),
+        ("commit 0 x\n", "no get named x"),
+        ("commit 0 m\n", "no get named m"),
+        ("resolve g absent.img\n", "no file absent.img"),
+        ("check 0 k a absent.img\n", "no file absent.img"),
+    ] {
+        let mut script = String::from_str(rt.alloc(), "vnodes 1\nget 0 k g\nsend 0 k m\n")?;
+        script.push_str(line)?;
+        let mut out = Vec::new(rt.alloc());
+        let mut err = Vec::new(rt.alloc());
+        let table = Table::new(rt.alloc());
+        let bytes = script.as_bytes();
+        let got = sim(rt.alloc(), bytes, &table, &Shelf, &mut out, &mut err)?;
+        let mut told = String::from_str(rt.alloc(), want)?;
+        told.push_str("\n")?;
+        assert_eq!(rt; got, 2, "{line}");
+        assert_eq!(rt; out.as_slice(), b"none AQAA\nok\nbad line 4\n".as_slice(), "{line}");
+        assert_eq!(rt; err.as_slice(), told.as_bytes(), "{line}");
+    }
+    Ok(())
+}
+
 #[test]
 fn bytes_that_are_no_text(rt: HostRuntime) -> Result<(), Fail> {
     check(
@@ -346,7 +389,7 @@ fn bytes_that_are_no_text(rt: HostRuntime) -> Result<(), Fail> {
 
 #[test]
 fn parses(rt: HostRuntime) -> Result<(), Fail> {
-    let script = parse(
+    let (script, bad) = parse(
         rt.alloc(),
         b"vnodes 2\nput 1 k a -\nput 0 k a =AgAA\nget 1 k g\ncommit 1 g\nresolve g take.img\ncommit 1 g\ncheck 0 k a no.img\nrestart 2\n",
         &Shelf,
@@ -354,6 +397,6 @@ fn parses(rt: HostRuntime) -> Result<(), Fail> {
     assert_eq!(rt; script.vnodes, 2);
     assert_eq!(rt; script.events.len(), 5);
     assert_eq!(rt; script.answered.len(), 7);
-    assert_eq!(rt; script.bad, Some(9));
+    assert_eq!(rt; bad, Some(BadAt { line: 9, why: BadLine::NoVnode(2) }));
     Ok(())
 }

@@ -4,6 +4,6 @@ use Rattle.world.specs.Running.{IsRunAt}
 use Rattle.script.proofs.Growing.{one_more}
 use Rattle.script.proofs.script.read_commit.Goals as goal
 
-pub returns-in_ok-push-in-Some : goal.returns-in_ok-push-in-Some
-returns-in_ok-push-in-Some c listed runnable =
-    one_more _ _ _ _ _ runnable (omega arith, subst (λ (es : List Event). IsRunAt es c.in-Some.run') c.deref.ensures.value c.in-Some.ensures) c.in_ok-push-in-Some.ensures
+pub returns-in-Some : goal.returns-in-Some
+returns-in-Some c listed runnable =
+    one_more _ _ _ _ _ runnable (omega arith, subst (λ (es : List Event). IsRunAt es c.in-Some.run') c.deref.ensures.value c.in-Some.ensures) c.in_ok-push.ensures
