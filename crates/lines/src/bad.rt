@@ -54,11 +54,7 @@ impl fmt::Display for BadLine<'_> {
 }
 
 // Writes that no line of this kind has the name, which is ASCII.
-fn write_named<W: fmt::Write>(
-    f: &mut fmt::Formatter<W>,
-    kind: &str,
-    name: &[u8],
-) -> fmt::Result {
+fn write_named<W: fmt::Write>(f: &mut fmt::Formatter<W>, kind: &str, name: &[u8]) -> fmt::Result {
     write!(f, "no {kind} named ")?;
     for byte in name {
         f.write_char(*byte as char)?;

@@ -337,8 +337,14 @@ fn reasons(rt: HostRuntime) -> Result<(), Fail> {
         ("restart\n", "too many or too few words"),
         ("restart 0 0\n", "too many or too few words"),
         ("restart 00\n", "a number that is no decimal"),
-        ("put 0 k- a -\n", "a word that is not 1 to 64 letters and digits"),
-        ("put 0 k a *\n", "a context that is none of -, @NAME and =TOKEN"),
+        (
+            "put 0 k- a -\n",
+            "a word that is not 1 to 64 letters and digits",
+        ),
+        (
+            "put 0 k a *\n",
+            "a context that is none of -, @NAME and =TOKEN",
+        ),
         ("vnodes 1\n", "vnodes stands once"),
         ("restart 2\n", "no vnode 2"),
         ("put 0 k a @m\n", "no get named m"),
@@ -360,7 +366,11 @@ fn reasons(rt: HostRuntime) -> Result<(), Fail> {
         let mut told = String::from_str(rt.alloc(), want)?;
         told.push_str("\n")?;
         assert_eq!(rt; got, 2, "{line}");
-        assert_eq!(rt; out.as_slice(), b"none AQAA\nok\nbad line 4\n".as_slice(), "{line}");
+        assert_eq!(rt;
+            out.as_slice(),
+            b"none AQAA\nok\nbad line 4\n".as_slice(),
+            "{line}"
+        );
         assert_eq!(rt; err.as_slice(), told.as_bytes(), "{line}");
     }
     Ok(())
@@ -397,6 +407,12 @@ fn parses(rt: HostRuntime) -> Result<(), Fail> {
     assert_eq!(rt; script.vnodes, 2);
     assert_eq!(rt; script.events.len(), 5);
     assert_eq!(rt; script.answered.len(), 7);
-    assert_eq!(rt; bad, Some(BadAt { line: 9, why: BadLine::NoVnode(2) }));
+    assert_eq!(rt;
+        bad,
+        Some(BadAt {
+            line: 9,
+            why: BadLine::NoVnode(2)
+        })
+    );
     Ok(())
 }

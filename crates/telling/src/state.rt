@@ -19,11 +19,7 @@ pub fn print_state(alloc: Global, state: &KeyState, text: &mut String) -> Result
 }
 
 // Adds siblings, a space behind each.
-fn print_siblings(
-    alloc: Global,
-    siblings: &[Sibling],
-    text: &mut String,
-) -> Result<(), AllocError>
+fn print_siblings(alloc: Global, siblings: &[Sibling], text: &mut String) -> Result<(), AllocError>
     ensures { OnOk result (string_bytes text.new ≡ string_bytes text.old ++ siblings_text siblings.now) }
 {
     if siblings.is_empty() {
