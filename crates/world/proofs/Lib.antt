@@ -7,4 +7,3 @@ pub mod Equal
 pub mod Stamped
 pub mod Runs
 pub mod Whole
-pub mod Resolvers

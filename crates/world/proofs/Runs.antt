@@ -30,11 +30,11 @@ use Rattle.world.specs.declared.event.Message.{Message}
 use Rattle.vnode.specs.declared.fault.VnodeFault.{VnodeFault}
 use Rattle.world.specs.declared.event.Seen.{Seen}
 use Rattle.world.specs.declared.event.Seen.TheVariants.{Clock as Given, Get as ContextOf}
-use Rattle.world.specs.declared.event.Resolution.{Resolution}
+use Rattle.hookrun.specs.declared.resolving.Resolution.{Resolution}
 use Rattle.world.specs.declared.event.Reply.{Reply}
 use Rattle.world.specs.declared.event.Reply.TheVariants.{Stored, Found, Sent, Changed, Restarted, Resolved, Nothing, Refused}
 use Rattle.world.specs.Knowledge.{Knowledge, Copied, Chosen, Failed, below, left_by, known_at, id_of, next_dot, write_of, after_refusal, after_put, after_copy, after_delivery, after_restart, after_run, after_nothing, IsStateOf}
-use Rattle.world.specs.Resolving.{IsResolution, chosen_by}
+use Rattle.hookrun.specs.Resolving.{IsResolution, chosen_by}
 use Rattle.world.proofs.Equal.{one_state}
 use Rattle.world.specs.Happening.{Means, Happens, wants_memory, refused_alike, stored, put_refused, found, sent, delivered, delivery_refused, restarted, full, resolved, choice_stored, choice_refused, nothing_chosen, RefusesPut, RefusesDelivery, IsAt, IsKnown, CountTogether, HasPlace, MayPut, MayDeliver, MayHappen}
 use Rattle.world.specs.Represents.{Represents, log_at, empty_logs}

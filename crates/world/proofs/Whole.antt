@@ -16,13 +16,13 @@ use Rattle.world.specs.declared.event.Event.{Event}
 use Rattle.world.specs.declared.event.Event.TheVariants.{Put, Get, Send, Deliver, Restart, ResolveRead, ResolveWrite}
 use Rattle.vnode.specs.declared.fault.VnodeFault.{VnodeFault}
 use Rattle.vnode.specs.declared.fault.VnodeFault.TheVariants.{NoMemory, JournalFull}
-use Rattle.world.specs.declared.event.Resolution.{Resolution}
+use Rattle.hookrun.specs.declared.resolving.Resolution.{Resolution}
 use Rattle.world.specs.declared.event.Reply.{Reply}
 use Rattle.world.specs.declared.event.Reply.TheVariants.{Restarted, Found, Sent, Resolved, Refused}
 use Rattle.world.specs.declared.event.Seen.{Seen}
 use Rattle.world.specs.declared.event.Seen.TheVariants.{Clock as Given, Get as ContextOf}
 use Rattle.world.specs.Knowledge.{Knowledge, Left, Nothing, Copied, Chosen, Failed, below, start, known_at, left_by, IsStateOf}
-use Rattle.world.specs.Resolving.{chosen_by}
+use Rattle.hookrun.specs.Resolving.{chosen_by}
 use Rattle.world.specs.Happening.{Run, Happens, wants_memory, refused_alike, stored, put_refused, found, sent, delivered, delivery_refused, restarted, full, resolved, choice_stored, choice_refused, nothing_chosen}
 use Rattle.world.specs.Represents.{Represents, AreDistinct, empty_logs}
 use Rattle.world.specs.Running.{Holds, Remember, Recall, MayReply, MayCome, IsReady, IsReadyContext, IsGetAt, IsFoundOrRefused, IsSentOrRefused, IsResolvedOrRefused, IsEarlierContext, ReplyAt, AreRunnable, IsRunSoFar, IsAnswered, found as was_found, copied as was_copied, kept as was_kept, IsWorldOf}

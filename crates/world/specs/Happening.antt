@@ -12,7 +12,7 @@ use Rattle.journal.specs.Logs.{max_entries}
 use Rattle.world.specs.declared.event.Event.{Event}
 use Rattle.world.specs.declared.event.Event.TheVariants.{Put, Get, Send, Deliver, Restart, ResolveRead, ResolveWrite}
 use Rattle.world.specs.declared.event.Message.{Message}
-use Rattle.world.specs.declared.event.Resolution.{Resolution}
+use Rattle.hookrun.specs.declared.resolving.Resolution.{Resolution}
 use Rattle.world.specs.declared.event.Seen.{Seen}
 use Rattle.world.specs.declared.event.Seen.TheVariants.{Clock as Given, Get as ContextOf}
 use Rattle.vnode.specs.declared.fault.VnodeFault.{VnodeFault}
@@ -20,7 +20,7 @@ use Rattle.vnode.specs.declared.fault.VnodeFault.TheVariants.{ContextAhead, TooM
 use Rattle.world.specs.declared.event.Reply.{Reply}
 use Rattle.world.specs.declared.event.Reply.TheVariants.{Stored, Found, Sent, Changed, Restarted, Resolved, Nothing, Refused}
 use Rattle.world.specs.Knowledge.{Knowledge, Copied, Chosen, Failed, left_by, known_at, id_of, accepted_at, IsContext, IsStateOf, write_of, next_dot, after_refusal, after_put, after_copy, after_delivery, after_restart, after_run, after_nothing}
-use Rattle.world.specs.Resolving.{IsResolution, chosen_by}
+use Rattle.hookrun.specs.Resolving.{IsResolution, chosen_by}
 
 -- the earlier event that an event names, by its place
 abbrev pub named : Event → Option ℕ

@@ -16,13 +16,14 @@ use Rattle.world.specs.declared.event.Seen.{Seen}
 use Rattle.world.specs.declared.event.Seen.TheVariants.{Clock as Given, Get as ContextOf}
 use Rattle.world.specs.declared.event.Message.{Message}
 use Rattle.vnode.specs.declared.fault.VnodeFault.{VnodeFault}
-use Rattle.world.specs.declared.event.Resolution.{Resolution}
+use Rattle.hookrun.specs.declared.resolving.Resolution.{Resolution}
 use Rattle.world.specs.declared.event.Reply.{Reply}
 use Rattle.world.specs.declared.event.Reply.TheVariants.{Stored, Found, Sent, Changed, Restarted, Resolved, Nothing, Refused}
 use Rattle.world.specs.Causality.{IsCausal}
 use Rattle.world.specs.Happening.{Run}
 use Rattle.world.specs.Knowledge.{Knowledge, Left, Copied, Chosen, Failed, start, left_by, known_at, IsContext, IsStateOf}
-use Rattle.world.specs.Resolving.{MayRun, chosen_by}
+use Rattle.hookrun.specs.Resolving.{chosen_by}
+use Rattle.world.specs.Resolving.{MayRun}
 use Rattle.world.specs.Represents.{ShowsAt, Represents, log_at}
 use Rattle.world.specs.Stamped.{AreStamped, entries_of}
 

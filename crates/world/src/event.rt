@@ -1,7 +1,7 @@
 //! Events of a world, and the replies to them.
 
-use abi::BadAnswer;
 use dvv::{Clock, Dot};
+use hookrun::Resolution;
 use object::{Content, Key, KeyState};
 use verifier::Verified;
 use vnode::VnodeFault;
@@ -65,23 +65,6 @@ pub struct Message {
     /// The place of the entry in its journal.
     pub at: u32,
     pub state: KeyState,
-}
-
-/// What a resolver decided.
-#[derive(Drop)]
-pub enum Resolution {
-    /// The siblings stay as they are.
-    Keep,
-    /// The content of the sibling at this place, from 0, is to be written.
-    Take(u32),
-    /// This value, of the media type `application/octet-stream`, is to be written.
-    Write(Content),
-    /// A tombstone is to be written.
-    Delete,
-    /// Nothing: its input window is too short for the siblings.
-    TooLarge,
-    /// Nothing: its answer has no meaning.
-    Bad(BadAnswer),
 }
 
 /// What an event replies.

@@ -3,10 +3,10 @@
 
 mod event;
 pub mod laws;
-mod resolving;
 #[cfg(test)]
 mod tests;
 mod world;
 
-pub use event::{Event, Message, Reply, Resolution, Seen};
+pub use event::{Event, Message, Reply, Seen};
+pub use hookrun::Resolution;
 pub use world::{MAX_VNODES, World};

@@ -21,11 +21,10 @@ ghost use Rattle.world.specs.Stamped.{AreStamped};
 ghost use Rattle.world.specs.Running.{IsMessageOf, Remember, IsReady, IsReadyContext, ReplyAt, IsSentOrRefused, IsRefusedContext, AreRunnable, MayReply, Recall, IsReadyRun, IsGetAt, IsRunAt, IsChoiceOf, IsFoundOrRefused, IsResolvedOrRefused};
 ghost use Rattle.world.specs.Resolving.{MayRun};
 
-use crate::event::{Event, Message, Reply, Resolution, Seen};
-use crate::resolving::{chosen, resolve};
+use crate::event::{Event, Message, Reply, Seen};
 use dvv::{Clock, Dot};
 use helpers::Table;
-use hookrun::Room;
+use hookrun::{Resolution, Room, Unresolved, resolve};
 use object::{Content, Key, KeyState};
 use std::alloc::{AllocError, Global};
 use std::marker::Model;
@@ -450,7 +449,7 @@ fn choice_of<'a>(
         Ok(state) => Ok(Choice {
             key: key_of(events, get),
             seen: state.clock(),
-            content: chosen(resolution, state.siblings(), tombstone),
+            content: resolution.chosen(state.siblings(), tombstone),
         }),
         Err(refusal) => Err(refusal),
     }
@@ -473,9 +472,10 @@ fn resolve_read(
         Ok(state) => state,
         Err(refusal) => return Reply::Refused(refusal),
     };
-    match resolve(alloc, room, table, hook, state.siblings()) {
+    match resolve(alloc, room, hook, table, state.siblings()) {
         Ok(resolution) => Reply::Resolved(resolution),
-        Err(_) => Reply::Refused(VnodeFault::NoMemory),
+        Err(Unresolved::NoMemory) => Reply::Refused(VnodeFault::NoMemory),
+        Err(Unresolved::Disagrees) => unreachable!(),
     }
 }
 

@@ -1,6 +1,6 @@
 use Rattle.std.proofs.Common.{List, subst}
 use Rattle.object.specs.declared.content.Sibling.{Sibling}
-use Rattle.world.specs.Resolving.{IsResolution}
+use Rattle.hookrun.specs.Resolving.{IsResolution}
 use Rattle.world.proofs.Runs.{run_happened, run_wants, get_was_refused}
 use Rattle.world.proofs.world.resolve_read.Goals as goal
 
@@ -10,5 +10,5 @@ returns-in-Err g c = record { step = λ logs old rep remember. get_was_refused c
 pub returns-in-Ok-resolve : goal.returns-in-Ok-resolve
 returns-in-Ok-resolve g c = record { step = λ logs old rep remember. run_happened c.args.table.now.listed logs old c.args.replies.now c.args.get c.args.hook.now c.in-Ok.state.now c.in-Ok-resolve.resolution rep remember c.in-Ok.ensures.found (subst (λ (ss : List Sibling). IsResolution c.args.table.now.listed c.args.hook.now ss c.in-Ok-resolve.resolution) c.siblings.ensures.all c.in-Ok-resolve.ensures) }
 
-pub returns-in-Err-resolve : goal.returns-in-Err-resolve
-returns-in-Err-resolve g c = record { step = λ logs old rep remember. run_wants c.args.table.now.listed logs old c.args.replies.now c.args.get c.args.hook.now c.in-Ok.state.now rep remember c.in-Ok.ensures.found }
+pub returns-in-Err-NoMemory : goal.returns-in-Err-NoMemory
+returns-in-Err-NoMemory g c = record { step = λ logs old rep remember. run_wants c.args.table.now.listed logs old c.args.replies.now c.args.get c.args.hook.now c.in-Ok.state.now rep remember c.in-Ok.ensures.found }
