@@ -104,8 +104,9 @@ fn try_script<R: Files + AllocGlobal>(
         sigs: &table.listed,
     };
     let mut out = Vec::new(alloc);
-    let status = sim(alloc, &script, table, &images, &mut out)?;
-    let is_same = out.as_slice() == want.as_slice();
+    let mut err = Vec::new(alloc);
+    let status = sim(alloc, &script, table, &images, &mut out, &mut err)?;
+    let is_same = out.as_slice() == want.as_slice() && err.is_empty();
     let told = if is_same {
         "as written"
     } else {
