@@ -14,8 +14,8 @@ use Rattle.hookrun.specs.declared.deciding.RunFault.{RunFault}
 use Rattle.hookrun.specs.declared.deciding.RunFault.TheVariants as fault
 use Rattle.world.specs.declared.event.Reply.{Reply}
 use Rattle.world.specs.declared.event.Reply.TheVariants as reply
-use Rattle.world.specs.declared.event.Resolution.{Resolution}
-use Rattle.world.specs.declared.event.Resolution.TheVariants as resolution
+use Rattle.hookrun.specs.declared.resolving.Resolution.{Resolution}
+use Rattle.hookrun.specs.declared.resolving.Resolution.TheVariants as resolution
 use Rattle.telling.specs.Numbers.{refusal_number, bad_answer_number}
 
 abbrev pub line : List ℕ → List ℕ
