@@ -9,3 +9,4 @@ mod programs;
 mod put_hooks;
 mod repairs;
 mod resolvers;
+mod worlds;
