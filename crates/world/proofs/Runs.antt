@@ -105,12 +105,15 @@ put_refusal logs w v key clock r rep inside (state, replay, why) = by_cause r wh
     by_cause ClockFull why = inr (known why.0, (length (kept clock state.siblings), (state, own, refl), why.1), (state.clock, (own.clock, own.shows.clock), λ room. why.2 (next_room logs w v key state rep inside replay room)))
     by_cause MergedClockFull why = absurd why
     by_cause JournalFull why = inr (known why.0.context, (length (kept clock state.siblings), (state, own, refl), why.0.sibling), (state.clock, (own.clock, own.shows.clock), room_next logs w v key state rep inside replay why.0.dot), sym (rep.accepted v inside) ∙ why.1)
-    by_cause NoMemory why = inl (refl, record {
-      context = known why.0.context;
-      siblings = (length (kept clock state.siblings), (state, own, refl), why.0.sibling);
-      clock = (state.clock, (own.clock, own.shows.clock), room_next logs w v key state rep inside replay why.0.dot);
-      journal = subst (λ (n : ℕ). n < 2 ^ 32) (rep.accepted v inside) why.1;
-    })
+    by_cause NoMemory why = inl (
+      refl,
+      record {
+        context = known why.0.context;
+        siblings = (length (kept clock state.siblings), (state, own, refl), why.0.sibling);
+        clock = (state.clock, (own.clock, own.shows.clock), room_next logs w v key state rep inside replay why.0.dot);
+        journal = subst (λ (n : ℕ). n < 2 ^ 32) (rep.accepted v inside) why.1;
+      },
+    )
 
 -- a refusal, as the world's
 refused_so : (listed : List Helper) (logs : List Log) (w : Knowledge) (what : Event) (r : VnodeFault) → Represents logs w → Happens listed w what (Refused r) (after_refusal w r) → (after : Knowledge) × Happens listed w what (Refused r) after × Represents logs after

@@ -26,10 +26,10 @@ happen-reply-requires-clause-ready g c =
     let taken : length (take c.loop-event.event-index c.args.events.now) ≡ c.loop-event.event-index = length-take-le c.loop-event.event-index c.args.events.now (let h = c.loop-event-test.true in omega (arith, h)) in
     let is : c.len.result ≡ c.loop-event.event-index = c.len.ensures ∙ c.loop-event.replies.ok.0 ∙ so_far ∙ taken in
     subst (λ (k : ℕ). IsReady (length c.deref_mut.result.now) c.args.table.now.listed (take k c.args.events.now) c.deref.result.now c.event-item.result) (sym is)
-          (subst (λ (ls : List Log). IsReady (length ls) c.args.table.now.listed (take c.loop-event.event-index c.args.events.now) c.deref.result.now c.event-item.result) (sym c.deref_mut.ensures.value)
-          (subst (λ (rs : List Reply). IsReady (length c.loop-event.states.items) c.args.table.now.listed (take c.loop-event.event-index c.args.events.now) rs c.event-item.result) (sym c.deref.ensures.value)
-          (is_ready c.args.vnodes c.args.table.now.listed (take c.loop-event.event-index c.args.events.now) c.loop-event.replies.items c.loop-event.states.items c.loop-event.made c.event-item.result c.loop-event.invariant
-          (comes c.args.vnodes c.args.table.now.listed c.args.events.now c.loop-event.event-index c.event-item.result c.requires.runnable c.loop-event-test.true c.event-item.is))))
+    (subst (λ (ls : List Log). IsReady (length ls) c.args.table.now.listed (take c.loop-event.event-index c.args.events.now) c.deref.result.now c.event-item.result) (sym c.deref_mut.ensures.value)
+    (subst (λ (rs : List Reply). IsReady (length c.loop-event.states.items) c.args.table.now.listed (take c.loop-event.event-index c.args.events.now) rs c.event-item.result) (sym c.deref.ensures.value)
+    (is_ready c.args.vnodes c.args.table.now.listed (take c.loop-event.event-index c.args.events.now) c.loop-event.replies.items c.loop-event.states.items c.loop-event.made c.event-item.result c.loop-event.invariant
+    (comes c.args.vnodes c.args.table.now.listed c.args.events.now c.loop-event.event-index c.event-item.result c.requires.runnable c.loop-event-test.true c.event-item.is))))
 
 pub loop-event-preserved : goal.loop-event-preserved
 loop-event-preserved g c =
