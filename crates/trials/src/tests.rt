@@ -2,7 +2,6 @@
 
 mod building;
 mod gets_and_puts;
-mod hook_runs;
 mod hooking;
 mod peers_that_answer;
 mod programs;
