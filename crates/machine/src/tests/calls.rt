@@ -1,0 +1,463 @@
+//! Calls of the step machine: what each gives and where it faults.
+
+use super::Ending::{Answers, Faults};
+use super::slots::Slot;
+use super::slots::Slot::{Call, Copied, Exit, Put, Raised, StoreWord};
+use super::{Ending, MAX, NONE, end_with};
+use helpers::Table;
+use memory::Fault;
+use std::alloc::Global;
+use std::process::Abort;
+use std::test::Fail;
+
+/// The slots of a program that calls 1 to 3, its input, how it ends, and its output.
+const OWN: [(&str, &[Slot], &[u8], Ending, [u8; 8]); 25] = [
+    (
+        "copy",
+        &[Copied(2, 1), Copied(1, 3), Put(3, 4), Call(1), Exit],
+        &[1, 2, 3, 4],
+        Answers(0, 5),
+        [1, 2, 3, 4, 0, 0, 0, 0],
+    ),
+    (
+        "copy upwards over itself",
+        &[
+            StoreWord(3, 0, 0x0403_0201),
+            StoreWord(3, 4, 0x0807_0605),
+            Copied(1, 3),
+            Raised(1, 1),
+            Copied(2, 3),
+            Put(3, 6),
+            Call(1),
+            Exit,
+        ],
+        &[],
+        Answers(0, 8),
+        [1, 1, 2, 3, 4, 5, 6, 8],
+    ),
+    (
+        "copy downwards over itself",
+        &[
+            StoreWord(3, 0, 0x0403_0201),
+            StoreWord(3, 4, 0x0807_0605),
+            Copied(1, 3),
+            Copied(2, 3),
+            Raised(2, 2),
+            Put(3, 6),
+            Call(1),
+            Exit,
+        ],
+        &[],
+        Answers(0, 8),
+        [3, 4, 5, 6, 7, 8, 7, 8],
+    ),
+    (
+        "copy of nothing at the ends",
+        &[
+            Copied(2, 1),
+            Copied(1, 3),
+            Raised(1, 8),
+            Raised(2, 2),
+            Put(3, 0),
+            Call(1),
+            Exit,
+        ],
+        &[1, 2],
+        Answers(0, 7),
+        NONE,
+    ),
+    (
+        "copy of nothing to the end of the stack",
+        &[Copied(2, 1), Copied(1, 10), Put(3, 0), Call(1), Exit],
+        &[],
+        Answers(0, 5),
+        NONE,
+    ),
+    (
+        "copy of nothing past the end",
+        &[
+            Copied(2, 1),
+            Copied(1, 3),
+            Raised(1, 9),
+            Put(3, 0),
+            Call(1),
+            Exit,
+        ],
+        &[],
+        Faults(Fault::Helper, 4),
+        NONE,
+    ),
+    (
+        "copy past the end",
+        &[Copied(2, 1), Copied(1, 3), Put(3, 9), Call(1), Exit],
+        &[0; 9],
+        Faults(Fault::Helper, 3),
+        NONE,
+    ),
+    (
+        "copy from past the end",
+        &[Copied(2, 1), Copied(1, 3), Put(3, 4), Call(1), Exit],
+        &[1, 2, 3],
+        Faults(Fault::Helper, 3),
+        NONE,
+    ),
+    (
+        "copy to the input",
+        &[Copied(2, 3), Put(3, 1), Call(1), Exit],
+        &[1],
+        Faults(Fault::Helper, 2),
+        NONE,
+    ),
+    (
+        "copy of nothing to the input",
+        &[Copied(2, 3), Put(3, 0), Call(1), Exit],
+        &[1],
+        Faults(Fault::Helper, 2),
+        NONE,
+    ),
+    (
+        "fill of nothing in the input",
+        &[Put(3, 0), Call(2), Exit],
+        &[],
+        Faults(Fault::Helper, 1),
+        NONE,
+    ),
+    (
+        "unset is told first",
+        &[
+            Copied(1, 3),
+            Put(3, 0),
+            Call(2),
+            Put(1, 0),
+            Put(3, -1),
+            Call(1),
+            Exit,
+        ],
+        &[],
+        Faults(Fault::Unset, 5),
+        NONE,
+    ),
+    (
+        "fill",
+        &[
+            Copied(1, 3),
+            Raised(1, 2),
+            Put(2, 0x1ff),
+            Put(3, 3),
+            Call(2),
+            Exit,
+        ],
+        &[],
+        Answers(0, 6),
+        [0, 0, 255, 255, 255, 0, 0, 0],
+    ),
+    (
+        "fill of nothing at the end",
+        &[Copied(1, 3), Raised(1, 8), Put(3, 0), Call(2), Exit],
+        &[],
+        Answers(0, 5),
+        NONE,
+    ),
+    (
+        "fill of the input",
+        &[Put(3, 1), Call(2), Exit],
+        &[7],
+        Faults(Fault::Helper, 1),
+        NONE,
+    ),
+    (
+        "fill past the end",
+        &[Copied(1, 3), Raised(1, 7), Put(3, 2), Call(2), Exit],
+        &[],
+        Faults(Fault::Helper, 3),
+        NONE,
+    ),
+    (
+        "fill of more than a window",
+        &[Copied(1, 3), Put(3, 65_537), Call(2), Exit],
+        &[],
+        Faults(Fault::Helper, 2),
+        NONE,
+    ),
+    (
+        "same bytes",
+        &[Copied(2, 1), Raised(2, 2), Put(3, 2), Call(3), Exit],
+        b"abab",
+        Answers(1, 5),
+        NONE,
+    ),
+    (
+        "other bytes",
+        &[Copied(2, 1), Raised(2, 1), Put(3, 2), Call(3), Exit],
+        b"abab",
+        Answers(0, 5),
+        NONE,
+    ),
+    (
+        "no bytes are the same",
+        &[Copied(2, 1), Raised(2, 4), Put(3, 0), Call(3), Exit],
+        b"abab",
+        Answers(1, 5),
+        NONE,
+    ),
+    (
+        "bytes of two windows",
+        &[Copied(2, 3), Put(3, 2), Call(3), Exit],
+        &[0, 0],
+        Answers(1, 4),
+        NONE,
+    ),
+    (
+        "same past the end",
+        &[Copied(2, 3), Put(3, 3), Call(3), Exit],
+        &[0, 0],
+        Faults(Fault::Helper, 2),
+        NONE,
+    ),
+    (
+        "an argument after a call",
+        &[Copied(1, 3), Put(3, 0), Call(2), Copied(0, 1), Exit],
+        &[],
+        Faults(Fault::Unset, 3),
+        NONE,
+    ),
+    (
+        "R5 after a call",
+        &[
+            Put(5, 1),
+            Copied(1, 3),
+            Put(3, 0),
+            Call(2),
+            Copied(0, 5),
+            Exit,
+        ],
+        &[],
+        Faults(Fault::Unset, 4),
+        NONE,
+    ),
+    (
+        "R6 after a call",
+        &[
+            Put(6, 9),
+            Copied(1, 3),
+            Put(3, 0),
+            Call(2),
+            Copied(0, 6),
+            Exit,
+        ],
+        &[],
+        Answers(9, 6),
+        NONE,
+    ),
+];
+
+#[test]
+fn own_calls(rt: HostRuntime) -> Result<(), Fail> {
+    let table = Table::new(rt.alloc());
+    for (name, slots, input, want, output) in OWN {
+        let got = end_with(rt.alloc(), &table, slots, input, 100)?;
+        assert_eq!(rt; got, (want.stop(), output), "{name}");
+    }
+    Ok(())
+}
+
+/// The slots of a program that calls helpers, its input, and how it ends.
+const HELPERS: [(&str, &[Slot], &[u8], Ending); 20] = [
+    ("decimal", &[Call(18), Exit], b"123", Answers(123, 2)),
+    (
+        "decimal of nothing",
+        &[Call(18), Exit],
+        b"",
+        Answers(MAX, 2),
+    ),
+    (
+        "order",
+        &[
+            Put(2, 1),
+            Copied(3, 1),
+            Raised(3, 1),
+            Put(4, 1),
+            Call(16),
+            Exit,
+        ],
+        b"ab",
+        Answers(0, 6),
+    ),
+    (
+        "order, turned",
+        &[
+            Copied(3, 1),
+            Put(4, 1),
+            Raised(1, 1),
+            Put(2, 1),
+            Call(16),
+            Exit,
+        ],
+        b"ab",
+        Answers(2, 6),
+    ),
+    (
+        "find",
+        &[Copied(3, 1), Raised(3, 3), Put(4, 2), Call(17), Exit],
+        b"hello",
+        Answers(4, 5),
+    ),
+    (
+        "modulo",
+        &[Copied(1, 2), Call(64), Exit],
+        &[0; 11],
+        Answers(3, 3),
+    ),
+    (
+        "arguments after a call",
+        &[Copied(1, 2), Call(64), Call(64), Exit],
+        &[],
+        Faults(Fault::Unset, 2),
+    ),
+    (
+        "unknown number",
+        &[Call(66), Exit],
+        &[],
+        Faults(Fault::Helper, 0),
+    ),
+    (
+        "no helper's number",
+        &[Call(0), Exit],
+        &[],
+        Faults(Fault::Helper, 0),
+    ),
+    (
+        "number, read and last",
+        &[
+            Copied(2, 1),
+            Put(1, 2),
+            Put(3, 3),
+            Put(5, 1),
+            Call(65),
+            Exit,
+        ],
+        b"abc",
+        Answers(8, 6),
+    ),
+    (
+        "a number above its range",
+        &[
+            Copied(2, 1),
+            Put(1, 5),
+            Put(3, 3),
+            Put(5, 1),
+            Call(65),
+            Exit,
+        ],
+        b"abc",
+        Faults(Fault::Helper, 4),
+    ),
+    (
+        "a number below its range",
+        &[
+            Copied(2, 1),
+            Put(1, 1),
+            Put(3, 3),
+            Put(5, 1),
+            Call(65),
+            Exit,
+        ],
+        b"abc",
+        Faults(Fault::Helper, 4),
+    ),
+    (
+        "a read of too much",
+        &[
+            Copied(2, 1),
+            Put(1, 2),
+            Put(3, 5),
+            Put(5, 1),
+            Call(65),
+            Exit,
+        ],
+        b"abcdef",
+        Faults(Fault::Helper, 4),
+    ),
+    (
+        "a read past the end",
+        &[
+            Copied(2, 1),
+            Raised(2, 1),
+            Put(1, 2),
+            Put(3, 3),
+            Put(5, 1),
+            Call(65),
+            Exit,
+        ],
+        b"abc",
+        Faults(Fault::Helper, 5),
+    ),
+    (
+        "a read of nothing at the end",
+        &[
+            Copied(2, 1),
+            Raised(2, 3),
+            Put(1, 2),
+            Put(3, 0),
+            Put(5, 0),
+            Call(65),
+            Exit,
+        ],
+        b"abc",
+        Answers(4, 7),
+    ),
+    (
+        "a read of nothing past the end",
+        &[
+            Copied(2, 1),
+            Raised(2, 4),
+            Put(1, 2),
+            Put(3, 0),
+            Put(5, 0),
+            Call(65),
+            Exit,
+        ],
+        b"abc",
+        Faults(Fault::Helper, 5),
+    ),
+    (
+        "a read of nothing at the end of the stack",
+        &[
+            Copied(2, 10),
+            Put(1, 3),
+            Put(3, 0),
+            Put(5, 0),
+            Call(65),
+            Exit,
+        ],
+        b"",
+        Answers(6, 6),
+    ),
+    (
+        "a read of no window",
+        &[Put(2, 0), Put(1, 2), Put(3, 0), Put(5, 0), Call(65), Exit],
+        b"",
+        Faults(Fault::Helper, 4),
+    ),
+    (
+        "the last argument is unset",
+        &[Copied(2, 1), Put(1, 2), Put(3, 3), Call(65), Exit],
+        b"abc",
+        Faults(Fault::Unset, 3),
+    ),
+    (
+        "unset is told first",
+        &[Copied(2, 1), Put(1, 9), Put(3, 9), Call(65), Exit],
+        b"abc",
+        Faults(Fault::Unset, 3),
+    ),
+];
+
+/// Tells how the programs that call helpers end.
+pub fn with_helpers(rt: &impl Abort, alloc: Global, table: &Table) -> Result<(), Fail> {
+    for (name, slots, input, want) in HELPERS {
+        let got = end_with(alloc, table, slots, input, 100)?;
+        assert_eq!(rt; got, (want.stop(), NONE), "{name}");
+    }
+    Ok(())
+}

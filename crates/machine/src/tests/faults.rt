@@ -1,0 +1,85 @@
+//! Programs that go wrong, each in its way, and programs that want fuel.
+
+use super::slots::Slot;
+use super::slots::Slot::{
+    Added, Call, Copied, Exit, Fields, Jump, LoadByte, Put, StoreByte, StoreWord, Wide,
+};
+use super::{Ending, end_of, end_with};
+use crate::Stop;
+use helpers::Table;
+use memory::Fault;
+use std::test::Fail;
+
+/// The slots of a program that faults on an input of nine bytes, why, and at which slot.
+const FAULTS: [(&[Slot], Fault, i64); 24] = [
+    // A register that is read holds nothing.
+    (&[Exit], Fault::Unset, 0),
+    (&[Added(1, 5)], Fault::Unset, 0),
+    (&[Fields(0x87, 6, 0, 0, 0)], Fault::Unset, 0),
+    (&[Fields(0xd4, 6, 0, 0, 16)], Fault::Unset, 0),
+    (&[Fields(0x1d, 1, 5, 0, 0)], Fault::Unset, 0),
+    (&[Fields(0x7b, 3, 6, 0, 0)], Fault::Unset, 0),
+    // No window has all of the bytes: a null address, the stack's end, before the stack, past the output.
+    (&[Put(1, 0), LoadByte(0, 1, 0)], Fault::Address, 1),
+    (&[Fields(0x7a, 10, 0, -4, 0)], Fault::Address, 0),
+    (&[StoreByte(10, -513, 0)], Fault::Address, 0),
+    (&[StoreWord(3, 5, 0)], Fault::Address, 0),
+    (&[Fields(0x79, 0, 1, 2, 0)], Fault::Address, 0),
+    (&[Fields(0x7a, 1, 0, 2, 0)], Fault::Address, 0),
+    // A store to the input.
+    (&[StoreByte(1, 8, 0)], Fault::Input, 0),
+    // No instruction starts there: past the end, before the start, the second slot of a wide one.
+    (&[Put(0, 0)], Fault::Slot, 1),
+    (&[Jump(-5)], Fault::Slot, -4),
+    (&[Fields(0x06, 0, 0, 0, i32::MAX)], Fault::Slot, 1 << 31),
+    (&[Jump(1), Wide(0, 0)], Fault::Slot, 2),
+    // No helper has the number, or a range is in no window.
+    (&[Call(64)], Fault::Helper, 0),
+    (&[Call(4)], Fault::Helper, 0),
+    (&[Call(1)], Fault::Helper, 0),
+    // A write to the frame pointer.
+    (&[Put(10, 0)], Fault::ReadOnly, 0),
+    (&[Wide(10, 0)], Fault::ReadOnly, 0),
+    // The lowest of several is told.
+    (&[Copied(10, 6)], Fault::Unset, 0),
+    (&[Fields(0x61, 10, 1, 6, 0)], Fault::Address, 0),
+];
+
+#[test]
+fn faults(rt: HostRuntime) -> Result<(), Fail> {
+    for (slots, why, slot) in FAULTS {
+        let (stop, _) = end_of(rt.alloc(), slots, &[0x01; 9])?;
+        assert_eq!(rt; stop, Stop::Fault { why, slot }, "{why:?} at {slot}");
+    }
+    Ok(())
+}
+
+/// The slots of a program, the fuel of a drive, and how it ends.
+const FUEL: [(&[Slot], u64, Stop); 6] = [
+    (&[Put(0, 0), Exit], 0, Stop::Fuel),
+    (&[Put(0, 0), Exit], 1, Stop::Fuel),
+    (&[Put(0, 0), Exit], 2, EXIT),
+    (&[Put(0, 0), Exit], u64::MAX, EXIT),
+    (&[Put(0, 0)], 1, Stop::Fuel),
+    (&[Put(0, 0)], 2, PAST_END),
+];
+
+const EXIT: Stop = Stop::Exit {
+    answer: 0,
+    steps: 2,
+};
+
+const PAST_END: Stop = Stop::Fault {
+    why: Fault::Slot,
+    slot: 1,
+};
+
+#[test]
+fn fuel(rt: HostRuntime) -> Result<(), Fail> {
+    let table = Table::new(rt.alloc());
+    for (slots, fuel, want) in FUEL {
+        let (stop, _) = end_with(rt.alloc(), &table, slots, &[], fuel)?;
+        assert_eq!(rt; stop, want, "{fuel}");
+    }
+    Ok(())
+}
