@@ -4,9 +4,10 @@ use Rattle.std.specs.Prelude.{◌⊎◌, slice_get, IsSomeAnd, ◌≤ℤ◌}
 use Rattle.std.proofs.lemmas.Int.{ints}
 use Rattle.std.proofs.lemmas.Bool.{cases_lt}
 use Rattle.std.proofs.lemmas.Option.{same_Some, slice_get_within}
+use Rattle.insn.specs.Encoding.{IsCode, IsInstruction}
 use Rattle.insn.specs.declared.Insn.{Insn}
 use Rattle.insn.specs.declared.Insn.TheVariants as insn
-use Rattle.insn.proofs.Paired.{IsPaired}
+use Rattle.insn.specs.declared.Register.{Register}
 use Rattle.bpfimage.specs.declared.form.FormRule.{FormRule}
 use Rattle.bpfimage.specs.declared.form.FormRule.TheVariants.{TargetOutside, TargetTail, TargetBack, RunsPast}
 use Rattle.bpfimage.specs.Form.{target_of, next_of, slot_at, BreaksRule, IsFormed}
@@ -56,14 +57,14 @@ target_leads code i x (negsuc k) formed at e = absurd (keeps code i x TargetOuts
 
 -- ---- the next slot
 
-one_on : (i k : ℕ) → Some (i + 1) ≡ Some k → k ≡ suc i
-one_on i k e = let h : i + 1 ≡ k = same_Some _ _ e in omega arith
+one_on : (i k : ℕ) → Some (i + 1) ≡ Some k → k ≡ i + 1
+one_on i k e = sym (same_Some _ _ e)
 
-two_on : (i k : ℕ) → Some (i + 2) ≡ Some k → k ≡ suc (suc i)
+two_on : (i k : ℕ) → Some (i + 2) ≡ Some k → k ≡ i + 1 + 1
 two_on i k e = let h : i + 2 ≡ k = same_Some _ _ e in omega arith
 
 -- the next slot is one on, or two on after a wide instruction
-next_cases : (i : ℕ) (x : Insn) (k : ℕ) → next_of i x ≡ Some k → ((k ≡ suc i) × ((d : _) (n : ℕ) → x ≢ insn.Wide d n)) ⊎ ((k ≡ suc (suc i)) × (d : _) × (n : ℕ) × (x ≡ insn.Wide d n))
+next_cases : (i : ℕ) (x : Insn) (k : ℕ) → next_of i x ≡ Some k → ((k ≡ i + 1) × ((d : _) (n : ℕ) → x ≢ insn.Wide d n)) ⊎ ((k ≡ i + 1 + 1) × (d : _) × (n : ℕ) × (x ≡ insn.Wide d n))
 next_cases i (insn.Alu op w d src) k e = inl (one_on i k e, λ a n q. cc)
 next_cases i (insn.Swap a b d) k e = inl (one_on i k e, λ a n q. cc)
 next_cases i (insn.Load a b c d f) k e = inl (one_on i k e, λ a n q. cc)
@@ -81,14 +82,30 @@ none_some o a p q = cc
 same_some : {A : Type 0} (o : Option A) (a b : A) → o ≡ Some a → o ≡ Some b → a ≡ b
 same_some o a b p q = cc
 
+-- what a slot of code tells of the one after it and the one before it
+pub record IsPaired (code : List Insn) : Type 0 where
+  pub after_wide : (k n : ℕ) (dst : Register) → slice_get code k ≡ Some (insn.Wide dst n) → slice_get code (k + 1) ≡ Some insn.Tail
+  pub before_tail : (k : ℕ) → slice_get code (k + 1) ≡ Some insn.Tail → (dst : Register) × (n : ℕ) × (slice_get code k ≡ Some (insn.Wide dst n))
+  pub no_tail_first : slice_get code 0 ≢ Some insn.Tail
+  pub instructions : (k : ℕ) (i : Insn) → slice_get code k ≡ Some i → i ≢ insn.Tail → IsInstruction i
+
+-- what is told of all code, of this
+pub paired_by : ((code : List Insn) (k n : ℕ) (dst : Register) → IsCode code → slice_get code k ≡ Some (insn.Wide dst n) → slice_get code (k + 1) ≡ Some insn.Tail) → ((code : List Insn) (k : ℕ) → IsCode code → slice_get code (k + 1) ≡ Some insn.Tail → (dst : Register) × (n : ℕ) × (slice_get code k ≡ Some (insn.Wide dst n))) → ((code : List Insn) → IsCode code → slice_get code 0 ≢ Some insn.Tail) → ((code : List Insn) (k : ℕ) (i : Insn) → IsCode code → slice_get code k ≡ Some i → i ≢ insn.Tail → IsInstruction i) → (code : List Insn) → IsCode code → IsPaired code
+paired_by after before first instructions code is = record {
+  after_wide = λ k n dst. after code k n dst is;
+  before_tail = λ k. before code k is;
+  no_tail_first = first code is;
+  instructions = λ k i. instructions code k i is;
+}
+
 next_starts : (code : List Insn) (i k : ℕ) (x y : Insn) → IsPaired code → slice_get code i ≡ Some x → next_of i x ≡ Some k → slice_get code k ≡ Some y → y ≢ insn.Tail
 next_starts code i k x y paired at e there tail =
     ⊎_elim
     (λ one. let wide = paired.before_tail i (ap (slice_get code) (sym one.0) ∙ there ∙ ap Some tail) in
     one.1 wide.0 wide.1 (same_some (slice_get code i) x _ at wide.2))
-    (λ two. let wide = paired.before_tail (suc i) (ap (slice_get code) (sym two.0) ∙ there ∙ ap Some tail) in
+    (λ two. let wide = paired.before_tail (i + 1) (ap (slice_get code) (sym two.0) ∙ there ∙ ap Some tail) in
     let half = paired.after_wide i two.2 two.1 (at ∙ ap Some two.3) in
-    tail_wide wide.0 wide.1 (same_some (slice_get code (suc i)) _ _ half wide.2))
+    tail_wide wide.0 wide.1 (same_some (slice_get code (i + 1)) _ _ half wide.2))
     (next_cases i x k e)
   where
     tail_wide : (d : _) (n : ℕ) → insn.Tail ≡ insn.Wide d n → ⊥

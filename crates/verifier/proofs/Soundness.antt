@@ -13,7 +13,6 @@ use Rattle.insn.specs.declared.Operand.{Operand}
 use Rattle.insn.specs.declared.Operand.TheVariants as operand
 use Rattle.insn.specs.declared.Insn.{Insn}
 use Rattle.insn.specs.declared.Insn.TheVariants as insn
-use Rattle.insn.proofs.Paired.{IsPaired}
 use Rattle.memory.specs.State.{State, Row as Row_of}
 use Rattle.memory.specs.Step.{Step, Faults, Runs, IsInput, start, instruction_at, starting, instruction_count}
 use Rattle.memory.specs.declared.Fault.{Fault}
@@ -27,7 +26,7 @@ use Rattle.verifier.specs.Rules.{callee_in, refined, row_after, row_taken, rules
 use Rattle.verifier.specs.Table.{Edge, next_edge, target_edge, edges_from, edges_of, arrivals, table, broken_with, IsAccepted}
 use Rattle.verifier.proofs.Words.{bytes_zero}
 use Rattle.verifier.proofs.Fits.{FitsRow, IsRow, IsRowIfAny, AreRows, FitsSome, SomeEdge, into_is_row, into_old, into_new}
-use Rattle.verifier.proofs.Shape.{Leads, AllLead, paired_starts, edges_lead, target_leads}
+use Rattle.verifier.proofs.Shape.{IsPaired, Leads, AllLead, paired_starts, edges_lead, target_leads}
 use Rattle.verifier.proofs.Places.{IsMemory}
 use Rattle.verifier.proofs.Classes.{AllNone, none_each, no_fault, lands}
 use Rattle.verifier.proofs.Counting.{starts_there, counted, counted_all}

@@ -19,6 +19,7 @@ use crate::rules::broken_rule;
 use crate::verified::Verified;
 use bpfimage::{Image, form_fault};
 use helpers::Sigs;
+use insn::code_is_paired;
 use memory::Region;
 use ranges::{Kind, kinds_are_sound};
 use std::alloc::{AllocError, Global};
@@ -147,6 +148,8 @@ pub fn verify(alloc: Global, image: Image, sigs: &Sigs) -> Result<Verified, Refu
     ensures plain_accepted { IfOk result (λ _. IsPlain image.code.items → IsWellBehaved (program_of image sigs.now)) }
     ensures plain_only { IsPlain image.code.items → IsWellBehaved (program_of image sigs.now) → IfErr result (λ refused. refused.rule ≡ Rule.NoMemory) }
 {
+    // In code each wide instruction and its second slot stand together.
+    code_is_paired();
     check_form(&image)?;
     let Ok(sigs) = sigs.copy(alloc) else {
         return Err(Refused {

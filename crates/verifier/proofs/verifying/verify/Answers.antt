@@ -1,13 +1,12 @@
 use Rattle.std.proofs.Common.{sym, subst}
 use Rattle.std.proofs.Math.Logic.{∥∥₁_elim}
 use Rattle.std.proofs.Props.{props}
-use Rattle.insn.proofs.Paired.{code_paired}
 use Rattle.verifier.specs.Program.{program_of, IsSafeProgram}
 use Rattle.verifier.specs.Table.{IsAccepted}
 use Rattle.verifier.specs.Verdict.{IsRefused}
 use Rattle.verifier.proofs.Soundness.{safe}
 use Rattle.verifier.proofs.Visits.{only_memory}
-use Rattle.verifier.proofs.Shape.{NextStarts, paired_starts}
+use Rattle.verifier.proofs.Shape.{NextStarts, paired_by, paired_starts}
 use Rattle.verifier.proofs.PlainPrograms.{well_behaved_accepted}
 use Rattle.verifier.proofs.PlainWalks.{accepted_well_behaved}
 use Rattle.std.proofs.lemmas.Result.{err_from_is_err_and}
@@ -23,36 +22,46 @@ returns-in_err-check_form-clause-only c = λ accepted.
 pub returns-in_err-check_form-clause-plain_only : goal.returns-in_err-check_form-clause-plain_only
 returns-in_err-check_form-clause-plain_only c = λ plain good.
     let p = program_of c.args.image c.args.sigs.now in
+    let law = c.code_is_paired.ensures in
+    let paired = paired_by law.after_wide law.before_tail law.no_tail_first law.instructions p.code in
     let e = err_from_is_err_and c.from_residual.result c.from_residual.ensures.1 in
     let fault = c.in_err-check_form.field-0.0 in
-    let starts : NextStarts p.code = ∥∥₁_elim c.args.image.is_code (hlevel props) (λ code. paired_starts p.code (code_paired p.code code)) in
+    let starts : NextStarts p.code = ∥∥₁_elim c.args.image.is_code (hlevel props) (λ code. paired_starts p.code (paired code)) in
     rw (e.1, e.2) (only_memory p fault.rule fault.slot (c.in_err-check_form.ensures.refused c.args.sigs.now) (λ no. no (well_behaved_accepted p c.args.image.some_slots starts plain good)))
 
 pub returns-in_err-check_kinds-clause-plain_only : goal.returns-in_err-check_kinds-clause-plain_only
 returns-in_err-check_kinds-clause-plain_only c = λ plain good.
     let p = program_of c.args.image c.args.sigs.now in
+    let law = c.code_is_paired.ensures in
+    let paired = paired_by law.after_wide law.before_tail law.no_tail_first law.instructions p.code in
     let e = err_from_is_err_and c.from_residual-in_err-check_kinds.result c.from_residual-in_err-check_kinds.ensures.1 in
     let fault = c.in_err-check_kinds.field-0.0 in
-    let starts : NextStarts p.code = ∥∥₁_elim c.args.image.is_code (hlevel props) (λ code. paired_starts p.code (code_paired p.code code)) in
+    let starts : NextStarts p.code = ∥∥₁_elim c.args.image.is_code (hlevel props) (λ code. paired_starts p.code (paired code)) in
     let refused = subst (λ sigs. IsRefused (program_of c.args.image sigs) fault.rule fault.slot) c.in-Ok.ensures c.in_err-check_kinds.ensures.refused in
     rw (e.1, e.2) (only_memory p fault.rule fault.slot refused (λ no. no (well_behaved_accepted p c.args.image.some_slots starts plain good)))
 
 pub new-requires : goal.new-requires
 new-requires c =
     let p = program_of c.args.image c.in-Ok.sigs in
+    let law = c.code_is_paired.ensures in
+    let paired = paired_by law.after_wide law.before_tail law.no_tail_first law.instructions p.code in
     ∥∥₁_elim c.args.image.is_code (hlevel props)
-    (λ code. safe c.kinds_are_sound.ensures p record { slots = c.args.image.few_slots; input = c.args.image.in_small; output = c.args.image.out_small } (code_paired p.code code) c.args.image.some_slots c.in_ok-check_kinds.ensures.ok)
+    (λ code. safe c.kinds_are_sound.ensures p record { slots = c.args.image.few_slots; input = c.args.image.in_small; output = c.args.image.out_small } (paired code) c.args.image.some_slots c.in_ok-check_kinds.ensures.ok)
 
 pub returns-clause-safe : goal.returns-clause-safe
 returns-clause-safe c =
     let p = program_of c.args.image c.in-Ok.sigs in
+    let law = c.code_is_paired.ensures in
+    let paired = paired_by law.after_wide law.before_tail law.no_tail_first law.instructions p.code in
     subst IsSafeProgram (sym c.new.ensures)
     (∥∥₁_elim c.args.image.is_code (hlevel props)
-    (λ code. safe c.kinds_are_sound.ensures p record { slots = c.args.image.few_slots; input = c.args.image.in_small; output = c.args.image.out_small } (code_paired p.code code) c.args.image.some_slots c.in_ok-check_kinds.ensures.ok))
+    (λ code. safe c.kinds_are_sound.ensures p record { slots = c.args.image.few_slots; input = c.args.image.in_small; output = c.args.image.out_small } (paired code) c.args.image.some_slots c.in_ok-check_kinds.ensures.ok))
 
 pub returns-clause-plain_accepted : goal.returns-clause-plain_accepted
 returns-clause-plain_accepted c = λ plain.
     let p = program_of c.args.image c.args.sigs.now in
-    let starts : NextStarts p.code = ∥∥₁_elim c.args.image.is_code (hlevel props) (λ code. paired_starts p.code (code_paired p.code code)) in
+    let law = c.code_is_paired.ensures in
+    let paired = paired_by law.after_wide law.before_tail law.no_tail_first law.instructions p.code in
+    let starts : NextStarts p.code = ∥∥₁_elim c.args.image.is_code (hlevel props) (λ code. paired_starts p.code (paired code)) in
     let accepted = subst (λ sigs. IsAccepted (program_of c.args.image sigs)) c.in-Ok.ensures c.in_ok-check_kinds.ensures.ok in
     accepted_well_behaved p c.args.image.some_slots starts plain accepted
