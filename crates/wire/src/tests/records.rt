@@ -1,0 +1,123 @@
+//! Whole records: read, written again, cut and changed.
+
+use crate::{WireFault, has_record, read_record, write_record};
+use dvv::Dot;
+use object::{Content, KeyState};
+use std::test::Fail;
+
+/// Bucket `sim`, key `k`, from vnode 0 at place 1: clock 0:1, and sibling 0-1, `a` of `text/plain`.
+const ONE_VALUE: [u8; 92] = [
+    0x44, 0x56, 0x52, 0x31, 0x00, 0x00, 0x00, 0x40, 0x00, 0x03, 0x73, 0x69, 0x6d, 0x00, 0x01, 0x6b, //
+    0x00, 0x00, 0x00, 0x00, 0x00, 0x00, 0x00, 0x01, 0x00, 0x01, 0x00, 0x00, 0x00, 0x00, 0x00, 0x00, //
+    0x00, 0x00, 0x00, 0x00, 0x00, 0x01, 0x00, 0x00, 0x00, 0x01, 0x00, 0x00, 0x00, 0x00, 0x00, 0x00, //
+    0x00, 0x00, 0x00, 0x00, 0x00, 0x01, 0x01, 0x00, 0x0a, 0x74, 0x65, 0x78, 0x74, 0x2f, 0x70, 0x6c, //
+    0x61, 0x69, 0x6e, 0x00, 0x00, 0x00, 0x01, 0x61, 0x28, 0xe2, 0x51, 0x82, 0x84, 0xf1, 0xa8, 0xb9, //
+    0x2d, 0xfb, 0xd6, 0x27, 0x4e, 0x14, 0xcd, 0x24, 0x23, 0xe5, 0x3e, 0x39,
+];
+
+/// Bucket `b`, key `k2`, from vnode 65537 at place 7: clock 0:2 and 65537:2^62, a tombstone 0-2, and sibling 65537-5,
+/// no bytes of `t`.
+const TOMBSTONE_BESIDE_VALUE: [u8; 106] = [
+    0x44, 0x56, 0x52, 0x31, 0x00, 0x00, 0x00, 0x4e, 0x00, 0x01, 0x62, 0x00, 0x02, 0x6b, 0x32, 0x00, //
+    0x01, 0x00, 0x01, 0x00, 0x00, 0x00, 0x07, 0x00, 0x02, 0x00, 0x00, 0x00, 0x00, 0x00, 0x00, 0x00, //
+    0x00, 0x00, 0x00, 0x00, 0x02, 0x00, 0x01, 0x00, 0x01, 0x40, 0x00, 0x00, 0x00, 0x00, 0x00, 0x00, //
+    0x00, 0x00, 0x00, 0x00, 0x02, 0x00, 0x00, 0x00, 0x00, 0x00, 0x00, 0x00, 0x00, 0x00, 0x00, 0x00, //
+    0x02, 0x00, 0x00, 0x01, 0x00, 0x01, 0x00, 0x00, 0x00, 0x00, 0x00, 0x00, 0x00, 0x05, 0x01, 0x00, //
+    0x01, 0x74, 0x00, 0x00, 0x00, 0x00, 0x31, 0x00, 0x45, 0x68, 0xf2, 0xc0, 0xdf, 0x39, 0x41, 0x7d, //
+    0x03, 0xdd, 0x45, 0xfd, 0x24, 0x27, 0xde, 0x16, 0xca, 0x2f,
+];
+
+/// Whether a state has the clock 0:1 and the sibling 0-1, `a` of `text/plain`.
+fn has_one_value(state: &KeyState) -> bool {
+    let [sibling] = state.siblings() else {
+        return false;
+    };
+    state.clock().counter(0) == 1
+        && sibling.dot == Dot { vnode: 0, n: 1 }
+        && is_plain_a(&sibling.content)
+}
+
+/// Whether a content is `a` of `text/plain`.
+fn is_plain_a(content: &Content) -> bool {
+    match content {
+        Content::Value { media, bytes } => {
+            media.as_slice() == b"text/plain".as_slice() && bytes.as_slice() == b"a".as_slice()
+        }
+        Content::Tombstone => false,
+    }
+}
+
+#[test]
+fn one_value(rt: HostRuntime) -> Result<(), Fail> {
+    let (record, len) = read_record(rt.alloc(), &ONE_VALUE)?;
+    assert_eq!(rt; (len, record.from, record.at), (92, 0, 1));
+    assert_eq!(rt; record.key.bucket.as_slice(), b"sim".as_slice());
+    assert_eq!(rt; record.key.key.as_slice(), b"k".as_slice());
+    assert!(rt; has_one_value(&record.state));
+    Ok(())
+}
+
+/// What was read is written as it was.
+#[test]
+fn written_again(rt: HostRuntime) -> Result<(), Fail> {
+    let alloc = rt.alloc();
+    let table = [ONE_VALUE.as_slice(), TOMBSTONE_BESIDE_VALUE.as_slice()];
+    for bytes in table {
+        let (record, len) = read_record(alloc, bytes)?;
+        assert_eq!(rt; len, bytes.len());
+        assert!(rt; has_record(&record.key, &record.state));
+        let again = write_record(alloc, &record.key, record.from, record.at, &record.state)?;
+        assert_eq!(rt; again.as_slice(), bytes);
+    }
+    Ok(())
+}
+
+/// Each front of a record is cut.
+#[test]
+fn fronts(rt: HostRuntime) -> Result<(), Fail> {
+    for n in 0..ONE_VALUE.len() {
+        let read = read_record(rt.alloc(), &ONE_VALUE[..n]);
+        assert_eq!(rt; read.err(), Some(WireFault::Cut), "at {n}");
+    }
+    Ok(())
+}
+
+/// What follows a record doesn't count.
+#[test]
+fn record_before_others(rt: HostRuntime) -> Result<(), Fail> {
+    let alloc = rt.alloc();
+    let mut bytes = ONE_VALUE.to_vec(alloc)?;
+    bytes.extend_from_slice(&ONE_VALUE)?;
+    let (_, len) = read_record(alloc, &bytes)?;
+    assert_eq!(rt; len, 92);
+    Ok(())
+}
+
+/// A byte that is changed, the length of the record's front that is read, and what is told: the faults are told in
+/// their order.
+const CHANGES: [(usize, usize, WireFault); 11] = [
+    (0, 92, WireFault::Mark),
+    (3, 92, WireFault::Mark),
+    (0, 8, WireFault::Mark),
+    (0, 7, WireFault::Cut),
+    (4, 92, WireFault::Cut),
+    (7, 92, WireFault::Cut),
+    (8, 92, WireFault::Digest),
+    (37, 92, WireFault::Digest),
+    (71, 92, WireFault::Digest),
+    (72, 92, WireFault::Digest),
+    (91, 92, WireFault::Digest),
+];
+
+#[test]
+fn changed_bytes(rt: HostRuntime) -> Result<(), Fail> {
+    for (place, len, want) in CHANGES {
+        let mut bytes = ONE_VALUE;
+        if let Some(byte) = bytes.get_mut(place) {
+            *byte ^= 1;
+        }
+        let read = read_record(rt.alloc(), &bytes[..len.min(92)]);
+        assert_eq!(rt; read.err(), Some(want), "at {place} of {len}");
+    }
+    Ok(())
+}
