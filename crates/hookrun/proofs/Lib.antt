@@ -1,2 +1,3 @@
+pub mod Newest
 pub mod Resolved
 pub mod Shown

@@ -3,6 +3,7 @@
 
 pub mod deciding;
 pub mod image;
+pub mod laws;
 pub mod resolving;
 #[cfg(test)]
 mod tests;
