@@ -14,6 +14,11 @@ use Rattle.abi.specs.Verdicts.{Meaning, verdict_of}
 use Rattle.hookrun.specs.declared.deciding.RunFault.{RunFault}
 use Rattle.hookrun.specs.declared.deciding.RunFault.TheVariants.{Disagrees, TooLarge, Bad, NoMemory}
 
+-- what an answer means, as what is decided
+abbrev pub told_of : Result Meaning BadAnswer → Result Meaning RunFault
+told_of (Ok verdict) = Ok verdict
+told_of (Err bad) = Err (Bad bad)
+
 module _ (p : Program) (new : Option Content) (siblings : List Sibling) where
   -- how many bytes of the input show the contents
   abbrev pub used : ℕ

@@ -1,5 +1,6 @@
 pub mod Decisions
 pub mod Images
+pub mod Lending
 pub mod Newest
 pub mod Resolving
 pub mod Rooms

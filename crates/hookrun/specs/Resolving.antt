@@ -42,6 +42,11 @@ chosen_by Keep siblings = None
 chosen_by TooLarge siblings = None
 chosen_by (Bad bad) siblings = None
 
+-- a value was written
+abbrev pub IsWritten : Meaning → Type 0
+IsWritten (Wrote bytes) = Unit {0}
+IsWritten other = ⊥
+
 module _ (listed : List Entry) (hook : Program) (siblings : List Sibling) where
   -- what a run of the hook on the siblings comes to, over a table of these helpers
   abbrev pub IsResolution : Resolution → Type 0
@@ -51,3 +56,7 @@ module _ (listed : List Entry) (hook : Program) (siblings : List Sibling) where
   abbrev pub IsUnresolved : Unresolved → Type 0
   IsUnresolved Disagrees = IsDecision hook None siblings listed (Err fault.Disagrees)
   IsUnresolved NoMemory = IsDecision hook None siblings listed (Err fault.NoMemory)
+
+  -- the hook wrote a value, for which alone a resolver whose room fits wants memory
+  abbrev pub WritesValue : Type 0
+  WritesValue = (written : Meaning) × IsWritten written × IsDecision hook None siblings listed (Ok written)

@@ -1,13 +1,15 @@
 //! A run of a hook on the siblings of a key, and its verdict.
 
-ghost use Rattle.std.specs.Prelude.{◌≡◌, ◌≢◌, ◌≤◌, ◌<◌, ◌⊎◌, length, replicate, vec_len, IsOk, IfOk, IfErr, OnOk, OnErr, MatchResult, Ok, Err};
+ghost use Rattle.std.specs.Prelude.{◌≡◌, ◌≢◌, ◌≤◌, ◌<◌, ◌⊎◌, length, take, vec_len, IsOk, IfOk, IfErr, OnOk, OnErr, MatchResult, Ok, Err};
+ghost use Rattle.std.specs.Borrow.{sem};
 ghost use Rattle.std.specs.Option.{option_copied};
 ghost use Rattle.memory.specs.Step.{IsInput};
 ghost use Rattle.abi.specs.Input.{contents_shown, used_by, window_of};
 ghost use Rattle.helpers.specs.Entries.{AgreesWith};
-ghost use Rattle.abi.specs.Verdicts.{meaning_of};
-ghost use Rattle.hookrun.specs.Decisions.{IsDecision, IsRuling};
+ghost use Rattle.abi.specs.Verdicts.{meaning_of, verdict_of};
+ghost use Rattle.hookrun.specs.Decisions.{HasRoom, IsDecision, IsRun, LacksRoom, told_of};
 ghost use Rattle.hookrun.specs.Rooms.{IsKept, HasRoomFor};
+ghost use Rattle.hookrun.specs.Lending.{LeavesRoom};
 
 use abi::{BadAnswer, TooLarge, Verdict, fill_input, read_answer};
 use bpfimage::ImageKind;
@@ -75,7 +77,7 @@ impl Room {
 /// on their layout; it borrows the output window.
 ///
 /// `Disagrees`, `TooLarge` and `Bad`, the first that stands; `NoMemory` where a window could not grow, and so never in a room that
-/// fits the hook.
+/// fits the hook. No window shrinks: once a run had windows, its room fits the hook from then on.
 pub fn decide<'a>(
     room: &'a mut Room,
     hook: &Verified,
@@ -85,6 +87,7 @@ pub fn decide<'a>(
 ) -> Result<Verdict<'a>, RunFault>
     ensures decision { MatchResult result (λ verdict. IsDecision hook.now (option_copied new.entry) siblings.now table.now.listed (Ok (meaning_of verdict))) (λ fault. IsDecision hook.now (option_copied new.entry) siblings.now table.now.listed (Err fault)) }
     ensures enough { HasRoomFor room.old hook.now → IfErr result (λ fault. fault ≢ RunFault.NoMemory) }
+    ensures* left { sem 𝓛 (LeavesRoom hook.now result room.entry) }
 {
     if !table.agrees(hook.sigs()) {
         return Err(RunFault::Disagrees);
@@ -92,11 +95,15 @@ pub fn decide<'a>(
     if room.fit(hook).is_err() {
         return Err(RunFault::NoMemory);
     }
-    let image = hook.image();
-    let input = &mut room.input[..image.in_len as usize];
-    let output = &mut room.output[..image.out_len as usize];
-    output.fill(0);
-    rule(hook, table, new, siblings, input, output)
+    let answer = answer_of(
+        hook,
+        table,
+        new,
+        siblings,
+        &mut room.input,
+        &mut room.output,
+    )?;
+    verdict_in(hook, answer, siblings.len(), &room.output)
 }
 
 /// Grows a buffer to so many bytes, if it is shorter.
@@ -111,27 +118,50 @@ fn grow(buffer: &mut Vec<u8>, len: usize) -> Result<(), AllocError>
     Ok(())
 }
 
-/// Runs a hook in windows of its lengths.
-fn rule<'a>(
+/// Runs a hook in the fronts of two windows that are no shorter than its own, and answers R0.
+fn answer_of(
     hook: &Verified,
     table: &Table,
     new: Option<&Content>,
     siblings: &[Sibling],
     input: &mut [u8],
-    output: &'a mut [u8],
-) -> Result<Verdict<'a>, RunFault>
+    output: &mut [u8],
+) -> Result<u64, RunFault>
     requires agrees { AgreesWith table.now.listed hook.now.sigs }
-    requires input { length input.old ≡ hook.now.in_len }
-    requires output { output.old ≡ replicate hook.now.out_len 0 }
-    ensures ruling { MatchResult result (λ verdict. IsRuling hook.now (option_copied new.entry) siblings.now (Ok (meaning_of verdict))) (λ fault. IsRuling hook.now (option_copied new.entry) siblings.now (Err fault)) }
-    ensures run { IfErr result (λ fault. fault ≢ RunFault.NoMemory) }
+    requires input { hook.now.in_len ≤ length input.old }
+    requires output { hook.now.out_len ≤ length output.old }
+    ensures ran { IfOk result (λ answer. HasRoom hook.now (option_copied new.entry) siblings.now × IsRun hook.now (option_copied new.entry) siblings.now answer (take hook.now.out_len output.new)) }
+    ensures large { IfErr result (λ fault. (fault ≡ RunFault.TooLarge) × LacksRoom hook.now (option_copied new.entry) siblings.now) }
 {
-    let kind = hook.image().kind;
-    let Ok(used) = show(kind, new, siblings, input) else {
+    let image = hook.image();
+    let input = &mut input[..image.in_len as usize];
+    let output = &mut output[..image.out_len as usize];
+    let Ok(used) = show(image.kind, new, siblings, input) else {
         return Err(RunFault::TooLarge);
     };
-    let done = run(hook, table, input, used, output);
-    match read_answer(kind, done.answer, siblings.len() as u32, output) {
+    output.fill(0);
+    Ok(run(hook, table, input, used, output).answer)
+}
+
+/// What a run means that answered so, on so many siblings, with the front of this window as its output.
+fn verdict_in<'a>(
+    hook: &Verified,
+    answer: u64,
+    count: usize,
+    output: &'a [u8],
+) -> Result<Verdict<'a>, RunFault>
+    requires few { count ≤ 64 }
+    requires output { hook.now.out_len ≤ length output.now }
+    ensures verdict { let told = told_of (verdict_of hook.now.kind answer count (take hook.now.out_len output.now)) in MatchResult result (λ verdict. told ≡ Ok (meaning_of verdict)) (λ fault. told ≡ Err fault) }
+    ensures bad { IfErr result (λ fault. fault ≢ RunFault.NoMemory) }
+{
+    let image = hook.image();
+    match read_answer(
+        image.kind,
+        answer,
+        count as u32,
+        &output[..image.out_len as usize],
+    ) {
         Ok(verdict) => Ok(verdict),
         Err(bad) => Err(RunFault::Bad(bad)),
     }

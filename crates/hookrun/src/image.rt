@@ -1,9 +1,12 @@
 //! A hook from the bytes of its image.
 
-ghost use Rattle.std.specs.Prelude.{◌≡◌, MatchResult, Ok, Err};
+ghost use Rattle.std.specs.Prelude.{◌≡◌, ◌≢◌, IfErr, MatchResult, Ok, Err};
 ghost use Rattle.std.specs.Option.{option_copied};
+ghost use Rattle.verifier.specs.Program.{Program};
 ghost use Rattle.abi.specs.Verdicts.{meaning_of};
+ghost use Rattle.admission.specs.Admissions.{IsLetIn};
 ghost use Rattle.hookrun.specs.Images.{Decides, IsUndecided};
+ghost use Rattle.hookrun.specs.Rooms.{HasRoomFor};
 
 use crate::deciding::{Room, RunFault, decide};
 use abi::Verdict;
@@ -24,7 +27,8 @@ pub enum Undecided {
 
 /// Reads an image, verifies it for the table, and runs it on the siblings of a key, and on a new content where there is one.
 ///
-/// An answer is the verdict of a run of the image's program on the layout of the contents, to its exit.
+/// An answer is the verdict of a run of the image's program on the layout of the contents, to its exit. In a room that
+/// fits the program the run wants no memory.
 pub fn decide_image<'a>(
     alloc: Global,
     room: &'a mut Room,
@@ -34,7 +38,8 @@ pub fn decide_image<'a>(
     new: Option<&Content>,
     siblings: &[Sibling],
 ) -> Result<Verdict<'a>, Undecided>
-    ensures { MatchResult result (λ verdict. Decides bytes.now kind table.now.listed (option_copied new.entry) siblings.now (Ok (meaning_of verdict))) (IsUndecided bytes.now kind table.now.listed (option_copied new.entry) siblings.now) }
+    ensures decision { MatchResult result (λ verdict. Decides bytes.now kind table.now.listed (option_copied new.entry) siblings.now (Ok (meaning_of verdict))) (IsUndecided bytes.now kind table.now.listed (option_copied new.entry) siblings.now) }
+    ensures enough { ((hook : Program) → IsLetIn bytes.now table.now.listed hook → HasRoomFor room.old hook) → IfErr result (λ undecided. undecided ≢ Undecided.Fault RunFault.NoMemory) }
 {
     let hook = match admit_hook(alloc, bytes, kind, &table.listed) {
         Ok(hook) => hook,

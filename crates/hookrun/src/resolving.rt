@@ -1,9 +1,10 @@
 //! What a resolver makes of the siblings of a key, and the content that is then put.
 
-ghost use Rattle.std.specs.Prelude.{◌≡◌, IfOk, MatchResult, Ok, Err};
+ghost use Rattle.std.specs.Prelude.{◌≡◌, IfErr, IfOk, MatchResult, OnErr, OnOk, Ok, Err};
 ghost use Rattle.std.specs.Option.{option_copied};
 ghost use Rattle.abi.specs.Verdicts.{meaning_of};
-ghost use Rattle.hookrun.specs.Resolving.{IsResolution, IsUnresolved, chosen_by, resolution_of};
+ghost use Rattle.hookrun.specs.Resolving.{IsResolution, IsUnresolved, IsWritten, WritesValue, chosen_by, resolution_of};
+ghost use Rattle.hookrun.specs.Rooms.{HasRoomFor, IsKept};
 
 use crate::deciding::{Room, RunFault, decide};
 use abi::{BadAnswer, Verdict, octet_stream};
@@ -61,7 +62,8 @@ impl Resolution {
 /// Runs a hook as the resolver of siblings. A hook of another kind, whose verdicts are others, keeps them.
 ///
 /// `Disagrees` where the table lacks a helper of the hook; `NoMemory` where a window could not grow, or the value that the hook
-/// wrote could not be kept. Nothing is copied but that value.
+/// wrote could not be kept, and so in a room that fits the hook only where it wrote one. Nothing is copied but that value. No
+/// window shrinks, and the room of a resolution fits the hook from then on.
 pub fn resolve(
     alloc: Global,
     room: &mut Room,
@@ -69,7 +71,10 @@ pub fn resolve(
     table: &Table,
     siblings: &[Sibling],
 ) -> Result<Resolution, Unresolved>
-    ensures { MatchResult result (IsResolution table.now.listed hook.now siblings.now) (IsUnresolved table.now.listed hook.now siblings.now) }
+    ensures resolution { MatchResult result (IsResolution table.now.listed hook.now siblings.now) (IsUnresolved table.now.listed hook.now siblings.now) }
+    ensures enough { HasRoomFor room.old hook.now → IfErr result (λ unresolved. unresolved ≡ Unresolved.NoMemory → WritesValue table.now.listed hook.now siblings.now) }
+    ensures kept { IsKept room.old room.new }
+    ensures fits { OnOk result (HasRoomFor room.new hook.now) }
 {
     match decide(room, hook, table, None, siblings) {
         Ok(verdict) => match resolved(alloc, verdict) {
@@ -82,7 +87,8 @@ pub fn resolve(
 
 /// What a verdict comes to. Refused for want of memory alone.
 fn resolved(alloc: Global, verdict: Verdict) -> Result<Resolution, AllocError>
-    ensures { IfOk result (λ resolution. resolution_of (Ok (meaning_of verdict.entry)) ≡ Ok resolution) }
+    ensures resolution { IfOk result (λ resolution. resolution_of (Ok (meaning_of verdict.entry)) ≡ Ok resolution) }
+    ensures wrote { OnErr result (IsWritten (meaning_of verdict.entry)) }
 {
     match verdict {
         Verdict::Take(place) => Ok(Resolution::Take(place)),
