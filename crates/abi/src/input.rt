@@ -2,8 +2,10 @@
 
 ghost use Rattle.std.specs.Prelude.{◌≡◌, ◌≤◌, ◌<◌, ◌+◌, ◌-◌, ◌*◌, ◌^◌, ◌⊎◌, ◌↔◌, ◌++◌, [], length, take, replicate, IsErr, IfOk, OnOk, OnErr};
 ghost use Rattle.std.specs.Option.{SomeIff, option_copied};
+ghost use Rattle.abi.specs.Writing.{Writes};
 ghost use Rattle.abi.specs.Input.{contents_shown, flag_of, head, layout, most_siblings, new_shown, row, rows, shown, used_by, values, window_of};
 
+use crate::writer::Writer;
 use bpfimage::ImageKind;
 use dvv::Dot;
 use object::{Content, Sibling};
@@ -50,8 +52,9 @@ pub fn fill_input(
     let Some(used) = used_length(new, siblings, window.len()) else {
         return Err(TooLarge);
     };
-    write_used(kind, new, siblings, used as u32, window);
-    window[used..].fill(0);
+    let mut writer = Writer::new(window);
+    write_used(&mut writer, kind, new, siblings, used as u32);
+    writer.zeros();
     Ok(used as u32)
 }
 
@@ -88,105 +91,84 @@ fn room_after(siblings: &[Sibling], room: usize) -> Option<usize>
     Some(left)
 }
 
-/// Writes the used bytes of an input to the window's front.
+/// Writes the used bytes of an input.
 fn write_used(
+    writer: &mut Writer,
     kind: ImageKind,
     new: Option<&Content>,
     siblings: &[Sibling],
     used: u32,
-    window: &mut [u8],
 )
     requires few { length siblings.now ≤ most_siblings }
     requires used { used ≡ used_by (contents_shown (option_copied new) siblings.now) }
-    requires room { used ≤ length window.old }
-    ensures { take used window.new ≡ layout kind (contents_shown (option_copied new.entry) siblings.now) }
+    requires room { writer.old.at + used ≤ length writer.old.window.now }
+    ensures { Writes writer.old writer.new (layout kind (contents_shown (option_copied new.entry) siblings.now)) }
 {
     let count = row_count(new, siblings) as u32;
     let first = HEAD_LEN as u32 + ROW_LEN as u32 * count;
-    let at = write_head(window, kind, count, used);
-    let at = write_new_row(window, at, first, new);
-    let at = write_rows(window, at, first + new_shown(new).len() as u32, siblings);
-    let at = write(window, at, new_shown(new));
-    write_values(window, at, siblings);
+    write_head(writer, kind, count, used);
+    write_new_row(writer, first, new);
+    write_rows(writer, first + new_shown(new).len() as u32, siblings);
+    writer.bytes(new_shown(new));
+    write_values(writer, siblings);
 }
 
-/// Writes the head to the window's front.
-fn write_head(window: &mut [u8], kind: ImageKind, count: u32, used: u32) -> usize
-    requires room { HEAD_LEN ≤ length window.old }
-    ensures end { result ≡ HEAD_LEN }
-    ensures front { take result window.new ≡ head kind count used }
+/// Writes a head.
+fn write_head(writer: &mut Writer, kind: ImageKind, count: u32, used: u32)
+    requires { writer.old.at + HEAD_LEN ≤ length writer.old.window.now }
+    ensures { Writes writer.old writer.new (head kind count used) }
 {
-    let at = write(window, 0, &u32::from(kind.number()).to_le_bytes());
-    let at = write(window, at, &count.to_le_bytes());
-    let at = write(window, at, &used.to_le_bytes());
-    write(window, at, &[0; 4])
+    writer.word(u32::from(kind.number()));
+    writer.word(count);
+    writer.word(used);
+    writer.word(0);
 }
 
 /// Writes the row of the new content, where there is one.
-fn write_new_row(window: &mut [u8], at: usize, offset: u32, new: Option<&Content>) -> usize
-    requires room { at + ROW_LEN * length (contents_shown (option_copied new) []) ≤ length window.old }
+fn write_new_row(writer: &mut Writer, offset: u32, new: Option<&Content>)
+    requires room { writer.old.at + ROW_LEN * length (contents_shown (option_copied new) []) ≤ length writer.old.window.now }
     requires short { length (new_shown (option_copied new)) < 2 ^ 32 }
-    ensures end { result ≡ at + ROW_LEN * length (contents_shown (option_copied new.entry) []) }
-    ensures front { take result window.new ≡ take at window.old ++ rows offset (contents_shown (option_copied new.entry) []) }
+    ensures { Writes writer.old writer.new (rows offset (contents_shown (option_copied new.entry) [])) }
 {
-    match new {
-        Some(content) => write_row(window, at, offset, NO_DOT, content),
-        None => at,
+    if let Some(content) = new {
+        write_row(writer, offset, NO_DOT, content);
     }
 }
+
 /// Writes one row.
-fn write_row(window: &mut [u8], at: usize, offset: u32, dot: Dot, content: &Content) -> usize
-    requires room { at + ROW_LEN ≤ length window.old }
+fn write_row(writer: &mut Writer, offset: u32, dot: Dot, content: &Content)
+    requires room { writer.old.at + ROW_LEN ≤ length writer.old.window.now }
     requires short { length (shown content.now) < 2 ^ 32 }
-    ensures end { result ≡ at + ROW_LEN }
-    ensures front { take result window.new ≡ take at window.old ++ row offset (record { dot = dot; content = content.now }) }
+    ensures { Writes writer.old writer.new (row offset (record { dot = dot; content = content.now })) }
 {
-    let at = write(window, at, &dot.vnode.to_le_bytes());
-    let at = write(window, at, &flag(content).to_le_bytes());
-    let at = write(window, at, &dot.n.to_le_bytes());
-    let at = write(window, at, &offset.to_le_bytes());
-    let len = shown(content).len() as u32;
-    write(window, at, &len.to_le_bytes())
+    writer.word(dot.vnode);
+    writer.word(flag(content));
+    writer.long(dot.n);
+    writer.word(offset);
+    writer.word(shown(content).len() as u32);
 }
 
 /// Writes the rows of siblings whose values stand one after another from an offset on.
-fn write_rows(window: &mut [u8], start: usize, first: u32, siblings: &[Sibling]) -> usize
-    requires room { start + ROW_LEN * length siblings.now ≤ length window.old }
+fn write_rows(writer: &mut Writer, first: u32, siblings: &[Sibling])
+    requires room { writer.old.at + ROW_LEN * length siblings.now ≤ length writer.old.window.now }
     requires short { first + length (values siblings.now) < 2 ^ 32 }
-    ensures end { result ≡ start + ROW_LEN * length siblings.now }
-    ensures front { take result window.new ≡ take start window.old ++ rows first siblings.now }
+    ensures { Writes writer.old writer.new (rows first siblings.now) }
 {
-    let mut at = start;
     let mut offset = first;
     for sibling in siblings {
-        at = write_row(window, at, offset, sibling.dot, &sibling.content);
+        write_row(writer, offset, sibling.dot, &sibling.content);
         offset += shown(&sibling.content).len() as u32;
     }
-    at
 }
 
 /// Writes the values of siblings.
-fn write_values(window: &mut [u8], start: usize, siblings: &[Sibling]) -> usize
-    requires { start + length (values siblings.now) ≤ length window.old }
-    ensures end { result ≡ start + length (values siblings.now) }
-    ensures front { take result window.new ≡ take start window.old ++ values siblings.now }
+fn write_values(writer: &mut Writer, siblings: &[Sibling])
+    requires { writer.old.at + length (values siblings.now) ≤ length writer.old.window.now }
+    ensures { Writes writer.old writer.new (values siblings.now) }
 {
-    let mut at = start;
     for sibling in siblings {
-        at = write(window, at, shown(&sibling.content));
+        writer.bytes(shown(&sibling.content));
     }
-    at
-}
-
-/// Writes bytes at a place, and answers the place after them.
-fn write(window: &mut [u8], at: usize, bytes: &[u8]) -> usize
-    requires { at + length bytes.now ≤ length window.old }
-    ensures end { result ≡ at + length bytes.now }
-    ensures front { take result window.new ≡ take at window.old ++ bytes.now }
-{
-    let end = at + bytes.len();
-    window[at..end].copy_from_slice(bytes);
-    end
 }
 
 /// The bytes that a content shows: a tombstone none.

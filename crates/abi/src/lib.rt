@@ -9,6 +9,7 @@ mod answer;
 mod input;
 #[cfg(test)]
 mod tests;
+mod writer;
 mod written;
 
 pub use answer::{BadAnswer, Verdict, read_answer};
