@@ -24,6 +24,22 @@ pub fn read(alloc: Global, text: &str) -> Result<Clock, TokenFault>
     ensures canonical { IfOk result (λ clock. HasToken clock × (text.now ≡ token clock)) }
     // What is spelled so is read, unless memory runs out.
     ensures reads { (clock : List Entry) → HasToken clock → text.now ≡ token clock → Gives result (Ok clock) }
+    // What is no base64 is no bytes' base64.
+    ensures base64 { result ≡ Err TokenFault.NotBase64 → (bytes : List ℕ) → IsBytes bytes → text.now ≢ encode_of standard bytes }
+{
+    read_bytes(alloc, text.as_bytes())
+}
+
+/// The same of bytes that need not be text, as those of a header's value: bytes that are none are
+/// [`TokenFault::NotBase64`].
+pub fn read_bytes(alloc: Global, text: &[u8]) -> Result<Clock, TokenFault>
+    // Which answer it is.
+    ensures exact { Gives result (read_text text.now) }
+    // What is read is spelled so.
+    ensures canonical { IfOk result (λ clock. HasToken clock × (text.now ≡ token clock)) }
+    // What is spelled so is read, unless memory runs out.
+    ensures reads { (clock : List Entry) → HasToken clock → text.now ≡ token clock → Gives result (Ok clock) }
+    // What is no base64 is no bytes' base64.
     ensures base64 { result ≡ Err TokenFault.NotBase64 → (bytes : List ℕ) → IsBytes bytes → text.now ≢ encode_of standard bytes }
 {
     match decoded(alloc, text) {
@@ -33,14 +49,14 @@ pub fn read(alloc: Global, text: &str) -> Result<Clock, TokenFault>
 }
 
 // The bytes that the text spells in base64.
-fn decoded(alloc: Global, text: &str) -> Result<Vec<u8>, TokenFault>
+fn decoded(alloc: Global, text: &[u8]) -> Result<Vec<u8>, TokenFault>
     ensures ok { IfOk result (λ bytes. decode_of standard text.now ≡ Ok bytes.items) }
     ensures bytes { IfOk result (λ bytes. IsBytes bytes.items) }
     ensures text { IfOk result (λ bytes. text.now ≡ encode_of standard bytes.items) }
     ensures err { IfErr result (λ fault. Fails fault (read_text text.now)) }
     ensures base64 { result ≡ Err TokenFault.NotBase64 → (bytes : List ℕ) → IsBytes bytes → text.now ≢ encode_of standard bytes }
 {
-    match STANDARD.decode(alloc, text.as_bytes()) {
+    match STANDARD.decode(alloc, text) {
         Ok(bytes) => Ok(bytes),
         Err(DecodeAllocError::OutOfMemory) => Err(TokenFault::NoMemory),
         Err(DecodeAllocError::DecodeError(_)) => Err(TokenFault::NotBase64),
