@@ -1,0 +1,220 @@
+//! What a whole request asks for.
+
+ghost use Rattle.std.specs.Prelude.{◌≡◌, ◌≤◌, ◌<◌, ◌++◌, length, All, IfOk, IfErr, Some, ℕ, codes};
+ghost use Rattle.object.specs.declared.content.Key.{Key as KeyView};
+ghost use Rattle.httpask.specs.declared.route.Route.TheVariants as route;
+ghost use Rattle.httpask.specs.Target as target;
+ghost use Rattle.httpask.specs.Fields as fields;
+ghost use Rattle.httpask.specs.Target.{texts_of};
+ghost use Rattle.httpask.specs.Ask as spec;
+ghost use Rattle.httpask.specs.Ask.{asked_of, asked_at, asked_key, is_method, context_of};
+ghost use Rattle.httpread.specs.Views.{request, quorums, FitsAsked, key_at, content_of};
+ghost use Rattle.httpask.specs.Fits.{FitsAsk};
+ghost use Rattle.object.specs.Limits.{IsKey};
+ghost use Rattle.token.specs.Token.{Gives};
+
+use crate::fields::{has_element, value_of};
+use crate::names::{has_names, is_hook_name, is_name, name_at};
+use crate::query::{Asked, asked_for, quorums_of};
+use crate::routes::Routes;
+use crate::whole::Request;
+use dvv::Clock;
+use httpask::{Ask, Call, Form, Refusal, Route};
+use httpprops::changes_in;
+use object::{Bytes, Content, Key, MAX_BUCKET, MAX_MEDIA};
+use std::alloc::{AllocError, Global};
+use token::TokenFault;
+
+impl Request<'_> {
+    /// What the request asks for, where each key has so many copies.
+    pub(crate) fn ask(self, alloc: Global, routes: &Routes, copies: u32) -> Result<Ask, AllocError>
+        requires some { 1 ≤ copies }
+        requires few { copies ≤ 3 }
+        ensures asked { IfOk result (λ ask. ask ≡ asked_of copies (request self.entry)) }
+        ensures fits { IfOk result (FitsAsk copies) }
+    {
+        match routes.route_of(self.path) {
+            None => Ok(Ask::Refused(Refusal::NoRoute)),
+            Some(Route::Ping) => Ok(self.ask_of_ping()),
+            Some(Route::Key) => self.ask_of_key(alloc, copies),
+            Some(Route::Hook) => self.ask_of_hook(alloc),
+            Some(Route::Props) => self.ask_of_bucket(alloc),
+        }
+    }
+
+    // Whether its method is this one.
+    fn is(self, method: &[u8]) -> bool
+        ensures { result ≡ is_method (request self.entry) method.now }
+    {
+        self.method == method
+    }
+
+    fn ask_of_ping(self) -> Ask
+        ensures asked { (copies : ℕ) → result ≡ asked_at copies (Some route.Ping) (request self.entry) }
+        ensures fits { (copies : ℕ) → FitsAsk copies result }
+    {
+        if self.is(b"GET") {
+            Ask::Ping
+        } else {
+            Ask::Refused(Refusal::Method)
+        }
+    }
+
+    fn ask_of_key(self, alloc: Global, copies: u32) -> Result<Ask, AllocError>
+        requires some { 1 ≤ copies }
+        requires few { copies ≤ 3 }
+        ensures asked { IfOk result (λ ask. ask ≡ asked_at copies (Some route.Key) (request self.entry)) }
+        ensures fits { IfOk result (FitsAsk copies) }
+    {
+        if !(self.is(b"GET") || self.is(b"PUT") || self.is(b"POST") || self.is(b"DELETE")) {
+            return Ok(Ask::Refused(Refusal::Method));
+        }
+        let Some(asked) = quorums_of(alloc, self.query.as_bytes(), copies)? else {
+            return Ok(Ask::Refused(Refusal::Query));
+        };
+        let key = self.key(alloc)?;
+        if !has_names(&key) {
+            return Ok(Ask::Refused(Refusal::BadName));
+        }
+        self.call_of_key(alloc, key, asked)
+    }
+
+    // The key that the path names.
+    fn key(self, alloc: Global) -> Result<Key, AllocError>
+        ensures { IfOk result (λ key. key ≡ key_at self.entry.path.now) }
+    {
+        Ok(Key {
+            bucket: name_at(alloc, self.path, 2)?,
+            key: name_at(alloc, self.path, 4)?,
+        })
+    }
+
+    // What is asked of the key, where its names and the query are in order.
+    fn call_of_key(self, alloc: Global, key: Key, asked: Asked) -> Result<Ask, AllocError>
+        ensures asked { IfOk result (λ ask. ask ≡ asked_key key (quorums asked) (request self.entry)) }
+        ensures fits { (copies : ℕ) → IsKey key → FitsAsked copies asked → IfOk result (FitsAsk copies) }
+    {
+        if self.is(b"GET") {
+            let form = self.form(alloc)?;
+            return Ok(Ask::Call(
+                Call::Get {
+                    key,
+                    r: asked.read,
+                    at: asked.at,
+                },
+                form,
+            ));
+        }
+        let seen = match self.context(alloc) {
+            Ok(seen) => seen,
+            Err(TokenFault::NoMemory) => return Err(AllocError),
+            Err(fault) => return Ok(Ask::Refused(Refusal::Token(fault))),
+        };
+        match self.content(alloc)? {
+            Some(content) => Ok(Ask::Call(
+                Call::Put {
+                    key,
+                    seen,
+                    content,
+                    w: asked.write,
+                    at: asked.at,
+                },
+                Form::Text,
+            )),
+            None => Ok(Ask::Refused(Refusal::BadType)),
+        }
+    }
+
+    // How a read is shown.
+    fn form(self, alloc: Global) -> Result<Form, AllocError>
+        ensures { IfOk result (λ form. form ≡ spec.form_of (target.asked_for (codes "vtag") (texts_of self.entry.query.now)) (fields.has_element (codes "accept") (codes "multipart/mixed") (request self.entry).pairs)) }
+    {
+        match asked_for(alloc, self.query.as_bytes(), "vtag")? {
+            Some(tag) => Ok(Form::One(Bytes::from_slice(alloc, tag.as_bytes())?)),
+            None => {
+                let mixed = has_element(self.bytes, self.lines, b"accept", b"multipart/mixed");
+                if mixed {
+                    Ok(Form::Parts)
+                } else {
+                    Ok(Form::Text)
+                }
+            }
+        }
+    }
+
+    // What the writer had seen.
+    fn context(self, alloc: Global) -> Result<Clock, TokenFault>
+        ensures { Gives result (context_of (request self.entry).pairs) }
+    {
+        match value_of(self.bytes, self.lines, b"x-riak-vclock") {
+            Some(text) => token::read_bytes(alloc, text),
+            None => Ok(Clock::new(alloc)),
+        }
+    }
+
+    // What is written; nothing where its media type is empty or too long.
+    fn content(self, alloc: Global) -> Result<Option<Content>, AllocError>
+        ensures { IfOk result (λ content. content ≡ content_of (request self.entry)) }
+    {
+        if self.is(b"DELETE") {
+            return Ok(Some(Content::Tombstone));
+        }
+        let media = value_of(self.bytes, self.lines, b"content-type").unwrap_or(
+            b"application/octet-stream",
+        );
+        if !is_name(MAX_MEDIA, media) {
+            return Ok(None);
+        }
+        Ok(Some(Content::Value {
+            media: Bytes::from_slice(alloc, media)?,
+            bytes: Bytes::from_slice(alloc, self.body)?,
+        }))
+    }
+
+    fn ask_of_hook(self, alloc: Global) -> Result<Ask, AllocError>
+        ensures asked { (copies : ℕ) → IfOk result (λ ask. ask ≡ asked_at copies (Some route.Hook) (request self.entry)) }
+        ensures fits { (copies : ℕ) → IfOk result (FitsAsk copies) }
+    {
+        let put = self.is(b"PUT");
+        if !(put || self.is(b"DELETE")) {
+            return Ok(Ask::Refused(Refusal::Method));
+        }
+        let name = name_at(alloc, self.path, 2)?;
+        if !is_hook_name(name.as_slice()) {
+            return Ok(Ask::Refused(Refusal::BadName));
+        }
+        if put {
+            let image = Bytes::from_slice(alloc, self.body)?;
+            return Ok(Ask::Call(Call::Install { name, image }, Form::Text));
+        }
+        Ok(Ask::Call(Call::Remove { name }, Form::Text))
+    }
+
+    fn ask_of_bucket(self, alloc: Global) -> Result<Ask, AllocError>
+        ensures asked { (copies : ℕ) → IfOk result (λ ask. ask ≡ asked_at copies (Some route.Props) (request self.entry)) }
+        ensures fits { (copies : ℕ) → IfOk result (FitsAsk copies) }
+    {
+        let get = self.is(b"GET");
+        if !(get || self.is(b"PUT")) {
+            return Ok(Ask::Refused(Refusal::Method));
+        }
+        let bucket = name_at(alloc, self.path, 2)?;
+        if !is_name(MAX_BUCKET, bucket.as_slice()) {
+            return Ok(Ask::Refused(Refusal::BadName));
+        }
+        if get {
+            return Ok(Ask::Call(Call::ReadProps { bucket }, Form::Text));
+        }
+        match changes_in(alloc, self.body)? {
+            Some((precommit, resolver)) => Ok(Ask::Call(
+                Call::SetProps {
+                    bucket,
+                    precommit,
+                    resolver,
+                },
+                Form::Text,
+            )),
+            None => Ok(Ask::Refused(Refusal::BadProps)),
+        }
+    }
+}

@@ -1,0 +1,63 @@
+//! The names in a path.
+
+ghost use Rattle.std.specs.Prelude.{◌≡◌, ◌==◌, ◌&&◌, ◌||◌, true, slice_get, IfOk};
+ghost use Rattle.std.specs.List.{slice_split, list_all};
+ghost use Rattle.std.specs.Char.{is_ascii_alphanumeric};
+ghost use Rattle.std.specs.Option.{option_copied};
+ghost use Rattle.object.specs.Limits.{IsKey, longest_bucket, longest_key};
+ghost use Rattle.httpask.specs.Target as spec;
+
+use httpask::MAX_HOOK_NAME;
+use object::{Bytes, Key, MAX_BUCKET, MAX_KEY};
+use percent_encoding::percent_decode;
+use std::alloc::{AllocError, Global};
+
+/// Whether the name has 1 to `most` bytes.
+pub(crate) fn is_name(most: usize, name: &[u8]) -> bool
+    ensures { result ≡ spec.is_name most name.now }
+{
+    1 <= name.len() && name.len() <= most
+}
+
+/// Whether the bucket and the key in it are within their limits.
+pub(crate) fn has_names(key: &Key) -> bool
+    ensures names { result ≡ spec.is_name longest_bucket key.now.bucket && spec.is_name longest_key key.now.key }
+    ensures fits { result ≡ true → IsKey key.now }
+{
+    is_name(MAX_BUCKET, key.bucket.as_slice()) && is_name(MAX_KEY, key.key.as_slice())
+}
+
+/// Whether the name is a hook's: 1 to 64 letters, digits, `_` and `-`.
+pub(crate) fn is_hook_name(name: &[u8]) -> bool
+    ensures { result ≡ spec.is_hook_name name.now }
+{
+    is_name(MAX_HOOK_NAME, name) && are_hook_letters(name)
+}
+
+fn are_hook_letters(name: &[u8]) -> bool
+    ensures { result ≡ list_all (λ b. is_ascii_alphanumeric b || (b == 95) || (b == 45)) name.now }
+{
+    name.iter().all(|b| is_hook_letter(*b))
+}
+
+fn is_hook_letter(b: u8) -> bool
+    ensures { result ≡ is_ascii_alphanumeric b || (b == 95) || (b == 45) }
+{
+    b.is_ascii_alphanumeric() || b == b'_' || b == b'-'
+}
+
+/// A piece of a path, between its slashes, with its escapes read.
+pub(crate) fn name_at(alloc: Global, path: &str, i: usize) -> Result<Bytes, AllocError>
+    ensures { IfOk result (λ name. name ≡ spec.name_at i path.now) }
+{
+    let piece = piece_at(path, i).unwrap_or("");
+    let name = percent_decode(piece.as_bytes()).into_cow(alloc)?;
+    Bytes::from_slice(alloc, name.as_slice())
+}
+
+// The i-th piece of a path between its slashes.
+fn piece_at(path: &str, i: usize) -> Option<&str>
+    ensures { option_copied result ≡ slice_get (slice_split (λ b. b == 47) path.now) i }
+{
+    path.split('/').nth(i)
+}

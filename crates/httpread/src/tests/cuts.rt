@@ -1,0 +1,56 @@
+//! Requests that are cut after each byte, requests behind which others come, and strange bytes in each place.
+
+use super::calls::{REQUESTS, words};
+use super::{Outcome, told};
+use crate::Routes;
+use httpask::Refusal;
+use std::test::Fail;
+
+/// Until a request is whole nothing is told, and then the same whatever follows.
+#[test]
+fn cut_after_each_byte(rt: HostRuntime) -> Result<(), Fail> {
+    let routes = Routes::new(rt.alloc())?;
+    for (request, want) in REQUESTS {
+        let bytes = request.as_bytes();
+        for len in 0..bytes.len() {
+            let got = words(rt.alloc(), &routes, &bytes[..len])?;
+            assert_eq!(rt; got.as_str(), "more", "{len} bytes of {request}");
+        }
+        let followed = format!(in rt.alloc(); "{request}\0GET")?;
+        let got = words(rt.alloc(), &routes, followed.as_bytes())?;
+        assert_eq!(rt; got.as_str(), want, "{request}");
+    }
+    Ok(())
+}
+
+const REQUEST: &str = "PUT /buckets/b/keys/k?x=y HTTP/1.1\r\nX: y\r\nContent-Length: 1\r\n\r\na";
+
+/// What the request comes to with a byte that is no text in one place.
+fn with_high_byte(place: usize) -> Outcome {
+    match place {
+        // the value of a field that is passed over, whose line a line feed alone ends too
+        38..=40 => Outcome::Asked,
+        // the length, likewise
+        57..=59 => Outcome::Broken(Refusal::BadLength),
+        // the body
+        63 => Outcome::Asked,
+        _ => Outcome::Broken(Refusal::BadHead),
+    }
+}
+
+#[test]
+fn strange_bytes(rt: HostRuntime) -> Result<(), Fail> {
+    for place in 0..REQUEST.len() {
+        let mut bytes = REQUEST.as_bytes().to_vec(rt.alloc())?;
+        bytes[place] = 0xff;
+        assert_eq!(rt; told(rt.alloc(), &bytes)?, with_high_byte(place), "{place}");
+        bytes[place] = 0;
+        let want = if place == 63 {
+            Outcome::Asked
+        } else {
+            Outcome::Broken(Refusal::BadHead)
+        };
+        assert_eq!(rt; told(rt.alloc(), &bytes)?, want, "{place}");
+    }
+    Ok(())
+}
