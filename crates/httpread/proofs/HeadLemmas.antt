@@ -1,13 +1,13 @@
 -- On the head of the first request of some bytes.
-use Rattle.std.proofs.Common.{◌≡◌, ℕ, ◌+◌, ◌<◌, ◌≤◌, ◌⊎◌, inl, inr, List, [], ◌++◌, length, take, drop, map, sym, ap, subst, ◌∙◌, refl, append_assoc, arith, length-append, rules}
-use Rattle.httparse.specs.Grammar.{RequestHead, print_request, ReadsRequest, HasNoRequest, NeverHasRequest, MayBecomeRequest}
+use Rattle.std.proofs.Common.{◌≡◌, ℕ, ◌<◌, ◌≤◌, inl, inr, List, ◌++◌, length, take, drop, sym, ap, subst, ◌∙◌, append_assoc, arith, length-append}
+use Rattle.httparse.specs.Grammar.{RequestHead, print_request, ReadsRequest, HasNoRequest, NeverHasRequest}
 use Rattle.httparse.specs.Spans.{RequestOverflows, RequestExceeds, IsRequestAt, IsRequestWithin, header_bytes, name_and_value}
 use Rattle.httparse.specs.declared.spans.HeaderSpan.{HeaderSpan}
 use Rattle.httparse.specs.declared.spans.RequestSpans.{RequestSpans}
 use Rattle.httparse.proofs.GrammarLemmas.{request_unique, ReadsRequest-append}
 use Rattle.std.proofs.lemmas.List.{take-append-le, take-append-drop, length-map, length-take}
 use Rattle.std.proofs.Math.Seq.{take-append_seam}
-use Rattle.httpask.specs.Head.{BeginsHead, HasNoHead, IsBadHead, IsHeadUnfinished}
+use Rattle.httpask.specs.Head.{BeginsHead, IsBadHead}
 use Rattle.httpask.specs.Limits.{longest_head, most_lines}
 
 pub never_is_bad : (buf : List ℕ) → NeverHasRequest buf → (more : List ℕ) → IsBadHead (buf ++ more)

@@ -1,5 +1,5 @@
 -- On the request at the front of some bytes.
-use Rattle.std.proofs.Common.{◌≡◌, ℕ, ◌+◌, ◌-◌, ◌<◌, ◌≤◌, Bool, true, false, List, [], ◌++◌, length, take, drop, map, sym, ap, subst, ◌∙◌, refl, arith, length-drop, None, Some, Option}
+use Rattle.std.proofs.Common.{◌≡◌, ℕ, ◌+◌, ◌<◌, ◌≤◌, Bool, true, List, [], ◌++◌, length, take, drop, map, sym, ap, subst, ◌∙◌, refl, arith, length-drop, None, Some, Option}
 use Rattle.httparse.specs.Grammar.{RequestHead}
 use Rattle.httparse.specs.Spans.{IsRequestAt, header_bytes}
 use Rattle.httparse.specs.declared.spans.HeaderSpan.{HeaderSpan}
@@ -7,7 +7,7 @@ use Rattle.httparse.specs.declared.spans.RequestSpans.{RequestSpans}
 use Rattle.httpask.specs.Head.{BeginsHead, IsOriginTarget}
 use Rattle.httpask.specs.Fields.{Pair, fault_among, length_among, pairs_of, fields_fault, body_length, is_last}
 use Rattle.httpask.specs.Target.{path_at, query_at}
-use Rattle.httpask.specs.Ask.{Request, request, asked_of, asked_by, Asks, bad_target, bad_fields, IsUnfinished, in_body}
+use Rattle.httpask.specs.Ask.{Request, asked_of, asked_by, Asks, bad_target, bad_fields, IsUnfinished, in_body}
 use Rattle.httpask.specs.declared.ask.Ask.{Ask}
 use Rattle.httpask.specs.declared.ask.Ask.TheVariants.{Refused}
 use Rattle.httpask.specs.declared.ask.Refusal.{Refusal}

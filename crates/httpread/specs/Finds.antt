@@ -2,7 +2,6 @@
 use Rattle.std.specs.Prelude.{◌≡◌, ℕ, ◌<◌, ◌≤◌, Bool, false, if◌then◌else◌, List, [], ◌++◌, length, drop}
 use Rattle.httpask.specs.Ask.{Asks, IsUnfinished}
 use Rattle.httpask.specs.Fits.{FitsAsk}
-use Rattle.httpask.specs.declared.ask.Ask.{Ask}
 use Rattle.httpread.specs.declared.request.Asking.{Asking}
 use Rattle.httpread.specs.declared.request.Asking.TheVariants.{More, First}
 

@@ -1,4 +1,5 @@
 pub mod Numbers
 pub mod Views
 pub mod Heads
+pub mod Firsts
 pub mod Finds

@@ -1,5 +1,5 @@
 -- What contracts see of a request whose head and body are at hand.
-use Rattle.std.specs.Prelude.{ℕ, ◌≤◌, ◌<◌, if◌then◌else◌, List, [], map, codes, Option, Some, None, unwrap_or}
+use Rattle.std.specs.Prelude.{ℕ, ◌≤◌, ◌<◌, if◌then◌else◌, List, map, codes, Option, Some, None}
 use Rattle.httparse.specs.Spans.{header_bytes}
 use Rattle.object.specs.declared.content.Key.{Key}
 use Rattle.object.specs.declared.content.Content.{Content}

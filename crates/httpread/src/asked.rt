@@ -13,7 +13,7 @@ ghost use Rattle.httpask.specs.Fits.{FitsAsk};
 ghost use Rattle.object.specs.Limits.{IsKey};
 ghost use Rattle.token.specs.Token.{Gives};
 
-use crate::fields::{has_element, value_of};
+use crate::fields::has_element;
 use crate::names::{has_names, is_hook_name, is_name, name_at};
 use crate::query::{Asked, asked_for, quorums_of};
 use crate::routes::Routes;
@@ -132,8 +132,7 @@ impl Request<'_> {
         match asked_for(alloc, self.query.as_bytes(), "vtag")? {
             Some(tag) => Ok(Form::One(Bytes::from_slice(alloc, tag.as_bytes())?)),
             None => {
-                let mixed = has_element(self.bytes, self.lines, b"accept", b"multipart/mixed");
-                if mixed {
+                if has_element(self.fields.accept, b"multipart/mixed") {
                     Ok(Form::Parts)
                 } else {
                     Ok(Form::Text)
@@ -146,7 +145,7 @@ impl Request<'_> {
     fn context(self, alloc: Global) -> Result<Clock, TokenFault>
         ensures { Gives result (context_of (request self.entry).pairs) }
     {
-        match value_of(self.bytes, self.lines, b"x-riak-vclock") {
+        match self.fields.context {
             Some(text) => token::read_bytes(alloc, text),
             None => Ok(Clock::new(alloc)),
         }
@@ -159,9 +158,10 @@ impl Request<'_> {
         if self.is(b"DELETE") {
             return Ok(Some(Content::Tombstone));
         }
-        let media = value_of(self.bytes, self.lines, b"content-type").unwrap_or(
-            b"application/octet-stream",
-        );
+        let media = self
+            .fields
+            .content_type
+            .unwrap_or(b"application/octet-stream");
         if !is_name(MAX_MEDIA, media) {
             return Ok(None);
         }

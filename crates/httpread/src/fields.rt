@@ -9,32 +9,20 @@ ghost use Rattle.httparse.specs.Grammar.{trim_ows, skip_ows};
 ghost use Rattle.std.specs.Char.{is_ascii_digit};
 ghost use Rattle.httparse.specs.Spans.{header_bytes, IsHeaderWithin};
 ghost use Rattle.httpask.specs.Fields as spec;
+ghost use Rattle.httpread.specs.Firsts.{AreFirst, says};
 
+use crate::firsts::Fields;
 use crate::number::{is_number, small_number};
 use httparse::spans::HeaderSpan;
 use httpask::Refusal;
 
-// Whether the field has this name, whose case does not matter.
-fn is_named(bytes: &[u8], line: HeaderSpan, name: &[u8]) -> bool
+/// Whether the field has this name, whose case does not matter.
+pub(crate) fn is_named(bytes: &[u8], line: HeaderSpan, name: &[u8]) -> bool
     requires within { IsHeaderWithin (length bytes.now) line }
     requires lower { str_to_ascii_lowercase name.now ≡ name.now }
     ensures { result ≡ spec.is_named name.now (header_bytes bytes.now line) }
 {
     line.name.of(bytes).eq_ignore_ascii_case(name)
-}
-
-/// The value of the first field of this name.
-pub fn value_of<'b>(bytes: &'b [u8], lines: &[HeaderSpan], name: &[u8]) -> Option<&'b [u8]>
-    requires within { All (IsHeaderWithin (length bytes.now)) lines.now }
-    requires lower { str_to_ascii_lowercase name.now ≡ name.now }
-    ensures { option_copied result ≡ spec.value_of name.now (map (header_bytes bytes.now) lines.now) }
-{
-    for line in lines {
-        if is_named(bytes, *line, name) {
-            return Some(line.value.of(bytes));
-        }
-    }
-    None
 }
 
 // The digits of a number, without the zeros in front.
@@ -66,14 +54,12 @@ fn all_equal(bytes: &[u8], lines: &[HeaderSpan], name: &[u8], number: &[u8]) -> 
     true
 }
 
-/// Whether the first field of this name has this element, in lower case.
-pub fn has_element(bytes: &[u8], lines: &[HeaderSpan], name: &[u8], element: &[u8]) -> bool
-    requires within { All (IsHeaderWithin (length bytes.now)) lines.now }
-    requires lower { str_to_ascii_lowercase name.now ≡ name.now }
-    requires element_lower { str_to_ascii_lowercase element.now ≡ element.now }
-    ensures { result ≡ spec.has_element name.now element.now (map (header_bytes bytes.now) lines.now) }
+/// Whether the value of a field, where it stands, has this element, in lower case.
+pub(crate) fn has_element(value: Option<&[u8]>, element: &[u8]) -> bool
+    requires { str_to_ascii_lowercase element.now ≡ element.now }
+    ensures { result ≡ says element.now (option_copied value.entry) }
 {
-    match value_of(bytes, lines, name) {
+    match value {
         None => false,
         Some(value) => any_element(value, element),
     }
@@ -161,17 +147,19 @@ fn without_space_behind(text: &[u8]) -> &[u8]
 pub(crate) fn body_length(
     bytes: &[u8],
     lines: &[HeaderSpan],
+    fields: &Fields<'_>,
     method: &[u8],
 ) -> Result<usize, Refusal>
     requires within { All (IsHeaderWithin (length bytes.now)) lines.now }
+    requires first { AreFirst fields.now (map (header_bytes bytes.now) lines.now) }
     ensures fault { IfErr result (λ refusal. spec.fault_among method.now (map (header_bytes bytes.now) lines.now) ≡ Some refusal) }
     ensures ok { OnOk result (spec.fault_among method.now (map (header_bytes bytes.now) lines.now) ≡ None) }
     ensures length { IfOk result (λ len. len ≡ spec.length_among (map (header_bytes bytes.now) lines.now)) }
 {
-    if value_of(bytes, lines, b"transfer-encoding").is_some() {
+    if fields.transfer_encoding.is_some() {
         return Err(Refusal::Coding);
     }
-    let Some(said) = value_of(bytes, lines, b"content-length") else {
+    let Some(said) = fields.content_length else {
         return if needs_length(method) {
             Err(Refusal::NoLength)
         } else {
@@ -198,9 +186,8 @@ fn needs_length(method: &[u8]) -> bool
 }
 
 /// Whether the connection ends after the answer: HTTP/1.0, or a `close` element.
-pub(crate) fn closes(version: u8, bytes: &[u8], lines: &[HeaderSpan]) -> bool
-    requires within { All (IsHeaderWithin (length bytes.now)) lines.now }
-    ensures { result ≡ (version == 0) || spec.has_element (codes "connection") (codes "close") (map (header_bytes bytes.now) lines.now) }
+pub(crate) fn closes(version: u8, connection: Option<&[u8]>) -> bool
+    ensures { result ≡ (version == 0) || says (codes "close") (option_copied connection.entry) }
 {
-    version == 0 || has_element(bytes, lines, b"connection", b"close")
+    version == 0 || has_element(connection, b"close")
 }

@@ -3,6 +3,7 @@
 
 mod asked;
 mod fields;
+mod firsts;
 mod head;
 mod names;
 mod number;

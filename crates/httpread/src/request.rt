@@ -9,6 +9,7 @@ ghost use Rattle.httpread.specs.Finds.{Finds};
 ghost use Rattle.httpread.specs.Heads.{StandsAt};
 
 use crate::fields::{body_length, closes};
+use crate::firsts::fields_of;
 use crate::head::{HeadAt, read_head};
 use crate::routes::Routes;
 use crate::whole::Request;
@@ -72,7 +73,8 @@ fn request_at(
     };
     let lines = &lines[..spans.headers];
     let method = spans.method.of(bytes);
-    let len = match body_length(bytes, lines, method) {
+    let fields = fields_of(bytes, lines);
+    let len = match body_length(bytes, lines, &fields, method) {
         Err(refusal) => return Ok(Asking::First {
             ask: Ask::Refused(refusal),
             ends: true,
@@ -89,10 +91,11 @@ fn request_at(
         query: uri.query().unwrap_or(""),
         bytes,
         lines,
+        fields: &fields,
         body: &bytes[spans.len..len],
     };
     let ask = request.ask(alloc, routes, copies)?;
-    let ends = closes(spans.version, bytes, lines);
+    let ends = closes(spans.version, fields.connection);
     Ok(Asking::First { ask, ends, len })
 }
 

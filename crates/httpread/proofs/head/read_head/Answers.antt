@@ -1,4 +1,4 @@
-use Rattle.std.proofs.Common.{arith, rules, ap, Err}
+use Rattle.std.proofs.Common.{arith, ap, Err}
 use Rattle.httpread.proofs.HeadLemmas.{overfull_is_bad, long_partial_is_bad, long_head_is_bad}
 use Rattle.httpread.proofs.head.read_head.Goals as goal
 

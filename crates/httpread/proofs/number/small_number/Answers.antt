@@ -1,4 +1,4 @@
-use Rattle.std.proofs.Common.{arith, rules, sym, ap, ◌∙◌, ◌≡◌, ◌+◌, take, get_or, true}
+use Rattle.std.proofs.Common.{arith, ◌+◌}
 use Rattle.std.specs.Char.{is_ascii_digit}
 use Rattle.std.proofs.lemmas.Str.Parse.{digits_value-take-le}
 use Rattle.httpread.proofs.NumberLemmas.{next_value, all_at, both_hold}

@@ -1,6 +1,6 @@
 use Rattle.std.proofs.Common.{◌≡◌, map}
 use Rattle.std.specs.Str.Lossy.{utf8_lossy}
-use Rattle.form_urlencoded.specs.Form.{decode, raw_pairs}
+use Rattle.form_urlencoded.specs.Form.{decode}
 use Rattle.form_urlencoded.specs.Parse.{pairs_left}
 use Rattle.httpask.specs.Target as spec
 use Rattle.httpread.proofs.query.asked_for.Given as goal

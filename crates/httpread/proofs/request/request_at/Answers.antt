@@ -1,6 +1,6 @@
-use Rattle.std.proofs.Common.{refl, [], ◌≡◌, ◌+◌, ◌-◌, ◌∙◌, sym, ap, rules, arith, true, false, take, drop, ◌<◌}
+use Rattle.std.proofs.Common.{refl, [], ◌≡◌, ◌+◌, ◌-◌, ◌∙◌, sym, ap, rules, arith, take, drop}
 use Rattle.std.specs.Prelude.{◌==◌, ◌||◌, codes, unwrap_or}
-use Rattle.httpask.specs.Fields.{has_element}
+use Rattle.httpread.specs.Firsts.{says}
 use Rattle.httpread.proofs.TargetLemmas.{head_not_empty, now_or}
 use Rattle.httpread.proofs.RequestLemmas.{no_target, no_fields, waits, is_whole}
 use Rattle.httpread.proofs.request.request_at.Goals as goal
@@ -48,5 +48,5 @@ returns c =
           (ap (λ p. p.now) c.unwrap_or.ensures ∙ (sym (now_or c.query.result _) ∙ (ap (λ o. unwrap_or o []) c.query.ensures.value ∙ uri.2)))
           (ap (λ k. take k (drop start c.args.bytes.now)) count)
           c.in_ok-ask.ensures.asked
-          (c.closes-ends.ensures ∙ search (h.1.version, h.1.fields, rules)),
+          (c.closes-ends.ensures ∙ (ap (λ v. (c.args.spans.version == 0) || says (codes "close") v) c.fields_of-fields.ensures.connection ∙ search (h.1.version, h.1.fields, rules))),
     )
