@@ -1,6 +1,7 @@
 -- The place of a key on the ring (this store's profile; Riak KV documentation, consistent hashing by SHA-1).
-use Rattle.std.specs.Prelude.{ℕ, ◌+◌, ◌%◌, List, ◌++◌, length, take, min}
+use Rattle.std.specs.Prelude.{ℕ, ◌+◌, ◌%◌, ◌≢◌, List, [], ◌∷◌, ◌++◌, length, take, map, min}
 use Rattle.std.specs.Int.{w32, w64, to_be_bytes, from_be_bytes}
+use Rattle.std.specs.List.{AllByRecursion, range_with_len}
 use Rattle.sha1.specs.Sha1.{sha1}
 
 -- what is hashed: the bucket's length in four bytes, the bucket and the key
@@ -15,6 +16,15 @@ place_of bucket key vnodes = from_be_bytes w64 (take 8 (sha1 (hashed bucket key)
 abbrev pub copies_of : ℕ → ℕ
 copies_of vnodes = min 3 vnodes
 
--- the vnode at an index of the preference list that begins at a place
-abbrev pub preferred : ℕ → ℕ → ℕ → ℕ
-preferred place index vnodes = (place + index) % vnodes
+-- the vnode at an index of the preference list that begins at a place: past the last it goes on from 0
+abbrev pub vnode_at : ℕ → ℕ → ℕ → ℕ
+vnode_at place index vnodes = (place + index) % vnodes
+
+-- the preference list that begins at a place
+abbrev pub preferred : ℕ → ℕ → List ℕ
+preferred place vnodes = map (λ index. vnode_at place index vnodes) (range_with_len 0 (copies_of vnodes))
+
+-- no vnode is named twice
+abbrev pub AreDifferent : List ℕ → Type 0
+AreDifferent [] = Unit {0}
+AreDifferent (i ∷ vnodes) = AllByRecursion (λ j. i ≢ j) vnodes × AreDifferent vnodes

@@ -3,8 +3,11 @@
 #![tactic(auto)]
 
 ghost use Rattle.std.specs.Prelude.{◌≡◌, ◌+◌, ◌/◌, ◌<◌, ◌≤◌, ◌^◌, ◌↔◌, length, IsTrue};
-ghost use Rattle.place.specs.Places.{place_of, preferred, copies_of};
+ghost use Rattle.place.specs.Places.{place_of, copies_of};
 
+mod list;
+
+pub use list::{PreferenceList, preferred};
 use sha1::Sha1;
 
 /// The most copies of a key: the vnodes of its preference list.
@@ -33,21 +36,6 @@ pub fn copies(vnodes: u32) -> u32
     ensures { result ≡ copies_of vnodes }
 {
     vnodes.min(MAX_COPIES)
-}
-
-/// The vnode at an index of the preference list that begins at a place: they follow each other, past the last from 0.
-pub fn preferred(place: u32, index: u32, vnodes: u32) -> u32
-    requires place { place < vnodes }
-    requires index { index < copies_of vnodes }
-    ensures vnode { result ≡ preferred place index vnodes }
-    ensures within { result < vnodes }
-{
-    let left = vnodes - place;
-    if index < left {
-        place + index
-    } else {
-        index - left
-    }
 }
 
 /// How many of so many copies are a quorum: more than half.
@@ -97,17 +85,18 @@ mod tests {
             assert_eq!(rt; copies(vnodes), want);
             assert_eq!(rt; quorum(want), enough);
         }
-        for (first, vnodes, list) in [
-            (0, 3, [0, 1, 2]),
-            (2, 3, [2, 0, 1]),
-            (62, 64, [62, 63, 0]),
-            (63, 64, [63, 0, 1]),
-        ] {
-            for index in 0..3u32 {
-                assert_eq!(rt; preferred(first, index, vnodes), list[index as usize]);
-            }
+        let rows: [(u32, u32, &[usize]); 7] = [
+            (0, 1, &[0]),
+            (1, 2, &[1, 0]),
+            (0, 3, &[0, 1, 2]),
+            (2, 3, &[2, 0, 1]),
+            (62, 64, &[62, 63, 0]),
+            (63, 64, &[63, 0, 1]),
+            (u32::MAX - 1, u32::MAX, &[4_294_967_294, 0, 1]),
+        ];
+        for (first, vnodes, list) in rows {
+            assert!(rt; first < vnodes);
+            assert_eq!(rt; preferred(first, vnodes).as_slice(), list);
         }
-        assert_eq!(rt; preferred(1, 1, 2), 0);
-        assert_eq!(rt; preferred(0, 0, 1), 0);
     }
 }
