@@ -1,6 +1,8 @@
--- Events that can be run, with one more.
+-- Events that can be run, with one more, and the lines that they come from.
 use Rattle.std.proofs.Common.{◌≡◌, ℕ, ◌<◌, ◌≤◌, ◌⊎◌, List, [], ◌∷◌, ◌++◌, length, get_or, take, refl, sym, ap, subst, ◌∙◌, inl, inr, arith, Some, length-append}
-use Rattle.std.specs.Prelude.{slice_get, min}
+use Rattle.std.specs.Prelude.{◌+◌, Bool, true, cond, slice_get, min, count_by}
+use Rattle.std.specs.List.{sum_by}
+use Rattle.std.proofs.lemmas.List.Sums.{sum_by-append}
 use Rattle.std.proofs.Math.ListN.{get_or-append}
 use Rattle.std.proofs.Math.Seq.{get_or-append_seam, take-append_seam}
 use Rattle.std.proofs.Math.Nat.{min-le_left, min-le_right}
@@ -11,7 +13,7 @@ use Rattle.world.specs.declared.event.Event.{Event}
 use Rattle.helpers.specs.declared.sig.Entry.{Entry}
 use Rattle.script.specs.declared.script.Script.{Script}
 use Rattle.script.specs.declared.script.Answered.{Answered}
-use Rattle.script.specs.Scripts.{IsRunnable, IsOneMore}
+use Rattle.script.specs.Scripts.{IsRunnable, IsOneMore, tells_event}
 use Rattle.world.specs.declared.event.Event.TheVariants.{Put, Get, Send, Deliver, Restart, ResolveRead, ResolveWrite}
 use Rattle.world.specs.Running.{AreRunnable, MayCome}
 
@@ -37,11 +39,19 @@ runnable_more n listed events event runnable comes place e at = elim (more_cases
   | inr last ↦ subst (λ (k : ℕ). MayCome n listed (take k (events ++ event ∷ [])) e) (sym last.0) (subst (λ (es : List Event). MayCome n listed es e) (sym (take-append_seam events (event ∷ []))) (subst (MayCome n listed events) last.1 comes))
 ]
 
+-- one more at the end counts where it passes
+counts_one : {X : Type 0} (p : X → Bool) (x : X) → p x ≡ true → sum_by (λ y. cond (p y) 1 0) (x ∷ []) ≡ 1
+counts_one p x passes = let one : ℕ = 1 in let none : ℕ = 0 in ap (λ (b : Bool). 0 + cond b one none) passes
+
+pub count_yes : {X : Type 0} (p : X → Bool) (xs : List X) (x : X) → p x ≡ true → count_by p (xs ++ x ∷ []) ≡ count_by p xs + 1
+count_yes p xs x passes = sum_by-append (λ y. cond (p y) 1 0) xs (x ∷ []) ∙ ap (λ (n : ℕ). count_by p xs + n) (counts_one p x passes)
+
 -- a script that can be run still can with one event more that may come
-pub one_more : (listed : List Entry) (old new : Script) (event : Event) (answered : Answered) → IsRunnable listed old → MayCome old.vnodes listed old.events.items event → IsOneMore old event answered new → IsRunnable listed new
-one_more listed old new event answered runnable comes more = record {
+pub one_more : (listed : List Entry) (old new : Script) (event : Event) (answered : Answered) → IsRunnable listed old → MayCome old.vnodes listed old.events.items event → IsOneMore old event answered new → tells_event answered ≡ true → IsRunnable listed new
+one_more listed old new event answered runnable comes more tells = record {
   few = subst (λ (n : ℕ). n ≤ 64) (sym more.vnodes) runnable.few;
   events = subst (λ (n : ℕ). AreRunnable n listed new.events.items) (sym more.vnodes) (subst (λ (es : List Event). AreRunnable old.vnodes listed es) (sym more.events) (runnable_more old.vnodes listed old.events.items event runnable.events comes));
+  told = ap (λ (lines : List Answered). count_by tells_event lines) more.answered ∙ count_yes tells_event old.answered.items answered tells ∙ ap (λ (n : ℕ). n + 1) runnable.told ∙ sym (length-append old.events.items (event ∷ [])) ∙ sym (ap (λ (es : List Event). length es) more.events);
 }
 
 -- what stands in the front of a list stands in the list

@@ -1,1 +1,4 @@
 pub mod Growing
+pub mod Reading
+pub mod Telling
+pub mod Clauses

@@ -1,6 +1,11 @@
 //! What a script prints.
 
-ghost use Rattle.std.specs.Prelude.{◌≡◌, ◌≤◌, IfOk};
+ghost use Rattle.std.specs.Prelude.{◌≡◌, ◌<◌, ◌≤◌, ◌++◌, ℕ, true, List, length, count_by, string_bytes, IfOk, OnOk, MatchOption, Result as Outcome};
+ghost use Rattle.abi.specs.Verdicts.{Meaning};
+ghost use Rattle.hookrun.specs.declared.deciding.RunFault.{RunFault};
+ghost use Rattle.telling.specs.Texts.{decision_text};
+ghost use Rattle.script.specs.Scripts.{tells_event};
+ghost use Rattle.script.specs.Printing.{Decides, AddsCheck, AddsLine, Tells, PrintsAll, PrintsUpTo, Simulated};
 
 use crate::check::Check;
 use crate::images::Images;
@@ -8,7 +13,7 @@ use crate::script::{Answered, BadAt, parse};
 use helpers::Table;
 use hookrun::{Room, decide};
 use lines::BadLine;
-use object::Sibling;
+use object::KeyState;
 use std::alloc::{AllocError, Global};
 use std::fmt::Write as _;
 use std::io;
@@ -20,6 +25,9 @@ use world::{Reply, World};
 /// for the script as a whole (`E1`).
 ///
 /// The hooks come from `images` and call the helpers of `table`, which has those that the images were verified with.
+///
+/// What is written is what the lines that were read print over the replies of a run of their events, and these are as many as
+/// ask for something; which line asks for which event is for tests to show.
 pub fn sim<I: Images, O: io::Write, E: io::Write>(
     alloc: Global,
     script: &[u8],
@@ -29,7 +37,8 @@ pub fn sim<I: Images, O: io::Write, E: io::Write>(
     err: &mut E,
 ) -> io::Result<u8>
     requires { table.now.listed ≡ I.listed images.now }
-    ensures { IfOk result (λ status. status ≤ 2) }
+    ensures status { IfOk result (λ status. status ≤ 2) }
+    ensures simulated { IfOk result (Simulated (I.listed images.now) script.now (O.contents out.old) (O.contents out.new)) }
 {
     let Ok((text, why)) = printed(alloc, script, table, images) else {
         out.write_all(b"E1\n")?;
@@ -54,11 +63,11 @@ fn printed<'a, I: Images>(
     images: &I,
 ) -> Result<(String, Option<BadLine<'a>>), AllocError>
     requires { table.now.listed ≡ I.listed images.now }
+    ensures { IfOk result (λ printed. MatchOption printed.1 (PrintsAll (I.listed images.now) bytes.now (string_bytes printed.0)) (λ _. PrintsUpTo (I.listed images.now) bytes.now (string_bytes printed.0))) }
 {
     let (script, bad) = parse(alloc, bytes, images)?;
     let world = World::run(alloc, script.vnodes, table, &script.events)?;
-    let mut text = String::new(alloc);
-    print_answers(alloc, table, &script.answered, world.replies(), &mut text)?;
+    let mut text = print_answers(alloc, table, &script.answered, world.replies())?;
     match bad {
         Some(BadAt { line, why }) => {
             writeln!(text, "bad line {line}")?;
@@ -68,51 +77,91 @@ fn printed<'a, I: Images>(
     }
 }
 
-// Prints what each line answered.
+// What lines print over the replies of their events.
 fn print_answers(
     alloc: Global,
     table: &Table,
     answered: &[Answered],
     replies: &[Reply],
-    text: &mut String,
-) -> Result<(), AllocError> {
+) -> Result<String, AllocError>
+    requires { count_by tells_event answered.now ≡ length replies.now }
+    ensures { IfOk result (λ text. Tells table.now.listed answered.now replies.now (string_bytes text)) }
+{
+    let mut text = String::new(alloc);
     let mut room = Room::new(alloc);
-    let mut replies = replies.iter();
+    let mut left = replies;
     for answer in answered {
-        match answer {
-            Answered::Refused(fault) => {
-                let number = token_fault_number(*fault);
-                writeln!(text, "{number}")?;
-            }
-            Answered::NotLetIn(refusal) => writeln!(text, "refused {refusal}")?,
-            Answered::Nothing => text.push_str("nothing\n")?,
-            Answered::Reply => {
-                if let Some(reply) = replies.next() {
-                    print_reply(alloc, reply, text)?;
-                }
-            }
-            Answered::Checked(check) => match replies.next() {
-                Some(Reply::Found(state)) => {
-                    print_check(alloc, &mut room, table, check, state.siblings(), text)?;
-                }
-                Some(reply) => print_reply(alloc, reply, text)?,
-                None => {}
-            },
-        }
+        left = print_answer(alloc, &mut room, table, answer, left, &mut text)?;
     }
-    Ok(())
+    Ok(text)
 }
 
-// Prints what a hook says of a new content beside siblings.
-fn print_check(
+// Prints what a line answered, and gives the replies that it leaves to the lines behind it.
+fn print_answer<'a>(
+    alloc: Global,
+    room: &mut Room,
+    table: &Table,
+    answer: &Answered,
+    replies: &'a [Reply],
+    text: &mut String,
+) -> Result<&'a [Reply], AllocError>
+    requires { tells_event answer.now ≡ true → 0 < length replies.now }
+    ensures { IfOk result (λ left. AddsLine table.now.listed answer.now replies.now left.now (string_bytes text.old) (string_bytes text.new)) }
+{
+    match answer {
+        Answered::Refused(fault) => {
+            let number = token_fault_number(*fault);
+            writeln!(text, "{number}")?;
+            Ok(replies)
+        }
+        Answered::NotLetIn(refusal) => {
+            writeln!(text, "refused {refusal}")?;
+            Ok(replies)
+        }
+        Answered::Nothing => {
+            text.push_str("nothing\n")?;
+            Ok(replies)
+        }
+        Answered::Reply => {
+            print_reply(alloc, &replies[0], text)?;
+            Ok(&replies[1..])
+        }
+        Answered::Checked(check) => {
+            print_checked(alloc, room, table, check, &replies[0], text)?;
+            Ok(&replies[1..])
+        }
+    }
+}
+
+// Prints what a check answered, over the reply of its get.
+fn print_checked(
     alloc: Global,
     room: &mut Room,
     table: &Table,
     check: &Check,
-    siblings: &[Sibling],
+    reply: &Reply,
     text: &mut String,
-) -> Result<(), AllocError> {
-    match decide(room, &check.hook, table, Some(&check.new), siblings) {
+) -> Result<(), AllocError>
+    ensures { OnOk result (AddsCheck table.now.listed check.now reply.now (string_bytes text.old) (string_bytes text.new)) }
+{
+    match reply {
+        Reply::Found(state) => print_decision(alloc, room, table, check, state, text),
+        reply => print_reply(alloc, reply, text),
+    }
+}
+
+// Prints what a hook says of a new content beside the siblings of a state.
+fn print_decision(
+    alloc: Global,
+    room: &mut Room,
+    table: &Table,
+    check: &Check,
+    state: &KeyState,
+    text: &mut String,
+) -> Result<(), AllocError>
+    ensures { OnOk result ((decided : Outcome Meaning RunFault) × Decides table.now.listed check.now state.now decided × (string_bytes text.new ≡ string_bytes text.old ++ decision_text decided)) }
+{
+    match decide(room, &check.hook, table, Some(&check.new), state.siblings()) {
         Ok(verdict) => print_verdict(alloc, &verdict, text),
         Err(fault) => print_run_fault(fault, text),
     }

@@ -1,8 +1,9 @@
 //! Whole scripts.
 
-ghost use Rattle.std.specs.Prelude.{◌≡◌, ◌<◌, ◌≤◌, ℕ, List, length, Some, slice_get, IfOk, OnOk, IfSome};
+ghost use Rattle.std.specs.Prelude.{◌≡◌, ◌+◌, ◌<◌, ◌≤◌, ℕ, true, false, List, length, Some, slice_get, if◌then◌else◌, IfOk, OnOk, IfSome, MatchOption};
 ghost use Rattle.helpers.specs.declared.sig.Entry.{Entry};
-ghost use Rattle.script.specs.Scripts.{IsRunnable, IsOneMore};
+ghost use Rattle.lines.specs.Lines.{lines_in};
+ghost use Rattle.script.specs.Scripts.{IsRunnable, IsOneMore, tells_event, lines_of, asks, AnswersFor, AnswersUpTo};
 ghost use Rattle.world.specs.Running.{AreRunnable, MayCome, IsGetAt, IsSendAt, IsRunAt, IsEarlierContext};
 
 use crate::check::Check;
@@ -70,7 +71,8 @@ pub fn parse<'a, I: Images>(
     bytes: &'a [u8],
     images: &I,
 ) -> Result<(Script, Option<BadAt<'a>>), AllocError>
-    ensures { IfOk result (λ parsed. IsRunnable (I.listed images.now) parsed.0) }
+    ensures runnable { IfOk result (λ parsed. IsRunnable (I.listed images.now) parsed.0) }
+    ensures read { IfOk result (λ parsed. MatchOption parsed.1 (AnswersFor parsed.0 (lines_in bytes.now)) (λ bad. AnswersUpTo parsed.0 bytes.now bad.line)) }
 {
     let mut script = Script {
         vnodes: 0,
@@ -85,17 +87,31 @@ pub fn parse<'a, I: Images>(
     let mut left = bytes;
     while let Some((line, rest)) = first_line(left) {
         left = rest;
-        number = number.saturating_add(1);
-        let bad = match line_of(alloc, line)? {
-            Spelling::PassedOver => None,
-            Spelling::Line(line) => read_line(alloc, &mut script, &mut names, images, line)?,
-            Spelling::Bad(why) => Some(why),
-        };
-        if let Some(why) = bad {
+        number += 1;
+        if let Some(why) = read(alloc, &mut script, &mut names, images, line)? {
             return Ok((script, Some(BadAt { line: number, why })));
         }
     }
     Ok((script, None))
+}
+
+// Adds what the bytes of a line ask for, if anything, or tells why they may not stand there.
+fn read<'a, I: Images>(
+    alloc: Global,
+    script: &mut Script,
+    names: &mut Names<'a>,
+    images: &I,
+    bytes: &'a [u8],
+) -> Result<Option<BadLine<'a>>, AllocError>
+    requires { IsRunnable (I.listed images.now) script.old }
+    ensures runnable { OnOk result (IsRunnable (I.listed images.now) script.new) }
+    ensures answers { IfOk result (λ bad. MatchOption bad (lines_of script.new ≡ lines_of script.old + (if asks bytes.now then 1 else 0)) (λ _. lines_of script.new ≡ lines_of script.old)) }
+{
+    match line_of(alloc, bytes)? {
+        Spelling::PassedOver => Ok(None),
+        Spelling::Line(line) => read_line(alloc, script, names, images, line),
+        Spelling::Bad(why) => Ok(Some(why)),
+    }
 }
 
 // Adds what a line asks for, or tells why it may not stand there.
@@ -107,7 +123,8 @@ fn read_line<'a, I: Images>(
     line: Line<'a>,
 ) -> Result<Option<BadLine<'a>>, AllocError>
     requires { IsRunnable (I.listed images.now) script.old }
-    ensures { OnOk result (IsRunnable (I.listed images.now) script.new) }
+    ensures runnable { OnOk result (IsRunnable (I.listed images.now) script.new) }
+    ensures answers { IfOk result (λ bad. MatchOption bad (lines_of script.new ≡ lines_of script.old + 1) (λ _. lines_of script.new ≡ lines_of script.old)) }
 {
     match line {
         Line::Vnodes(count) => Ok(read_vnodes(script, count)),
@@ -175,7 +192,8 @@ fn read_resolve<'a, I: Images>(
     file: &'a str,
 ) -> Result<Option<BadLine<'a>>, AllocError>
     requires { IsRunnable (I.listed images.now) script.old }
-    ensures { OnOk result (IsRunnable (I.listed images.now) script.new) }
+    ensures runnable { OnOk result (IsRunnable (I.listed images.now) script.new) }
+    ensures answers { IfOk result (λ bad. MatchOption bad (lines_of script.new ≡ lines_of script.old + 1) (λ _. lines_of script.new ≡ lines_of script.old)) }
 {
     let Some(get) = found(&script.events, &names.events, name) else {
         return Ok(Some(BadLine::NoGet(name)));
@@ -189,7 +207,7 @@ fn read_resolve<'a, I: Images>(
         }
         Err(NoHook::Refused(refusal)) => {
             names.runs.remove(name);
-            script.answered.push(Answered::NotLetIn(refusal))?;
+            push_told(script, Answered::NotLetIn(refusal))?;
             Ok(None)
         }
         Err(NoHook::Unreadable) => Ok(Some(BadLine::NoFile(file))),
@@ -203,7 +221,8 @@ fn read_commit<'a>(
     vnode: usize,
     name: &'a [u8],
 ) -> Result<Option<BadLine<'a>>, AllocError>
-    ensures { (listed : List Entry) → IsRunnable listed script.old → OnOk result (IsRunnable listed script.new) }
+    ensures runnable { (listed : List Entry) → IsRunnable listed script.old → OnOk result (IsRunnable listed script.new) }
+    ensures answers { IfOk result (λ bad. MatchOption bad (lines_of script.new ≡ lines_of script.old + 1) (λ _. lines_of script.new ≡ lines_of script.old)) }
 {
     if vnode >= script.vnodes {
         return Ok(Some(BadLine::NoVnode(vnode)));
@@ -215,7 +234,7 @@ fn read_commit<'a>(
     if found(&script.events, &names.events, name).is_none() {
         return Ok(Some(BadLine::NoGet(name)));
     }
-    script.answered.push(Answered::Nothing)?;
+    push_told(script, Answered::Nothing)?;
     Ok(None)
 }
 
@@ -230,7 +249,8 @@ fn read_check<'a, I: Images>(
     file: &'a str,
 ) -> Result<Option<BadLine<'a>>, AllocError>
     requires { IsRunnable (I.listed images.now) script.old }
-    ensures { OnOk result (IsRunnable (I.listed images.now) script.new) }
+    ensures runnable { OnOk result (IsRunnable (I.listed images.now) script.new) }
+    ensures answers { IfOk result (λ bad. MatchOption bad (lines_of script.new ≡ lines_of script.old + 1) (λ _. lines_of script.new ≡ lines_of script.old)) }
 {
     if vnode >= script.vnodes {
         return Ok(Some(BadLine::NoVnode(vnode)));
@@ -244,7 +264,7 @@ fn read_check<'a, I: Images>(
             Ok(None)
         }
         Err(NoHook::Refused(refusal)) => {
-            script.answered.push(Answered::NotLetIn(refusal))?;
+            push_told(script, Answered::NotLetIn(refusal))?;
             Ok(None)
         }
         Err(NoHook::Unreadable) => Ok(Some(BadLine::NoFile(file))),
@@ -253,7 +273,8 @@ fn read_check<'a, I: Images>(
 
 // The first line tells how many vnodes there are, and no other does.
 fn read_vnodes<'a>(script: &mut Script, count: usize) -> Option<BadLine<'a>>
-    ensures { (listed : List Entry) → IsRunnable listed script.old → IsRunnable listed script.new }
+    ensures runnable { (listed : List Entry) → IsRunnable listed script.old → IsRunnable listed script.new }
+    ensures answers { MatchOption result (lines_of script.new ≡ lines_of script.old + 1) (λ _. lines_of script.new ≡ lines_of script.old) }
 {
     if script.vnodes != 0 {
         return Some(BadLine::VnodesAgain);
@@ -275,7 +296,8 @@ fn read_put<'a>(
     value: Option<&[u8]>,
     context: Context<'a>,
 ) -> Result<Option<BadLine<'a>>, AllocError>
-    ensures { (listed : List Entry) → IsRunnable listed script.old → OnOk result (IsRunnable listed script.new) }
+    ensures runnable { (listed : List Entry) → IsRunnable listed script.old → OnOk result (IsRunnable listed script.new) }
+    ensures answers { IfOk result (λ bad. MatchOption bad (lines_of script.new ≡ lines_of script.old + 1) (λ _. lines_of script.new ≡ lines_of script.old)) }
 {
     if vnode >= script.vnodes {
         return Ok(Some(BadLine::NoVnode(vnode)));
@@ -290,7 +312,7 @@ fn read_put<'a>(
             Ok(clock) => Seen::Clock(clock),
             Err(TokenFault::NoMemory) => return Err(AllocError),
             Err(fault) => {
-                script.answered.push(Answered::Refused(fault))?;
+                push_told(script, Answered::Refused(fault))?;
                 return Ok(None);
             }
         },
@@ -311,17 +333,29 @@ fn read_put<'a>(
 
 // Adds an event that may come.
 fn push(script: &mut Script, event: Event) -> Result<(), AllocError>
-    ensures { OnOk result (IsOneMore script.old event Answered.Reply script.new) }
+    ensures more { OnOk result (IsOneMore script.old event Answered.Reply script.new) }
+    ensures answers { OnOk result (lines_of script.new ≡ lines_of script.old + 1) }
 {
     push_answered(script, event, Answered::Reply)
 }
 
 // Adds an event that may come, and what its line prints.
 fn push_answered(script: &mut Script, event: Event, answered: Answered) -> Result<(), AllocError>
-    ensures { OnOk result (IsOneMore script.old event answered script.new) }
+    ensures more { OnOk result (IsOneMore script.old event answered script.new) }
+    ensures answers { OnOk result (lines_of script.new ≡ lines_of script.old + 1) }
 {
     script.answered.reserve(1)?;
     script.events.push(event)?;
+    script.answered.push(answered)?;
+    Ok(())
+}
+
+// Adds what a line prints that tells of no event.
+fn push_told(script: &mut Script, answered: Answered) -> Result<(), AllocError>
+    requires { tells_event answered ≡ false }
+    ensures runnable { (listed : List Entry) → IsRunnable listed script.old → OnOk result (IsRunnable listed script.new) }
+    ensures answers { OnOk result (lines_of script.new ≡ lines_of script.old + 1) }
+{
     script.answered.push(answered)?;
     Ok(())
 }

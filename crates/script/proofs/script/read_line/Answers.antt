@@ -1,21 +1,21 @@
-use Rattle.std.proofs.Common.{List, subst, arith}
+use Rattle.std.proofs.Common.{List, subst, arith, refl}
 use Rattle.world.specs.declared.event.Event.{Event}
 use Rattle.world.specs.Running.{IsSendAt}
 use Rattle.script.proofs.Growing.{one_more}
 use Rattle.script.proofs.script.read_line.Goals as goal
 
-pub returns-in-Vnodes : goal.returns-in-Vnodes
-returns-in-Vnodes g c = c.read_vnodes.ensures _ c.requires
+pub returns-in-Vnodes-clause-runnable : goal.returns-in-Vnodes-clause-runnable
+returns-in-Vnodes-clause-runnable g c = c.read_vnodes.ensures.runnable _ c.requires
 
-pub returns-in_ok-insert-in-Get : goal.returns-in_ok-insert-in-Get
-returns-in_ok-insert-in-Get g c = one_more _ _ _ _ _ c.requires (omega arith) c.in_ok-push-in-Get.ensures
+pub returns-in_ok-insert-in-Get-clause-runnable : goal.returns-in_ok-insert-in-Get-clause-runnable
+returns-in_ok-insert-in-Get-clause-runnable g c = one_more _ _ _ _ _ c.requires (omega arith) c.in_ok-push-in-Get.ensures.more refl
 
-pub returns-in_ok-insert-in-Send : goal.returns-in_ok-insert-in-Send
-returns-in_ok-insert-in-Send g c = one_more _ _ _ _ _ c.requires (omega arith) c.in_ok-push-in-Send.ensures
+pub returns-in_ok-insert-in-Send-clause-runnable : goal.returns-in_ok-insert-in-Send-clause-runnable
+returns-in_ok-insert-in-Send-clause-runnable g c = one_more _ _ _ _ _ c.requires (omega arith) c.in_ok-push-in-Send.ensures.more refl
 
-pub returns-in_ok-push-in-Deliver : goal.returns-in_ok-push-in-Deliver
-returns-in_ok-push-in-Deliver g c =
-    one_more _ _ _ _ _ c.requires (omega arith, subst (λ (es : List Event). IsSendAt es c.in-Some.message) c.deref.ensures.value c.in-Some.ensures) c.in_ok-push-in-Deliver.ensures
+pub returns-in_ok-push-in-Deliver-clause-runnable : goal.returns-in_ok-push-in-Deliver-clause-runnable
+returns-in_ok-push-in-Deliver-clause-runnable g c =
+    one_more _ _ _ _ _ c.requires (omega arith, subst (λ (es : List Event). IsSendAt es c.in-Some.message) c.deref.ensures.value c.in-Some.ensures) c.in_ok-push-in-Deliver.ensures.more refl
 
-pub returns-in_ok-push-in-Restart : goal.returns-in_ok-push-in-Restart
-returns-in_ok-push-in-Restart g c = one_more _ _ _ _ _ c.requires (omega arith) c.in_ok-push-in-Restart.ensures
+pub returns-in_ok-push-in-Restart-clause-runnable : goal.returns-in_ok-push-in-Restart-clause-runnable
+returns-in_ok-push-in-Restart-clause-runnable g c = one_more _ _ _ _ _ c.requires (omega arith) c.in_ok-push-in-Restart.ensures.more refl
