@@ -1,10 +1,11 @@
 //! Programs from bytes: read as an image or as raw code, and let in only where the verifier accepts them.
 #![tactic(auto)]
 
-ghost use Rattle.std.specs.Prelude.{◌≡◌, IfOk, IfErr};
+ghost use Rattle.std.specs.Prelude.{◌≡◌, ◌≤◌, ℕ, List, length, take, IfOk, IfErr};
 ghost use Rattle.bpfimage.specs.Image.{IsProgram, IsImage};
 ghost use Rattle.verifier.specs.Table.{IsAccepted};
 ghost use Rattle.admission.specs.Admissions.{IsProgramOf, IsLetIn, IsTurnedAway, IsNoHook, IsNotRun};
+ghost use Rattle.admission.specs.Enough.{AreReadAlike};
 
 mod refusal;
 #[cfg(test)]
@@ -52,4 +53,23 @@ pub fn admit_program(alloc: Global, bytes: &[u8], sigs: &Sigs) -> Result<Verifie
 {
     let image = read_program(alloc, bytes)?;
     Ok(verify(alloc, image, sigs)?)
+}
+
+/// How many bytes the longest image has: its head and 4,096 slots.
+const LONGEST: u64 = 16 + 8 * 4096;
+
+/// At most how many bytes of a file have to be read to judge it as a program: [`enough`] is never more.
+pub const MOST: usize = 16 + 8 * 4097;
+
+/// How many first bytes of a file of `len` bytes are read as all of them are, as an image and as a program: all of a file that is no
+/// longer than the longest image, and of another the longest image's and 1 to 8 more, so that what is left out is whole slots. For code
+/// that is no whole number of slots is refused otherwise than code of too many.
+pub fn enough(len: u64) -> usize
+    ensures few { result ≤ 32792 }
+    ensures alike { (bytes : List ℕ) → length bytes ≡ len → AreReadAlike (take result bytes) bytes }
+{
+    match len.checked_sub(LONGEST + 1) {
+        None => len as usize,
+        Some(past) => (LONGEST + 1 + past % 8) as usize,
+    }
 }

@@ -1,5 +1,5 @@
 //! What is let in, and why bytes are not.
-use crate::{Refusal, admit_hook, admit_image, admit_program};
+use crate::{MOST, Refusal, admit_hook, admit_image, admit_program, enough};
 use bpfimage::ImageKind;
 use helpers::Sigs;
 use std::alloc::Global;
@@ -71,4 +71,26 @@ fn refusals(rt: HostRuntime) -> Result<(), Fail> {
         "D2 0"
     );
     Ok(())
+}
+
+/// How many bytes a file has, and how many of them tell what it is.
+const LENGTHS: [(u64, usize); 10] = [
+    (0, 0),
+    (1, 1),
+    (32_784, 32_784),
+    (32_785, 32_785),
+    (32_792, 32_792),
+    (32_793, 32_785),
+    (32_799, 32_791),
+    (32_800, 32_792),
+    (1 << 30, 32_792),
+    (u64::MAX, 32_791),
+];
+
+#[test]
+fn lengths(rt: HostRuntime) {
+    for (len, want) in LENGTHS {
+        assert_eq!(rt; enough(len), want, "{len}");
+        assert!(rt; want <= MOST, "{len}");
+    }
 }
