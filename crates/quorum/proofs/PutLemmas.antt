@@ -11,7 +11,7 @@ use Rattle.peers.specs.declared.peers.Answer.{Answer}
 use Rattle.peers.specs.declared.fault.PeerFault.{PeerFault}
 use Rattle.peers.specs.Calls.{Call, MergeAt, StateOf, Made}
 use Rattle.quorum.specs.Puts.{Brought, PassedOver, Merged, gathers, merges, copies, is_ahead, TriesAgain, AfterPut, AfterFirst}
-use Rattle.quorum.proofs.CallLemmas.{made_end, made_append}
+use Rattle.peers.proofs.CallLemmas.{made_end, made_append}
 
 merges_end : (key : Key) (answer : Answer) (vnodes : List ℕ) (backs : List (Result Bool PeerFault)) (back : Result Bool PeerFault) → length backs < length vnodes
     → merges key answer vnodes (backs ++ back ∷ []) ≡ merges key answer vnodes backs ++ MergeAt (get_or vnodes (length backs) 0) key answer.from answer.at answer.state back ∷ []

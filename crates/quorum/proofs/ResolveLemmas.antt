@@ -7,7 +7,7 @@ use Rattle.peers.specs.declared.peers.Answer.{Answer}
 use Rattle.peers.specs.declared.fault.PeerFault.{PeerFault}
 use Rattle.peers.specs.Calls.{Call, MergeAt, Made}
 use Rattle.quorum.specs.Resolves.{is_others, others_of, brings, OneFailed}
-use Rattle.quorum.proofs.CallLemmas.{made_end}
+use Rattle.peers.proofs.CallLemmas.{made_end}
 
 brings_end : (coordinator : ℕ) (key : Key) (before after : List Answer) (a : Answer) (backs : List (Result Bool PeerFault)) (back : Result Bool PeerFault) → length backs ≡ length before
     → brings coordinator key (before ++ a ∷ after) (backs ++ back ∷ []) ≡ brings coordinator key before backs ++ MergeAt coordinator key a.from a.at a.state back ∷ []

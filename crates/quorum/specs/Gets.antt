@@ -1,7 +1,7 @@
 -- A read of a key at each vnode of its preference list (Riak KV documentation, reads and quorums).
 use Rattle.std.specs.Prelude.{◌≡◌, ℕ, ◌≤◌, ◌<◌, ◌⊎◌, true, List, [], ◌∷◌, ◌++◌, Result, Ok, Err, map, length}
 use Rattle.std.specs.Global.{Vec}
-use Rattle.dvv.specs.Clock.{vnodes_together}
+use Rattle.dvv.specs.Clock.{vnodes_together, most_entries}
 use Rattle.object.specs.declared.content.Key.{Key}
 use Rattle.object.specs.State.{State, is_changed_by}
 use Rattle.object.specs.Known.{Write, Shows}
@@ -36,7 +36,7 @@ EachShows (known ∷ knowns) (state ∷ states) = Shows known state × EachShows
 EachShows [] (state ∷ states) = ⊥
 EachShows (known ∷ knowns) [] = ⊥
 
--- a merge of states passes the clock's limit: one of them and the merge of those before it count over 1,024 vnodes together
+-- a merge of states passes the clock's limit: one of them and the merge of those before it count over more vnodes together than a clock may
 pub record PassesClock (key : Key) (states : List State) : Type 0 where
   pub before : List State
   pub state : State
@@ -44,7 +44,7 @@ pub record PassesClock (key : Key) (states : List State) : Type 0 where
   pub merged : State
   pub parts : states ≡ before ++ state ∷ after
   pub is_merge : IsMergeOf key before merged
-  pub many : 1024 < vnodes_together merged.clock state.clock
+  pub many : most_entries < vnodes_together merged.clock state.clock
 
 -- a merge of states that memory may lack for: that of one of them into the merge of those before it, none of which passes the
 -- clock's limit, and which changes something

@@ -1,6 +1,5 @@
 pub mod Faults
 pub mod Gets
 pub mod Judged
-pub mod Named
 pub mod Puts
 pub mod Resolves

@@ -9,8 +9,8 @@ ghost use Rattle.peers.specs.declared.peers.Answer.{Answer as Answered};
 ghost use Rattle.peers.specs.declared.fault.PeerFault.{PeerFault};
 ghost use Rattle.peers.specs.Calls.{Made};
 ghost use Rattle.peers.specs.Counts.{HasRisen};
+ghost use Rattle.place.specs.Places.{AreDifferent};
 ghost use Rattle.quorum.specs.Gets.{reads, answers, states_of, PassesClock, MayLackMemory, EachShows, GetsAnswer};
-ghost use Rattle.quorum.specs.Named.{AreDifferent};
 
 use crate::fault::QuorumFault;
 use object::{Key, KeyState, MergeFault};

@@ -6,9 +6,9 @@ ghost use Rattle.hooks.specs.declared.fault.NotSeen.{NotSeen as LookUpFault};
 ghost use Rattle.peers.specs.declared.fault.PeerFault.{PeerFault as Failure};
 ghost use Rattle.peers.specs.Calls.{Call, Made};
 ghost use Rattle.peers.specs.Counts.{HasRisen};
+ghost use Rattle.place.specs.Places.{AreDifferent};
 ghost use Rattle.quorum.specs.Faults.{fault_of};
 ghost use Rattle.quorum.specs.Judged.{IsJudgedPut};
-ghost use Rattle.quorum.specs.Named.{AreDifferent};
 ghost use Rattle.quorum.specs.Puts.{Brought, gathers, merges, copies, AfterPut, IsPut, StoresCopies, is_ahead};
 
 use crate::fault::QuorumFault;

@@ -11,7 +11,7 @@ use Rattle.object.specs.declared.content.Sibling.{Sibling}
 use Rattle.std.specs.Global.{Vec}
 use Rattle.peers.specs.Calls.{Call, KeysOf, Made}
 use Rattle.repair.specs.Exchanges.{Sent, sends, sends_all, IsFair, is_taken, BringsKeys}
-use Rattle.repair.proofs.CallLemmas.{made_append}
+use Rattle.peers.proofs.CallLemmas.{made_append}
 
 sends_end : (from to : ℕ) (keys : List Key) (all : List Sent) (sent : Sent) (i : ℕ) (k : Key) → length all ≡ i → i < length keys → k ≡ get_or keys i k
     → sends_all from to keys (all ++ sent ∷ []) ≡ sends_all from to keys all ++ sends from to k sent

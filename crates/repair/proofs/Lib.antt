@@ -1,4 +1,3 @@
-pub mod CallLemmas
 pub mod DotLemmas
 pub mod ExchangeLemmas
 pub mod RepairLemmas

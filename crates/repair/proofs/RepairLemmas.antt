@@ -10,7 +10,7 @@ use Rattle.object.specs.State.{is_changed_by}
 use Rattle.peers.specs.declared.peers.Answer.{Answer}
 use Rattle.peers.specs.declared.fault.PeerFault.{PeerFault}
 use Rattle.peers.specs.Calls.{Call, MergeAt, Made}
-use Rattle.repair.proofs.CallLemmas.{made_append}
+use Rattle.peers.proofs.CallLemmas.{made_append}
 use Rattle.repair.specs.Repairs.{Delivery, index_of, deliveries_of, tries}
 
 tries_append : (key : Key) (ds es : List Delivery) (backs more : List (Result Bool PeerFault)) → length backs ≡ length ds → tries key (ds ++ es) (backs ++ more) ≡ tries key ds backs ++ tries key es more

@@ -2,7 +2,8 @@ use Rattle.std.proofs.Common.{List, arith, length, ap, ◌∙◌, subst}
 use Rattle.journal.specs.Replay.{IsMergeOf}
 use Rattle.peers.specs.declared.peers.Answer.{Answer}
 use Rattle.quorum.specs.Gets.{reads, states_of, PassesClock}
-use Rattle.quorum.proofs.CallLemmas.{made_stays, answers_few}
+use Rattle.peers.proofs.CallLemmas.{made_stays}
+use Rattle.quorum.proofs.ReadLemmas.{answers_few}
 use Rattle.quorum.proofs.RisenLemmas.{made_risen, few_reads}
 use Rattle.quorum.proofs.ShowLemmas.{each_shows}
 use Rattle.journal.specs.Brought.{all_writes}

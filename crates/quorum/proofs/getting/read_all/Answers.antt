@@ -1,6 +1,6 @@
 use Rattle.std.proofs.Common.{[], ◌∷◌, ◌++◌, refl, arith, length-append}
 use Rattle.std.proofs.lemmas.Grind.{common_steps}
-use Rattle.quorum.proofs.CallLemmas.{one_more_read, answers_failed, answers_came}
+use Rattle.quorum.proofs.ReadLemmas.{one_more_read, answers_failed, answers_came}
 use Rattle.quorum.proofs.getting.read_all.Goals as goal
 use Rattle.quorum.proofs.getting.read_all.Goals.{in-Ok+in-Ok-push, in_default}
 

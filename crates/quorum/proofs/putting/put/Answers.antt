@@ -1,7 +1,7 @@
 use Rattle.std.proofs.Common.{Ok, Some, None, subst}
 use Rattle.quorum.specs.Puts.{IsPut}
 use Rattle.quorum.specs.Judged.{IsJudgedPut}
-use Rattle.quorum.proofs.CallLemmas.{made_stays}
+use Rattle.peers.proofs.CallLemmas.{made_stays}
 use Rattle.quorum.proofs.RisenLemmas.{made_risen, few_put}
 use Rattle.quorum.proofs.JudgedLemmas.{few_judged}
 use Rattle.quorum.proofs.StoredLemmas.{if_stored}

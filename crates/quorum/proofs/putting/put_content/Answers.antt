@@ -1,7 +1,7 @@
 use Rattle.std.proofs.Common.{◌∷◌, ◌++◌, refl, sym, ◌∙◌}
 use Rattle.peers.specs.Calls.{PutAt}
 use Rattle.quorum.specs.Puts.{gathers}
-use Rattle.quorum.proofs.CallLemmas.{made_append}
+use Rattle.peers.proofs.CallLemmas.{made_append}
 use Rattle.quorum.proofs.PutLemmas.{one_first, tries_again, goes_on}
 use Rattle.quorum.proofs.putting.put_content.Goals as goal
 

@@ -1,7 +1,7 @@
 use Rattle.std.proofs.Common.{◌∷◌, ◌++◌, refl, inl}
 use Rattle.peers.specs.Calls.{PutAt}
 use Rattle.quorum.specs.Resolves.{brings, others_of}
-use Rattle.quorum.proofs.CallLemmas.{made_append}
+use Rattle.peers.proofs.CallLemmas.{made_append}
 use Rattle.quorum.proofs.resolving.commit.Goals as goal
 
 pub returns-in-Ok : goal.returns-in-Ok

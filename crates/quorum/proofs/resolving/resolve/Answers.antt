@@ -1,4 +1,4 @@
-use Rattle.quorum.proofs.CallLemmas.{made_stays}
+use Rattle.peers.proofs.CallLemmas.{made_stays}
 use Rattle.quorum.proofs.resolving.resolve.Goals as goal
 
 pub returns-in-Ok-Some-clause-origin : goal.returns-in-Ok-Some-clause-origin

@@ -1,5 +1,5 @@
 use Rattle.std.proofs.Common.{refl, ◌++◌}
-use Rattle.repair.proofs.CallLemmas.{made_append, made_stays}
+use Rattle.peers.proofs.CallLemmas.{made_append, made_stays}
 use Rattle.repair.proofs.exchanging.exchange.Goals as goal
 
 pub returns-clause-calls : goal.returns-clause-calls

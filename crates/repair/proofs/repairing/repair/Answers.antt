@@ -2,7 +2,7 @@ use Rattle.std.proofs.Common.{arith, sym, subst, ◌+◌, take}
 use Rattle.std.specs.List.{flat_map}
 use Rattle.repair.specs.Repairs.{deliveries_of}
 use Rattle.repair.proofs.RepairLemmas.{Tried, tried_more, senders_more}
-use Rattle.repair.proofs.CallLemmas.{made_stays}
+use Rattle.peers.proofs.CallLemmas.{made_stays}
 use Rattle.repair.proofs.repairing.repair.Goals as goal
 
 pub loop-sender-preserved : goal.loop-sender-preserved
