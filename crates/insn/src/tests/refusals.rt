@@ -1,0 +1,101 @@
+//! Slots and lengths that are refused, and why.
+
+use crate::decode::{DecodeFault, Refusal, decode};
+use std::test::Fail;
+
+/// Slots that are refused, at which of them, and why.
+const REFUSALS: [(&[[u8; 8]], u32, Refusal); 24] = [
+    // no opcode of the table: a negation of a register, a signed load of 64 bits, forms that no class has
+    (&[[0x8f, 0, 0, 0, 0, 0, 0, 0]], 0, Refusal::UnknownOpcode),
+    (&[[0x99, 0, 0, 0, 0, 0, 0, 0]], 0, Refusal::UnknownOpcode),
+    (&[[0, 0, 0, 0, 0, 0, 0, 0]], 0, Refusal::UnknownOpcode),
+    // fields that are not used: a source beside an immediate, an immediate beside a source, any of an exit
+    (&[[0xb7, 0x10, 0, 0, 0, 0, 0, 0]], 0, Refusal::UnusedField),
+    (&[[0xbf, 0x10, 0, 0, 1, 0, 0, 0]], 0, Refusal::UnusedField),
+    (&[[0x95, 1, 0, 0, 0, 0, 0, 0]], 0, Refusal::UnusedField),
+    (&[[0x05, 0, 0, 0, 1, 0, 0, 0]], 0, Refusal::UnusedField),
+    (&[[0x06, 0, 1, 0, 0, 0, 0, 0]], 0, Refusal::UnusedField),
+    (&[[0x87, 0, 0, 0, 1, 0, 0, 0]], 0, Refusal::UnusedField),
+    (&[[0x62, 0x10, 0, 0, 0, 0, 0, 0]], 0, Refusal::UnusedField),
+    (&[[0x85, 0x30, 0, 0, 0, 0, 0, 0]], 0, Refusal::UnusedField),
+    (
+        &[[0x18, 0x70, 0, 0, 0, 0, 0, 0], [0; 8]],
+        0,
+        Refusal::UnusedField,
+    ),
+    // offsets that choose no operation
+    (&[[0x37, 0, 2, 0, 1, 0, 0, 0]], 0, Refusal::UnusedField),
+    (&[[0xb7, 0, 8, 0, 0, 0, 0, 0]], 0, Refusal::UnusedField),
+    (&[[0xbc, 0x10, 32, 0, 0, 0, 0, 0]], 0, Refusal::UnusedField),
+    // registers
+    (&[[0xb7, 0x0b, 0, 0, 0, 0, 0, 0]], 0, Refusal::BadRegister),
+    (&[[0xbf, 0xb0, 0, 0, 0, 0, 0, 0]], 0, Refusal::BadRegister),
+    // wide instructions that are cut
+    (&[[0x18, 0, 0, 0, 0, 0, 0, 0]], 0, Refusal::CutWide),
+    (
+        &[[0x18, 0, 0, 0, 0, 0, 0, 0], [0, 1, 0, 0, 0, 0, 0, 0]],
+        0,
+        Refusal::CutWide,
+    ),
+    // forms that are left out, told before all else
+    (&[[0x85, 0x1b, 1, 0, 0, 0, 0, 0]], 0, Refusal::LeftOut),
+    (&[[0x18, 0x10, 0, 0, 0, 0, 0, 0]], 0, Refusal::LeftOut),
+    // byte swaps
+    (&[[0xd7, 0, 0, 0, 8, 0, 0, 0]], 0, Refusal::BadSwapWidth),
+    // of several rules the first, and the lowest slot
+    (&[[0xb7, 0xbb, 0, 0, 0, 0, 0, 0]], 0, Refusal::UnusedField),
+    (
+        &[
+            [0x18, 0, 0, 0, 0, 0, 0, 0],
+            [0; 8],
+            [0xb7, 0x0b, 0, 0, 0, 0, 0, 0],
+            [0; 8],
+        ],
+        2,
+        Refusal::BadRegister,
+    ),
+];
+
+#[test]
+fn refusals(rt: HostRuntime) -> Result<(), Fail> {
+    let alloc = rt.alloc();
+    for (slots, slot, why) in REFUSALS {
+        let mut bytes = Vec::new(alloc);
+        for fields in slots {
+            bytes.extend_from_slice(fields)?;
+        }
+        match decode(alloc, &bytes) {
+            Ok(code) => assert!(rt; false, "{code:?}"),
+            Err(fault) => assert_eq!(rt; fault, DecodeFault { slot, why }, "{slots:?}"),
+        }
+    }
+    Ok(())
+}
+
+/// The lengths that are refused, and those beside them.
+#[test]
+fn lengths(rt: HostRuntime) -> Result<(), Fail> {
+    let alloc = rt.alloc();
+    let mut bytes = Vec::new(alloc);
+    for _ in 0..4097 {
+        bytes.extend_from_slice(&[0x95, 0, 0, 0, 0, 0, 0, 0])?;
+    }
+    for (length, why) in [
+        (0, Some(Refusal::Empty)),
+        (7, Some(Refusal::UnevenLength)),
+        (8, None),
+        (8 * 4096, None),
+        (8 * 4096 + 1, Some(Refusal::UnevenLength)),
+        (8 * 4097, Some(Refusal::TooLong)),
+    ] {
+        let Some(part) = bytes.get(..length) else {
+            return Err(Fail::from("length"));
+        };
+        assert_eq!(rt;
+            decode(alloc, part).err().map(|fault| fault.why),
+            why,
+            "{length}"
+        );
+    }
+    Ok(())
+}
