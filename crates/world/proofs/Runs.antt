@@ -16,7 +16,7 @@ use Rattle.journal.specs.Journals.{MayFollow}
 use Rattle.journal.specs.Replay.{IsReplay}
 use Rattle.vnode.specs.Refusals.{RefusesPutAt as StateRefusesPut, RefusesMergeAt as StateRefusesMerge, RefusesPut as RefusesPutAt, RefusesMerge as RefusesMergeAt, RefusesEntry as RefusesEntryAt}
 use Rattle.world.specs.Appending.{Appends}
-use Rattle.world.proofs.Steps.{put_step, copy_step, restart_step, refusal_step, run_step, nothing_step, delivery_step, shown, state_shown, state_next_is, may_deliver, were_put}
+use Rattle.world.proofs.Steps.{put_step, copy_step, restart_step, refusal_step, run_step, nothing_step, delivery_step, state_shown, state_next_is, may_deliver, were_put}
 use Rattle.std.proofs.lemmas.Bool.{cases_lt}
 use Rattle.dvv.specs.Clock.{HasRoom, Within, vnodes_together}
 use Rattle.journal.specs.Limits.{TakesDot}

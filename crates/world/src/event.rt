@@ -1,9 +1,9 @@
 //! Events of a world, and the replies to them.
 
+use crate::hook::Hook;
 use dvv::{Clock, Dot};
 use hookrun::Resolution;
 use object::{Content, Key, KeyState};
-use verifier::Verified;
 use vnode::VnodeFault;
 
 /// What a put had seen.
@@ -47,7 +47,7 @@ pub enum Event {
     /// A resolver runs on the siblings that an earlier get answered.
     ResolveRead {
         get: usize,
-        hook: Verified,
+        hook: Hook,
     },
     /// The content that an earlier run of a resolver chose is put, with the context that the run's get answered.
     ResolveWrite {

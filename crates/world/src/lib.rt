@@ -2,11 +2,11 @@
 #![tactic(auto)]
 
 mod event;
+mod hook;
 pub mod laws;
-#[cfg(test)]
-mod tests;
 mod world;
 
 pub use event::{Event, Message, Reply, Seen};
+pub use hook::Hook;
 pub use hookrun::Resolution;
 pub use world::{MAX_VNODES, World};

@@ -22,13 +22,13 @@ ghost use Rattle.world.specs.Running.{IsMessageOf, Remember, IsReady, IsReadyCon
 ghost use Rattle.world.specs.Resolving.{MayRun};
 
 use crate::event::{Event, Message, Reply, Seen};
+use crate::hook::Hook;
 use dvv::{Clock, Dot};
 use helpers::Table;
 use hookrun::{Resolution, Room, Unresolved, resolve};
 use object::{Content, Key, KeyState};
 use std::alloc::{AllocError, Global};
 use std::marker::Model;
-use verifier::Verified;
 use vnode::{Vnode, VnodeFault};
 
 /// A world after a run: its vnodes, each seen as its journal, and what each event replied.
@@ -462,7 +462,7 @@ fn resolve_read(
     table: &Table,
     replies: &[Reply],
     get: usize,
-    hook: &Verified,
+    hook: &Hook,
 ) -> Reply
     requires answered { ReplyAt replies.now get IsFoundOrRefused }
     requires may { MayRun table.now.listed hook.now }
@@ -472,7 +472,7 @@ fn resolve_read(
         Ok(state) => state,
         Err(refusal) => return Reply::Refused(refusal),
     };
-    match resolve(alloc, room, hook, table, state.siblings()) {
+    match resolve(alloc, room, hook.program(), table, state.siblings()) {
         Ok(resolution) => Reply::Resolved(resolution),
         Err(Unresolved::NoMemory) => Reply::Refused(VnodeFault::NoMemory),
         Err(Unresolved::Disagrees) => unreachable!(),

@@ -1,4 +1,3 @@
-use Rattle.std.proofs.Common.{length}
 use Rattle.world.specs.declared.event.Event.TheVariants as event
 use Rattle.world.specs.declared.event.Reply.TheVariants as reply
 use Rattle.world.proofs.Runs.{delivery_happened, delivery_was_refused, message_was_refused, with_same}

@@ -1,4 +1,4 @@
-use Rattle.std.proofs.Common.{Option, Bor, length, subst}
+use Rattle.std.proofs.Common.{Option, Bor, subst}
 use Rattle.std.specs.Option.{option_copied}
 use Rattle.object.specs.declared.content.Content.{Content}
 use Rattle.world.specs.declared.event.Event.TheVariants as event

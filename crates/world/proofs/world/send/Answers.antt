@@ -1,4 +1,4 @@
-use Rattle.std.proofs.Common.{[], length, refl, ap, subst, ◌∙◌}
+use Rattle.std.proofs.Common.{[], refl, ap, subst, ◌∙◌}
 use Rattle.vnode.specs.Refusals.{RefusesEntry}
 use Rattle.std.proofs.lemmas.List.{get_or_default}
 use Rattle.journal.specs.Logs.{Log}

@@ -1,0 +1,50 @@
+//! Programs that several events run.
+
+ghost use Rattle.std.specs.Prelude.{◌≡◌, IfOk};
+ghost use Rattle.std.specs.Arc.{arc_value};
+
+use std::alloc::AllocError;
+use std::marker::Model;
+use std::sync::Arc;
+use verifier::Verified;
+
+/// A verified program that an event runs as a hook. Events share it. Contracts see the program.
+#[derive(Drop)]
+pub struct Hook {
+    program: Arc<Verified>,
+}
+
+impl Model for Hook {
+    ghost use Rattle.std.specs.Arc.{arc_value};
+    ghost use Rattle.verifier.specs.Program.{Program};
+
+    ghost Value = { Program };
+
+    ghost view = { λ hook. arc_value hook.program };
+}
+
+impl Hook {
+    /// The hook of a program.
+    pub fn new(program: Arc<Verified>) -> Hook
+        ensures { result ≡ arc_value program }
+    {
+        Hook { program }
+    }
+
+    /// The same hook for one event more. It takes no memory; the error is that there are as many as can be counted.
+    pub fn share(&self) -> Result<Hook, AllocError>
+        ensures { IfOk result (λ hook. hook ≡ self.now) }
+    {
+        match Arc::try_clone(&self.program) {
+            Ok(program) => Ok(Hook { program }),
+            Err(_) => Err(AllocError),
+        }
+    }
+
+    /// The program.
+    pub fn program(&self) -> &Verified
+        ensures { result.now ≡ self.now }
+    {
+        &self.program
+    }
+}
