@@ -1,10 +1,22 @@
-//! Whole files, real ones or others.
-ghost use Rattle.std.specs.Prelude.{◌≡◌, ℕ, List, Option, None, OnOk, IfOk, IfSome};
+//! Files, real ones or others: whole, or as much of them as is needed.
+ghost use Rattle.std.specs.Prelude.{◌≡◌, ℕ, List, length, take, Option, None, OnOk, IfOk, IfSome};
+ghost use Rattle.admission.specs.Enough.{AreReadAlike};
 
 use std::alloc::Global;
+use std::fs::OpenFile as _;
+use std::io::Read as _;
 use std::{fs, io, rt};
 
-/// Reads and writes whole files.
+/// The beginning of a file.
+#[derive(Drop)]
+pub struct Part {
+    /// Its first bytes.
+    pub bytes: Vec<u8>,
+    /// How many bytes it has. Of a device or a pipe, which does not tell, how many were read.
+    pub len: u64,
+}
+
+/// Reads and writes files.
 pub trait Files {
     // What the file of a name holds, where that is known.
     ghost held: { Self → List ℕ → Option (List ℕ) } = { λ _ _. None };
@@ -13,9 +25,23 @@ pub trait Files {
     fn read(&self, alloc: Global, name: &str) -> io::Result<Vec<u8>>
         ensures { IfOk result (λ bytes. IfSome (held self.now name.now) (λ known. bytes.items ≡ known)) };
 
+    /// The first bytes of the file, at most so many, and how many it has.
+    fn read_part(&self, alloc: Global, name: &str, most: usize) -> io::Result<Part>
+        ensures bytes { IfOk result (λ part. IfSome (held self.now name.now) (λ known. part.bytes.items ≡ take most known)) }
+        ensures len { IfOk result (λ part. IfSome (held self.now name.now) (λ known. part.len ≡ length known)) };
+
     /// Makes the file hold these bytes alone.
     fn write(&mut self, name: &str, bytes: &[u8]) -> io::Result<()>
         ensures { OnOk result (IfSome (held self.new name.now) (λ known. bytes.now ≡ known)) };
+}
+
+/// As much of the file as tells what it is as a program and as an image.
+pub fn read_program<F: Files>(files: &F, alloc: Global, name: &str) -> io::Result<Vec<u8>>
+    ensures { IfOk result (λ bytes. IfSome (F.held files.now name.now) (λ known. AreReadAlike bytes.items known)) }
+{
+    let mut part = files.read_part(alloc, name, admission::MOST)?;
+    part.bytes.truncate(admission::enough(part.len));
+    Ok(part.bytes)
 }
 
 /// The files of the system, of which nothing is known.
@@ -27,6 +53,15 @@ pub struct Disk<'a, R> {
 impl<R: rt::Files + AllocGlobal> Files for Disk<'_, R> {
     fn read(&self, _alloc: Global, name: &str) -> io::Result<Vec<u8>> {
         fs::read(self.rt, name)
+    }
+
+    fn read_part(&self, alloc: Global, name: &str, most: usize) -> io::Result<Part> {
+        let file = fs::File::open(self.rt, name)?;
+        let told = file.metadata()?.len();
+        let mut bytes = Vec::new(alloc);
+        file.take(most as u64).read_to_end(&mut bytes)?;
+        let len = told.max(bytes.len() as u64);
+        Ok(Part { bytes, len })
     }
 
     fn write(&mut self, name: &str, bytes: &[u8]) -> io::Result<()> {

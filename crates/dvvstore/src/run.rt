@@ -7,14 +7,18 @@ ghost use Rattle.dvvstore.specs.Outcome.{up_to_last_set};
 ghost use Rattle.dvvstore.specs.Run.{ComesTo, IsRunOf};
 
 use crate::command::Failure;
-use crate::files::Files;
+use crate::files::{Files, read_program};
 use crate::outcome::{Outcome, up_to_last_set};
 use admission::admit_program;
+use bpfimage::MAX_WINDOW;
 use helpers::Table;
 use machine::{Done, padded, run as run_verified};
 use std::alloc::{AllocError, Global};
 use std::io::Write;
 use verifier::Verified;
+
+/// At most how many bytes of an input are read: those of the longest window, and one that has no room there.
+const MOST_INPUT: usize = MAX_WINDOW as usize + 1;
 
 /// Runs the program in the file `image` on the bytes of the file `input`, tells on `out` what it came to, and gives the status.
 pub fn run<F: Files, O: Write>(
@@ -27,8 +31,8 @@ pub fn run<F: Files, O: Write>(
 ) -> Result<u8, Failure>
     ensures { IfOk result (Ran table.now.listed (F.held files.now image.now) (F.held files.now input.now) (O.contents out.old) (O.contents out.new)) }
 {
-    let image = files.read(alloc, image)?;
-    let input = files.read(alloc, input)?;
+    let image = read_program(files, alloc, image)?;
+    let input = files.read_part(alloc, input, MOST_INPUT)?.bytes;
     let outcome = outcome_of(alloc, table, &image, &input);
     write!(out, "{outcome}")?;
     Ok(outcome.status())

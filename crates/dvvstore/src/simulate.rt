@@ -3,7 +3,7 @@ ghost use Rattle.std.specs.Prelude.{◌≤◌, IfOk};
 ghost use Rattle.helpers.specs.Entries.{AgreesWith};
 
 use crate::command::Failure;
-use crate::files::Files;
+use crate::files::{Files, read_program};
 use admission::{Refusal, admit_hook};
 use bpfimage::{ImageFault, ImageKind};
 use helpers::{Sigs, Table};
@@ -25,7 +25,7 @@ impl<F: Files> Images for FileImages<'_, F> {
     ghost listed = { λ images. images.sigs.now };
 
     fn hook(&self, alloc: Global, file: &str, kind: ImageKind) -> Result<Verified, NoHook> {
-        let bytes = match self.files.read(alloc, file) {
+        let bytes = match read_program(self.files, alloc, file) {
             Ok(bytes) => bytes,
             Err(error) => {
                 return Err(if error.kind() == io::ErrorKind::OutOfMemory {

@@ -4,7 +4,7 @@ ghost use Rattle.dvvstore.specs.Command.{Judged};
 ghost use Rattle.dvvstore.specs.Verdict.{IsVerdict};
 
 use crate::command::Failure;
-use crate::files::Files;
+use crate::files::{Files, read_program};
 use admission::{Refusal, admit_program};
 use helpers::Table;
 use std::alloc::Global;
@@ -69,7 +69,7 @@ pub fn verify<F: Files, O: Write>(
 ) -> Result<u8, Failure>
     ensures { IfOk result (Judged table.now.listed (F.held files.now image.now) (O.contents out.old) (O.contents out.new)) }
 {
-    let image = files.read(alloc, image)?;
+    let image = read_program(files, alloc, image)?;
     let verdict = verdict_on(alloc, table, &image);
     write!(out, "{verdict}")?;
     Ok(verdict.status())
