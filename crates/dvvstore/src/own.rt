@@ -1,6 +1,6 @@
 //! The helpers that hooks of this program may call.
 
-ghost use Rattle.std.specs.Prelude.{◌≡◌, ◌≤◌, ◌<◌, ◌^◌, ℕ, List, length, max, IfOk, OnOk, OnErr, ◌++◌, ◌∷◌, [], None, Some};
+ghost use Rattle.std.specs.Prelude.{◌≡◌, ◌≤◌, ◌<◌, ◌^◌, ℕ, List, length, max, IfOk, OnOk, IsSome, ◌++◌, ◌∷◌, [], None, Some};
 ghost use Rattle.std.specs.Borrow.{Bor};
 ghost use Rattle.helpers.specs.Text.{order_of, place_of, spelled};
 ghost use Rattle.helpers.specs.Layout.{newest_of};
@@ -23,8 +23,7 @@ use std::io::Write;
 
 /// The Sig of a written helper.
 fn own_written(number: u32) -> Sig
-    requires low { 16 ≤ number }
-    requires high { number ≤ 19 }
+    requires { IsSome (written_shape number) }
     ensures { written_shape number ≡ Some (shape_of result) }
 {
     match written_sig(number) {
