@@ -1,8 +1,9 @@
 //! What a whole request asks for.
 
-ghost use Rattle.std.specs.Prelude.{◌≡◌, ◌≤◌, ◌<◌, ◌++◌, length, All, IfOk, IfErr, Some, ℕ, codes};
+ghost use Rattle.std.specs.Prelude.{◌≡◌, ◌≤◌, ◌<◌, ◌++◌, length, All, IfOk, IfErr, Some, ℕ, codes, option_map};
 ghost use Rattle.object.specs.declared.content.Key.{Key as KeyView};
 ghost use Rattle.httpask.specs.declared.route.Route.TheVariants as route;
+ghost use Rattle.std.specs.Cow.{cow_str_bytes};
 ghost use Rattle.httpask.specs.Target as target;
 ghost use Rattle.httpask.specs.Fields as fields;
 ghost use Rattle.httpask.specs.Target.{texts_of};
@@ -15,7 +16,7 @@ ghost use Rattle.token.specs.Token.{Gives};
 
 use crate::fields::has_element;
 use crate::names::{has_names, is_hook_name, is_name, name_at};
-use crate::query::{Asked, asked_for, quorums_of};
+use crate::query::{Asked, quorums_of, words_of};
 use crate::routes::Routes;
 use crate::whole::Request;
 use dvv::Clock;
@@ -23,6 +24,7 @@ use httpask::{Ask, Call, Form, Refusal, Route};
 use httpprops::changes_in;
 use object::{Bytes, Content, Key, MAX_BUCKET, MAX_MEDIA};
 use std::alloc::{AllocError, Global};
+use std::borrow::CowStr;
 use token::TokenFault;
 
 impl Request<'_> {
@@ -69,14 +71,15 @@ impl Request<'_> {
         if !(self.is(b"GET") || self.is(b"PUT") || self.is(b"POST") || self.is(b"DELETE")) {
             return Ok(Ask::Refused(Refusal::Method));
         }
-        let Some(asked) = quorums_of(alloc, self.query.as_bytes(), copies)? else {
+        let words = words_of(alloc, self.query.as_bytes())?;
+        let Some(asked) = quorums_of(&words, copies) else {
             return Ok(Ask::Refused(Refusal::Query));
         };
         let key = self.key(alloc)?;
         if !has_names(&key) {
             return Ok(Ask::Refused(Refusal::BadName));
         }
-        self.call_of_key(alloc, key, asked)
+        self.call_of_key(alloc, key, asked, words.vtag)
     }
 
     // The key that the path names.
@@ -90,12 +93,19 @@ impl Request<'_> {
     }
 
     // What is asked of the key, where its names and the query are in order.
-    fn call_of_key(self, alloc: Global, key: Key, asked: Asked) -> Result<Ask, AllocError>
+    fn call_of_key(
+        self,
+        alloc: Global,
+        key: Key,
+        asked: Asked,
+        tag: Option<CowStr<'_, Global>>,
+    ) -> Result<Ask, AllocError>
+        requires { option_map cow_str_bytes tag ≡ target.asked_for (codes "vtag") (texts_of self.query.now) }
         ensures asked { IfOk result (λ ask. ask ≡ asked_key key (quorums asked) (request self.entry)) }
         ensures fits { (copies : ℕ) → IsKey key → FitsAsked copies asked → IfOk result (FitsAsk copies) }
     {
         if self.is(b"GET") {
-            let form = self.form(alloc)?;
+            let form = self.form(alloc, tag)?;
             return Ok(Ask::Call(
                 Call::Get {
                     key,
@@ -126,11 +136,11 @@ impl Request<'_> {
     }
 
     // How a read is shown.
-    fn form(self, alloc: Global) -> Result<Form, AllocError>
-        ensures { IfOk result (λ form. form ≡ spec.form_of (target.asked_for (codes "vtag") (texts_of self.entry.query.now)) (fields.has_element (codes "accept") (codes "multipart/mixed") (request self.entry).pairs)) }
+    fn form(self, alloc: Global, tag: Option<CowStr<'_, Global>>) -> Result<Form, AllocError>
+        ensures { IfOk result (λ form. form ≡ spec.form_of (option_map cow_str_bytes tag.entry) (fields.has_element (codes "accept") (codes "multipart/mixed") (request self.entry).pairs)) }
     {
-        match asked_for(alloc, self.query.as_bytes(), "vtag")? {
-            Some(tag) => Ok(Form::One(Bytes::from_slice(alloc, tag.as_bytes())?)),
+        match tag {
+            Some(tag) => Ok(Form::One(Bytes::from_slice(alloc, tag.as_str().as_bytes())?)),
             None => {
                 if has_element(self.fields.accept, b"multipart/mixed") {
                     Ok(Form::Parts)

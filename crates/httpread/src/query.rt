@@ -1,24 +1,75 @@
 //! What the query of a target asks for.
-ghost use Rattle.std.specs.Prelude.{◌≡◌, ◌≤◌, ◌<◌, ◌==◌, ℕ, List, length, map, option_map, Option, Some, None, IfOk, IfSome, IfNone, OnOk};
-ghost use Rattle.std.specs.String.{string_bytes};
+ghost use Rattle.std.specs.Prelude.{◌≡◌, ◌≤◌, ◌<◌, ◌==◌, ℕ, ◌∷◌, List, length, map, option_map, Option, Some, None, IfOk, IfSome, IfNone, OnOk};
+ghost use Rattle.std.specs.Option.{option_copied};
+ghost use Rattle.std.specs.Cow.{cow_str_bytes};
 ghost use Rattle.httpask.specs.Target as spec;
 ghost use Rattle.httpread.specs.Numbers as numbers;
+ghost use Rattle.httpread.specs.Words.{AreWords, WordsLeadTo};
 ghost use Rattle.httpread.specs.Views.{quorums, FitsAsked};
 
 use crate::number::plain_number;
 use std::alloc::{AllocError, Global};
+use std::borrow::CowStr;
 
-/// The value of the query's first pair of this name, where it is text.
-pub fn asked_for(alloc: Global, query: &[u8], name: &str) -> Result<Option<String>, AllocError>
-    ensures { IfOk result (λ o. option_map string_bytes o ≡ spec.asked_for name.now (spec.texts_of query.now)) }
+/// The words of a query: the value of the first pair of each name that the store reads, as text.
+#[derive(Drop)]
+pub(crate) struct Words<'q> {
+    pub(crate) r: Option<CowStr<'q, Global>>,
+    pub(crate) w: Option<CowStr<'q, Global>>,
+    pub(crate) at: Option<CowStr<'q, Global>>,
+    pub(crate) vtag: Option<CowStr<'q, Global>>,
+}
+
+/// The words of a query, found in one pass over its pairs.
+pub(crate) fn words_of(alloc: Global, query: &[u8]) -> Result<Words<'_>, AllocError>
+    ensures { IfOk result (λ words. AreWords words (spec.texts_of query.now)) }
 {
+    let mut words = Words {
+        r: None,
+        w: None,
+        at: None,
+        vtag: None,
+    };
     for pair in form_urlencoded::parse(alloc, query) {
-        let (found, value) = pair?;
-        if found.as_str() == name {
-            return Ok(Some(String::from_str(alloc, value.as_str())?));
-        }
+        let (name, value) = pair?;
+        words = with_pair(words, name.as_str(), value);
     }
-    Ok(None)
+    Ok(words)
+}
+
+// The words with those of one pair more.
+fn with_pair<'q>(words: Words<'q>, name: &str, value: CowStr<'q, Global>) -> Words<'q>
+    ensures { (rest pairs : List (List ℕ × List ℕ)) → WordsLeadTo words.entry ((name.now, cow_str_bytes value.entry) ∷ rest) pairs → WordsLeadTo result rest pairs }
+{
+    match name {
+        "r" => Words {
+            r: words.r.or(Some(value)),
+            ..words
+        },
+        "w" => Words {
+            w: words.w.or(Some(value)),
+            ..words
+        },
+        "at" => Words {
+            at: words.at.or(Some(value)),
+            ..words
+        },
+        "vtag" => Words {
+            vtag: words.vtag.or(Some(value)),
+            ..words
+        },
+        _ => words,
+    }
+}
+
+// The text of a word.
+fn text_of<'a>(word: &'a Option<CowStr<'_, Global>>) -> Option<&'a str>
+    ensures { option_copied result ≡ option_map cow_str_bytes word.now }
+{
+    match word {
+        Some(word) => Some(word.as_str()),
+        None => None,
+    }
 }
 
 /// How many copies a query asks for, and which of them coordinates.
@@ -29,38 +80,34 @@ pub(crate) struct Asked {
     pub(crate) at: u32,
 }
 
-/// The copies that the query asks for, of so many; none where a word is none that it may be.
-pub(crate) fn quorums_of(
-    alloc: Global,
-    query: &[u8],
-    copies: u32,
-) -> Result<Option<Asked>, AllocError>
+/// The copies that the words of a query ask for, of so many; none where one is none that it may be.
+pub(crate) fn quorums_of(words: &Words<'_>, copies: u32) -> Option<Asked>
     requires some { 1 ≤ copies }
     requires few { copies ≤ 3 }
-    ensures quorums { IfOk result (λ asked. option_map quorums asked ≡ spec.quorums_of copies (spec.texts_of query.now)) }
-    ensures fits { IfOk result (λ asked. IfSome asked (FitsAsked copies)) }
+    ensures quorums { (pairs : List (List ℕ × List ℕ)) → AreWords words.now pairs → option_map quorums result ≡ spec.quorums_of copies pairs }
+    ensures fits { IfSome result (FitsAsked copies) }
 {
-    let read = copies_of(asked_for(alloc, query, "r")?, copies);
-    let write = copies_of(asked_for(alloc, query, "w")?, copies);
-    let at = place_of(asked_for(alloc, query, "at")?, copies);
+    let read = copies_of(text_of(&words.r), copies);
+    let write = copies_of(text_of(&words.w), copies);
+    let at = place_of(text_of(&words.at), copies);
     match (read, write, at) {
-        (Some(read), Some(write), Some(at)) => Ok(Some(Asked { read, write, at })),
-        _ => Ok(None),
+        (Some(read), Some(write), Some(at)) => Some(Asked { read, write, at }),
+        _ => None,
     }
 }
 
 // So many of the copies, by the word of a query.
-fn copies_of(word: Option<String>, copies: u32) -> Option<u32>
+fn copies_of(word: Option<&str>, copies: u32) -> Option<u32>
     requires some { 1 ≤ copies }
     requires few { copies ≤ 3 }
-    ensures copies { result ≡ spec.copies_of copies (option_map string_bytes word) }
+    ensures copies { result ≡ spec.copies_of copies (option_copied word.entry) }
     ensures fits { IfSome result (λ n. (1 ≤ n) × (n ≤ copies)) }
 {
     let quorum = copies / 2 + 1;
     let Some(word) = word else {
         return Some(quorum);
     };
-    match word.as_str() {
+    match word {
         "quorum" | "default" => Some(quorum),
         "one" => Some(1),
         "all" => Some(copies),
@@ -69,10 +116,10 @@ fn copies_of(word: Option<String>, copies: u32) -> Option<u32>
 }
 
 // The coordinator's index, by the word of a query.
-fn place_of(word: Option<String>, copies: u32) -> Option<u32>
+fn place_of(word: Option<&str>, copies: u32) -> Option<u32>
     requires some { 1 ≤ copies }
     requires few { copies ≤ 3 }
-    ensures place { result ≡ spec.place_of copies (option_map string_bytes word) }
+    ensures place { result ≡ spec.place_of copies (option_copied word.entry) }
     ensures fits { IfSome result (λ n. n < copies) }
 {
     match word {
