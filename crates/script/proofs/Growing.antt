@@ -15,6 +15,8 @@ use Rattle.script.specs.declared.script.Script.{Script}
 use Rattle.script.specs.declared.script.Answered.{Answered}
 use Rattle.script.specs.Scripts.{IsRunnable, IsOneMore, tells_event}
 use Rattle.world.specs.declared.event.Event.TheVariants.{Put, Get, Send, Deliver, Restart, ResolveRead, ResolveWrite}
+use Rattle.verifier.specs.Program.{Program}
+use Rattle.world.specs.Resolving.{MayRun}
 use Rattle.world.specs.Running.{AreRunnable, MayCome}
 
 -- what stands in a list with one more at its end
@@ -81,3 +83,17 @@ pub runs_over : (m n : ℕ) (listed : List Entry) (events : List Event) → m �
 runs_over m n listed events none runnable place event at =
     let at_none : AreRunnable 0 listed events = subst (λ (k : ℕ). AreRunnable k listed events) none runnable in
     absurd (none_comes listed events place event at_none (at_none place event at))
+
+-- where nothing stands nothing has to run
+pub nothing_runs : (listed : List Entry) (script : Script) → script.vnodes ≡ 0 → script.events.items ≡ [] → script.answered.items ≡ [] → IsRunnable listed script
+nothing_runs listed script vnodes events answered = record {
+  few = omega (arith, vnodes);
+  events = subst (λ (es : List Event). AreRunnable script.vnodes listed es) (sym events) (λ place event at. absurd (let lt : place < 0 = slice_get_within [] place event at in omega (arith, lt)));
+  told = ap (λ (lines : List Answered). count_by tells_event lines) answered ∙ sym (ap (λ (es : List Event). length es) events);
+}
+
+-- what runs at a place may run as a resolver
+pub may_run : (listed : List Entry) (script : Script) (events : List Event) (place get : ℕ) (hook : Program) → IsRunnable listed script → events ≡ script.events.items → slice_get events place ≡ Some (ResolveRead get hook) → MayRun listed hook
+may_run listed script events place get hook runnable same at =
+    let comes : MayCome script.vnodes listed (take place script.events.items) (ResolveRead get hook) = runnable.events place (ResolveRead get hook) (subst (λ (es : List Event). slice_get es place ≡ Some (ResolveRead get hook)) same at) in
+    comes.1

@@ -5,8 +5,8 @@ ghost use Rattle.helpers.specs.declared.sig.Entry.{Entry};
 ghost use Rattle.helpers.specs.Entries.{AgreesWith};
 
 use admission::Refusal;
-use bpfimage::ImageKind;
-use std::alloc::Global;
+use bpfimage::{ImageFault, ImageKind};
+use std::alloc::{AllocError, Global};
 use verifier::Verified;
 
 /// Why there is no hook under a name.
@@ -18,12 +18,19 @@ pub enum NoHook {
     Refused(Refusal),
 }
 
+impl From<AllocError> for NoHook {
+    /// Want of memory for a hook is told as the refusal of its image.
+    fn from(_: AllocError) -> NoHook {
+        NoHook::Refused(Refusal::Image(ImageFault::NoMemory))
+    }
+}
+
 /// Where the images of a script's hooks come from.
 pub trait Images {
     // The helpers that a table must have for these hooks.
     ghost listed: { Self → List Entry };
 
-    /// The hook of a kind in the file of a name.
+    /// The hook of a kind in the file of a name. A script asks for each once.
     fn hook(&self, alloc: Global, file: &str, kind: ImageKind) -> Result<Verified, NoHook>
         ensures { IfOk result (λ hook. (hook.kind ≡ kind) × AgreesWith (listed self.now) hook.sigs) };
 }

@@ -161,7 +161,13 @@ fn print_decision(
 ) -> Result<(), AllocError>
     ensures { OnOk result ((decided : Outcome Meaning RunFault) × Decides table.now.listed check.now state.now decided × (string_bytes text.new ≡ string_bytes text.old ++ decision_text decided)) }
 {
-    match decide(room, &check.hook, table, Some(&check.new), state.siblings()) {
+    match decide(
+        room,
+        check.hook.program(),
+        table,
+        Some(&check.new),
+        state.siblings(),
+    ) {
         Ok(verdict) => print_verdict(alloc, &verdict, text),
         Err(fault) => print_run_fault(fault, text),
     }

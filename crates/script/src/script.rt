@@ -4,6 +4,8 @@ ghost use Rattle.std.specs.Prelude.{◌≡◌, ◌+◌, ◌<◌, ◌≤◌, ℕ,
 ghost use Rattle.helpers.specs.declared.sig.Entry.{Entry};
 ghost use Rattle.lines.specs.Lines.{lines_in};
 ghost use Rattle.script.specs.Scripts.{IsRunnable, IsOneMore, tells_event, lines_of, asks, AnswersFor, AnswersUpTo};
+ghost use Rattle.helpers.specs.Entries.{AgreesWith};
+ghost use Rattle.world.specs.Resolving.{MayRun};
 ghost use Rattle.world.specs.Running.{AreRunnable, MayCome, IsGetAt, IsSendAt, IsRunAt, IsEarlierContext};
 
 use crate::check::Check;
@@ -17,7 +19,7 @@ use std::alloc::{AllocError, Global};
 use std::collections::BTreeMap;
 use std::str;
 use token::TokenFault;
-use world::{Event, Seen};
+use world::{Event, Hook, Seen};
 
 /// The most vnodes of a script.
 pub const MAX_VNODES: usize = 64;
@@ -62,7 +64,14 @@ struct Names<'a> {
     events: Places<'a>,
     /// The latest run of a resolver on a get of that name, where no later one was refused.
     runs: Places<'a>,
+    /// The resolvers in files.
+    resolvers: Asked<'a>,
+    /// The pre-commit hooks in files.
+    checks: Asked<'a>,
 }
+
+// What was answered of the images in files: the place of the first to have the hook, or the image's refusal.
+type Asked<'a> = BTreeMap<&'a [u8], Result<usize, Refusal>>;
 
 /// The script that these bytes spell, up to its first bad line, and that line. Nothing behind it was read. A line whose file
 /// can't be read is bad.
@@ -82,6 +91,8 @@ pub fn parse<'a, I: Images>(
     let mut names = Names {
         events: Places::new(alloc),
         runs: Places::new(alloc),
+        resolvers: Asked::new(alloc),
+        checks: Asked::new(alloc),
     };
     let mut number: usize = 0;
     let mut left = bytes;
@@ -178,7 +189,7 @@ fn read_line<'a, I: Images>(
             key,
             value,
             file,
-        } => read_check(alloc, script, images, vnode, key, value, file),
+        } => read_check(alloc, script, names, images, vnode, key, value, file),
     }
 }
 
@@ -199,7 +210,7 @@ fn read_resolve<'a, I: Images>(
         return Ok(Some(BadLine::NoGet(name)));
     };
     let place = script.events.len();
-    match images.hook(alloc, file, ImageKind::Resolver) {
+    match resolver(alloc, script, &mut names.resolvers, images, file) {
         Ok(hook) => {
             push(script, Event::ResolveRead { get, hook })?;
             names.runs.insert(name, place)?;
@@ -242,6 +253,7 @@ fn read_commit<'a>(
 fn read_check<'a, I: Images>(
     alloc: Global,
     script: &mut Script,
+    names: &mut Names<'a>,
     images: &I,
     vnode: usize,
     key: &[u8],
@@ -255,7 +267,7 @@ fn read_check<'a, I: Images>(
     if vnode >= script.vnodes {
         return Ok(Some(BadLine::NoVnode(vnode)));
     }
-    match images.hook(alloc, file, ImageKind::PreCommit) {
+    match pre_commit(alloc, script, &mut names.checks, images, file) {
         Ok(hook) => {
             let key = key_of(alloc, key)?;
             let new = content_of(alloc, Some(value))?;
@@ -269,6 +281,88 @@ fn read_check<'a, I: Images>(
         }
         Err(NoHook::Unreadable) => Ok(Some(BadLine::NoFile(file))),
     }
+}
+
+// The resolver in a file: that of an earlier line, or what the images answer.
+fn resolver<'a, I: Images>(
+    alloc: Global,
+    script: &Script,
+    asked: &mut Asked<'a>,
+    images: &I,
+    file: &'a str,
+) -> Result<Hook, NoHook>
+    requires { IsRunnable (I.listed images.now) script.now }
+    ensures { IfOk result (MayRun (I.listed images.now)) }
+{
+    match asked.get(file.as_bytes()) {
+        Some(Ok(place)) => {
+            if let Some(hook) = hook_at(&script.events, *place) {
+                return Ok(hook.share()?);
+            }
+        }
+        Some(Err(refusal)) => return Err(NoHook::Refused(*refusal)),
+        None => {}
+    }
+    let place = script.events.len();
+    ask(alloc, asked, place, images, file, ImageKind::Resolver)
+}
+
+// The pre-commit hook in a file: that of an earlier line, or what the images answer.
+fn pre_commit<'a, I: Images>(
+    alloc: Global,
+    script: &Script,
+    asked: &mut Asked<'a>,
+    images: &I,
+    file: &'a str,
+) -> Result<Hook, NoHook>
+    ensures { IfOk result (λ hook. hook.kind ≡ ImageKind.PreCommit) }
+{
+    match asked.get(file.as_bytes()) {
+        Some(Ok(place)) => {
+            if let Some(Answered::Checked(check)) = script.answered.get(*place) {
+                return Ok(check.hook.share()?);
+            }
+        }
+        Some(Err(refusal)) => return Err(NoHook::Refused(*refusal)),
+        None => {}
+    }
+    let place = script.answered.len();
+    ask(alloc, asked, place, images, file, ImageKind::PreCommit)
+}
+
+// What the images answer of a file, which is kept: for a hook its place, for an image that is refused the refusal.
+fn ask<'a, I: Images>(
+    alloc: Global,
+    asked: &mut Asked<'a>,
+    place: usize,
+    images: &I,
+    file: &'a str,
+    kind: ImageKind,
+) -> Result<Hook, NoHook>
+    ensures { IfOk result (λ hook. (hook.kind ≡ kind) × AgreesWith (I.listed images.now) hook.sigs) }
+{
+    match images.hook(alloc, file, kind) {
+        Ok(program) => {
+            let hook = Hook::new(alloc, program)?;
+            keep(asked, file, Ok(place))?;
+            Ok(hook)
+        }
+        Err(NoHook::Refused(refusal)) => {
+            keep(asked, file, Err(refusal))?;
+            Err(NoHook::Refused(refusal))
+        }
+        Err(NoHook::Unreadable) => Err(NoHook::Unreadable),
+    }
+}
+
+// Keeps what was answered of a file.
+fn keep<'a>(
+    asked: &mut Asked<'a>,
+    file: &'a str,
+    answer: Result<usize, Refusal>,
+) -> Result<(), AllocError> {
+    asked.insert(file.as_bytes(), answer)?;
+    Ok(())
 }
 
 // The first line tells how many vnodes there are, and no other does.
@@ -389,6 +483,16 @@ fn resolved(events: &[Event], places: &Places<'_>, name: &[u8]) -> Option<usize>
     let place = *places.get(name)?;
     match events.get(place) {
         Some(Event::ResolveRead { .. }) => Some(place),
+        _ => None,
+    }
+}
+
+// What a resolver's run at a place runs.
+fn hook_at(events: &[Event], place: usize) -> Option<&Hook>
+    ensures { IfSome result (λ hook. (get : ℕ) × (slice_get events.now place ≡ Some (Event.ResolveRead get hook.now))) }
+{
+    match events.get(place) {
+        Some(Event::ResolveRead { hook, .. }) => Some(hook),
         _ => None,
     }
 }

@@ -1,9 +1,8 @@
 //! Programs that several events run.
 
 ghost use Rattle.std.specs.Prelude.{◌≡◌, IfOk};
-ghost use Rattle.std.specs.Arc.{arc_value};
 
-use std::alloc::AllocError;
+use std::alloc::{AllocError, Global};
 use std::marker::Model;
 use std::sync::Arc;
 use verifier::Verified;
@@ -24,11 +23,13 @@ impl Model for Hook {
 }
 
 impl Hook {
-    /// The hook of a program.
-    pub fn new(program: Arc<Verified>) -> Hook
-        ensures { result ≡ arc_value program }
+    /// The hook of a program, with memory of its own.
+    pub fn new(alloc: Global, program: Verified) -> Result<Hook, AllocError>
+        ensures { IfOk result (λ hook. hook ≡ program) }
     {
-        Hook { program }
+        Ok(Hook {
+            program: Arc::new(alloc, program)?,
+        })
     }
 
     /// The same hook for one event more. It takes no memory; the error is that there are as many as can be counted.

@@ -1,6 +1,14 @@
-use Rattle.script.proofs.Reading.{goes_on, ends}
+use Rattle.std.proofs.Common.{◌≡◌, List, length, refl, ap, arith}
+use Rattle.script.specs.declared.script.Answered.{Answered}
+use Rattle.script.proofs.Growing.{nothing_runs}
+use Rattle.script.proofs.Reading.{begins, goes_on, ends}
 use Rattle.script.proofs.Clauses.{of_none}
 use Rattle.script.proofs.script.parse.Goals as goal
+
+pub loop-line-init : goal.loop-line-init
+loop-line-init g c =
+    let none : length c.new-2.result.items ≡ 0 = ap (λ (lines : List Answered). length lines) c.new-2.ensures.items in
+    begins _ _ _ (nothing_runs _ _ refl c.new.ensures.items c.new-2.ensures.items) (omega (arith, none))
 
 pub loop-line-preserved : goal.loop-line-preserved
 loop-line-preserved g c =
