@@ -2,6 +2,7 @@
 use Rattle.std.specs.Prelude.{◌≡◌, ℕ, List, Option, IfSome}
 use Rattle.std.specs.Io.KnownBytes.{Appends}
 use Rattle.helpers.specs.declared.sig.Entry.{Entry}
+use Rattle.script.specs.Printing.{Simulated}
 use Rattle.dvvstore.specs.declared.outcome.Outcome.{Outcome}
 use Rattle.dvvstore.specs.declared.verify.Verdict.{Verdict}
 use Rattle.dvvstore.specs.Outcome.{text_of, status_of}
@@ -28,3 +29,9 @@ pub record Judged (sigs : List Entry) (held_image before after : Option (List �
   pub is_verdict : IsVerdict sigs image verdict
   pub told : Appends before after (verdict_text verdict)
   pub status_is : status ≡ verdict_status verdict
+
+-- The script in a file was run, and what its lines print was told: at status 2 what the lines before the bad one print, and which it is.
+pub record SimulatedFile (sigs : List Entry) (held_script before after : Option (List ℕ)) (status : ℕ) : Type 0 where
+  pub script : List ℕ
+  pub from_script : IfSome held_script (λ known. script ≡ known)
+  pub simulated : Simulated sigs script before after status

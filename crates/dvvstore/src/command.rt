@@ -2,7 +2,7 @@
 ghost use Rattle.std.specs.Prelude.{◌≡◌, ℕ, ◌<◌, ◌≤◌, List};
 ghost use Rattle.std.specs.Borrow.{Bor};
 ghost use Rattle.dvvstore.specs.Words.{request_of};
-ghost use Rattle.dvvstore.specs.Command.{Judged, Ran};
+ghost use Rattle.dvvstore.specs.Command.{Judged, Ran, SimulatedFile};
 
 use crate::files::Files;
 use crate::run::run;
@@ -59,6 +59,7 @@ pub fn command<F: Files, O: Write, E: Write>(
     ensures status { result ≤ 2 }
     ensures ran { (image input : Bor (List ℕ)) → request_of words.now ≡ Some (Request.Run image input) → result < 2 → Ran table.now.listed (F.held files.old image.now) (F.held files.old input.now) (O.contents out.old) (O.contents out.new) result }
     ensures judged { (image : Bor (List ℕ)) → request_of words.now ≡ Some (Request.Verify image) → result < 2 → Judged table.now.listed (F.held files.old image.now) (O.contents out.old) (O.contents out.new) result }
+    ensures simulated { (script : Bor (List ℕ)) → request_of words.now ≡ Some (Request.Sim script) → result < 2 → SimulatedFile table.now.listed (F.held files.old script.now) (O.contents out.old) (O.contents out.new) result }
     ensures wrong_words { request_of words.now ≡ None → result ≡ 2 }
     ensures untouched { request_of words.now ≡ None → out.new ≡ out.old }
 {

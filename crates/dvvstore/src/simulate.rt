@@ -1,6 +1,7 @@
 //! The command `sim SCRIPT`.
 ghost use Rattle.std.specs.Prelude.{◌≤◌, IfOk};
 ghost use Rattle.helpers.specs.Entries.{AgreesWith};
+ghost use Rattle.dvvstore.specs.Command.{SimulatedFile};
 
 use crate::command::Failure;
 use crate::files::{Files, read_program};
@@ -52,7 +53,8 @@ pub fn simulate<F: Files, O: Write, E: Write>(
     out: &mut O,
     err: &mut E,
 ) -> Result<u8, Failure>
-    ensures { IfOk result (λ status. status ≤ 2) }
+    ensures status { IfOk result (λ status. status ≤ 2) }
+    ensures simulated { IfOk result (SimulatedFile table.now.listed (F.held files.now script.now) (O.contents out.old) (O.contents out.new)) }
 {
     let script = files.read(alloc, script)?;
     let images = FileImages {

@@ -190,13 +190,13 @@ const SCRIPTS: [Script; 9] = [
 fn hooks_in_scripts(rt: HostRuntime) -> Result<(), Fail> {
     let alloc = rt.alloc();
     let mut images = Vec::new(alloc);
-    for (_, head, slots) in HOOKS {
-        images.push(image(alloc, head, slots)?)?;
+    for (file, head, slots) in HOOKS {
+        images.push((file, image(alloc, head, slots)?))?;
     }
     for (name, script, out, status) in SCRIPTS {
         let mut files = Vec::new(alloc);
         files.push(("script", script.as_bytes()))?;
-        for ((file, _, _), bytes) in HOOKS.iter().zip(&images) {
+        for (file, bytes) in &images {
             files.push((*file, bytes.as_slice()))?;
         }
         let err = if status == 2 {

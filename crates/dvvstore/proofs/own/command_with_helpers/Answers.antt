@@ -6,3 +6,6 @@ returns-clause-ran g c image input words done = (c.add-6.new.table.listed, searc
 
 pub returns-clause-judged : goal.returns-clause-judged
 returns-clause-judged g c image words done = (c.add-6.new.table.listed, search rules, c.command.ensures.judged image words done)
+
+pub returns-clause-simulated : goal.returns-clause-simulated
+returns-clause-simulated g c script words done = (c.add-6.new.table.listed, search rules, c.command.ensures.simulated script words done)
