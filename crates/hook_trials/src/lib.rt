@@ -1,0 +1,5 @@
+//! Tests of puts with pre-commit hooks and of gets with resolvers, over the vnodes of one thread.
+#![tactic(auto)]
+
+#[cfg(test)]
+mod tests;

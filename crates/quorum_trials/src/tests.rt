@@ -1,0 +1,4 @@
+//! The tests by the vnodes that they call.
+
+mod gets_and_puts;
+mod peers_that_answer;

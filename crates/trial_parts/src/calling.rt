@@ -1,0 +1,106 @@
+//! The calls that the tests try, over vnodes of any kind.
+
+ghost use Rattle.std.specs.Prelude.{◌∷◌, ◌<◌, ◌^◌, length};
+ghost use Rattle.place.specs.Places.{AreDifferent};
+
+use crate::building::content_of;
+use crate::hooking::bind;
+use bpfimage::ImageKind;
+use dvv::{Clock, Dot};
+use helpers::Table;
+use hooks::{Hooks, Registry};
+use object::{Content, Key, KeyState};
+use peers::{Answer, Peers};
+use quorum::{Hooking, QuorumFault};
+use std::alloc::{AllocError, Global};
+use std::sync::Arc;
+use std::test::Fail;
+use verifier::Verified;
+
+/// Puts a content.
+pub fn put<P: Peers, H: Hooks>(
+    peers: &mut P,
+    hooking: &mut Hooking<H>,
+    coordinator: usize,
+    others: &[usize],
+    key: &Key,
+    seen: &Clock,
+    content: &Content,
+    w: usize,
+) -> Result<Dot, QuorumFault>
+    requires few { length others.now < 2 ^ 32 }
+    requires different { AreDifferent (coordinator ∷ others.now) }
+{
+    quorum::put(peers, hooking, coordinator, others, key, seen, content, w)
+}
+
+/// Puts a value of media type `text/plain`, with no hook at all.
+pub fn put_value<P: Peers>(
+    alloc: Global,
+    peers: &mut P,
+    coordinator: usize,
+    others: &[usize],
+    key: &Key,
+    seen: &Clock,
+    value: &[u8],
+    w: usize,
+) -> Result<Result<Dot, QuorumFault>, AllocError>
+    requires few { length others.now < 2 ^ 32 }
+    requires different { AreDifferent (coordinator ∷ others.now) }
+{
+    let content = content_of(alloc, value)?;
+    let mut hooking = Hooking::new(alloc, Registry::new(alloc), Table::new(alloc));
+    Ok(put(
+        peers,
+        &mut hooking,
+        coordinator,
+        others,
+        key,
+        seen,
+        &content,
+        w,
+    ))
+}
+
+/// Puts a content where bucket `b` has this pre-commit hook, which calls no helper.
+pub fn put_hooked<P: Peers>(
+    alloc: Global,
+    peers: &mut P,
+    hook: Arc<Verified>,
+    coordinator: usize,
+    others: &[usize],
+    key: &Key,
+    seen: &Clock,
+    content: &Content,
+    w: usize,
+) -> Result<Result<Dot, QuorumFault>, Fail>
+    requires few { length others.now < 2 ^ 32 }
+    requires different { AreDifferent (coordinator ∷ others.now) }
+{
+    let mut registry = Registry::new(alloc);
+    bind(alloc, &mut registry, ImageKind::PreCommit, hook)?;
+    let mut hooking = Hooking::new(alloc, registry, Table::new(alloc));
+    Ok(put(
+        peers,
+        &mut hooking,
+        coordinator,
+        others,
+        key,
+        seen,
+        content,
+        w,
+    ))
+}
+
+/// Gets a key, and what each vnode answered.
+pub fn get<P: Peers>(
+    alloc: Global,
+    peers: &mut P,
+    key: &Key,
+    vnodes: &[usize],
+    r: usize,
+) -> Result<(KeyState, Vec<Answer>), QuorumFault>
+    requires { AreDifferent vnodes.now }
+{
+    quorum::get(alloc, peers, key, vnodes, r)
+}

@@ -1,0 +1,60 @@
+//! Buckets with a hook.
+
+ghost use Rattle.std.specs.Prelude.{IsErr};
+
+use crate::programs::hook;
+use bpfimage::ImageKind;
+use helpers::Sigs;
+use hooks::{Hooks, NameFault, NotSeen, Registry};
+use object::Bytes;
+use std::alloc::Global;
+use std::sync::Arc;
+use std::test::Fail;
+use verifier::Verified;
+
+/// A hook of a kind that calls no helper, with an input window of so many bytes, an output window of 8 and this code.
+pub fn program(
+    alloc: Global,
+    kind: u8,
+    in_len: u16,
+    code: &[[u8; 8]],
+) -> Result<Arc<Verified>, Fail> {
+    let verified = hook(alloc, &Sigs::new(alloc), kind, in_len, 8, code)?;
+    Ok(Arc::new(alloc, verified)?)
+}
+
+/// Binds a hook to bucket `b`.
+pub fn bind(
+    alloc: Global,
+    registry: &mut Registry,
+    kind: ImageKind,
+    program: Arc<Verified>,
+) -> Result<(), Fail> {
+    let name = Bytes::from_slice(alloc, b"hook")?;
+    registry.install(name.copy()?, program)?;
+    let bucket = Bytes::from_slice(alloc, b"b")?;
+    registry.bind(&bucket, &[(kind, Some(name))])?;
+    Ok(())
+}
+
+/// A registry that is never seen.
+#[derive(Drop)]
+pub struct Hidden;
+
+impl Hooks for Hidden {
+    ghost finds = { λ before bucket kind answer after. IsErr answer };
+
+    ghost names = { λ before bucket kind answer after. IsErr answer };
+
+    fn hook_of(
+        &mut self,
+        _bucket: &Bytes,
+        _kind: ImageKind,
+    ) -> Result<Option<Arc<Verified>>, NotSeen> {
+        Err(NotSeen)
+    }
+
+    fn bound(&mut self, _bucket: &Bytes, _kind: ImageKind) -> Result<Option<Bytes>, NameFault> {
+        Err(NameFault::NotSeen)
+    }
+}
