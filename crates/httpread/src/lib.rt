@@ -1,4 +1,8 @@
 //! What the bytes of a connection ask for: one request at a time, however they were cut.
+//!
+//! [`first_request`] tells what the first request asks for by the definitions of `httpask` (`Asks`, `IsUnfinished`). Heads
+//! are read by httparse, targets by http_uri, routes by matchit, names by percent_encoding, queries by form_urlencoded. The
+//! fields and the words of the query that the store reads are found in one pass each.
 #![tactic(auto)]
 
 mod asked;

@@ -23,11 +23,13 @@ use std::alloc::{AllocError, Global};
 pub enum Asking {
     /// No whole request is there yet.
     More,
-    /// The first request: what it asks for, whether the connection ends after the answer, and its length.
+    /// The first request: what it asks for, whether the connection ends after the answer, and how many of the bytes are
+    /// its own. Where the connection ends nothing behind them is read.
     First { ask: Ask, ends: bool, len: usize },
 }
 
-/// What the bytes at hand come to, where each key has so many copies.
+/// What the bytes at hand come to, where each key has so many copies, 1 to 3. The bytes may be cut anywhere: what is told of
+/// them holds whatever follows. The error is want of memory.
 pub fn first_request(
     alloc: Global,
     routes: &Routes,
