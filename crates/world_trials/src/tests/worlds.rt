@@ -4,8 +4,6 @@ ghost use Rattle.std.specs.Prelude.{◌≡◌, true};
 ghost use Rattle.world.specs.Resolving.{MayRun};
 ghost use Rattle.world.specs.Running.{AreRunnable, IsEarlierContext, IsGetAt, IsRunAt, IsSendAt, MayCome};
 
-use crate::tests::building::{content_of, key_of};
-use crate::tests::programs::{RESOLVER, answer, hook};
 use bpfimage::ImageKind;
 use dvv::Clock;
 use helpers::{Sigs, Table};
@@ -14,8 +12,10 @@ use std::alloc::{AllocError, Global};
 use std::fmt::Write as _;
 use std::process::Abort;
 use std::test::Fail;
+use trial_parts::building::{content_of, key_of};
+use trial_parts::programs::{RESOLVER, answer, hook};
 use verifier::Verified;
-use world::{Event, Reply, Resolution, Seen, World};
+use world::{Event, Hook, Reply, Resolution, Seen, World};
 
 /// A resolver with windows of these lengths, which answers so.
 fn resolver(alloc: Global, windows: (u16, u8), code: u16) -> Result<Verified, Fail> {
@@ -124,7 +124,9 @@ fn may_come(vnodes: usize, table: &Table, before: &[Event], event: &Event) -> bo
         Event::Send { vnode, .. } => *vnode < vnodes,
         Event::Deliver { message, vnode } => *vnode < vnodes && is_send(before, *message),
         Event::Restart { vnode } => *vnode < vnodes,
-        Event::ResolveRead { get, hook } => is_get(before, *get) && may_run(table, hook),
+        Event::ResolveRead { get, hook } => {
+            is_get(before, *get) && may_run(table, hook.program())
+        }
         Event::ResolveWrite { run, vnode } => *vnode < vnodes && is_run(before, *run),
     }
 }
@@ -200,6 +202,15 @@ fn print(text: &mut String, reply: &Reply) -> Result<(), AllocError> {
     write!(text, ";")
 }
 
+/// The text of replies, from a place on.
+fn printed(alloc: Global, replies: &[Reply], from: usize) -> Result<String, AllocError> {
+    let mut text = String::new(alloc);
+    for reply in replies.iter().skip(from) {
+        print(&mut text, reply)?;
+    }
+    Ok(text)
+}
+
 /// Events over three vnodes reply so, from a place on.
 fn check(
     rt: &impl Abort,
@@ -212,22 +223,22 @@ fn check(
     let table = Table::new(alloc);
     assert!(rt; are_runnable(3, &table, events), "{name}");
     let world = World::run(alloc, 3, &table, events)?;
-    let mut text = String::new(alloc);
-    for reply in world.replies().iter().skip(from) {
-        print(&mut text, reply)?;
-    }
+    let text = printed(alloc, world.replies(), from)?;
     assert_eq!(rt; text.as_str(), want, "{name}");
     Ok(())
 }
 
-#[test]
-fn resolver_takes_first(rt: HostRuntime) -> Result<(), Fail> {
-    let alloc = rt.alloc();
+/// A resolver's run on these siblings, which is event 5, with windows of these lengths and this answer.
+fn run_on_siblings(alloc: Global, windows: (u16, u8), code: u16) -> Result<Vec<Event>, Fail> {
+    let hook = Hook::new(alloc, resolver(alloc, windows, code)?)?;
     let mut events = two_siblings(alloc)?;
-    events.push(Event::ResolveRead {
-        get: 4,
-        hook: resolver(alloc, (128, 0), 256)?,
-    })?;
+    events.push(Event::ResolveRead { get: 4, hook })?;
+    Ok(events)
+}
+
+/// Between a resolver's run and its write a value of vnode 2 comes to vnode 0, which is read at last.
+fn written_beside_another(alloc: Global) -> Result<Vec<Event>, Fail> {
+    let mut events = run_on_siblings(alloc, (128, 0), 256)?;
     events.push(put(alloc, 2, b'c')?)?;
     events.push(send(alloc, 2)?)?;
     events.push(Event::Deliver {
@@ -236,6 +247,13 @@ fn resolver_takes_first(rt: HostRuntime) -> Result<(), Fail> {
     })?;
     events.push(Event::ResolveWrite { run: 5, vnode: 0 })?;
     events.push(get(alloc, 0)?)?;
+    Ok(events)
+}
+
+#[test]
+fn resolver_takes_first(rt: HostRuntime) -> Result<(), Fail> {
+    let alloc = rt.alloc();
+    let events = written_beside_another(alloc)?;
     check(
         &rt,
         alloc,
@@ -246,8 +264,17 @@ fn resolver_takes_first(rt: HostRuntime) -> Result<(), Fail> {
     )
 }
 
-/// What a run decides, what its put replies at vnode 0 and again, and at vnode 2, which knows nothing of the get; and what is
-/// then known.
+/// A run's write at vnode 0, again there, and at vnode 2, which knows nothing of the get; and a get at vnode 0.
+fn written_three_times(alloc: Global, windows: (u16, u8), code: u16) -> Result<Vec<Event>, Fail> {
+    let mut events = run_on_siblings(alloc, windows, code)?;
+    for vnode in [0usize, 0, 2] {
+        events.push(Event::ResolveWrite { run: 5, vnode })?;
+    }
+    events.push(get(alloc, 0)?)?;
+    Ok(events)
+}
+
+/// What a run decides, what its writes reply, and what is then known.
 #[test]
 fn runs_are_written(rt: HostRuntime) -> Result<(), Fail> {
     let alloc = rt.alloc();
@@ -295,15 +322,7 @@ fn runs_are_written(rt: HostRuntime) -> Result<(), Fail> {
             "bad B3;nothing;nothing;nothing;0-1=a 1-1=b 0:1 1:1 ;",
         ),
     ] {
-        let mut events = two_siblings(alloc)?;
-        events.push(Event::ResolveRead {
-            get: 4,
-            hook: resolver(alloc, windows, code)?,
-        })?;
-        events.push(Event::ResolveWrite { run: 5, vnode: 0 })?;
-        events.push(Event::ResolveWrite { run: 5, vnode: 0 })?;
-        events.push(Event::ResolveWrite { run: 5, vnode: 2 })?;
-        events.push(get(alloc, 0)?)?;
+        let events = written_three_times(alloc, windows, code)?;
         check(&rt, alloc, name, &events, 5, want)?;
     }
     Ok(())

@@ -1,0 +1,5 @@
+//! Tests of worlds whose events are resolvers' runs too.
+#![tactic(auto)]
+
+#[cfg(test)]
+mod tests;

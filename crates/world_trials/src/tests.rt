@@ -1,0 +1,3 @@
+//! The tests of worlds.
+
+mod worlds;
