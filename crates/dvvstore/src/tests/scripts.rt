@@ -1,5 +1,6 @@
 //! Scripts, and the hooks that they name.
 use super::{BY_EIGHT, BY_NINE, EXIT, Head, Slot, USED_FIRST, Want, ZERO, expect, image};
+use std::alloc::{AllocError, Global};
 use std::test::Fail;
 
 /// A name, a script without hooks, and what it comes to.
@@ -186,18 +187,24 @@ const SCRIPTS: [Script; 9] = [
     ),
 ];
 
+/// The files of hooks, and one with a script.
+fn files_with(alloc: Global, script: &str) -> Result<Vec<(&'static str, Vec<u8>)>, AllocError> {
+    let mut files = Vec::new(alloc);
+    files.push(("script", script.as_bytes().to_vec(alloc)?))?;
+    for (name, head, slots) in HOOKS {
+        files.push((name, image(alloc, head, slots)?))?;
+    }
+    Ok(files)
+}
+
 #[test]
 fn hooks_in_scripts(rt: HostRuntime) -> Result<(), Fail> {
     let alloc = rt.alloc();
-    let mut images = Vec::new(alloc);
-    for (file, head, slots) in HOOKS {
-        images.push((file, image(alloc, head, slots)?))?;
-    }
     for (name, script, out, status) in SCRIPTS {
-        let mut files = Vec::new(alloc);
-        files.push(("script", script.as_bytes()))?;
-        for (file, bytes) in &images {
-            files.push((*file, bytes.as_slice()))?;
+        let files = files_with(alloc, script)?;
+        let mut lent = Vec::new(alloc);
+        for (file, bytes) in &files {
+            lent.push((*file, bytes.as_slice()))?;
         }
         let err = if status == 2 {
             "no file absent.img\n"
@@ -205,7 +212,7 @@ fn hooks_in_scripts(rt: HostRuntime) -> Result<(), Fail> {
             ""
         };
         let want = Want { out, err, status };
-        expect(&rt, alloc, name, &["sim", "script"], &files, want);
+        expect(&rt, alloc, name, &["sim", "script"], &lent, want);
     }
     Ok(())
 }
