@@ -1,0 +1,13 @@
+use Rattle.std.proofs.Common.{ap, sym, ◌∙◌}
+use Rattle.journal.specs.Keys.{same_key}
+use Rattle.vnode.specs.States.{state_at}
+use Rattle.vnode.proofs.Mapped.{state_at-written, state_at-other}
+use Rattle.vnode.proofs.steps.insert.Goals as goal
+
+pub returns-clause-here : goal.returns-clause-here
+returns-clause-here c =
+    ap (state_at c.insert.new.self) (sym c.in_ok-own.ensures) ∙ state_at-written c.args.states.now c.insert.new.self c.in_ok-own.own c.args.state c.in_ok-insert.ensures.updates
+
+pub returns-clause-others : goal.returns-clause-others
+returns-clause-others c = λ q apart.
+    state_at-other c.args.states.now c.insert.new.self c.in_ok-own.own q c.args.state c.in_ok-insert.ensures.updates (ap (λ f. same_key f q) c.in_ok-own.ensures ∙ apart)
