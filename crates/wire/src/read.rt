@@ -3,7 +3,7 @@
 ghost use Rattle.std.specs.Prelude.{◌≡◌, List, ℕ, ◌≤◌, ◌<◌, ◌+◌, ◌^◌, ◌++◌, ◌↔◌, length, IfOk, IfErr, IsTrue, Err, MatchResult};
 ghost use Rattle.sha1.specs.Sha1.{sha1};
 ghost use Rattle.std.specs.Int.{w16, w32, w64};
-ghost use Rattle.wire.specs.Reading.{Gives, chain_at, clock_at, content_at, dot_at, key_at, next_entry, next_sibling, no_dot, number_at, record_in, sibling_at, siblings_at, state_at, taken_at, text_at, value_at};
+ghost use Rattle.wire.specs.Reading.{Gives, chain_at, clock_at, content_at, dot_at, key_at, next_entry, next_sibling, no_dot, number_at, record_in, sent_at, sibling_at, siblings_at, state_at, taken_at, text_at, value_at};
 ghost use Rattle.wire.specs.Records.{Begins, HasFault, IsOfFrame, IsWhole, body_in, body_length, digest_in};
 ghost use Rattle.wire.specs.declared.fault.WireFault.{WireFault as OneFault};
 ghost use Rattle.wire.specs.declared.record.Record.{Record as OneRecord};
@@ -217,15 +217,24 @@ fn state_at(alloc: Global, bytes: &[u8]) -> Result<(KeyState, &[u8]), WireFault>
     Ok((KeyState::from_parts(clock, siblings), rest))
 }
 
+/// Whose state it is, the place at which it was read, and the state.
+#[tactic(auto, unfolding(crate::specs::Reading::sent_at, crate::specs::Reading::placed_at))]
+fn sent_at(alloc: Global, bytes: &[u8]) -> Result<(u32, u32, KeyState, &[u8]), WireFault>
+    ensures { Gives (λ x. ((x.0, (x.1, x.2)), x.3.now)) result (sent_at bytes.now) }
+{
+    let (from, rest) = u32_at(bytes)?;
+    let (at, rest) = u32_at(rest)?;
+    let (state, rest) = state_at(alloc, rest)?;
+    Ok((from, at, state, rest))
+}
+
 /// The record whose body these bytes are, all of them.
-#[tactic(auto, unfolding(crate::specs::Reading::record_in, crate::specs::Reading::body_at, crate::specs::Reading::sent_at, crate::specs::Reading::placed_at))]
+#[tactic(auto, unfolding(crate::specs::Reading::record_in, crate::specs::Reading::body_at))]
 fn record_in(alloc: Global, body: &[u8]) -> Result<Record, WireFault>
     ensures { Gives (λ record_. record_) result (record_in body.now) }
 {
     let (key, rest) = key_at(alloc, body)?;
-    let (from, rest) = u32_at(rest)?;
-    let (at, rest) = u32_at(rest)?;
-    let (state, rest) = state_at(alloc, rest)?;
+    let (from, at, state, rest) = sent_at(alloc, rest)?;
     if !rest.is_empty() {
         return Err(WireFault::NotCanonical);
     }
