@@ -9,8 +9,6 @@ mod limits;
 mod merging;
 mod placing;
 mod state;
-#[cfg(test)]
-mod tests;
 
 pub use bytes::Bytes;
 pub use content::{Content, Key, Sibling};

@@ -9,8 +9,6 @@ mod fault;
 pub mod laws;
 mod read;
 mod record;
-#[cfg(test)]
-mod tests;
 mod write;
 
 pub use fault::WireFault;

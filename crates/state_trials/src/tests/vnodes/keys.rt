@@ -2,8 +2,8 @@
 
 use super::steps::Step::{self, Merge, Put, Read};
 use super::steps::plays;
-use crate::Vnode;
 use std::test::Fail;
+use vnode::Vnode;
 
 /// Puts of three keys out of order, a read of a key that has none, and a merge of nothing into another.
 const STEPS: [Step; 6] = [

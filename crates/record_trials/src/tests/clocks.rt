@@ -1,8 +1,8 @@
 //! Clocks under right digests.
 
 use super::{KEY, NOT_CANONICAL, push_siblings, told, told_of};
-use crate::WireFault;
 use std::test::Fail;
+use wire::WireFault;
 
 /// The entries of a clock over one sibling, the tombstone 0-1, and why the record isn't read, if it isn't.
 const CLOCKS: [(&[(u32, u64)], Option<WireFault>); 9] = [

@@ -1,7 +1,7 @@
 //! Faults as numbers.
 
-use crate::WireFault;
 use std::test::Fail;
+use wire::WireFault;
 
 #[test]
 fn shown_as_numbers(rt: HostRuntime) -> Result<(), Fail> {

@@ -1,10 +1,10 @@
 //! Calls that a limit refuses.
 
 use super::{merge, put, put_after, read};
-use crate::{Vnode, VnodeFault};
 use object::KeyState;
 use std::alloc::Global;
 use std::test::Fail;
+use vnode::{Vnode, VnodeFault};
 
 #[test]
 fn sixty_fifth_sibling(rt: HostRuntime) -> Result<(), Fail> {

@@ -1,8 +1,8 @@
 //! Keys, and copies of what is stored.
 
 use super::value;
-use crate::{Bytes, Content, Key, KeyState, Sibling};
 use dvv::Dot;
+use object::{Bytes, Content, Key, KeyState, Sibling};
 use std::alloc::{AllocError, Global};
 use std::collections::BTreeMap;
 use std::test::Fail;

@@ -2,8 +2,8 @@
 
 use super::steps::Step::{self, Merge, Put, Read, Restart};
 use super::steps::plays;
-use crate::Vnode;
 use std::test::Fail;
+use vnode::Vnode;
 
 const CONTEXT_SUPERSEDES: [Step; 12] = [
     Put(b'k', None, b'a', 1),

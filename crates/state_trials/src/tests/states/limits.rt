@@ -1,8 +1,8 @@
 //! What is refused at a limit, and what just fits.
 
 use super::{shown, value};
-use crate::{Content, KeyState, MergeFault, PutFault};
 use dvv::{Clock, Dot};
+use object::{Content, KeyState, MergeFault, PutFault};
 use std::alloc::Global;
 use std::test::Fail;
 

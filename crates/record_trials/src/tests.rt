@@ -6,9 +6,9 @@ mod limits;
 mod records;
 mod siblings;
 
-use crate::{WireFault, read_record};
 use sha1::Sha1;
 use std::alloc::{AllocError, Global};
+use wire::{WireFault, read_record};
 
 const NOT_CANONICAL: Option<WireFault> = Some(WireFault::NotCanonical);
 

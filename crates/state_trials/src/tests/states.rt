@@ -4,8 +4,8 @@ mod copies;
 mod limits;
 mod puts_and_merges;
 
-use crate::{Bytes, Content, KeyState};
 use dvv::Dot;
+use object::{Bytes, Content, KeyState};
 use std::alloc::{AllocError, Global};
 use std::test::Fail;
 

@@ -1,9 +1,9 @@
 //! How long names, media types and values may be.
 
 use super::{KEY, NOT_CANONICAL, push_clock, push_siblings, told, told_of};
-use crate::WireFault;
 use std::alloc::{AllocError, Global};
 use std::test::Fail;
+use wire::WireFault;
 
 /// The lengths of a bucket, a key and a media type, and why the record isn't read, if it isn't.
 const NAMES: [(u16, u16, u16, Option<WireFault>); 11] = [

@@ -1,8 +1,10 @@
 //! Siblings under right digests.
 
 use super::{NOT_CANONICAL, told_of};
-use crate::WireFault;
+use std::alloc::Global;
+use std::process::Abort;
 use std::test::Fail;
+use wire::WireFault;
 
 /// The bytes of a tombstone, and those of the value `v` of media type `m`.
 const TOMBSTONE: &[u8] = &[0];
@@ -17,8 +19,8 @@ type Row = (
     Option<WireFault>,
 );
 
-/// Siblings under the clock 0:2, 1:9.
-const SIBLINGS: [Row; 18] = [
+/// Siblings' dots under the clock 0:2, 1:9.
+const DOTS: [Row; 10] = [
     ("none", 0, &[], None),
     ("0-1", 1, &[(0, 1, TOMBSTONE)], None),
     ("0-1 0-2", 2, &[(0, 1, TOMBSTONE), (0, 2, TOMBSTONE)], None),
@@ -44,6 +46,10 @@ const SIBLINGS: [Row; 18] = [
     ("0-3", 1, &[(0, 3, TOMBSTONE)], NOT_CANONICAL),
     ("2-1", 1, &[(2, 1, TOMBSTONE)], NOT_CANONICAL),
     ("0-0", 1, &[(0, 0, TOMBSTONE)], NOT_CANONICAL),
+];
+
+/// Contents, and numbers of siblings, under that clock.
+const CONTENTS: [Row; 8] = [
     ("one byte follows", 1, &[(0, 1, &[0, 0])], NOT_CANONICAL),
     (
         "many bytes follow",
@@ -69,11 +75,21 @@ const SIBLINGS: [Row; 18] = [
     ),
 ];
 
-#[test]
-fn siblings_under_right_digests(rt: HostRuntime) -> Result<(), Fail> {
-    for (name, count, siblings, want) in SIBLINGS {
-        let got = told_of(rt.alloc(), &[(0, 2), (1, 9)], count, siblings)?;
-        assert_eq!(rt; got, want, "{name}");
+/// Of these rows it is told why they aren't read.
+fn are_told(rt: &impl Abort, alloc: Global, rows: &[Row]) -> Result<(), Fail> {
+    for (name, count, siblings, want) in rows {
+        let got = told_of(alloc, &[(0, 2), (1, 9)], *count, siblings)?;
+        assert_eq!(rt; got, *want, "{name}");
     }
     Ok(())
+}
+
+#[test]
+fn dots_under_right_digests(rt: HostRuntime) -> Result<(), Fail> {
+    are_told(&rt, rt.alloc(), &DOTS)
+}
+
+#[test]
+fn contents_under_right_digests(rt: HostRuntime) -> Result<(), Fail> {
+    are_told(&rt, rt.alloc(), &CONTENTS)
 }

@@ -1,9 +1,10 @@
 //! Whole records: read, written again, cut and changed.
 
-use crate::{WireFault, has_record, read_record, write_record};
 use dvv::Dot;
 use object::{Content, KeyState};
+use std::alloc::Global;
 use std::test::Fail;
+use wire::{Record, WireFault, has_record, read_record, write_record};
 
 /// Bucket `sim`, key `k`, from vnode 0 at place 1: clock 0:1, and sibling 0-1, `a` of `text/plain`.
 const ONE_VALUE: [u8; 92] = [
@@ -57,16 +58,29 @@ fn one_value(rt: HostRuntime) -> Result<(), Fail> {
     Ok(())
 }
 
+/// What is read at the front, written again: the length that was read, whether there is a record, and its bytes.
+fn rewritten(alloc: Global, bytes: &[u8]) -> Result<(usize, bool, Vec<u8>), Fail> {
+    let (record, len) = read_record(alloc, bytes)?;
+    let Record {
+        key,
+        from,
+        at,
+        state,
+    } = &record;
+    let has_record = has_record(key, state);
+    Ok((
+        len,
+        has_record,
+        write_record(alloc, key, *from, *at, state)?,
+    ))
+}
+
 /// What was read is written as it was.
 #[test]
 fn written_again(rt: HostRuntime) -> Result<(), Fail> {
-    let alloc = rt.alloc();
-    let table = [ONE_VALUE.as_slice(), TOMBSTONE_BESIDE_VALUE.as_slice()];
-    for bytes in table {
-        let (record, len) = read_record(alloc, bytes)?;
-        assert_eq!(rt; len, bytes.len());
-        assert!(rt; has_record(&record.key, &record.state));
-        let again = write_record(alloc, &record.key, record.from, record.at, &record.state)?;
+    for bytes in [ONE_VALUE.as_slice(), TOMBSTONE_BESIDE_VALUE.as_slice()] {
+        let (len, has_record, again) = rewritten(rt.alloc(), bytes)?;
+        assert_eq!(rt; (len, has_record), (bytes.len(), true));
         assert_eq!(rt; again.as_slice(), bytes);
     }
     Ok(())

@@ -5,10 +5,10 @@ mod keys;
 mod limits;
 mod steps;
 
-use crate::{Vnode, VnodeFault};
 use dvv::Clock;
 use object::{Bytes, Content, Key, KeyState};
 use std::alloc::{AllocError, Global};
+use vnode::{Vnode, VnodeFault};
 
 /// A key of one byte.
 fn key(alloc: Global, byte: u8) -> Result<Key, AllocError> {

@@ -1,10 +1,10 @@
 //! Calls of a vnode with their answers.
 
 use super::{merge, put_after, read};
-use crate::{Vnode, VnodeFault};
 use object::{Content, KeyState};
 use std::alloc::Global;
 use std::process::Abort;
+use vnode::{Vnode, VnodeFault};
 
 /// A call and its answer. The state of each read is kept; puts and merges name it by its number, from 0.
 #[derive(Clone, Copy)]

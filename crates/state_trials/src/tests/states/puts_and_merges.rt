@@ -1,8 +1,8 @@
 //! Puts and merges at two vnodes, event by event.
 
 use super::{shown, value};
-use crate::{Content, KeyState, MergeFault, PutFault};
 use dvv::{Clock, Dot};
+use object::{Content, KeyState, MergeFault, PutFault};
 use std::alloc::Global;
 use std::process::Abort;
 use std::test::Fail;

@@ -1,0 +1,5 @@
+//! Tests of the states of a key, and of vnodes that are called by hand.
+#![tactic(auto)]
+
+#[cfg(test)]
+mod tests;

@@ -1,0 +1,4 @@
+//! The tests by what they try.
+
+mod states;
+mod vnodes;
