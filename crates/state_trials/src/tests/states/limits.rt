@@ -4,6 +4,7 @@ use super::{shown, value};
 use dvv::{Clock, Dot};
 use object::{Content, KeyState, MergeFault, PutFault};
 use std::alloc::Global;
+use std::process::Abort;
 use std::test::Fail;
 
 /// Puts an `a` without a context at vnode 0.
@@ -56,15 +57,24 @@ fn full_counter(rt: HostRuntime) -> Result<(), Fail> {
     Ok(())
 }
 
+/// Tries a merge that a state takes or refuses, as it tells before.
+fn tries_merge(
+    rt: &impl Abort,
+    state: &mut KeyState,
+    other: &KeyState,
+    want: Result<bool, MergeFault>,
+) {
+    assert_eq!(rt; state.can_merge(other), want.is_ok());
+    assert_eq!(rt; state.merge(other), want);
+}
+
 #[test]
 fn full_entries(rt: HostRuntime) -> Result<(), Fail> {
     let mut full = knowing(rt.alloc(), 0, 1024)?;
     let more = knowing(rt.alloc(), 1023, 1025)?;
-    assert!(rt; !full.can_merge(&more));
-    assert_eq!(rt; full.merge(&more), Err(MergeFault::ClockFull));
+    tries_merge(&rt, &mut full, &more, Err(MergeFault::ClockFull));
     let within = knowing(rt.alloc(), 1000, 1024)?;
-    assert!(rt; full.can_merge(&within));
-    assert_eq!(rt; full.merge(&within), Ok(false));
+    tries_merge(&rt, &mut full, &within, Ok(false));
     let answer = delete(rt.alloc(), &mut full, 1024);
     assert_eq!(rt; answer, Err(PutFault::ClockFull));
     assert_eq!(rt; full.clock().entries().len(), 1024);

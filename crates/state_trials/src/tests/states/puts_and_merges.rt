@@ -30,8 +30,10 @@ enum Step {
     Deliver,
 }
 
-/// Each event, with its vnode, what it answers, and what the vnode's state shows then.
-const PUTS_AND_MERGES: [(u32, Step, &str, &str); 18] = [
+/// An event with its vnode, what it answers, and what the vnode's state shows then.
+type Row = (u32, Step, &'static str, &'static str);
+
+const PUTS_AND_MERGES: [Row; 18] = [
     (0, Step::Put(Seen::Nothing, 1), "0-1", "0-1=1 | 0:1"),
     (0, Step::Send, "sent", "0-1=1 | 0:1"),
     (0, Step::Put(Seen::Nothing, 2), "0-2", "0-1=1 0-2=2 | 0:2"),
@@ -61,14 +63,6 @@ const PUTS_AND_MERGES: [(u32, Step, &str, &str); 18] = [
     (1, Step::Put(Seen::Ahead, 7), "P1", "1-2! 1-3=6 | 0:4 1:3"),
     (1, Step::Deliver, "same", "1-2! 1-3=6 | 0:4 1:3"),
 ];
-
-/// Two vnodes' states, and the message between them.
-#[derive(Drop)]
-struct Vnodes {
-    first: KeyState,
-    second: KeyState,
-    message: KeyState,
-}
 
 /// The context of a put.
 fn context(alloc: Global, seen: Seen, own: &KeyState, message: &KeyState) -> Result<Clock, Fail> {
@@ -108,6 +102,23 @@ fn merge(rt: &impl Abort, state: &mut KeyState, other: &KeyState) -> Result<bool
     answer
 }
 
+/// Puts at a vnode's state, and says what it answers.
+fn put_so(
+    rt: &impl Abort,
+    alloc: Global,
+    own: &mut KeyState,
+    message: &KeyState,
+    vnode: u32,
+    seen: Seen,
+    content: Content,
+) -> Result<String, Fail> {
+    let seen = context(alloc, seen, own, message)?;
+    match put(rt, own, vnode, &seen, content) {
+        Ok(Dot { vnode, n }) => Ok(format!(in alloc; "{vnode}-{n}")?),
+        Err(fault) => Ok(format!(in alloc; "{fault}")?),
+    }
+}
+
 /// Makes an event happen at a vnode's state, and says what it answers.
 fn happen(
     rt: &impl Abort,
@@ -117,57 +128,50 @@ fn happen(
     vnode: u32,
     step: Step,
 ) -> Result<String, Fail> {
-    let (seen, content) = match step {
-        Step::Put(seen, byte) => (seen, value(alloc, byte)?),
-        Step::Delete(seen) => (seen, Content::Tombstone),
+    match step {
+        Step::Put(seen, byte) => {
+            let content = value(alloc, byte)?;
+            put_so(rt, alloc, own, message, vnode, seen, content)
+        }
+        Step::Delete(seen) => { put_so(rt, alloc, own, message, vnode, seen, Content::Tombstone) }
         Step::Send => {
             *message = own.copy(alloc)?;
-            return Ok(format!(in alloc; "sent")?);
+            Ok(format!(in alloc; "sent")?)
         }
         Step::Deliver => {
             let changed = merge(rt, own, message)?;
-            return Ok(format!(in alloc; "{}", if changed { "changed" } else { "same" })?);
+            Ok(format!(in alloc; "{}", if changed { "changed" } else { "same" })?)
         }
-    };
-    let seen = context(alloc, seen, own, message)?;
-    match put(rt, own, vnode, &seen, content) {
-        Ok(Dot { vnode, n }) => Ok(format!(in alloc; "{vnode}-{n}")?),
-        Err(fault) => Ok(format!(in alloc; "{fault}")?),
     }
 }
 
-impl Vnodes {
-    /// One row of the table.
-    fn row(
-        &mut self,
-        rt: &impl Abort,
-        alloc: Global,
-        row: (u32, Step, &str, &str),
-    ) -> Result<(), Fail> {
-        let (vnode, step, answer, shows) = row;
-        if vnode == 0 {
-            let told = happen(rt, alloc, &mut self.first, &mut self.message, vnode, step)?;
-            assert_eq!(rt; told.as_str(), answer);
-            assert_eq!(rt; shown(alloc, &self.first)?.as_str(), shows);
-        } else {
-            let told = happen(rt, alloc, &mut self.second, &mut self.message, vnode, step)?;
-            assert_eq!(rt; told.as_str(), answer);
-            assert_eq!(rt; shown(alloc, &self.second)?.as_str(), shows);
-        }
-        Ok(())
-    }
+/// A row of the table, at its vnode's state.
+fn row_at(
+    rt: &impl Abort,
+    alloc: Global,
+    own: &mut KeyState,
+    message: &mut KeyState,
+    row: Row,
+) -> Result<(), Fail> {
+    let (vnode, step, answer, shows) = row;
+    let told = happen(rt, alloc, own, message, vnode, step)?;
+    assert_eq!(rt; told.as_str(), answer);
+    assert_eq!(rt; shown(alloc, own)?.as_str(), shows);
+    Ok(())
 }
 
 #[test]
 fn puts_and_merges(rt: HostRuntime) -> Result<(), Fail> {
     let alloc = rt.alloc();
-    let mut vnodes = Vnodes {
-        first: KeyState::new(alloc),
-        second: KeyState::new(alloc),
-        message: KeyState::new(alloc),
-    };
+    let mut first = KeyState::new(alloc);
+    let mut second = KeyState::new(alloc);
+    let mut message = KeyState::new(alloc);
     for row in PUTS_AND_MERGES {
-        vnodes.row(&rt, alloc, row)?;
+        if row.0 == 0 {
+            row_at(&rt, alloc, &mut first, &mut message, row)?;
+        } else {
+            row_at(&rt, alloc, &mut second, &mut message, row)?;
+        }
     }
     Ok(())
 }
