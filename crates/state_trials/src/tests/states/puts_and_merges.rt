@@ -160,18 +160,29 @@ fn row_at(
     Ok(())
 }
 
+/// The rows in turn, at the states of the two vnodes.
+fn rows(
+    rt: &impl Abort,
+    alloc: Global,
+    first: &mut KeyState,
+    second: &mut KeyState,
+    message: &mut KeyState,
+) -> Result<(), Fail> {
+    for row in &PUTS_AND_MERGES {
+        if row.0 == 0 {
+            row_at(rt, alloc, first, message, *row)?;
+        } else {
+            row_at(rt, alloc, second, message, *row)?;
+        }
+    }
+    Ok(())
+}
+
 #[test]
 fn puts_and_merges(rt: HostRuntime) -> Result<(), Fail> {
     let alloc = rt.alloc();
     let mut first = KeyState::new(alloc);
     let mut second = KeyState::new(alloc);
     let mut message = KeyState::new(alloc);
-    for row in PUTS_AND_MERGES {
-        if row.0 == 0 {
-            row_at(&rt, alloc, &mut first, &mut message, row)?;
-        } else {
-            row_at(&rt, alloc, &mut second, &mut message, row)?;
-        }
-    }
-    Ok(())
+    rows(&rt, alloc, &mut first, &mut second, &mut message)
 }
