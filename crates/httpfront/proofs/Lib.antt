@@ -1,0 +1,4 @@
+pub mod DeviceLemmas
+pub mod RequestLemmas
+pub mod TalkLemmas
+pub mod TurnLemmas

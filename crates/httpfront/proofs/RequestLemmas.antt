@@ -1,0 +1,82 @@
+-- On the first request of the bytes that wait.
+use Rattle.std.proofs.Common.{◌≡◌, ℕ, ◌<◌, ◌≤◌, List, ◌++◌, length, drop, Bool, true, false, None, sym, ap, subst, ◌∙◌, arith, length-append, length-drop, inr}
+use Rattle.std.specs.Prelude.{if◌then◌else◌, nat_le, codes, is_some}
+use Rattle.std.proofs.Common.{Option, Some, refl}
+use Rattle.std.proofs.lemmas.Bool.{leb-true}
+use Rattle.httpask.specs.Limits.{longest_body}
+use Rattle.httpask.specs.declared.ask.Refusal.{Refusal}
+use Rattle.httpask.specs.declared.ask.Refusal.TheVariants.{Coding, Large}
+use Rattle.httparse.specs.Grammar.{RequestHead, print_request}
+use Rattle.httpask.specs.Fields.{Length, absent, bad, is, length_fault, length_number, length_said, values_of, value_of, pairs_of, fields_fault, body_length}
+use Rattle.httpask.specs.Ask.{Asks, IsUnfinished, in_head, in_body}
+use Rattle.httpask.specs.declared.ask.Ask.{Ask}
+use Rattle.httpask.specs.declared.ask.Call.{Call}
+use Rattle.httpread.specs.Finds.{next_of}
+use Rattle.httpreply.specs.declared.reply.Reply.{Reply}
+use Rattle.httpreply.specs.Answer.{answer}
+use Rattle.httpfront.specs.Dialogue.{Exchange, Does, call_of, answer_of}
+use Rattle.httpfront.specs.Turns.{Makes, Steps, Halts}
+use Rattle.httpfront.specs.declared.turn.Step.TheVariants as step
+
+module _ {B : Type 0} (gives : B → Call → Reply → B → Type 0) (n copies : ℕ) (is : n ≡ copies) (old new : B) (ask : Ask) (reply : Reply)
+    (ends : Bool) (w : List ℕ) (len : ℕ) (asks : (more : List ℕ) → Asks n (w ++ more) ask ends (next_of ends len w more))
+    (does : Does gives old (call_of ask) reply new) where
+  abbrev exchange : Exchange
+  exchange = record { asked = ask; reply = reply; ends = ends }
+
+  makes : (more : List ℕ) → Makes gives copies (w ++ more) old new exchange (next_of ends len w more)
+  makes more = record { asks = subst (λ k. Asks k (w ++ more) ask ends (next_of ends len w more)) is (asks more); does = does }
+
+  answer_is : answer n ask reply ends ≡ answer_of copies exchange
+  unfolding answer_of
+  answer_is = ap (λ k. answer k ask reply ends) is
+
+  -- its call was made
+  pub halts_called : Halts gives copies w old new
+  halts_called = inr (exchange, λ more. (next_of ends len w more, makes more))
+
+  -- it was answered and taken, and others may follow
+  pub steps_answered : (w' out out' : List ℕ) → ends ≡ false → w' ≡ drop len w → out' ≡ out ++ answer n ask reply ends → 0 < len → len ≤ length w
+      → Steps gives copies step.Answered w w' old new out out'
+  steps_answered w' out out' e taken pushed some within = (
+    exchange,
+    λ more.
+        subst (λ v. Makes gives copies (w ++ more) old new exchange (v ++ more)) (sym taken)
+        (subst (λ b. Makes gives copies (w ++ more) old new exchange (next_of b len w more)) e (makes more)),
+    pushed ∙ ap (λ l. out ++ l) answer_is,
+    omega (arith, ap length taken, length-drop len w, some, within),
+  )
+
+  -- it was answered and taken, and the connection ends
+  pub steps_last : (w' out out' : List ℕ) → ends ≡ true → out' ≡ out ++ answer n ask reply ends → Steps gives copies step.Last w w' old new out out'
+  steps_last w' out out' e pushed = (
+    exchange,
+    λ more. subst (λ b. Makes gives copies (w ++ more) old new exchange (next_of b len w more)) e (makes more),
+    pushed ∙ ap (λ l. out ++ l) answer_is,
+  )
+
+-- a length without fault is within the limit
+length_within : (method : List ℕ) (l : Length) → length_fault method l ≡ None → length_number l ≤ longest_body
+length_within method absent e = omega arith
+length_within method bad e = cc
+length_within method (is n) e = at (nat_le n longest_body) refl e
+  where
+    at : (b : Bool) → nat_le n longest_body ≡ b → (if b then None else Some Large) ≡ None → n ≤ longest_body
+    at true t none = leb-true n longest_body t
+    at false t none = cc
+
+-- where the fields have no fault their length has none
+no_coding : (b : Bool) (o : Option Refusal) → (if b then Some Coding else o) ≡ None → o ≡ None
+no_coding true o e = cc
+no_coding false o e = e
+
+body_within : (head : RequestHead) → fields_fault head ≡ None → body_length head ≤ longest_body
+body_within head e =
+    length_within head.method (length_said (values_of (codes "content-length") (pairs_of head)))
+    (no_coding (is_some (value_of (codes "transfer-encoding") (pairs_of head))) (length_fault head.method (length_said (values_of (codes "content-length") (pairs_of head)))) e)
+
+-- bytes that end inside a request are fewer than a longest head and a longest body
+pub unfinished_short : (rest : List ℕ) → IsUnfinished rest → length rest < 131072
+unfinished_short rest (in_head head) = omega (arith, head.short)
+unfinished_short rest (in_body head after begins origin fault short) =
+    omega (arith, ap length begins.reads.1, length-append (print_request head) after, begins.short, short, body_within head fault)

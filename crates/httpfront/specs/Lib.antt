@@ -1,0 +1,4 @@
+pub mod Device
+pub mod Waiting
+pub mod Dialogue
+pub mod Turns

@@ -1,0 +1,219 @@
+//! All requests of a connection.
+
+ghost use Rattle.std.specs.Prelude.{◌≡◌, ◌<◌, ◌≤◌, ◌++◌, ℕ, List, length, Some, [], IfOk, IfErr, OnOk, OnErr};
+ghost use Rattle.std.specs.Io.KnownBytes.{prepend_known, Consumes, IsAtEnd};
+ghost use Rattle.httpask.specs.Fits.{FitsAsk};
+ghost use Rattle.httpread.specs.Finds.{Finds};
+ghost use Rattle.httpread.specs.declared.request.Asking.TheVariants.{First};
+ghost use Rattle.httpreply.specs.declared.reply.Reply.{Reply};
+ghost use Rattle.httpreply.specs.Answer.{answer};
+ghost use Rattle.httpfront.specs.Device.{Rises, HasRisen, Sends};
+ghost use Rattle.httpfront.specs.Waiting.{waiting};
+ghost use Rattle.httpfront.specs.Dialogue.{Completes, BreaksOff, Does, call_of};
+ghost use Rattle.httpfront.specs.Turns.{Steps, Halts, SoFar, Leads, Progresses};
+
+use crate::backend::Backend;
+use crate::call::make_call;
+use crate::device::{Failed, Sink, Source};
+use crate::fault::FrontFault;
+use crate::inbox::Inbox;
+use crate::outbox::Outbox;
+use crate::turn::{Step, Turn};
+use httpask::Ask;
+use httpread::{Asking, Routes, first_request};
+use std::alloc::{AllocError, Global};
+
+/// What a worker keeps from one connection to the next: the routes, and the room for requests and for answers.
+#[derive(Drop)]
+pub struct Front {
+    alloc: Global,
+    routes: Routes,
+    inbox: Inbox,
+    outbox: Outbox,
+}
+
+impl Front {
+    /// A front with its room. The error is want of memory.
+    pub fn new(alloc: Global) -> Result<Front, AllocError> {
+        Ok(Front {
+            alloc,
+            routes: Routes::new(alloc)?,
+            inbox: Inbox::new(alloc)?,
+            outbox: Outbox::new(alloc),
+        })
+    }
+
+    /// Answers the requests of a connection until it ends, and tells how many there were; the count stays at its greatest.
+    /// The answers to requests that came together are written together. After an error the connection is over.
+    pub fn serve<S: Source, W: Sink, B: Backend>(
+        &mut self,
+        source: &mut S,
+        sink: &mut W,
+        backend: &mut B,
+    ) -> Result<u64, FrontFault>
+        // However the bytes were cut: each request's call is made in order, and its answer written.
+        ensures answers { IfOk result (λ count. (bytes before : List ℕ)
+            → S.remaining source.old ≡ Some bytes → W.contents sink.old ≡ Some before
+            → Completes B.gives (B.copies backend.old) bytes backend.old backend.new before (W.contents sink.new) count) }
+        // Where it breaks off, the calls are those of a front of the bytes, and a front of its answers was written.
+        ensures breaks { OnErr result ((bytes before : List ℕ)
+            → S.remaining source.old ≡ Some bytes → W.contents sink.old ≡ Some before
+            → BreaksOff B.gives (B.copies backend.old) bytes backend.old backend.new before (W.contents sink.new)) }
+        ensures read_fault { IfErr result (λ fault. fault ≡ FrontFault.Read → HasRisen (S.failures source.old) (S.failures source.new)) }
+        ensures write_fault { IfErr result (λ fault. fault ≡ FrontFault.Write → HasRisen (W.failures sink.old) (W.failures sink.new)) }
+    {
+        self.inbox.clear();
+        self.outbox.clear();
+        let mut answered = 0u64;
+        'requests: loop {
+            match self.take_turn(source, sink, backend) {
+                Ok(Turn::Read) => {}
+                Ok(Turn::Answered) => answered = answered.saturating_add(1),
+                Ok(Turn::Last) => return Ok(answered.saturating_add(1)),
+                Ok(Turn::Over) => return Ok(answered),
+                Err(fault) => return Err(fault),
+            }
+        }
+    }
+
+    // Answers the first request of the bytes that wait, or reads more of them. What waits to be written is written before a
+    // read, at the end, and where it is much.
+    fn take_turn<S: Source, W: Sink, B: Backend>(
+        &mut self,
+        source: &mut S,
+        sink: &mut W,
+        backend: &mut B,
+    ) -> Result<Turn, FrontFault>
+        ensures leads { IfOk result (λ turn. (bytes before : List ℕ) (start : B) (count : ℕ)
+            → SoFar B.gives B.copies bytes before start backend.old
+            (prepend_known (waiting self.old.inbox) (S.remaining source.old)) (W.contents sink.old) self.old.outbox.answers.items count
+            → Leads B.gives B.copies turn bytes before start backend.new
+            (prepend_known (waiting self.new.inbox) (S.remaining source.new)) (W.contents sink.new) self.new.outbox.answers.items count) }
+        ensures breaks { OnErr result ((bytes before : List ℕ) (start : B) (count : ℕ)
+            → SoFar B.gives B.copies bytes before start backend.old
+            (prepend_known (waiting self.old.inbox) (S.remaining source.old)) (W.contents sink.old) self.old.outbox.answers.items count
+            → BreaksOff B.gives (B.copies start) bytes start backend.new before (W.contents sink.new)) }
+        ensures progress { IfOk result (λ turn. Progresses turn (S.reads_left source.old) (S.reads_left source.new)
+            (length (waiting self.old.inbox)) (length (waiting self.new.inbox))) }
+        ensures reads { OnOk result (S.failures source.new ≡ S.failures source.old) }
+        ensures writes { OnOk result (W.failures sink.new ≡ W.failures sink.old) }
+        ensures read_fault { IfErr result (λ fault. fault ≡ FrontFault.Read → Rises (S.failures source.old) (S.failures source.new)) }
+        ensures write_fault { IfErr result (λ fault. fault ≡ FrontFault.Write → Rises (W.failures sink.old) (W.failures sink.new)) }
+    {
+        match self.answer_first(backend) {
+            Err(AllocError) => Err(FrontFault::NoMemory),
+            Ok(Step::Waits) => match self.read_more(source, sink) {
+                Err(fault) => Err(fault),
+                Ok(0) => Ok(Turn::Over),
+                Ok(_) => Ok(Turn::Read),
+            },
+            Ok(Step::Answered) => match self.outbox.flush_many(sink) {
+                Err(Failed) => Err(FrontFault::Write),
+                Ok(()) => Ok(Turn::Answered),
+            },
+            Ok(Step::Last) => match self.outbox.flush(sink) {
+                Err(Failed) => Err(FrontFault::Write),
+                Ok(()) => Ok(Turn::Last),
+            },
+        }
+    }
+
+    // Writes what waits to be written, and reads more bytes behind those that wait; none come only at the end.
+    fn read_more<S: Source, W: Sink>(
+        &mut self,
+        source: &mut S,
+        sink: &mut W,
+    ) -> Result<usize, FrontFault>
+        requires { length (waiting self.old.inbox) < 131072 }
+        ensures read { IfOk result (λ n. (more : List ℕ) × (length more ≡ n) × (waiting self.new.inbox ≡ waiting self.old.inbox ++ more)
+            × Consumes (S.remaining source.old) (S.remaining source.new) more × (n ≡ 0 → IsAtEnd (S.remaining source.new))) }
+        ensures written { OnOk result (Sends (W.contents sink.old) (W.contents sink.new) self.old.outbox.answers.items self.new.outbox.answers.items) }
+        ensures empty { OnOk result (self.new.outbox.answers.items ≡ []) }
+        ensures breaks { OnErr result ((left : List ℕ) × Sends (W.contents sink.old) (W.contents sink.new) self.old.outbox.answers.items left) }
+        ensures fits { length (waiting self.new.inbox) ≤ 131072 }
+        ensures ends { IfOk result (λ n. 0 < n → S.reads_left source.new < S.reads_left source.old) }
+        ensures reads { OnOk result (S.failures source.new ≡ S.failures source.old) }
+        ensures writes { OnOk result (W.failures sink.new ≡ W.failures sink.old) }
+        ensures read_fault { IfErr result (λ fault. fault ≡ FrontFault.Read → Rises (S.failures source.old) (S.failures source.new)) }
+        ensures write_fault { IfErr result (λ fault. fault ≡ FrontFault.Write → Rises (W.failures sink.old) (W.failures sink.new)) }
+    {
+        match self.outbox.flush(sink) {
+            Err(Failed) => Err(FrontFault::Write),
+            Ok(()) => match self.inbox.read_from(source) {
+                Err(Failed) => Err(FrontFault::Read),
+                Ok(n) => Ok(n),
+            },
+        }
+    }
+
+    // Answers the first request of the bytes that wait, if it is whole.
+    fn answer_first<B: Backend>(&mut self, backend: &mut B) -> Result<Step, AllocError>
+        ensures steps { IfOk result (λ step. Steps B.gives (B.copies backend.old) step (waiting self.old.inbox) (waiting self.new.inbox)
+            backend.old backend.new self.old.outbox.answers.items self.new.outbox.answers.items) }
+        ensures halts { OnErr result (Halts B.gives (B.copies backend.old) (waiting self.old.inbox) backend.old backend.new) }
+        ensures stays { B.copies backend.new ≡ B.copies backend.old }
+    {
+        let copies = backend.copies();
+        let asking = match self.first_request(copies) {
+            Ok(asking) => asking,
+            Err(AllocError) => return Err(AllocError),
+        };
+        match asking {
+            Asking::More => Ok(Step::Waits),
+            Asking::First { ask, ends, len } => self.answer(backend, copies, &ask, ends, len),
+        }
+    }
+
+    // Answers a request, and takes it from the bytes that wait.
+    fn answer<B: Backend>(
+        &mut self,
+        backend: &mut B,
+        copies: u32,
+        ask: &Ask,
+        ends: bool,
+        len: usize,
+    ) -> Result<Step, AllocError>
+        requires copies { copies ≡ B.copies backend.old }
+        requires finds { Finds copies (waiting self.old.inbox) (First ask.now ends len) }
+        ensures steps { IfOk result (λ step. Steps B.gives (B.copies backend.old) step (waiting self.old.inbox) (waiting self.new.inbox)
+            backend.old backend.new self.old.outbox.answers.items self.new.outbox.answers.items) }
+        ensures halts { OnErr result (Halts B.gives (B.copies backend.old) (waiting self.old.inbox) backend.old backend.new) }
+        ensures stays { B.copies backend.new ≡ B.copies backend.old }
+    {
+        match self.push_reply(backend, copies, ask, ends) {
+            Err(AllocError) => Err(AllocError),
+            Ok(()) => {
+                self.inbox.take(len);
+                Ok(if ends { Step::Last } else { Step::Answered })
+            }
+        }
+    }
+
+    // Makes the call of a request, and adds its answer to those that wait.
+    fn push_reply<B: Backend>(
+        &mut self,
+        backend: &mut B,
+        copies: u32,
+        ask: &Ask,
+        ends: bool,
+    ) -> Result<(), AllocError>
+        requires copies { copies ≡ B.copies backend.old }
+        requires fits { FitsAsk copies ask.now }
+        ensures does { (reply : Reply) × Does B.gives backend.old (call_of ask.now) reply backend.new
+            × OnOk result (self.new.outbox.answers.items ≡ self.old.outbox.answers.items ++ answer copies ask.now reply ends) }
+        ensures stays { B.copies backend.new ≡ B.copies backend.old }
+        ensures waits { waiting self.new.inbox ≡ waiting self.old.inbox }
+    {
+        let reply = make_call(backend, ask);
+        self.outbox.push(self.alloc, copies, ask, &reply, ends)
+    }
+
+    // What the bytes that wait come to.
+    fn first_request(&self, copies: u32) -> Result<Asking, AllocError>
+        requires some { 1 ≤ copies }
+        requires few { copies ≤ 3 }
+        ensures { IfOk result (Finds copies (waiting self.now.inbox)) }
+    {
+        first_request(self.alloc, &self.routes, copies, self.inbox.unread())
+    }
+}

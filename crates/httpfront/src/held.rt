@@ -1,0 +1,110 @@
+//! A source and a sink in memory, which give and take a few bytes at a time and may fail at a chosen call.
+
+ghost use Rattle.std.specs.Prelude.{◌≡◌, ℕ, List, [], length, Option, Some, None};
+
+use crate::device::{Failed, Sink, Source};
+use std::alloc::Global;
+
+/// Bytes that come at most `step` at a time. The read of the number `fail_at`, counted from 0, fails.
+#[derive(Clone, Copy, Debug)]
+pub struct FailSource<'a> {
+    /// The bytes that reads will give.
+    pub bytes: &'a [u8],
+    /// The most bytes that a read gives; 0 counts as 1.
+    pub step: usize,
+    /// Which read fails.
+    pub fail_at: Option<u64>,
+    /// How many reads there were. The count stays at its greatest.
+    pub reads: u64,
+    /// How many of them failed. The count stays at its greatest.
+    pub failures: u64,
+}
+
+impl<'a> FailSource<'a> {
+    /// Bytes of which no read was made yet.
+    pub fn new(bytes: &'a [u8], step: usize, fail_at: Option<u64>) -> Self
+        ensures { result.bytes.now ≡ bytes.now }
+    {
+        FailSource {
+            bytes,
+            step,
+            fail_at,
+            reads: 0,
+            failures: 0,
+        }
+    }
+}
+
+impl Source for FailSource<'_> {
+    ghost remaining = { λ s. Some s.bytes.now };
+
+    ghost failures = { λ s. s.failures };
+
+    ghost reads_left = { λ s. length s.bytes.now };
+
+    fn read(&mut self, buf: &mut [u8]) -> Result<usize, Failed> {
+        let number = self.reads;
+        self.reads = self.reads.saturating_add(1);
+        if self.fail_at == Some(number) {
+            self.failures = self.failures.saturating_add(1);
+            return Err(Failed);
+        }
+        let n = self.step.max(1).min(buf.len()).min(self.bytes.len());
+        let (front, rest) = self.bytes.split_at(n);
+        buf[..n].copy_from_slice(front);
+        self.bytes = rest;
+        Ok(n)
+    }
+}
+
+/// A buffer that takes at most `step` bytes at a time. The write of the number `fail_at`, counted from 0, fails, and one for
+/// which there is no memory.
+#[derive(Debug, Drop)]
+pub struct FailSink {
+    /// The bytes that were written.
+    pub bytes: Vec<u8>,
+    /// The most bytes that a write takes; 0 counts as 1.
+    pub step: usize,
+    /// Which write fails.
+    pub fail_at: Option<u64>,
+    /// How many writes there were. The count stays at its greatest.
+    pub writes: u64,
+    /// How many of them failed. The count stays at its greatest.
+    pub failures: u64,
+}
+
+impl FailSink {
+    /// An empty buffer.
+    pub fn new(alloc: Global, step: usize, fail_at: Option<u64>) -> Self
+        ensures { result.bytes.items ≡ [] }
+    {
+        FailSink {
+            bytes: Vec::new(alloc),
+            step,
+            fail_at,
+            writes: 0,
+            failures: 0,
+        }
+    }
+}
+
+impl Sink for FailSink {
+    ghost contents = { λ s. Some s.bytes.items };
+
+    ghost failures = { λ s. s.failures };
+
+    fn write(&mut self, bytes: &[u8]) -> Result<usize, Failed> {
+        let number = self.writes;
+        self.writes = self.writes.saturating_add(1);
+        if self.fail_at == Some(number) {
+            self.failures = self.failures.saturating_add(1);
+            return Err(Failed);
+        }
+        let n = self.step.max(1).min(bytes.len());
+        if self.bytes.extend_from_slice(&bytes[..n]).is_err() {
+            self.failures = self.failures.saturating_add(1);
+            return Err(Failed);
+        }
+        Ok(n)
+    }
+}
