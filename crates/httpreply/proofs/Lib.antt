@@ -1,0 +1,5 @@
+mod Delimiters
+mod Fronts
+mod Least
+mod Pieces
+pub mod Rows

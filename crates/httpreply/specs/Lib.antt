@@ -1,0 +1,4 @@
+pub mod Parts
+pub mod Marks
+pub mod Answer
+pub mod View

@@ -1,0 +1,23 @@
+-- What contracts see of the parts of an answer.
+use Rattle.std.specs.Prelude.{ℕ, ◌++◌, codes, List, Option, []}
+use Rattle.std.specs.Option.{option_copied}
+use denote.Ref.{Bor}
+use Rattle.httpreply.specs.Answer as spec
+use Rattle.httpreply.specs.Answer.{told, length_of, or_nothing}
+use Rattle.httpreply.specs.Parts.{line, field_line}
+use Rattle.httpreply.specs.declared.field.Answer.{Answer}
+use Rattle.httpreply.specs.declared.words.Line.{Line}
+
+abbrev pub parts_of : Answer → spec.Answer
+parts_of a = record { status = a.status.now; media = option_copied a.media; vclock = option_copied a.vclock; tag = option_copied a.tag; body = option_copied a.body }
+
+abbrev pub line_of : Line → spec.Answer
+line_of l = told l.status.now l.text.now
+
+-- the length of the body, where there is one, the empty line, and the body
+abbrev pub body_end : Option (List ℕ) → List ℕ
+body_end body = field_line (codes "Content-Length") (length_of body) ++ line [] ++ or_nothing body
+
+-- the same answer with a context
+abbrev pub with_clock : Option (Bor (List ℕ)) → spec.Answer → spec.Answer
+with_clock vclock a = record a { vclock = option_copied vclock }

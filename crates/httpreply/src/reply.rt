@@ -1,0 +1,35 @@
+//! What the store answers.
+
+use admission::Refusal;
+use dvv::Dot;
+use hooks::{HookFault, NameFault};
+use object::{Bytes, KeyState};
+use quorum::QuorumFault;
+
+/// The names of the hooks that are bound to a bucket.
+#[derive(Debug, Drop)]
+pub struct Bound {
+    /// The hook that runs on each new content before it is stored.
+    pub precommit: Option<Bytes>,
+    /// The hook that resolves siblings when they are read.
+    pub resolver: Option<Bytes>,
+}
+
+/// What the store answered to a call.
+#[derive(Debug, Drop)]
+pub enum Reply {
+    /// No call was made.
+    Nothing,
+    /// To a [`Call::Get`](httpask::Call::Get): the siblings and their context.
+    Got(Result<KeyState, QuorumFault>),
+    /// To a [`Call::Put`](httpask::Call::Put): the event that the content is stored under.
+    Stored(Result<Dot, QuorumFault>),
+    /// To a [`Call::Install`](httpask::Call::Install).
+    Installed(Result<(), Refusal>),
+    /// To a [`Call::Remove`](httpask::Call::Remove).
+    Removed(Result<(), HookFault>),
+    /// To a [`Call::ReadProps`](httpask::Call::ReadProps).
+    Props(Result<Bound, NameFault>),
+    /// To a [`Call::SetProps`](httpask::Call::SetProps).
+    Set(Result<(), HookFault>),
+}
