@@ -1,0 +1,5 @@
+//! The tests of connections.
+
+mod connections;
+mod rows;
+mod store;
