@@ -1,5 +1,5 @@
 -- Vnodes of one thread: what a call that isn't lost does.
-use Rattle.std.specs.Prelude.{◌≡◌, ℕ, zero, suc, ◌+◌, ◌*◌, ◌-◌, ◌^◌, ◌<◌, List, [], ◌∷◌, length, Option, Some, None, Result, Ok, Err, slice_get, slice_set, MatchBool, MatchOption, Contains, ◌↔◌, ◌==◌, Bool, false, is_ok, if◌then◌else◌, min}
+use Rattle.std.specs.Prelude.{◌≡◌, ℕ, zero, suc, ◌+◌, ◌*◌, ◌-◌, ◌^◌, List, [], ◌∷◌, length, Option, Some, None, Result, Ok, Err, slice_get, slice_set, MatchBool, MatchOption, Contains, ◌↔◌, ◌==◌, Bool, false, is_ok, if◌then◌else◌, min}
 use Rattle.std.specs.List.{list_any}
 use Rattle.std.specs.List.Sorted.{IsStrictlySortedBy}
 use Rattle.std.specs.Global.{Vec}
@@ -30,11 +30,6 @@ pub record LocalView : Type 0 where
   pub calls : ℕ
   pub stamp : ℕ
   pub failures : ℕ
-
--- where every key's place is set to one, there is a vnode
-abbrev pub IsPlaced : Option ℕ → ℕ → Type 0
-IsPlaced None vnodes = Unit {0}
-IsPlaced (Some first) vnodes = first < vnodes
 
 -- a count, one more, which stays at its greatest
 abbrev pub counted : ℕ → ℕ

@@ -8,7 +8,7 @@ ghost use Rattle.local.specs.Locals.{Does, KeysIn, fresh, counted};
 use dvv::{Clock, Dot};
 use object::{Content, Key, KeyState};
 use peers::{Answer, PeerFault, Peers};
-use place::place;
+use place::Placement;
 use std::alloc::{AllocError, Global};
 use std::marker::Model;
 use vnode::{Vnode, VnodeFault};
@@ -27,7 +27,8 @@ pub struct Local {
 
 impl Model for Local {
     ghost use Rattle.std.specs.Prelude.{length};
-    ghost use Rattle.local.specs.Locals.{LocalView, IsPlaced};
+    ghost use Rattle.place.specs.Places.{IsPlaced};
+    ghost use Rattle.local.specs.Locals.{LocalView};
 
     ghost Value = { LocalView };
 
@@ -37,9 +38,6 @@ impl Model for Local {
 }
 
 impl Local {
-    ghost use Rattle.place.specs.Places.{place_of};
-    ghost use Rattle.std.specs.Prelude.{unwrap_or};
-
     /// So many vnodes of an incarnation, with nothing written. A key's place is by its digest.
     pub fn open(alloc: Global, n: u32, incarnation: u16) -> Result<Local, AllocError>
         requires { n ≤ 255 }
@@ -93,17 +91,16 @@ impl Local {
         &self.vnodes
     }
 
-    /// The place of a key: the vnode at which its preference list begins.
-    pub fn place_of(&self, bucket: &[u8], key: &[u8]) -> u32
+    /// Where keys stand among the vnodes.
+    pub fn placement(&self) -> Placement
         requires some { 0 < length self.now.logs }
         requires few { length self.now.logs < 2 ^ 32 }
-        requires short { length bucket.now < 2 ^ 32 }
-        ensures place { result ≡ unwrap_or self.now.first (place_of bucket.now key.now (length self.now.logs)) }
-        ensures within { result < length self.now.logs }
+        ensures { result ≡ record { vnodes = length self.now.logs; first = self.now.first } }
     {
+        let vnodes = self.vnodes.len() as u32;
         match self.first {
-            Some(first) => first,
-            None => place(bucket, key, self.vnodes.len() as u32),
+            Some(first) => Placement::at_one(vnodes, first),
+            None => Placement::by_digest(vnodes),
         }
     }
 

@@ -1,5 +1,5 @@
 -- The vnodes of a preference list differ.
-use Rattle.std.proofs.Common.{◌≡◌, ◌≢◌, ℕ, zero, suc, ◌+◌, ◌-◌, ◌%◌, ◌<◌, ◌≤◌, ◌⊎◌, inl, inr, Bool, true, false, nat_lt, arith, refl, sym, ◌∙◌, ap, map, min, take}
+use Rattle.std.proofs.Common.{◌≡◌, ◌≢◌, ◌==◌, ℕ, zero, suc, ◌+◌, ◌-◌, ◌%◌, ◌<◌, ◌≤◌, ◌⊎◌, inl, inr, Bool, true, false, not, nat_lt, arith, refl, sym, ◌∙◌, ap, List, [], ◌∷◌, filter, get_or, length, map, min, take}
 use Rattle.std.specs.List.{AllByRecursion, range_with_len}
 use Rattle.std.proofs.Math.Nat.{mod-eq_of_lt, add-mod_right}
 use Rattle.std.proofs.lemmas.Bool.Decides.{nat_tests}
@@ -46,3 +46,61 @@ preferred_differ place vnodes lt = all_differ place vnodes 0 (min 3 vnodes) lt (
 -- the front of three that follow each other
 pub front_preferred : (place vnodes : ℕ) → take (copies_of vnodes) (map (λ index. vnode_at place index vnodes) (range_with_len 0 3)) ≡ preferred place vnodes
 front_preferred place vnodes = take-map-range_with_len (λ index. vnode_at place index vnodes) 0 3 (min 3 vnodes) (grind arith)
+
+-- vnodes at two different indexes differ
+unlike : (place vnodes i j : ℕ) → place < vnodes → (i < j) ⊎ (j < i) → i < vnodes → j < vnodes → vnode_at place i vnodes ≢ vnode_at place j vnodes
+unlike place vnodes i j lt (inl before) below_i below_j = apart place vnodes i j lt before below_j
+unlike place vnodes i j lt (inr after) below_i below_j = λ same. apart place vnodes j i lt after below_i (sym same)
+
+-- the front of the others of three is the others of fewer
+pub front_others : (f : ℕ → ℕ) (at n : ℕ) (rest : List ℕ) → at < n → n ≤ 3 → rest ≡ filter (λ index. not (index == at)) (range_with_len 0 3)
+    → take (n - 1) (f (get_or rest 0 0) ∷ f (get_or rest 1 0) ∷ f at ∷ []) ≡ map f (filter (λ index. not (index == at)) (range_with_len 0 n))
+front_others f at zero rest lt few is = absurd (omega arith)
+front_others f zero (suc zero) rest lt few is = refl
+front_others f (suc at) (suc zero) rest lt few is = absurd (omega arith)
+front_others f zero (suc (suc zero)) rest lt few is = ap (λ (l : List ℕ). f (get_or l 0 0) ∷ []) is
+front_others f (suc zero) (suc (suc zero)) rest lt few is = ap (λ (l : List ℕ). f (get_or l 0 0) ∷ []) is
+front_others f (suc (suc at)) (suc (suc zero)) rest lt few is = absurd (omega arith)
+front_others f zero (suc (suc (suc zero))) rest lt few is = ap (λ (l : List ℕ). f (get_or l 0 0) ∷ f (get_or l 1 0) ∷ []) is
+front_others f (suc zero) (suc (suc (suc zero))) rest lt few is = ap (λ (l : List ℕ). f (get_or l 0 0) ∷ f (get_or l 1 0) ∷ []) is
+front_others f (suc (suc zero)) (suc (suc (suc zero))) rest lt few is = ap (λ (l : List ℕ). f (get_or l 0 0) ∷ f (get_or l 1 0) ∷ []) is
+front_others f (suc (suc (suc at))) (suc (suc (suc zero))) rest lt few is = absurd (omega arith)
+front_others f at (suc (suc (suc (suc n)))) rest lt few is = absurd (omega arith)
+
+-- one of the first so many and the others of these differ
+pub others_differ : (place vnodes at n : ℕ) → place < vnodes → n ≤ vnodes → at < n → n ≤ 3
+    → AreDifferent (vnode_at place at vnodes ∷ map (λ index. vnode_at place index vnodes) (filter (λ index. not (index == at)) (range_with_len 0 n)))
+others_differ place vnodes at zero lt fits below few = absurd (omega arith)
+others_differ place vnodes zero (suc zero) lt fits below few = (tt, tt)
+others_differ place vnodes (suc at) (suc zero) lt fits below few = absurd (omega arith)
+others_differ place vnodes zero (suc (suc zero)) lt fits below few = ((apart place vnodes 0 1 lt (omega arith) (omega arith), tt), (tt, tt))
+others_differ place vnodes (suc zero) (suc (suc zero)) lt fits below few = ((unlike place vnodes 1 0 lt (inr (omega arith)) (omega arith) (omega arith), tt), (tt, tt))
+others_differ place vnodes (suc (suc at)) (suc (suc zero)) lt fits below few = absurd (omega arith)
+others_differ place vnodes zero (suc (suc (suc zero))) lt fits below few = (
+  (apart place vnodes 0 1 lt (omega arith) (omega arith), (apart place vnodes 0 2 lt (omega arith) (omega arith), tt)),
+  ((apart place vnodes 1 2 lt (omega arith) (omega arith), tt), (tt, tt)),
+)
+others_differ place vnodes (suc zero) (suc (suc (suc zero))) lt fits below few = (
+  (unlike place vnodes 1 0 lt (inr (omega arith)) (omega arith) (omega arith), (apart place vnodes 1 2 lt (omega arith) (omega arith), tt)),
+  ((apart place vnodes 0 2 lt (omega arith) (omega arith), tt), (tt, tt)),
+)
+others_differ place vnodes (suc (suc zero)) (suc (suc (suc zero))) lt fits below few = (
+  (unlike place vnodes 2 0 lt (inr (omega arith)) (omega arith) (omega arith), (unlike place vnodes 2 1 lt (inr (omega arith)) (omega arith) (omega arith), tt)),
+  ((apart place vnodes 0 1 lt (omega arith) (omega arith), tt), (tt, tt)),
+)
+others_differ place vnodes (suc (suc (suc at))) (suc (suc (suc zero))) lt fits below few = absurd (omega arith)
+others_differ place vnodes at (suc (suc (suc (suc n)))) lt fits below few = absurd (omega arith)
+
+-- the others of so many are one fewer
+pub others_count : (f : ℕ → ℕ) (at n : ℕ) → at < n → n ≤ 3 → length (map f (filter (λ index. not (index == at)) (range_with_len 0 n))) + 1 ≡ n
+others_count f at zero lt few = absurd (omega arith)
+others_count f zero (suc zero) lt few = refl
+others_count f (suc at) (suc zero) lt few = absurd (omega arith)
+others_count f zero (suc (suc zero)) lt few = refl
+others_count f (suc zero) (suc (suc zero)) lt few = refl
+others_count f (suc (suc at)) (suc (suc zero)) lt few = absurd (omega arith)
+others_count f zero (suc (suc (suc zero))) lt few = refl
+others_count f (suc zero) (suc (suc (suc zero))) lt few = refl
+others_count f (suc (suc zero)) (suc (suc (suc zero))) lt few = refl
+others_count f (suc (suc (suc at))) (suc (suc (suc zero))) lt few = absurd (omega arith)
+others_count f at (suc (suc (suc (suc n)))) lt few = absurd (omega arith)

@@ -1,5 +1,5 @@
 -- The place of a key on the ring (this store's profile; Riak KV documentation, consistent hashing by SHA-1).
-use Rattle.std.specs.Prelude.{ℕ, ◌+◌, ◌%◌, ◌≢◌, List, [], ◌∷◌, ◌++◌, length, take, map, min}
+use Rattle.std.specs.Prelude.{ℕ, ◌+◌, ◌%◌, ◌<◌, ◌≢◌, ◌==◌, not, List, [], ◌∷◌, ◌++◌, length, take, map, filter, min, Option, Some, None, unwrap_or}
 use Rattle.std.specs.Int.{w32, w64, to_be_bytes, from_be_bytes}
 use Rattle.std.specs.List.{AllByRecursion, range_with_len}
 use Rattle.sha1.specs.Sha1.{sha1}
@@ -12,6 +12,20 @@ hashed bucket key = to_be_bytes w32 (length bucket) ++ bucket ++ key
 abbrev pub place_of : List ℕ → List ℕ → ℕ → ℕ
 place_of bucket key vnodes = from_be_bytes w64 (take 8 (sha1 (hashed bucket key))) % vnodes
 
+-- how many vnodes there are, and where every key's place is set to one, that
+pub record PlacementView : Type 0 where
+  pub vnodes : ℕ
+  pub first : Option ℕ
+
+-- where every key's place is set to one, there is a vnode
+abbrev pub IsPlaced : Option ℕ → ℕ → Type 0
+IsPlaced None vnodes = Unit {0}
+IsPlaced (Some first) vnodes = first < vnodes
+
+-- the place of a key: the one of every key, or by its digest
+abbrev pub place_in : PlacementView → List ℕ → List ℕ → ℕ
+place_in placement bucket key = unwrap_or placement.first (place_of bucket key placement.vnodes)
+
 -- how many vnodes a preference list has
 abbrev pub copies_of : ℕ → ℕ
 copies_of vnodes = min 3 vnodes
@@ -23,6 +37,10 @@ vnode_at place index vnodes = (place + index) % vnodes
 -- the preference list that begins at a place
 abbrev pub preferred : ℕ → ℕ → List ℕ
 preferred place vnodes = map (λ index. vnode_at place index vnodes) (range_with_len 0 (copies_of vnodes))
+
+-- the preference list without the vnode at an index
+abbrev pub others : ℕ → ℕ → ℕ → List ℕ
+others place at vnodes = map (λ index. vnode_at place index vnodes) (filter (λ index. not (index == at)) (range_with_len 0 (copies_of vnodes)))
 
 -- no vnode is named twice
 abbrev pub AreDifferent : List ℕ → Type 0

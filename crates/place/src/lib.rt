@@ -6,8 +6,10 @@ ghost use Rattle.std.specs.Prelude.{◌≡◌, ◌+◌, ◌/◌, ◌<◌, ◌≤
 ghost use Rattle.place.specs.Places.{place_of, copies_of};
 
 mod list;
+mod placement;
 
-pub use list::{PreferenceList, preferred};
+pub use list::{PreferenceList, others, preferred, vnode_at};
+pub use placement::Placement;
 use sha1::Sha1;
 
 /// The most copies of a key: the vnodes of its preference list.
@@ -98,5 +100,26 @@ mod tests {
             assert!(rt; first < vnodes);
             assert_eq!(rt; preferred(first, vnodes).as_slice(), list);
         }
+        let rows: [(u32, u32, u32, &[usize]); 6] = [
+            (0, 0, 1, &[]),
+            (0, 1, 2, &[0]),
+            (2, 0, 3, &[0, 1]),
+            (2, 1, 3, &[2, 1]),
+            (2, 2, 3, &[2, 0]),
+            (63, 1, 64, &[63, 1]),
+        ];
+        for (first, at, vnodes, list) in rows {
+            assert!(rt; first < vnodes);
+            assert!(rt; at < copies(vnodes));
+            assert_eq!(rt; others(first, at, vnodes).as_slice(), list);
+        }
+    }
+
+    #[test]
+    fn placements(rt: HostRuntime) {
+        assert_eq!(rt; Placement::by_digest(64).place_of(b"b", b"k"), 2);
+        let one = Placement::at_one(64, 7);
+        assert_eq!(rt; one.place_of(b"b", b"k"), 7);
+        assert_eq!(rt; one.vnodes(), 64);
     }
 }

@@ -141,7 +141,7 @@ fn each_key_has_the_first_place(rt: HostRuntime) -> Result<(), Fail> {
     let alloc = rt.alloc();
     let local = Local::open_first(alloc, 3, 0, 2)?;
     assert_eq!(rt; local.vnodes().len(), 3);
-    assert_eq!(rt; local.place_of(b"b", b"k"), 2);
+    assert_eq!(rt; local.placement().place_of(b"b", b"k"), 2);
     Ok(())
 }
 
