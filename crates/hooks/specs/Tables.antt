@@ -1,5 +1,5 @@
 -- What a registry shows: the program of each name, and the name that is bound to each bucket and kind.
-use Rattle.std.specs.Prelude.{◌≡◌, ℕ, List, Option, Result, Ok, Err}
+use Rattle.std.specs.Prelude.{◌≡◌, ℕ, List, Option, None, Result, Ok, Err, true, false}
 use Rattle.std.specs.Option.{option_map}
 use Rattle.std.specs.Map.{lookup}
 use Rattle.std.specs.Global.{Global}
@@ -9,8 +9,10 @@ use Rattle.bpfimage.specs.declared.image.ImageKind.{ImageKind}
 use Rattle.verifier.specs.Program.{Program}
 use Rattle.hooks.specs.declared.bindings.Bindings.{Bindings}
 use Rattle.hooks.specs.declared.fault.NotSeen.{NotSeen}
+use Rattle.hooks.specs.declared.fault.HookFault.{HookFault}
+use Rattle.hooks.specs.declared.fault.HookFault.TheVariants.{NameUnknown, KindDiffers, NoMemory}
 use Rattle.hooks.specs.Bindings.{bound_if}
-use Rattle.hooks.specs.Changes.{Change, bound_at, hook_named, is_name, name_after, program_after, program_at}
+use Rattle.hooks.specs.Changes.{Change, Install, Remove, Bind, are_fitting, are_known, bound_at, hook_named, is_name, name_after, program_after, program_at}
 
 -- programs under names, and what is bound to buckets
 pub record Shown : Type 0 where
@@ -43,3 +45,28 @@ pub record ChangesBy (old new : Shown) (change : Change) : Type 0 where
 abbrev pub programs_of : Result (Option (Arc Program Global)) NotSeen → Result (Option Program) NotSeen
 programs_of (Ok hook) = Ok (option_map arc_value hook)
 programs_of (Err fault) = Err fault
+
+-- a change that nothing but memory stands in the way of: the name that is given up has a program, and each name that is bound
+-- has one of that kind
+abbrev pub IsAllowed : Shown → Change → Type 0
+IsAllowed shown (Install name program) = Unit {0}
+IsAllowed shown (Remove name) = ¬ (program_in shown.programs name ≡ None)
+IsAllowed shown (Bind bucket bindings) = (are_known (program_in shown.programs) bindings ≡ true) × (are_fitting (program_in shown.programs) bindings ≡ true)
+
+-- why a change is refused: a name without a program, told before a kind that differs, and these before want of memory; to give a
+-- name up takes none
+abbrev pub Refuses : Shown → Change → HookFault → Type 0
+Refuses shown (Install name program) NameUnknown = ⊥
+Refuses shown (Install name program) KindDiffers = ⊥
+Refuses shown (Install name program) NoMemory = Unit {0}
+Refuses shown (Remove name) NameUnknown = program_in shown.programs name ≡ None
+Refuses shown (Remove name) KindDiffers = ⊥
+Refuses shown (Remove name) NoMemory = ⊥
+Refuses shown (Bind bucket bindings) NameUnknown = are_known (program_in shown.programs) bindings ≡ false
+Refuses shown (Bind bucket bindings) KindDiffers = (are_known (program_in shown.programs) bindings ≡ true) × (are_fitting (program_in shown.programs) bindings ≡ false)
+Refuses shown (Bind bucket bindings) NoMemory = (are_known (program_in shown.programs) bindings ≡ true) × (are_fitting (program_in shown.programs) bindings ≡ true)
+
+-- a change that is told takes effect, or it is refused and nothing changes
+abbrev pub Takes : Shown → Change → Result Unit HookFault → Shown → Type 0
+Takes old change (Ok done) new = IsAllowed old change × ChangesBy old new change
+Takes old change (Err fault) new = Refuses old change fault × (new ≡ old)

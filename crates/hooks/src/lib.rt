@@ -2,6 +2,7 @@
 #![tactic(auto)]
 
 mod bindings;
+mod changing;
 mod fault;
 pub mod laws;
 mod lookup;
@@ -9,6 +10,7 @@ mod registry;
 #[cfg(test)]
 mod tests;
 
+pub use changing::HookChanges;
 pub use fault::{HookFault, NameFault, NotSeen};
 pub use lookup::Hooks;
 pub use registry::Registry;

@@ -1,6 +1,6 @@
 //! Changes of a registry, and what it then shows.
 
-use crate::{HookFault, Hooks, NameFault, NotSeen, Registry};
+use crate::{HookChanges, HookFault, Hooks, NameFault, NotSeen, Registry};
 use bpfimage::{ImageKind, read_image};
 use helpers::Sigs;
 use object::Bytes;
@@ -59,16 +59,16 @@ fn changes_take_effect_at_once(rt: HostRuntime) -> Result<(), Fail> {
     assert_eq!(rt; registry.bind(&b, &both), Ok(()));
     assert_eq!(rt; kind_of(&registry, &b, BEFORE), Ok(Some(BEFORE)));
     assert_eq!(rt; kind_of(&registry, &b, RESOLVER), Ok(Some(RESOLVER)));
-    assert_eq!(rt; registry.remove(&take), Ok(()));
+    assert_eq!(rt; HookChanges::remove(&mut registry, &take), Ok(()));
     assert_eq!(rt; kind_of(&registry, &b, RESOLVER), Ok(None));
     registry.install(take.copy()?, program(alloc, 1, 1)?)?;
     assert_eq!(rt; kind_of(&registry, &b, RESOLVER), Ok(None));
     let bound = registry.bound(&b, RESOLVER)?;
     assert!(rt; bound == Some(take.copy()?));
-    registry.install(take, program(alloc, 2, 0)?)?;
+    HookChanges::install(&mut registry, take, program(alloc, 2, 0)?)?;
     assert!(rt; Hooks::hook_of(&mut registry, &b, RESOLVER)?.is_some());
     let unbind = [(RESOLVER, None)];
-    assert_eq!(rt; registry.bind(&b, &unbind), Ok(()));
+    assert_eq!(rt; HookChanges::bind(&mut registry, &b, &unbind), Ok(()));
     assert_eq!(rt; kind_of(&registry, &b, RESOLVER), Ok(None));
     assert!(rt; Hooks::bound(&mut registry, &b, RESOLVER)?.is_none());
     assert_eq!(rt; kind_of(&registry, &b, BEFORE), Ok(Some(BEFORE)));
