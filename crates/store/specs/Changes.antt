@@ -1,0 +1,53 @@
+-- What the calls on hooks do to a store (Riak KV documentation, bucket properties; this store's profile).
+use Rattle.std.specs.Prelude.{◌≡◌, ◌⊎◌, ℕ, List, [], ◌∷◌, ◌++◌, Option, Some, None, Result, Ok, Err}
+use Rattle.bpfimage.specs.declared.image.ImageKind.{ImageKind}
+use Rattle.bpfimage.specs.declared.image.ImageKind.TheVariants.{PreCommit, Resolver}
+use Rattle.bpfimage.specs.declared.image.ImageFault.TheVariants as image_fault
+use Rattle.verifier.specs.Program.{Program}
+use Rattle.admission.specs.declared.refusal.Refusal.{Refusal}
+use Rattle.admission.specs.declared.refusal.Refusal.TheVariants as refusal
+use Rattle.admission.specs.Admissions.{IsLetIn, IsTurnedAway}
+use Rattle.hooks.specs.declared.fault.HookFault.{HookFault}
+use Rattle.hooks.specs.declared.fault.HookFault.TheVariants.{NoMemory}
+use Rattle.hooks.specs.declared.fault.NameFault.{NameFault}
+use Rattle.hooks.specs.Changes as registry
+use Rattle.httpask.specs.declared.ask.Change.{Change}
+use Rattle.httpask.specs.declared.ask.Change.TheVariants.{Kept, Unbound, Bound}
+use Rattle.store.specs.View.{StoreView}
+use Rattle.store.specs.Calls.{IsKept}
+
+-- the binding that a change of one kind makes, if any
+abbrev pub binding_of : ImageKind → Change → List registry.Binding
+binding_of kind Kept = []
+binding_of kind Unbound = (kind, None) ∷ []
+binding_of kind (Bound name) = (kind, Some name) ∷ []
+
+abbrev pub bindings_of : Change → Change → List registry.Binding
+bindings_of precommit resolver = binding_of PreCommit precommit ++ binding_of Resolver resolver
+
+-- the hooks alone may have changed
+abbrev pub IsOfHooks : {P H : Type 0} → StoreView P H → StoreView P H → Type 0
+IsOfHooks old new = (new.peers ≡ old.peers) × IsKept old new
+
+module _ {P H : Type 0} (takes : H → registry.Change → Result Unit HookFault → H → Type 0) where
+  -- what comes of an image: its program gets the name; or it is turned away, and nothing changes; or memory lacks, in the registry too
+  abbrev pub Installs : StoreView P H → List ℕ → List ℕ → Result Unit Refusal → StoreView P H → Type 0
+  Installs old name image (Ok done) new = (program : Program) × IsLetIn image old.listed program × takes old.hooks (registry.Install name program) (Ok done) new.hooks × IsOfHooks old new
+  Installs old name image (Err why) new =
+      (IsTurnedAway image old.listed why × (new ≡ old))
+      ⊎ ((why ≡ refusal.Image image_fault.NoMemory) × (new ≡ old))
+      ⊎ ((program : Program) × (fault : HookFault) × IsLetIn image old.listed program × takes old.hooks (registry.Install name program) (Err fault) new.hooks × (why ≡ refusal.Image image_fault.NoMemory) × IsOfHooks old new)
+
+  -- a name is given up
+  abbrev pub Removes : StoreView P H → List ℕ → Result Unit HookFault → StoreView P H → Type 0
+  Removes old name result new = takes old.hooks (registry.Remove name) result new.hooks × IsOfHooks old new
+
+  -- what is bound to both kinds of a bucket changes, or memory lacks for the names
+  abbrev pub Binds : StoreView P H → List ℕ → Change → Change → Result Unit HookFault → StoreView P H → Type 0
+  Binds old bucket precommit resolver result new =
+      (takes old.hooks (registry.Bind bucket (bindings_of precommit resolver)) result new.hooks × IsOfHooks old new)
+      ⊎ ((result ≡ Err NoMemory) × (new ≡ old))
+
+-- the name that is bound to a bucket and a kind
+abbrev pub Names : {P H : Type 0} → (H → List ℕ → ImageKind → Result (Option (List ℕ)) NameFault → H → Type 0) → StoreView P H → List ℕ → ImageKind → Result (Option (List ℕ)) NameFault → StoreView P H → Type 0
+Names names old bucket kind result new = names old.hooks bucket kind result new.hooks × IsOfHooks old new

@@ -1,0 +1,14 @@
+-- What a store holds, as contracts see it.
+use Rattle.std.specs.Prelude.{List}
+use Rattle.helpers.specs.declared.sig.Entry.{Entry}
+use Rattle.place.specs.Places.{PlacementView}
+
+-- the vnodes and the hooks, as whoever stands for them, the helpers that hooks may call, and where keys stand
+pub record StoreView (P H : Type 0) : Type 0 where
+  pub peers : P
+  pub hooks : H
+  pub listed : List Entry
+  pub placement : PlacementView
+
+abbrev pub shown : {P H : Type 0} → P → H → List Entry → PlacementView → StoreView P H
+shown peers hooks listed placement = record { peers = peers; hooks = hooks; listed = listed; placement = placement }

@@ -1,0 +1,8 @@
+//! The store that a front calls: reads with read repair and resolvers, writes with pre-commit hooks, and the hooks themselves,
+//! over vnodes and hooks, whoever reaches them (Riak KV documentation, reads, writes and hooks; this store's profile).
+#![tactic(auto)]
+
+mod hooking;
+mod store;
+
+pub use store::Store;

@@ -1,0 +1,133 @@
+//! The store, and the calls on its keys.
+
+ghost use Rattle.std.specs.Prelude.{◌≡◌, ◌<◌, ◌≤◌, ℕ};
+ghost use Rattle.object.specs.Limits.{IsKey};
+ghost use Rattle.place.specs.Places.{copies_of, place_in};
+ghost use Rattle.store.specs.Calls.{Gets, Puts};
+ghost use Rattle.store.specs.View.{shown};
+
+use dvv::{Clock, Dot};
+use hooks::Hooks;
+use object::{Content, Key, KeyState};
+use peers::Peers;
+use place::{Placement, others, preferred, vnode_at};
+use quorum::{Hooking, QuorumFault};
+use std::alloc::Global;
+
+/// Vnodes, the hooks of buckets with the helpers that they may call, and where keys stand. An index past the vnodes that there
+/// are is one that can't be reached.
+#[derive(Drop)]
+pub struct Store<P, H> {
+    /// The vnodes, as whoever reaches them.
+    pub peers: P,
+    /// The hooks, and the helpers that they may call.
+    pub hooking: Hooking<H>,
+    /// Where keys stand among the vnodes.
+    pub placement: Placement,
+    pub(crate) alloc: Global,
+}
+
+impl<P, H> Store<P, H> {
+    /// A store of these vnodes and hooks.
+    pub fn new(alloc: Global, peers: P, hooking: Hooking<H>, placement: Placement) -> Store<P, H>
+        ensures peers { result.peers ≡ peers }
+        ensures hooking { result.hooking ≡ hooking }
+        ensures placement { result.placement ≡ placement }
+    {
+        Store {
+            peers,
+            hooking,
+            placement,
+            alloc,
+        }
+    }
+
+    /// How many copies of a key there are, 1 to 3.
+    pub fn copies(&self) -> u32
+        ensures copies { result ≡ copies_of self.now.placement.vnodes }
+        ensures some { 1 ≤ result }
+        ensures few { result ≤ 3 }
+    {
+        place::copies(self.placement.vnodes())
+    }
+
+    // The vnode at which a key's preference list begins.
+    fn place_of(&self, key: &Key) -> u32
+        requires { IsKey key.now }
+        ensures place { result ≡ place_in self.now.placement key.now.bucket key.now.key }
+        ensures within { result < self.now.placement.vnodes }
+    {
+        self.placement
+            .place_of(key.bucket.as_slice(), key.key.as_slice())
+    }
+}
+
+impl<P: Peers, H: Hooks> Store<P, H> {
+    /// Reads a key at each vnode of its preference list, brings what came to those that it would change, and asks the bucket's
+    /// resolver where siblings came. The vnode at the index `at` of the list coordinates.
+    ///
+    /// As [`quorum::get`]: `TooFew` where fewer than `r` vnodes answered, else `Refused`. What was stored stays.
+    pub fn get(&mut self, key: &Key, r: u32, at: u32) -> Result<KeyState, QuorumFault>
+        requires key { IsKey key.now }
+        requires at { at < copies_of self.old.placement.vnodes }
+        ensures { Gets P.happens H.finds (shown self.old.peers self.old.hooking.hooks self.old.hooking.table.listed self.old.placement) key.now r at result (shown self.new.peers self.new.hooking.hooks self.new.hooking.table.listed self.new.placement) }
+    {
+        let vnodes = self.placement.vnodes();
+        let place = self.place_of(key);
+        let list = preferred(place, vnodes);
+        let coordinator = vnode_at(place, at, vnodes);
+        let read = quorum::get(
+            self.alloc,
+            &mut self.peers,
+            key,
+            list.as_slice(),
+            r as usize,
+        );
+        match read {
+            Ok((got, answers)) => {
+                repair::repair(&mut self.peers, key, &answers);
+                let resolved = quorum::resolve(
+                    &mut self.peers,
+                    &mut self.hooking,
+                    coordinator,
+                    key,
+                    got,
+                    &answers,
+                );
+                Ok(resolved.state)
+            }
+            Err(fault) => Err(fault),
+        }
+    }
+
+    /// Puts a content, a tombstone too, as one who had seen what the clock counts. The vnode at the index `at` of the key's
+    /// preference list coordinates.
+    ///
+    /// Faults as [`quorum::put`]'s. What was stored stays.
+    pub fn put(
+        &mut self,
+        key: &Key,
+        seen: &Clock,
+        content: &Content,
+        w: u32,
+        at: u32,
+    ) -> Result<Dot, QuorumFault>
+        requires key { IsKey key.now }
+        requires at { at < copies_of self.old.placement.vnodes }
+        ensures { Puts P.happens H.finds (shown self.old.peers self.old.hooking.hooks self.old.hooking.table.listed self.old.placement) key.now seen.now content.now w at result (shown self.new.peers self.new.hooking.hooks self.new.hooking.table.listed self.new.placement) }
+    {
+        let vnodes = self.placement.vnodes();
+        let place = self.place_of(key);
+        let others = others(place, at, vnodes);
+        quorum::put(
+            &mut self.peers,
+            &mut self.hooking,
+            vnode_at(place, at, vnodes),
+            others.as_slice(),
+            key,
+            seen,
+            content,
+            w as usize,
+        )
+    }
+}
