@@ -3,7 +3,7 @@ use Rattle.std.proofs.Common.{◌≡◌, ℕ, zero, suc, ◌+◌, ◌<◌, ◌�
 use Rattle.std.proofs.lemmas.List.{map-append, take_more}
 use Rattle.peers.specs.declared.peers.Answer.{Answer}
 use Rattle.std.proofs.Math.Nat.{lt_of_not-le}
-use Rattle.dvv.specs.Clock.{vnodes_together}
+use Rattle.dvv.specs.Clock.{vnodes_together, most_entries}
 use Rattle.object.specs.declared.content.Key.{Key}
 use Rattle.object.specs.State.{State}
 use Rattle.journal.specs.Replay.{IsMergeOf}
@@ -35,7 +35,7 @@ pub none_passes : (key : Key) → PassesClock key [] → ⊥
 none_passes key passes = let n = ap length passes.parts in let m = length-append passes.before (passes.state ∷ passes.after) in absurd (omega arith)
 
 -- where a state and the merge of those before it keep within the limit, no merge so far passes it
-pub still_fits : (key : Key) (xs : List State) (y merged : State) → ((a b : State) → IsMergeOf key xs a → IsMergeOf key xs b → a ≡ b) → IsMergeOf key xs merged → (PassesClock key xs → ⊥) → vnodes_together merged.clock y.clock ≤ 1024
+pub still_fits : (key : Key) (xs : List State) (y merged : State) → ((a b : State) → IsMergeOf key xs a → IsMergeOf key xs b → a ≡ b) → IsMergeOf key xs merged → (PassesClock key xs → ⊥) → vnodes_together merged.clock y.clock ≤ most_entries
     → PassesClock key (xs ++ y ∷ []) → ⊥
 still_fits key xs y merged one is_merge fits room passes = by_place (place_of xs passes.before passes.after y passes.state passes.parts)
   where
@@ -47,8 +47,8 @@ still_fits key xs y merged one is_merge fits room passes = by_place (place_of xs
         let many = passes.many in
         absurd (omega arith)
 
-pub room_left : (n : ℕ) → (1024 < n → ⊥) → n ≤ 1024
-room_left n none = let small : n < 1025 = lt_of_not-le none in omega arith
+pub room_left : (n : ℕ) → (most_entries < n → ⊥) → n ≤ most_entries
+room_left n none = let small : n < most_entries + 1 = lt_of_not-le none in omega arith
 
 pub changed_so : (changed : Bool) → (changed ≡ false → ⊥) → changed ≡ true
 changed_so true none = refl
