@@ -3,15 +3,16 @@
 ghost use Rattle.std.specs.Prelude.{◌∷◌, ◌<◌, ◌^◌, length};
 ghost use Rattle.place.specs.Places.{AreDifferent};
 
-use crate::building::content_of;
+use crate::building::{content_of, put_alone, three_losing};
 use crate::hooking::bind;
 use bpfimage::ImageKind;
 use dvv::{Clock, Dot};
 use helpers::Table;
 use hooks::{Hooks, Registry};
+use local::Local;
 use object::{Content, Key, KeyState};
 use peers::{Answer, Peers};
-use quorum::{Hooking, QuorumFault};
+use quorum::{Hooking, QuorumFault, Resolved};
 use std::alloc::{AllocError, Global};
 use std::sync::Arc;
 use std::test::Fail;
@@ -103,4 +104,29 @@ pub fn get<P: Peers>(
     requires { AreDifferent vnodes.now }
 {
     quorum::get(alloc, peers, key, vnodes, r)
+}
+
+/// Resolves what a get answered where bucket `b` has this resolver, which calls no helper.
+pub fn resolve_hooked<P: Peers>(
+    alloc: Global,
+    peers: &mut P,
+    hook: Arc<Verified>,
+    coordinator: usize,
+    key: &Key,
+    got: KeyState,
+    answers: &[Answer],
+) -> Result<Resolved, Fail> {
+    let mut registry = Registry::new(alloc);
+    bind(alloc, &mut registry, ImageKind::Resolver, hook)?;
+    let mut hooking = Hooking::new(alloc, registry, Table::new(alloc));
+    Ok(quorum::resolve(peers, &mut hooking, coordinator, key, got, answers))
+}
+
+/// Vnode 0 holds `a`, vnode 1 `b`, vnode 2 nothing, and none has seen the other's. Each has been read by a get.
+pub fn two_siblings(alloc: Global, key: &Key) -> Result<(Local, KeyState, Vec<Answer>), Fail> {
+    let mut local = three_losing(alloc, &[])?;
+    put_alone(alloc, &mut local, 0, key, b"a")?;
+    put_alone(alloc, &mut local, 1, key, b"b")?;
+    let (state, answers) = get(alloc, &mut local, key, &[0, 1, 2], 3)?;
+    Ok((local, state, answers))
 }
