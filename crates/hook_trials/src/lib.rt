@@ -1,4 +1,4 @@
-//! Tests of puts with pre-commit hooks and of gets with resolvers, over the vnodes of one thread.
+//! Tests of puts with pre-commit hooks, and of hooks whose helpers a table lacks, over the vnodes of one thread.
 #![tactic(auto)]
 
 #[cfg(test)]

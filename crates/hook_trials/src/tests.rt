@@ -1,5 +1,4 @@
-//! The tests by the kind of the hook.
+//! The tests by what is tried.
 
-mod hooks_made;
 mod put_hooks;
-mod resolvers;
+mod tables;

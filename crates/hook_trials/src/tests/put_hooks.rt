@@ -1,50 +1,64 @@
 //! Pre-commit hooks of puts.
 
-use crate::tests::hooks_made::{bound, table_of_64};
 use abi::BadAnswer;
-use bpfimage::ImageKind;
 use dvv::{Clock, Dot};
 use helpers::Table;
-use local::Local;
 use object::{Content, KeyState};
 use peers::Peers;
 use quorum::{Hooking, QuorumFault};
 use std::alloc::Global;
-use std::sync::Arc;
 use std::test::Fail;
 use trial_parts::building::{content_of, is_value, key_of, lengths, three_losing};
 use trial_parts::calling::{get, put, put_hooked};
 use trial_parts::hooking::{Hidden, program};
-use trial_parts::programs::{CALLS_64, EXIT, PRE_COMMIT, WRITE_X, answer, hook};
+use trial_parts::programs::{EXIT, PRE_COMMIT, WRITE_X, answer};
 
-/// What a put answers under a pre-commit hook with this code, these calls lost, and the vnodes after it.
-fn put_under(
-    alloc: Global,
-    in_len: u16,
-    code: &[[u8; 8]],
-    content: &Content,
-    lost: &[u64],
-) -> Result<(Result<Dot, QuorumFault>, Local), Fail> {
+/// What a put at vnode 0 answered, how many entries the vnodes' journals have after it, and how many calls failed.
+#[derive(Drop)]
+struct Outcome {
+    back: Result<Dot, QuorumFault>,
+    lengths: [usize; 3],
+    failures: u64,
+}
+
+/// What a put of `a` comes to under a pre-commit hook with this code, these calls lost.
+fn put_under(alloc: Global, in_len: u16, code: &[[u8; 8]], lost: &[u64]) -> Result<Outcome, Fail> {
     let key = key_of(alloc, b"k")?;
-    let seen = Clock::new(alloc);
+    let content = content_of(alloc, b"a")?;
     let hook = program(alloc, PRE_COMMIT, in_len, code)?;
     let mut local = three_losing(alloc, lost)?;
-    let back = put_hooked(alloc, &mut local, hook, 0, &[1, 2], &key, &seen, content, 2)?;
-    Ok((back, local))
+    let seen = Clock::new(alloc);
+    let back = put_hooked(
+        alloc,
+        &mut local,
+        hook,
+        0,
+        &[1, 2],
+        &key,
+        &seen,
+        &content,
+        2,
+    )?;
+    Ok(Outcome {
+        back,
+        lengths: lengths(&local),
+        failures: local.failures(),
+    })
 }
 
 /// What vnode 2 holds after a put under a hook that writes the value `x`.
 fn after_change(alloc: Global, content: &Content) -> Result<KeyState, Fail> {
-    let (_, mut local) = put_under(alloc, 128, &WRITE_X, content, &[])?;
     let key = key_of(alloc, b"k")?;
+    let hook = program(alloc, PRE_COMMIT, 128, &WRITE_X)?;
+    let mut local = three_losing(alloc, &[])?;
+    let seen = Clock::new(alloc);
+    put_hooked(alloc, &mut local, hook, 0, &[1, 2], &key, &seen, content, 2)??;
     let (state, _) = get(alloc, &mut local, &key, &[2], 1)?;
     Ok(state)
 }
 
 #[test]
 fn pre_commit_hooks(rt: HostRuntime) -> Result<(), Fail> {
-    let alloc = rt.alloc();
-    let content = content_of(alloc, b"a")?;
     let stored = Ok(Dot { vnode: 0, n: 1 });
     let bad = Err(QuorumFault::BadVerdict(BadAnswer::UnknownCode));
     let reject_1 = Err(QuorumFault::Rejected(1));
@@ -63,21 +77,19 @@ fn pre_commit_hooks(rt: HostRuntime) -> Result<(), Fail> {
         [1, 0, 0],
     ];
     for row in 0..6usize {
-        let (back, local) = put_under(alloc, windows[row], &answer(answers[row]), &content, &[])?;
-        assert_eq!(rt; back, told[row], "row {row}");
-        assert_eq!(rt; lengths(&local), after[row], "row {row}");
+        let outcome = put_under(rt.alloc(), windows[row], &answer(answers[row]), &[])?;
+        assert_eq!(rt; outcome.back, told[row], "row {row}");
+        assert_eq!(rt; outcome.lengths, after[row], "row {row}");
     }
     Ok(())
 }
 
 #[test]
 fn lost_before_the_hook_runs(rt: HostRuntime) -> Result<(), Fail> {
-    let alloc = rt.alloc();
-    let content = content_of(alloc, b"a")?;
-    let (back, local) = put_under(alloc, 128, &answer(0), &content, &[0])?;
-    assert_eq!(rt; back, Err(QuorumFault::TooFew));
-    assert_eq!(rt; lengths(&local), [0, 0, 0]);
-    assert_eq!(rt; local.failures(), 1);
+    let outcome = put_under(rt.alloc(), 128, &answer(0), &[0])?;
+    assert_eq!(rt; outcome.back, Err(QuorumFault::TooFew));
+    assert_eq!(rt; outcome.lengths, [0, 0, 0]);
+    assert_eq!(rt; outcome.failures, 1);
     Ok(())
 }
 
@@ -115,63 +127,19 @@ fn a_hook_changes_the_value(rt: HostRuntime) -> Result<(), Fail> {
     Ok(())
 }
 
-/// The table is looked at before the window's length, which is too short for any content.
-#[test]
-fn table_without_the_helper(rt: HostRuntime) -> Result<(), Fail> {
-    let alloc = rt.alloc();
-    let table = table_of_64(alloc)?;
-    let hook = Arc::new(
-        alloc,
-        hook(alloc, &table.listed, PRE_COMMIT, 40, 0, &CALLS_64)?,
-    )?;
-    let mut hooking = bound(alloc, ImageKind::PreCommit, hook)?;
-    let mut local = three_losing(alloc, &[])?;
-    let key = key_of(alloc, b"k")?;
-    let seen = Clock::new(alloc);
-    let content = content_of(alloc, b"a")?;
-    let without = put(
-        &mut local,
-        &mut hooking,
-        0,
-        &[1, 2],
-        &key,
-        &seen,
-        &content,
-        2,
-    );
-    assert_eq!(rt; without, Err(QuorumFault::Disagrees));
-    assert_eq!(rt; lengths(&local), [1, 0, 0]);
-    hooking.table = table;
-    let with = put(
-        &mut local,
-        &mut hooking,
-        0,
-        &[1, 2],
-        &key,
-        &seen,
-        &content,
-        2,
-    );
-    assert_eq!(rt; with, Err(QuorumFault::TooLarge));
-    assert_eq!(rt; lengths(&local), [2, 0, 0]);
-    Ok(())
-}
-
 /// A written value of 5 bytes after its length doesn't fit the output window of 8.
 #[test]
 fn a_value_past_the_window(rt: HostRuntime) -> Result<(), Fail> {
-    let alloc = rt.alloc();
-    let content = content_of(alloc, b"a")?;
     let write_5 = [
         [0x62, 3, 0, 0, 5, 0, 0, 0],
         [0xb7, 0, 0, 0, 1, 0, 0, 0],
         EXIT,
     ];
-    let (back, local) = put_under(alloc, 128, &write_5, &content, &[])?;
+    let outcome = put_under(rt.alloc(), 128, &write_5, &[])?;
     assert_eq!(rt;
-        back,
+        outcome.back,
         Err(QuorumFault::BadVerdict(BadAnswer::LengthPastWindow))
     );
-    assert_eq!(rt; lengths(&local), [1, 0, 0]);
+    assert_eq!(rt; outcome.lengths, [1, 0, 0]);
     Ok(())
 }

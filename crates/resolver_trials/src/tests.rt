@@ -1,0 +1,5 @@
+//! The tests by what becomes of the siblings.
+
+mod kept;
+mod outcomes;
+mod written;
