@@ -1,19 +1,10 @@
 //! A store that keeps siblings, with hooks in BPF: the program.
 #![tactic(auto)]
 
-mod command;
-mod files;
-mod outcome;
-mod own;
-mod run;
-mod simulate;
-#[cfg(test)]
-mod tests;
-mod verify;
-mod words;
+mod disk;
 
-use crate::files::Disk;
-use crate::own::command_with_helpers;
+use crate::disk::Disk;
+use commands::own::command_with_helpers;
 use std::process::ExitCode;
 use std::{env, io};
 

@@ -1,14 +1,16 @@
-//! The examples in data/, tried one after another: whether a program is let in, and whether a script prints what stands beside it.
+//! The examples in data/, tried one after another by the commands of dvvstore: whether a program is let in, and whether a script
+//! prints what stands beside it.
 #![tactic(auto)]
 
-mod host;
+mod folder;
 mod trying;
 
-use crate::host::try_with_helpers;
+use crate::trying::try_all;
 use std::io;
+use std::io::Write;
 
 fn main(rt: HostRuntime) -> io::Result<()> {
-    let mut text = String::new(rt.alloc());
-    try_with_helpers(&rt, &mut text)?;
-    print!(rt; "{text}")
+    let mut told = Vec::new(rt.alloc());
+    try_all(&rt, &mut told)?;
+    rt.stdout().write_all(&told)
 }

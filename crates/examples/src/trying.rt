@@ -1,17 +1,11 @@
 //! What each example comes to.
 
-ghost use Rattle.std.specs.Prelude.{◌≡◌};
-ghost use Rattle.helpers.specs.Entries.{AgreesWith};
-
-use admission::{admit_hook, admit_program};
-use bpfimage::ImageKind;
-use helpers::{Sigs, Table};
-use script::{Images, NoHook, sim};
-use std::alloc::Global;
-use std::fmt::Write;
+use crate::folder::Folder;
+use commands::files::Files as _;
+use commands::own::command_with_helpers;
+use std::io;
+use std::io::Write;
 use std::rt::Files;
-use std::{fs, io};
-use verifier::Verified;
 
 /// Programs of data/, images and raw code.
 const PROGRAMS: [&str; 13] = [
@@ -41,77 +35,42 @@ const SCRIPTS: [&str; 7] = [
     "union_of_records",
 ];
 
-/// The images of data/hooks/, for a table with these helpers.
-#[derive(Drop)]
-struct HookFolder<'a, R> {
-    rt: &'a R,
-    sigs: &'a Sigs,
-    ghost whole: { AgreesWith sigs.now sigs.now },
-}
-
-impl<R: Files + AllocGlobal> Images for HookFolder<'_, R> {
-    ghost listed = { λ folder. folder.sigs.now };
-
-    fn hook(&self, alloc: Global, file: &str, kind: ImageKind) -> Result<Verified, NoHook> {
-        let Ok(path) = format!(in alloc; "hooks/{file}") else {
-            return Err(NoHook::Unreadable);
-        };
-        let Ok(bytes) = fs::read(self.rt, path.as_str()) else {
-            return Err(NoHook::Unreadable);
-        };
-        admit_hook(alloc, &bytes, kind, self.sigs).map_err(NoHook::Refused)
-    }
-}
-
-/// Tells of each example what it comes to, where programs may call the table's helpers.
-pub fn try_all<R: Files + AllocGlobal>(rt: &R, table: &Table, text: &mut String) -> io::Result<()> {
+/// Tells of each example what it comes to.
+pub fn try_all<R: Files + AllocGlobal>(rt: &R, told: &mut Vec<u8>) -> io::Result<()> {
     for name in PROGRAMS {
-        try_program(rt, table, name, text)?;
+        try_program(rt, name, told)?;
     }
     for name in SCRIPTS {
-        try_script(rt, table, name, text)?;
+        try_script(rt, name, told)?;
     }
     Ok(())
 }
 
 /// Tells whether a program is let in, and of how many slots it is.
-fn try_program<R: Files + AllocGlobal>(
-    rt: &R,
-    table: &Table,
-    name: &str,
-    text: &mut String,
-) -> io::Result<()> {
-    let bytes = fs::read(rt, name)?;
-    match admit_program(rt.alloc(), &bytes, &table.listed) {
-        Ok(verified) => writeln!(text, "{name} accepted {}", verified.image().code.len())?,
-        Err(refusal) => writeln!(text, "{name} refused {refusal}")?,
-    }
-    Ok(())
+fn try_program<R: Files + AllocGlobal>(rt: &R, name: &str, told: &mut Vec<u8>) -> io::Result<()> {
+    let alloc = rt.alloc();
+    let mut data = Folder { rt, path: "" };
+    let mut err = Vec::new(alloc);
+    write!(told, "{name} ")?;
+    command_with_helpers(alloc, &["verify", name], &mut data, told, &mut err)?;
+    told.write_all(&err)
 }
 
 /// Tells whether a script prints what stands beside it, and its status.
-fn try_script<R: Files + AllocGlobal>(
-    rt: &R,
-    table: &Table,
-    name: &str,
-    text: &mut String,
-) -> io::Result<()> {
+fn try_script<R: Files + AllocGlobal>(rt: &R, name: &str, told: &mut Vec<u8>) -> io::Result<()> {
     let alloc = rt.alloc();
-    let script = fs::read(rt, format!(in alloc; "hooks/{name}.script")?.as_str())?;
-    let want = fs::read(rt, format!(in alloc; "hooks/{name}.stdout")?.as_str())?;
-    let images = HookFolder {
-        rt,
-        sigs: &table.listed,
-    };
+    let mut hooks = Folder { rt, path: "hooks/" };
+    let want = hooks.read(alloc, format!(in alloc; "{name}.stdout")?.as_str())?;
+    let script = format!(in alloc; "{name}.script")?;
     let mut out = Vec::new(alloc);
     let mut err = Vec::new(alloc);
-    let status = sim(alloc, &script, table, &images, &mut out, &mut err)?;
+    let words = ["sim", script.as_str()];
+    let status = command_with_helpers(alloc, &words, &mut hooks, &mut out, &mut err)?;
     let is_same = out.as_slice() == want.as_slice() && err.is_empty();
-    let told = if is_same {
+    let comes_to = if is_same {
         "as written"
     } else {
         "something else"
     };
-    writeln!(text, "{name}.script {told}, status {status}")?;
-    Ok(())
+    writeln!(told, "{script} {comes_to}, status {status}")
 }

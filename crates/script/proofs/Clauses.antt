@@ -1,5 +1,5 @@
 -- Clauses on results and options, at their values.
-use Rattle.std.proofs.Common.{◌≡◌, refl, subst}
+use Rattle.std.proofs.Common.{◌≡◌, subst}
 use Rattle.std.specs.Prelude.{Result, Ok, Err, OnOk, Option, Some, None, MatchOption}
 
 -- what follows from two clauses of a call that succeeds
@@ -12,8 +12,3 @@ at_some o x P Q is h = subst (λ v. MatchOption v P Q) is h
 
 pub at_none : {X : Type 0} (o : Option X) (P : Type 0) (Q : X → Type 0) → o ≡ None → MatchOption o P Q → P
 at_none o P Q is h = subst (λ v. MatchOption v P Q) is h
-
--- what holds of no value, where there is none
-pub of_none : {X : Type 0} (o : Option X) (P : Type 0) (Q : X → Type 0) → ((x : X) → o ≡ Some x → ⊥) → MatchOption o P Q → P
-of_none None P Q none h = h
-of_none (Some x) P Q none h = absurd (none x refl)

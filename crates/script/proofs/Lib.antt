@@ -1,4 +1,2 @@
-pub mod Growing
-pub mod Reading
 pub mod Telling
 pub mod Clauses

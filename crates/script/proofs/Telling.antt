@@ -9,10 +9,10 @@ use Rattle.world.specs.declared.event.Reply.{Reply}
 use Rattle.world.specs.Knowledge.{Knowledge}
 use Rattle.world.specs.Happening.{Run}
 use Rattle.world.specs.Running.{Ran, IsWorldOf}
-use Rattle.script.specs.declared.script.Answered.{Answered}
-use Rattle.script.specs.declared.script.Script.{Script}
-use Rattle.script.specs.declared.script.Answered.TheVariants as answered
-use Rattle.script.specs.Scripts.{IsRunnable, tells_event}
+use Rattle.events.specs.declared.script.Answered.{Answered}
+use Rattle.events.specs.declared.script.Script.{Script}
+use Rattle.events.specs.declared.script.Answered.TheVariants as answered
+use Rattle.events.specs.Scripts.{IsRunnable, tells_event}
 use Rattle.script.specs.Printing.{TellsLine, Tells, AddsLine, Prints}
 
 -- a run has a reply for each event

@@ -13,11 +13,11 @@ use Rattle.telling.specs.Texts.{line, reply_text, decision_text, IsTold}
 use Rattle.world.specs.declared.event.Reply.{Reply}
 use Rattle.world.specs.declared.event.Reply.TheVariants as reply
 use Rattle.world.specs.Running.{Ran, IsWorldOf}
-use Rattle.script.specs.declared.check.Check.{Check}
-use Rattle.script.specs.declared.script.Script.{Script}
-use Rattle.script.specs.declared.script.Answered.{Answered}
-use Rattle.script.specs.declared.script.Answered.TheVariants as answered
-use Rattle.script.specs.Scripts.{IsRunnable, AnswersFor, AnswersUpTo}
+use Rattle.events.specs.declared.check.Check.{Check}
+use Rattle.events.specs.declared.script.Script.{Script}
+use Rattle.events.specs.declared.script.Answered.{Answered}
+use Rattle.events.specs.declared.script.Answered.TheVariants as answered
+use Rattle.events.specs.Scripts.{IsRunnable, AnswersFor, AnswersUpTo}
 
 module _ (listed : List Entry) where
   -- a hook decides so, with a table of these helpers, on a new content beside the siblings that a get found

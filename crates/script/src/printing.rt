@@ -4,12 +4,10 @@ ghost use Rattle.std.specs.Prelude.{◌≡◌, ◌<◌, ◌≤◌, ◌++◌, ℕ
 ghost use Rattle.abi.specs.Verdicts.{Meaning};
 ghost use Rattle.hookrun.specs.declared.deciding.RunFault.{RunFault};
 ghost use Rattle.telling.specs.Texts.{decision_text};
-ghost use Rattle.script.specs.Scripts.{tells_event};
+ghost use Rattle.events.specs.Scripts.{tells_event};
 ghost use Rattle.script.specs.Printing.{Decides, AddsCheck, AddsLine, Tells, PrintsAll, PrintsUpTo, Simulated};
 
-use crate::check::Check;
-use crate::images::Images;
-use crate::script::{Answered, BadAt, parse};
+use events::{Answered, BadAt, Check, Images, parse};
 use helpers::Table;
 use hookrun::{Room, decide};
 use lines::BadLine;

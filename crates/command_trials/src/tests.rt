@@ -1,0 +1,133 @@
+//! The commands on files in memory, against what they must print.
+
+mod calls;
+mod runs;
+mod scripts;
+mod verdicts;
+mod words;
+
+use commands::files::{Files, Part};
+use commands::own::command_with_helpers;
+use std::alloc::{AllocError, Global};
+use std::io;
+use std::process::Abort;
+
+/// The bytes of a slot.
+type Slot = [u8; 8];
+
+/// The head of an image.
+type Head = [u8; 16];
+
+const EXIT: Slot = [0x95, 0, 0, 0, 0, 0, 0, 0];
+
+const ZERO: Slot = [0xb7, 0, 0, 0, 0, 0, 0, 0];
+
+/// The used length of the input, as a number.
+const USED_FIRST: Slot = [0xbf, 0x21, 0, 0, 0, 0, 0, 0];
+
+/// The remainder by 8, and by 9, of a number.
+const BY_EIGHT: Slot = [0x85, 0, 0, 0, 64, 0, 0, 0];
+
+const BY_NINE: Slot = [0x85, 0, 0, 0, 65, 0, 0, 0];
+
+/// The head of a plain program with an input window of 256 bytes.
+const HEAD: Head = [0x52, 0x42, 0x50, 0x46, 1, 0, 0, 0, 0, 1, 0, 0, 0, 0, 0, 0];
+
+/// Reads the byte of the input that its used length names.
+const INDEXED: [Slot; 5] = [
+    [0xbf, 0x26, 0, 0, 0, 0, 0, 0],
+    [0x57, 0x06, 0, 0, 0xff, 0, 0, 0],
+    [0x0f, 0x61, 0, 0, 0, 0, 0, 0],
+    [0x71, 0x10, 0, 0, 0, 0, 0, 0],
+    EXIT,
+];
+
+/// The bytes of a head and of code.
+fn image(alloc: Global, head: &[u8], slots: &[Slot]) -> Result<Vec<u8>, AllocError> {
+    let mut bytes = head.to_vec(alloc)?;
+    for slot in slots {
+        bytes.extend_from_slice(slot)?;
+    }
+    Ok(bytes)
+}
+
+/// Files in memory, by their names.
+#[derive(Drop)]
+struct Shelf<'a> {
+    files: &'a [(&'a str, &'a [u8])],
+}
+
+impl<'a> Shelf<'a> {
+    /// The bytes of a file.
+    fn find(&self, name: &str) -> io::Result<&'a [u8]> {
+        for (held, bytes) in self.files {
+            if *held == name {
+                return Ok(bytes);
+            }
+        }
+        Err(io::Error::from(io::ErrorKind::NotFound))
+    }
+}
+
+impl Files for Shelf<'_> {
+    fn read(&self, alloc: Global, name: &str) -> io::Result<Vec<u8>> {
+        Ok(self.find(name)?.to_vec(alloc)?)
+    }
+
+    fn read_part(&self, alloc: Global, name: &str, most: usize) -> io::Result<Part> {
+        let all = self.find(name)?;
+        Ok(Part {
+            bytes: all.get(..most).unwrap_or(all).to_vec(alloc)?,
+            len: all.len() as u64,
+        })
+    }
+
+    fn write(&mut self, _name: &str, _bytes: &[u8]) -> io::Result<()> {
+        Err(io::Error::from(io::ErrorKind::PermissionDenied))
+    }
+}
+
+/// What words come to: what they print on the output and beside it, and their status.
+#[derive(Clone, Copy)]
+struct Want<'a> {
+    out: &'a str,
+    err: &'a str,
+    status: u8,
+}
+
+/// Does what the words ask for on these files, and compares what comes of it.
+fn expect(
+    rt: &impl Abort,
+    alloc: Global,
+    name: &str,
+    words: &[&str],
+    files: &[(&str, &[u8])],
+    want: Want<'_>,
+) {
+    let mut shelf = Shelf { files };
+    let mut out = Vec::new(alloc);
+    let mut err = Vec::new(alloc);
+    let done = command_with_helpers(alloc, words, &mut shelf, &mut out, &mut err);
+    assert_eq!(rt; out.as_slice(), want.out.as_bytes(), "{name}");
+    assert_eq!(rt; err.as_slice(), want.err.as_bytes(), "{name}");
+    assert_eq!(rt; done, Ok(want.status), "{name}");
+}
+
+/// Runs a program on an input.
+fn expect_run(
+    rt: &impl Abort,
+    alloc: Global,
+    name: &str,
+    image: &[u8],
+    input: &[u8],
+    want: (&str, u8),
+) {
+    let files = [("image", image), ("input", input)];
+    let (out, status) = want;
+    let want = Want {
+        out,
+        err: "",
+        status,
+    };
+    expect(rt, alloc, name, &["run", "image", "input"], &files, want);
+}

@@ -1,0 +1,141 @@
+-- What the first bytes of files come to is what all of them come to.
+use Rattle.std.proofs.Common.{◌≡◌, ℕ, ◌<◌, ◌≤◌, inl, List, length, take, arith, refl, sym, ap, subst, ◌∙◌}
+use Rattle.std.specs.Prelude.{Bool, MatchBool, true, false, Option, None, Some, IfSome}
+use Rattle.std.specs.Io.KnownBytes.{Appends}
+use Rattle.std.proofs.lemmas.List.{take_all, take-take, length-take}
+use Rattle.insn.specs.declared.Insn.{Insn}
+use Rattle.bpfimage.specs.Image.{number_at, IsImage, IsRaw, is_marked}
+use Rattle.bpfimage.specs.declared.image.ImageKind.{ImageKind}
+use Rattle.bpfimage.specs.declared.image.ImageFault.TheVariants.{Window}
+use Rattle.helpers.specs.declared.sig.Entry.{Entry}
+use Rattle.verifier.specs.Program.{Program}
+use Rattle.admission.specs.Enough.{AreReadAlike}
+use Rattle.admission.specs.Admissions.{IsProgramOf, IsNotRun}
+use Rattle.admission.specs.declared.refusal.Refusal.{Refusal}
+use Rattle.admission.specs.declared.refusal.Refusal.TheVariants as refusal
+use Rattle.commands.specs.Command.{Ran, Judged}
+use Rattle.commands.specs.Outcome.{text_of, status_of}
+use Rattle.commands.specs.Run.{IsLetIn, IsRunOf, ComesTo}
+use Rattle.commands.specs.Verdict.{IsVerdict, verdict_text, verdict_status}
+use Rattle.commands.specs.declared.outcome.Outcome.{Outcome}
+use Rattle.commands.specs.declared.outcome.Outcome.TheVariants as outcome
+use Rattle.commands.specs.declared.verify.Verdict.{Verdict}
+use Rattle.commands.specs.declared.verify.Verdict.TheVariants.{Accepted, Refused}
+
+-- ---- programs
+
+program_of_all : (some all : List ℕ) (sigs : List Entry) (p : Program) → AreReadAlike some all → IsProgramOf some sigs p → IsProgramOf all sigs p
+program_of_all some all sigs p alike x = record { program = (alike.programs p.kind p.in_len p.out_len p.code).0 x.program; sigs_are = x.sigs_are }
+
+let_in_of_all : (some all : List ℕ) (sigs : List Entry) (p : Program) → AreReadAlike some all → IsLetIn sigs some p → IsLetIn sigs all p
+let_in_of_all some all sigs p alike x = (program_of_all some all sigs p alike x.0, x.1)
+
+not_run_of_all : (some all : List ℕ) (sigs : List Entry) (r : Refusal) → AreReadAlike some all → IsNotRun some sigs r → IsNotRun all sigs r
+not_run_of_all some all sigs (refusal.Image fault) alike x = (alike.no_programs fault).0 x
+not_run_of_all some all sigs (refusal.Rule refused) alike x = (x.0, program_of_all some all sigs x.0 alike x.1, x.2)
+not_run_of_all some all sigs refusal.OtherKind alike x = absurd x
+
+verdict_of_all : (sigs : List Entry) (some all : List ℕ) (v : Verdict) → AreReadAlike some all → IsVerdict sigs some v → IsVerdict sigs all v
+unfolding IsVerdict
+verdict_of_all sigs some all (Accepted slots) alike x = (x.0, let_in_of_all some all sigs x.0 alike x.1, x.2)
+verdict_of_all sigs some all (Refused r) alike x = not_run_of_all some all sigs r alike x
+
+-- ---- inputs
+
+image_window : (bytes : List ℕ) (kind : ImageKind) (in_len out_len : ℕ) (code : List Insn) → IsImage bytes kind in_len out_len code → in_len ≤ 65536
+image_window bytes kind in_len out_len code x =
+    let small : ¬ (65536 < number_at bytes 8) = λ past. x.head Window (omega arith) (inl past) in
+    let is : in_len ≡ number_at bytes 8 = x.in_len_is in
+    omega arith
+
+raw_window : (bytes : List ℕ) (kind : ImageKind) (in_len out_len : ℕ) (code : List Insn) → IsRaw bytes kind in_len out_len code → in_len ≤ 65536
+raw_window bytes kind in_len out_len code x = let is : in_len ≡ 4096 = x.in_len_is in omega arith
+
+either : (b : Bool) {X Y Z : Type 0} → (X → Z) → (Y → Z) → MatchBool b X Y → Z
+either true f g x = f x
+either false f g y = g y
+
+window : (bytes : List ℕ) (sigs : List Entry) (p : Program) → IsLetIn sigs bytes p → p.in_len ≤ 65536
+window bytes sigs p x =
+    either (is_marked bytes) (image_window bytes p.kind p.in_len p.out_len p.code) (raw_window bytes p.kind p.in_len p.out_len p.code) x.0.program
+
+-- an input that has room is not cut
+whole_input : (part input : List ℕ) (in_len : ℕ) → part ≡ take 65537 input → length part ≤ in_len → in_len ≤ 65536 → part ≡ input
+whole_input part input in_len e room small =
+    let long : length part ≡ length (take 65537 input) = ap length e in
+    let short : length input ≤ 65537 = omega (arith, length-take 65537 input) in
+    e ∙ take_all 65537 input short
+
+-- ---- what a run comes to, and what is told
+
+image_of_all : (sigs : List Entry) (some all input : List ℕ) (o : Outcome) → AreReadAlike some all → ComesTo sigs some input o → ComesTo sigs all input o
+unfolding ComesTo
+image_of_all sigs some all input (outcome.Refused r) alike x = not_run_of_all some all sigs r alike x
+image_of_all sigs some all input outcome.RefusedInput alike x = (x.0, let_in_of_all some all sigs x.0 alike x.1, x.2)
+image_of_all sigs some all input outcome.NoMemory alike x = (x.0, let_in_of_all some all sigs x.0 alike x.1, x.2)
+image_of_all sigs some all input (outcome.Exit answer steps output) alike x = (x.0, x.1, let_in_of_all some all sigs x.0 alike x.2, x.3, x.4, x.5)
+
+input_of_all : (sigs : List Entry) (image part input : List ℕ) (o : Outcome) → part ≡ take 65537 input → ComesTo sigs image part o → ComesTo sigs image input o
+unfolding ComesTo
+input_of_all sigs image part input (outcome.Refused r) e x = x
+input_of_all sigs image part input outcome.RefusedInput e x =
+    let long : length part ≡ length (take 65537 input) = ap length e in
+    let past : x.0.in_len < length part = x.2 in
+    (x.0, x.1, omega (arith, length-take 65537 input))
+input_of_all sigs image part input outcome.NoMemory e x =
+    let whole : part ≡ input = whole_input part input x.0.in_len e x.2 (window image sigs x.0 x.1) in
+    (x.0, x.1, subst (λ xs. length xs ≤ x.0.in_len) whole x.2)
+input_of_all sigs image part input (outcome.Exit answer steps output) e x =
+    let whole : part ≡ input = whole_input part input x.0.in_len e x.3 (window image sigs x.0 x.2) in
+    (x.0, x.1, x.2, subst (λ xs. length xs ≤ x.0.in_len) whole x.3, subst (λ xs. IsRunOf x.0 xs answer steps x.1) whole x.4, x.5)
+
+-- all of a file, where it is known
+abbrev all_of : List ℕ → Option (List ℕ) → List ℕ
+all_of some None = some
+all_of some (Some known) = known
+
+all_known : (some : List ℕ) (held : Option (List ℕ)) → IfSome held (λ known. all_of some held ≡ known)
+all_known some None = tt
+all_known some (Some known) = refl
+
+image_of_held : (sigs : List Entry) (some input : List ℕ) (held : Option (List ℕ)) (o : Outcome) → IfSome held (λ known. AreReadAlike some known) → ComesTo sigs some input o → ComesTo sigs (all_of some held) input o
+image_of_held sigs some input None o alike x = x
+image_of_held sigs some input (Some known) o alike x = image_of_all sigs some known input o alike x
+
+input_of_held : (sigs : List Entry) (image part : List ℕ) (held : Option (List ℕ)) (o : Outcome) → IfSome held (λ known. part ≡ take 65537 known) → ComesTo sigs image part o → ComesTo sigs image (all_of part held) o
+input_of_held sigs image part None o e x = x
+input_of_held sigs image part (Some known) o e x = input_of_all sigs image part known o e x
+
+pub ran : (sigs : List Entry) (held_image held_input before after : Option (List ℕ)) (status : ℕ) (some part : List ℕ) (o : Outcome) → IfSome held_image (λ known. AreReadAlike some known) → IfSome held_input (λ known. part ≡ take 65537 known) → ComesTo sigs some part o → Appends before after (text_of o) → status ≡ status_of o → Ran sigs held_image held_input before after status
+ran sigs held_image held_input before after status some part o alike e x told is = record {
+  image = all_of some held_image;
+  input = all_of part held_input;
+  outcome = o;
+  from_image = all_known some held_image;
+  from_input = all_known part held_input;
+  came_to = input_of_held sigs (all_of some held_image) part held_input o e (image_of_held sigs some part held_image o alike x);
+  told = told;
+  status_is = is;
+}
+
+verdict_of_held : (sigs : List Entry) (some : List ℕ) (held : Option (List ℕ)) (v : Verdict) → IfSome held (λ known. AreReadAlike some known) → IsVerdict sigs some v → IsVerdict sigs (all_of some held) v
+verdict_of_held sigs some None v alike x = x
+verdict_of_held sigs some (Some known) v alike x = verdict_of_all sigs some known v alike x
+
+pub judged : (sigs : List Entry) (held_image before after : Option (List ℕ)) (status : ℕ) (some : List ℕ) (v : Verdict) → IfSome held_image (λ known. AreReadAlike some known) → IsVerdict sigs some v → Appends before after (verdict_text v) → status ≡ verdict_status v → Judged sigs held_image before after status
+judged sigs held_image before after status some v alike x told is = record {
+  image = all_of some held_image;
+  verdict = v;
+  from_image = all_known some held_image;
+  is_verdict = verdict_of_held sigs some held_image v alike x;
+  told = told;
+  status_is = is;
+}
+
+-- ---- the part of a file that is kept
+
+pub kept : (held : Option (List ℕ)) (read some : List ℕ) (len n : ℕ) → IfSome held (λ known. read ≡ take 32792 known) → IfSome held (λ known. len ≡ length known) → n ≤ 32792 → ((bytes : List ℕ) → length bytes ≡ len → AreReadAlike (take n bytes) bytes) → some ≡ take n read → IfSome held (λ known. AreReadAlike some known)
+kept None read some len n e long few alike is = tt
+kept (Some known) read some len n e long few alike is =
+    let same : some ≡ take n known = is ∙ ap (take n) e ∙ take-take n 32792 known few in
+    subst (λ xs. AreReadAlike xs known) (sym same) (alike known (sym long))

@@ -1,0 +1,51 @@
+//! The commands of the program.
+ghost use Rattle.std.specs.Prelude.{◌≡◌, ℕ, ◌<◌, ◌≤◌, List};
+ghost use Rattle.std.specs.Borrow.{Bor};
+ghost use Rattle.commands.specs.Words.{request_of};
+ghost use Rattle.commands.specs.Command.{Judged, Ran, SimulatedFile};
+
+use crate::failure::Failure;
+use crate::files::Files;
+use crate::run::run;
+use crate::simulate::simulate;
+use crate::verify::verify;
+use crate::words::{Request, parse};
+use helpers::Table;
+use std::alloc::Global;
+use std::io::Write;
+
+/// The status after a [`Failure`].
+const FAILED: u8 = 2;
+
+/// Does what the words ask for. Gives the status of the program: 0 where it is done, 1 where it was refused, and 2 after a bad line of a
+/// script, which is told on `out` and why on `err`, or a [`Failure`], whose name is then all that stands on `err`.
+pub fn command<F: Files, O: Write, E: Write>(
+    alloc: Global,
+    table: &Table,
+    words: &[&str],
+    files: &mut F,
+    out: &mut O,
+    err: &mut E,
+) -> u8
+    ensures status { result ≤ 2 }
+    ensures ran { (image input : Bor (List ℕ)) → request_of words.now ≡ Some (Request.Run image input) → result < 2 → Ran table.now.listed (F.held files.old image.now) (F.held files.old input.now) (O.contents out.old) (O.contents out.new) result }
+    ensures judged { (image : Bor (List ℕ)) → request_of words.now ≡ Some (Request.Verify image) → result < 2 → Judged table.now.listed (F.held files.old image.now) (O.contents out.old) (O.contents out.new) result }
+    ensures simulated { (script : Bor (List ℕ)) → request_of words.now ≡ Some (Request.Sim script) → result < 2 → SimulatedFile table.now.listed (F.held files.old script.now) (O.contents out.old) (O.contents out.new) result }
+    ensures wrong_words { request_of words.now ≡ None → result ≡ 2 }
+    ensures untouched { request_of words.now ≡ None → out.new ≡ out.old }
+{
+    let done = match parse(words) {
+        Some(Request::Run { image, input }) => run(alloc, table, image, input, files, out),
+        Some(Request::Verify { image }) => verify(alloc, table, image, files, out),
+        Some(Request::Sim { script }) => simulate(alloc, table, script, files, out, err),
+        None => Err(Failure::Usage),
+    };
+    match done {
+        Ok(status) => status,
+        Err(failure) => {
+            // A failure that cannot be told leaves the status alone to tell of it.
+            let _ = writeln!(err, "{failure}");
+            FAILED
+        }
+    }
+}

@@ -1,0 +1,12 @@
+//! The commands of the program: what its words ask for, done on files and told on outputs that the caller lends.
+#![tactic(auto)]
+
+pub mod command;
+pub mod failure;
+pub mod files;
+pub mod outcome;
+pub mod own;
+pub mod run;
+pub mod simulate;
+pub mod verify;
+pub mod words;

@@ -1,0 +1,130 @@
+//! The helpers that hooks of this program may call.
+
+ghost use Rattle.std.specs.Prelude.{◌≡◌, ◌≤◌, ◌<◌, ◌^◌, ℕ, List, length, max, IfOk, OnOk, IsSome, ◌++◌, ◌∷◌, [], None, Some};
+ghost use Rattle.std.specs.Borrow.{Bor};
+ghost use Rattle.helpers.specs.Text.{order_of, place_of, spelled};
+ghost use Rattle.helpers.specs.Layout.{newest_of};
+ghost use Rattle.helpers.specs.Shapes.{shape_of, written_shape};
+ghost use Rattle.helpers.specs.declared.sig.Entry.{Entry};
+ghost use Rattle.helpers.specs.Entries.{IsAdmitted};
+ghost use Rattle.helpers.specs.Answers.{IsCallableOn, AnswersOn};
+ghost use Rattle.commands.specs.Command.{Judged, Ran, SimulatedFile};
+ghost use Rattle.commands.specs.Own.{one_number, shapes_of, own_shapes};
+ghost use Rattle.commands.specs.Words.{request_of};
+
+use crate::command::command;
+use crate::files::Files;
+use crate::words::Request;
+use helpers::{
+    ArgRule, Body, Helper, HelperFault, Sig, Table, decimal, find, newest, order, written_sig,
+};
+use std::alloc::{AllocError, Global};
+use std::io::Write;
+
+/// The Sig of a written helper.
+fn own_written(number: u32) -> Sig
+    requires { IsSome (written_shape number) }
+    ensures { written_shape number ≡ Some (shape_of result) }
+{
+    match written_sig(number) {
+        Some(sig) => sig,
+        None => unreachable!(),
+    }
+}
+
+/// Adds a helper whose number is free.
+fn add(table: &mut Table, number: u32, sig: Sig, body: Body) -> Result<(), AllocError>
+    requires admitted { IsAdmitted table.old.listed (record { number = number; sig = sig }) }
+    requires callable { IsCallableOn sig.args (Body.pre body) }
+    requires answers { AnswersOn number sig.args sig.lo sig.hi (Body.post body) }
+    ensures added { OnOk result (table.new.listed ≡ table.old.listed ++ (record { number = number; sig = sig }) ∷ []) }
+    ensures shapes { OnOk result (shapes_of table.new.listed ≡ shapes_of table.old.listed ++ (number, shape_of sig) ∷ []) }
+{
+    match table.add(Helper::new(number, sig, body)) {
+        Ok(()) => Ok(()),
+        Err((_, HelperFault::NoMemory)) => Err(AllocError),
+        Err((_, HelperFault::Taken | HelperFault::Number | HelperFault::Signature)) =>
+            unreachable!(),
+    }
+}
+
+/// Does what the words ask for, as [`command`] does, where hooks may call the written helpers 16 to 19 and two of this program: 64, a number
+/// modulo 8, and 65, modulo 9. Fails only for want of memory for these.
+pub fn command_with_helpers<F: Files, O: Write, E: Write>(
+    alloc: Global,
+    words: &[&str],
+    files: &mut F,
+    out: &mut O,
+    err: &mut E,
+) -> Result<u8, AllocError>
+    ensures status { IfOk result (λ status. status ≤ 2) }
+    ensures ran { (image input : Bor (List ℕ)) → request_of words.now ≡ Some (Request.Run image input) → IfOk result (λ status. status < 2 → (sigs : List Entry) × (shapes_of sigs ≡ own_shapes) × Ran sigs (F.held files.old image.now) (F.held files.old input.now) (O.contents out.old) (O.contents out.new) status) }
+    ensures judged { (image : Bor (List ℕ)) → request_of words.now ≡ Some (Request.Verify image) → IfOk result (λ status. status < 2 → (sigs : List Entry) × (shapes_of sigs ≡ own_shapes) × Judged sigs (F.held files.old image.now) (O.contents out.old) (O.contents out.new) status) }
+    ensures simulated { (script : Bor (List ℕ)) → request_of words.now ≡ Some (Request.Sim script) → IfOk result (λ status. status < 2 → (sigs : List Entry) × (shapes_of sigs ≡ own_shapes) × SimulatedFile sigs (F.held files.old script.now) (O.contents out.old) (O.contents out.new) status) }
+    ensures wrong_words { request_of words.now ≡ None → IfOk result (λ status. status ≡ 2) }
+    ensures untouched { request_of words.now ≡ None → out.new ≡ out.old }
+{
+    let mut table = Table::new(alloc);
+    let body: Body = Box::new(
+        alloc,
+        |_numbers: [u64; 5], first: &[u8], second: &[u8]| -> u64
+            ensures value { result ≡ order_of first.now second.now }
+            ensures range { result ≤ 2 }
+        { order(first, second) },
+    )?;
+    add(&mut table, 16, own_written(16), body)?;
+    let body: Body = Box::new(
+        alloc,
+        |_numbers: [u64; 5], first: &[u8], second: &[u8]| -> u64
+            ensures value { result ≡ place_of first.now second.now }
+            ensures range { result ≤ max 1 (length first.now) }
+        { find(first, second) },
+    )?;
+    add(&mut table, 17, own_written(17), body)?;
+    let body: Body = Box::new(
+        alloc,
+        |_numbers: [u64; 5], first: &[u8], _second: &[u8]| -> u64
+            ensures { result ≡ spelled first.now }
+        { decimal(first) },
+    )?;
+    add(&mut table, 18, own_written(18), body)?;
+    let body: Body = Box::new(
+        alloc,
+        |_numbers: [u64; 5], first: &[u8], _second: &[u8]| -> u64
+            ensures value { result ≡ newest_of first.now }
+            ensures range { result ≤ 64 }
+        { newest(first) },
+    )?;
+    add(&mut table, 19, own_written(19), body)?;
+    let body: Body = Box::new(
+        alloc,
+        |numbers: [u64; 5], _first: &[u8], _second: &[u8]| -> u64
+            ensures { result ≤ 7 }
+        { numbers[0] % 8 },
+    )?;
+    add(&mut table, 64, one_number((0, 7)), body)?;
+    let body: Body = Box::new(
+        alloc,
+        |numbers: [u64; 5], _first: &[u8], _second: &[u8]| -> u64
+            ensures { result ≤ 8 }
+        { numbers[0] % 9 },
+    )?;
+    add(&mut table, 65, one_number((0, 8)), body)?;
+    Ok(command(alloc, &table, words, files, out, err))
+}
+
+/// The Sig of a helper that reads one number of any size.
+fn one_number(range: (u64, u64)) -> Sig
+    requires { range.0 ≤ range.1 }
+    ensures { shape_of result ≡ record { args = one_number; lo = range.0; hi = range.1 } }
+{
+    let any = ArgRule::Num {
+        lo: 0,
+        hi: u64::MAX,
+    };
+    let unused = ArgRule::Unused;
+    match Sig::new([any, unused, unused, unused, unused], range) {
+        Some(sig) => sig,
+        None => unreachable!(),
+    }
+}

@@ -1,0 +1,86 @@
+//! The command `run IMAGE INPUT`.
+ghost use Rattle.std.specs.Prelude.{◌≤◌, length, IfOk, List, ℕ, string_bytes, ◌≡◌};
+ghost use Rattle.hex.specs.Hex.{encode_lower};
+ghost use Rattle.helpers.specs.Entries.{AgreesWith};
+ghost use Rattle.commands.specs.Command.{Ran};
+ghost use Rattle.commands.specs.Outcome.{up_to_last_set};
+ghost use Rattle.commands.specs.Run.{ComesTo, IsRunOf};
+
+use crate::failure::Failure;
+use crate::files::{Files, read_program};
+use crate::outcome::{Outcome, up_to_last_set};
+use admission::admit_program;
+use bpfimage::MAX_WINDOW;
+use helpers::Table;
+use machine::{Done, padded, run as run_verified};
+use std::alloc::{AllocError, Global};
+use std::io::Write;
+use verifier::Verified;
+
+/// At most how many bytes of an input are read: those of the longest window, and one that has no room there.
+const MOST_INPUT: usize = MAX_WINDOW as usize + 1;
+
+/// Runs the program in the file `image` on the bytes of the file `input`, tells on `out` what it came to, and gives the status.
+pub fn run<F: Files, O: Write>(
+    alloc: Global,
+    table: &Table,
+    image: &str,
+    input: &str,
+    files: &F,
+    out: &mut O,
+) -> Result<u8, Failure>
+    ensures { IfOk result (Ran table.now.listed (F.held files.now image.now) (F.held files.now input.now) (O.contents out.old) (O.contents out.new)) }
+{
+    let image = read_program(files, alloc, image)?;
+    let input = files.read_part(alloc, input, MOST_INPUT)?.bytes;
+    let outcome = outcome_of(alloc, table, &image, &input);
+    write!(out, "{outcome}")?;
+    Ok(outcome.status())
+}
+
+/// What the program of these bytes comes to on an input.
+pub fn outcome_of(alloc: Global, table: &Table, image: &[u8], input: &[u8]) -> Outcome
+    ensures { ComesTo table.now.listed image.now input.now result }
+{
+    let verified = match admit_program(alloc, image, &table.listed) {
+        Ok(verified) => verified,
+        Err(refusal) => return Outcome::Refused(refusal),
+    };
+    if input.len() > verified.image().in_len as usize {
+        return Outcome::RefusedInput;
+    }
+    match ended(alloc, table, &verified, input) {
+        Ok(
+            End {
+                done: Done { answer, steps },
+                output,
+            },
+        ) => Outcome::Exit {
+            answer,
+            steps,
+            output,
+        },
+        Err(AllocError) => Outcome::NoMemory,
+    }
+}
+
+/// How a run ended, and the text of its output.
+#[derive(Drop)]
+struct End {
+    done: Done,
+    output: String,
+}
+
+/// Runs a program on an input that has room in its window.
+fn ended(alloc: Global, table: &Table, verified: &Verified, input: &[u8]) -> Result<End, AllocError>
+    requires agrees { AgreesWith table.now.listed verified.now.sigs }
+    requires fits { length input.now ≤ verified.now.in_len }
+    ensures { IfOk result (λ end. (bytes : List ℕ) × IsRunOf verified.now input.now end.done.answer end.done.steps bytes × (string_bytes end.output ≡ encode_lower (up_to_last_set bytes))) }
+{
+    let image = verified.image();
+    let window = padded(alloc, input, image.in_len as usize)?;
+    let mut output = vec![in alloc; 0u8; image.out_len as usize]?;
+    let done = run_verified(verified, table, &window, input.len() as u32, &mut output);
+    let output = hex::encode(alloc, up_to_last_set(&output))?;
+    Ok(End { done, output })
+}

@@ -1,0 +1,53 @@
+//! The command `sim SCRIPT`.
+ghost use Rattle.std.specs.Prelude.{◌≤◌, IfOk};
+ghost use Rattle.helpers.specs.Entries.{AgreesWith};
+ghost use Rattle.commands.specs.Command.{SimulatedFile};
+
+use crate::failure::Failure;
+use crate::files::{Files, read_program};
+use admission::admit_hook;
+use bpfimage::ImageKind;
+use events::{Images, NoHook};
+use helpers::{Sigs, Table};
+use script::sim;
+use std::alloc::Global;
+use std::io::Write;
+use verifier::Verified;
+
+/// The images of hooks in files, for a table with these helpers.
+#[derive(Drop)]
+struct FileImages<'a, F> {
+    files: &'a F,
+    sigs: &'a Sigs,
+    ghost whole: { AgreesWith sigs.now sigs.now },
+}
+
+impl<F: Files> Images for FileImages<'_, F> {
+    ghost listed = { λ images. images.sigs.now };
+
+    fn hook(&self, alloc: Global, file: &str, kind: ImageKind) -> Result<Verified, NoHook> {
+        let bytes = read_program(self.files, alloc, file)?;
+        admit_hook(alloc, &bytes, kind, self.sigs).map_err(NoHook::Refused)
+    }
+}
+
+/// Runs the script in the file `script`, whose hooks may call the table's helpers, tells on `out` what its lines print and on `err`
+/// why a line is bad, and gives the status.
+pub fn simulate<F: Files, O: Write, E: Write>(
+    alloc: Global,
+    table: &Table,
+    script: &str,
+    files: &F,
+    out: &mut O,
+    err: &mut E,
+) -> Result<u8, Failure>
+    ensures status { IfOk result (λ status. status ≤ 2) }
+    ensures simulated { IfOk result (SimulatedFile table.now.listed (F.held files.now script.now) (O.contents out.old) (O.contents out.new)) }
+{
+    let script = files.read(alloc, script)?;
+    let images = FileImages {
+        files,
+        sigs: &table.listed,
+    };
+    Ok(sim(alloc, &script, table, &images, out, err)?)
+}

@@ -1,0 +1,10 @@
+use Rattle.std.proofs.Common.{sym, subst}
+use Rattle.verifier.specs.Program.{Program}
+use Rattle.world.specs.Resolving.{MayRun}
+use Rattle.events.proofs.Growing.{may_run}
+use Rattle.events.proofs.script.resolver.Goals as goal
+
+pub returns-in-Some : goal.returns-in-Some
+returns-in-Some g c =
+    subst (λ (hook : Program). MayRun (g.I.Images.listed c.args.images.now) hook) (sym c.in_ok-share-in-Some-Ok.ensures)
+    (may_run (g.I.Images.listed c.args.images.now) c.args.script.now c.deref.result.now _ c.in-Some.ensures.0 c.in-Some.hook.now c.requires c.deref.ensures.value c.in-Some.ensures.1)

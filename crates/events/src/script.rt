@@ -1,0 +1,525 @@
+//! Whole scripts.
+
+ghost use Rattle.std.specs.Prelude.{◌≡◌, ◌+◌, ◌<◌, ◌≤◌, ℕ, true, false, List, length, Some, slice_get, if◌then◌else◌, IfOk, OnOk, IfSome, MatchOption};
+ghost use Rattle.helpers.specs.declared.sig.Entry.{Entry};
+ghost use Rattle.lines.specs.Lines.{lines_in};
+ghost use Rattle.events.specs.Scripts.{IsRunnable, IsOneMore, tells_event, lines_of, asks, AnswersFor, AnswersUpTo};
+ghost use Rattle.helpers.specs.Entries.{AgreesWith};
+ghost use Rattle.world.specs.Resolving.{MayRun};
+ghost use Rattle.world.specs.Running.{AreRunnable, MayCome, IsGetAt, IsSendAt, IsRunAt, IsEarlierContext};
+
+use crate::check::Check;
+use crate::images::{Images, NoHook};
+use admission::Refusal;
+use bpfimage::ImageKind;
+use dvv::Clock;
+use lines::{BadLine, Context, Line, Spelling, first_line, line_of};
+use object::{Bytes, Content, Key};
+use std::alloc::{AllocError, Global};
+use std::collections::BTreeMap;
+use std::str;
+use token::TokenFault;
+use world::{Event, Hook, Seen};
+
+/// The most vnodes of a script.
+pub const MAX_VNODES: usize = 64;
+
+/// What a line that was read prints.
+#[derive(Drop)]
+pub enum Answered {
+    /// The reply of the next event.
+    Reply,
+    /// What a hook says of a new content, beside the siblings that the next event finds.
+    Checked(Check),
+    /// The refusal of its token.
+    Refused(TokenFault),
+    /// The refusal of its image.
+    NotLetIn(Refusal),
+    /// That there is nothing to be written.
+    Nothing,
+}
+
+/// A script: its events, and what its lines print, in order.
+#[derive(Drop)]
+pub struct Script {
+    pub vnodes: usize,
+    pub events: Vec<Event>,
+    pub answered: Vec<Answered>,
+}
+
+/// A line that may not stand where it stands, by its number from 1, and why.
+#[derive(Clone, Copy, Debug, PartialEq, Eq)]
+pub struct BadAt<'a> {
+    pub line: usize,
+    pub why: BadLine<'a>,
+}
+
+// Places of events by name.
+type Places<'a> = BTreeMap<&'a [u8], usize>;
+
+// What names stand for.
+#[derive(Drop)]
+struct Names<'a> {
+    /// The latest get or send.
+    events: Places<'a>,
+    /// The latest run of a resolver on a get of that name, where no later one was refused.
+    runs: Places<'a>,
+    /// The resolvers in files.
+    resolvers: Asked<'a>,
+    /// The pre-commit hooks in files.
+    checks: Asked<'a>,
+}
+
+// What was answered of the images in files: the place of the first to have the hook, or the image's refusal.
+type Asked<'a> = BTreeMap<&'a [u8], Result<usize, Refusal>>;
+
+/// The script that these bytes spell, up to its first bad line, and that line. Nothing behind it was read. A line whose file
+/// can't be read is bad.
+pub fn parse<'a, I: Images>(
+    alloc: Global,
+    bytes: &'a [u8],
+    images: &I,
+) -> Result<(Script, Option<BadAt<'a>>), AllocError>
+    ensures runnable { IfOk result (λ parsed. IsRunnable (I.listed images.now) parsed.0) }
+    ensures read { IfOk result (λ parsed. MatchOption parsed.1 (AnswersFor parsed.0 (lines_in bytes.now)) (λ bad. AnswersUpTo parsed.0 bytes.now bad.line)) }
+{
+    let mut script = Script {
+        vnodes: 0,
+        events: Vec::new(alloc),
+        answered: Vec::new(alloc),
+    };
+    let mut names = Names {
+        events: Places::new(alloc),
+        runs: Places::new(alloc),
+        resolvers: Asked::new(alloc),
+        checks: Asked::new(alloc),
+    };
+    let mut number: usize = 0;
+    let mut left = bytes;
+    while let Some((line, rest)) = first_line(left) {
+        left = rest;
+        number += 1;
+        if let Some(why) = read(alloc, &mut script, &mut names, images, line)? {
+            return Ok((script, Some(BadAt { line: number, why })));
+        }
+    }
+    Ok((script, None))
+}
+
+// Adds what the bytes of a line ask for, if anything, or tells why they may not stand there.
+fn read<'a, I: Images>(
+    alloc: Global,
+    script: &mut Script,
+    names: &mut Names<'a>,
+    images: &I,
+    bytes: &'a [u8],
+) -> Result<Option<BadLine<'a>>, AllocError>
+    requires { IsRunnable (I.listed images.now) script.old }
+    ensures runnable { OnOk result (IsRunnable (I.listed images.now) script.new) }
+    ensures answers { IfOk result (λ bad. MatchOption bad (lines_of script.new ≡ lines_of script.old + (if asks bytes.now then 1 else 0)) (λ _. lines_of script.new ≡ lines_of script.old)) }
+{
+    match line_of(alloc, bytes)? {
+        Spelling::PassedOver => Ok(None),
+        Spelling::Line(line) => read_line(alloc, script, names, images, line),
+        Spelling::Bad(why) => Ok(Some(why)),
+    }
+}
+
+// Adds what a line asks for, or tells why it may not stand there.
+fn read_line<'a, I: Images>(
+    alloc: Global,
+    script: &mut Script,
+    names: &mut Names<'a>,
+    images: &I,
+    line: Line<'a>,
+) -> Result<Option<BadLine<'a>>, AllocError>
+    requires { IsRunnable (I.listed images.now) script.old }
+    ensures runnable { OnOk result (IsRunnable (I.listed images.now) script.new) }
+    ensures answers { IfOk result (λ bad. MatchOption bad (lines_of script.new ≡ lines_of script.old + 1) (λ _. lines_of script.new ≡ lines_of script.old)) }
+{
+    match line {
+        Line::Vnodes(count) => Ok(read_vnodes(script, count)),
+        Line::Put {
+            vnode,
+            key,
+            value,
+            context,
+        } => read_put(alloc, script, names, vnode, key, value, context),
+        Line::Get { vnode, key, name } => {
+            if vnode >= script.vnodes {
+                return Ok(Some(BadLine::NoVnode(vnode)));
+            }
+            let place = script.events.len();
+            let key = key_of(alloc, key)?;
+            push(script, Event::Get { vnode, key })?;
+            names.events.insert(name, place)?;
+            Ok(None)
+        }
+        Line::Send { vnode, key, name } => {
+            if vnode >= script.vnodes {
+                return Ok(Some(BadLine::NoVnode(vnode)));
+            }
+            let place = script.events.len();
+            let key = key_of(alloc, key)?;
+            push(script, Event::Send { vnode, key })?;
+            names.events.insert(name, place)?;
+            Ok(None)
+        }
+        Line::Deliver { name, vnode } => {
+            let Some(message) = sent(&script.events, &names.events, name) else {
+                return Ok(Some(BadLine::NoSend(name)));
+            };
+            if vnode >= script.vnodes {
+                return Ok(Some(BadLine::NoVnode(vnode)));
+            }
+            push(script, Event::Deliver { message, vnode })?;
+            Ok(None)
+        }
+        Line::Restart { vnode } => {
+            if vnode >= script.vnodes {
+                return Ok(Some(BadLine::NoVnode(vnode)));
+            }
+            push(script, Event::Restart { vnode })?;
+            Ok(None)
+        }
+        Line::Resolve { name, file } => read_resolve(alloc, script, names, images, name, file),
+        Line::Commit { vnode, name } => read_commit(script, names, vnode, name),
+        Line::Check {
+            vnode,
+            key,
+            value,
+            file,
+        } => read_check(alloc, script, names, images, vnode, key, value, file),
+    }
+}
+
+// A run of a resolver on what the get of a name answered, or the refusal of its image.
+fn read_resolve<'a, I: Images>(
+    alloc: Global,
+    script: &mut Script,
+    names: &mut Names<'a>,
+    images: &I,
+    name: &'a [u8],
+    file: &'a str,
+) -> Result<Option<BadLine<'a>>, AllocError>
+    requires { IsRunnable (I.listed images.now) script.old }
+    ensures runnable { OnOk result (IsRunnable (I.listed images.now) script.new) }
+    ensures answers { IfOk result (λ bad. MatchOption bad (lines_of script.new ≡ lines_of script.old + 1) (λ _. lines_of script.new ≡ lines_of script.old)) }
+{
+    let Some(get) = found(&script.events, &names.events, name) else {
+        return Ok(Some(BadLine::NoGet(name)));
+    };
+    let place = script.events.len();
+    match resolver(alloc, script, &mut names.resolvers, images, file) {
+        Ok(hook) => {
+            push(script, Event::ResolveRead { get, hook })?;
+            names.runs.insert(name, place)?;
+            Ok(None)
+        }
+        Err(NoHook::Refused(refusal)) => {
+            names.runs.remove(name);
+            push_told(script, Answered::NotLetIn(refusal))?;
+            Ok(None)
+        }
+        Err(NoHook::Unreadable) => Ok(Some(BadLine::NoFile(file))),
+    }
+}
+
+// A put of what the latest run of a name chose, or nothing where the get of that name has no such run.
+fn read_commit<'a>(
+    script: &mut Script,
+    names: &Names<'a>,
+    vnode: usize,
+    name: &'a [u8],
+) -> Result<Option<BadLine<'a>>, AllocError>
+    ensures runnable { (listed : List Entry) → IsRunnable listed script.old → OnOk result (IsRunnable listed script.new) }
+    ensures answers { IfOk result (λ bad. MatchOption bad (lines_of script.new ≡ lines_of script.old + 1) (λ _. lines_of script.new ≡ lines_of script.old)) }
+{
+    if vnode >= script.vnodes {
+        return Ok(Some(BadLine::NoVnode(vnode)));
+    }
+    if let Some(run) = resolved(&script.events, &names.runs, name) {
+        push(script, Event::ResolveWrite { run, vnode })?;
+        return Ok(None);
+    }
+    if found(&script.events, &names.events, name).is_none() {
+        return Ok(Some(BadLine::NoGet(name)));
+    }
+    push_told(script, Answered::Nothing)?;
+    Ok(None)
+}
+
+// A get, and what a hook says of a new value beside its answer, or the refusal of its image.
+fn read_check<'a, I: Images>(
+    alloc: Global,
+    script: &mut Script,
+    names: &mut Names<'a>,
+    images: &I,
+    vnode: usize,
+    key: &[u8],
+    value: &[u8],
+    file: &'a str,
+) -> Result<Option<BadLine<'a>>, AllocError>
+    requires { IsRunnable (I.listed images.now) script.old }
+    ensures runnable { OnOk result (IsRunnable (I.listed images.now) script.new) }
+    ensures answers { IfOk result (λ bad. MatchOption bad (lines_of script.new ≡ lines_of script.old + 1) (λ _. lines_of script.new ≡ lines_of script.old)) }
+{
+    if vnode >= script.vnodes {
+        return Ok(Some(BadLine::NoVnode(vnode)));
+    }
+    match pre_commit(alloc, script, &mut names.checks, images, file) {
+        Ok(hook) => {
+            let key = key_of(alloc, key)?;
+            let new = content_of(alloc, Some(value))?;
+            let check = Check { hook, new };
+            push_answered(script, Event::Get { vnode, key }, Answered::Checked(check))?;
+            Ok(None)
+        }
+        Err(NoHook::Refused(refusal)) => {
+            push_told(script, Answered::NotLetIn(refusal))?;
+            Ok(None)
+        }
+        Err(NoHook::Unreadable) => Ok(Some(BadLine::NoFile(file))),
+    }
+}
+
+// The resolver in a file: that of an earlier line, or what the images answer.
+fn resolver<'a, I: Images>(
+    alloc: Global,
+    script: &Script,
+    asked: &mut Asked<'a>,
+    images: &I,
+    file: &'a str,
+) -> Result<Hook, NoHook>
+    requires { IsRunnable (I.listed images.now) script.now }
+    ensures { IfOk result (MayRun (I.listed images.now)) }
+{
+    match asked.get(file.as_bytes()) {
+        Some(Ok(place)) => {
+            if let Some(hook) = hook_at(&script.events, *place) {
+                return Ok(hook.share()?);
+            }
+        }
+        Some(Err(refusal)) => return Err(NoHook::Refused(*refusal)),
+        None => {}
+    }
+    let place = script.events.len();
+    ask(alloc, asked, place, images, file, ImageKind::Resolver)
+}
+
+// The pre-commit hook in a file: that of an earlier line, or what the images answer.
+fn pre_commit<'a, I: Images>(
+    alloc: Global,
+    script: &Script,
+    asked: &mut Asked<'a>,
+    images: &I,
+    file: &'a str,
+) -> Result<Hook, NoHook>
+    ensures { IfOk result (λ hook. hook.kind ≡ ImageKind.PreCommit) }
+{
+    match asked.get(file.as_bytes()) {
+        Some(Ok(place)) => {
+            if let Some(Answered::Checked(check)) = script.answered.get(*place) {
+                return Ok(check.hook.share()?);
+            }
+        }
+        Some(Err(refusal)) => return Err(NoHook::Refused(*refusal)),
+        None => {}
+    }
+    let place = script.answered.len();
+    ask(alloc, asked, place, images, file, ImageKind::PreCommit)
+}
+
+// What the images answer of a file, which is kept: for a hook its place, for an image that is refused the refusal.
+fn ask<'a, I: Images>(
+    alloc: Global,
+    asked: &mut Asked<'a>,
+    place: usize,
+    images: &I,
+    file: &'a str,
+    kind: ImageKind,
+) -> Result<Hook, NoHook>
+    ensures { IfOk result (λ hook. (hook.kind ≡ kind) × AgreesWith (I.listed images.now) hook.sigs) }
+{
+    match images.hook(alloc, file, kind) {
+        Ok(program) => {
+            let hook = Hook::new(alloc, program)?;
+            keep(asked, file, Ok(place))?;
+            Ok(hook)
+        }
+        Err(NoHook::Refused(refusal)) => {
+            keep(asked, file, Err(refusal))?;
+            Err(NoHook::Refused(refusal))
+        }
+        Err(NoHook::Unreadable) => Err(NoHook::Unreadable),
+    }
+}
+
+// Keeps what was answered of a file.
+fn keep<'a>(
+    asked: &mut Asked<'a>,
+    file: &'a str,
+    answer: Result<usize, Refusal>,
+) -> Result<(), AllocError> {
+    asked.insert(file.as_bytes(), answer)?;
+    Ok(())
+}
+
+// The first line tells how many vnodes there are, and no other does.
+fn read_vnodes<'a>(script: &mut Script, count: usize) -> Option<BadLine<'a>>
+    ensures runnable { (listed : List Entry) → IsRunnable listed script.old → IsRunnable listed script.new }
+    ensures answers { MatchOption result (lines_of script.new ≡ lines_of script.old + 1) (λ _. lines_of script.new ≡ lines_of script.old) }
+{
+    if script.vnodes != 0 {
+        return Some(BadLine::VnodesAgain);
+    }
+    if count == 0 || count > MAX_VNODES {
+        return Some(BadLine::VnodeCount);
+    }
+    script.vnodes = count;
+    None
+}
+
+// A put, or the refusal of its token.
+fn read_put<'a>(
+    alloc: Global,
+    script: &mut Script,
+    names: &Names<'a>,
+    vnode: usize,
+    key: &[u8],
+    value: Option<&[u8]>,
+    context: Context<'a>,
+) -> Result<Option<BadLine<'a>>, AllocError>
+    ensures runnable { (listed : List Entry) → IsRunnable listed script.old → OnOk result (IsRunnable listed script.new) }
+    ensures answers { IfOk result (λ bad. MatchOption bad (lines_of script.new ≡ lines_of script.old + 1) (λ _. lines_of script.new ≡ lines_of script.old)) }
+{
+    if vnode >= script.vnodes {
+        return Ok(Some(BadLine::NoVnode(vnode)));
+    }
+    let seen = match context {
+        Context::Nothing => Seen::Clock(Clock::new(alloc)),
+        Context::OfGet(name) => match found(&script.events, &names.events, name) {
+            Some(get) => Seen::Get(get),
+            None => return Ok(Some(BadLine::NoGet(name))),
+        },
+        Context::Token(text) => match clock_of(alloc, text) {
+            Ok(clock) => Seen::Clock(clock),
+            Err(TokenFault::NoMemory) => return Err(AllocError),
+            Err(fault) => {
+                push_told(script, Answered::Refused(fault))?;
+                return Ok(None);
+            }
+        },
+    };
+    let key = key_of(alloc, key)?;
+    let content = content_of(alloc, value)?;
+    push(
+        script,
+        Event::Put {
+            vnode,
+            key,
+            seen,
+            content,
+        },
+    )?;
+    Ok(None)
+}
+
+// Adds an event that may come.
+fn push(script: &mut Script, event: Event) -> Result<(), AllocError>
+    ensures more { OnOk result (IsOneMore script.old event Answered.Reply script.new) }
+    ensures answers { OnOk result (lines_of script.new ≡ lines_of script.old + 1) }
+{
+    push_answered(script, event, Answered::Reply)
+}
+
+// Adds an event that may come, and what its line prints.
+fn push_answered(script: &mut Script, event: Event, answered: Answered) -> Result<(), AllocError>
+    ensures more { OnOk result (IsOneMore script.old event answered script.new) }
+    ensures answers { OnOk result (lines_of script.new ≡ lines_of script.old + 1) }
+{
+    script.answered.reserve(1)?;
+    script.events.push(event)?;
+    script.answered.push(answered)?;
+    Ok(())
+}
+
+// Adds what a line prints that tells of no event.
+fn push_told(script: &mut Script, answered: Answered) -> Result<(), AllocError>
+    requires { tells_event answered ≡ false }
+    ensures runnable { (listed : List Entry) → IsRunnable listed script.old → OnOk result (IsRunnable listed script.new) }
+    ensures answers { OnOk result (lines_of script.new ≡ lines_of script.old + 1) }
+{
+    script.answered.push(answered)?;
+    Ok(())
+}
+
+// The place of the latest event of a name, where that is a get.
+fn found(events: &[Event], places: &Places<'_>, name: &[u8]) -> Option<usize>
+    ensures { IfSome result (IsGetAt events.now) }
+{
+    let place = *places.get(name)?;
+    match events.get(place) {
+        Some(Event::Get { .. }) => Some(place),
+        _ => None,
+    }
+}
+
+// The place of the latest event of a name, where that is a send.
+fn sent(events: &[Event], places: &Places<'_>, name: &[u8]) -> Option<usize>
+    ensures { IfSome result (IsSendAt events.now) }
+{
+    let place = *places.get(name)?;
+    match events.get(place) {
+        Some(Event::Send { .. }) => Some(place),
+        _ => None,
+    }
+}
+
+// The place of the latest run of a name.
+fn resolved(events: &[Event], places: &Places<'_>, name: &[u8]) -> Option<usize>
+    ensures { IfSome result (IsRunAt events.now) }
+{
+    let place = *places.get(name)?;
+    match events.get(place) {
+        Some(Event::ResolveRead { .. }) => Some(place),
+        _ => None,
+    }
+}
+
+// What a resolver's run at a place runs.
+fn hook_at(events: &[Event], place: usize) -> Option<&Hook>
+    ensures { IfSome result (λ hook. (get : ℕ) × (slice_get events.now place ≡ Some (Event.ResolveRead get hook.now))) }
+{
+    match events.get(place) {
+        Some(Event::ResolveRead { hook, .. }) => Some(hook),
+        _ => None,
+    }
+}
+
+// The clock of a token. Bytes that are no text are no base64.
+fn clock_of(alloc: Global, bytes: &[u8]) -> Result<Clock, TokenFault> {
+    match str::from_utf8(bytes) {
+        Ok(text) => token::read(alloc, text),
+        Err(_) => Err(TokenFault::NotBase64),
+    }
+}
+
+// A key in the bucket of scripts.
+fn key_of(alloc: Global, key: &[u8]) -> Result<Key, AllocError> {
+    Ok(Key {
+        bucket: Bytes::from_slice(alloc, b"sim")?,
+        key: Bytes::from_slice(alloc, key)?,
+    })
+}
+
+// A value as text, or a tombstone.
+fn content_of(alloc: Global, value: Option<&[u8]>) -> Result<Content, AllocError> {
+    match value {
+        Some(value) => Ok(Content::Value {
+            media: Bytes::from_slice(alloc, b"text/plain")?,
+            bytes: Bytes::from_slice(alloc, value)?,
+        }),
+        None => Ok(Content::Tombstone),
+    }
+}

@@ -1,0 +1,31 @@
+//! The folders of the examples.
+
+use commands::files::{Files, Part};
+use std::alloc::Global;
+use std::{fs, io, rt};
+
+/// The files of a folder, which are read by their names in it.
+#[derive(Drop)]
+pub struct Folder<'a, R> {
+    pub rt: &'a R,
+    /// Where the folder is: nothing, or its path and a slash.
+    pub path: &'static str,
+}
+
+impl<R: rt::Files + AllocGlobal> Files for Folder<'_, R> {
+    fn read(&self, alloc: Global, name: &str) -> io::Result<Vec<u8>> {
+        let path = self.path;
+        fs::read(self.rt, format!(in alloc; "{path}{name}")?.as_str())
+    }
+
+    fn read_part(&self, alloc: Global, name: &str, most: usize) -> io::Result<Part> {
+        let mut bytes = self.read(alloc, name)?;
+        let len = bytes.len() as u64;
+        bytes.truncate(most);
+        Ok(Part { bytes, len })
+    }
+
+    fn write(&mut self, _name: &str, _bytes: &[u8]) -> io::Result<()> {
+        Err(io::Error::from(io::ErrorKind::PermissionDenied))
+    }
+}
