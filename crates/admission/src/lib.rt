@@ -8,8 +8,6 @@ ghost use Rattle.admission.specs.Admissions.{IsProgramOf, IsLetIn, IsTurnedAway,
 ghost use Rattle.admission.specs.Enough.{AreReadAlike};
 
 mod refusal;
-#[cfg(test)]
-mod tests;
 
 use bpfimage::{ImageKind, read_image, read_program};
 use helpers::Sigs;

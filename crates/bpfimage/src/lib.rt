@@ -4,8 +4,6 @@
 pub mod form;
 pub mod image;
 pub mod read;
-#[cfg(test)]
-mod tests;
 
 pub use form::{FormFault, FormRule, form_fault};
 pub use image::{Image, ImageFault, ImageKind, MAX_WINDOW};

@@ -8,8 +8,6 @@ pub mod encode;
 mod form;
 mod laws;
 mod slot;
-#[cfg(test)]
-mod tests;
 
 use alu::{Cond, Op, SwapBits, SwapKind, Width};
 pub use decode::{DecodeFault, Refusal};

@@ -12,6 +12,3 @@ pub use comparison::refine;
 pub use kind::{Bad, Kind, Range, join};
 pub use laws::kinds_are_sound;
 pub use operation::{transfer, transfer_swap};
-
-#[cfg(test)]
-mod tests;

@@ -6,8 +6,6 @@ mod candidate;
 mod kinds;
 pub mod rule;
 mod rules;
-#[cfg(test)]
-mod tests;
 pub mod verified;
 pub mod verifying;
 mod windows;

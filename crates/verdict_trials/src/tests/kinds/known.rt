@@ -3,8 +3,8 @@
 ghost use Rattle.std.specs.Prelude.{◌↔◌, IsTrue};
 ghost use Rattle.ranges.specs.Kinds.{IsKind};
 
-use crate::Kind;
 use memory::Region;
+use ranges::Kind;
 use std::process::Abort;
 
 /// What is known of a register.

@@ -3,7 +3,7 @@
 use super::MAX;
 use super::known::FULL;
 use super::known::Known::{Input, Num, One, Stack, Unset};
-use crate::{Kind, Range, join};
+use ranges::{Kind, Range, join};
 
 #[test]
 fn joins(rt: HostRuntime) {

@@ -3,9 +3,9 @@
 use super::known::Known::{Input, Num, One, Stack};
 use super::operations::leaves;
 use super::{HALF, MAX};
-use crate::Bad;
 use alu::Op::*;
 use alu::Width::*;
+use ranges::Bad;
 
 /// The farthest offset of a pointer.
 const FAR_OFFSET: i64 = 1 << 20;

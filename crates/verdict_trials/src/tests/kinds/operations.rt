@@ -3,12 +3,12 @@
 use super::known::Known::{Input, Num, One, Stack, Unset};
 use super::known::{FULL, FULL_32, Known, kind_of};
 use super::{HALF, HALF_32, MAX, MAX_32, PAST_32};
-use crate::{Bad, transfer, transfer_swap};
 use alu::Op::*;
 use alu::SwapBits::*;
 use alu::SwapKind::*;
 use alu::Width::*;
 use alu::{Op, Width};
+use ranges::{Bad, transfer, transfer_swap};
 use std::process::Abort;
 
 /// A width, what is known of the destination and of the source, and what is known of the destination after it.

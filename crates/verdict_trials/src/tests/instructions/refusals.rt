@@ -1,6 +1,6 @@
 //! Slots and lengths that are refused, and why.
 
-use crate::decode::{DecodeFault, Refusal, decode};
+use insn::decode::{DecodeFault, Refusal, decode};
 use std::test::Fail;
 
 /// Slots that are refused, at which of them, and why.

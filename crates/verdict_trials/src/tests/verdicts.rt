@@ -4,29 +4,28 @@ mod calls;
 mod images;
 mod programs;
 mod sizes;
-mod slots;
 
-use crate::{ImageFault, raw_image, read_image, verify};
+use code_parts::Slot::{Jump, Put};
+use code_parts::{Slot, image_of};
 use helpers::Sigs;
-use slots::Slot;
-use std::alloc::{AllocError, Global};
+use std::alloc::Global;
 use std::process::Abort;
 use std::test::Fail;
+use verifier::{ImageFault, raw_image, read_image, verify};
 
-/// What is told of a program: how many slots it has, or the rule that it breaks and where.
+/// What is told of a program: how many slots it has, the rule that it breaks and where, or that memory ran out.
 #[derive(Clone, Copy, Debug, PartialEq, Eq)]
 enum Told {
     Accepted(usize),
-    Refused { number: Option<u8>, slot: u32 },
+    Refused(u8, u32),
+    NoMemory,
 }
 
-/// A refusal by a rule's number.
-fn refused(number: u8, slot: u32) -> Told {
-    Told::Refused {
-        number: Some(number),
-        slot,
-    }
-}
+/// `r0 = 0`
+const CLEAR: Slot = Put(0, 0);
+
+/// Goes on to the next slot.
+const NOTHING: Slot = Jump(0);
 
 /// What is told of an image, or of raw code.
 fn verdict_of(alloc: Global, bytes: &[u8], sigs: &Sigs) -> Result<Told, ImageFault> {
@@ -37,9 +36,9 @@ fn verdict_of(alloc: Global, bytes: &[u8], sigs: &Sigs) -> Result<Told, ImageFau
     };
     match verify(alloc, image, sigs) {
         Ok(verified) => Ok(Told::Accepted(verified.image().code.len())),
-        Err(refused) => Ok(Told::Refused {
-            number: refused.rule.number(),
-            slot: refused.slot,
+        Err(refused) => Ok(match refused.rule.number() {
+            Some(number) => Told::Refused(number, refused.slot),
+            None => Told::NoMemory,
         }),
     }
 }
@@ -49,16 +48,6 @@ fn verdict_of(alloc: Global, bytes: &[u8], sigs: &Sigs) -> Result<Told, ImageFau
 struct Lengths {
     input: u32,
     output: u32,
-}
-
-/// The bytes of a plain image.
-fn image_of(alloc: Global, lengths: Lengths, code: &[Slot]) -> Result<Vec<u8>, AllocError> {
-    let mut bytes = Vec::new(alloc);
-    bytes.extend_from_slice(b"RBPF\x01\0\0\0")?;
-    bytes.extend_from_slice(&lengths.input.to_le_bytes())?;
-    bytes.extend_from_slice(&lengths.output.to_le_bytes())?;
-    bytes.extend_from_slice(code.as_flattened())?;
-    Ok(bytes)
 }
 
 /// Tells of an image with these windows and slots.
@@ -71,7 +60,21 @@ fn tells(
     code: &[Slot],
     want: Told,
 ) -> Result<(), Fail> {
-    let bytes = image_of(alloc, lengths, code)?;
+    let bytes = image_of(alloc, lengths.input, lengths.output, code)?;
     assert_eq!(rt; verdict_of(alloc, &bytes, sigs)?, want, "{name}");
+    Ok(())
+}
+
+/// Tells of images with these windows.
+fn tell_all(
+    rt: &impl Abort,
+    alloc: Global,
+    sigs: &Sigs,
+    lengths: Lengths,
+    rows: &[(&str, &[Slot], Told)],
+) -> Result<(), Fail> {
+    for (name, code, want) in rows {
+        tells(rt, alloc, sigs, lengths, name, code, *want)?;
+    }
     Ok(())
 }

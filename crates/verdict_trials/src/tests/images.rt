@@ -1,5 +1,4 @@
 //! Images and code, and what is told of them.
 
+mod files;
 mod forms;
-mod images;
-mod slots;

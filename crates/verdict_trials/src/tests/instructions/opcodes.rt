@@ -1,7 +1,7 @@
 //! Each opcode: whether an instruction has it, and if so, that its bytes are written again.
 
-use crate::decode::{DecodeFault, Refusal, decode};
-use crate::encode::encode;
+use insn::decode::{DecodeFault, Refusal, decode};
+use insn::encode::encode;
 use std::alloc::{AllocError, Global};
 use std::test::Fail;
 

@@ -1,6 +1,6 @@
 //! Images, cut and changed.
 
-use crate::{FormFault, FormRule, ImageFault, ImageKind, form_fault, read_image};
+use bpfimage::{FormFault, FormRule, ImageFault, ImageKind, form_fault, read_image};
 use insn::{DecodeFault, Refusal};
 use std::alloc::Global;
 use std::test::Fail;

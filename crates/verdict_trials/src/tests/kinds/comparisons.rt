@@ -3,10 +3,10 @@
 use super::known::Known::{Input, Num, One, Stack, Unset};
 use super::known::{FULL, FULL_32, Known, kind_of};
 use super::{HALF, HALF_32, MAX, MAX_32, PAST_32};
-use crate::refine;
 use alu::Cond::*;
 use alu::Width::*;
 use alu::{Cond, Width};
+use ranges::refine;
 use std::process::Abort;
 
 /// What is known of two operands.

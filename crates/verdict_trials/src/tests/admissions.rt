@@ -1,5 +1,5 @@
 //! What is let in, and why bytes are not.
-use crate::{MOST, Refusal, admit_hook, admit_image, admit_program, enough};
+use admission::{MOST, Refusal, admit_hook, admit_image, admit_program, enough};
 use bpfimage::ImageKind;
 use helpers::Sigs;
 use std::alloc::Global;
@@ -46,30 +46,35 @@ fn hooks_and_programs(rt: HostRuntime) {
     assert_eq!(rt; shape(admit_program(alloc, &ZERO, &sigs)), raw);
 }
 
+/// Bytes that are no image that is let in, and what is told of them.
+const REFUSED_IMAGES: [(&[u8], &str); 2] = [(&EXIT, "I1"), (&ZERO, "I2")];
+
+/// Bytes that are no program that is let in, and what is told of them: code that answers nothing, code cut within a slot, and
+/// no code.
+const REFUSED_PROGRAMS: [(&[u8], &str); 3] = [
+    (&EXIT, "V20 0"),
+    (&[0x95, 0, 0, 0, 0, 0, 0], "D1 0"),
+    (&[], "D2 0"),
+];
+
 #[test]
 fn refusals(rt: HostRuntime) -> Result<(), Fail> {
     let alloc = rt.alloc();
     let sigs = Sigs::new(alloc);
     let other = admit_hook(alloc, &TAKES_FIRST, ImageKind::PreCommit, &sigs);
     assert_eq!(rt; told(alloc, other)?.as_str(), "G2");
-    assert_eq!(rt;
-        told(alloc, admit_image(alloc, &EXIT, &sigs))?.as_str(),
-        "I1"
-    );
-    assert_eq!(rt;
-        told(alloc, admit_image(alloc, &ZERO, &sigs))?.as_str(),
-        "I2"
-    );
-    assert_eq!(rt;
-        told(alloc, admit_program(alloc, &EXIT, &sigs))?.as_str(),
-        "V20 0"
-    );
-    let cut = admit_program(alloc, &EXIT[..7], &sigs);
-    assert_eq!(rt; told(alloc, cut)?.as_str(), "D1 0");
-    assert_eq!(rt;
-        told(alloc, admit_program(alloc, &[], &sigs))?.as_str(),
-        "D2 0"
-    );
+    for (bytes, want) in REFUSED_IMAGES {
+        assert_eq!(rt;
+            told(alloc, admit_image(alloc, bytes, &sigs))?.as_str(),
+            want
+        );
+    }
+    for (bytes, want) in REFUSED_PROGRAMS {
+        assert_eq!(rt;
+            told(alloc, admit_program(alloc, bytes, &sigs))?.as_str(),
+            want
+        );
+    }
     Ok(())
 }
 

@@ -1,0 +1,545 @@
+//! Programs that call, and what the verifier tells of them.
+
+ghost use Rattle.std.specs.Prelude.{◌≡◌};
+ghost use Rattle.helpers.specs.Text.{spelled};
+
+use super::{CLEAR, Lengths, Told, tell_all};
+use code_parts::Slot::{Added, Call, Copied, Exit, LoadByte, Put, Raised, StoreByte};
+use code_parts::{Slot, code_of};
+use helpers::{ArgRule, Body, Helper, Sig, Sigs, Table, decimal, written_sig};
+use std::alloc::Global;
+use std::process::Abort;
+use std::test::Fail;
+use verifier::{raw_image, verify};
+
+const ANY: ArgRule = ArgRule::Num {
+    lo: 0,
+    hi: u64::MAX,
+};
+
+const UNUSED: ArgRule = ArgRule::Unused;
+
+/// The Sigs of 18 and of some helpers of a host.
+fn sigs(rt: &impl Abort, alloc: Global) -> Result<Sigs, Fail> {
+    let mut table = Table::new(alloc);
+    let body: Body = Box::new(
+        alloc,
+        |_numbers: [u64; 5], first: &[u8], _second: &[u8]| -> u64
+            ensures { result ≡ spelled first.now }
+        { decimal(first) },
+    )?;
+    let sig = written_sig(18).ok_or("a Sig")?;
+    assert!(rt; table.add(Helper::new(18, sig, body)).is_ok());
+    let number = ArgRule::Num { lo: 0, hi: 16 };
+    let small = ArgRule::Num { lo: 0, hi: 15 };
+    let text = ArgRule::Read { max: 16 };
+    let short = ArgRule::Read { max: 15 };
+    let rows = [
+        (64, [ANY, UNUSED, UNUSED, UNUSED, UNUSED], (0, 7)),
+        (65, [ANY, UNUSED, UNUSED, UNUSED, UNUSED], (0, 8)),
+        (66, [UNUSED, number, UNUSED, UNUSED, UNUSED], (0, 7)),
+        (67, [UNUSED, small, UNUSED, UNUSED, UNUSED], (0, 7)),
+        (68, [text, ArgRule::Len, UNUSED, UNUSED, UNUSED], (0, 7)),
+        (69, [short, ArgRule::Len, UNUSED, UNUSED, UNUSED], (0, 7)),
+        (70, [UNUSED, UNUSED, UNUSED, UNUSED, ANY], (0, 7)),
+        (71, [UNUSED, UNUSED, UNUSED, UNUSED, UNUSED], (2, 5)),
+    ];
+    for (number, args, range) in rows {
+        let sig = Sig::new(args, range).ok_or("a Sig")?;
+        assert!(rt; sig.lo <= 2 && sig.hi >= 2);
+        assert!(rt; number != 16 && number != 17 && number != 18 && number != 19);
+        let body: Body = Box::new(
+            alloc,
+            |_numbers: [u64; 5], _first: &[u8], _second: &[u8]| -> u64
+                ensures { result ≡ 2 }
+            { 2 },
+        )?;
+        assert!(rt; table.add(Helper::new(number, sig, body)).is_ok());
+    }
+    Ok(table.sigs(alloc)?)
+}
+
+/// A window of 16 bytes as the input, and one of 8 bytes as the output.
+const SMALL: Lengths = Lengths {
+    input: 16,
+    output: 8,
+};
+
+const FROM_INPUT: Slot = Copied(2, 1);
+
+const TO_OUTPUT: Slot = Copied(1, 3);
+
+const LOAD: Slot = LoadByte(0, 1, 0);
+
+/// Keeps the output's address in R6.
+const KEEP: Slot = Copied(6, 3);
+
+/// Adds an answer to the address that R6 keeps.
+const ADD: Slot = Added(6, 0);
+
+/// R1 is the output's end, if it was its start.
+const END: Slot = Raised(1, 8);
+
+/// How many bytes of the input are used.
+const USED: Slot = Copied(1, 2);
+
+const NEXT: Slot = Raised(1, 1);
+
+/// Programs that copy, and what is told of them.
+const COPIES: [(&str, &[Slot], Told); 3] = [
+    (
+        "of 4 bytes",
+        &[FROM_INPUT, TO_OUTPUT, Put(3, 4), Call(1), Exit],
+        Told::Accepted(5),
+    ),
+    (
+        "of 9 bytes",
+        &[FROM_INPUT, TO_OUTPUT, Put(3, 9), Call(1), Exit],
+        Told::Refused(28, 3),
+    ),
+    (
+        "and a load through an argument",
+        &[FROM_INPUT, TO_OUTPUT, Put(3, 4), Call(1), LOAD, Exit],
+        Told::Refused(20, 4),
+    ),
+];
+
+#[test]
+fn copies(rt: HostRuntime) -> Result<(), Fail> {
+    let alloc = rt.alloc();
+    let sigs = Sigs::new(alloc);
+    tell_all(&rt, alloc, &sigs, SMALL, &COPIES)
+}
+
+/// Programs that call 1 to 3, and what is told of them.
+const OWN_CALLS: [(&str, &[Slot], Told); 21] = [
+    (
+        "copy",
+        &[
+            CLEAR,
+            CLEAR,
+            CLEAR,
+            FROM_INPUT,
+            TO_OUTPUT,
+            Put(3, 4),
+            Call(1),
+            Exit,
+        ],
+        Told::Accepted(8),
+    ),
+    (
+        "copy of a whole window",
+        &[
+            CLEAR,
+            CLEAR,
+            CLEAR,
+            FROM_INPUT,
+            TO_OUTPUT,
+            Put(3, 8),
+            Call(1),
+            Exit,
+        ],
+        Told::Accepted(8),
+    ),
+    (
+        "copy past the window",
+        &[
+            CLEAR,
+            CLEAR,
+            CLEAR,
+            FROM_INPUT,
+            TO_OUTPUT,
+            Put(3, 9),
+            Call(1),
+            Exit,
+        ],
+        Told::Refused(28, 6),
+    ),
+    (
+        "copy of up to 16 bytes",
+        &[
+            CLEAR,
+            CLEAR,
+            Copied(7, 2),
+            FROM_INPUT,
+            TO_OUTPUT,
+            Copied(3, 7),
+            Call(1),
+            Exit,
+        ],
+        Told::Refused(28, 6),
+    ),
+    (
+        "copy to the input",
+        &[
+            CLEAR,
+            CLEAR,
+            CLEAR,
+            CLEAR,
+            Copied(2, 3),
+            Put(3, 4),
+            Call(1),
+            Exit,
+        ],
+        Told::Refused(28, 6),
+    ),
+    (
+        "copy from a number",
+        &[
+            CLEAR,
+            CLEAR,
+            CLEAR,
+            CLEAR,
+            TO_OUTPUT,
+            Put(3, 4),
+            Call(1),
+            Exit,
+        ],
+        Told::Refused(28, 6),
+    ),
+    (
+        "copy of a pointer's number",
+        &[
+            CLEAR,
+            CLEAR,
+            CLEAR,
+            CLEAR,
+            FROM_INPUT,
+            TO_OUTPUT,
+            Call(1),
+            Exit,
+        ],
+        Told::Refused(28, 6),
+    ),
+    (
+        "argument after copy",
+        &[
+            CLEAR,
+            CLEAR,
+            FROM_INPUT,
+            TO_OUTPUT,
+            Put(3, 4),
+            Call(1),
+            LOAD,
+            Exit,
+        ],
+        Told::Refused(20, 6),
+    ),
+    (
+        "fifth register after copy",
+        &[
+            Put(5, 1),
+            FROM_INPUT,
+            TO_OUTPUT,
+            Put(3, 4),
+            Call(1),
+            CLEAR,
+            Copied(0, 5),
+            Exit,
+        ],
+        Told::Refused(20, 6),
+    ),
+    (
+        "kept register after copy",
+        &[
+            Put(6, 1),
+            FROM_INPUT,
+            TO_OUTPUT,
+            Put(3, 4),
+            Call(1),
+            CLEAR,
+            Copied(0, 6),
+            Exit,
+        ],
+        Told::Accepted(8),
+    ),
+    (
+        "copy answers nothing else",
+        &[
+            KEEP,
+            FROM_INPUT,
+            TO_OUTPUT,
+            Put(3, 4),
+            Call(1),
+            ADD,
+            StoreByte(6, 7, 1),
+            Exit,
+        ],
+        Told::Accepted(8),
+    ),
+    (
+        "fill",
+        &[
+            CLEAR,
+            CLEAR,
+            CLEAR,
+            CLEAR,
+            TO_OUTPUT,
+            Put(3, 8),
+            Call(2),
+            Exit,
+        ],
+        Told::Accepted(8),
+    ),
+    (
+        "fill of nothing at the end",
+        &[
+            CLEAR,
+            CLEAR,
+            CLEAR,
+            TO_OUTPUT,
+            END,
+            Put(3, 0),
+            Call(2),
+            Exit,
+        ],
+        Told::Accepted(8),
+    ),
+    (
+        "fill past the end",
+        &[
+            CLEAR,
+            CLEAR,
+            CLEAR,
+            TO_OUTPUT,
+            END,
+            Put(3, 1),
+            Call(2),
+            Exit,
+        ],
+        Told::Refused(28, 6),
+    ),
+    (
+        "fill of the input",
+        &[CLEAR, CLEAR, CLEAR, CLEAR, CLEAR, Put(3, 4), Call(2), Exit],
+        Told::Refused(28, 6),
+    ),
+    (
+        "fill with a pointer",
+        &[
+            CLEAR,
+            CLEAR,
+            CLEAR,
+            FROM_INPUT,
+            TO_OUTPUT,
+            Put(3, 4),
+            Call(2),
+            Exit,
+        ],
+        Told::Refused(28, 6),
+    ),
+    (
+        "fill answers nothing else",
+        &[
+            KEEP,
+            CLEAR,
+            TO_OUTPUT,
+            Put(3, 4),
+            Call(2),
+            ADD,
+            StoreByte(6, 7, 1),
+            Exit,
+        ],
+        Told::Accepted(8),
+    ),
+    (
+        "same",
+        &[
+            KEEP,
+            CLEAR,
+            Copied(2, 3),
+            Put(3, 8),
+            Call(3),
+            ADD,
+            StoreByte(6, 6, 1),
+            Exit,
+        ],
+        Told::Accepted(8),
+    ),
+    (
+        "same answers one",
+        &[
+            KEEP,
+            CLEAR,
+            Copied(2, 3),
+            Put(3, 8),
+            Call(3),
+            ADD,
+            StoreByte(6, 7, 1),
+            Exit,
+        ],
+        Told::Refused(24, 6),
+    ),
+    (
+        "same past the shorter window",
+        &[
+            KEEP,
+            CLEAR,
+            Copied(2, 3),
+            Put(3, 9),
+            Call(3),
+            ADD,
+            StoreByte(6, 6, 1),
+            Exit,
+        ],
+        Told::Refused(28, 4),
+    ),
+    (
+        "unset argument before an argument's rule",
+        &[
+            CLEAR,
+            CLEAR,
+            Copied(2, 3),
+            Put(3, 8),
+            Call(3),
+            Call(3),
+            CLEAR,
+            Exit,
+        ],
+        Told::Refused(20, 5),
+    ),
+];
+
+#[test]
+fn own_calls(rt: HostRuntime) -> Result<(), Fail> {
+    let alloc = rt.alloc();
+    let sigs = Sigs::new(alloc);
+    tell_all(&rt, alloc, &sigs, SMALL, &OWN_CALLS)
+}
+
+/// Programs that call helpers, and what is told of them.
+const HELPER_CALLS: [(&str, &[Slot], Told); 22] = [
+    (
+        "a number's helper",
+        &[KEEP, USED, Call(64), ADD, StoreByte(6, 0, 1), Exit],
+        Told::Accepted(6),
+    ),
+    (
+        "an answer past the window",
+        &[KEEP, USED, Call(65), ADD, StoreByte(6, 0, 1), Exit],
+        Told::Refused(24, 4),
+    ),
+    (
+        "a pointer for a number",
+        &[KEEP, CLEAR, Call(64), ADD, StoreByte(6, 0, 1), Exit],
+        Told::Refused(28, 2),
+    ),
+    (
+        "a number in its range",
+        &[CLEAR, CLEAR, CLEAR, CLEAR, Call(66), Exit],
+        Told::Accepted(6),
+    ),
+    (
+        "a number past its range",
+        &[CLEAR, CLEAR, CLEAR, CLEAR, Call(67), Exit],
+        Told::Refused(28, 4),
+    ),
+    (
+        "a text of up to 16 bytes",
+        &[CLEAR, CLEAR, CLEAR, CLEAR, Call(68), Exit],
+        Told::Accepted(6),
+    ),
+    (
+        "a text of one too many",
+        &[CLEAR, CLEAR, CLEAR, CLEAR, Call(69), Exit],
+        Told::Refused(28, 4),
+    ),
+    (
+        "a text that leaves the window",
+        &[CLEAR, CLEAR, CLEAR, NEXT, Call(68), Exit],
+        Told::Refused(28, 4),
+    ),
+    (
+        "a text of a pointer's length",
+        &[CLEAR, CLEAR, CLEAR, Copied(2, 1), Call(68), Exit],
+        Told::Refused(28, 4),
+    ),
+    (
+        "a text at a number",
+        &[CLEAR, CLEAR, CLEAR, USED, Call(68), Exit],
+        Told::Refused(28, 4),
+    ),
+    (
+        "a text of the input",
+        &[CLEAR, CLEAR, CLEAR, CLEAR, Call(18), Exit],
+        Told::Accepted(6),
+    ),
+    (
+        "an unset argument",
+        &[CLEAR, CLEAR, CLEAR, CLEAR, Call(70), Exit],
+        Told::Refused(20, 4),
+    ),
+    (
+        "a set argument",
+        &[CLEAR, CLEAR, CLEAR, Put(5, 9), Call(70), Exit],
+        Told::Accepted(6),
+    ),
+    (
+        "no argument",
+        &[CLEAR, CLEAR, CLEAR, Call(71), Call(71), Exit],
+        Told::Accepted(6),
+    ),
+    (
+        "the least answer",
+        &[KEEP, CLEAR, Call(71), ADD, StoreByte(6, -2, 1), Exit],
+        Told::Accepted(6),
+    ),
+    (
+        "below the least answer",
+        &[KEEP, CLEAR, Call(71), ADD, StoreByte(6, -3, 1), Exit],
+        Told::Refused(24, 4),
+    ),
+    (
+        "the greatest answer",
+        &[KEEP, CLEAR, Call(71), ADD, StoreByte(6, 2, 1), Exit],
+        Told::Accepted(6),
+    ),
+    (
+        "above the greatest answer",
+        &[KEEP, CLEAR, Call(71), ADD, StoreByte(6, 3, 1), Exit],
+        Told::Refused(24, 4),
+    ),
+    (
+        "no such helper",
+        &[CLEAR, CLEAR, CLEAR, CLEAR, Call(63), Exit],
+        Told::Refused(27, 4),
+    ),
+    (
+        "helper zero",
+        &[CLEAR, CLEAR, CLEAR, CLEAR, Call(0), Exit],
+        Told::Refused(27, 4),
+    ),
+    (
+        "a helper that the host has not",
+        &[CLEAR, CLEAR, CLEAR, CLEAR, Call(16), Exit],
+        Told::Refused(27, 4),
+    ),
+    (
+        "a negative number",
+        &[CLEAR, CLEAR, CLEAR, CLEAR, Call(-1), Exit],
+        Told::Refused(27, 4),
+    ),
+];
+
+#[test]
+fn helper_calls(rt: HostRuntime) -> Result<(), Fail> {
+    let alloc = rt.alloc();
+    let sigs = sigs(&rt, alloc)?;
+    tell_all(&rt, alloc, &sigs, SMALL, &HELPER_CALLS)
+}
+
+#[test]
+fn sigs_are_kept(rt: HostRuntime) -> Result<(), Fail> {
+    let alloc = rt.alloc();
+    let sigs = sigs(&rt, alloc)?;
+    let image = raw_image(alloc, &code_of(alloc, &[CLEAR, Exit])?)?;
+    match verify(alloc, image, &sigs) {
+        Ok(verified) => {
+            assert_eq!(rt; verified.sigs().entries().len(), 9);
+            assert!(rt; verified.sigs().sig(65) == sigs.sig(65));
+            assert_eq!(rt; verified.image().code.len(), 2);
+        }
+        Err(_) => panic!(rt; "an accepted program"),
+    }
+    Ok(())
+}
