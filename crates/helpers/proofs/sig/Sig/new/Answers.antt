@@ -1,5 +1,5 @@
-use Rattle.std.proofs.Common.{arith, sym, ◌∙◌}
-use Rattle.helpers.proofs.Laid.{signature_parts}
+use Rattle.std.proofs.Common.{arith, refl, rules, sym, ◌∙◌}
+use Rattle.helpers.proofs.Laid.{signature_parts, is_made}
 use Rattle.helpers.proofs.sig.Sig.new.Goals as goal
 use Rattle.helpers.proofs.sig.Sig.new.Goals.{else-lo-hi-via-then-lo-hi+else-has_layout, else-lo-hi-via-else-lo-hi}
 
@@ -12,3 +12,8 @@ returns-else-lo-hi-clause-some c = (
         | else-lo-hi-via-else-lo-hi w ↦ absurd (omega (arith, w.if-lo-hi.false))
       ],
 )
+
+pub returns-then-has_layout-clause-some : goal.returns-then-has_layout-clause-some
+returns-then-has_layout-clause-some c =
+    let laid = sym c.has_layout.ensures ∙ c.if-has_layout.true in
+    (λ _. is_made c.args.args c.args.ret.0 c.args.ret.1 laid (search rules) c.if-lo-hi.true, λ _. refl)
