@@ -19,6 +19,3 @@ pub use sigs::Sigs;
 pub use table::{HelperFault, Table};
 pub use text::{decimal, find, order};
 pub use written::written_sig;
-
-#[cfg(test)]
-mod tests;

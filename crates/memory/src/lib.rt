@@ -6,8 +6,6 @@ ghost use Rattle.insn.specs.Encoding.{size_bytes};
 ghost use Rattle.memory.specs.Windows.{base, window, little_endian, low_bytes, range, overwritten, read, written};
 
 mod laws;
-#[cfg(test)]
-mod tests;
 
 use insn::Size;
 pub use laws::{

@@ -1,6 +1,6 @@
 //! The written helpers of texts, by cases worked out by hand.
 
-use crate::{decimal, find, order};
+use helpers::{decimal, find, order};
 
 #[test]
 fn orders(rt: HostRuntime) {

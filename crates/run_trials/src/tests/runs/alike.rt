@@ -3,13 +3,13 @@
 ghost use Rattle.std.specs.Prelude.{◌≡◌, replicate};
 ghost use Rattle.memory.specs.Step.{IsInput};
 
-use super::slots::Slot::{
+use super::{LEAST, MAX, NARROW};
+use code_parts::Slot::{
     Added, Call, Copied, Exit, Fields, Jump, LoadByte, Put, Raised, StoreByte, Wide,
 };
-use super::slots::{Slot, code_of};
-use super::{LEAST, MAX, NARROW};
-use crate::{Done, State, Stop, drive, padded, run};
+use code_parts::{Slot, code_of, image_of};
 use helpers::Table;
+use machine::{Done, State, Stop, drive, padded, run};
 use memory::Windows;
 use std::alloc::Global;
 use std::process::Abort;
@@ -208,16 +208,6 @@ fn raw_programs_alike(rt: HostRuntime) -> Result<(), Fail> {
     Ok(())
 }
 
-/// The image of slots, with windows of these lengths.
-fn image_of(alloc: Global, in_len: u32, out_len: u32, slots: &[Slot]) -> Result<Image, Fail> {
-    let mut bytes = Vec::new(alloc);
-    bytes.extend_from_slice(b"RBPF\x01\0\0\0")?;
-    bytes.extend_from_slice(&in_len.to_le_bytes())?;
-    bytes.extend_from_slice(&out_len.to_le_bytes())?;
-    bytes.extend_from_slice(&code_of(alloc, slots)?)?;
-    Ok(read_image(alloc, &bytes)?)
-}
-
 /// Programs with an input of 256 bytes and no output.
 const BOUNDED: [Row; 3] = [
     (
@@ -256,7 +246,8 @@ fn images_alike(rt: HostRuntime) -> Result<(), Fail> {
     let alloc = rt.alloc();
     let table = Table::new(alloc);
     for row in BOUNDED {
-        alike(&rt, alloc, &table, image_of(alloc, 256, 0, row.1)?, row)?;
+        let image = read_image(alloc, &image_of(alloc, 256, 0, row.1)?)?;
+        alike(&rt, alloc, &table, image, row)?;
     }
     Ok(())
 }
@@ -358,7 +349,8 @@ const CALLS: [Row; 10] = [
 /// Runs the programs that call both ways.
 pub fn with_helpers(rt: &impl Abort, alloc: Global, table: &Table) -> Result<(), Fail> {
     for row in CALLS {
-        alike(rt, alloc, table, image_of(alloc, 16, 8, row.1)?, row)?;
+        let image = read_image(alloc, &image_of(alloc, 16, 8, row.1)?)?;
+        alike(rt, alloc, table, image, row)?;
     }
     Ok(())
 }

@@ -1,7 +1,7 @@
 //! Sigs that may be made, and the written ones.
 
-use crate::tests::ANY;
-use crate::{ArgRule, Sig, written_sig};
+use super::ANY;
+use helpers::{ArgRule, Sig, written_sig};
 
 #[test]
 fn allowed_sigs(rt: HostRuntime) {

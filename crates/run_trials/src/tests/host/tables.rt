@@ -4,8 +4,8 @@ ghost use Rattle.std.specs.Prelude.{◌≡◌, ◌≤◌, length, max};
 ghost use Rattle.helpers.specs.Layout.{newest_of};
 ghost use Rattle.helpers.specs.Text.{order_of, place_of, spelled};
 
-use crate::tests::{ANY, layout};
-use crate::{
+use super::{ANY, layout};
+use helpers::{
     ArgRule, Body, Call, Helper, HelperFault, Sig, Sigs, Table, decimal, find, fits, newest, order,
     written_sig,
 };

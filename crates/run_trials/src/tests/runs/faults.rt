@@ -1,12 +1,12 @@
 //! Programs that go wrong, each in its way, and programs that want fuel.
 
-use super::slots::Slot;
-use super::slots::Slot::{
+use super::{Ending, end_of, end_with};
+use code_parts::Slot;
+use code_parts::Slot::{
     Added, Call, Copied, Exit, Fields, Jump, LoadByte, Put, StoreByte, StoreWord, Wide,
 };
-use super::{Ending, end_of, end_with};
-use crate::Stop;
 use helpers::Table;
+use machine::Stop;
 use memory::Fault;
 use std::test::Fail;
 

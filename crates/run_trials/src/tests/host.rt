@@ -5,7 +5,7 @@ mod sigs;
 mod tables;
 mod texts;
 
-use crate::ArgRule;
+use helpers::ArgRule;
 use std::alloc::{AllocError, Global};
 
 const ANY: ArgRule = ArgRule::Num {

@@ -1,6 +1,7 @@
 //! Reads and changes of windows, by hand.
-use crate::{Region, Windows};
+
 use insn::Size;
+use memory::{Region, Windows};
 
 #[test]
 fn windows(rt: HostRuntime) {

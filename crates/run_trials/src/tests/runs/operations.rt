@@ -1,7 +1,7 @@
 //! A case for each opcode of arithmetic.
 
-use super::slots::Slot::{Exit, Fields, Wide};
 use super::{Ending, LEAST, MAX, NARROW, NARROW_LEAST, end_of};
+use code_parts::Slot::{Exit, Fields, Wide};
 use std::test::Fail;
 
 /// The opcode, offset and immediate of an operation on R0 and R1, these two before it, and R0 after it.

@@ -1,7 +1,7 @@
 //! Where programs go on: a case for each opcode of a jump, taken and not.
 
-use super::slots::Slot::{Exit, Fields, Jump, Put, Wide};
 use super::{Ending, LEAST, MAX, NARROW, NARROW_LEAST, end_of};
+use code_parts::Slot::{Exit, Fields, Jump, Put, Wide};
 use std::test::Fail;
 
 /// The opcode and immediate of a conditional jump, R0 and R1 before it, and whether it is taken.

@@ -1,20 +1,19 @@
 //! Programs run step by step, accepted programs run both ways, and what they give.
 //! Values are those of the instruction table of RFC 9669, sections 4 and 5.
 
+mod accesses;
 mod alike;
 mod calls;
 mod faults;
-mod host;
+mod helping;
 mod jumps;
 mod operations;
-mod slots;
-mod windows;
 
-use crate::{State, Stop, drive};
+use code_parts::{Slot, code_of};
 use helpers::Table;
 use insn::decode::decode;
+use machine::{State, Stop, drive};
 use memory::{Fault, Windows};
-use slots::{Slot, code_of};
 use std::alloc::Global;
 use std::test::Fail;
 

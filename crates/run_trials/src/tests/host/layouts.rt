@@ -1,7 +1,7 @@
 //! The newest sibling of layouts.
 
-use crate::newest;
-use crate::tests::layout;
+use super::layout;
+use helpers::newest;
 use std::test::Fail;
 
 #[test]

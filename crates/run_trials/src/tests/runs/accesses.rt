@@ -1,7 +1,7 @@
 //! A case for each opcode of a load and of a store.
 
-use super::slots::Slot::{Exit, Fields, Put, Wide};
 use super::{Ending, end_of};
+use code_parts::Slot::{Exit, Fields, Put, Wide};
 use std::test::Fail;
 
 const INPUT: [u8; 9] = [0x01, 0x82, 0x83, 0x84, 0x85, 0x86, 0x87, 0x88, 0xff];

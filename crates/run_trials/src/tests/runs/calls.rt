@@ -1,9 +1,9 @@
 //! Calls of the step machine: what each gives and where it faults.
 
 use super::Ending::{Answers, Faults};
-use super::slots::Slot;
-use super::slots::Slot::{Call, Copied, Exit, Put, Raised, StoreWord};
 use super::{Ending, MAX, NONE, end_with};
+use code_parts::Slot;
+use code_parts::Slot::{Call, Copied, Exit, Put, Raised, StoreWord};
 use helpers::Table;
 use memory::Fault;
 use std::alloc::Global;

@@ -1,0 +1,5 @@
+//! The tests by what they try.
+
+mod host;
+mod runs;
+mod windows;
