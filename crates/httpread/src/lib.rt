@@ -14,8 +14,6 @@ mod number;
 mod query;
 mod request;
 mod routes;
-#[cfg(test)]
-mod tests;
 mod whole;
 
 pub use request::{Asking, first_request};

@@ -1,7 +1,7 @@
 //! Worked requests, and what they ask for.
 
-use crate::{Asking, Routes, first_request};
 use httpask::{Ask, Call, Change, Form};
+use httpread::{Asking, Routes, first_request};
 use object::{Bytes, Content, Key};
 use std::alloc::{AllocError, Global};
 use std::test::Fail;

@@ -1,13 +1,16 @@
 //! Requests and what they come to: worked ones, the faults in their order, the limits, requests that are cut and strange
-//! bytes in them.
+//! bytes in them. The answers of the table.
 
+mod answers;
 mod calls;
 mod cuts;
 mod faults;
 mod limits;
+mod reads;
+mod replies;
 
-use crate::{Asking, Routes, first_request};
 use httpask::{Ask, Refusal};
+use httpread::{Asking, Routes, first_request};
 use std::alloc::{AllocError, Global};
 
 /// What some bytes come to.

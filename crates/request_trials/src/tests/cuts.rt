@@ -2,8 +2,8 @@
 
 use super::calls::{REQUESTS, words};
 use super::{Outcome, told};
-use crate::Routes;
 use httpask::Refusal;
+use httpread::Routes;
 use std::test::Fail;
 
 /// Until a request is whole nothing is told, and then the same whatever follows.
