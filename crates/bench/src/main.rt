@@ -44,6 +44,11 @@ impl Tally {
     }
 }
 
+/// Whether the bytes of an image are let in. What is let in is dropped at once.
+fn is_let_in(alloc: Global, table: &Table, bytes: &[u8]) -> bool {
+    admit_program(alloc, bytes, &table.listed).is_ok()
+}
+
 /// Times the verifier, from the image's bytes on.
 fn time_verify(
     clock: &impl Clock,
@@ -56,9 +61,8 @@ fn time_verify(
     let mut tally = Tally::NONE;
     for _ in 0..turns {
         let start = Instant::now(clock)?;
-        let verified = admit_program(alloc, bytes, &table.listed);
+        let _ = is_let_in(alloc, table, bytes);
         tally = tally.with(start.elapsed(clock)?, slots);
-        let _ = verified;
     }
     Ok(tally)
 }
