@@ -2,6 +2,7 @@
 //! over vnodes and hooks, whoever reaches them (Riak KV documentation, reads, writes and hooks; this store's profile).
 #![tactic(auto)]
 
+mod backend;
 mod hooking;
 mod store;
 
