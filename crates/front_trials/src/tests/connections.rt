@@ -1,7 +1,7 @@
 //! Connections whose bytes are cut, that end early, or whose devices fail.
 
-use crate::tests::rows::{HOOKS, HTTP_SIBLINGS, Row};
-use crate::tests::store::OneState;
+use crate::tests::rows::{ENDS, HOOKS, HTTP_SIBLINGS, RESOLVERS, Row};
+use crate::tests::store::open;
 use httpfront::{FailSink, FailSource, Front, FrontFault, answers_to};
 use std::alloc::{AllocError, Global};
 use std::process::Abort;
@@ -18,16 +18,15 @@ fn bytes_of(alloc: Global, rows: &[Row]) -> Result<(Vec<u8>, Vec<u8>), AllocErro
     Ok((asked, told))
 }
 
-/// What a connection comes to on a store of its own, and what was written.
+/// What a connection comes to on a store of its own.
 fn connect(
     alloc: Global,
     front: &mut Front,
-    mut source: FailSource<'_>,
-    mut sink: FailSink,
-) -> (Result<u64, FrontFault>, FailSink) {
-    let mut store = OneState::new(alloc);
-    let result = front.serve(&mut source, &mut sink, &mut store);
-    (result, sink)
+    source: &mut FailSource<'_>,
+    sink: &mut FailSink,
+) -> Result<Result<u64, FrontFault>, AllocError> {
+    let mut store = open(alloc)?;
+    Ok(front.serve(source, sink, &mut store))
 }
 
 /// Each of the rows is answered, whatever pieces the bytes come in and go out in.
@@ -36,9 +35,12 @@ fn in_pieces(rt: &impl Abort, alloc: Global, rows: &[Row]) -> Result<(), Fail> {
     let mut front = Front::new(alloc)?;
     let steps: [usize; 6] = [1, 2, 3, 61, 200, usize::MAX];
     for step in steps {
-        let source = FailSource::new(&asked, step, None);
-        let (result, sink) = connect(alloc, &mut front, source, FailSink::new(alloc, step, None));
-        assert_eq!(rt; result?, rows.len() as u64);
+        let mut source = FailSource::new(&asked, step, None);
+        let mut sink = FailSink::new(alloc, step, None);
+        assert_eq!(rt;
+            connect(alloc, &mut front, &mut source, &mut sink)??,
+            rows.len() as u64
+        );
         assert_eq!(rt; sink.bytes.as_slice(), told.as_slice());
     }
     Ok(())
@@ -54,15 +56,24 @@ fn hooks_in_pieces(rt: HostRuntime) -> Result<(), Fail> {
     in_pieces(&rt, rt.alloc(), &HOOKS)
 }
 
+#[test]
+fn resolvers_in_pieces(rt: HostRuntime) -> Result<(), Fail> {
+    in_pieces(&rt, rt.alloc(), &RESOLVERS)
+}
+
+/// The answers to the bytes, on a store of their own.
+fn answers(alloc: Global, asked: &[u8]) -> Result<Vec<u8>, Fail> {
+    let mut store = open(alloc)?;
+    Ok(answers_to(alloc, asked, &mut store)?)
+}
+
 /// What comes behind a request after which the connection ends is not read.
 #[test]
 fn nothing_after_the_last(rt: HostRuntime) -> Result<(), Fail> {
     let alloc = rt.alloc();
-    let (mut asked, told) = bytes_of(alloc, &HOOKS)?;
+    let (mut asked, told) = bytes_of(alloc, &ENDS)?;
     asked.extend_from_slice(b"GET /ping HTTP/1.1\r\n\r\n")?;
-    let mut store = OneState::new(alloc);
-    let out = answers_to(alloc, &asked, &mut store)?;
-    assert_eq!(rt; out.as_slice(), told.as_slice());
+    assert_eq!(rt; answers(alloc, &asked)?.as_slice(), told.as_slice());
     Ok(())
 }
 
@@ -72,14 +83,9 @@ fn pipelined(rt: HostRuntime) -> Result<(), Fail> {
     let alloc = rt.alloc();
     let (asked, told) = bytes_of(alloc, &HTTP_SIBLINGS)?;
     let mut front = Front::new(alloc)?;
-    let source = FailSource::new(&asked, usize::MAX, None);
-    let (result, sink) = connect(
-        alloc,
-        &mut front,
-        source,
-        FailSink::new(alloc, usize::MAX, None),
-    );
-    assert_eq!(rt; result?, 9);
+    let mut source = FailSource::new(&asked, usize::MAX, None);
+    let mut sink = FailSink::new(alloc, usize::MAX, None);
+    assert_eq!(rt; connect(alloc, &mut front, &mut source, &mut sink)??, 9);
     assert_eq!(rt; sink.writes, 1);
     assert_eq!(rt; sink.bytes.as_slice(), told.as_slice());
     Ok(())
@@ -92,18 +98,34 @@ fn closed_early(rt: HostRuntime) -> Result<(), Fail> {
     let (asked, told) = bytes_of(alloc, &HTTP_SIBLINGS)?;
     let mut front = Front::new(alloc)?;
     for end in 0..asked.len() {
-        let source = FailSource::new(&asked[..end], usize::MAX, None);
-        let (result, sink) = connect(
-            alloc,
-            &mut front,
-            source,
-            FailSink::new(alloc, usize::MAX, None),
-        );
-        assert!(rt; result? < 9);
+        let mut source = FailSource::new(&asked[..end], usize::MAX, None);
+        let mut sink = FailSink::new(alloc, usize::MAX, None);
+        assert!(rt; connect(alloc, &mut front, &mut source, &mut sink)?? < 9);
         assert!(rt; sink.bytes.len() < told.len());
         assert!(rt; told.as_slice().starts_with(sink.bytes.as_slice()));
     }
     Ok(())
+}
+
+/// A connection whose devices fail at these calls, if any: how it ends is told by the count of the writes that failed, and a front
+/// of the answers was written.
+fn is_front(
+    alloc: Global,
+    front: &mut Front,
+    asked: &[u8],
+    told: &[u8],
+    read: Option<u64>,
+    write: Option<u64>,
+) -> Result<bool, Fail> {
+    let mut source = FailSource::new(asked, 61, read);
+    let mut sink = FailSink::new(alloc, 61, write);
+    let ended = match connect(alloc, front, &mut source, &mut sink)? {
+        Ok(count) => count == 9 && sink.failures == 0,
+        Err(FrontFault::Read) => read.is_some() && sink.failures == 0,
+        Err(FrontFault::Write) => sink.failures == 1,
+        Err(FrontFault::NoMemory) => false,
+    };
+    Ok(ended && told.starts_with(sink.bytes.as_slice()))
 }
 
 /// Whichever read or write fails, a front of the answers was written.
@@ -113,22 +135,8 @@ fn devices_that_fail(rt: HostRuntime) -> Result<(), Fail> {
     let (asked, told) = bytes_of(alloc, &HTTP_SIBLINGS)?;
     let mut front = Front::new(alloc)?;
     for number in 0..40 {
-        let source = FailSource::new(&asked, 61, Some(number));
-        let (result, sink) = connect(alloc, &mut front, source, FailSink::new(alloc, 61, None));
-        assert!(rt; result == Ok(9) || result == Err(FrontFault::Read));
-        assert!(rt; told.as_slice().starts_with(sink.bytes.as_slice()));
-        let source = FailSource::new(&asked, 61, None);
-        let (result, sink) = connect(
-            alloc,
-            &mut front,
-            source,
-            FailSink::new(alloc, 61, Some(number)),
-        );
-        assert!(rt;
-            (result == Ok(9) && sink.failures == 0)
-                || (result == Err(FrontFault::Write) && sink.failures == 1)
-        );
-        assert!(rt; told.as_slice().starts_with(sink.bytes.as_slice()));
+        assert!(rt; is_front(alloc, &mut front, &asked, &told, Some(number), None)?);
+        assert!(rt; is_front(alloc, &mut front, &asked, &told, None, Some(number))?);
     }
     Ok(())
 }

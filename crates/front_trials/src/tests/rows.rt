@@ -43,8 +43,8 @@ pub(crate) const HTTP_SIBLINGS: [Row; 9] = [
     ),
 ];
 
-/// Properties and hooks, the store's refusals, and a last request that asks for the end of the connection.
-pub(crate) const HOOKS: [Row; 8] = [
+/// Properties and hooks, and what the store refuses.
+pub(crate) const HOOKS: [Row; 7] = [
     (
         b"GET /buckets/b/props HTTP/1.1\r\nHost: h\r\n\r\n",
         b"HTTP/1.1 200 OK\r\nContent-Type: application/json\r\nContent-Length: 72\r\n\r\n{\"props\":{\"allow_mult\":true,\"n_val\":3,\"precommit\":null,\"resolver\":null}}",
@@ -66,9 +66,45 @@ pub(crate) const HOOKS: [Row; 8] = [
         b"HTTP/1.1 422 Unprocessable Entity\r\nContent-Type: text/plain\r\nContent-Length: 3\r\n\r\nG2\n",
     ),
     (
+        b"GET /buckets/b/props HTTP/1.1\r\nHost: h\r\n\r\n",
+        b"HTTP/1.1 200 OK\r\nContent-Type: application/json\r\nContent-Length: 72\r\n\r\n{\"props\":{\"allow_mult\":true,\"n_val\":3,\"precommit\":\"no\",\"resolver\":null}}",
+    ),
+    (
         b"DELETE /hooks/none HTTP/1.1\r\nHost: h\r\n\r\n",
         b"HTTP/1.1 404 Not Found\r\nContent-Type: text/plain\r\nContent-Length: 3\r\n\r\nG1\n",
     ),
+];
+
+/// A resolver that takes the first sibling.
+pub(crate) const RESOLVERS: [Row; 6] = [
+    (
+        b"PUT /hooks/take HTTP/1.1\r\nHost: h\r\nContent-Length: 32\r\n\r\nRBPF\x01\x02\x00\x00\x80\x00\x00\x00\x00\x00\x00\x00\xb7\x00\x00\x00\x00\x01\x00\x00\x95\x00\x00\x00\x00\x00\x00\x00",
+        b"HTTP/1.1 204 No Content\r\n\r\n",
+    ),
+    (
+        b"PUT /buckets/c/props HTTP/1.1\r\nHost: h\r\nContent-Length: 29\r\n\r\n{\"props\":{\"resolver\":\"take\"}}",
+        b"HTTP/1.1 204 No Content\r\n\r\n",
+    ),
+    (
+        b"PUT /buckets/c/keys/k?at=0 HTTP/1.1\r\nHost: h\r\nContent-Type: text/plain\r\nContent-Length: 1\r\n\r\na",
+        b"HTTP/1.1 204 No Content\r\nX-Riak-Tag: 0-1\r\n\r\n",
+    ),
+    (
+        b"PUT /buckets/c/keys/k?at=1 HTTP/1.1\r\nHost: h\r\nContent-Type: text/plain\r\nContent-Length: 1\r\n\r\nb",
+        b"HTTP/1.1 204 No Content\r\nX-Riak-Tag: 1-1\r\n\r\n",
+    ),
+    (
+        b"GET /buckets/c/keys/k HTTP/1.1\r\nHost: h\r\n\r\n",
+        b"HTTP/1.1 200 OK\r\nContent-Type: text/plain\r\nX-Riak-Vclock: AQACAAAAAAAAAAAAAAACAAAAAQAAAAAAAAAB\r\nContent-Length: 1\r\n\r\na",
+    ),
+    (
+        b"DELETE /hooks/take HTTP/1.1\r\nHost: h\r\n\r\n",
+        b"HTTP/1.1 204 No Content\r\n\r\n",
+    ),
+];
+
+/// No route, and a last request that asks for the end of the connection.
+pub(crate) const ENDS: [Row; 2] = [
     (
         b"GET /none HTTP/1.1\r\nHost: h\r\n\r\n",
         b"HTTP/1.1 404 Not Found\r\nContent-Type: text/plain\r\nContent-Length: 9\r\n\r\nno route\n",
