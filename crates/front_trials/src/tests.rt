@@ -1,5 +1,5 @@
 //! The tests of connections.
 
 mod connections;
+mod opening;
 mod rows;
-mod store;

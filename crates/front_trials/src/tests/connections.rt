@@ -1,7 +1,7 @@
 //! Connections whose bytes are cut, that end early, or whose devices fail.
 
+use crate::tests::opening::open;
 use crate::tests::rows::{ENDS, HOOKS, HTTP_SIBLINGS, RESOLVERS, Row};
-use crate::tests::store::open;
 use httpfront::{FailSink, FailSource, Front, FrontFault, answers_to};
 use std::alloc::{AllocError, Global};
 use std::process::Abort;

@@ -5,121 +5,126 @@ use helpers::Table;
 use script::sim;
 use std::test::Fail;
 
+/// Scripts with a bad line, and what they print.
+const BAD_LINES: [(&str, &str); 49] = [
+    ("vnodes 1", "bad line 1\n"),
+    ("vnodes 0\n", "bad line 1\n"),
+    ("vnodes 65\n", "bad line 1\n"),
+    ("vnodes 01\n", "bad line 1\n"),
+    ("vnodes +1\n", "bad line 1\n"),
+    ("vnodes 18446744073709551617\n", "bad line 1\n"),
+    ("vnodes\n", "bad line 1\n"),
+    ("vnodes  1\n", "bad line 1\n"),
+    ("vnodes 1 \n", "bad line 1\n"),
+    (" vnodes 1\n", "bad line 1\n"),
+    ("vnodes 1 1\n", "bad line 1\n"),
+    ("vnodes 1\r\n", "bad line 1\n"),
+    ("put 0 k a -\n", "bad line 1\n"),
+    ("get 0 k g\n", "bad line 1\n"),
+    ("vnodes 1\nvnodes 1\n", "bad line 2\n"),
+    ("vnodes 1\n\n# x\nput 1 k a -\n", "bad line 4\n"),
+    ("vnodes 1\nput 0 k a\n", "bad line 2\n"),
+    ("vnodes 1\nput 0 k a - -\n", "bad line 2\n"),
+    ("vnodes 1\nput 0 k a @g\n", "bad line 2\n"),
+    ("vnodes 1\nput 0 k a @\n", "bad line 2\n"),
+    ("vnodes 1\nput 0 k a *\n", "bad line 2\n"),
+    ("vnodes 1\nput 0 k a --\n", "bad line 2\n"),
+    ("vnodes 1\nput 0 k- a -\n", "bad line 2\n"),
+    ("vnodes 1\nput 0  a -\n", "bad line 2\n"),
+    (
+        "vnodes 1\nget 0 1234567890123456789012345678901234567890123456789012345678901234 g\nget 0 12345678901234567890123456789012345678901234567890123456789012345 g\n",
+        "none AQAA\nbad line 3\n",
+    ),
+    ("vnodes 1\ndel 0 k a -\n", "bad line 2\n"),
+    ("vnodes 1\nsend 0 k m\nput 0 k a @m\n", "ok\nbad line 3\n"),
+    (
+        "vnodes 1\nget 0 k g\ndeliver g 0\n",
+        "none AQAA\nbad line 3\n",
+    ),
+    (
+        "vnodes 1\nget 0 k g\nsend 0 k g\nput 0 k a @g\n",
+        "none AQAA\nok\nbad line 4\n",
+    ),
+    ("vnodes 1\ndeliver m 0\n", "bad line 2\n"),
+    ("vnodes 1\nsend 0 k m\ndeliver m 1\n", "ok\nbad line 3\n"),
+    ("vnodes 1\nrestart 1\n", "bad line 2\n"),
+    ("vnodes 1\nrestart 00\n", "bad line 2\n"),
+    ("vnodes 1\nresolve g take.img\n", "bad line 2\n"),
+    (
+        "vnodes 1\nsend 0 k g\nresolve g take.img\n",
+        "ok\nbad line 3\n",
+    ),
+    (
+        "vnodes 1\nget 0 k g\nresolve g absent.img\n",
+        "none AQAA\nbad line 3\n",
+    ),
+    (
+        "vnodes 1\nget 0 k g\nresolve g\n",
+        "none AQAA\nbad line 3\n",
+    ),
+    (
+        "vnodes 1\nget 0 k g\nresolve g take.img x\n",
+        "none AQAA\nbad line 3\n",
+    ),
+    ("vnodes 1\ncommit 1 g\n", "bad line 2\n"),
+    ("vnodes 1\ncommit 0\n", "bad line 2\n"),
+    ("vnodes 1\ncommit 0 g g\n", "bad line 2\n"),
+    ("vnodes 1\ncheck 1 k a no.img\n", "bad line 2\n"),
+    ("vnodes 1\ncheck 0 k a absent.img\n", "bad line 2\n"),
+    ("vnodes 1\ncheck 0 k a- no.img\n", "bad line 2\n"),
+    ("vnodes 1\ncheck 0 k a\n", "bad line 2\n"),
+    (
+        "vnodes 1\nput 0 k a -\ncheck 0 k a no.img\ncheck 0 k a absent.img\nput 0 k b -\n",
+        "0-1\nreject 1\nbad line 4\n",
+    ),
+    ("vnodes 1\nfrobnicate\n", "bad line 2\n"),
+    ("vnodes 1\nput 0 k é -\n", "bad line 2\n"),
+    (
+        "vnodes 1\nput 0 k a -\nnonsense\nput 0 k b -\n",
+        "0-1\nbad line 3\n",
+    ),
+];
+
 #[test]
 fn bad_lines(rt: HostRuntime) -> Result<(), Fail> {
-    for (script, want) in [
-        ("vnodes 1", "bad line 1\n"),
-        ("vnodes 0\n", "bad line 1\n"),
-        ("vnodes 65\n", "bad line 1\n"),
-        ("vnodes 01\n", "bad line 1\n"),
-        ("vnodes +1\n", "bad line 1\n"),
-        ("vnodes 18446744073709551617\n", "bad line 1\n"),
-        ("vnodes\n", "bad line 1\n"),
-        ("vnodes  1\n", "bad line 1\n"),
-        ("vnodes 1 \n", "bad line 1\n"),
-        (" vnodes 1\n", "bad line 1\n"),
-        ("vnodes 1 1\n", "bad line 1\n"),
-        ("vnodes 1\r\n", "bad line 1\n"),
-        ("put 0 k a -\n", "bad line 1\n"),
-        ("get 0 k g\n", "bad line 1\n"),
-        ("vnodes 1\nvnodes 1\n", "bad line 2\n"),
-        ("vnodes 1\n\n# x\nput 1 k a -\n", "bad line 4\n"),
-        ("vnodes 1\nput 0 k a\n", "bad line 2\n"),
-        ("vnodes 1\nput 0 k a - -\n", "bad line 2\n"),
-        ("vnodes 1\nput 0 k a @g\n", "bad line 2\n"),
-        ("vnodes 1\nput 0 k a @\n", "bad line 2\n"),
-        ("vnodes 1\nput 0 k a *\n", "bad line 2\n"),
-        ("vnodes 1\nput 0 k a --\n", "bad line 2\n"),
-        ("vnodes 1\nput 0 k- a -\n", "bad line 2\n"),
-        ("vnodes 1\nput 0  a -\n", "bad line 2\n"),
-        (
-            "vnodes 1\nget 0 1234567890123456789012345678901234567890123456789012345678901234 g\nget 0 12345678901234567890123456789012345678901234567890123456789012345 g\n",
-            "none AQAA\nbad line 3\n",
-        ),
-        ("vnodes 1\ndel 0 k a -\n", "bad line 2\n"),
-        ("vnodes 1\nsend 0 k m\nput 0 k a @m\n", "ok\nbad line 3\n"),
-        (
-            "vnodes 1\nget 0 k g\ndeliver g 0\n",
-            "none AQAA\nbad line 3\n",
-        ),
-        (
-            "vnodes 1\nget 0 k g\nsend 0 k g\nput 0 k a @g\n",
-            "none AQAA\nok\nbad line 4\n",
-        ),
-        ("vnodes 1\ndeliver m 0\n", "bad line 2\n"),
-        ("vnodes 1\nsend 0 k m\ndeliver m 1\n", "ok\nbad line 3\n"),
-        ("vnodes 1\nrestart 1\n", "bad line 2\n"),
-        ("vnodes 1\nrestart 00\n", "bad line 2\n"),
-        ("vnodes 1\nresolve g take.img\n", "bad line 2\n"),
-        (
-            "vnodes 1\nsend 0 k g\nresolve g take.img\n",
-            "ok\nbad line 3\n",
-        ),
-        (
-            "vnodes 1\nget 0 k g\nresolve g absent.img\n",
-            "none AQAA\nbad line 3\n",
-        ),
-        (
-            "vnodes 1\nget 0 k g\nresolve g\n",
-            "none AQAA\nbad line 3\n",
-        ),
-        (
-            "vnodes 1\nget 0 k g\nresolve g take.img x\n",
-            "none AQAA\nbad line 3\n",
-        ),
-        ("vnodes 1\ncommit 1 g\n", "bad line 2\n"),
-        ("vnodes 1\ncommit 0\n", "bad line 2\n"),
-        ("vnodes 1\ncommit 0 g g\n", "bad line 2\n"),
-        ("vnodes 1\ncheck 1 k a no.img\n", "bad line 2\n"),
-        ("vnodes 1\ncheck 0 k a absent.img\n", "bad line 2\n"),
-        ("vnodes 1\ncheck 0 k a- no.img\n", "bad line 2\n"),
-        ("vnodes 1\ncheck 0 k a\n", "bad line 2\n"),
-        (
-            "vnodes 1\nput 0 k a -\ncheck 0 k a no.img\ncheck 0 k a absent.img\nput 0 k b -\n",
-            "0-1\nreject 1\nbad line 4\n",
-        ),
-        ("vnodes 1\nfrobnicate\n", "bad line 2\n"),
-        ("vnodes 1\nput 0 k é -\n", "bad line 2\n"),
-        (
-            "vnodes 1\nput 0 k a -\nnonsense\nput 0 k b -\n",
-            "0-1\nbad line 3\n",
-        ),
-    ] {
+    for (script, want) in BAD_LINES {
         check(&rt, rt.alloc(), script, script.as_bytes(), want, 2)?;
     }
     Ok(())
 }
 
-/// Why a line is bad.
+/// Lines that are bad behind a get and a send, and why.
+const REASONS: [(&str, &str); 19] = [
+    ("restart 0", "no line feed at the end"),
+    ("frobnicate\n", "no such line"),
+    (" restart 0\n", "no such line"),
+    ("restart 0\r\n", "a number that is no decimal"),
+    ("restart\n", "too many or too few words"),
+    ("restart 0 0\n", "too many or too few words"),
+    ("restart 00\n", "a number that is no decimal"),
+    (
+        "put 0 k- a -\n",
+        "a word that is not 1 to 64 letters and digits",
+    ),
+    (
+        "put 0 k a *\n",
+        "a context that is none of -, @NAME and =TOKEN",
+    ),
+    ("vnodes 1\n", "vnodes stands once"),
+    ("restart 2\n", "no vnode 2"),
+    ("put 0 k a @m\n", "no get named m"),
+    ("put 0 k a @x\n", "no get named x"),
+    ("deliver g 0\n", "no send named g"),
+    ("resolve x take.img\n", "no get named x"),
+    ("commit 0 x\n", "no get named x"),
+    ("commit 0 m\n", "no get named m"),
+    ("resolve g absent.img\n", "no file absent.img"),
+    ("check 0 k a absent.img\n", "no file absent.img"),
+];
+
 #[test]
 fn reasons(rt: HostRuntime) -> Result<(), Fail> {
-    for (line, want) in [
-        ("restart 0", "no line feed at the end"),
-        ("frobnicate\n", "no such line"),
-        (" restart 0\n", "no such line"),
-        ("restart 0\r\n", "a number that is no decimal"),
-        ("restart\n", "too many or too few words"),
-        ("restart 0 0\n", "too many or too few words"),
-        ("restart 00\n", "a number that is no decimal"),
-        (
-            "put 0 k- a -\n",
-            "a word that is not 1 to 64 letters and digits",
-        ),
-        (
-            "put 0 k a *\n",
-            "a context that is none of -, @NAME and =TOKEN",
-        ),
-        ("vnodes 1\n", "vnodes stands once"),
-        ("restart 2\n", "no vnode 2"),
-        ("put 0 k a @m\n", "no get named m"),
-        ("put 0 k a @x\n", "no get named x"),
-        ("deliver g 0\n", "no send named g"),
-        ("resolve x take.img\n", "no get named x"),
-        ("commit 0 x\n", "no get named x"),
-        ("commit 0 m\n", "no get named m"),
-        ("resolve g absent.img\n", "no file absent.img"),
-        ("check 0 k a absent.img\n", "no file absent.img"),
-    ] {
+    for (line, want) in REASONS {
         let mut script = String::from_str(rt.alloc(), "vnodes 1\nget 0 k g\nsend 0 k m\n")?;
         script.push_str(line)?;
         let mut out = Vec::new(rt.alloc());

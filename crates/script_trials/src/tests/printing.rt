@@ -4,102 +4,105 @@ use crate::tests::shelf::check;
 use std::fmt::Write;
 use std::test::Fail;
 
+/// A name, a script, and what it prints.
+const SCRIPTS: [(&str, &str, &str); 20] = [
+    (
+        "two_siblings",
+        "vnodes 1\nput 0 k a -\nput 0 k b -\nget 0 k g\n",
+        "0-1\n0-2\n0-1=a 0-2=b AQABAAAAAAAAAAAAAAAC\n",
+    ),
+    (
+        "context_supersedes",
+        "vnodes 2\nput 0 k a -\nsend 0 k m\nput 0 k b -\nget 0 k g\nput 0 k c @g\ndeliver m 0\ndeliver m 0\nget 0 k h\n",
+        "0-1\nok\n0-2\n0-1=a 0-2=b AQABAAAAAAAAAAAAAAAC\n0-3\nsame\nsame\n0-3=c AQABAAAAAAAAAAAAAAAD\n",
+    ),
+    (
+        "context_ahead",
+        "vnodes 2\nput 0 k x =AQABAAAAAQAAAAAAAAPo\nget 0 k g\n",
+        "P1\nnone AQAA\n",
+    ),
+    (
+        "tombstone_beside_value",
+        "vnodes 2\nput 0 k a -\nget 0 k g\nput 1 k b -\ndel 0 k @g\nsend 1 k m\ndeliver m 0\nget 0 k h\n",
+        "0-1\n0-1=a AQABAAAAAAAAAAAAAAAB\n1-1\n0-2\nok\nchanged\n0-2! 1-1=b AQACAAAAAAAAAAAAAAACAAAAAQAAAAAAAAAB\n",
+    ),
+    (
+        "tokens",
+        "vnodes 1\nput 0 k a =AQAA\nput 0 k a =AgAA\nput 0 k a =AQAB\nput 0 k a =AQA\nput 0 k a =\nput 0 k a =AQACAAAAAAAAAAAAAAABAAAAAAAAAAAAAAAB\nput 0 k a =AQQB\nput 0 k a =AQABAAAAAAAAAAAAAAAA\nput 0 k b =AQABAAAAAAAAAAAAAAAB\nget 0 k g\n",
+        "0-1\nK2\nK4\nK1\nK4\nK3\nK5\nK5\n0-2\n0-2=b AQABAAAAAAAAAAAAAAAC\n",
+    ),
+    (
+        "restart_keeps_all",
+        "vnodes 2\nput 0 k a -\nget 0 k g\nput 0 k b @g\nrestart 0\nput 0 k c -\nrestart 1\nget 0 k h\n",
+        "0-1\n0-1=a AQABAAAAAAAAAAAAAAAB\n0-2\nok\n0-3\nok\n0-2=b 0-3=c AQABAAAAAAAAAAAAAAAD\n",
+    ),
+    (
+        "the latest line of a name counts",
+        "vnodes 1\nget 0 k g\nput 0 k a -\nget 0 k g\nput 0 k b @g\nget 0 k h\n",
+        "none AQAA\n0-1\n0-1=a AQABAAAAAAAAAAAAAAAB\n0-2\n0-2=b AQABAAAAAAAAAAAAAAAC\n",
+    ),
+    (
+        "lost, repeated and late messages",
+        "vnodes 3\nput 0 k a -\nsend 0 k m\nsend 0 k lost\nput 0 k b -\nsend 0 k n\ndeliver n 1\ndeliver m 1\ndeliver n 1\ndeliver m 2\nget 1 k g\nget 2 k h\n",
+        "0-1\nok\nok\n0-2\nok\nchanged\nsame\nsame\nchanged\n0-1=a 0-2=b AQABAAAAAAAAAAAAAAAC\n0-1=a AQABAAAAAAAAAAAAAAAB\n",
+    ),
+    (
+        "an event that names a refused one",
+        "vnodes 1\n# a comment\n\nput 0 k a =AQABAAAAAAAAAAAAAAAB\nput 0 k a -\n",
+        "P1\n0-1\n",
+    ),
+    (
+        "resolver_takes_first",
+        "vnodes 3\nput 0 k a -\nput 1 k b -\nsend 1 k m\ndeliver m 0\nget 0 k g\nresolve g take.img\nput 2 k c -\nsend 2 k n\ndeliver n 0\ncommit 0 g\nget 0 k h\n",
+        "0-1\n1-1\nok\nchanged\n0-1=a 1-1=b AQACAAAAAAAAAAAAAAABAAAAAQAAAAAAAAAB\ntake 0\n2-1\nok\nchanged\n0-2\n0-2=a 2-1=c AQADAAAAAAAAAAAAAAACAAAAAQAAAAAAAAABAAAAAgAAAAAAAAAB\n",
+    ),
+    (
+        "verdicts of a resolver",
+        "vnodes 1\nput 0 k a -\nget 0 k g\nresolve g keep.img\ncommit 0 g\nresolve g delete.img\ncommit 0 g\nget 0 k h\nresolve h wordless.img\ncommit 0 h\nget 0 k i\nresolve i empty.img\ncommit 0 i\nget 0 k j\nresolve j unknown.img\ncommit 0 j\nresolve j roomless.img\ncommit 0 j\nresolve j tenth.img\ncommit 0 j\nresolve j narrow.img\ncommit 0 j\nget 0 k l\n",
+        "0-1\n0-1=a AQABAAAAAAAAAAAAAAAB\nkeep\nnothing\ndelete\n0-2\n0-2! AQABAAAAAAAAAAAAAAAC\nwrite ff0a\n0-3\n0-3:ff0a AQABAAAAAAAAAAAAAAAD\nwrite \n0-4\n0-4: AQABAAAAAAAAAAAAAAAE\nbad B1\nnothing\nbad B2\nnothing\nbad B3\nnothing\ntake 0\n0-5\n0-5: AQABAAAAAAAAAAAAAAAF\n",
+    ),
+    (
+        "a window with no room",
+        "vnodes 1\nput 0 k a -\nget 0 k g\nresolve g narrow.img\ncommit 0 g\n",
+        "0-1\n0-1=a AQABAAAAAAAAAAAAAAAB\nlarge\nnothing\n",
+    ),
+    (
+        "what is committed keeps its context",
+        "vnodes 2\nput 0 k a -\nget 0 k g\nresolve g take.img\ncommit 1 g\nsend 0 k m\ndeliver m 1\ncommit 1 g\ncommit 1 g\nput 0 k b -\ncommit 0 g\nget 0 k h\nget 1 k i\n",
+        "0-1\n0-1=a AQABAAAAAAAAAAAAAAAB\ntake 0\nP1\nok\nchanged\n1-1\n1-2\n0-2\n0-3\n0-2=b 0-3=a AQABAAAAAAAAAAAAAAAD\n1-1=a 1-2=a AQACAAAAAAAAAAAAAAABAAAAAQAAAAAAAAAC\n",
+    ),
+    (
+        "the last resolve of a name counts",
+        "vnodes 1\nput 0 k a -\nget 0 k g\ncommit 0 g\nresolve g take.img\nresolve g keep.img\ncommit 0 g\nresolve g take.img\nresolve g no.img\ncommit 0 g\nresolve g take.img\nget 0 l g\ncommit 0 g\nsend 0 k g\ncommit 0 g\n",
+        "0-1\n0-1=a AQABAAAAAAAAAAAAAAAB\nnothing\ntake 0\nkeep\nnothing\ntake 0\nrefused G2\nnothing\ntake 0\nnone AQAA\n0-2\nok\n0-3\n",
+    ),
+    (
+        "a tombstone is taken",
+        "vnodes 1\ndel 0 k -\nget 0 k g\nresolve g take.img\ncommit 0 g\nget 0 k h\n",
+        "0-1\n0-1! AQABAAAAAAAAAAAAAAAB\ntake 0\n0-2\n0-2! AQABAAAAAAAAAAAAAAAC\n",
+    ),
+    (
+        "nothing to take",
+        "vnodes 1\nget 0 k g\nresolve g take.img\ncommit 0 g\nget 0 k h\n",
+        "none AQAA\nbad B3\nnothing\nnone AQAA\n",
+    ),
+    (
+        "images that are refused",
+        "vnodes 1\nget 0 k g\nresolve g mark.img\nresolve g short.img\nresolve g outside.img\nresolve g code.img\nresolve g plain.img\nresolve g no.img\ncheck 0 k a take.img\ncheck 0 k a mark.img\ncheck 0 k a outside.img\ncommit 0 g\n",
+        "none AQAA\nrefused I2\nrefused I1\nrefused V24 0\nrefused D7 0\nrefused G2\nrefused G2\nrefused G2\nrefused I2\nrefused V24 0\nnothing\n",
+    ),
+    (
+        "verdicts of a pre-commit hook",
+        "vnodes 1\ncheck 0 k a no.img\ncheck 0 k a no40.img\ncheck 0 k a no41.img\ncheck 0 k a pass.img\ncheck 0 k a change.img\ncheck 0 k a odd.img\ncheck 0 k a wide.img\nget 0 k g\nput 0 k b -\ncheck 0 k a no41.img\ncheck 0 k a no.img\nget 0 k h\n",
+        "reject 1\nlarge\nreject 1\npass\nwrite 610000\nbad B1\nbad B2\nnone AQAA\n0-1\nlarge\nreject 1\n0-1=b AQABAAAAAAAAAAAAAAAB\n",
+    ),
+    ("nothing at all", "", ""),
+    ("no line that counts", "\n# nothing\n\n", ""),
+];
+
 #[test]
 fn worked_rows(rt: HostRuntime) -> Result<(), Fail> {
-    for (name, script, want) in [
-        (
-            "two_siblings",
-            "vnodes 1\nput 0 k a -\nput 0 k b -\nget 0 k g\n",
-            "0-1\n0-2\n0-1=a 0-2=b AQABAAAAAAAAAAAAAAAC\n",
-        ),
-        (
-            "context_supersedes",
-            "vnodes 2\nput 0 k a -\nsend 0 k m\nput 0 k b -\nget 0 k g\nput 0 k c @g\ndeliver m 0\ndeliver m 0\nget 0 k h\n",
-            "0-1\nok\n0-2\n0-1=a 0-2=b AQABAAAAAAAAAAAAAAAC\n0-3\nsame\nsame\n0-3=c AQABAAAAAAAAAAAAAAAD\n",
-        ),
-        (
-            "context_ahead",
-            "vnodes 2\nput 0 k x =AQABAAAAAQAAAAAAAAPo\nget 0 k g\n",
-            "P1\nnone AQAA\n",
-        ),
-        (
-            "tombstone_beside_value",
-            "vnodes 2\nput 0 k a -\nget 0 k g\nput 1 k b -\ndel 0 k @g\nsend 1 k m\ndeliver m 0\nget 0 k h\n",
-            "0-1\n0-1=a AQABAAAAAAAAAAAAAAAB\n1-1\n0-2\nok\nchanged\n0-2! 1-1=b AQACAAAAAAAAAAAAAAACAAAAAQAAAAAAAAAB\n",
-        ),
-        (
-            "tokens",
-            "vnodes 1\nput 0 k a =AQAA\nput 0 k a =AgAA\nput 0 k a =AQAB\nput 0 k a =AQA\nput 0 k a =\nput 0 k a =AQACAAAAAAAAAAAAAAABAAAAAAAAAAAAAAAB\nput 0 k a =AQQB\nput 0 k a =AQABAAAAAAAAAAAAAAAA\nput 0 k b =AQABAAAAAAAAAAAAAAAB\nget 0 k g\n",
-            "0-1\nK2\nK4\nK1\nK4\nK3\nK5\nK5\n0-2\n0-2=b AQABAAAAAAAAAAAAAAAC\n",
-        ),
-        (
-            "restart_keeps_all",
-            "vnodes 2\nput 0 k a -\nget 0 k g\nput 0 k b @g\nrestart 0\nput 0 k c -\nrestart 1\nget 0 k h\n",
-            "0-1\n0-1=a AQABAAAAAAAAAAAAAAAB\n0-2\nok\n0-3\nok\n0-2=b 0-3=c AQABAAAAAAAAAAAAAAAD\n",
-        ),
-        (
-            "the latest line of a name counts",
-            "vnodes 1\nget 0 k g\nput 0 k a -\nget 0 k g\nput 0 k b @g\nget 0 k h\n",
-            "none AQAA\n0-1\n0-1=a AQABAAAAAAAAAAAAAAAB\n0-2\n0-2=b AQABAAAAAAAAAAAAAAAC\n",
-        ),
-        (
-            "lost, repeated and late messages",
-            "vnodes 3\nput 0 k a -\nsend 0 k m\nsend 0 k lost\nput 0 k b -\nsend 0 k n\ndeliver n 1\ndeliver m 1\ndeliver n 1\ndeliver m 2\nget 1 k g\nget 2 k h\n",
-            "0-1\nok\nok\n0-2\nok\nchanged\nsame\nsame\nchanged\n0-1=a 0-2=b AQABAAAAAAAAAAAAAAAC\n0-1=a AQABAAAAAAAAAAAAAAAB\n",
-        ),
-        (
-            "an event that names a refused one",
-            "vnodes 1\n# a comment\n\nput 0 k a =AQABAAAAAAAAAAAAAAAB\nput 0 k a -\n",
-            "P1\n0-1\n",
-        ),
-        (
-            "resolver_takes_first",
-            "vnodes 3\nput 0 k a -\nput 1 k b -\nsend 1 k m\ndeliver m 0\nget 0 k g\nresolve g take.img\nput 2 k c -\nsend 2 k n\ndeliver n 0\ncommit 0 g\nget 0 k h\n",
-            "0-1\n1-1\nok\nchanged\n0-1=a 1-1=b AQACAAAAAAAAAAAAAAABAAAAAQAAAAAAAAAB\ntake 0\n2-1\nok\nchanged\n0-2\n0-2=a 2-1=c AQADAAAAAAAAAAAAAAACAAAAAQAAAAAAAAABAAAAAgAAAAAAAAAB\n",
-        ),
-        (
-            "verdicts of a resolver",
-            "vnodes 1\nput 0 k a -\nget 0 k g\nresolve g keep.img\ncommit 0 g\nresolve g delete.img\ncommit 0 g\nget 0 k h\nresolve h wordless.img\ncommit 0 h\nget 0 k i\nresolve i empty.img\ncommit 0 i\nget 0 k j\nresolve j unknown.img\ncommit 0 j\nresolve j roomless.img\ncommit 0 j\nresolve j tenth.img\ncommit 0 j\nresolve j narrow.img\ncommit 0 j\nget 0 k l\n",
-            "0-1\n0-1=a AQABAAAAAAAAAAAAAAAB\nkeep\nnothing\ndelete\n0-2\n0-2! AQABAAAAAAAAAAAAAAAC\nwrite ff0a\n0-3\n0-3:ff0a AQABAAAAAAAAAAAAAAAD\nwrite \n0-4\n0-4: AQABAAAAAAAAAAAAAAAE\nbad B1\nnothing\nbad B2\nnothing\nbad B3\nnothing\ntake 0\n0-5\n0-5: AQABAAAAAAAAAAAAAAAF\n",
-        ),
-        (
-            "a window with no room",
-            "vnodes 1\nput 0 k a -\nget 0 k g\nresolve g narrow.img\ncommit 0 g\n",
-            "0-1\n0-1=a AQABAAAAAAAAAAAAAAAB\nlarge\nnothing\n",
-        ),
-        (
-            "what is committed keeps its context",
-            "vnodes 2\nput 0 k a -\nget 0 k g\nresolve g take.img\ncommit 1 g\nsend 0 k m\ndeliver m 1\ncommit 1 g\ncommit 1 g\nput 0 k b -\ncommit 0 g\nget 0 k h\nget 1 k i\n",
-            "0-1\n0-1=a AQABAAAAAAAAAAAAAAAB\ntake 0\nP1\nok\nchanged\n1-1\n1-2\n0-2\n0-3\n0-2=b 0-3=a AQABAAAAAAAAAAAAAAAD\n1-1=a 1-2=a AQACAAAAAAAAAAAAAAABAAAAAQAAAAAAAAAC\n",
-        ),
-        (
-            "the last resolve of a name counts",
-            "vnodes 1\nput 0 k a -\nget 0 k g\ncommit 0 g\nresolve g take.img\nresolve g keep.img\ncommit 0 g\nresolve g take.img\nresolve g no.img\ncommit 0 g\nresolve g take.img\nget 0 l g\ncommit 0 g\nsend 0 k g\ncommit 0 g\n",
-            "0-1\n0-1=a AQABAAAAAAAAAAAAAAAB\nnothing\ntake 0\nkeep\nnothing\ntake 0\nrefused G2\nnothing\ntake 0\nnone AQAA\n0-2\nok\n0-3\n",
-        ),
-        (
-            "a tombstone is taken",
-            "vnodes 1\ndel 0 k -\nget 0 k g\nresolve g take.img\ncommit 0 g\nget 0 k h\n",
-            "0-1\n0-1! AQABAAAAAAAAAAAAAAAB\ntake 0\n0-2\n0-2! AQABAAAAAAAAAAAAAAAC\n",
-        ),
-        (
-            "nothing to take",
-            "vnodes 1\nget 0 k g\nresolve g take.img\ncommit 0 g\nget 0 k h\n",
-            "none AQAA\nbad B3\nnothing\nnone AQAA\n",
-        ),
-        (
-            "images that are refused",
-            "vnodes 1\nget 0 k g\nresolve g mark.img\nresolve g short.img\nresolve g outside.img\nresolve g code.img\nresolve g plain.img\nresolve g no.img\ncheck 0 k a take.img\ncheck 0 k a mark.img\ncheck 0 k a outside.img\ncommit 0 g\n",
-            "none AQAA\nrefused I2\nrefused I1\nrefused V24 0\nrefused D7 0\nrefused G2\nrefused G2\nrefused G2\nrefused I2\nrefused V24 0\nnothing\n",
-        ),
-        (
-            "verdicts of a pre-commit hook",
-            "vnodes 1\ncheck 0 k a no.img\ncheck 0 k a no40.img\ncheck 0 k a no41.img\ncheck 0 k a pass.img\ncheck 0 k a change.img\ncheck 0 k a odd.img\ncheck 0 k a wide.img\nget 0 k g\nput 0 k b -\ncheck 0 k a no41.img\ncheck 0 k a no.img\nget 0 k h\n",
-            "reject 1\nlarge\nreject 1\npass\nwrite 610000\nbad B1\nbad B2\nnone AQAA\n0-1\nlarge\nreject 1\n0-1=b AQABAAAAAAAAAAAAAAAB\n",
-        ),
-        ("nothing at all", "", ""),
-        ("no line that counts", "\n# nothing\n\n", ""),
-    ] {
+    for (name, script, want) in SCRIPTS {
         check(&rt, rt.alloc(), name, script.as_bytes(), want, 0)?;
     }
     Ok(())
