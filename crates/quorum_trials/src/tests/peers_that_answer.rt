@@ -180,30 +180,33 @@ fn refusals_of_the_second_put(rt: HostRuntime) -> Result<(), Fail> {
     Ok(())
 }
 
+/// What a put at vnode 0 under a hook that lets all through answers.
+fn put_under_hook(alloc: Global, peers: &mut Scripted) -> Result<Result<Dot, QuorumFault>, Fail> {
+    let key = key_of(alloc, b"k")?;
+    let content = content_of(alloc, b"a")?;
+    let hook = program(alloc, PRE_COMMIT, 128, &answer(0))?;
+    let seen = Clock::new(alloc);
+    put_hooked(alloc, peers, hook, 0, &[1, 2], &key, &seen, &content, 1)
+}
+
+/// What it answers where its own read is refused, and how many calls it makes.
+fn refused_before_the_hook(
+    alloc: Global,
+    fault: VnodeFault,
+) -> Result<(Result<Dot, QuorumFault>, u64), Fail> {
+    let before = vec![in alloc; Said::State(Err(PeerFault::Refused(fault)))]?;
+    let mut peers = Scripted::new(before);
+    let back = put_under_hook(alloc, &mut peers)?;
+    Ok((back, peers.calls))
+}
+
 /// So is that of the read before its hook.
 #[test]
 fn refusals_before_the_hook(rt: HostRuntime) -> Result<(), Fail> {
-    let alloc = rt.alloc();
-    let key = key_of(alloc, b"k")?;
-    let seen = Clock::new(alloc);
-    let content = content_of(alloc, b"a")?;
     for fault in REFUSALS {
-        let hook = program(alloc, PRE_COMMIT, 128, &answer(0))?;
-        let before = vec![in alloc; Said::State(Err(PeerFault::Refused(fault)))]?;
-        let mut peers = Scripted::new(before);
-        let back = put_hooked(
-            alloc,
-            &mut peers,
-            hook,
-            0,
-            &[1, 2],
-            &key,
-            &seen,
-            &content,
-            1,
-        )?;
+        let (back, calls) = refused_before_the_hook(rt.alloc(), fault)?;
         assert_eq!(rt; back, Err(QuorumFault::Refused(fault)), "{fault}");
-        assert_eq!(rt; peers.calls, 1, "{fault}");
+        assert_eq!(rt; calls, 1, "{fault}");
     }
     Ok(())
 }
@@ -223,35 +226,50 @@ fn answer_over(alloc: Global, first: u32, past: u32) -> Result<Said, Fail> {
     })))
 }
 
+/// Vnodes of which a get's first answer counts over vnodes 0 to 599, and its second over 500 to before the last.
+fn two_reads(alloc: Global, past: u32) -> Result<Scripted, Fail> {
+    let first = answer_over(alloc, 0, 600)?;
+    let second = answer_over(alloc, 500, past)?;
+    Ok(Scripted::new(vec![in alloc; first, second]?))
+}
+
+/// Over how many vnodes the clock that a get merges of them counts, and how many answered.
+fn merged(alloc: Global, past: u32) -> Result<Result<[usize; 2], QuorumFault>, Fail> {
+    let mut peers = two_reads(alloc, past)?;
+    let key = key_of(alloc, b"k")?;
+    match get(alloc, &mut peers, &key, &[0, 1], 2) {
+        Ok((state, answers)) => Ok(Ok([state.clock().entries().len(), answers.len()])),
+        Err(fault) => Ok(Err(fault)),
+    }
+}
+
 /// A merged clock may count over 1,024 vnodes, and no more.
 #[test]
 fn merges_that_pass_the_clock(rt: HostRuntime) -> Result<(), Fail> {
-    let alloc = rt.alloc();
-    let key = key_of(alloc, b"k")?;
-    let fits = vec![in alloc; answer_over(alloc, 0, 600)?, answer_over(alloc, 500, 1024)?]?;
-    let (state, answers) = get(alloc, &mut Scripted::new(fits), &key, &[0, 1], 2)?;
-    assert_eq!(rt; state.clock().entries().len(), 1024);
-    assert_eq!(rt; answers.len(), 2);
-    let passes = vec![in alloc; answer_over(alloc, 0, 600)?, answer_over(alloc, 500, 1025)?]?;
-    let full = get(alloc, &mut Scripted::new(passes), &key, &[0, 1], 2);
-    let want = QuorumFault::Refused(VnodeFault::MergedClockFull);
-    assert!(rt; full.is_err_and(|fault| fault == want));
+    let fits = merged(rt.alloc(), 1024)?;
+    assert_eq!(rt; fits, Ok([1024, 2]));
+    let passes = merged(rt.alloc(), 1025)?;
+    let full = Err(QuorumFault::Refused(VnodeFault::MergedClockFull));
+    assert_eq!(rt; passes, full);
     Ok(())
 }
+
+/// Faults, and how each is shown.
+const TEXTS: [(QuorumFault, &str); 8] = [
+    (QuorumFault::TooFew, "Q1"),
+    (QuorumFault::Refused(VnodeFault::ContextAhead), "P1"),
+    (QuorumFault::Refused(VnodeFault::NoMemory), "E1"),
+    (QuorumFault::Unseen, "G3"),
+    (QuorumFault::TooLarge, "X1"),
+    (QuorumFault::BadVerdict(BadAnswer::NoSuchSibling), "X2"),
+    (QuorumFault::Rejected(17), "X3 17"),
+    (QuorumFault::Disagrees, "X4"),
+];
 
 #[test]
 fn faults_show_their_numbers(rt: HostRuntime) -> Result<(), Fail> {
     let alloc = rt.alloc();
-    for (fault, want) in [
-        (QuorumFault::TooFew, "Q1"),
-        (QuorumFault::Refused(VnodeFault::ContextAhead), "P1"),
-        (QuorumFault::Refused(VnodeFault::NoMemory), "E1"),
-        (QuorumFault::Unseen, "G3"),
-        (QuorumFault::TooLarge, "X1"),
-        (QuorumFault::BadVerdict(BadAnswer::NoSuchSibling), "X2"),
-        (QuorumFault::Rejected(17), "X3 17"),
-        (QuorumFault::Disagrees, "X4"),
-    ] {
+    for (fault, want) in TEXTS {
         assert_eq!(rt; format!(in alloc; "{fault}")?.as_str(), want);
     }
     Ok(())
