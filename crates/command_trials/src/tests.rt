@@ -108,9 +108,9 @@ fn expect(
     let mut out = Vec::new(alloc);
     let mut err = Vec::new(alloc);
     let done = command_with_helpers(alloc, words, &mut shelf, &mut out, &mut err);
-    assert_eq!(rt; out.as_slice(), want.out.as_bytes(), "{name}");
+    let printed = (out.as_slice(), done);
+    assert_eq!(rt; printed, (want.out.as_bytes(), Ok(want.status)), "{name}");
     assert_eq!(rt; err.as_slice(), want.err.as_bytes(), "{name}");
-    assert_eq!(rt; done, Ok(want.status), "{name}");
 }
 
 /// Runs a program on an input.

@@ -1,5 +1,6 @@
 //! Programs that call helpers.
 use super::{BY_EIGHT, BY_NINE, EXIT, Slot, USED_FIRST, expect_run, image};
+use std::alloc::{AllocError, Global};
 use std::test::Fail;
 
 /// A name, the lengths of the windows, the slots of a program, an input, what running them prints, and the status.
@@ -430,14 +431,23 @@ const CALLED: [Called; 38] = [
     ),
 ];
 
+/// The image of a plain program with windows of these lengths.
+fn plain(
+    alloc: Global,
+    (in_len, out_len): (u8, u8),
+    slots: &[Slot],
+) -> Result<Vec<u8>, AllocError> {
+    let head = [
+        0x52, 0x42, 0x50, 0x46, 1, 0, 0, 0, in_len, 0, 0, 0, out_len, 0, 0, 0,
+    ];
+    image(alloc, &head, slots)
+}
+
 #[test]
 fn calls(rt: HostRuntime) -> Result<(), Fail> {
     let alloc = rt.alloc();
-    for (name, (in_len, out_len), slots, input, want, status) in &CALLED {
-        let head = [
-            0x52, 0x42, 0x50, 0x46, 1, 0, 0, 0, *in_len, 0, 0, 0, *out_len, 0, 0, 0,
-        ];
-        let bytes = image(alloc, &head, slots)?;
+    for (name, windows, slots, input, want, status) in &CALLED {
+        let bytes = plain(alloc, *windows, slots)?;
         expect_run(&rt, alloc, name, &bytes, input, (want, *status));
     }
     Ok(())

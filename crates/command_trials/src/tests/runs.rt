@@ -289,8 +289,8 @@ const WIDEST: [(usize, &str, u8); 5] = [
 fn inputs_of_the_widest_window(rt: HostRuntime) -> Result<(), Fail> {
     let alloc = rt.alloc();
     let answers_its_length = image(alloc, &WIDE, &[[0xbf, 0x20, 0, 0, 0, 0, 0, 0], EXIT])?;
-    for (len, want, status) in WIDEST {
-        let input = vec![in alloc; 7u8; len]?;
+    for (len, want, status) in &WIDEST {
+        let input = vec![in alloc; 7u8; *len]?;
         let name = format!(in alloc; "{len}")?;
         expect_run(
             &rt,
@@ -298,7 +298,7 @@ fn inputs_of_the_widest_window(rt: HostRuntime) -> Result<(), Fail> {
             &name,
             &answers_its_length,
             &input,
-            (want, status),
+            (want, *status),
         );
     }
     Ok(())

@@ -28,9 +28,9 @@ const PLAIN: [(&str, &str, Want<'static>); 2] = [
 #[test]
 fn scripts(rt: HostRuntime) {
     let alloc = rt.alloc();
-    for (name, script, want) in PLAIN {
+    for (name, script, want) in &PLAIN {
         let files = [("script", script.as_bytes())];
-        expect(&rt, alloc, name, &["sim", "script"], &files, want);
+        expect(&rt, alloc, name, &["sim", "script"], &files, *want);
     }
     let unreadable = Want {
         out: "",
@@ -191,8 +191,8 @@ const SCRIPTS: [Script; 9] = [
 fn files_with(alloc: Global, script: &str) -> Result<Vec<(&'static str, Vec<u8>)>, AllocError> {
     let mut files = Vec::new(alloc);
     files.push(("script", script.as_bytes().to_vec(alloc)?))?;
-    for (name, head, slots) in HOOKS {
-        files.push((name, image(alloc, head, slots)?))?;
+    for (name, head, slots) in &HOOKS {
+        files.push((*name, image(alloc, head, slots)?))?;
     }
     Ok(files)
 }
@@ -200,18 +200,22 @@ fn files_with(alloc: Global, script: &str) -> Result<Vec<(&'static str, Vec<u8>)
 #[test]
 fn hooks_in_scripts(rt: HostRuntime) -> Result<(), Fail> {
     let alloc = rt.alloc();
-    for (name, script, out, status) in SCRIPTS {
+    for (name, script, out, status) in &SCRIPTS {
         let files = files_with(alloc, script)?;
         let mut lent = Vec::new(alloc);
         for (file, bytes) in &files {
             lent.push((*file, bytes.as_slice()))?;
         }
-        let err = if status == 2 {
+        let err = if *status == 2 {
             "no file absent.img\n"
         } else {
             ""
         };
-        let want = Want { out, err, status };
+        let want = Want {
+            out,
+            err,
+            status: *status,
+        };
         expect(&rt, alloc, name, &["sim", "script"], &lent, want);
     }
     Ok(())

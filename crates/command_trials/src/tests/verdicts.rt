@@ -64,9 +64,9 @@ const CUTS: [(usize, &str); 13] = [
 fn cut_images(rt: HostRuntime) -> Result<(), Fail> {
     let alloc = rt.alloc();
     let bytes = image(alloc, &HEAD, &INDEXED)?;
-    for (left, want) in CUTS {
+    for (left, want) in &CUTS {
         let name = format!(in alloc; "{left}")?;
-        expect_verdict(&rt, alloc, &name, bytes.get(..left).unwrap_or(&[]), want);
+        expect_verdict(&rt, alloc, &name, bytes.get(..*left).unwrap_or(&[]), want);
     }
     Ok(())
 }
@@ -85,10 +85,10 @@ const HEADS: [(usize, u8, &str); 7] = [
 #[test]
 fn changed_heads(rt: HostRuntime) -> Result<(), Fail> {
     let alloc = rt.alloc();
-    for (at, byte, want) in HEADS {
+    for (at, byte, want) in &HEADS {
         let mut bytes = image(alloc, &HEAD, &INDEXED)?;
-        if let Some(place) = bytes.get_mut(at) {
-            *place = byte;
+        if let Some(place) = bytes.get_mut(*at) {
+            *place = *byte;
         }
         let name = format!(in alloc; "{at}")?;
         expect_verdict(&rt, alloc, &name, &bytes, want);
@@ -115,9 +115,9 @@ const LONG_CODE: [(usize, &str); 12] = [
 #[test]
 fn long_code(rt: HostRuntime) -> Result<(), Fail> {
     let alloc = rt.alloc();
-    for (len, want) in LONG_CODE {
+    for (len, want) in &LONG_CODE {
         let name = format!(in alloc; "{len}")?;
-        let bytes = vec![in alloc; 0u8; len]?;
+        let bytes = vec![in alloc; 0u8; *len]?;
         expect_verdict(&rt, alloc, &name, &bytes, want);
     }
     Ok(())
@@ -137,10 +137,10 @@ const LONG_IMAGES: [(usize, &str); 7] = [
 #[test]
 fn long_images(rt: HostRuntime) -> Result<(), Fail> {
     let alloc = rt.alloc();
-    for (len, want) in LONG_IMAGES {
+    for (len, want) in &LONG_IMAGES {
         let name = format!(in alloc; "{len}")?;
         let mut bytes = HEAD.to_vec(alloc)?;
-        bytes.resize(len, 0)?;
+        bytes.resize(*len, 0)?;
         expect_verdict(&rt, alloc, &name, &bytes, want);
         // A fault of the head is told before those of the code.
         if let Some(version) = bytes.get_mut(4) {

@@ -1,8 +1,8 @@
 //! Bad lines, and why they are.
 
-use crate::tests::shelf::{Shelf, check};
-use helpers::Table;
-use script::sim;
+use crate::tests::shelf::{check, run};
+use std::alloc::{AllocError, Global};
+use std::process::Abort;
 use std::test::Fail;
 
 /// Scripts with a bad line, and what they print.
@@ -87,7 +87,7 @@ const BAD_LINES: [(&str, &str); 49] = [
 
 #[test]
 fn bad_lines(rt: HostRuntime) -> Result<(), Fail> {
-    for (script, want) in BAD_LINES {
+    for (script, want) in &BAD_LINES {
         check(&rt, rt.alloc(), script, script.as_bytes(), want, 2)?;
     }
     Ok(())
@@ -95,52 +95,56 @@ fn bad_lines(rt: HostRuntime) -> Result<(), Fail> {
 
 /// Lines that are bad behind a get and a send, and why.
 const REASONS: [(&str, &str); 19] = [
-    ("restart 0", "no line feed at the end"),
-    ("frobnicate\n", "no such line"),
-    (" restart 0\n", "no such line"),
-    ("restart 0\r\n", "a number that is no decimal"),
-    ("restart\n", "too many or too few words"),
-    ("restart 0 0\n", "too many or too few words"),
-    ("restart 00\n", "a number that is no decimal"),
+    ("restart 0", "no line feed at the end\n"),
+    ("frobnicate\n", "no such line\n"),
+    (" restart 0\n", "no such line\n"),
+    ("restart 0\r\n", "a number that is no decimal\n"),
+    ("restart\n", "too many or too few words\n"),
+    ("restart 0 0\n", "too many or too few words\n"),
+    ("restart 00\n", "a number that is no decimal\n"),
     (
         "put 0 k- a -\n",
-        "a word that is not 1 to 64 letters and digits",
+        "a word that is not 1 to 64 letters and digits\n",
     ),
     (
         "put 0 k a *\n",
-        "a context that is none of -, @NAME and =TOKEN",
+        "a context that is none of -, @NAME and =TOKEN\n",
     ),
-    ("vnodes 1\n", "vnodes stands once"),
-    ("restart 2\n", "no vnode 2"),
-    ("put 0 k a @m\n", "no get named m"),
-    ("put 0 k a @x\n", "no get named x"),
-    ("deliver g 0\n", "no send named g"),
-    ("resolve x take.img\n", "no get named x"),
-    ("commit 0 x\n", "no get named x"),
-    ("commit 0 m\n", "no get named m"),
-    ("resolve g absent.img\n", "no file absent.img"),
-    ("check 0 k a absent.img\n", "no file absent.img"),
+    ("vnodes 1\n", "vnodes stands once\n"),
+    ("restart 2\n", "no vnode 2\n"),
+    ("put 0 k a @m\n", "no get named m\n"),
+    ("put 0 k a @x\n", "no get named x\n"),
+    ("deliver g 0\n", "no send named g\n"),
+    ("resolve x take.img\n", "no get named x\n"),
+    ("commit 0 x\n", "no get named x\n"),
+    ("commit 0 m\n", "no get named m\n"),
+    ("resolve g absent.img\n", "no file absent.img\n"),
+    ("check 0 k a absent.img\n", "no file absent.img\n"),
 ];
+
+/// A line behind a get and a send.
+fn behind(alloc: Global, line: &str) -> Result<String, AllocError> {
+    let mut script = String::from_str(alloc, "vnodes 1\nget 0 k g\nsend 0 k m\n")?;
+    script.push_str(line)?;
+    Ok(script)
+}
+
+/// Line 4 of a script is bad, for this reason.
+fn check_reason(rt: &impl Abort, alloc: Global, line: &str, why: &str) -> Result<(), Fail> {
+    let script = behind(alloc, line)?;
+    let mut out = Vec::new(alloc);
+    let mut err = Vec::new(alloc);
+    let got = run(alloc, script.as_bytes(), &mut out, &mut err)?;
+    let printed = b"none AQAA\nok\nbad line 4\n".as_slice();
+    assert_eq!(rt; (out.as_slice(), got), (printed, 2), "{line}");
+    assert_eq!(rt; err.as_slice(), why.as_bytes(), "{line}");
+    Ok(())
+}
 
 #[test]
 fn reasons(rt: HostRuntime) -> Result<(), Fail> {
-    for (line, want) in REASONS {
-        let mut script = String::from_str(rt.alloc(), "vnodes 1\nget 0 k g\nsend 0 k m\n")?;
-        script.push_str(line)?;
-        let mut out = Vec::new(rt.alloc());
-        let mut err = Vec::new(rt.alloc());
-        let table = Table::new(rt.alloc());
-        let bytes = script.as_bytes();
-        let got = sim(rt.alloc(), bytes, &table, &Shelf, &mut out, &mut err)?;
-        let mut told = String::from_str(rt.alloc(), want)?;
-        told.push_str("\n")?;
-        assert_eq!(rt; got, 2, "{line}");
-        assert_eq!(rt;
-            out.as_slice(),
-            b"none AQAA\nok\nbad line 4\n".as_slice(),
-            "{line}"
-        );
-        assert_eq!(rt; err.as_slice(), told.as_bytes(), "{line}");
+    for (line, why) in &REASONS {
+        check_reason(&rt, rt.alloc(), line, why)?;
     }
     Ok(())
 }

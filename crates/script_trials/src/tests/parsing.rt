@@ -3,24 +3,24 @@
 use crate::tests::shelf::Shelf;
 use events::{BadAt, parse};
 use lines::BadLine;
+use std::alloc::{AllocError, Global};
 use std::test::Fail;
+
+/// How many vnodes, events and answered lines a script has, and its first bad line.
+fn read(alloc: Global, bytes: &[u8]) -> Result<([usize; 3], Option<BadAt<'_>>), AllocError> {
+    let (script, bad) = parse(alloc, bytes, &Shelf)?;
+    let counts = [script.vnodes, script.events.len(), script.answered.len()];
+    Ok((counts, bad))
+}
 
 #[test]
 fn parses(rt: HostRuntime) -> Result<(), Fail> {
-    let (script, bad) = parse(
+    let (counts, bad) = read(
         rt.alloc(),
         b"vnodes 2\nput 1 k a -\nput 0 k a =AgAA\nget 1 k g\ncommit 1 g\nresolve g take.img\ncommit 1 g\ncheck 0 k a no.img\nrestart 2\n",
-        &Shelf,
     )?;
-    assert_eq!(rt; script.vnodes, 2);
-    assert_eq!(rt; script.events.len(), 5);
-    assert_eq!(rt; script.answered.len(), 7);
-    assert_eq!(rt;
-        bad,
-        Some(BadAt {
-            line: 9,
-            why: BadLine::NoVnode(2)
-        })
-    );
+    assert_eq!(rt; counts, [2, 5, 7]);
+    let why = BadLine::NoVnode(2);
+    assert_eq!(rt; bad, Some(BadAt { line: 9, why }));
     Ok(())
 }

@@ -1,11 +1,12 @@
 //! What scripts print whose lines are all read.
 
 use crate::tests::shelf::check;
+use std::alloc::{AllocError, Global};
 use std::fmt::Write;
 use std::test::Fail;
 
 /// A name, a script, and what it prints.
-const SCRIPTS: [(&str, &str, &str); 20] = [
+static SCRIPTS: [(&str, &str, &str); 20] = [
     (
         "two_siblings",
         "vnodes 1\nput 0 k a -\nput 0 k b -\nget 0 k g\n",
@@ -102,30 +103,45 @@ const SCRIPTS: [(&str, &str, &str); 20] = [
 
 #[test]
 fn worked_rows(rt: HostRuntime) -> Result<(), Fail> {
-    for (name, script, want) in SCRIPTS {
+    for (name, script, want) in &SCRIPTS {
         check(&rt, rt.alloc(), name, script.as_bytes(), want, 0)?;
     }
     Ok(())
 }
 
+/// A script with 65 puts that don't see each other.
+fn many_puts(alloc: Global) -> Result<String, AllocError> {
+    let mut script = String::from_str(alloc, "vnodes 1\n")?;
+    for _ in 0..65u8 {
+        script.push_str("put 0 k a -\n")?;
+    }
+    script.push_str("get 0 k g\n")?;
+    Ok(script)
+}
+
+/// What these puts print: the last is refused.
+fn many_siblings(alloc: Global) -> Result<String, Fail> {
+    let mut printed = String::new(alloc);
+    for n in 1..65u8 {
+        writeln!(printed, "0-{n}")?;
+    }
+    printed.push_str("P2\n")?;
+    for n in 1..65u8 {
+        write!(printed, "0-{n}=a ")?;
+    }
+    printed.push_str("AQABAAAAAAAAAAAAAABA\n")?;
+    Ok(printed)
+}
+
 #[test]
 fn sixty_fifth_sibling(rt: HostRuntime) -> Result<(), Fail> {
-    let mut script = String::from_str(rt.alloc(), "vnodes 1\n")?;
-    let mut want = String::new(rt.alloc());
-    for n in 1..65u8 {
-        script.push_str("put 0 k a -\n")?;
-        writeln!(want, "0-{n}")?;
-    }
-    script.push_str("put 0 k a -\nget 0 k g\n")?;
-    want.push_str("P2\n")?;
-    for n in 1..65u8 {
-        write!(want, "0-{n}=a ")?;
-    }
-    want.push_str("AQABAAAAAAAAAAAAAABA\n")?;
+    let alloc = rt.alloc();
+    let script = many_puts(alloc)?;
+    let want = many_siblings(alloc)?;
     check(
         &rt,
-        rt.alloc(),
-        "sixty_fifth_sibling",
+        alloc,
+        "65 siblings",
         script.as_bytes(),
         want.as_str(),
         0,
