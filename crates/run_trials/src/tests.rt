@@ -1,5 +1,6 @@
 //! The tests by what they try.
 
+mod adding;
 mod host;
 mod runs;
 mod windows;

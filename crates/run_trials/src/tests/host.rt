@@ -5,13 +5,7 @@ mod sigs;
 mod tables;
 mod texts;
 
-use helpers::ArgRule;
 use std::alloc::{AllocError, Global};
-
-const ANY: ArgRule = ArgRule::Num {
-    lo: 0,
-    hi: u64::MAX,
-};
 
 /// A layout that says it has so many rows, and has these.
 fn layout(alloc: Global, count: u32, rows: &[(u32, u64)]) -> Result<Vec<u8>, AllocError> {

@@ -11,29 +11,31 @@ fn windows(rt: HostRuntime) {
         input: &[1, 2, 3, 4, 5, 6, 7, 0x88],
         output: &mut output,
     };
-    assert_eq!(rt;
-        windows.load(Region::Input, 0, Size::Double),
-        0x8807_0605_0403_0201
-    );
-    assert_eq!(rt; windows.load(Region::Input, 7, Size::Byte), 0x88);
+    let first = windows.load(Region::Input, 0, Size::Double);
+    let last = windows.load(Region::Input, 7, Size::Byte);
     windows.store(Region::Output, 2, Size::Word, 0xffff_ffff_0d0c_0b0a);
-    assert_eq!(rt;
-        windows.load(Region::Output, 0, Size::Double),
-        0x0d0c_0b0a_0000
-    );
+    let stored = windows.load(Region::Output, 0, Size::Double);
     // A copy onto itself, two places on, writes what stood there before.
     windows.copy(Region::Output, 4, Region::Output, 2, 4);
-    assert_eq!(rt;
-        windows.load(Region::Output, 0, Size::Double),
-        0x0d0c_0b0a_0b0a_0000
-    );
+    let copied = windows.load(Region::Output, 0, Size::Double);
     windows.copy(Region::Stack, 504, Region::Output, 0, 8);
-    assert!(rt; windows.same(Region::Stack, 504, Region::Output, 0, 8));
+    let same = windows.same(Region::Stack, 504, Region::Output, 0, 8);
     windows.copy(Region::Stack, 503, Region::Input, 0, 2);
-    assert!(rt; !windows.same(Region::Stack, 504, Region::Output, 0, 8));
-    assert!(rt; windows.same(Region::Stack, 505, Region::Output, 1, 7));
+    let differs = !windows.same(Region::Stack, 504, Region::Output, 0, 8);
+    let same_behind = windows.same(Region::Stack, 505, Region::Output, 1, 7);
     windows.fill(Region::Stack, 510, 2, 0xab);
-    assert_eq!(rt; windows.load(Region::Stack, 508, Size::Word), 0xabab_0b0a);
+    let filled = windows.load(Region::Stack, 508, Size::Word);
+    assert_eq!(rt;
+        [first, last, stored, copied, filled],
+        [
+            0x8807_0605_0403_0201,
+            0x88,
+            0x0d0c_0b0a_0000,
+            0x0d0c_0b0a_0b0a_0000,
+            0xabab_0b0a,
+        ]
+    );
+    assert_eq!(rt; [same, differs, same_behind], [true; 3]);
 }
 
 /// The addresses at the ends of the windows, for places of eight bytes and of none.

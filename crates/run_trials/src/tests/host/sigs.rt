@@ -1,6 +1,6 @@
 //! Sigs that may be made, and the written ones.
 
-use super::ANY;
+use crate::tests::adding::ANY;
 use helpers::{ArgRule, Sig, written_sig};
 
 #[test]

@@ -1,14 +1,13 @@
 //! Tables of boxed closures: what they answer, refuse and agree with.
 
-ghost use Rattle.std.specs.Prelude.{◌≡◌, ◌≤◌, length, max};
-ghost use Rattle.helpers.specs.Layout.{newest_of};
-ghost use Rattle.helpers.specs.Text.{order_of, place_of, spelled};
+ghost use Rattle.std.specs.Prelude.{◌≤◌};
 
-use super::{ANY, layout};
-use helpers::{
-    ArgRule, Body, Call, Helper, HelperFault, Sig, Sigs, Table, decimal, find, fits, newest, order,
-    written_sig,
+use super::layout;
+use crate::tests::adding::{
+    ONE_NUMBER, Refused, add_modulo_8, add_modulo_9, add_order, add_written, add_zero,
 };
+use helpers::{ArgRule, Body, Call, Helper, HelperFault, Sig, Sigs, Table, fits, written_sig};
+use std::alloc::Global;
 use std::process::Abort;
 use std::test::Fail;
 
@@ -35,229 +34,193 @@ fn answer(
     }
 }
 
+/// A number and its remainders by 8 and 9.
+const REMAINDERS: [(u64, u64, u64); 5] = [(0, 0, 0), (8, 0, 8), (9, 1, 0), (26, 2, 8), (27, 3, 0)];
+
 #[test]
 fn host_helpers(rt: HostRuntime) -> Result<(), Fail> {
-    let args = [
-        ANY,
-        ArgRule::Unused,
-        ArgRule::Unused,
-        ArgRule::Unused,
-        ArgRule::Unused,
+    let alloc = rt.alloc();
+    let mut table = Table::new(alloc);
+    let refused = [
+        add_modulo_8(alloc, &mut table)?,
+        add_modulo_9(alloc, &mut table)?,
     ];
-    let eight = Sig::new(args, (0, 7)).ok_or("a Sig")?;
-    let nine = Sig::new(args, (0, 8)).ok_or("a Sig")?;
-    let mut table = Table::new(rt.alloc());
-    let modulo_8: Body = Box::new(
-        rt.alloc(),
-        |numbers: [u64; 5], _first: &[u8], _second: &[u8]| -> u64
-            ensures { result ≤ 7 }
-        { numbers[0] % 8 },
-    )?;
-    assert!(rt; table.add(Helper::new(64, eight, modulo_8)).is_ok());
-    let modulo_9: Body = Box::new(
-        rt.alloc(),
-        |numbers: [u64; 5], _first: &[u8], _second: &[u8]| -> u64
-            ensures { result ≤ 8 }
-        { numbers[0] % 9 },
-    )?;
-    assert!(rt; table.add(Helper::new(65, nine, modulo_9)).is_ok());
-    assert_eq!(rt; table.sig(64), Some(eight));
-    assert_eq!(rt; table.sig(65), Some(nine));
-    assert_eq!(rt; table.sig(66), None);
-    for (number, eighth, ninth) in [(0, 0, 0), (8, 0, 8), (9, 1, 0), (26, 2, 8), (27, 3, 0)] {
-        assert_eq!(rt;
-            answer(&rt, &table, 64, [number, 0, 0, 0, 0], b"", b""),
-            eighth
+    assert_eq!(rt; refused, [None, None]);
+    let sigs = [table.sig(64), table.sig(65), table.sig(66)];
+    let eight = Sig::new(ONE_NUMBER, (0, 7));
+    let nine = Sig::new(ONE_NUMBER, (0, 8));
+    assert_eq!(rt; sigs, [eight, nine, None]);
+    for (number, eighth, ninth) in &REMAINDERS {
+        let numbers = [*number, 0, 0, 0, 0];
+        let answers = (
+            answer(&rt, &table, 64, numbers, b"", b""),
+            answer(&rt, &table, 65, numbers, b"", b""),
         );
-        assert_eq!(rt;
-            answer(&rt, &table, 65, [number, 0, 0, 0, 0], b"", b""),
-            ninth
-        );
+        assert_eq!(rt; answers, (*eighth, *ninth), "{number}");
     }
     Ok(())
 }
 
 #[test]
 fn written_helpers(rt: HostRuntime) -> Result<(), Fail> {
-    let mut table = Table::new(rt.alloc());
-    let body: Body = Box::new(
-        rt.alloc(),
-        |_numbers: [u64; 5], first: &[u8], second: &[u8]| -> u64
-            ensures value { result ≡ order_of first.now second.now }
-            ensures range { result ≤ 2 }
-        { order(first, second) },
-    )?;
-    let sig = written_sig(16).ok_or("a Sig")?;
-    assert!(rt; table.add(Helper::new(16, sig, body)).is_ok());
-    let body: Body = Box::new(
-        rt.alloc(),
-        |_numbers: [u64; 5], first: &[u8], second: &[u8]| -> u64
-            ensures value { result ≡ place_of first.now second.now }
-            ensures range { result ≤ max 1 (length first.now) }
-        { find(first, second) },
-    )?;
-    let sig = written_sig(17).ok_or("a Sig")?;
-    assert!(rt; table.add(Helper::new(17, sig, body)).is_ok());
-    let body: Body = Box::new(
-        rt.alloc(),
-        |_numbers: [u64; 5], first: &[u8], _second: &[u8]| -> u64
-            ensures { result ≡ spelled first.now }
-        { decimal(first) },
-    )?;
-    let sig = written_sig(18).ok_or("a Sig")?;
-    assert!(rt; table.add(Helper::new(18, sig, body)).is_ok());
-    let body: Body = Box::new(
-        rt.alloc(),
-        |_numbers: [u64; 5], first: &[u8], _second: &[u8]| -> u64
-            ensures value { result ≡ newest_of first.now }
-            ensures range { result ≤ 64 }
-        { newest(first) },
-    )?;
-    let sig = written_sig(19).ok_or("a Sig")?;
-    assert!(rt; table.add(Helper::new(19, sig, body)).is_ok());
-    assert_eq!(rt; answer(&rt, &table, 16, [0; 5], b"abc", b"abd"), 0);
-    assert_eq!(rt; answer(&rt, &table, 17, [0; 5], b"hello", b"lo"), 4);
-    assert_eq!(rt; answer(&rt, &table, 18, [0; 5], b"123", b""), 123);
-    assert_eq!(rt; answer(&rt, &table, 19, [0; 5], b"", b""), 64);
-    let bytes = layout(rt.alloc(), 2, &[(0, 1), (0, 2)])?;
-    assert_eq!(rt; answer(&rt, &table, 19, [0; 5], &bytes, b""), 1);
+    let alloc = rt.alloc();
+    let bytes = layout(alloc, 2, &[(0, 1), (0, 2)])?;
+    let mut table = Table::new(alloc);
+    assert!(rt; add_written(alloc, &mut table)?);
+    let answers = [
+        answer(&rt, &table, 16, [0; 5], b"abc", b"abd"),
+        answer(&rt, &table, 17, [0; 5], b"hello", b"lo"),
+        answer(&rt, &table, 18, [0; 5], b"123", b""),
+        answer(&rt, &table, 19, [0; 5], b"", b""),
+        answer(&rt, &table, 19, [0; 5], &bytes, b""),
+    ];
+    assert_eq!(rt; answers, [0, 4, 123, 64, 1]);
     Ok(())
 }
+
+/// The number of a helper, and what a table that the ones before it were added to says of it.
+const ADDED: [(u32, Refused); 9] = [
+    (64, None),
+    (64, Some((64, HelperFault::Taken))),
+    (0, Some((0, HelperFault::Number))),
+    (3, Some((3, HelperFault::Number))),
+    (15, Some((15, HelperFault::Number))),
+    (20, Some((20, HelperFault::Number))),
+    (63, Some((63, HelperFault::Number))),
+    (128, Some((128, HelperFault::Number))),
+    (127, None),
+];
 
 #[test]
 fn refusals(rt: HostRuntime) -> Result<(), Fail> {
-    let mut table = Table::new(rt.alloc());
+    let alloc = rt.alloc();
     let sig = Sig::new([ArgRule::Unused; 5], (0, 0)).ok_or("a Sig")?;
-    let rows = [
-        (64, None),
-        (64, Some(HelperFault::Taken)),
-        (0, Some(HelperFault::Number)),
-        (3, Some(HelperFault::Number)),
-        (15, Some(HelperFault::Number)),
-        (20, Some(HelperFault::Number)),
-        (63, Some(HelperFault::Number)),
-        (128, Some(HelperFault::Number)),
-        (127, None),
-    ];
-    for (number, want) in rows {
-        assert!(rt; sig.lo == 0);
-        assert!(rt; number != 16 && number != 17 && number != 18 && number != 19);
-        let body: Body = Box::new(
-            rt.alloc(),
-            |_numbers: [u64; 5], _first: &[u8], _second: &[u8]| -> u64
-                ensures { result ≡ 0 }
-            { 0 },
-        )?;
-        let refused = match table.add(Helper::new(number, sig, body)) {
-            Ok(()) => None,
-            Err((helper, fault)) => {
-                assert_eq!(rt; helper.number, number);
-                Some(fault)
-            }
-        };
-        assert_eq!(rt; refused, want, "{number}");
+    let mut table = Table::new(alloc);
+    for (number, want) in &ADDED {
+        let refused = add_zero(alloc, &mut table, *number, sig)?;
+        assert_eq!(rt; refused, *want, "{number}");
     }
-    assert_eq!(rt; table.sigs(rt.alloc())?.entries().len(), 2);
+    assert_eq!(rt; table.sigs(alloc)?.entries().len(), 2);
     Ok(())
 }
 
-#[test]
-fn taken_helper_stays(rt: HostRuntime) -> Result<(), Fail> {
+/// Adds a helper that answers 1 as 64; tells why it is handed back and what it then answers, if it is.
+fn add_one(alloc: Global, table: &mut Table) -> Result<Option<(HelperFault, u64)>, Fail> {
     let sig = Sig::new([ArgRule::Unused; 5], (0, 1)).ok_or("a Sig")?;
-    let mut table = Table::new(rt.alloc());
-    let zero: Body = Box::new(
-        rt.alloc(),
-        |_numbers: [u64; 5], _first: &[u8], _second: &[u8]| -> u64
-            ensures { result ≤ 1 }
-        { 0 },
-    )?;
-    assert!(rt; table.add(Helper::new(64, sig, zero)).is_ok());
     let one: Body = Box::new(
-        rt.alloc(),
+        alloc,
         |_numbers: [u64; 5], _first: &[u8], _second: &[u8]| -> u64
             ensures { result ≤ 1 }
         { 1 },
     )?;
+    let call = Call {
+        numbers: [0; 5],
+        first: b"",
+        second: b"",
+    };
     match table.add(Helper::new(64, sig, one)) {
-        Ok(()) => panic!(rt; "added twice"),
+        Ok(()) => Ok(None),
         Err((helper, fault)) => {
-            let call = Call {
-                numbers: [0; 5],
-                first: b"",
-                second: b"",
-            };
-            assert_eq!(rt; fault, HelperFault::Taken);
-            assert!(rt; fits(&helper.sig, &call));
-            assert_eq!(rt; helper.call(&call), 1);
+            if !fits(&helper.sig, &call) {
+                return Err(Fail::from("the call"));
+            }
+            Ok(Some((fault, helper.call(&call))))
         }
     }
+}
+
+#[test]
+fn taken_helper_stays(rt: HostRuntime) -> Result<(), Fail> {
+    let alloc = rt.alloc();
+    let sig = Sig::new([ArgRule::Unused; 5], (0, 1)).ok_or("a Sig")?;
+    let mut table = Table::new(alloc);
+    let zero = add_zero(alloc, &mut table, 64, sig)?;
+    let one = add_one(alloc, &mut table)?;
+    assert_eq!(rt; (zero, one), (None, Some((HelperFault::Taken, 1))));
     assert_eq!(rt; answer(&rt, &table, 64, [0; 5], b"", b""), 0);
     Ok(())
 }
 
 #[test]
 fn only_the_written_sig(rt: HostRuntime) -> Result<(), Fail> {
+    let alloc = rt.alloc();
     let written = written_sig(16).ok_or("a Sig")?;
     let wider = Sig::new(written.args, (0, 3)).ok_or("a Sig")?;
-    let rows = [
-        (wider, Some(HelperFault::Signature)),
-        (written, None),
-        (wider, Some(HelperFault::Taken)),
+    let mut table = Table::new(alloc);
+    let refused = [
+        add_order(alloc, &mut table, wider)?,
+        add_order(alloc, &mut table, written)?,
+        add_order(alloc, &mut table, wider)?,
     ];
-    let mut table = Table::new(rt.alloc());
-    for (sig, want) in rows {
-        assert!(rt; sig.lo == 0 && sig.hi >= 2);
-        let body: Body = Box::new(
-            rt.alloc(),
-            |_numbers: [u64; 5], first: &[u8], second: &[u8]| -> u64
-                ensures value { result ≡ order_of first.now second.now }
-                ensures range { result ≤ 2 }
-            { order(first, second) },
-        )?;
-        let refused = match table.add(Helper::new(16, sig, body)) {
-            Ok(()) => None,
-            Err((_, fault)) => Some(fault),
-        };
-        assert_eq!(rt; refused, want);
-    }
+    let want = [
+        Some((16, HelperFault::Signature)),
+        None,
+        Some((16, HelperFault::Taken)),
+    ];
+    assert_eq!(rt; refused, want);
     assert_eq!(rt; table.sig(16), Some(written));
     Ok(())
 }
 
+/// The numbers of helpers without arguments, and the most that each may answer.
+type Row = &'static [(u32, u64)];
+
+const NARROW: Row = &[(64, 7)];
+
+const WIDE: Row = &[(64, 8)];
+
+const BOTH: Row = &[(65, 8), (64, 7)];
+
+/// A table, and whether it agrees with the Sigs of another.
+const AGREEMENT: [(Row, Row, bool); 6] = [
+    (NARROW, NARROW, true),
+    (BOTH, NARROW, true),
+    (WIDE, NARROW, false),
+    (NARROW, BOTH, false),
+    (WIDE, &[], true),
+    (&[], NARROW, false),
+];
+
+/// The table of a row.
+fn table_of(alloc: Global, row: Row) -> Result<Table, Fail> {
+    let mut table = Table::new(alloc);
+    for &(number, hi) in row {
+        let sig = Sig::new([ArgRule::Unused; 5], (0, hi)).ok_or("a Sig")?;
+        if add_zero(alloc, &mut table, number, sig)?.is_some() {
+            return Err(Fail::from("refused"));
+        }
+    }
+    Ok(table)
+}
+
+/// Whether the table of a row agrees with the Sigs of another's.
+fn agrees(alloc: Global, row: Row, other: Row) -> Result<bool, Fail> {
+    let table = table_of(alloc, row)?;
+    let sigs = table_of(alloc, other)?.sigs(alloc)?;
+    Ok(table.agrees(&sigs))
+}
+
+/// Whether a table agrees with no Sigs.
+fn agrees_with_none(alloc: Global) -> Result<bool, Fail> {
+    let wide = table_of(alloc, WIDE)?;
+    Ok(wide.agrees(&Sigs::new(alloc)))
+}
+
+/// What a copy of a table's Sigs, the table, and its Sigs say of 64, 64 and 65.
+fn shown(alloc: Global) -> Result<[Option<Sig>; 3], Fail> {
+    let narrow = table_of(alloc, NARROW)?;
+    let sigs = narrow.sigs(alloc)?;
+    let copied = sigs.copy(alloc)?;
+    Ok([copied.sig(64), narrow.sig(64), sigs.sig(65)])
+}
+
 #[test]
 fn agreement(rt: HostRuntime) -> Result<(), Fail> {
-    let mut narrow = Table::new(rt.alloc());
-    let mut wide = Table::new(rt.alloc());
-    let mut both = Table::new(rt.alloc());
-    for (table, number, hi) in [(0, 64, 7), (1, 64, 8), (2, 65, 8), (2, 64, 7)] {
-        assert!(rt; number >= 64);
-        let sig = Sig::new([ArgRule::Unused; 5], (0, hi)).ok_or("a Sig")?;
-        let body: Body = Box::new(
-            rt.alloc(),
-            |_numbers: [u64; 5], _first: &[u8], _second: &[u8]| -> u64
-                ensures { result ≡ 0 }
-            { 0 },
-        )?;
-        let helper = Helper::new(number, sig, body);
-        let added = match table {
-            0 => narrow.add(helper),
-            1 => wide.add(helper),
-            _ => both.add(helper),
-        };
-        assert!(rt; added.is_ok());
+    for &(row, other, want) in &AGREEMENT {
+        assert_eq!(rt; agrees(rt.alloc(), row, other)?, want, "{row:?} {other:?}");
     }
-    let sigs = narrow.sigs(rt.alloc())?;
-    assert!(rt; narrow.agrees(&sigs));
-    assert!(rt; both.agrees(&sigs));
-    assert!(rt; !wide.agrees(&sigs));
-    let more = both.sigs(rt.alloc())?;
-    assert!(rt; !narrow.agrees(&more));
-    let none = Sigs::new(rt.alloc());
-    assert!(rt; wide.agrees(&none));
-    let empty = Table::new(rt.alloc());
-    assert!(rt; !empty.agrees(&sigs));
-    let copied = sigs.copy(rt.alloc())?;
-    assert_eq!(rt; copied.sig(64), narrow.sig(64));
-    assert_eq!(rt; sigs.sig(65), None);
+    assert!(rt; agrees_with_none(rt.alloc())?);
+    let seven = Sig::new([ArgRule::Unused; 5], (0, 7));
+    assert_eq!(rt; shown(rt.alloc())?, [seven, seven, None]);
     Ok(())
 }

@@ -254,7 +254,7 @@ const OWN: [(&str, &[Slot], &[u8], Ending, [u8; 8]); 25] = [
 #[test]
 fn own_calls(rt: HostRuntime) -> Result<(), Fail> {
     let table = Table::new(rt.alloc());
-    for (name, slots, input, want, output) in OWN {
+    for &(name, slots, input, want, output) in &OWN {
         let got = end_with(rt.alloc(), &table, slots, input, 100)?;
         assert_eq!(rt; got, (want.stop(), output), "{name}");
     }
@@ -455,7 +455,7 @@ const HELPERS: [(&str, &[Slot], &[u8], Ending); 20] = [
 
 /// Tells how the programs that call helpers end.
 pub fn with_helpers(rt: &impl Abort, alloc: Global, table: &Table) -> Result<(), Fail> {
-    for (name, slots, input, want) in HELPERS {
+    for &(name, slots, input, want) in &HELPERS {
         let got = end_with(alloc, table, slots, input, 100)?;
         assert_eq!(rt; got, (want.stop(), NONE), "{name}");
     }

@@ -2,6 +2,8 @@
 
 use super::{Ending, LEAST, MAX, NARROW, NARROW_LEAST, end_of};
 use code_parts::Slot::{Exit, Fields, Jump, Put, Wide};
+use machine::Stop;
+use std::alloc::Global;
 use std::test::Fail;
 
 /// The opcode and immediate of a conditional jump, R0 and R1 before it, and whether it is taken.
@@ -98,21 +100,26 @@ const JUMPS: [(u8, i32, u64, u64, bool); 88] = [
     (0xde, 0, 0, NARROW, false),
 ];
 
-/// Each jump passes over the two slots that answer 0.
+/// How a program ends whose jump passes over the two slots that answer 0.
+fn end_of_jump(alloc: Global, opcode: u8, imm: i32, a: u64, b: u64) -> Result<Stop, Fail> {
+    let src = u8::from(opcode & 8 != 0);
+    let slots = [
+        Wide(0, a),
+        Wide(1, b),
+        Fields(opcode, 0, src, 2, imm),
+        Put(0, 0),
+        Exit,
+        Put(0, 1),
+        Exit,
+    ];
+    let (stop, _) = end_of(alloc, &slots, &[])?;
+    Ok(stop)
+}
+
 #[test]
 fn conditional_jumps(rt: HostRuntime) -> Result<(), Fail> {
-    for (opcode, imm, a, b, taken) in JUMPS {
-        let src = u8::from(opcode & 8 != 0);
-        let slots = [
-            Wide(0, a),
-            Wide(1, b),
-            Fields(opcode, 0, src, 2, imm),
-            Put(0, 0),
-            Exit,
-            Put(0, 1),
-            Exit,
-        ];
-        let (stop, _) = end_of(rt.alloc(), &slots, &[])?;
+    for &(opcode, imm, a, b, taken) in &JUMPS {
+        let stop = end_of_jump(rt.alloc(), opcode, imm, a, b)?;
         let want = Ending::Answers(u64::from(taken), 5);
         assert_eq!(rt; stop, want.stop(), "{opcode} {imm} on {a} and {b}");
     }

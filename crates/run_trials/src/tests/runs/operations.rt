@@ -2,6 +2,8 @@
 
 use super::{Ending, LEAST, MAX, NARROW, NARROW_LEAST, end_of};
 use code_parts::Slot::{Exit, Fields, Wide};
+use machine::Stop;
+use std::alloc::Global;
 use std::test::Fail;
 
 /// The opcode, offset and immediate of an operation on R0 and R1, these two before it, and R0 after it.
@@ -137,17 +139,30 @@ fn reads_register(opcode: u8) -> bool {
     opcode & 8 != 0 && !matches!(opcode, 0xd4 | 0xdc | 0xd7)
 }
 
+/// How a program ends that does one operation on two values.
+fn end_of_operation(
+    alloc: Global,
+    opcode: u8,
+    offset: i16,
+    imm: i32,
+    a: u64,
+    b: u64,
+) -> Result<Stop, Fail> {
+    let src = u8::from(reads_register(opcode));
+    let slots = [
+        Wide(0, a),
+        Wide(1, b),
+        Fields(opcode, 0, src, offset, imm),
+        Exit,
+    ];
+    let (stop, _) = end_of(alloc, &slots, &[])?;
+    Ok(stop)
+}
+
 #[test]
 fn operations(rt: HostRuntime) -> Result<(), Fail> {
-    for (opcode, offset, imm, a, b, want) in ARITHMETIC {
-        let src = u8::from(reads_register(opcode));
-        let slots = [
-            Wide(0, a),
-            Wide(1, b),
-            Fields(opcode, 0, src, offset, imm),
-            Exit,
-        ];
-        let (stop, _) = end_of(rt.alloc(), &slots, &[])?;
+    for &(opcode, offset, imm, a, b, want) in &ARITHMETIC {
+        let stop = end_of_operation(rt.alloc(), opcode, offset, imm, a, b)?;
         assert_eq!(rt;
             stop,
             Ending::Answers(want, 4).stop(),
