@@ -1,6 +1,6 @@
 //! The answers of the table, byte for byte.
 
-use super::replies::{FIRST, delete, faulty, plain, text_of};
+use super::replies::{FIRST, faulty, plain, text_of};
 use abi::BadAnswer;
 use admission::Refusal as Unfit;
 use bpfimage::{FormRule, ImageFault};
@@ -208,31 +208,51 @@ fn images_that_are_not_let_in(rt: HostRuntime) -> Result<(), Fail> {
     Ok(())
 }
 
+/// A change that a store has made.
+#[derive(Clone, Copy)]
+enum Made {
+    Install,
+    Remove,
+    Set,
+    Store,
+}
+
+/// The answer to a change that was made.
+fn text_of_made(alloc: Global, made: Made, ends: bool) -> Result<String, AllocError> {
+    let ask = removal(alloc)?;
+    let reply = match made {
+        Made::Install => Reply::Installed(Ok(())),
+        Made::Remove => Reply::Removed(Ok(())),
+        Made::Set => Reply::Set(Ok(())),
+        Made::Store => Reply::Stored(Ok(FIRST)),
+    };
+    text_of(alloc, &ask, &reply, ends)
+}
+
+/// The answer to what is done, where the connection goes on, and where it ends.
+const DONE: &str = "HTTP/1.1 204 No Content\r\n\r\n";
+
+const LAST: &str = "HTTP/1.1 204 No Content\r\nConnection: close\r\n\r\n";
+
+const MADE: [(Made, bool, &str); 7] = [
+    (Made::Install, false, DONE),
+    (Made::Remove, false, DONE),
+    (Made::Set, false, DONE),
+    (Made::Install, true, LAST),
+    (Made::Remove, true, LAST),
+    (Made::Set, true, LAST),
+    (
+        Made::Store,
+        false,
+        "HTTP/1.1 204 No Content\r\nX-Riak-Tag: 0-1\r\n\r\n",
+    ),
+];
+
 #[test]
 fn changes_that_are_made(rt: HostRuntime) -> Result<(), Fail> {
-    let ask = removal(rt.alloc())?;
-    let stored = text_of(
-        rt.alloc(),
-        &delete(rt.alloc())?,
-        &Reply::Stored(Ok(FIRST)),
-        false,
-    )?;
-    assert_eq!(rt;
-        stored.as_str(),
-        "HTTP/1.1 204 No Content\r\nX-Riak-Tag: 0-1\r\n\r\n"
-    );
-    for reply in [
-        Reply::Installed(Ok(())),
-        Reply::Removed(Ok(())),
-        Reply::Set(Ok(())),
-    ] {
-        let got = text_of(rt.alloc(), &ask, &reply, false)?;
-        assert_eq!(rt; got.as_str(), "HTTP/1.1 204 No Content\r\n\r\n");
-        let last = text_of(rt.alloc(), &ask, &reply, true)?;
-        assert_eq!(rt;
-            last.as_str(),
-            "HTTP/1.1 204 No Content\r\nConnection: close\r\n\r\n"
-        );
+    for &(made, ends, want) in &MADE {
+        let text = text_of_made(rt.alloc(), made, ends)?;
+        assert_eq!(rt; text.as_str(), want);
     }
     Ok(())
 }

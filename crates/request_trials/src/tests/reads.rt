@@ -4,7 +4,8 @@ use super::replies::{got, read, state_of, text_of, value};
 use dvv::Clock;
 use httpask::Form;
 use httpreply::Reply;
-use object::{Bytes, Content};
+use object::{Bytes, Content, KeyState};
+use std::alloc::Global;
 use std::test::Fail;
 
 #[test]
@@ -104,33 +105,45 @@ fn multipart_length(rt: HostRuntime) -> Result<(), Fail> {
     Ok(())
 }
 
+/// Deletes what vnode 0 has put first.
+fn delete_first(alloc: Global, state: &mut KeyState) -> Result<(), Fail> {
+    let mut seen = Clock::new(alloc);
+    seen.add(super::replies::FIRST)?;
+    state.put(0, &seen, Content::Tombstone)?;
+    Ok(())
+}
+
+/// Puts `b` at vnode 1, as one who has seen nothing.
+fn put_b(alloc: Global, state: &mut KeyState) -> Result<(), Fail> {
+    let content = value(alloc, b"text/plain", b"b")?;
+    state.put(1, &Clock::new(alloc), content)?;
+    Ok(())
+}
+
+/// The answer to a read where a tombstone stands beside a value.
+fn beside_tombstone(alloc: Global, form: Form, ends: bool) -> Result<String, Fail> {
+    let mut state = state_of(alloc, &[(0, "a")])?;
+    delete_first(alloc, &mut state)?;
+    put_b(alloc, &mut state)?;
+    let ask = read(alloc, form)?;
+    Ok(text_of(alloc, &ask, &Reply::Got(Ok(state)), ends)?)
+}
+
 /// The siblings 0-2, a tombstone, and 1-1 `b`.
 #[test]
 fn tombstone_beside_value(rt: HostRuntime) -> Result<(), Fail> {
-    let mut state = state_of(rt.alloc(), &[(0, "a")])?;
-    let mut seen = Clock::new(rt.alloc());
-    seen.add(super::replies::FIRST)?;
-    state.put(0, &seen, Content::Tombstone)?;
-    state.put(
-        1,
-        &Clock::new(rt.alloc()),
-        value(rt.alloc(), b"text/plain", b"b")?,
-    )?;
-    let reply = Reply::Got(Ok(state));
-    let listed = text_of(rt.alloc(), &read(rt.alloc(), Form::Text)?, &reply, false)?;
+    let alloc = rt.alloc();
     assert_eq!(rt;
-        listed.as_str(),
+        beside_tombstone(alloc, Form::Text, false)?.as_str(),
         "HTTP/1.1 300 Multiple Choices\r\nContent-Type: text/plain\r\nX-Riak-Vclock: AQACAAAAAAAAAAAAAAACAAAAAQAAAAAAAAAB\r\nContent-Length: 18\r\n\r\nSiblings:\n0-2\n1-1\n"
     );
-    let parts = text_of(rt.alloc(), &read(rt.alloc(), Form::Parts)?, &reply, true)?;
     assert_eq!(rt;
-        parts.as_str(),
+        beside_tombstone(alloc, Form::Parts, true)?.as_str(),
         "HTTP/1.1 300 Multiple Choices\r\nContent-Type: multipart/mixed; boundary=s0\r\nX-Riak-Vclock: AQACAAAAAAAAAAAAAAACAAAAAQAAAAAAAAAB\r\nConnection: close\r\nContent-Length: 113\r\n\r\n\r\n--s0\r\nX-Riak-Deleted: true\r\nX-Riak-Tag: 0-2\r\n\r\n\r\n--s0\r\nContent-Type: text/plain\r\nX-Riak-Tag: 1-1\r\n\r\nb\r\n--s0--\r\n"
     );
-    let tag = Form::One(Bytes::from_slice(rt.alloc(), b"0-2")?);
-    let deleted = text_of(rt.alloc(), &read(rt.alloc(), tag)?, &reply, false)?;
+    let tag = Form::One(Bytes::from_slice(alloc, b"0-2")?);
     assert_eq!(rt;
-        deleted.as_str(),
+        beside_tombstone(alloc, tag, false)?.as_str(),
         "HTTP/1.1 404 Not Found\r\nContent-Type: text/plain\r\nX-Riak-Vclock: AQACAAAAAAAAAAAAAAACAAAAAQAAAAAAAAAB\r\nContent-Length: 10\r\n\r\nnot found\n"
     );
     Ok(())
