@@ -8,3 +8,4 @@ pub mod Journals
 pub mod Answers
 pub mod Brought
 pub mod Rows
+pub mod Blocks

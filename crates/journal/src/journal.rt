@@ -1,11 +1,12 @@
 //! A list of entries that only grows.
 
-ghost use Rattle.std.specs.Prelude.{◌≡◌, ◌≤◌, ◌<◌, ◌↔◌, OnOk, OnErr, IfOk, [], length, Err, IsTrue, false, slice_get};
+ghost use Rattle.std.specs.Prelude.{◌≡◌, ◌≤◌, ◌<◌, ◌↔◌, OnOk, OnErr, IfOk, [], length, Err, IsTrue, false, slice_get, ◌++◌, ◌∷◌};
 ghost use Rattle.std.specs.Option.{option_copied};
 
 use crate::entry::Entry;
 use std::alloc::{AllocError, Global};
 use std::marker::Model;
+use std::mem;
 use thiserror::Error;
 
 /// The most entries of a journal: a place is a `u32`.
@@ -33,22 +34,32 @@ impl From<AllocError> for JournalFault {
     }
 }
 
+/// How many entries a block holds. A block that is full is never copied again.
+const BLOCK: usize = 1024;
+
 /// The entries of one vnode, oldest first. Their places count from 0.
+///
+/// They lie in blocks, so that a growth copies one block at most.
 #[derive(Debug, Drop)]
 pub struct Journal {
+    alloc: Global,
     vnode: u32,
-    entries: Vec<Entry>,
+    /// Full blocks.
+    closed: Vec<Vec<Entry>>,
+    /// The block that entries are added to.
+    last: Vec<Entry>,
 }
 
 impl Model for Journal {
-    ghost use Rattle.std.specs.Prelude.{◌≤◌, ◌-◌, length, vec_len, vec_capacity};
+    ghost use Rattle.std.specs.Prelude.{◌≤◌, length, vec_len, vec_capacity};
     ghost use Rattle.journal.specs.Logs.{RoomyLog, max_entries};
+    ghost use Rattle.journal.specs.Blocks.{in_blocks, room_in, AreBlocks};
 
     ghost Value = { RoomyLog };
 
-    ghost view = { λ j. record { log = record { vnode = j.vnode; entries = j.entries.items }; room = vec_capacity j.entries - vec_len j.entries } };
+    ghost view = { λ j. record { log = record { vnode = j.vnode; entries = in_blocks j.closed.items j.last.items }; room = room_in (vec_capacity j.last) (vec_len j.last) } };
 
-    ghost invariant = { λ j. length j.entries.items ≤ max_entries };
+    ghost invariant = { λ j. AreBlocks j.closed.items j.last.items × (length (in_blocks j.closed.items j.last.items) ≤ max_entries) };
 }
 
 impl Journal {
@@ -60,8 +71,10 @@ impl Journal {
         ensures { result.log ≡ record { vnode = vnode; entries = [] } }
     {
         Journal {
+            alloc,
             vnode,
-            entries: Vec::new(alloc),
+            closed: Vec::new(alloc),
+            last: Vec::new(alloc),
         }
     }
 
@@ -77,14 +90,14 @@ impl Journal {
         ensures len { result ≡ length self.now.log.entries }
         ensures limit { result ≤ max_entries }
     {
-        self.entries.len()
+        self.closed.len() * BLOCK + self.last.len()
     }
 
     /// Whether there is no entry.
     pub fn is_empty(&self) -> bool
         ensures { IsTrue result ↔ (self.now.log.entries ≡ []) }
     {
-        self.entries.is_empty()
+        self.len() == 0
     }
 
     /// Whether no entry can be added.
@@ -95,18 +108,15 @@ impl Journal {
         self.len() == MAX_LENGTH
     }
 
-    /// The entries.
-    pub fn entries(&self) -> &[Entry]
-        ensures { result.now ≡ self.now.log.entries }
-    {
-        &self.entries
-    }
-
     /// The entry at a place.
     pub fn get(&self, place: u32) -> Option<&Entry>
         ensures { option_copied result ≡ slice_get self.now.log.entries place }
     {
-        self.entries.get(place as usize)
+        let place = place as usize;
+        match self.closed.get(place / BLOCK) {
+            Some(block) => entry_at(block, place % BLOCK),
+            None => entry_at(&self.last, place - self.closed.len() * BLOCK),
+        }
     }
 
     /// Makes room for one more entry.
@@ -121,7 +131,10 @@ impl Journal {
         if self.is_full() {
             return Err(JournalFault::Full);
         }
-        self.entries.try_reserve(1)?;
+        if self.last.len() == BLOCK {
+            close_block(self.alloc, &mut self.closed, &mut self.last)?;
+        }
+        self.last.try_reserve(1)?;
         Ok(())
     }
 
@@ -133,7 +146,7 @@ impl Journal {
         ensures entry { self.new.log ≡ with_entry self.old.log entry }
     {
         let place = self.len() as u32;
-        let _ = self.entries.push(entry);
+        let _ = self.last.push(entry);
         place
     }
 
@@ -149,4 +162,28 @@ impl Journal {
         self.reserve()?;
         Ok(self.append(entry))
     }
+}
+
+// The entry at an index of a block.
+fn entry_at(block: &[Entry], index: usize) -> Option<&Entry>
+    ensures { option_copied result ≡ slice_get block.now index }
+{
+    block.get(index)
+}
+
+// Puts the last block behind the closed ones, and an empty one in its place.
+fn close_block(
+    alloc: Global,
+    closed: &mut Vec<Vec<Entry>>,
+    last: &mut Vec<Entry>,
+) -> Result<(), AllocError>
+    ensures closed { OnOk result (closed.new.items ≡ closed.old.items ++ last.old ∷ []) }
+    ensures empty { OnOk result (last.new.items ≡ []) }
+    ensures err { OnErr result ((closed.new.items ≡ closed.old.items) × (last.new ≡ last.old)) }
+{
+    closed.try_reserve(1)?;
+    let empty = Vec::with_capacity(alloc, BLOCK)?;
+    let full = mem::replace(last, empty);
+    let _ = closed.push(full);
+    Ok(())
 }

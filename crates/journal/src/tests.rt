@@ -55,7 +55,6 @@ fn entries_stay_in_their_places(rt: HostRuntime) -> Result<(), Fail> {
     };
     assert_eq!(rt; journal.push(merge)?, 3);
     assert_eq!(rt; journal.len(), 4);
-    assert_eq!(rt; journal.entries().len(), 4);
     assert_eq!(rt; journal.vnode(), 65537);
     assert!(rt; !journal.is_empty());
     assert!(rt; !journal.is_full());
@@ -68,5 +67,22 @@ fn entries_stay_in_their_places(rt: HostRuntime) -> Result<(), Fail> {
     ] {
         assert_eq!(rt; stamp(journal.get(place)), want, "at {place}");
     }
+    Ok(())
+}
+
+#[test]
+fn blocks_follow_one_another(rt: HostRuntime) -> Result<(), Fail> {
+    let mut journal = Journal::new(rt.alloc(), 0);
+    for stamp in 0..2050 {
+        journal.push(Entry::Restart { stamp })?;
+    }
+    for place in [0, 1023, 1024, 2047, 2048, 2049] {
+        assert_eq!(rt;
+            stamp(journal.get(place)),
+            Some(u64::from(place)),
+            "at {place}"
+        );
+    }
+    assert_eq!(rt; (journal.len(), stamp(journal.get(2050))), (2050, None));
     Ok(())
 }

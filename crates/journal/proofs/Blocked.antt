@@ -1,0 +1,58 @@
+-- Entries in blocks are counted, and found, by a division.
+use Rattle.std.proofs.Common.{◌≡◌, refl, ap, ◌∙◌, arith, ℕ, zero, suc, ◌+◌, ◌*◌, ◌-◌, ◌/◌, ◌%◌, ◌<◌, ◌≤◌, List, [], ◌∷◌, ◌++◌, length, Some, length-append, append_assoc, slice_get}
+use Rattle.std.specs.List.{All, flat_map}
+use Rattle.std.specs.Global.{Vec}
+use Rattle.std.proofs.lemmas.List.Elements.{All-head, All-tail}
+use Rattle.journal.specs.declared.entry.Entry.{Entry}
+use Rattle.journal.specs.Blocks.{in_blocks}
+
+abbrev pub IsFullBlock : Vec Entry → Type 0
+IsFullBlock block = length block.items ≡ 1024
+
+module _ {X : Type 0} where
+  in_front : (xs ys : List X) (i : ℕ) → i < length xs → slice_get (xs ++ ys) i ≡ slice_get xs i
+  in_front [] ys i within = absurd (omega arith)
+  in_front (x ∷ xs) ys zero within = refl
+  in_front (x ∷ xs) ys (suc i) within = in_front xs ys i (omega arith)
+
+  behind : (xs ys : List X) (i j : ℕ) → i ≡ length xs + j → slice_get (xs ++ ys) i ≡ slice_get ys j
+  behind [] ys i j at = ap (slice_get ys) (omega arith)
+  behind (x ∷ xs) ys zero j at = absurd (omega arith)
+  behind (x ∷ xs) ys (suc i) j at = behind xs ys i j (omega arith)
+
+module _ (last : List Entry) where
+  joined : (block : Vec Entry) (closed : List (Vec Entry)) → in_blocks (block ∷ closed) last ≡ block.items ++ in_blocks closed last
+  joined block closed = append_assoc block.items (flat_map (λ b. b.items) closed) last
+
+  -- each closed block counts 1,024
+  pub long : (closed : List (Vec Entry)) → All IsFullBlock closed → length (in_blocks closed last) ≡ length closed * 1024 + length last
+  long [] full = omega arith
+  long (block ∷ closed) full =
+      let whole = ap length (joined block closed) ∙ length-append block.items (in_blocks closed last) in
+      let first = All-head IsFullBlock block closed full in
+      let rest = long closed (All-tail IsFullBlock block closed full) in
+      omega arith
+
+  at_place : (closed : List (Vec Entry)) → All IsFullBlock closed → (i j k : ℕ) (block : Vec Entry) → slice_get closed i ≡ Some block → j < 1024 → k ≡ i * 1024 + j
+      → slice_get (in_blocks closed last) k ≡ slice_get block.items j
+  at_place [] full i j k block here small at = cc
+  at_place (first ∷ closed) full zero j k block here small at =
+      let size = All-head IsFullBlock first closed full in
+      let is : first ≡ block = cc in
+      let at' : k ≡ j = omega (arith, at) in
+      ap (λ xs. slice_get xs k) (joined first closed) ∙ in_front first.items (in_blocks closed last) k (omega (arith, size, at', small)) ∙ ap (slice_get first.items) at' ∙ ap (λ (b : Vec Entry). slice_get b.items j) is
+  at_place (first ∷ closed) full (suc i) j k block here small at =
+      let size = All-head IsFullBlock first closed full in
+      ap (λ xs. slice_get xs k) (joined first closed) ∙ behind first.items (in_blocks closed last) k (i * 1024 + j) (omega (arith, size, at))
+      ∙ at_place closed (All-tail IsFullBlock first closed full) i j (i * 1024 + j) block here small refl
+
+  -- the entry at a place stands in the block of its thousand
+  pub in_block : (closed : List (Vec Entry)) → All IsFullBlock closed → (k : ℕ) (block : Vec Entry) → slice_get closed (k / 1024) ≡ Some block
+      → slice_get (in_blocks closed last) k ≡ slice_get block.items (k % 1024)
+  in_block closed full k block here = at_place closed full (k / 1024) (k % 1024) k block here (omega arith) (omega arith)
+
+  -- or behind them all
+  pub in_last : (closed : List (Vec Entry)) → All IsFullBlock closed → (k : ℕ) → length closed * 1024 ≤ k
+      → slice_get (in_blocks closed last) k ≡ slice_get last (k - length closed * 1024)
+  in_last closed full k past =
+      behind (flat_map (λ b. b.items) closed) last k (k - length closed * 1024) (let size = long closed full in let whole = length-append (flat_map (λ b. b.items) closed) last in omega arith)
