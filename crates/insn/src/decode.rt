@@ -329,7 +329,7 @@ fn instruction_at(bytes: &[u8]) -> Result<(Insn, &[u8]), Refusal>
 {
     let (slot, rest) = split_slot(bytes);
     let form = form_of(&slot)?;
-    if form == Form::Wide {
+    if matches!(form, Form::Wide) {
         return wide(slot, rest);
     }
     Ok((build(form, slot)?, rest))
