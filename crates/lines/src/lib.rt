@@ -2,6 +2,7 @@
 #![tactic(auto)]
 
 mod bad;
+mod command;
 mod cut;
 mod line;
 mod words;

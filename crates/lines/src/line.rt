@@ -4,6 +4,7 @@ ghost use Rattle.std.specs.Prelude.{IfOk};
 ghost use Rattle.lines.specs.Spelling.{Spells};
 
 use crate::bad::BadLine;
+use crate::command::Command;
 use crate::words::{is_word, number};
 use std::alloc::{AllocError, Global};
 use std::str;
@@ -106,18 +107,18 @@ fn spelled<'a>(words: &[&'a [u8]]) -> Result<Line<'a>, BadLine<'a>> {
     let Some((command, arguments)) = words.split_first() else {
         return Err(BadLine::NoSuchLine);
     };
-    match *command {
-        b"vnodes" => vnodes(arguments),
-        b"put" => put(arguments),
-        b"del" => del(arguments),
-        b"get" => get(arguments),
-        b"send" => send(arguments),
-        b"deliver" => deliver(arguments),
-        b"restart" => restart(arguments),
-        b"resolve" => resolve(arguments),
-        b"commit" => commit(arguments),
-        b"check" => check(arguments),
-        _ => Err(BadLine::NoSuchLine),
+    match Command::of(command) {
+        Some(Command::Vnodes) => vnodes(arguments),
+        Some(Command::Put) => put(arguments),
+        Some(Command::Del) => del(arguments),
+        Some(Command::Get) => get(arguments),
+        Some(Command::Send) => send(arguments),
+        Some(Command::Deliver) => deliver(arguments),
+        Some(Command::Restart) => restart(arguments),
+        Some(Command::Resolve) => resolve(arguments),
+        Some(Command::Commit) => commit(arguments),
+        Some(Command::Check) => check(arguments),
+        None => Err(BadLine::NoSuchLine),
     }
 }
 
@@ -125,18 +126,28 @@ fn vnodes<'a>(arguments: &[&'a [u8]]) -> Result<Line<'a>, BadLine<'a>> {
     let [count] = arguments else {
         return Err(BadLine::WordCount);
     };
-    Ok(Line::Vnodes(number_of(count)?))
+    let Some(count) = number(count) else {
+        return Err(BadLine::NoNumber);
+    };
+    Ok(Line::Vnodes(count))
 }
 
 fn put<'a>(arguments: &[&'a [u8]]) -> Result<Line<'a>, BadLine<'a>> {
     let [vnode, key, value, context] = arguments else {
         return Err(BadLine::WordCount);
     };
+    let Some(vnode) = number(vnode) else {
+        return Err(BadLine::NoNumber);
+    };
+    if !is_word(key) || !is_word(value) {
+        return Err(BadLine::NoWord);
+    }
+    let context = context_of(context)?;
     Ok(Line::Put {
-        vnode: number_of(vnode)?,
-        key: name_of(key)?,
-        value: Some(name_of(value)?),
-        context: context_of(context)?,
+        vnode,
+        key,
+        value: Some(value),
+        context,
     })
 }
 
@@ -144,106 +155,115 @@ fn del<'a>(arguments: &[&'a [u8]]) -> Result<Line<'a>, BadLine<'a>> {
     let [vnode, key, context] = arguments else {
         return Err(BadLine::WordCount);
     };
+    let Some(vnode) = number(vnode) else {
+        return Err(BadLine::NoNumber);
+    };
+    if !is_word(key) {
+        return Err(BadLine::NoWord);
+    }
+    let context = context_of(context)?;
     Ok(Line::Put {
-        vnode: number_of(vnode)?,
-        key: name_of(key)?,
+        vnode,
+        key,
         value: None,
-        context: context_of(context)?,
+        context,
     })
 }
 
 fn get<'a>(arguments: &[&'a [u8]]) -> Result<Line<'a>, BadLine<'a>> {
-    let [vnode, key, answer] = arguments else {
+    let [vnode, key, name] = arguments else {
         return Err(BadLine::WordCount);
     };
-    Ok(Line::Get {
-        vnode: number_of(vnode)?,
-        key: name_of(key)?,
-        name: name_of(answer)?,
-    })
+    let Some(vnode) = number(vnode) else {
+        return Err(BadLine::NoNumber);
+    };
+    if !is_word(key) || !is_word(name) {
+        return Err(BadLine::NoWord);
+    }
+    Ok(Line::Get { vnode, key, name })
 }
 
 fn send<'a>(arguments: &[&'a [u8]]) -> Result<Line<'a>, BadLine<'a>> {
-    let [vnode, key, message] = arguments else {
+    let [vnode, key, name] = arguments else {
         return Err(BadLine::WordCount);
     };
-    Ok(Line::Send {
-        vnode: number_of(vnode)?,
-        key: name_of(key)?,
-        name: name_of(message)?,
-    })
+    let Some(vnode) = number(vnode) else {
+        return Err(BadLine::NoNumber);
+    };
+    if !is_word(key) || !is_word(name) {
+        return Err(BadLine::NoWord);
+    }
+    Ok(Line::Send { vnode, key, name })
 }
 
 fn deliver<'a>(arguments: &[&'a [u8]]) -> Result<Line<'a>, BadLine<'a>> {
-    let [message, vnode] = arguments else {
+    let [name, vnode] = arguments else {
         return Err(BadLine::WordCount);
     };
-    Ok(Line::Deliver {
-        name: name_of(message)?,
-        vnode: number_of(vnode)?,
-    })
+    if !is_word(name) {
+        return Err(BadLine::NoWord);
+    }
+    let Some(vnode) = number(vnode) else {
+        return Err(BadLine::NoNumber);
+    };
+    Ok(Line::Deliver { name, vnode })
 }
 
 fn restart<'a>(arguments: &[&'a [u8]]) -> Result<Line<'a>, BadLine<'a>> {
     let [vnode] = arguments else {
         return Err(BadLine::WordCount);
     };
-    Ok(Line::Restart {
-        vnode: number_of(vnode)?,
-    })
+    let Some(vnode) = number(vnode) else {
+        return Err(BadLine::NoNumber);
+    };
+    Ok(Line::Restart { vnode })
 }
 
 fn resolve<'a>(arguments: &[&'a [u8]]) -> Result<Line<'a>, BadLine<'a>> {
-    let [answer, file] = arguments else {
+    let [name, file] = arguments else {
         return Err(BadLine::WordCount);
     };
-    Ok(Line::Resolve {
-        name: name_of(answer)?,
-        file: file_of(file)?,
-    })
+    if !is_word(name) {
+        return Err(BadLine::NoWord);
+    }
+    let file = file_of(file)?;
+    Ok(Line::Resolve { name, file })
 }
 
 fn commit<'a>(arguments: &[&'a [u8]]) -> Result<Line<'a>, BadLine<'a>> {
-    let [vnode, answer] = arguments else {
+    let [vnode, name] = arguments else {
         return Err(BadLine::WordCount);
     };
-    Ok(Line::Commit {
-        vnode: number_of(vnode)?,
-        name: name_of(answer)?,
-    })
+    let Some(vnode) = number(vnode) else {
+        return Err(BadLine::NoNumber);
+    };
+    if !is_word(name) {
+        return Err(BadLine::NoWord);
+    }
+    Ok(Line::Commit { vnode, name })
 }
 
 fn check<'a>(arguments: &[&'a [u8]]) -> Result<Line<'a>, BadLine<'a>> {
     let [vnode, key, value, file] = arguments else {
         return Err(BadLine::WordCount);
     };
+    let Some(vnode) = number(vnode) else {
+        return Err(BadLine::NoNumber);
+    };
+    if !is_word(key) || !is_word(value) {
+        return Err(BadLine::NoWord);
+    }
+    let file = file_of(file)?;
     Ok(Line::Check {
-        vnode: number_of(vnode)?,
-        key: name_of(key)?,
-        value: name_of(value)?,
-        file: file_of(file)?,
+        vnode,
+        key,
+        value,
+        file,
     })
 }
 
-// An index or a count.
-fn number_of<'a>(word: &'a [u8]) -> Result<usize, BadLine<'a>> {
-    match number(word) {
-        Some(number) => Ok(number),
-        None => Err(BadLine::NoNumber),
-    }
-}
-
-// A key, a value or a name.
-fn name_of<'a>(word: &'a [u8]) -> Result<&'a [u8], BadLine<'a>> {
-    if is_word(word) {
-        Ok(word)
-    } else {
-        Err(BadLine::NoWord)
-    }
-}
-
 // The name of a file, which is text.
-fn file_of<'a>(word: &'a [u8]) -> Result<&'a str, BadLine<'a>> {
+fn file_of(word: &[u8]) -> Result<&str, BadLine<'_>> {
     match str::from_utf8(word) {
         Ok(file) => Ok(file),
         Err(_) => Err(BadLine::NoFileName),
@@ -251,10 +271,11 @@ fn file_of<'a>(word: &'a [u8]) -> Result<&'a str, BadLine<'a>> {
 }
 
 // The context that a word stands for.
-fn context_of<'a>(word: &'a [u8]) -> Result<Context<'a>, BadLine<'a>> {
+fn context_of(word: &[u8]) -> Result<Context<'_>, BadLine<'_>> {
     match word.split_first() {
         Some((b'-', [])) => Ok(Context::Nothing),
-        Some((b'@', name)) => Ok(Context::OfGet(name_of(name)?)),
+        Some((b'@', name)) if is_word(name) => Ok(Context::OfGet(name)),
+        Some((b'@', _)) => Err(BadLine::NoWord),
         Some((b'=', token)) => Ok(Context::Token(token)),
         _ => Err(BadLine::NoContext),
     }
