@@ -48,7 +48,7 @@ pub struct Script {
 }
 
 /// A line that may not stand where it stands, by its number from 1, and why.
-#[derive(Clone, Copy, Debug, PartialEq, Eq)]
+#[derive(Clone, Copy, PartialEq, Eq)]
 pub struct BadAt<'a> {
     pub line: usize,
     pub why: BadLine<'a>,
@@ -94,16 +94,36 @@ pub fn parse<'a, I: Images>(
         resolvers: Asked::new(alloc),
         checks: Asked::new(alloc),
     };
+    let bad = match read_lines(alloc, &mut script, &mut names, images, bytes)? {
+        Some((number, why)) => Some(BadAt { line: number, why }),
+        None => None,
+    };
+    Ok((script, bad))
+}
+
+// Adds what the lines of some bytes ask for, up to the first that may not stand there, and tells its number from 1, and why.
+fn read_lines<'a, I: Images>(
+    alloc: Global,
+    script: &mut Script,
+    names: &mut Names<'a>,
+    images: &I,
+    bytes: &'a [u8],
+) -> Result<Option<(usize, BadLine<'a>)>, AllocError>
+    requires runnable { IsRunnable (I.listed images.now) script.old }
+    requires empty { lines_of script.old ≡ 0 }
+    ensures runnable { OnOk result (IsRunnable (I.listed images.now) script.new) }
+    ensures read { IfOk result (λ bad. MatchOption bad (AnswersFor script.new (lines_in bytes.now)) (λ at. AnswersUpTo script.new bytes.now at.0)) }
+{
     let mut number: usize = 0;
     let mut left = bytes;
     while let Some((line, rest)) = first_line(left) {
         left = rest;
         number += 1;
-        if let Some(why) = read(alloc, &mut script, &mut names, images, line)? {
-            return Ok((script, Some(BadAt { line: number, why })));
+        if let Some(why) = read(alloc, script, names, images, line)? {
+            return Ok(Some((number, why)));
         }
     }
-    Ok((script, None))
+    Ok(None)
 }
 
 // Adds what the bytes of a line ask for, if anything, or tells why they may not stand there.
@@ -145,43 +165,10 @@ fn read_line<'a, I: Images>(
             value,
             context,
         } => read_put(alloc, script, names, vnode, key, value, context),
-        Line::Get { vnode, key, name } => {
-            if vnode >= script.vnodes {
-                return Ok(Some(BadLine::NoVnode(vnode)));
-            }
-            let place = script.events.len();
-            let key = key_of(alloc, key)?;
-            push(script, Event::Get { vnode, key })?;
-            names.events.insert(name, place)?;
-            Ok(None)
-        }
-        Line::Send { vnode, key, name } => {
-            if vnode >= script.vnodes {
-                return Ok(Some(BadLine::NoVnode(vnode)));
-            }
-            let place = script.events.len();
-            let key = key_of(alloc, key)?;
-            push(script, Event::Send { vnode, key })?;
-            names.events.insert(name, place)?;
-            Ok(None)
-        }
-        Line::Deliver { name, vnode } => {
-            let Some(message) = sent(&script.events, &names.events, name) else {
-                return Ok(Some(BadLine::NoSend(name)));
-            };
-            if vnode >= script.vnodes {
-                return Ok(Some(BadLine::NoVnode(vnode)));
-            }
-            push(script, Event::Deliver { message, vnode })?;
-            Ok(None)
-        }
-        Line::Restart { vnode } => {
-            if vnode >= script.vnodes {
-                return Ok(Some(BadLine::NoVnode(vnode)));
-            }
-            push(script, Event::Restart { vnode })?;
-            Ok(None)
-        }
+        Line::Get { vnode, key, name } => read_get(alloc, script, names, vnode, key, name),
+        Line::Send { vnode, key, name } => read_send(alloc, script, names, vnode, key, name),
+        Line::Deliver { name, vnode } => read_deliver(script, names, name, vnode),
+        Line::Restart { vnode } => read_restart(script, vnode),
         Line::Resolve { name, file } => read_resolve(alloc, script, names, images, name, file),
         Line::Commit { vnode, name } => read_commit(script, names, vnode, name),
         Line::Check {
@@ -191,6 +178,82 @@ fn read_line<'a, I: Images>(
             file,
         } => read_check(alloc, script, names, images, vnode, key, value, file),
     }
+}
+
+// A get, and its place under its name.
+fn read_get<'a>(
+    alloc: Global,
+    script: &mut Script,
+    names: &mut Names<'a>,
+    vnode: usize,
+    key: &[u8],
+    name: &'a [u8],
+) -> Result<Option<BadLine<'a>>, AllocError>
+    ensures runnable { (listed : List Entry) → IsRunnable listed script.old → OnOk result (IsRunnable listed script.new) }
+    ensures answers { IfOk result (λ bad. MatchOption bad (lines_of script.new ≡ lines_of script.old + 1) (λ _. lines_of script.new ≡ lines_of script.old)) }
+{
+    if vnode >= script.vnodes {
+        return Ok(Some(BadLine::NoVnode(vnode)));
+    }
+    let place = script.events.len();
+    let key = key_of(alloc, key)?;
+    push(script, Event::Get { vnode, key })?;
+    names.events.insert(name, place)?;
+    Ok(None)
+}
+
+// A send, and its place under its name.
+fn read_send<'a>(
+    alloc: Global,
+    script: &mut Script,
+    names: &mut Names<'a>,
+    vnode: usize,
+    key: &[u8],
+    name: &'a [u8],
+) -> Result<Option<BadLine<'a>>, AllocError>
+    ensures runnable { (listed : List Entry) → IsRunnable listed script.old → OnOk result (IsRunnable listed script.new) }
+    ensures answers { IfOk result (λ bad. MatchOption bad (lines_of script.new ≡ lines_of script.old + 1) (λ _. lines_of script.new ≡ lines_of script.old)) }
+{
+    if vnode >= script.vnodes {
+        return Ok(Some(BadLine::NoVnode(vnode)));
+    }
+    let place = script.events.len();
+    let key = key_of(alloc, key)?;
+    push(script, Event::Send { vnode, key })?;
+    names.events.insert(name, place)?;
+    Ok(None)
+}
+
+// A delivery of what the latest send of a name sent.
+fn read_deliver<'a>(
+    script: &mut Script,
+    names: &Names<'a>,
+    name: &'a [u8],
+    vnode: usize,
+) -> Result<Option<BadLine<'a>>, AllocError>
+    ensures runnable { (listed : List Entry) → IsRunnable listed script.old → OnOk result (IsRunnable listed script.new) }
+    ensures answers { IfOk result (λ bad. MatchOption bad (lines_of script.new ≡ lines_of script.old + 1) (λ _. lines_of script.new ≡ lines_of script.old)) }
+{
+    let Some(message) = sent(&script.events, &names.events, name) else {
+        return Ok(Some(BadLine::NoSend(name)));
+    };
+    if vnode >= script.vnodes {
+        return Ok(Some(BadLine::NoVnode(vnode)));
+    }
+    push(script, Event::Deliver { message, vnode })?;
+    Ok(None)
+}
+
+// A restart of a vnode.
+fn read_restart<'a>(script: &mut Script, vnode: usize) -> Result<Option<BadLine<'a>>, AllocError>
+    ensures runnable { (listed : List Entry) → IsRunnable listed script.old → OnOk result (IsRunnable listed script.new) }
+    ensures answers { IfOk result (λ bad. MatchOption bad (lines_of script.new ≡ lines_of script.old + 1) (λ _. lines_of script.new ≡ lines_of script.old)) }
+{
+    if vnode >= script.vnodes {
+        return Ok(Some(BadLine::NoVnode(vnode)));
+    }
+    push(script, Event::Restart { vnode })?;
+    Ok(None)
 }
 
 // A run of a resolver on what the get of a name answered, or the refusal of its image.
@@ -269,10 +332,7 @@ fn read_check<'a, I: Images>(
     }
     match pre_commit(alloc, script, &mut names.checks, images, file) {
         Ok(hook) => {
-            let key = key_of(alloc, key)?;
-            let new = content_of(alloc, Some(value))?;
-            let check = Check { hook, new };
-            push_answered(script, Event::Get { vnode, key }, Answered::Checked(check))?;
+            push_check(alloc, script, vnode, key, value, hook)?;
             Ok(None)
         }
         Err(NoHook::Refused(refusal)) => {
@@ -281,6 +341,26 @@ fn read_check<'a, I: Images>(
         }
         Err(NoHook::Unreadable) => Ok(Some(BadLine::NoFile(file))),
     }
+}
+
+// Adds a get, and what a hook says of a new value beside its answer.
+fn push_check(
+    alloc: Global,
+    script: &mut Script,
+    vnode: usize,
+    key: &[u8],
+    value: &[u8],
+    hook: Hook,
+) -> Result<(), AllocError>
+    requires within { vnode < script.old.vnodes }
+    requires pre_commit { hook.kind ≡ ImageKind.PreCommit }
+    ensures runnable { (listed : List Entry) → IsRunnable listed script.old → OnOk result (IsRunnable listed script.new) }
+    ensures answers { OnOk result (lines_of script.new ≡ lines_of script.old + 1) }
+{
+    let key = key_of(alloc, key)?;
+    let new = content_of(alloc, Some(value))?;
+    let check = Check { hook, new };
+    push_answered(script, Event::Get { vnode, key }, Answered::Checked(check))
 }
 
 // The resolver in a file: that of an earlier line, or what the images answer.
@@ -411,18 +491,33 @@ fn read_put<'a>(
             }
         },
     };
+    push_put(alloc, script, vnode, key, value, seen)?;
+    Ok(None)
+}
+
+// Adds a put whose writer had seen this.
+fn push_put(
+    alloc: Global,
+    script: &mut Script,
+    vnode: usize,
+    key: &[u8],
+    value: Option<&[u8]>,
+    seen: Seen,
+) -> Result<(), AllocError>
+    requires within { vnode < script.old.vnodes }
+    requires earlier { IsEarlierContext script.old.events.items seen }
+    ensures runnable { (listed : List Entry) → IsRunnable listed script.old → OnOk result (IsRunnable listed script.new) }
+    ensures answers { OnOk result (lines_of script.new ≡ lines_of script.old + 1) }
+{
     let key = key_of(alloc, key)?;
     let content = content_of(alloc, value)?;
-    push(
-        script,
-        Event::Put {
-            vnode,
-            key,
-            seen,
-            content,
-        },
-    )?;
-    Ok(None)
+    let put = Event::Put {
+        vnode,
+        key,
+        seen,
+        content,
+    };
+    push(script, put)
 }
 
 // Adds an event that may come.
@@ -438,7 +533,6 @@ fn push_answered(script: &mut Script, event: Event, answered: Answered) -> Resul
     ensures more { OnOk result (IsOneMore script.old event answered script.new) }
     ensures answers { OnOk result (lines_of script.new ≡ lines_of script.old + 1) }
 {
-    script.answered.reserve(1)?;
     script.events.push(event)?;
     script.answered.push(answered)?;
     Ok(())

@@ -1,17 +1,10 @@
 use Rattle.std.proofs.Common.{◌≡◌, List, length, refl, ap, arith}
 use Rattle.events.specs.declared.script.Answered.{Answered}
 use Rattle.events.proofs.Growing.{nothing_runs}
-use Rattle.events.proofs.Reading.{begins, goes_on, ends, of_none}
 use Rattle.events.proofs.script.parse.Goals as goal
 
-pub loop-line-init : goal.loop-line-init
-loop-line-init g c =
-    let none : length c.new-2.result.items ≡ 0 = ap (λ (lines : List Answered). length lines) c.new-2.ensures.items in
-    begins _ _ _ (nothing_runs _ _ refl c.new.ensures.items c.new-2.ensures.items) (omega (arith, none))
+pub read_lines-requires-clause-runnable : goal.read_lines-requires-clause-runnable
+read_lines-requires-clause-runnable g c = nothing_runs _ _ refl c.new.ensures.items c.new-2.ensures.items
 
-pub loop-line-preserved : goal.loop-line-preserved
-loop-line-preserved g c =
-    goes_on _ _ _ _ _ _ _ _ c.loop-line.invariant c.in-Some.ensures.lines c.in-Some.ensures.shorter c.in_ok-why.ensures.runnable (of_none _ _ _ c.in_default-2.not-Some c.in_ok-why.ensures.answers)
-
-pub returns-clause-read : goal.returns-clause-read
-returns-clause-read g c = ends _ _ _ _ _ c.loop-line.invariant c.in_default.ensures.lines
+pub read_lines-requires-clause-empty : goal.read_lines-requires-clause-empty
+read_lines-requires-clause-empty g c = let none : length c.new-2.result.items ≡ 0 = ap (λ (lines : List Answered). length lines) c.new-2.ensures.items in omega (arith, none)

@@ -1,15 +1,12 @@
-use Rattle.std.proofs.Common.{List, sym, subst, arith, refl}
+use Rattle.std.proofs.Common.{List, sym, subst}
 use Rattle.world.specs.declared.event.Event.{Event}
 use Rattle.world.specs.Running.{IsEarlierContext, IsGetAt}
-use Rattle.events.proofs.Growing.{one_more}
 use Rattle.events.proofs.script.read_put.Goals.{in-Nothing, in-OfGet+in-Some, in-Token+in-Ok}
 use Rattle.events.proofs.script.read_put.Goals as goal
 
-pub returns-clause-runnable : goal.returns-clause-runnable
-returns-clause-runnable c listed runnable =
-    let earlier : IsEarlierContext c.args.script.now.events.items c.match-context.seen = elim c.match-context.branch [
-      | in-Nothing w ↦ subst (IsEarlierContext c.args.script.now.events.items) (sym w.seen-is) tt
-      | in-OfGet+in-Some w ↦ subst (IsEarlierContext c.args.script.now.events.items) (sym w.seen-is) (subst (λ (es : List Event). IsGetAt es w.in-Some.get) w.deref.ensures.value w.in-Some.ensures)
-      | in-Token+in-Ok w ↦ subst (IsEarlierContext c.args.script.now.events.items) (sym w.seen-is) tt
-    ] in
-    one_more _ _ _ _ _ runnable (omega arith, earlier) c.in_ok-push.ensures.more refl
+pub push_put-requires-clause-earlier : goal.push_put-requires-clause-earlier
+push_put-requires-clause-earlier c = elim c.match-context.branch [
+  | in-Nothing w ↦ subst (IsEarlierContext c.args.script.now.events.items) (sym w.seen-is) tt
+  | in-OfGet+in-Some w ↦ subst (IsEarlierContext c.args.script.now.events.items) (sym w.seen-is) (subst (λ (es : List Event). IsGetAt es w.in-Some.get) w.deref.ensures.value w.in-Some.ensures)
+  | in-Token+in-Ok w ↦ subst (IsEarlierContext c.args.script.now.events.items) (sym w.seen-is) tt
+]

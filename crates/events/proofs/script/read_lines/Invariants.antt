@@ -1,6 +1,6 @@
 use Rattle.std.proofs.Common.{length}
 use Rattle.events.proofs.Reading.{IsReadSoFar}
-use Rattle.events.proofs.script.parse.Given as goal
+use Rattle.events.proofs.script.read_lines.Given as goal
 
 -- the lines before those that are left were read
 abbrev pub invariant-loop-line : goal.invariant-loop-line
