@@ -18,11 +18,11 @@ pub fn print_verdict(
     ensures { OnOk result (string_bytes text.new ≡ string_bytes text.old ++ verdict_text (meaning_of verdict.now)) }
 {
     match verdict {
-        Verdict::Pass => writeln!(text, "pass"),
+        Verdict::Pass => text.push_str("pass\n"),
         Verdict::Write(bytes) => print_write(alloc, bytes, text),
         Verdict::Reject(code) => writeln!(text, "reject {code}"),
-        Verdict::Keep => writeln!(text, "keep"),
-        Verdict::Delete => writeln!(text, "delete"),
+        Verdict::Keep => text.push_str("keep\n"),
+        Verdict::Delete => text.push_str("delete\n"),
         Verdict::Take(place) => writeln!(text, "take {place}"),
     }
 }
@@ -33,8 +33,8 @@ pub fn print_run_fault(fault: RunFault, text: &mut String) -> Result<(), AllocEr
     ensures text { OnOk result (string_bytes text.new ≡ string_bytes text.old ++ decision_text (Err fault)) }
 {
     match fault {
-        RunFault::Disagrees => writeln!(text, "X4"),
-        RunFault::TooLarge => writeln!(text, "large"),
+        RunFault::Disagrees => text.push_str("X4\n"),
+        RunFault::TooLarge => text.push_str("large\n"),
         RunFault::Bad(bad) => {
             let number = bad_answer_number(bad);
             writeln!(text, "bad {number}")

@@ -17,15 +17,15 @@ pub fn print_reply(alloc: Global, reply: &Reply, text: &mut String) -> Result<()
     match reply {
         Reply::Stored(dot) => {
             print_dot(dot, text)?;
-            writeln!(text, "")
+            text.push_str("\n")
         }
         Reply::Found(state) => print_state(alloc, state, text),
-        Reply::Sent(_) => writeln!(text, "ok"),
-        Reply::Changed(true) => writeln!(text, "changed"),
-        Reply::Changed(false) => writeln!(text, "same"),
-        Reply::Restarted => writeln!(text, "ok"),
+        Reply::Sent(_) => text.push_str("ok\n"),
+        Reply::Changed(true) => text.push_str("changed\n"),
+        Reply::Changed(false) => text.push_str("same\n"),
+        Reply::Restarted => text.push_str("ok\n"),
         Reply::Resolved(resolution) => print_resolution(alloc, resolution, text),
-        Reply::Nothing => writeln!(text, "nothing"),
+        Reply::Nothing => text.push_str("nothing\n"),
         Reply::Refused(refusal) => {
             let number = refusal_number(*refusal);
             writeln!(text, "{number}")
@@ -42,14 +42,14 @@ fn print_resolution(
     ensures { OnOk result (string_bytes text.new ≡ string_bytes text.old ++ resolution_text resolution.now) }
 {
     match resolution {
-        Resolution::Keep => writeln!(text, "keep"),
+        Resolution::Keep => text.push_str("keep\n"),
         Resolution::Take(place) => writeln!(text, "take {place}"),
         Resolution::Write(Content::Value { bytes, .. }) => {
             print_write(alloc, bytes.as_slice(), text)
         }
-        Resolution::Write(Content::Tombstone) => writeln!(text, "delete"),
-        Resolution::Delete => writeln!(text, "delete"),
-        Resolution::TooLarge => writeln!(text, "large"),
+        Resolution::Write(Content::Tombstone) => text.push_str("delete\n"),
+        Resolution::Delete => text.push_str("delete\n"),
+        Resolution::TooLarge => text.push_str("large\n"),
         Resolution::Bad(bad) => {
             let number = bad_answer_number(*bad);
             writeln!(text, "bad {number}")

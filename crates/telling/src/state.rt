@@ -23,7 +23,7 @@ fn print_siblings(alloc: Global, siblings: &[Sibling], text: &mut String) -> Res
     ensures { OnOk result (string_bytes text.new ≡ string_bytes text.old ++ siblings_text siblings.now) }
 {
     if siblings.is_empty() {
-        return write!(text, "none ");
+        return text.push_str("none ");
     }
     print_each(alloc, siblings, text)
 }
@@ -44,7 +44,7 @@ fn print_sibling(alloc: Global, sibling: &Sibling, text: &mut String) -> Result<
 {
     print_dot(&sibling.dot, text)?;
     print_content(alloc, &sibling.content, text)?;
-    write!(text, " ")
+    text.push_str(" ")
 }
 
 // Adds a dot.
@@ -64,14 +64,14 @@ fn print_content(alloc: Global, content: &Content, text: &mut String) -> Result<
         Content::Value { bytes, .. } => {
             let value = bytes.as_slice();
             if is_word(value) {
-                write!(text, "=")?;
+                text.push_str("=")?;
                 print_word(value, text)
             } else {
                 let digits = hex::encode(alloc, value)?;
                 write!(text, ":{digits}")
             }
         }
-        Content::Tombstone => write!(text, "!"),
+        Content::Tombstone => text.push_str("!"),
     }
 }
 

@@ -1,6 +1,7 @@
 //! Clocks under right digests.
 
 use super::{KEY, NOT_CANONICAL, push_siblings, told, told_of};
+use std::alloc::{AllocError, Global};
 use std::test::Fail;
 use wire::WireFault;
 
@@ -19,34 +20,45 @@ const CLOCKS: [(&[(u32, u64)], Option<WireFault>); 9] = [
 
 #[test]
 fn clocks_under_right_digests(rt: HostRuntime) -> Result<(), Fail> {
-    for (clock, want) in CLOCKS {
+    for (clock, want) in &CLOCKS {
         let got = told_of(rt.alloc(), clock, 1, &[(0, 1, &[0])])?;
-        assert_eq!(rt; got, want, "{clock:?}");
+        assert_eq!(rt; got, *want, "{clock:?}");
     }
     Ok(())
+}
+
+/// A record's body with one byte of the number of its clock's entries.
+fn body_with_cut_clock(alloc: Global) -> Result<Vec<u8>, AllocError> {
+    let mut body = KEY.to_vec(alloc)?;
+    body.push(0)?;
+    push_siblings(&mut body, 1, &[(0, 1, &[0])])?;
+    Ok(body)
 }
 
 #[test]
 fn cut_clock(rt: HostRuntime) -> Result<(), Fail> {
     let alloc = rt.alloc();
-    let mut body = KEY.to_vec(alloc)?;
-    body.push(0)?;
-    push_siblings(&mut body, 1, &[(0, 1, &[0])])?;
-    assert_eq!(rt; told(alloc, &body)?, NOT_CANONICAL);
+    let got = told(alloc, &body_with_cut_clock(alloc)?)?;
+    assert_eq!(rt; got, NOT_CANONICAL);
     Ok(())
+}
+
+/// The first events of so many vnodes.
+fn first_events(alloc: Global, count: u32) -> Result<Vec<(u32, u64)>, AllocError> {
+    let mut clock = Vec::new(alloc);
+    for vnode in 0..count {
+        clock.push((vnode, 1))?;
+    }
+    Ok(clock)
 }
 
 /// 1,024 entries of a clock are read, one more isn't.
 #[test]
 fn most_entries(rt: HostRuntime) -> Result<(), Fail> {
     let alloc = rt.alloc();
-    for (count, want) in [(1_024, None), (1_025, NOT_CANONICAL)] {
-        let mut clock = Vec::new(alloc);
-        for vnode in 0..count {
-            clock.push((vnode, 1))?;
-        }
-        let got = told_of(alloc, &clock, 1, &[(0, 1, &[0])])?;
-        assert_eq!(rt; got, want, "{count}");
+    for (count, want) in &[(1_024, None), (1_025, NOT_CANONICAL)] {
+        let got = told_of(alloc, &first_events(alloc, *count)?, 1, &[(0, 1, &[0])])?;
+        assert_eq!(rt; got, *want, "{count}");
     }
     Ok(())
 }

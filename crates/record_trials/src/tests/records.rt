@@ -2,7 +2,8 @@
 
 use dvv::Dot;
 use object::{Content, KeyState};
-use std::alloc::Global;
+use std::alloc::{AllocError, Global};
+use std::process::Abort;
 use std::test::Fail;
 use wire::{Record, WireFault, has_record, read_record, write_record};
 
@@ -51,10 +52,17 @@ fn is_plain_a(content: &Content) -> bool {
 #[test]
 fn one_value(rt: HostRuntime) -> Result<(), Fail> {
     let (record, len) = read_record(rt.alloc(), &ONE_VALUE)?;
-    assert_eq!(rt; (len, record.from, record.at), (92, 0, 1));
-    assert_eq!(rt; record.key.bucket.as_slice(), b"sim".as_slice());
-    assert_eq!(rt; record.key.key.as_slice(), b"k".as_slice());
-    assert!(rt; has_one_value(&record.state));
+    let Record {
+        key,
+        from,
+        at,
+        state,
+    } = &record;
+    let names = (key.bucket.as_slice(), key.key.as_slice());
+    assert_eq!(rt;
+        (len, *from, *at, names, has_one_value(state)),
+        (92, 0, 1, (b"sim".as_slice(), b"k".as_slice()), true)
+    );
     Ok(())
 }
 
@@ -76,14 +84,19 @@ fn rewritten(alloc: Global, bytes: &[u8]) -> Result<(usize, bool, Vec<u8>), Fail
 }
 
 /// What was read is written as it was.
+fn is_written_again(rt: &impl Abort, alloc: Global, bytes: &[u8]) -> Result<(), Fail> {
+    let (len, has_record, again) = rewritten(alloc, bytes)?;
+    assert_eq!(rt;
+        (len, has_record, again.as_slice()),
+        (bytes.len(), true, bytes)
+    );
+    Ok(())
+}
+
 #[test]
 fn written_again(rt: HostRuntime) -> Result<(), Fail> {
-    for bytes in [ONE_VALUE.as_slice(), TOMBSTONE_BESIDE_VALUE.as_slice()] {
-        let (len, has_record, again) = rewritten(rt.alloc(), bytes)?;
-        assert_eq!(rt; (len, has_record), (bytes.len(), true));
-        assert_eq!(rt; again.as_slice(), bytes);
-    }
-    Ok(())
+    is_written_again(&rt, rt.alloc(), &ONE_VALUE)?;
+    is_written_again(&rt, rt.alloc(), &TOMBSTONE_BESIDE_VALUE)
 }
 
 /// Each front of a record is cut.
@@ -96,13 +109,24 @@ fn fronts(rt: HostRuntime) -> Result<(), Fail> {
     Ok(())
 }
 
+/// A record twice.
+fn two_records(alloc: Global) -> Result<Vec<u8>, AllocError> {
+    let mut bytes = ONE_VALUE.to_vec(alloc)?;
+    bytes.extend_from_slice(&ONE_VALUE)?;
+    Ok(bytes)
+}
+
+/// How long the record is at the front.
+fn len_of_front(alloc: Global, bytes: &[u8]) -> Result<usize, WireFault> {
+    let (_, len) = read_record(alloc, bytes)?;
+    Ok(len)
+}
+
 /// What follows a record doesn't count.
 #[test]
 fn record_before_others(rt: HostRuntime) -> Result<(), Fail> {
     let alloc = rt.alloc();
-    let mut bytes = ONE_VALUE.to_vec(alloc)?;
-    bytes.extend_from_slice(&ONE_VALUE)?;
-    let (_, len) = read_record(alloc, &bytes)?;
+    let len = len_of_front(alloc, &two_records(alloc)?)?;
     assert_eq!(rt; len, 92);
     Ok(())
 }
@@ -125,13 +149,13 @@ const CHANGES: [(usize, usize, WireFault); 11] = [
 
 #[test]
 fn changed_bytes(rt: HostRuntime) -> Result<(), Fail> {
-    for (place, len, want) in CHANGES {
+    for (place, len, want) in &CHANGES {
         let mut bytes = ONE_VALUE;
-        if let Some(byte) = bytes.get_mut(place) {
+        if let Some(byte) = bytes.get_mut(*place) {
             *byte ^= 1;
         }
-        let read = read_record(rt.alloc(), &bytes[..len.min(92)]);
-        assert_eq!(rt; read.err(), Some(want), "at {place} of {len}");
+        let read = read_record(rt.alloc(), &bytes[..(*len).min(92)]);
+        assert_eq!(rt; read.err(), Some(*want), "at {place} of {len}");
     }
     Ok(())
 }
