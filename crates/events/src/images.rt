@@ -11,7 +11,7 @@ use std::io;
 use verifier::Verified;
 
 /// Why there is no hook under a name.
-#[derive(Clone, Copy, Debug, PartialEq, Eq)]
+#[derive(Clone, Copy)]
 pub enum NoHook {
     /// The file can't be read.
     Unreadable,
