@@ -5,6 +5,7 @@ ghost use Rattle.std.specs.Option.{SomeIff};
 ghost use Rattle.std.specs.List.{flat_map};
 ghost use Rattle.std.specs.Int.{w16, w32, to_be_bytes};
 ghost use Rattle.object.specs.Limits.{IsContent, IsKey};
+ghost use Rattle.object.specs.State.{IsState};
 ghost use Rattle.wire.specs.Records.{AreContents, AreNarrow, IsRecord, body, clock, content, dot, key, long_text, mark, short_text, sibling, siblings, spelling, state};
 ghost use Rattle.wire.specs.declared.record.Record.{Record};
 
@@ -61,16 +62,41 @@ pub fn write_record(
         unreachable!();
     };
     let mut out = Vec::with_capacity(alloc, HEAD_LEN + len + DIGEST_LEN)?;
-    out.extend_from_slice(&MARK)?;
-    out.extend_from_slice(&(len as u32).to_be_bytes())?;
-    put_key(&mut out, key)?;
-    out.extend_from_slice(&from.to_be_bytes())?;
-    out.extend_from_slice(&at.to_be_bytes())?;
-    put_clock(&mut out, state.clock())?;
-    put_siblings(&mut out, state.siblings())?;
+    put_head(&mut out, len as u32)?;
+    put_body(&mut out, key, from, at, state)?;
     let digest = Sha1::digest(&out[HEAD_LEN..]);
     out.extend_from_slice(&digest)?;
     Ok(out)
+}
+
+/// Adds the mark, and the length of a body.
+fn put_head(out: &mut Vec<u8>, len: u32) -> Result<(), AllocError>
+    ensures { OnOk result (out.new.items ≡ out.old.items ++ mark ++ to_be_bytes w32 len) }
+{
+    out.extend_from_slice(&MARK)?;
+    out.extend_from_slice(&len.to_be_bytes())
+}
+
+/// Adds a record's body.
+fn put_body(
+    out: &mut Vec<u8>,
+    key: &Key,
+    from: u32,
+    at: u32,
+    state: &KeyState,
+) -> Result<(), AllocError>
+    requires key { IsKey key.now }
+    requires few { length state.now.siblings < 2 ^ 32 }
+    requires contents { AreContents state.now.siblings }
+    ensures written { OnOk result (out.new.items ≡ out.old.items ++ body (record { key = key.now; from = from; at = at; state = state.now })) }
+    ensures narrow { OnOk result (AreNarrow state.now.clock) }
+    ensures state { OnOk result (IsState state.now) }
+{
+    put_key(out, key)?;
+    out.extend_from_slice(&from.to_be_bytes())?;
+    out.extend_from_slice(&at.to_be_bytes())?;
+    put_clock(out, state.clock())?;
+    put_siblings(out, state.siblings())
 }
 
 /// How long a record's body is, where it is below its limit.
