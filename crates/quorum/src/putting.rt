@@ -1,6 +1,6 @@
 //! A put: the bucket's pre-commit hook, then the coordinator, then its state to the other vnodes of the list.
 
-ghost use Rattle.std.specs.Prelude.{◌≡◌, ◌+◌, ◌≤◌, ◌<◌, ◌∷◌, List, length, Bool, Option, Some, Result, Ok, Err, IfOk, ◌^◌};
+ghost use Rattle.std.specs.Prelude.{◌≡◌, ◌+◌, ◌≤◌, ◌<◌, ◌∷◌, List, length, Bool, Option, Some, Result, Ok, Err, IfOk, ◌^◌, nat_le, if◌then◌else◌};
 ghost use Rattle.verifier.specs.Program.{Program};
 ghost use Rattle.hooks.specs.declared.fault.NotSeen.{NotSeen as LookUpFault};
 ghost use Rattle.peers.specs.declared.fault.PeerFault.{PeerFault as Failure};
@@ -8,7 +8,8 @@ ghost use Rattle.peers.specs.Calls.{Call, Made};
 ghost use Rattle.peers.specs.Counts.{HasRisen};
 ghost use Rattle.place.specs.Places.{AreDifferent};
 ghost use Rattle.quorum.specs.Faults.{fault_of};
-ghost use Rattle.quorum.specs.Judged.{IsJudgedPut};
+ghost use Rattle.helpers.specs.declared.sig.Entry.{Entry as Helper};
+ghost use Rattle.quorum.specs.Judged.{AfterJudged, IsJudgedPut, or_same};
 ghost use Rattle.quorum.specs.Puts.{Brought, gathers, merges, copies, AfterPut, IsPut, StoresCopies, is_ahead};
 
 use crate::fault::QuorumFault;
@@ -93,12 +94,32 @@ fn put_judged<P: Peers, H: Hooks>(
     ensures table { hooking.new.table ≡ hooking.old.table }
 {
     match peers.state_of(coordinator, key) {
-        Ok(answer) => match hooking.judge(hook, content, answer.state.siblings()) {
-            Ok(Some(changed)) => put_content(peers, coordinator, others, key, seen, &changed, w),
-            Ok(None) => put_content(peers, coordinator, others, key, seen, content, w),
-            Err(fault) => Err(fault),
-        },
+        Ok(answer) => {
+            let judged = hooking.judge(hook, content, answer.state.siblings());
+            put_passed(peers, coordinator, others, key, seen, content, w, judged)
+        }
         Err(fault) => Err(quorum_fault(fault)),
+    }
+}
+
+// Puts a content, or what a pre-commit hook changed it to, where the hook let one of these through.
+fn put_passed<P: Peers>(
+    peers: &mut P,
+    coordinator: usize,
+    others: &[usize],
+    key: &Key,
+    seen: &Clock,
+    content: &Content,
+    w: usize,
+    judged: Result<Option<Content>, QuorumFault>,
+) -> Result<Dot, QuorumFault>
+    requires { length others.now < 2 ^ 32 }
+    ensures { (listed : List Helper) → (calls : List Call) × Made P.happens peers.old calls peers.new × AfterJudged listed coordinator others.now key.now w seen.now content.now (or_same content.now judged) calls result }
+{
+    match judged {
+        Ok(Some(changed)) => put_content(peers, coordinator, others, key, seen, &changed, w),
+        Ok(None) => put_content(peers, coordinator, others, key, seen, content, w),
+        Err(fault) => Err(fault),
     }
 }
 
@@ -173,14 +194,19 @@ fn replicate<P: Peers>(
     ensures { (calls : List Call) × Made P.happens peers.old calls peers.new × AfterPut coordinator others.now key.now w (Ok dot) calls result }
 {
     match peers.state_of(coordinator, key) {
-        Ok(answer) => {
-            if w <= spread(peers, key, &answer, others) {
-                Ok(dot)
-            } else {
-                Err(QuorumFault::TooFew)
-            }
-        }
+        Ok(answer) => enough(w, spread(peers, key, &answer, others), dot),
         Err(fault) => Err(quorum_fault(fault)),
+    }
+}
+
+// What a put answers of so many copies: its dot where w are there.
+fn enough(w: usize, copies: usize, dot: Dot) -> Result<Dot, QuorumFault>
+    ensures { result ≡ (if nat_le w copies then Ok dot else Err QuorumFault.TooFew) }
+{
+    if w <= copies {
+        Ok(dot)
+    } else {
+        Err(QuorumFault::TooFew)
     }
 }
 

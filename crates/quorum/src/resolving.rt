@@ -1,11 +1,12 @@
 //! A resolve: what a bucket's resolver makes of a get that found several siblings.
 
 ghost use Rattle.std.specs.Prelude.{◌≡◌, ◌<◌, ◌∷◌, List, Bool, Option, Some, None, Result, Ok, Err, MatchResult};
+ghost use Rattle.std.specs.Option.{option_copied};
 ghost use Rattle.object.specs.State.{State};
 ghost use Rattle.peers.specs.declared.fault.PeerFault.{PeerFault as Failure};
 ghost use Rattle.dvv.specs.declared.Dot.{Dot};
 ghost use Rattle.peers.specs.Calls.{Call, PutAt, Made};
-ghost use Rattle.quorum.specs.Resolves.{is_others, others_of, brings, AllTaken, OneFailed, AfterCommit, Commits, AfterRun, IsResolve, end_of, state_told, cut_of};
+ghost use Rattle.quorum.specs.Resolves.{is_others, others_of, brings, AllTaken, OneFailed, AfterChoice, AfterCommit, Commits, AfterRun, IsResolve, end_of, state_told, cut_of};
 ghost use Rattle.quorum.specs.declared.fault.ResolveFault.{ResolveFault as Unmade};
 
 use crate::fault::ResolveFault;
@@ -102,18 +103,29 @@ fn commit_choice<P: Peers>(
     ensures { (calls : List Call) × Made P.happens peers.old calls peers.new × AfterRun coordinator key.now answers.now got.now.clock got.now.siblings ran calls result }
 {
     match ran {
-        Ok(resolution) => match resolution.chosen(got.siblings(), &Content::Tombstone) {
-            Some(content) => written(commit(
-                peers,
-                coordinator,
-                key,
-                got.clock(),
-                answers,
-                content,
-            )),
-            None => Ok(None),
-        },
+        Ok(resolution) => {
+            let tombstone = Content::Tombstone;
+            let chosen = resolution.chosen(got.siblings(), &tombstone);
+            commit_chosen(peers, coordinator, key, got.clock(), answers, chosen)
+        }
         Err(fault) => Err(ResolveFault::Undecided(fault)),
+    }
+}
+
+// Commits a content, if there is one.
+fn commit_chosen<P: Peers>(
+    peers: &mut P,
+    coordinator: usize,
+    key: &Key,
+    seen: &Clock,
+    answers: &[Answer],
+    chosen: Option<&Content>,
+) -> Result<Option<KeyState>, ResolveFault>
+    ensures { (calls : List Call) × Made P.happens peers.old calls peers.new × AfterChoice coordinator key.now answers.now seen.now (option_copied chosen.entry) calls result }
+{
+    match chosen {
+        Some(content) => written(commit(peers, coordinator, key, seen, answers, content)),
+        None => Ok(None),
     }
 }
 
