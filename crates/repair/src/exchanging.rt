@@ -1,12 +1,12 @@
 //! Exchange: each key of one vnode goes to another, and back.
 
-ghost use Rattle.std.specs.Prelude.{◌≡◌, ◌+◌, ◌^◌, ◌<◌, ◌≤◌, ◌++◌, ◌↔◌, ℕ, List, length, map, count_by, Bool, IsTrue, Result};
+ghost use Rattle.std.specs.Prelude.{◌≡◌, ◌+◌, ◌^◌, ◌<◌, ◌≤◌, ◌++◌, ◌∷◌, ◌↔◌, ℕ, List, length, map, count_by, Bool, IsTrue, Ok, Result};
 ghost use Rattle.std.specs.List.{AllByRecursion};
-ghost use Rattle.peers.specs.Calls.{Call, Made};
+ghost use Rattle.peers.specs.Calls.{Call, StateOf, Made};
 ghost use Rattle.repair.specs.Exchanges.{Sent, sends, sends_all, IsFair, is_taken, BringsKeys, HaveEqualDots};
 
 use object::{Key, KeyState, Sibling};
-use peers::Peers;
+use peers::{Answer, Peers};
 
 /// Brings each key of vnode i to vnode j, and then each of j to i, keys in the order in which `keys_of` names them. Where
 /// both answered equal dots and clocks nothing is sent. Answers how many states were taken. A call that is lost or refused
@@ -49,10 +49,16 @@ fn bring_all<P: Peers>(peers: &mut P, keys: &[Key], from: usize, to: usize) -> u
 fn bring<P: Peers>(peers: &mut P, key: &Key, from: usize, to: usize) -> bool
     ensures { (sent : Sent) × Made P.happens peers.old (sends from to key.now sent) peers.new × IsFair sent × (result ≡ is_taken sent) }
 {
-    let own = match peers.state_of(from, key) {
-        Ok(own) => own,
-        Err(_) => return false,
-    };
+    match peers.state_of(from, key) {
+        Ok(own) => bring_answer(peers, key, &own, to),
+        Err(_) => false,
+    }
+}
+
+// Brings what a vnode answered of a key to another vnode, where it differs there. Answers whether it was taken.
+fn bring_answer<P: Peers>(peers: &mut P, key: &Key, own: &Answer, to: usize) -> bool
+    ensures { (sent : Sent) × (rest : List Call) × Made P.happens peers.old rest peers.new × ((from : ℕ) → sends from to key.now sent ≡ StateOf from key.now (Ok own.now) ∷ rest) × IsFair sent × (result ≡ is_taken sent) }
+{
     let other = match peers.state_of(to, key) {
         Ok(other) => other,
         Err(_) => return false,
