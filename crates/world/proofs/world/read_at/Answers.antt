@@ -1,7 +1,25 @@
-use Rattle.std.proofs.Common.{refl}
+use Rattle.std.proofs.Common.{[], length, refl, ap, subst, ◌∙◌}
+use Rattle.std.proofs.lemmas.List.{get_or_default}
 use Rattle.journal.specs.declared.entry.Entry.TheVariants.{Read}
+use Rattle.journal.specs.Logs.{Log}
+use Rattle.journal.specs.Replay.{IsReplay}
+use Rattle.vnode.specs.Refusals.{RefusesEntry}
 use Rattle.world.proofs.Stamped.{stamped_at}
 use Rattle.world.proofs.world.read_at.Goals as goal
 
 pub returns-in-Ok-clause-stamps : goal.returns-in-Ok-clause-stamps
 returns-in-Ok-clause-stamps c = stamped_at c.args.vnodes.now c.args.made.now c.args.at (Read c.args.made.now c.args.key.now) c.index-vnodes-at.result c.read.new.self c.requires.inside c.in-Ok.ensures.entry refl
+
+pub returns-in-Ok-clause-state : goal.returns-in-Ok-clause-state
+returns-in-Ok-clause-state c =
+    subst (λ (l : Log). IsReplay l.entries c.args.key.now c.in-Ok.found.0)
+    (get_or_default c.args.vnodes.now c.args.at c.index-vnodes-at.result (record { vnode = 0; entries = [] }) c.requires.inside) c.in-Ok.ensures.state
+
+pub returns-in-Ok-clause-place : goal.returns-in-Ok-clause-place
+returns-in-Ok-clause-place c =
+    c.in-Ok.ensures.place ∙ ap (λ (l : Log). length l.entries) (get_or_default c.args.vnodes.now c.args.at c.index-vnodes-at.result (record { vnode = 0; entries = [] }) c.requires.inside)
+
+pub returns-in-Err-clause-refused : goal.returns-in-Err-clause-refused
+returns-in-Err-clause-refused c =
+    subst (λ (l : Log). RefusesEntry l c.in-Err.fault)
+    (get_or_default c.args.vnodes.now c.args.at c.index-vnodes-at.result (record { vnode = 0; entries = [] }) c.requires.inside) c.in-Err.ensures.why

@@ -1,7 +1,15 @@
-use Rattle.std.proofs.Common.{refl}
+use Rattle.std.proofs.Common.{[], refl, subst}
+use Rattle.std.proofs.lemmas.List.{get_or_default}
 use Rattle.journal.specs.declared.entry.Entry.TheVariants.{Restart}
+use Rattle.journal.specs.Logs.{Log}
+use Rattle.vnode.specs.Refusals.{RefusesEntry}
 use Rattle.world.proofs.Stamped.{stamped_at}
 use Rattle.world.proofs.world.restart_at.Goals as goal
 
 pub returns-in-Ok-clause-stamps : goal.returns-in-Ok-clause-stamps
 returns-in-Ok-clause-stamps c = stamped_at c.args.vnodes.now c.args.made.now c.args.at (Restart c.args.made.now) c.index-vnodes-at.result c.restart.new.self c.requires.inside c.in-Ok.ensures.entry refl
+
+pub returns-in-Err-clause-refused : goal.returns-in-Err-clause-refused
+returns-in-Err-clause-refused c =
+    subst (λ (l : Log). RefusesEntry l c.in-Err.fault)
+    (get_or_default c.args.vnodes.now c.args.at c.index-vnodes-at.result (record { vnode = 0; entries = [] }) c.requires.inside) c.in-Err.ensures.why
