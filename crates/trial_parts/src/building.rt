@@ -63,11 +63,15 @@ pub fn three_losing(alloc: Global, lost: &[u64]) -> Result<Local, AllocError> {
 
 /// How many entries the journals of the first three vnodes have.
 pub fn lengths(local: &Local) -> [usize; 3] {
-    let at = |i: usize| local
-        .vnodes()
-        .get(i)
-        .map_or(0, |vnode| vnode.journal().len());
-    [at(0), at(1), at(2)]
+    [length(local, 0), length(local, 1), length(local, 2)]
+}
+
+/// How many entries the journal of a vnode has, if the vnode is there.
+fn length(local: &Local, i: usize) -> usize {
+    match local.vnodes().get(i) {
+        Some(vnode) => vnode.journal().len(),
+        None => 0,
+    }
 }
 
 /// Whether the state's siblings have these dots, in this order.

@@ -4,7 +4,7 @@ ghost use Rattle.std.specs.Prelude.{◌∷◌, ◌<◌, ◌^◌, length};
 ghost use Rattle.place.specs.Places.{AreDifferent};
 
 use crate::building::{content_of, put_alone, three_losing};
-use crate::hooking::bind;
+use crate::hooking::registry_of;
 use bpfimage::ImageKind;
 use dvv::{Clock, Dot};
 use helpers::Table;
@@ -50,17 +50,34 @@ pub fn put_value<P: Peers>(
     requires different { AreDifferent (coordinator ∷ others.now) }
 {
     let content = content_of(alloc, value)?;
+    Ok(put_unhooked(alloc, peers, coordinator, others, key, seen, &content, w))
+}
+
+/// Puts a content with no hook at all.
+fn put_unhooked<P: Peers>(
+    alloc: Global,
+    peers: &mut P,
+    coordinator: usize,
+    others: &[usize],
+    key: &Key,
+    seen: &Clock,
+    content: &Content,
+    w: usize,
+) -> Result<Dot, QuorumFault>
+    requires few { length others.now < 2 ^ 32 }
+    requires different { AreDifferent (coordinator ∷ others.now) }
+{
     let mut hooking = Hooking::new(alloc, Registry::new(alloc), Table::new(alloc));
-    Ok(put(
+    put(
         peers,
         &mut hooking,
         coordinator,
         others,
         key,
         seen,
-        &content,
+        content,
         w,
-    ))
+    )
 }
 
 /// Puts a content where bucket `b` has this pre-commit hook, which calls no helper.
@@ -78,8 +95,7 @@ pub fn put_hooked<P: Peers>(
     requires few { length others.now < 2 ^ 32 }
     requires different { AreDifferent (coordinator ∷ others.now) }
 {
-    let mut registry = Registry::new(alloc);
-    bind(alloc, &mut registry, ImageKind::PreCommit, hook)?;
+    let registry = registry_of(alloc, ImageKind::PreCommit, hook)?;
     let mut hooking = Hooking::new(alloc, registry, Table::new(alloc));
     Ok(put(
         peers,
@@ -116,8 +132,7 @@ pub fn resolve_hooked<P: Peers>(
     got: KeyState,
     answers: &[Answer],
 ) -> Result<Resolved, Fail> {
-    let mut registry = Registry::new(alloc);
-    bind(alloc, &mut registry, ImageKind::Resolver, hook)?;
+    let registry = registry_of(alloc, ImageKind::Resolver, hook)?;
     let mut hooking = Hooking::new(alloc, registry, Table::new(alloc));
     Ok(quorum::resolve(peers, &mut hooking, coordinator, key, got, answers))
 }

@@ -5,7 +5,7 @@ ghost use Rattle.std.specs.Prelude.{IsErr};
 use crate::programs::hook;
 use bpfimage::ImageKind;
 use helpers::Sigs;
-use hooks::{Hooks, NameFault, NotSeen, Registry};
+use hooks::{HookFault, Hooks, NameFault, NotSeen, Registry};
 use object::Bytes;
 use std::alloc::Global;
 use std::sync::Arc;
@@ -31,10 +31,26 @@ pub fn bind(
     program: Arc<Verified>,
 ) -> Result<(), Fail> {
     let name = Bytes::from_slice(alloc, b"hook")?;
-    registry.install(name.copy()?, program)?;
+    registry.install(name, program)?;
+    Ok(bind_hook(alloc, registry, kind)?)
+}
+
+/// Binds what has the name `hook` to bucket `b`.
+fn bind_hook(alloc: Global, registry: &mut Registry, kind: ImageKind) -> Result<(), HookFault> {
     let bucket = Bytes::from_slice(alloc, b"b")?;
-    registry.bind(&bucket, &[(kind, Some(name))])?;
-    Ok(())
+    let name = Bytes::from_slice(alloc, b"hook")?;
+    registry.bind(&bucket, &[(kind, Some(name))])
+}
+
+/// A registry where bucket `b` has this hook.
+pub fn registry_of(
+    alloc: Global,
+    kind: ImageKind,
+    program: Arc<Verified>,
+) -> Result<Registry, Fail> {
+    let mut registry = Registry::new(alloc);
+    bind(alloc, &mut registry, kind, program)?;
+    Ok(registry)
 }
 
 /// A registry that is never seen.

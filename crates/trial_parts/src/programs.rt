@@ -59,5 +59,8 @@ pub fn hook(
     slots: &[[u8; 8]],
 ) -> Result<Verified, Fail> {
     let bytes = image(alloc, kind, in_len, out_len, slots)?;
-    Ok(admit_image(alloc, &bytes, sigs).ok().ok_or("a hook")?)
+    match admit_image(alloc, &bytes, sigs) {
+        Ok(verified) => Ok(verified),
+        Err(_) => Err(Fail::new("no hook")),
+    }
 }
