@@ -7,8 +7,6 @@
 
 mod answer;
 mod input;
-#[cfg(test)]
-mod tests;
 mod writer;
 mod written;
 

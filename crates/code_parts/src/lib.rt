@@ -84,8 +84,19 @@ pub fn image_of(
     out_len: u32,
     slots: &[Slot],
 ) -> Result<Vec<u8>, AllocError> {
+    hook_image_of(alloc, 0, in_len, out_len, slots)
+}
+
+/// The bytes of an image whose kind has this number, with windows of these lengths.
+pub fn hook_image_of(
+    alloc: Global,
+    kind: u8,
+    in_len: u32,
+    out_len: u32,
+    slots: &[Slot],
+) -> Result<Vec<u8>, AllocError> {
     let mut bytes = Vec::new(alloc);
-    bytes.extend_from_slice(b"RBPF\x01\0\0\0")?;
+    bytes.extend_from_slice(&[b'R', b'B', b'P', b'F', 1, kind, 0, 0])?;
     bytes.extend_from_slice(&in_len.to_le_bytes())?;
     bytes.extend_from_slice(&out_len.to_le_bytes())?;
     bytes.extend_from_slice(&code_of(alloc, slots)?)?;

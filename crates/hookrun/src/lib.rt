@@ -5,8 +5,6 @@ pub mod deciding;
 pub mod image;
 pub mod laws;
 pub mod resolving;
-#[cfg(test)]
-mod tests;
 
 pub use deciding::{Room, RunFault, decide};
 pub use image::{Undecided, decide_image};

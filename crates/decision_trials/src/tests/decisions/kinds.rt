@@ -1,11 +1,14 @@
 //! Images of the kind that is asked for, and of another.
 
-use crate::tests::{EXIT, PRE_COMMIT, RESOLVER, Recipe, ZERO, image};
-use crate::{Room, Undecided, decide_image};
+use super::{PRE_COMMIT, RESOLVER};
 use abi::Verdict;
 use admission::Refusal;
 use bpfimage::ImageKind;
+use code_parts::Slot::{Exit, Put};
+use code_parts::hook_image_of;
 use helpers::Table;
+use hookrun::{Room, Undecided, decide_image};
+use std::alloc::Global;
 use std::test::Fail;
 
 /// The kind of an image, the kind that is asked for, and what it decides of no sibling.
@@ -21,21 +24,24 @@ const KINDS: [Kinds; 5] = [
     (0, ImageKind::Plain, Ok(Verdict::Pass)),
 ];
 
+/// Whether an image of the one kind, asked for as the other, decides so.
+fn decides_as(alloc: Global, room: &mut Room, kinds: &Kinds) -> Result<bool, Fail> {
+    let (held, kind, want) = *kinds;
+    let bytes = hook_image_of(alloc, held, 16, 0, &[Put(0, 0), Exit])?;
+    let table = Table::new(alloc);
+    Ok(decide_image(alloc, room, &bytes, kind, &table, None, &[]) == want)
+}
+
 #[test]
 fn kinds_of_images(rt: HostRuntime) -> Result<(), Fail> {
-    let alloc = rt.alloc();
-    let table = Table::new(alloc);
-    let mut room = Room::new(alloc);
-    for (held, kind, want) in &KINDS {
-        let recipe = Recipe {
-            kind: *held,
-            in_len: 16,
-            out_len: 0,
-            code: &[ZERO, EXIT],
-        };
-        let bytes = image(alloc, recipe)?;
-        let told = decide_image(alloc, &mut room, &bytes, *kind, &table, None, &[]);
-        assert_eq!(rt; told, *want);
+    let mut room = Room::new(rt.alloc());
+    for kinds in &KINDS {
+        assert!(rt;
+            decides_as(rt.alloc(), &mut room, kinds)?,
+            "{} {:?}",
+            kinds.0,
+            kinds.1
+        );
     }
     Ok(())
 }

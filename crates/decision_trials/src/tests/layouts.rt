@@ -1,0 +1,5 @@
+//! Worked inputs, the table of answers, and written values.
+
+mod answers;
+mod inputs;
+mod written;
