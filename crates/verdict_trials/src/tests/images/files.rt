@@ -3,7 +3,6 @@
 use bpfimage::{FormFault, FormRule, ImageFault, ImageKind, form_fault, read_image};
 use insn::{DecodeFault, Refusal};
 use std::alloc::Global;
-use std::test::Fail;
 
 /// The program `indexed_byte`: it reads the byte of the input that its length names.
 const INDEXED_BYTE: [u8; 56] = [
@@ -18,65 +17,85 @@ fn told_of(alloc: Global, bytes: &[u8]) -> Result<Option<FormFault>, ImageFault>
     Ok(form_fault(&image.code))
 }
 
+/// Code that is refused at its first slot.
+fn refused(why: Refusal) -> Result<Option<FormFault>, ImageFault> {
+    Err(ImageFault::Code(DecodeFault { slot: 0, why }))
+}
+
+/// Code that runs past its end from a slot.
+fn runs_past(slot: u32) -> Result<Option<FormFault>, ImageFault> {
+    Ok(Some(FormFault {
+        rule: FormRule::RunsPast,
+        slot,
+    }))
+}
+
+/// What is told of so many of the image's first bytes.
+fn told_of_first(bytes: usize) -> Result<Option<FormFault>, ImageFault> {
+    match bytes {
+        0..=15 => Err(ImageFault::Short),
+        16 => refused(Refusal::Empty),
+        24 => runs_past(0),
+        32 => runs_past(1),
+        40 => runs_past(2),
+        48 => runs_past(3),
+        56 => Ok(None),
+        _ => refused(Refusal::UnevenLength),
+    }
+}
+
 #[test]
 fn cut_images(rt: HostRuntime) {
     for at in 0..57usize {
         let cut = INDEXED_BYTE.get(..at).unwrap_or(&[]);
         let told = told_of(rt.alloc(), cut);
-        let code = |why| Err(ImageFault::Code(DecodeFault { slot: 0, why }));
-        let past = |slot| {
-            Ok(Some(FormFault {
-                rule: FormRule::RunsPast,
-                slot,
-            }))
-        };
-        let want = match at {
-            0..=15 => Err(ImageFault::Short),
-            16 => code(Refusal::Empty),
-            24 => past(0),
-            32 => past(1),
-            40 => past(2),
-            48 => past(3),
-            56 => Ok(None),
-            _ => code(Refusal::UnevenLength),
-        };
-        assert_eq!(rt; told, want, "the first {at} bytes");
+        assert_eq!(rt; told, told_of_first(at), "the first {at} bytes");
     }
 }
 
-#[test]
-fn heads(rt: HostRuntime) -> Result<(), Fail> {
-    // the place of one byte, what stands there, and what is told
-    let rows = [
-        (0, 0x53, ImageFault::Mark),
-        (3, 0x47, ImageFault::Mark),
-        (4, 2, ImageFault::Version),
-        (5, 3, ImageFault::Kind),
-        (6, 1, ImageFault::Kind),
-        (7, 1, ImageFault::Kind),
-        (10, 2, ImageFault::Window),
-        (14, 2, ImageFault::Window),
-        (
-            16,
-            0xc3,
-            ImageFault::Code(DecodeFault {
-                slot: 0,
-                why: Refusal::LeftOut,
-            }),
-        ),
-    ];
-    for (at, byte, want) in rows {
-        let mut bytes = INDEXED_BYTE;
-        bytes[at] = byte;
-        assert_eq!(rt; told_of(rt.alloc(), &bytes), Err(want), "byte {at}");
-    }
+/// The place of one byte of the image, what stands there, and what is told.
+const HEADS: [(usize, u8, ImageFault); 9] = [
+    (0, 0x53, ImageFault::Mark),
+    (3, 0x47, ImageFault::Mark),
+    (4, 2, ImageFault::Version),
+    (5, 3, ImageFault::Kind),
+    (6, 1, ImageFault::Kind),
+    (7, 1, ImageFault::Kind),
+    (10, 2, ImageFault::Window),
+    (14, 2, ImageFault::Window),
+    (
+        16,
+        0xc3,
+        ImageFault::Code(DecodeFault {
+            slot: 0,
+            why: Refusal::LeftOut,
+        }),
+    ),
+];
+
+/// The image with another byte at a place.
+fn changed(at: usize, byte: u8) -> [u8; 56] {
     let mut bytes = INDEXED_BYTE;
-    bytes[5] = 2;
+    if let Some(place) = bytes.get_mut(at) {
+        *place = byte;
+    }
+    bytes
+}
+
+/// The kind of an image, the lengths of its windows, and how many instructions it has.
+fn shape_of(alloc: Global, bytes: &[u8]) -> Result<(ImageKind, u32, u32, usize), ImageFault> {
+    let image = read_image(alloc, bytes)?;
+    Ok((image.kind, image.in_len, image.out_len, image.code.len()))
+}
+
+#[test]
+fn heads(rt: HostRuntime) {
+    for &(at, byte, want) in &HEADS {
+        let told = told_of(rt.alloc(), &changed(at, byte));
+        assert_eq!(rt; told, Err(want), "byte {at}");
+    }
+    let mut bytes = changed(5, 2);
     bytes[14] = 1;
-    let image = read_image(rt.alloc(), &bytes)?;
-    assert_eq!(rt; image.kind, ImageKind::Resolver);
-    assert_eq!(rt; image.in_len, 256);
-    assert_eq!(rt; image.out_len, 65536);
-    assert_eq!(rt; image.code.len(), 5);
-    Ok(())
+    let shape = shape_of(rt.alloc(), &bytes);
+    assert_eq!(rt; shape, Ok((ImageKind::Resolver, 256, 65536, 5)));
 }

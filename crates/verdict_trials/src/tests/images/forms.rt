@@ -13,16 +13,24 @@ fn broken(alloc: Global, bytes: &[u8]) -> Result<Option<FormFault>, ImageFault> 
     Ok(form_fault(&image.code))
 }
 
+/// The kind of the raw code that exits at once, and the lengths of its windows.
+fn shape_of_an_exit(alloc: Global) -> Result<(ImageKind, u32, u32), Fail> {
+    let code = code_of(alloc, &[Exit])?;
+    let image = raw_image(alloc, &code)?;
+    Ok((image.kind, image.in_len, image.out_len))
+}
+
 #[test]
 fn raw_code(rt: HostRuntime) -> Result<(), Fail> {
-    let image = raw_image(rt.alloc(), &code_of(rt.alloc(), &[Exit])?)?;
-    assert_eq!(rt; image.kind, ImageKind::Plain);
-    assert_eq!(rt; (image.in_len, image.out_len), (4096, 4096));
-    let empty = Err(ImageFault::Code(DecodeFault {
+    assert_eq!(rt;
+        shape_of_an_exit(rt.alloc())?,
+        (ImageKind::Plain, 4096, 4096)
+    );
+    let empty = ImageFault::Code(DecodeFault {
         slot: 0,
         why: Refusal::Empty,
-    }));
-    assert_eq!(rt; broken(rt.alloc(), &[]), empty);
+    });
+    assert_eq!(rt; broken(rt.alloc(), &[]), Err(empty));
     Ok(())
 }
 
@@ -65,12 +73,19 @@ const JUMP_TARGETS: [(&[Slot], Option<(FormRule, u32)>); 9] = [
     (&[CLEAR, CLEAR, Wide(0, 0), Exit], None),
 ];
 
+/// The first rule of form that slots break.
+fn broken_by(alloc: Global, slots: &[Slot]) -> Result<Option<(FormRule, u32)>, Fail> {
+    let code = code_of(alloc, slots)?;
+    Ok(match broken(alloc, &code)? {
+        Some(FormFault { rule, slot }) => Some((rule, slot)),
+        None => None,
+    })
+}
+
 #[test]
 fn jump_targets(rt: HostRuntime) -> Result<(), Fail> {
-    for (at, (code, want)) in JUMP_TARGETS.iter().enumerate() {
-        let want = want.map(|(rule, slot)| FormFault { rule, slot });
-        let code = code_of(rt.alloc(), code)?;
-        assert_eq!(rt; broken(rt.alloc(), &code)?, want, "row {at}");
+    for &(slots, want) in &JUMP_TARGETS {
+        assert_eq!(rt; broken_by(rt.alloc(), slots)?, want);
     }
     Ok(())
 }

@@ -1,6 +1,7 @@
 //! Slots and lengths that are refused, and why.
 
 use insn::decode::{DecodeFault, Refusal, decode};
+use std::alloc::{AllocError, Global};
 use std::test::Fail;
 
 /// Slots that are refused, at which of them, and why.
@@ -56,46 +57,53 @@ const REFUSALS: [(&[[u8; 8]], u32, Refusal); 24] = [
     ),
 ];
 
+/// Why slots are refused, if they are.
+fn fault_of(alloc: Global, slots: &[[u8; 8]]) -> Option<DecodeFault> {
+    decode(alloc, slots.as_flattened()).err()
+}
+
 #[test]
-fn refusals(rt: HostRuntime) -> Result<(), Fail> {
-    let alloc = rt.alloc();
-    for (slots, slot, why) in REFUSALS {
-        let mut bytes = Vec::new(alloc);
-        for fields in slots {
-            bytes.extend_from_slice(fields)?;
-        }
-        match decode(alloc, &bytes) {
-            Ok(code) => assert!(rt; false, "{code:?}"),
-            Err(fault) => assert_eq!(rt; fault, DecodeFault { slot, why }, "{slots:?}"),
-        }
+fn refusals(rt: HostRuntime) {
+    for &(slots, slot, why) in &REFUSALS {
+        let want = DecodeFault { slot, why };
+        assert_eq!(rt; fault_of(rt.alloc(), slots), Some(want), "{slots:?}");
     }
-    Ok(())
+}
+
+/// Some lengths, and why they are refused, if they are.
+const LENGTHS: [(usize, Option<Refusal>); 6] = [
+    (0, Some(Refusal::Empty)),
+    (7, Some(Refusal::UnevenLength)),
+    (8, None),
+    (8 * 4096, None),
+    (8 * 4096 + 1, Some(Refusal::UnevenLength)),
+    (8 * 4097, Some(Refusal::TooLong)),
+];
+
+/// So many exits.
+fn exits(alloc: Global, count: usize) -> Result<Vec<u8>, AllocError> {
+    let mut bytes = Vec::new(alloc);
+    for _ in 0..count {
+        bytes.extend_from_slice(&[0x95, 0, 0, 0, 0, 0, 0, 0])?;
+    }
+    Ok(bytes)
+}
+
+/// Why exits of so many bytes are refused, if they are.
+fn refusal_of_length(alloc: Global, length: usize) -> Result<Option<Refusal>, Fail> {
+    let bytes = exits(alloc, 4097)?;
+    let part = bytes.get(..length).ok_or("length")?;
+    Ok(match decode(alloc, part) {
+        Ok(_) => None,
+        Err(fault) => Some(fault.why),
+    })
 }
 
 /// The lengths that are refused, and those beside them.
 #[test]
 fn lengths(rt: HostRuntime) -> Result<(), Fail> {
-    let alloc = rt.alloc();
-    let mut bytes = Vec::new(alloc);
-    for _ in 0..4097 {
-        bytes.extend_from_slice(&[0x95, 0, 0, 0, 0, 0, 0, 0])?;
-    }
-    for (length, why) in [
-        (0, Some(Refusal::Empty)),
-        (7, Some(Refusal::UnevenLength)),
-        (8, None),
-        (8 * 4096, None),
-        (8 * 4096 + 1, Some(Refusal::UnevenLength)),
-        (8 * 4097, Some(Refusal::TooLong)),
-    ] {
-        let Some(part) = bytes.get(..length) else {
-            return Err(Fail::from("length"));
-        };
-        assert_eq!(rt;
-            decode(alloc, part).err().map(|fault| fault.why),
-            why,
-            "{length}"
-        );
+    for &(length, want) in &LENGTHS {
+        assert_eq!(rt; refusal_of_length(rt.alloc(), length)?, want, "{length}");
     }
     Ok(())
 }

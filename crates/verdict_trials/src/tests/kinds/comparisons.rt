@@ -6,7 +6,7 @@ use super::{HALF, HALF_32, MAX, MAX_32, PAST_32};
 use alu::Cond::*;
 use alu::Width::*;
 use alu::{Cond, Width};
-use ranges::refine;
+use ranges::{Kind, refine};
 use std::process::Abort;
 
 /// What is known of two operands.
@@ -15,19 +15,22 @@ type Pair = (Known, Known);
 /// A condition, its width, what is known before it, and what is known where it holds and where it does not.
 type Row = (Cond, Width, Pair, [Pair; 2]);
 
+/// The kinds that say what is known of two operands.
+fn kinds_of((a, b): Pair) -> (Kind, Kind) {
+    (a.kind(), b.kind())
+}
+
 /// Tells what conditions leave of what is known.
 fn narrows(rt: &impl Abort, rows: &[Row]) {
     for &(cond, width, (a, b), [taken, passed]) in rows {
         let (a, b) = (kind_of(rt, a), kind_of(rt, b));
         assert_eq!(rt;
-            refine(cond, width, a, b, true),
-            (taken.0.kind(), taken.1.kind()),
+            (
+                refine(cond, width, a, b, true),
+                refine(cond, width, a, b, false)
+            ),
+            (kinds_of(taken), kinds_of(passed)),
             "{cond:?} {width:?} {a:?} {b:?}"
-        );
-        assert_eq!(rt;
-            refine(cond, width, a, b, false),
-            (passed.0.kind(), passed.1.kind()),
-            "not {cond:?} {width:?} {a:?} {b:?}"
         );
     }
 }
@@ -46,21 +49,20 @@ const TOUCHING: Pair = (Num(0, 5), Num(5, 9));
 
 const WIDE: Pair = (Num(0, PAST_32), One(7));
 
+const EQUALITY: [Row; 8] = [
+    (Equal, W64, PAIR, [COMMON, PAIR]),
+    (NotEqual, W64, PAIR, [PAIR, COMMON]),
+    (Equal, W32, PAIR, [COMMON, PAIR]),
+    (Equal, W64, APART, [APART, APART]),
+    (Equal, W64, TOUCHING, [(One(5), One(5)), TOUCHING]),
+    (Equal, W32, WIDE, [WIDE, WIDE]),
+    (Equal, W64, WIDE, [(One(7), One(7)), WIDE]),
+    (AnySet, W64, PAIR, [PAIR, PAIR]),
+];
+
 #[test]
 fn equality(rt: HostRuntime) {
-    narrows(
-        &rt,
-        &[
-            (Equal, W64, PAIR, [COMMON, PAIR]),
-            (NotEqual, W64, PAIR, [PAIR, COMMON]),
-            (Equal, W32, PAIR, [COMMON, PAIR]),
-            (Equal, W64, APART, [APART, APART]),
-            (Equal, W64, TOUCHING, [(One(5), One(5)), TOUCHING]),
-            (Equal, W32, WIDE, [WIDE, WIDE]),
-            (Equal, W64, WIDE, [(One(7), One(7)), WIDE]),
-            (AnySet, W64, PAIR, [PAIR, PAIR]),
-        ],
-    );
+    narrows(&rt, &EQUALITY);
 }
 
 const ANY: Pair = (FULL, One(255));
@@ -75,88 +77,118 @@ const ABOVE_BYTE_32: Pair = (Num(256, MAX_32), One(255));
 
 const PAST: Pair = (Num(0, PAST_32), One(255));
 
+const UNSIGNED_ORDER: [Row; 8] = [
+    (Greater, W64, PAIR, [GREATER, PAIR]),
+    (GreaterEqual, W64, PAIR, [COMMON, PAIR]),
+    (Less, W64, PAIR, [PAIR, COMMON]),
+    (LessEqual, W64, PAIR, [PAIR, GREATER]),
+    (Greater, W64, ANY, [ABOVE_BYTE, IN_BYTE]),
+    (Greater, W32, ANY, [ANY, ANY]),
+    (Greater, W32, ANY_32, [ABOVE_BYTE_32, IN_BYTE]),
+    (Greater, W32, PAST, [PAST, PAST]),
+];
+
 #[test]
 fn unsigned_order(rt: HostRuntime) {
-    narrows(
-        &rt,
-        &[
-            (Greater, W64, PAIR, [GREATER, PAIR]),
-            (GreaterEqual, W64, PAIR, [COMMON, PAIR]),
-            (Less, W64, PAIR, [PAIR, COMMON]),
-            (LessEqual, W64, PAIR, [PAIR, GREATER]),
-            (Greater, W64, ANY, [ABOVE_BYTE, IN_BYTE]),
-            (Greater, W32, ANY, [ANY, ANY]),
-            (Greater, W32, ANY_32, [ABOVE_BYTE_32, IN_BYTE]),
-            (Greater, W32, PAST, [PAST, PAST]),
-        ],
-    );
+    narrows(&rt, &UNSIGNED_ORDER);
 }
+
+/// A condition, its width, and what is known of two operands before it and after it, whether it holds or not.
+type Kept = (Cond, Width, Pair);
+
+/// Tells that conditions leave what is known as it is.
+fn keeps(rt: &impl Abort, rows: &[Kept]) {
+    for &(cond, width, pair) in rows {
+        narrows(rt, &[(cond, width, pair, [pair, pair])]);
+    }
+}
+
+const NOTHING_LEFT: [Kept; 5] = [
+    (Greater, W64, (FULL, One(MAX))),
+    (Less, W64, (One(MAX), FULL)),
+    (Greater, W64, (One(0), Num(0, 5))),
+    (Less, W64, (Num(10, 20), Num(0, 5))),
+    (LessEqual, W64, (Num(10, 20), Num(0, 5))),
+];
 
 /// Where no number is left on one way, what was known stays.
 #[test]
 fn nothing_is_left(rt: HostRuntime) {
-    for (cond, pair) in [
-        (Greater, (FULL, One(MAX))),
-        (Less, (One(MAX), FULL)),
-        (Greater, (One(0), Num(0, 5))),
-        (Less, (Num(10, 20), Num(0, 5))),
-        (LessEqual, (Num(10, 20), Num(0, 5))),
-    ] {
-        narrows(&rt, &[(cond, W64, pair, [pair, pair])]);
-    }
+    keeps(&rt, &NOTHING_LEFT);
 }
+
+const WITHIN: Pair = (Num(0, HALF - 1), One(10));
+
+const WITHIN_32: Pair = (Num(0, HALF_32 - 1), One(10));
+
+const BELOW: Pair = (Num(0, 9), One(10));
+
+const UP_TO: Pair = (Num(0, 10), One(10));
+
+const FROM: Pair = (Num(10, HALF - 1), One(10));
+
+const FROM_32: Pair = (Num(10, HALF_32 - 1), One(10));
+
+const ABOVE: Pair = (Num(11, HALF - 1), One(10));
+
+const ABOVE_32: Pair = (Num(11, HALF_32 - 1), One(10));
+
+const SIGNED_ORDER: [Row; 8] = [
+    (SignedLess, W64, WITHIN, [BELOW, FROM]),
+    (SignedLessEqual, W64, WITHIN, [UP_TO, ABOVE]),
+    (SignedGreater, W64, WITHIN, [ABOVE, UP_TO]),
+    (SignedGreaterEqual, W64, WITHIN, [FROM, BELOW]),
+    (SignedLess, W32, WITHIN_32, [BELOW, FROM_32]),
+    (SignedLessEqual, W32, WITHIN_32, [UP_TO, ABOVE_32]),
+    (SignedGreater, W32, WITHIN_32, [ABOVE_32, UP_TO]),
+    (SignedGreaterEqual, W32, WITHIN_32, [FROM_32, BELOW]),
+];
 
 /// Signed orders narrow numbers below half of the width, as if they had no sign.
 #[test]
 fn signed_order(rt: HostRuntime) {
-    for (width, last) in [(W64, HALF - 1), (W32, HALF_32 - 1)] {
-        let within = (Num(0, last), One(10));
-        let below = (Num(0, 9), One(10));
-        let up_to = (Num(0, 10), One(10));
-        let from = (Num(10, last), One(10));
-        let above = (Num(11, last), One(10));
-        narrows(
-            &rt,
-            &[
-                (SignedLess, width, within, [below, from]),
-                (SignedLessEqual, width, within, [up_to, above]),
-                (SignedGreater, width, within, [above, up_to]),
-                (SignedGreaterEqual, width, within, [from, below]),
-            ],
-        );
+    narrows(&rt, &SIGNED_ORDER);
+}
+
+const SIGNED: [Cond; 4] = [
+    SignedLess,
+    SignedLessEqual,
+    SignedGreater,
+    SignedGreaterEqual,
+];
+
+const PAST_HALF: [(Width, Pair); 6] = [
+    (W64, (Num(0, HALF), One(10))),
+    (W64, (One(10), Num(0, HALF))),
+    (W64, (FULL, One(10))),
+    (W32, (Num(0, HALF_32), One(10))),
+    (W32, (One(10), Num(0, HALF_32))),
+    (W32, (FULL_32, One(10))),
+];
+
+/// Tells that a condition narrows nothing that reaches half of the width.
+fn keeps_past_half(rt: &impl Abort, cond: Cond) {
+    for &(width, pair) in &PAST_HALF {
+        keeps(rt, &[(cond, width, pair)]);
     }
 }
 
 /// Signed orders narrow nothing that reaches half of the width.
 #[test]
 fn signed_order_past_half(rt: HostRuntime) {
-    for cond in [
-        SignedLess,
-        SignedLessEqual,
-        SignedGreater,
-        SignedGreaterEqual,
-    ] {
-        for (width, pair) in [
-            (W64, (Num(0, HALF), One(10))),
-            (W64, (One(10), Num(0, HALF))),
-            (W64, (FULL, One(10))),
-            (W32, (Num(0, HALF_32), One(10))),
-            (W32, (One(10), Num(0, HALF_32))),
-            (W32, (FULL_32, One(10))),
-        ] {
-            narrows(&rt, &[(cond, width, pair, [pair, pair])]);
-        }
+    for cond in &SIGNED {
+        keeps_past_half(&rt, *cond);
     }
 }
 
+const NO_NUMBERS: [Kept; 4] = [
+    (Equal, W64, (Unset, One(1))),
+    (Equal, W64, (One(1), Unset)),
+    (Equal, W64, (Stack(0, 8), One(1))),
+    (Equal, W64, (Num(0, 1), Input(0, 8))),
+];
+
 #[test]
 fn only_numbers_narrow(rt: HostRuntime) {
-    for pair in [
-        (Unset, One(1)),
-        (One(1), Unset),
-        (Stack(0, 8), One(1)),
-        (Num(0, 1), Input(0, 8)),
-    ] {
-        narrows(&rt, &[(Equal, W64, pair, [pair, pair])]);
-    }
+    keeps(&rt, &NO_NUMBERS);
 }

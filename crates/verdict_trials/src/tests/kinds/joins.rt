@@ -1,24 +1,27 @@
 //! What is known where two ways meet, and ranges of numbers.
 
 use super::MAX;
-use super::known::FULL;
 use super::known::Known::{Input, Num, One, Stack, Unset};
+use super::known::{FULL, Known};
 use ranges::{Kind, Range, join};
+
+/// What is known on two ways, and where they meet.
+const JOINS: [(Known, Known, Known); 10] = [
+    (Num(0, 5), Num(3, 9), Num(0, 9)),
+    (One(1), One(7), Num(1, 7)),
+    (One(MAX), One(0), FULL),
+    (Stack(-8, 0), Stack(-16, -4), Stack(-16, 0)),
+    (Stack(-8, 0), Input(-8, 0), Unset),
+    (Stack(0, 0), One(0), Unset),
+    (One(0), Stack(0, 0), Unset),
+    (Unset, One(0), Unset),
+    (Input(0, 0), Unset, Unset),
+    (Unset, Unset, Unset),
+];
 
 #[test]
 fn joins(rt: HostRuntime) {
-    for (a, b, want) in [
-        (Num(0, 5), Num(3, 9), Num(0, 9)),
-        (One(1), One(7), Num(1, 7)),
-        (One(MAX), One(0), FULL),
-        (Stack(-8, 0), Stack(-16, -4), Stack(-16, 0)),
-        (Stack(-8, 0), Input(-8, 0), Unset),
-        (Stack(0, 0), One(0), Unset),
-        (One(0), Stack(0, 0), Unset),
-        (Unset, One(0), Unset),
-        (Input(0, 0), Unset, Unset),
-        (Unset, Unset, Unset),
-    ] {
+    for (a, b, want) in &JOINS {
         let (a, b) = (a.kind(), b.kind());
         assert_eq!(rt; join(a, b), want.kind(), "{a:?} {b:?}");
     }

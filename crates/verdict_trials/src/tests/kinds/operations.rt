@@ -7,7 +7,7 @@ use alu::Op::*;
 use alu::SwapBits::*;
 use alu::SwapKind::*;
 use alu::Width::*;
-use alu::{Op, Width};
+use alu::{Op, SwapBits, SwapKind, Width};
 use ranges::{Bad, transfer, transfer_swap};
 use std::process::Abort;
 
@@ -26,296 +26,271 @@ pub fn leaves(rt: &impl Abort, op: Op, rows: &[Row]) {
     }
 }
 
+const MOVES: [Row; 10] = [
+    (W64, Unset, Num(3, 9), Ok(Num(3, 9))),
+    (W64, Unset, Input(-4, 4), Ok(Input(-4, 4))),
+    (W64, One(7), FULL, Ok(FULL)),
+    (W32, Unset, Num(3, 9), Ok(Num(3, 9))),
+    (W32, Unset, Num(0, MAX_32), Ok(FULL_32)),
+    (W32, Unset, Num(0, PAST_32), Ok(FULL_32)),
+    (W32, Unset, Num(PAST_32, PAST_32 + 1), Ok(FULL_32)),
+    (W32, Unset, One(PAST_32 + 5), Ok(One(5))),
+    (W32, Unset, One(MAX), Ok(One(MAX_32))),
+    (W32, Unset, Input(0, 0), Err(Bad::V22)),
+];
+
 #[test]
 fn moves(rt: HostRuntime) {
-    leaves(
-        &rt,
-        Mov,
-        &[
-            (W64, Unset, Num(3, 9), Ok(Num(3, 9))),
-            (W64, Unset, Input(-4, 4), Ok(Input(-4, 4))),
-            (W64, One(7), FULL, Ok(FULL)),
-            (W32, Unset, Num(3, 9), Ok(Num(3, 9))),
-            (W32, Unset, Num(0, MAX_32), Ok(FULL_32)),
-            (W32, Unset, Num(0, PAST_32), Ok(FULL_32)),
-            (W32, Unset, Num(PAST_32, PAST_32 + 1), Ok(FULL_32)),
-            (W32, Unset, One(PAST_32 + 5), Ok(One(5))),
-            (W32, Unset, One(MAX), Ok(One(MAX_32))),
-            (W32, Unset, Input(0, 0), Err(Bad::V22)),
-        ],
-    );
+    leaves(&rt, Mov, &MOVES);
 }
+
+const SUMS: [Row; 11] = [
+    (W64, Num(0, 5), Num(1, 2), Ok(Num(1, 7))),
+    (W64, Num(1, MAX), One(0), Ok(Num(1, MAX))),
+    (W64, Num(1, MAX), Num(0, 1), Ok(FULL)),
+    (W64, One(HALF), Num(0, HALF - 1), Ok(Num(HALF, MAX))),
+    (W64, One(HALF), Num(0, HALF), Ok(FULL)),
+    (W64, One(MAX), One(1), Ok(One(0))),
+    (W32, Num(1, MAX_32), One(0), Ok(Num(1, MAX_32))),
+    (W32, Num(1, MAX_32), Num(0, 1), Ok(FULL_32)),
+    (W32, One(MAX_32), One(1), Ok(One(0))),
+    (W32, Num(PAST_32, PAST_32 + 1), One(0), Ok(FULL_32)),
+    (W32, One(PAST_32 + 7), Num(1, 2), Ok(Num(8, 9))),
+];
 
 #[test]
 fn sums(rt: HostRuntime) {
-    leaves(
-        &rt,
-        Add,
-        &[
-            (W64, Num(0, 5), Num(1, 2), Ok(Num(1, 7))),
-            (W64, Num(1, MAX), One(0), Ok(Num(1, MAX))),
-            (W64, Num(1, MAX), Num(0, 1), Ok(FULL)),
-            (W64, One(HALF), Num(0, HALF - 1), Ok(Num(HALF, MAX))),
-            (W64, One(HALF), Num(0, HALF), Ok(FULL)),
-            (W64, One(MAX), One(1), Ok(One(0))),
-            (W32, Num(1, MAX_32), One(0), Ok(Num(1, MAX_32))),
-            (W32, Num(1, MAX_32), Num(0, 1), Ok(FULL_32)),
-            (W32, One(MAX_32), One(1), Ok(One(0))),
-            (W32, Num(PAST_32, PAST_32 + 1), One(0), Ok(FULL_32)),
-            (W32, One(PAST_32 + 7), Num(1, 2), Ok(Num(8, 9))),
-        ],
-    );
+    leaves(&rt, Add, &SUMS);
 }
+
+const DIFFERENCES: [Row; 9] = [
+    (W64, Num(5, 9), Num(1, 3), Ok(Num(2, 8))),
+    (W64, Num(5, 9), Num(1, 5), Ok(Num(0, 8))),
+    (W64, Num(5, 9), Num(1, 6), Ok(FULL)),
+    (W64, Num(HALF, MAX), Num(0, HALF), Ok(FULL)),
+    (W64, Num(HALF, MAX), Num(1, HALF), Ok(Num(0, MAX - 1))),
+    (W64, One(0), One(1), Ok(One(MAX))),
+    (W32, Num(5, 9), Num(1, 5), Ok(Num(0, 8))),
+    (W32, Num(5, 9), Num(1, 6), Ok(FULL_32)),
+    (W32, One(0), One(1), Ok(One(MAX_32))),
+];
 
 #[test]
 fn differences(rt: HostRuntime) {
-    leaves(
-        &rt,
-        Sub,
-        &[
-            (W64, Num(5, 9), Num(1, 3), Ok(Num(2, 8))),
-            (W64, Num(5, 9), Num(1, 5), Ok(Num(0, 8))),
-            (W64, Num(5, 9), Num(1, 6), Ok(FULL)),
-            (W64, Num(HALF, MAX), Num(0, HALF), Ok(FULL)),
-            (W64, Num(HALF, MAX), Num(1, HALF), Ok(Num(0, MAX - 1))),
-            (W64, One(0), One(1), Ok(One(MAX))),
-            (W32, Num(5, 9), Num(1, 5), Ok(Num(0, 8))),
-            (W32, Num(5, 9), Num(1, 6), Ok(FULL_32)),
-            (W32, One(0), One(1), Ok(One(MAX_32))),
-        ],
-    );
+    leaves(&rt, Sub, &DIFFERENCES);
 }
+
+const PRODUCTS: [Row; 8] = [
+    (W64, Num(2, 3), Num(4, 5), Ok(Num(8, 15))),
+    (W64, FULL, One(1), Ok(FULL)),
+    (
+        W64,
+        One(PAST_32),
+        Num(1, MAX_32),
+        Ok(Num(PAST_32, MAX - MAX_32)),
+    ),
+    (W64, One(PAST_32), Num(1, PAST_32), Ok(FULL)),
+    (W64, One(HALF), One(2), Ok(One(0))),
+    (
+        W32,
+        One(65536),
+        Num(1, 65535),
+        Ok(Num(65536, MAX_32 - 65535)),
+    ),
+    (W32, One(65536), Num(1, 65536), Ok(FULL_32)),
+    (W32, One(65536), One(65537), Ok(One(65536))),
+];
 
 #[test]
 fn products(rt: HostRuntime) {
-    leaves(
-        &rt,
-        Mul,
-        &[
-            (W64, Num(2, 3), Num(4, 5), Ok(Num(8, 15))),
-            (W64, FULL, One(1), Ok(FULL)),
-            (
-                W64,
-                One(PAST_32),
-                Num(1, MAX_32),
-                Ok(Num(PAST_32, MAX - MAX_32)),
-            ),
-            (W64, One(PAST_32), Num(1, PAST_32), Ok(FULL)),
-            (W64, One(HALF), One(2), Ok(One(0))),
-            (
-                W32,
-                One(65536),
-                Num(1, 65535),
-                Ok(Num(65536, MAX_32 - 65535)),
-            ),
-            (W32, One(65536), Num(1, 65536), Ok(FULL_32)),
-            (W32, One(65536), One(65537), Ok(One(65536))),
-        ],
-    );
+    leaves(&rt, Mul, &PRODUCTS);
 }
+
+const QUOTIENTS: [Row; 8] = [
+    (W64, Num(10, 20), Num(2, 5), Ok(Num(2, 10))),
+    (W64, Num(10, 20), Num(0, 5), Ok(Num(0, 20))),
+    (W64, Num(10, 20), One(0), Ok(Num(0, 20))),
+    (W64, FULL, One(1), Ok(FULL)),
+    (W64, FULL, One(MAX), Ok(Num(0, 1))),
+    (W64, One(7), One(0), Ok(One(0))),
+    (W32, FULL, One(2), Ok(Num(0, HALF_32 - 1))),
+    (W32, Num(1, 9), One(PAST_32), Ok(Num(0, 9))),
+];
+
+const SIGNED_QUOTIENTS: [Row; 6] = [
+    (W64, Num(10, 20), One(2), Ok(FULL)),
+    (W64, One(MAX - 6), One(2), Ok(One(MAX - 2))),
+    (W64, One(HALF), One(MAX), Ok(One(HALF))),
+    (W32, Num(10, 20), One(2), Ok(FULL_32)),
+    (W32, One(HALF_32), One(MAX_32), Ok(One(HALF_32))),
+    (W32, One(7), One(0), Ok(One(0))),
+];
 
 #[test]
 fn quotients(rt: HostRuntime) {
-    leaves(
-        &rt,
-        Div,
-        &[
-            (W64, Num(10, 20), Num(2, 5), Ok(Num(2, 10))),
-            (W64, Num(10, 20), Num(0, 5), Ok(Num(0, 20))),
-            (W64, Num(10, 20), One(0), Ok(Num(0, 20))),
-            (W64, FULL, One(1), Ok(FULL)),
-            (W64, FULL, One(MAX), Ok(Num(0, 1))),
-            (W64, One(7), One(0), Ok(One(0))),
-            (W32, FULL, One(2), Ok(Num(0, HALF_32 - 1))),
-            (W32, Num(1, 9), One(PAST_32), Ok(Num(0, 9))),
-        ],
-    );
-    leaves(
-        &rt,
-        SignedDiv,
-        &[
-            (W64, Num(10, 20), One(2), Ok(FULL)),
-            (W64, One(MAX - 6), One(2), Ok(One(MAX - 2))),
-            (W64, One(HALF), One(MAX), Ok(One(HALF))),
-            (W32, Num(10, 20), One(2), Ok(FULL_32)),
-            (W32, One(HALF_32), One(MAX_32), Ok(One(HALF_32))),
-            (W32, One(7), One(0), Ok(One(0))),
-        ],
-    );
+    leaves(&rt, Div, &QUOTIENTS);
+    leaves(&rt, SignedDiv, &SIGNED_QUOTIENTS);
 }
+
+const REMAINDERS: [Row; 9] = [
+    (W64, Num(10, 20), Num(3, 5), Ok(Num(0, 4))),
+    (W64, Num(1, 3), Num(1, 10), Ok(Num(0, 3))),
+    (W64, Num(10, 20), Num(0, 5), Ok(Num(0, 20))),
+    (W64, FULL, One(1), Ok(One(0))),
+    (W64, FULL, Num(1, MAX), Ok(Num(0, MAX - 1))),
+    (W64, One(7), One(0), Ok(One(7))),
+    (W32, One(PAST_32 + 7), One(0), Ok(One(7))),
+    (W32, FULL, Num(0, 5), Ok(FULL_32)),
+    (W32, FULL, Num(1, 5), Ok(Num(0, 4))),
+];
+
+const SIGNED_REMAINDERS: [Row; 4] = [
+    (W64, Num(10, 20), One(3), Ok(FULL)),
+    (W64, One(MAX - 6), One(3), Ok(One(MAX))),
+    (W32, Num(10, 20), One(3), Ok(FULL_32)),
+    (W32, One(HALF_32), One(MAX_32), Ok(One(0))),
+];
 
 #[test]
 fn remainders(rt: HostRuntime) {
-    leaves(
-        &rt,
-        Mod,
-        &[
-            (W64, Num(10, 20), Num(3, 5), Ok(Num(0, 4))),
-            (W64, Num(1, 3), Num(1, 10), Ok(Num(0, 3))),
-            (W64, Num(10, 20), Num(0, 5), Ok(Num(0, 20))),
-            (W64, FULL, One(1), Ok(One(0))),
-            (W64, FULL, Num(1, MAX), Ok(Num(0, MAX - 1))),
-            (W64, One(7), One(0), Ok(One(7))),
-            (W32, One(PAST_32 + 7), One(0), Ok(One(7))),
-            (W32, FULL, Num(0, 5), Ok(FULL_32)),
-            (W32, FULL, Num(1, 5), Ok(Num(0, 4))),
-        ],
-    );
-    leaves(
-        &rt,
-        SignedMod,
-        &[
-            (W64, Num(10, 20), One(3), Ok(FULL)),
-            (W64, One(MAX - 6), One(3), Ok(One(MAX))),
-            (W32, Num(10, 20), One(3), Ok(FULL_32)),
-            (W32, One(HALF_32), One(MAX_32), Ok(One(0))),
-        ],
-    );
+    leaves(&rt, Mod, &REMAINDERS);
+    leaves(&rt, SignedMod, &SIGNED_REMAINDERS);
 }
+
+const COMMON_BITS: [Row; 6] = [
+    (W64, Num(4, 12), Num(2, 10), Ok(Num(0, 10))),
+    (W64, One(255), FULL, Ok(Num(0, 255))),
+    (W64, FULL, FULL, Ok(FULL)),
+    (W64, One(12), One(10), Ok(One(8))),
+    (W32, FULL, One(255), Ok(Num(0, 255))),
+    (W32, FULL, One(PAST_32 + 15), Ok(Num(0, 15))),
+];
+
+const UNITED_BITS: [Row; 11] = [
+    (W64, Num(1, 5), Num(1, 8), Ok(Num(0, 15))),
+    (W64, Num(0, 7), Num(0, 7), Ok(Num(0, 7))),
+    (W64, Num(0, 8), Num(0, 7), Ok(Num(0, 15))),
+    (W64, One(0), Num(0, 1), Ok(Num(0, 1))),
+    (W64, One(0), One(0), Ok(One(0))),
+    (W64, Num(0, PAST_32), One(0), Ok(Num(0, 2 * PAST_32 - 1))),
+    (W64, Num(0, HALF), One(0), Ok(FULL)),
+    (W64, Num(0, HALF - 1), One(0), Ok(Num(0, HALF - 1))),
+    (W32, Num(0, PAST_32), One(0), Ok(FULL_32)),
+    (W32, Num(0, HALF_32), One(0), Ok(FULL_32)),
+    (
+        W32,
+        Num(0, HALF_32 - 1),
+        One(PAST_32),
+        Ok(Num(0, HALF_32 - 1)),
+    ),
+];
+
+const TWELVE_OR_TEN: [Row; 1] = [(W64, One(12), One(10), Ok(One(14)))];
+
+const TWELVE_XOR_TEN: [Row; 1] = [(W64, One(12), One(10), Ok(One(6)))];
 
 #[test]
 fn bits(rt: HostRuntime) {
-    leaves(
-        &rt,
-        And,
-        &[
-            (W64, Num(4, 12), Num(2, 10), Ok(Num(0, 10))),
-            (W64, One(255), FULL, Ok(Num(0, 255))),
-            (W64, FULL, FULL, Ok(FULL)),
-            (W64, One(12), One(10), Ok(One(8))),
-            (W32, FULL, One(255), Ok(Num(0, 255))),
-            (W32, FULL, One(PAST_32 + 15), Ok(Num(0, 15))),
-        ],
-    );
+    leaves(&rt, And, &COMMON_BITS);
     for op in [Or, Xor] {
-        leaves(
-            &rt,
-            op,
-            &[
-                (W64, Num(1, 5), Num(1, 8), Ok(Num(0, 15))),
-                (W64, Num(0, 7), Num(0, 7), Ok(Num(0, 7))),
-                (W64, Num(0, 8), Num(0, 7), Ok(Num(0, 15))),
-                (W64, One(0), Num(0, 1), Ok(Num(0, 1))),
-                (W64, One(0), One(0), Ok(One(0))),
-                (W64, Num(0, PAST_32), One(0), Ok(Num(0, 2 * PAST_32 - 1))),
-                (W64, Num(0, HALF), One(0), Ok(FULL)),
-                (W64, Num(0, HALF - 1), One(0), Ok(Num(0, HALF - 1))),
-                (W32, Num(0, PAST_32), One(0), Ok(FULL_32)),
-                (W32, Num(0, HALF_32), One(0), Ok(FULL_32)),
-                (
-                    W32,
-                    Num(0, HALF_32 - 1),
-                    One(PAST_32),
-                    Ok(Num(0, HALF_32 - 1)),
-                ),
-            ],
-        );
+        leaves(&rt, op, &UNITED_BITS);
     }
-    leaves(&rt, Or, &[(W64, One(12), One(10), Ok(One(14)))]);
-    leaves(&rt, Xor, &[(W64, One(12), One(10), Ok(One(6)))]);
+    leaves(&rt, Or, &TWELVE_OR_TEN);
+    leaves(&rt, Xor, &TWELVE_XOR_TEN);
 }
+
+const LEFT_SHIFTS: [Row; 9] = [
+    (W64, Num(1, 3), One(4), Ok(Num(16, 48))),
+    (W64, Num(1, 3), Num(0, 1), Ok(FULL)),
+    (W64, Num(1, 3), One(64), Ok(Num(1, 3))),
+    (W64, Num(0, 1), One(63), Ok(Num(0, HALF))),
+    (W64, Num(0, 2), One(63), Ok(FULL)),
+    (W64, One(3), One(63), Ok(One(HALF))),
+    (W32, Num(1, 3), One(32), Ok(Num(1, 3))),
+    (W32, Num(0, 1), One(31), Ok(Num(0, HALF_32))),
+    (W32, Num(0, 2), One(31), Ok(FULL_32)),
+];
+
+const RIGHT_SHIFTS: [Row; 6] = [
+    (W64, Num(16, 48), One(4), Ok(Num(1, 3))),
+    (W64, Num(16, 48), Num(0, 1), Ok(Num(0, 48))),
+    (W64, Num(16, 48), One(68), Ok(Num(1, 3))),
+    (W64, FULL, One(63), Ok(Num(0, 1))),
+    (W32, FULL, One(31), Ok(Num(0, 1))),
+    (W32, Num(16, 48), One(36), Ok(Num(1, 3))),
+];
+
+const SIGNED_SHIFTS: [Row; 8] = [
+    (W64, Num(16, 48), One(4), Ok(Num(1, 3))),
+    (W64, Num(16, 48), Num(0, 1), Ok(Num(0, 48))),
+    (W64, Num(0, HALF - 1), One(62), Ok(Num(0, 1))),
+    (W64, Num(0, HALF), One(62), Ok(FULL)),
+    (W64, One(MAX), One(63), Ok(One(MAX))),
+    (W32, Num(0, HALF_32 - 1), One(30), Ok(Num(0, 1))),
+    (W32, Num(0, HALF_32), One(30), Ok(FULL_32)),
+    (W32, One(HALF_32), One(31), Ok(One(MAX_32))),
+];
 
 #[test]
 fn shifts(rt: HostRuntime) {
-    leaves(
-        &rt,
-        Lsh,
-        &[
-            (W64, Num(1, 3), One(4), Ok(Num(16, 48))),
-            (W64, Num(1, 3), Num(0, 1), Ok(FULL)),
-            (W64, Num(1, 3), One(64), Ok(Num(1, 3))),
-            (W64, Num(0, 1), One(63), Ok(Num(0, HALF))),
-            (W64, Num(0, 2), One(63), Ok(FULL)),
-            (W64, One(3), One(63), Ok(One(HALF))),
-            (W32, Num(1, 3), One(32), Ok(Num(1, 3))),
-            (W32, Num(0, 1), One(31), Ok(Num(0, HALF_32))),
-            (W32, Num(0, 2), One(31), Ok(FULL_32)),
-        ],
-    );
-    leaves(
-        &rt,
-        Rsh,
-        &[
-            (W64, Num(16, 48), One(4), Ok(Num(1, 3))),
-            (W64, Num(16, 48), Num(0, 1), Ok(Num(0, 48))),
-            (W64, Num(16, 48), One(68), Ok(Num(1, 3))),
-            (W64, FULL, One(63), Ok(Num(0, 1))),
-            (W32, FULL, One(31), Ok(Num(0, 1))),
-            (W32, Num(16, 48), One(36), Ok(Num(1, 3))),
-        ],
-    );
-    leaves(
-        &rt,
-        Arsh,
-        &[
-            (W64, Num(16, 48), One(4), Ok(Num(1, 3))),
-            (W64, Num(16, 48), Num(0, 1), Ok(Num(0, 48))),
-            (W64, Num(0, HALF - 1), One(62), Ok(Num(0, 1))),
-            (W64, Num(0, HALF), One(62), Ok(FULL)),
-            (W64, One(MAX), One(63), Ok(One(MAX))),
-            (W32, Num(0, HALF_32 - 1), One(30), Ok(Num(0, 1))),
-            (W32, Num(0, HALF_32), One(30), Ok(FULL_32)),
-            (W32, One(HALF_32), One(31), Ok(One(MAX_32))),
-        ],
-    );
+    leaves(&rt, Lsh, &LEFT_SHIFTS);
+    leaves(&rt, Rsh, &RIGHT_SHIFTS);
+    leaves(&rt, Arsh, &SIGNED_SHIFTS);
 }
+
+const NEGATIONS: [Row; 6] = [
+    (W64, Num(1, 2), Unset, Ok(FULL)),
+    (W64, One(1), Unset, Ok(One(MAX))),
+    (W64, One(0), Unset, Ok(One(0))),
+    (W32, Num(1, 2), Unset, Ok(FULL_32)),
+    (W32, One(PAST_32 + 1), Unset, Ok(One(MAX_32))),
+    (W64, Stack(0, 0), One(1), Err(Bad::V22)),
+];
+
+const BYTES_EXTENDED: [Row; 5] = [
+    (W64, Unset, Num(0, 1), Ok(FULL)),
+    (W64, Unset, One(0x180), Ok(One(MAX - 127))),
+    (W32, Unset, Num(0, 1), Ok(FULL_32)),
+    (W32, Unset, One(0x80), Ok(One(MAX_32 - 127))),
+    (W64, One(0), Stack(0, 0), Err(Bad::V22)),
+];
+
+const HALVES_EXTENDED: [Row; 2] = [
+    (W64, Unset, One(0x8000), Ok(One(MAX - 32767))),
+    (W32, Unset, One(0x7fff), Ok(One(0x7fff))),
+];
+
+const WORDS_EXTENDED: [Row; 2] = [
+    (W64, Unset, One(HALF_32), Ok(One(MAX - HALF_32 + 1))),
+    (W64, Unset, Num(0, 1), Ok(FULL)),
+];
 
 #[test]
 fn single_operand(rt: HostRuntime) {
-    leaves(
-        &rt,
-        Neg,
-        &[
-            (W64, Num(1, 2), Unset, Ok(FULL)),
-            (W64, One(1), Unset, Ok(One(MAX))),
-            (W64, One(0), Unset, Ok(One(0))),
-            (W32, Num(1, 2), Unset, Ok(FULL_32)),
-            (W32, One(PAST_32 + 1), Unset, Ok(One(MAX_32))),
-            (W64, Stack(0, 0), One(1), Err(Bad::V22)),
-        ],
-    );
-    leaves(
-        &rt,
-        Movsx8,
-        &[
-            (W64, Unset, Num(0, 1), Ok(FULL)),
-            (W64, Unset, One(0x180), Ok(One(MAX - 127))),
-            (W32, Unset, Num(0, 1), Ok(FULL_32)),
-            (W32, Unset, One(0x80), Ok(One(MAX_32 - 127))),
-            (W64, One(0), Stack(0, 0), Err(Bad::V22)),
-        ],
-    );
-    leaves(
-        &rt,
-        Movsx16,
-        &[
-            (W64, Unset, One(0x8000), Ok(One(MAX - 32767))),
-            (W32, Unset, One(0x7fff), Ok(One(0x7fff))),
-        ],
-    );
-    leaves(
-        &rt,
-        Movsx32,
-        &[
-            (W64, Unset, One(HALF_32), Ok(One(MAX - HALF_32 + 1))),
-            (W64, Unset, Num(0, 1), Ok(FULL)),
-        ],
-    );
+    leaves(&rt, Neg, &NEGATIONS);
+    leaves(&rt, Movsx8, &BYTES_EXTENDED);
+    leaves(&rt, Movsx16, &HALVES_EXTENDED);
+    leaves(&rt, Movsx32, &WORDS_EXTENDED);
 }
+
+/// A byte swap, what is known before it, and what after it.
+type Swapped = (SwapKind, SwapBits, Known, Result<Known, Bad>);
+
+const SWAPS: [Swapped; 9] = [
+    (ToBig, B16, One(0x1234), Ok(One(0x3412))),
+    (ToLittle, B16, One(0x12345), Ok(One(0x2345))),
+    (Swap, B32, One(0x1122_3344), Ok(One(0x4433_2211))),
+    (ToBig, B64, One(1), Ok(One(1 << 56))),
+    (ToBig, B16, Num(0, 1), Ok(Num(0, 65535))),
+    (ToLittle, B32, Num(0, 1), Ok(FULL_32)),
+    (ToLittle, B64, Num(0, 1), Ok(FULL)),
+    (Swap, B64, Stack(0, 0), Err(Bad::V22)),
+    (ToBig, B32, Input(0, 8), Err(Bad::V22)),
+];
 
 #[test]
 fn swaps(rt: HostRuntime) {
-    for (kind, bits, a, want) in [
-        (ToBig, B16, One(0x1234), Ok(One(0x3412))),
-        (ToLittle, B16, One(0x12345), Ok(One(0x2345))),
-        (Swap, B32, One(0x1122_3344), Ok(One(0x4433_2211))),
-        (ToBig, B64, One(1), Ok(One(1 << 56))),
-        (ToBig, B16, Num(0, 1), Ok(Num(0, 65535))),
-        (ToLittle, B32, Num(0, 1), Ok(FULL_32)),
-        (ToLittle, B64, Num(0, 1), Ok(FULL)),
-        (Swap, B64, Stack(0, 0), Err(Bad::V22)),
-        (ToBig, B32, Input(0, 8), Err(Bad::V22)),
-    ] {
+    for &(kind, bits, a, want) in &SWAPS {
         let a = kind_of(&rt, a);
         assert_eq!(rt;
             transfer_swap(kind, bits, a),

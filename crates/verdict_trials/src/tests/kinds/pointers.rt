@@ -1,7 +1,7 @@
 //! Sums and differences of pointers, and the operations that take none.
 
 use super::known::Known::{Input, Num, One, Stack};
-use super::operations::leaves;
+use super::operations::{Row, leaves};
 use super::{HALF, MAX};
 use alu::Op::*;
 use alu::Width::*;
@@ -12,45 +12,45 @@ const FAR_OFFSET: i64 = 1 << 20;
 
 const FAR: u64 = 1 << 20;
 
+const SUMS: [Row; 13] = [
+    (W64, Stack(-8, 0), Num(1, 2), Ok(Stack(-7, 2))),
+    (W64, Num(1, 2), Stack(-8, 0), Ok(Stack(-7, 2))),
+    (W64, Stack(-8, 0), One(MAX), Ok(Stack(-9, -1))),
+    (W64, Stack(-8, 0), Num(MAX - 1, MAX), Ok(Stack(-10, -1))),
+    (W64, Stack(-8, 0), Num(HALF - 1, HALF), Err(Bad::V23)),
+    (W64, Stack(-8, 0), Num(0, MAX), Err(Bad::V23)),
+    (W64, Input(0, 0), Num(0, FAR), Ok(Input(0, FAR_OFFSET))),
+    (W64, Input(0, 0), Num(0, FAR + 1), Err(Bad::V23)),
+    (W64, Input(0, 0), Num(HALF, MAX), Err(Bad::V23)),
+    (
+        W64,
+        Input(0, 0),
+        Num(MAX - FAR + 1, MAX),
+        Ok(Input(-FAR_OFFSET, -1)),
+    ),
+    (W64, Input(0, 0), Num(MAX - FAR, MAX), Err(Bad::V23)),
+    (W64, Input(0, 0), Input(0, 0), Err(Bad::V22)),
+    (W32, Input(0, 0), One(1), Err(Bad::V22)),
+];
+
+const DIFFERENCES: [Row; 7] = [
+    (W64, Stack(-8, 0), Num(1, 2), Ok(Stack(-10, -1))),
+    (W64, Stack(-8, 0), One(MAX), Ok(Stack(-7, 1))),
+    (W64, Input(0, 0), Num(0, FAR), Ok(Input(-FAR_OFFSET, 0))),
+    (W64, Input(0, 0), Num(0, FAR + 1), Err(Bad::V23)),
+    (W64, One(1), Input(0, 0), Err(Bad::V22)),
+    (W64, Input(0, 0), Input(0, 0), Err(Bad::V22)),
+    (W32, Input(0, 0), One(1), Err(Bad::V22)),
+];
+
+const MASKED: [Row; 1] = [(W64, Input(0, 0), One(1), Err(Bad::V22))];
+
+const FACTOR: [Row; 1] = [(W64, One(1), Input(0, 0), Err(Bad::V22))];
+
 #[test]
 fn pointers(rt: HostRuntime) {
-    leaves(
-        &rt,
-        Add,
-        &[
-            (W64, Stack(-8, 0), Num(1, 2), Ok(Stack(-7, 2))),
-            (W64, Num(1, 2), Stack(-8, 0), Ok(Stack(-7, 2))),
-            (W64, Stack(-8, 0), One(MAX), Ok(Stack(-9, -1))),
-            (W64, Stack(-8, 0), Num(MAX - 1, MAX), Ok(Stack(-10, -1))),
-            (W64, Stack(-8, 0), Num(HALF - 1, HALF), Err(Bad::V23)),
-            (W64, Stack(-8, 0), Num(0, MAX), Err(Bad::V23)),
-            (W64, Input(0, 0), Num(0, FAR), Ok(Input(0, FAR_OFFSET))),
-            (W64, Input(0, 0), Num(0, FAR + 1), Err(Bad::V23)),
-            (W64, Input(0, 0), Num(HALF, MAX), Err(Bad::V23)),
-            (
-                W64,
-                Input(0, 0),
-                Num(MAX - FAR + 1, MAX),
-                Ok(Input(-FAR_OFFSET, -1)),
-            ),
-            (W64, Input(0, 0), Num(MAX - FAR, MAX), Err(Bad::V23)),
-            (W64, Input(0, 0), Input(0, 0), Err(Bad::V22)),
-            (W32, Input(0, 0), One(1), Err(Bad::V22)),
-        ],
-    );
-    leaves(
-        &rt,
-        Sub,
-        &[
-            (W64, Stack(-8, 0), Num(1, 2), Ok(Stack(-10, -1))),
-            (W64, Stack(-8, 0), One(MAX), Ok(Stack(-7, 1))),
-            (W64, Input(0, 0), Num(0, FAR), Ok(Input(-FAR_OFFSET, 0))),
-            (W64, Input(0, 0), Num(0, FAR + 1), Err(Bad::V23)),
-            (W64, One(1), Input(0, 0), Err(Bad::V22)),
-            (W64, Input(0, 0), Input(0, 0), Err(Bad::V22)),
-            (W32, Input(0, 0), One(1), Err(Bad::V22)),
-        ],
-    );
-    leaves(&rt, And, &[(W64, Input(0, 0), One(1), Err(Bad::V22))]);
-    leaves(&rt, Mul, &[(W64, One(1), Input(0, 0), Err(Bad::V22))]);
+    leaves(&rt, Add, &SUMS);
+    leaves(&rt, Sub, &DIFFERENCES);
+    leaves(&rt, And, &MASKED);
+    leaves(&rt, Mul, &FACTOR);
 }

@@ -8,7 +8,6 @@ use code_parts::Slot::{Added, Call, Copied, Exit, LoadByte, Put, Raised, StoreBy
 use code_parts::{Slot, code_of};
 use helpers::{ArgRule, Body, Helper, Sig, Sigs, Table, decimal, written_sig};
 use std::alloc::Global;
-use std::process::Abort;
 use std::test::Fail;
 use verifier::{raw_image, verify};
 
@@ -19,42 +18,73 @@ const ANY: ArgRule = ArgRule::Num {
 
 const UNUSED: ArgRule = ArgRule::Unused;
 
-/// The Sigs of 18 and of some helpers of a host.
-fn sigs(rt: &impl Abort, alloc: Global) -> Result<Sigs, Fail> {
-    let mut table = Table::new(alloc);
+/// Adds the number that a text spells as 18; tells whether it was taken up.
+fn add_decimal(alloc: Global, table: &mut Table) -> Result<bool, Fail> {
+    let sig = written_sig(18).ok_or("a Sig")?;
     let body: Body = Box::new(
         alloc,
         |_numbers: [u64; 5], first: &[u8], _second: &[u8]| -> u64
             ensures { result ≡ spelled first.now }
         { decimal(first) },
     )?;
-    let sig = written_sig(18).ok_or("a Sig")?;
-    assert!(rt; table.add(Helper::new(18, sig, body)).is_ok());
-    let number = ArgRule::Num { lo: 0, hi: 16 };
-    let small = ArgRule::Num { lo: 0, hi: 15 };
-    let text = ArgRule::Read { max: 16 };
-    let short = ArgRule::Read { max: 15 };
-    let rows = [
-        (64, [ANY, UNUSED, UNUSED, UNUSED, UNUSED], (0, 7)),
-        (65, [ANY, UNUSED, UNUSED, UNUSED, UNUSED], (0, 8)),
-        (66, [UNUSED, number, UNUSED, UNUSED, UNUSED], (0, 7)),
-        (67, [UNUSED, small, UNUSED, UNUSED, UNUSED], (0, 7)),
-        (68, [text, ArgRule::Len, UNUSED, UNUSED, UNUSED], (0, 7)),
-        (69, [short, ArgRule::Len, UNUSED, UNUSED, UNUSED], (0, 7)),
-        (70, [UNUSED, UNUSED, UNUSED, UNUSED, ANY], (0, 7)),
-        (71, [UNUSED, UNUSED, UNUSED, UNUSED, UNUSED], (2, 5)),
-    ];
-    for (number, args, range) in rows {
+    Ok(table.add(Helper::new(18, sig, body)).is_ok())
+}
+
+/// Adds a helper of a host that answers 2; tells whether it was taken up.
+fn add_two(alloc: Global, table: &mut Table, number: u32, sig: Sig) -> Result<bool, Fail> {
+    if sig.lo > 2 || sig.hi < 2 || number < 64 {
+        return Err(Fail::from("the range, or the number"));
+    }
+    let body: Body = Box::new(
+        alloc,
+        |_numbers: [u64; 5], _first: &[u8], _second: &[u8]| -> u64
+            ensures { result ≡ 2 }
+        { 2 },
+    )?;
+    Ok(table.add(Helper::new(number, sig, body)).is_ok())
+}
+
+const NUMBER: ArgRule = ArgRule::Num { lo: 0, hi: 16 };
+
+const SMALLER: ArgRule = ArgRule::Num { lo: 0, hi: 15 };
+
+const TEXT: ArgRule = ArgRule::Read { max: 16 };
+
+const SHORTER: ArgRule = ArgRule::Read { max: 15 };
+
+const LEN: ArgRule = ArgRule::Len;
+
+/// The number of a helper, what its arguments are, and the range of its answers.
+type Rules = (u32, [ArgRule; 5], (u64, u64));
+
+/// Helpers of a host.
+const HOST: [Rules; 8] = [
+    (64, [ANY, UNUSED, UNUSED, UNUSED, UNUSED], (0, 7)),
+    (65, [ANY, UNUSED, UNUSED, UNUSED, UNUSED], (0, 8)),
+    (66, [UNUSED, NUMBER, UNUSED, UNUSED, UNUSED], (0, 7)),
+    (67, [UNUSED, SMALLER, UNUSED, UNUSED, UNUSED], (0, 7)),
+    (68, [TEXT, LEN, UNUSED, UNUSED, UNUSED], (0, 7)),
+    (69, [SHORTER, LEN, UNUSED, UNUSED, UNUSED], (0, 7)),
+    (70, [UNUSED, UNUSED, UNUSED, UNUSED, ANY], (0, 7)),
+    (71, [UNUSED, UNUSED, UNUSED, UNUSED, UNUSED], (2, 5)),
+];
+
+/// Adds the helpers of a host; tells whether all of them were taken up.
+fn add_host(alloc: Global, table: &mut Table) -> Result<bool, Fail> {
+    for &(number, args, range) in &HOST {
         let sig = Sig::new(args, range).ok_or("a Sig")?;
-        assert!(rt; sig.lo <= 2 && sig.hi >= 2);
-        assert!(rt; number != 16 && number != 17 && number != 18 && number != 19);
-        let body: Body = Box::new(
-            alloc,
-            |_numbers: [u64; 5], _first: &[u8], _second: &[u8]| -> u64
-                ensures { result ≡ 2 }
-            { 2 },
-        )?;
-        assert!(rt; table.add(Helper::new(number, sig, body)).is_ok());
+        if !add_two(alloc, table, number, sig)? {
+            return Ok(false);
+        }
+    }
+    Ok(true)
+}
+
+/// The Sigs of 18 and of some helpers of a host.
+fn sigs(alloc: Global) -> Result<Sigs, Fail> {
+    let mut table = Table::new(alloc);
+    if !add_decimal(alloc, &mut table)? || !add_host(alloc, &mut table)? {
+        return Err(Fail::from("refused"));
     }
     Ok(table.sigs(alloc)?)
 }
@@ -523,23 +553,25 @@ const HELPER_CALLS: [(&str, &[Slot], Told); 22] = [
 
 #[test]
 fn helper_calls(rt: HostRuntime) -> Result<(), Fail> {
-    let alloc = rt.alloc();
-    let sigs = sigs(&rt, alloc)?;
-    tell_all(&rt, alloc, &sigs, SMALL, &HELPER_CALLS)
+    let sigs = sigs(rt.alloc())?;
+    tell_all(&rt, rt.alloc(), &sigs, SMALL, &HELPER_CALLS)
+}
+
+/// How many helpers an accepted program keeps, whether 65 is as it was, and how many slots it has.
+fn kept(alloc: Global, sigs: &Sigs) -> Result<(usize, bool, usize), Fail> {
+    let code = code_of(alloc, &[CLEAR, Exit])?;
+    let verified = verify(alloc, raw_image(alloc, &code)?, sigs)?;
+    let kept = verified.sigs();
+    Ok((
+        kept.entries().len(),
+        kept.sig(65) == sigs.sig(65),
+        verified.image().code.len(),
+    ))
 }
 
 #[test]
 fn sigs_are_kept(rt: HostRuntime) -> Result<(), Fail> {
-    let alloc = rt.alloc();
-    let sigs = sigs(&rt, alloc)?;
-    let image = raw_image(alloc, &code_of(alloc, &[CLEAR, Exit])?)?;
-    match verify(alloc, image, &sigs) {
-        Ok(verified) => {
-            assert_eq!(rt; verified.sigs().entries().len(), 9);
-            assert!(rt; verified.sigs().sig(65) == sigs.sig(65));
-            assert_eq!(rt; verified.image().code.len(), 2);
-        }
-        Err(_) => panic!(rt; "an accepted program"),
-    }
+    let sigs = sigs(rt.alloc())?;
+    assert_eq!(rt; kept(rt.alloc(), &sigs)?, (9, true, 2));
     Ok(())
 }

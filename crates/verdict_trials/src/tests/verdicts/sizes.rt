@@ -112,20 +112,23 @@ const BRANCHY: [(&str, Slot, Told); 3] = [
 fn branchy_programs(rt: HostRuntime) -> Result<(), Fail> {
     let alloc = rt.alloc();
     let sigs = Sigs::new(alloc);
-    for (name, first, want) in BRANCHY {
-        let code = branchy(alloc, first)?;
-        tells(&rt, alloc, &sigs, GREATEST, name, &code, want)?;
+    for (name, first, want) in &BRANCHY {
+        let code = branchy(alloc, *first)?;
+        tells(&rt, alloc, &sigs, GREATEST, name, &code, *want)?;
     }
     Ok(())
 }
 
+/// How many bytes a program copies, and what is told of it.
+const WHOLE_WINDOWS: [(&str, i32, Told); 2] = [
+    ("a copy of a whole window", 65_536, Told::Accepted(6)),
+    ("a copy of one byte more", 65_537, Told::Refused(28, 3)),
+];
+
 #[test]
 fn calls_on_whole_windows(rt: HostRuntime) -> Result<(), Fail> {
-    let alloc = rt.alloc();
-    for (name, len, want) in [
-        ("a copy of a whole window", 65_536, Told::Accepted(6)),
-        ("a copy of one byte more", 65_537, Told::Refused(28, 3)),
-    ] {
+    let sigs = Sigs::new(rt.alloc());
+    for &(name, len, want) in &WHOLE_WINDOWS {
         let code = [
             Copied(2, 1),
             Copied(1, 3),
@@ -134,7 +137,7 @@ fn calls_on_whole_windows(rt: HostRuntime) -> Result<(), Fail> {
             CLEAR,
             Exit,
         ];
-        tells(&rt, alloc, &Sigs::new(alloc), GREATEST, name, &code, want)?;
+        tells(&rt, rt.alloc(), &sigs, GREATEST, name, &code, want)?;
     }
     Ok(())
 }
