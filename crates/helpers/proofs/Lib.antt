@@ -7,3 +7,4 @@ pub mod Laid
 pub mod Agreement
 pub mod SameSigs
 pub mod LaidRows
+pub mod SameRules
