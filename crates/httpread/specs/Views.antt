@@ -1,12 +1,15 @@
 -- What contracts see of a request whose head and body are at hand.
-use Rattle.std.specs.Prelude.{ℕ, ◌≤◌, ◌<◌, if◌then◌else◌, List, map, codes, Option, Some, None}
+use Rattle.std.specs.Prelude.{ℕ, ◌≤◌, ◌<◌, if◌then◌else◌, List, map, codes, Option, Some, None, Result}
+use Rattle.dvv.specs.declared.Dot.{Dot}
+use Rattle.token.specs.declared.fault.TokenFault.{TokenFault}
 use Rattle.httparse.specs.Spans.{header_bytes}
 use Rattle.object.specs.declared.content.Key.{Key}
 use Rattle.object.specs.declared.content.Content.{Content}
 use Rattle.object.specs.declared.content.Content.TheVariants.{Value, Tombstone}
 use Rattle.object.specs.Limits.{longest_media}
 use Rattle.httpask.specs.Target.{Quorums, name_at, is_name}
-use Rattle.httpask.specs.Ask.{is_method, media_of}
+use Rattle.httpask.specs.Ask.{is_method, media_of, asked_delete, asked_write}
+use Rattle.httpask.specs.declared.ask.Ask.{Ask}
 use Rattle.httpask.specs.Ask as spec
 use Rattle.httpread.specs.declared.query.Asked.{Asked}
 use Rattle.httpread.specs.declared.whole.Request.{Request}
@@ -36,3 +39,7 @@ abbrev pub content_of : spec.Request → Option Content
 content_of q =
     if is_method q (codes "DELETE") then Some Tombstone
     else (if is_name longest_media (media_of q.pairs) then Some (Value (media_of q.pairs) q.body) else None)
+
+-- what a write asks of a key, with what its context says: a delete, or a put of the body
+abbrev pub asked_put : Key → Quorums → spec.Request → Result (List Dot) TokenFault → Ask
+asked_put key n q context = if is_method q (codes "DELETE") then asked_delete key n context else asked_write key n q context

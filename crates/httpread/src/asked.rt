@@ -1,22 +1,25 @@
 //! What a whole request asks for.
 
-ghost use Rattle.std.specs.Prelude.{◌≡◌, ◌≤◌, ◌<◌, ◌++◌, length, All, IfOk, IfErr, Some, ℕ, codes, option_map};
-ghost use Rattle.object.specs.declared.content.Key.{Key as KeyView};
+ghost use Rattle.std.specs.Prelude.{◌≡◌, ◌≤◌, IfOk, Some, Ok, ℕ, codes};
+ghost use Rattle.std.specs.Option.{option_copied};
 ghost use Rattle.httpask.specs.declared.route.Route.TheVariants as route;
-ghost use Rattle.std.specs.Cow.{cow_str_bytes};
 ghost use Rattle.httpask.specs.Target as target;
 ghost use Rattle.httpask.specs.Fields as fields;
 ghost use Rattle.httpask.specs.Target.{texts_of};
 ghost use Rattle.httpask.specs.Ask as spec;
-ghost use Rattle.httpask.specs.Ask.{asked_of, asked_at, asked_key, is_method, context_of};
-ghost use Rattle.httpread.specs.Views.{request, quorums, FitsAsked, key_at, content_of};
+ghost use Rattle.httpask.specs.Ask.{asked_of, asked_at, asked_named, asked_props, is_method, context_of};
+ghost use Rattle.httpask.specs.Props as props;
+ghost use Rattle.httpask.specs.declared.ask.Ask.TheVariants as asks;
+ghost use Rattle.httpask.specs.declared.ask.Call.TheVariants as calls;
+ghost use Rattle.httpask.specs.declared.ask.Form.TheVariants.{Text};
+ghost use Rattle.httpread.specs.Views.{request, quorums, FitsAsked, key_at, content_of, asked_put};
 ghost use Rattle.httpask.specs.Fits.{FitsAsk};
 ghost use Rattle.object.specs.Limits.{IsKey};
 ghost use Rattle.token.specs.Token.{Gives};
 
 use crate::fields::has_element;
 use crate::names::{has_names, is_hook_name, is_name, name_at};
-use crate::query::{Asked, quorums_of, words_of};
+use crate::query::{Asked, quorums_of, text_of, words_of};
 use crate::routes::Routes;
 use crate::whole::Request;
 use dvv::Clock;
@@ -24,7 +27,6 @@ use httpask::{Ask, Call, Form, Refusal, Route};
 use httpprops::changes_in;
 use object::{Bytes, Content, Key, MAX_BUCKET, MAX_MEDIA};
 use std::alloc::{AllocError, Global};
-use std::borrow::CowStr;
 use token::TokenFault;
 
 impl Request<'_> {
@@ -72,82 +74,102 @@ impl Request<'_> {
             return Ok(Ask::Refused(Refusal::Method));
         }
         let words = words_of(alloc, self.query.as_bytes())?;
-        let Some(asked) = quorums_of(&words, copies) else {
-            return Ok(Ask::Refused(Refusal::Query));
-        };
+        match quorums_of(&words, copies) {
+            Some(asked) => self.ask_of_names(alloc, asked, text_of(&words.vtag)),
+            None => Ok(Ask::Refused(Refusal::Query)),
+        }
+    }
+
+    // What is asked of the key that the path names, where the query is in order.
+    fn ask_of_names(self, alloc: Global, asked: Asked, tag: Option<&str>) -> Result<Ask, AllocError>
+        requires { option_copied tag ≡ target.asked_for (codes "vtag") (texts_of self.query.now) }
+        ensures asked { IfOk result (λ ask. ask ≡ asked_named (Some (quorums asked)) (key_at self.entry.path.now) (request self.entry)) }
+        ensures fits { (copies : ℕ) → FitsAsked copies asked → IfOk result (FitsAsk copies) }
+    {
         let key = self.key(alloc)?;
         if !has_names(&key) {
             return Ok(Ask::Refused(Refusal::BadName));
         }
-        self.call_of_key(alloc, key, asked, words.vtag)
+        if self.is(b"GET") {
+            self.get_of_key(alloc, key, asked, tag)
+        } else {
+            self.put_of_key(alloc, key, asked)
+        }
     }
 
     // The key that the path names.
     fn key(self, alloc: Global) -> Result<Key, AllocError>
         ensures { IfOk result (λ key. key ≡ key_at self.entry.path.now) }
     {
-        Ok(Key {
-            bucket: name_at(alloc, self.path, 2)?,
-            key: name_at(alloc, self.path, 4)?,
-        })
+        let bucket = name_at(alloc, self.path, 2)?;
+        let key = name_at(alloc, self.path, 4)?;
+        Ok(Key { bucket, key })
     }
 
-    // What is asked of the key, where its names and the query are in order.
-    fn call_of_key(
+    // A read of the key.
+    fn get_of_key(
         self,
         alloc: Global,
         key: Key,
         asked: Asked,
-        tag: Option<CowStr<'_, Global>>,
+        tag: Option<&str>,
     ) -> Result<Ask, AllocError>
-        requires { option_map cow_str_bytes tag ≡ target.asked_for (codes "vtag") (texts_of self.query.now) }
-        ensures asked { IfOk result (λ ask. ask ≡ asked_key key (quorums asked) (request self.entry)) }
+        ensures asked { IfOk result (λ ask. ask ≡ asks.Call (calls.Get key asked.read asked.at)
+            (spec.form_of (option_copied tag.entry) (fields.has_element (codes "accept") (codes "multipart/mixed") (request self.entry).pairs))) }
         ensures fits { (copies : ℕ) → IsKey key → FitsAsked copies asked → IfOk result (FitsAsk copies) }
     {
-        if self.is(b"GET") {
-            let form = self.form(alloc, tag)?;
-            return Ok(Ask::Call(
-                Call::Get {
-                    key,
-                    r: asked.read,
-                    at: asked.at,
-                },
-                form,
-            ));
-        }
-        let seen = match self.context(alloc) {
-            Ok(seen) => seen,
-            Err(TokenFault::NoMemory) => return Err(AllocError),
-            Err(fault) => return Ok(Ask::Refused(Refusal::Token(fault))),
+        let form = self.form(alloc, tag)?;
+        let call = Call::Get {
+            key,
+            r: asked.read,
+            at: asked.at,
         };
+        Ok(Ask::Call(call, form))
+    }
+
+    // A write of the key, as one who had seen what the context says.
+    fn put_of_key(self, alloc: Global, key: Key, asked: Asked) -> Result<Ask, AllocError>
+        ensures asked { IfOk result (λ ask. ask ≡ asked_put key (quorums asked) (request self.entry) (context_of (request self.entry).pairs)) }
+        ensures fits { (copies : ℕ) → IsKey key → FitsAsked copies asked → IfOk result (FitsAsk copies) }
+    {
+        match self.context(alloc) {
+            Ok(seen) => self.put_seen(alloc, key, asked, seen),
+            Err(TokenFault::NoMemory) => Err(AllocError),
+            Err(fault) => Ok(Ask::Refused(Refusal::Token(fault))),
+        }
+    }
+
+    // A write of the key, as one who had seen what the clock counts.
+    fn put_seen(self, alloc: Global, key: Key, asked: Asked, seen: Clock) -> Result<Ask, AllocError>
+        ensures asked { IfOk result (λ ask. ask ≡ asked_put key (quorums asked) (request self.entry) (Ok seen)) }
+        ensures fits { (copies : ℕ) → IsKey key → FitsAsked copies asked → IfOk result (FitsAsk copies) }
+    {
         match self.content(alloc)? {
-            Some(content) => Ok(Ask::Call(
-                Call::Put {
+            Some(content) => {
+                let call = Call::Put {
                     key,
                     seen,
                     content,
                     w: asked.write,
                     at: asked.at,
-                },
-                Form::Text,
-            )),
+                };
+                Ok(Ask::Call(call, Form::Text))
+            }
             None => Ok(Ask::Refused(Refusal::BadType)),
         }
     }
 
     // How a read is shown.
-    fn form(self, alloc: Global, tag: Option<CowStr<'_, Global>>) -> Result<Form, AllocError>
-        ensures { IfOk result (λ form. form ≡ spec.form_of (option_map cow_str_bytes tag.entry) (fields.has_element (codes "accept") (codes "multipart/mixed") (request self.entry).pairs)) }
+    fn form(self, alloc: Global, tag: Option<&str>) -> Result<Form, AllocError>
+        ensures { IfOk result (λ form. form ≡ spec.form_of (option_copied tag.entry) (fields.has_element (codes "accept") (codes "multipart/mixed") (request self.entry).pairs)) }
     {
-        match tag {
-            Some(tag) => Ok(Form::One(Bytes::from_slice(alloc, tag.as_str().as_bytes())?)),
-            None => {
-                if has_element(self.fields.accept, b"multipart/mixed") {
-                    Ok(Form::Parts)
-                } else {
-                    Ok(Form::Text)
-                }
-            }
+        if let Some(tag) = tag {
+            return Ok(Form::One(Bytes::from_slice(alloc, tag.as_bytes())?));
+        }
+        if has_element(self.fields.accept, b"multipart/mixed") {
+            Ok(Form::Parts)
+        } else {
+            Ok(Form::Text)
         }
     }
 
@@ -175,10 +197,9 @@ impl Request<'_> {
         if !is_name(MAX_MEDIA, media) {
             return Ok(None);
         }
-        Ok(Some(Content::Value {
-            media: Bytes::from_slice(alloc, media)?,
-            bytes: Bytes::from_slice(alloc, self.body)?,
-        }))
+        let media = Bytes::from_slice(alloc, media)?;
+        let bytes = Bytes::from_slice(alloc, self.body)?;
+        Ok(Some(Content::Value { media, bytes }))
     }
 
     fn ask_of_hook(self, alloc: Global) -> Result<Ask, AllocError>
@@ -194,10 +215,18 @@ impl Request<'_> {
             return Ok(Ask::Refused(Refusal::BadName));
         }
         if put {
-            let image = Bytes::from_slice(alloc, self.body)?;
-            return Ok(Ask::Call(Call::Install { name, image }, Form::Text));
+            self.install(alloc, name)
+        } else {
+            Ok(Ask::Call(Call::Remove { name }, Form::Text))
         }
-        Ok(Ask::Call(Call::Remove { name }, Form::Text))
+    }
+
+    // What installs the body under a name.
+    fn install(self, alloc: Global, name: Bytes) -> Result<Ask, AllocError>
+        ensures { IfOk result (λ ask. ask ≡ asks.Call (calls.Install name self.entry.body.now) Text) }
+    {
+        let image = Bytes::from_slice(alloc, self.body)?;
+        Ok(Ask::Call(Call::Install { name, image }, Form::Text))
     }
 
     fn ask_of_bucket(self, alloc: Global) -> Result<Ask, AllocError>
@@ -213,17 +242,25 @@ impl Request<'_> {
             return Ok(Ask::Refused(Refusal::BadName));
         }
         if get {
-            return Ok(Ask::Call(Call::ReadProps { bucket }, Form::Text));
+            Ok(Ask::Call(Call::ReadProps { bucket }, Form::Text))
+        } else {
+            self.set_props(alloc, bucket)
         }
+    }
+
+    // What sets the properties of a bucket.
+    fn set_props(self, alloc: Global, bucket: Bytes) -> Result<Ask, AllocError>
+        ensures { IfOk result (λ ask. ask ≡ asked_props bucket (props.changes_in self.entry.body.now)) }
+    {
         match changes_in(alloc, self.body)? {
-            Some((precommit, resolver)) => Ok(Ask::Call(
-                Call::SetProps {
+            Some((precommit, resolver)) => {
+                let call = Call::SetProps {
                     bucket,
                     precommit,
                     resolver,
-                },
-                Form::Text,
-            )),
+                };
+                Ok(Ask::Call(call, Form::Text))
+            }
             None => Ok(Ask::Refused(Refusal::BadProps)),
         }
     }

@@ -15,6 +15,7 @@ use crate::firsts::Fields;
 use crate::number::{is_number, small_number};
 use httparse::spans::HeaderSpan;
 use httpask::Refusal;
+use memchr::memchr;
 
 /// Whether the field has this name, whose case does not matter.
 pub(crate) fn is_named(bytes: &[u8], line: HeaderSpan, name: &[u8]) -> bool
@@ -87,12 +88,7 @@ fn comma_in(text: &[u8]) -> Option<usize>
     ensures none { IfNone result (slice_split (λ b. b == 44) text.now ≡ text.now ∷ []) }
     ensures fits { length text.now < 2 ^ 64 }
 {
-    for (i, b) in text.iter().enumerate() {
-        if *b == b',' {
-            return Some(i);
-        }
-    }
-    None
+    memchr(b',', text)
 }
 
 // Whether an element of a list, without its parameters and the space around it, is this one.
@@ -108,12 +104,10 @@ fn is_element(part: &[u8], element: &[u8]) -> bool
 fn before_semicolon(part: &[u8]) -> &[u8]
     ensures { result.now ≡ before_first (λ b. b == 59) part.now }
 {
-    for (i, b) in part.iter().enumerate() {
-        if *b == b';' {
-            return &part[..i];
-        }
+    match memchr(b';', part) {
+        Some(at) => &part[..at],
+        None => part,
     }
-    part
 }
 
 // The bytes without the spaces and tabs at both ends.

@@ -9,6 +9,7 @@ mod asked;
 mod fields;
 mod firsts;
 mod head;
+pub mod laws;
 mod names;
 mod number;
 mod query;

@@ -4,6 +4,7 @@ ghost use Rattle.std.specs.Prelude.{◌≡◌, ◌≤◌, ◌<◌, ℕ, length, 
 ghost use Rattle.std.specs.Str.Parse.{digits_value};
 ghost use Rattle.std.specs.List.{list_all};
 ghost use Rattle.std.specs.Char.{is_ascii_digit, digit_value};
+ghost use Rattle.httpask.specs.Limits.{longest_body};
 ghost use Rattle.httpask.specs.Fields as fields;
 ghost use Rattle.httpask.specs.Target as target;
 ghost use Rattle.httpread.specs.Numbers as spec;
@@ -23,11 +24,11 @@ fn are_digits(text: &[u8]) -> bool
     text.iter().all(|b| b.is_ascii_digit())
 }
 
-/// The number that digits spell, if it is at most 65,536.
+/// The number that digits spell, if it is at most [`MAX_BODY`].
 pub(crate) fn small_number(digits: &[u8]) -> Option<usize>
     requires { fields.is_number digits.now ≡ true }
-    ensures small { IfSome result (λ n. (n ≡ digits_value 10 digits.now) × (n ≤ 65536)) }
-    ensures large { IfNone result (65536 < digits_value 10 digits.now) }
+    ensures small { IfSome result (λ n. (n ≡ digits_value 10 digits.now) × (n ≤ longest_body)) }
+    ensures large { IfNone result (longest_body < digits_value 10 digits.now) }
 {
     let mut n = 0usize;
     for digit in digits {
@@ -54,7 +55,7 @@ fn is_plain_number(text: &[u8]) -> bool
     is_number(text) && (text.len() == 1 || text[0] != b'0')
 }
 
-/// The number that a text without zeros in front spells, if it is at most 65,536.
+/// The number that a text without zeros in front spells, if it is at most [`MAX_BODY`].
 pub(crate) fn plain_number(text: &[u8]) -> Option<u32>
     ensures { result ≡ spec.plain_number text.now }
 {

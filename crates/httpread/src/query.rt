@@ -4,6 +4,7 @@ ghost use Rattle.std.specs.Option.{option_copied};
 ghost use Rattle.std.specs.Cow.{cow_str_bytes};
 ghost use Rattle.httpask.specs.Target as spec;
 ghost use Rattle.httpread.specs.Numbers as numbers;
+ghost use Rattle.httpread.specs.Firsts.{or_else};
 ghost use Rattle.httpread.specs.Words.{AreWords, WordsLeadTo};
 ghost use Rattle.httpread.specs.Views.{quorums, FitsAsked};
 
@@ -32,38 +33,35 @@ pub(crate) fn words_of(alloc: Global, query: &[u8]) -> Result<Words<'_>, AllocEr
     };
     for pair in form_urlencoded::parse(alloc, query) {
         let (name, value) = pair?;
-        words = with_pair(words, name.as_str(), value);
+        add_pair(&mut words, name.as_str(), value);
     }
     Ok(words)
 }
 
-// The words with those of one pair more.
-fn with_pair<'q>(words: Words<'q>, name: &str, value: CowStr<'q, Global>) -> Words<'q>
-    ensures { (rest pairs : List (List ℕ × List ℕ)) → WordsLeadTo words.entry ((name.now, cow_str_bytes value.entry) ∷ rest) pairs → WordsLeadTo result rest pairs }
+// Adds the word of one pair more.
+fn add_pair<'q>(words: &mut Words<'q>, name: &str, value: CowStr<'q, Global>)
+    ensures { (rest pairs : List (List ℕ × List ℕ)) → WordsLeadTo words.old ((name.now, cow_str_bytes value.entry) ∷ rest) pairs → WordsLeadTo words.new rest pairs }
 {
     match name {
-        "r" => Words {
-            r: words.r.or(Some(value)),
-            ..words
-        },
-        "w" => Words {
-            w: words.w.or(Some(value)),
-            ..words
-        },
-        "at" => Words {
-            at: words.at.or(Some(value)),
-            ..words
-        },
-        "vtag" => Words {
-            vtag: words.vtag.or(Some(value)),
-            ..words
-        },
-        _ => words,
+        "r" => keep_first(&mut words.r, value),
+        "w" => keep_first(&mut words.w, value),
+        "at" => keep_first(&mut words.at, value),
+        "vtag" => keep_first(&mut words.vtag, value),
+        _ => {}
     }
 }
 
-// The text of a word.
-fn text_of<'a>(word: &'a Option<CowStr<'_, Global>>) -> Option<&'a str>
+// Keeps the value, if there was none.
+fn keep_first<'q>(word: &mut Option<CowStr<'q, Global>>, value: CowStr<'q, Global>)
+    ensures { option_map cow_str_bytes word.new ≡ or_else (option_map cow_str_bytes word.old) (Some (cow_str_bytes value.entry)) }
+{
+    if word.is_none() {
+        *word = Some(value);
+    }
+}
+
+/// The text of a word.
+pub(crate) fn text_of<'a>(word: &'a Option<CowStr<'_, Global>>) -> Option<&'a str>
     ensures { option_copied result ≡ option_map cow_str_bytes word.now }
 {
     match word {

@@ -1,12 +1,13 @@
 //! The first request of the bytes at hand.
 
-ghost use Rattle.std.specs.Prelude.{◌≡◌, ◌≤◌, ◌<◌, ℕ, ◌++◌, List, length, take, All, IfOk, IfSome, IfNone, unwrap_or, []};
-ghost use Rattle.http_uri.specs.Uri.{uri_path, uri_query};
-ghost use Rattle.httparse.specs.Spans.{IsHeaderWithin, IsRequestAt, IsRequestWithin};
-ghost use Rattle.httpask.specs.Head.{BeginsHead, IsOriginTarget};
-ghost use Rattle.httpask.specs.Target.{path_at, query_at};
+ghost use Rattle.std.specs.Prelude.{◌≡◌, ◌≤◌, true, IfOk, IfSome, IfNone};
+ghost use Rattle.httparse.specs.Spans.{span_bytes};
+ghost use Rattle.httpask.specs.Head.{IsOriginTarget};
+ghost use Rattle.httpask.specs.declared.ask.Ask.TheVariants.{Refused};
 ghost use Rattle.httpread.specs.Finds.{Finds};
 ghost use Rattle.httpread.specs.Heads.{StandsAt};
+ghost use Rattle.httpread.specs.Targets.{IsUriOf};
+ghost use Rattle.httpread.specs.declared.request.Asking.TheVariants.{First};
 
 use crate::fields::{body_length, closes};
 use crate::firsts::fields_of;
@@ -43,11 +44,7 @@ pub fn first_request(
     let mut lines = [EMPTY_HEADER_SPAN; MAX_LINES];
     match read_head(bytes, &mut lines) {
         HeadAt::Unfinished => Ok(Asking::More),
-        HeadAt::Bad => Ok(Asking::First {
-            ask: Ask::Refused(Refusal::BadHead),
-            ends: true,
-            len: bytes.len(),
-        }),
+        HeadAt::Bad => Ok(broken(Refusal::BadHead, bytes.len())),
         HeadAt::Whole(spans) => request_at(alloc, routes, copies, bytes, spans, &lines),
     }
 }
@@ -66,22 +63,44 @@ fn request_at(
     requires head { StandsAt bytes.now lines.now spans }
     ensures { IfOk result (Finds copies bytes.now) }
 {
-    let Some(uri) = uri_of(alloc, spans.path.of(bytes))? else {
-        return Ok(Asking::First {
-            ask: Ask::Refused(Refusal::BadHead),
-            ends: true,
-            len: spans.len,
-        });
-    };
+    match uri_of(alloc, spans.path.of(bytes))? {
+        Some(uri) => request_to(alloc, routes, copies, bytes, spans, lines, &uri),
+        None => Ok(broken(Refusal::BadHead, spans.len)),
+    }
+}
+
+// The first request, where it is refused and the connection ends.
+fn broken(refusal: Refusal, len: usize) -> Asking
+    ensures { result ≡ First (Refused refusal) true len }
+{
+    Asking::First {
+        ask: Ask::Refused(refusal),
+        ends: true,
+        len,
+    }
+}
+
+// What a request with a whole head comes to, where its target is this URI.
+fn request_to(
+    alloc: Global,
+    routes: &Routes,
+    copies: u32,
+    bytes: &[u8],
+    spans: RequestSpans,
+    lines: &[HeaderSpan],
+    uri: &Uri,
+) -> Result<Asking, AllocError>
+    requires some { 1 ≤ copies }
+    requires few { copies ≤ 3 }
+    requires head { StandsAt bytes.now lines.now spans }
+    requires target { IsUriOf (span_bytes bytes.now spans.path) uri.now }
+    ensures { IfOk result (Finds copies bytes.now) }
+{
     let lines = &lines[..spans.headers];
     let method = spans.method.of(bytes);
     let fields = fields_of(bytes, lines);
     let len = match body_length(bytes, lines, &fields, method) {
-        Err(refusal) => return Ok(Asking::First {
-            ask: Ask::Refused(refusal),
-            ends: true,
-            len: spans.len,
-        }),
+        Err(refusal) => return Ok(broken(refusal, spans.len)),
         Ok(body) => spans.len + body,
     };
     if bytes.len() < len {
@@ -103,7 +122,7 @@ fn request_at(
 
 // The URI of a target that is a path with its query.
 fn uri_of(alloc: Global, target: &[u8]) -> Result<Option<Uri>, AllocError>
-    ensures some { IfOk result (λ o. IfSome o (λ uri. IsOriginTarget target.now × (uri_path uri ≡ path_at target.now) × (unwrap_or (uri_query uri) [] ≡ query_at target.now))) }
+    ensures some { IfOk result (λ o. IfSome o (IsUriOf target.now)) }
     ensures none { IfOk result (λ o. IfNone o (¬ (IsOriginTarget target.now))) }
 {
     if target.is_empty() || target[0] != b'/' {

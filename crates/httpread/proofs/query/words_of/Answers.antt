@@ -7,8 +7,8 @@ loop-pair-preserved-in_ok-name c =
     let step = c.in-Some.ensures.steps.0 in (
       tt,
       tt,
-      one_pair c.loop-pair.words c.with_pair-words.result _ _ _ step.0 step.1 _ _ step.2 (search rules) (search rules)
-          (c.with_pair-words.ensures _ _) c.loop-pair.invariant.2,
+      one_pair c.loop-pair.words c.add_pair.new.words _ _ _ step.0 step.1 _ _ step.2 (search rules) (search rules)
+          (c.add_pair.ensures _ _) c.loop-pair.invariant.2,
     )
 
 pub loop-pair-preserved : goal.loop-pair-preserved
@@ -16,6 +16,6 @@ loop-pair-preserved c =
     let step = c.in-Some.ensures.steps.0 in (
       tt,
       tt,
-      one_pair c.loop-pair.words c.with_pair-words.result _ _ _ step.0 step.1 _ _ step.2 (search rules) (search rules)
-          (c.with_pair-words.ensures _ _) c.loop-pair.invariant.2,
+      one_pair c.loop-pair.words c.add_pair.new.words _ _ _ step.0 step.1 _ _ step.2 (search rules) (search rules)
+          (c.add_pair.ensures _ _) c.loop-pair.invariant.2,
     )
