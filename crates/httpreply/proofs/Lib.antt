@@ -1,4 +1,5 @@
 mod Delimiters
+mod Ends
 mod Fronts
 mod Least
 mod Pieces

@@ -5,12 +5,16 @@ use Rattle.std.proofs.Common.{◌≡◌, ◌∙◌, ap, ℕ, List, ◌++◌, app
 pub both_pieces : (l l' x x' : List ℕ) → l ≡ l' → x ≡ x' → l ++ x ≡ l' ++ x'
 both_pieces l l' x x' e d = ap (λ a. a ++ x) e ∙ ap (λ a. l' ++ a) d
 
-pub answer_grouped : (o a s e m v t k l y : List ℕ)
-    → (((((((o ++ a) ++ s) ++ e) ++ m) ++ v) ++ t) ++ k) ++ ((l ++ e) ++ y)
-    ≡ o ++ (((((((((a ++ s) ++ e) ++ m) ++ v) ++ t) ++ k) ++ l) ++ e) ++ y)
-answer_grouped o a s e m v t k l y = simp append_assoc
+pub answer_grouped : (o s m v t k l e y : List ℕ)
+    → (((((o ++ s) ++ m) ++ v) ++ t) ++ k) ++ ((l ++ e) ++ y) ≡ o ++ (((((((s ++ m) ++ v) ++ t) ++ k) ++ l) ++ e) ++ y)
+answer_grouped o s m v t k l e y = simp append_assoc
 
-pub part_grouped : (o e q d k x t b : List ℕ)
-    → (((((((o ++ (e ++ q)) ++ d) ++ e) ++ k) ++ x) ++ t) ++ (e ++ e)) ++ b
-    ≡ o ++ ((((e ++ ((q ++ d) ++ e)) ++ k) ++ ((x ++ t) ++ e)) ++ e ++ b)
-part_grouped o e q d k x t b = simp append_assoc
+pub part_grouped : (o e d k t b : List ℕ)
+    → ((((o ++ (e ++ d)) ++ e) ++ k) ++ (t ++ e)) ++ b ≡ o ++ (((((e ++ (d ++ e)) ++ k) ++ t) ++ e) ++ b)
+part_grouped o e d k t b = simp append_assoc
+
+pub clock_grouped : (o x t e : List ℕ) → ((o ++ x) ++ t) ++ e ≡ o ++ ((x ++ t) ++ e)
+clock_grouped o x t e = simp append_assoc
+
+pub tag_grouped : (o x t e : List ℕ) → ((o ++ x) ++ t) ++ (e ++ e) ≡ o ++ (((x ++ t) ++ e) ++ e)
+tag_grouped o x t e = simp append_assoc

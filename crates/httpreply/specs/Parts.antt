@@ -1,5 +1,5 @@
 -- A multipart body (RFC 2046, section 5.1; Riak KV documentation, siblings).
-use Rattle.std.specs.Prelude.{ℕ, ◌+◌, Bool, not, ◌||◌, List, [], ◌∷◌, ◌++◌, length, sum_by, codes, Option, Some, None, unwrap_or}
+use Rattle.std.specs.Prelude.{◌≡◌, ℕ, ◌+◌, ◌<◌, Bool, true, false, not, ◌||◌, List, [], ◌∷◌, ◌++◌, length, sum_by, codes, Option, Some, None, unwrap_or}
 use Rattle.std.specs.List.{flat_map, list_all, find, range_with_len, starts_with}
 use Rattle.std.specs.Prelude.{nat_eq, decimal}
 use Rattle.dvv.specs.declared.Dot.{Dot}
@@ -38,7 +38,13 @@ delimiter n = codes "--s" ++ decimal n
 abbrev pub is_free : List Sibling → ℕ → Bool
 is_free siblings n = list_all (λ s. not (occurs_in (delimiter n) (bytes_of s.content))) siblings
 
--- the boundary's number: the least whose delimiter stands in no value. There are fewer delimiters in the values than bytes.
+-- the least number whose delimiter stands in no value
+pub record IsLeastFree (siblings : List Sibling) (n : ℕ) : Type 0 where
+  pub free : is_free siblings n ≡ true
+  pub least : (k : ℕ) → k < n → is_free siblings k ≡ false
+
+-- the boundary's number: the least whose delimiter stands in no value. No two delimiters in the values end at the same byte, so it is one
+-- of the numbers up to the count of their bytes.
 abbrev pub boundary_of : List Sibling → ℕ
 boundary_of siblings = unwrap_or (find (is_free siblings) (range_with_len 0 (sum_by (λ s. length (bytes_of s.content)) siblings + 1))) 0
 

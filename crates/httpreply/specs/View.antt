@@ -1,15 +1,20 @@
 -- What contracts see of the parts of an answer.
-use Rattle.std.specs.Prelude.{ℕ, ◌++◌, codes, List, Option, []}
+use Rattle.std.specs.Prelude.{ℕ, ◌++◌, codes, List, Option, Some, None, []}
 use Rattle.std.specs.Option.{option_copied}
-use denote.Ref.{Bor}
+use Rattle.dvv.specs.declared.Dot.{Dot}
 use Rattle.httpreply.specs.Answer as spec
-use Rattle.httpreply.specs.Answer.{told, length_of, or_nothing}
+use Rattle.httpreply.specs.Answer.{told, length_of, or_nothing, vclock_of}
 use Rattle.httpreply.specs.Parts.{line, field_line}
 use Rattle.httpreply.specs.declared.field.Answer.{Answer}
 use Rattle.httpreply.specs.declared.words.Line.{Line}
 
+-- the context that is told
+abbrev pub context_of : Option (List Dot) → Option (List ℕ)
+context_of None = None
+context_of (Some clock) = vclock_of clock
+
 abbrev pub parts_of : Answer → spec.Answer
-parts_of a = record { status = a.status.now; media = option_copied a.media; vclock = option_copied a.vclock; tag = option_copied a.tag; body = option_copied a.body }
+parts_of a = record { status = a.status.now; media = option_copied a.media; vclock = context_of (option_copied a.context); tag = option_copied a.tag; body = option_copied a.body }
 
 abbrev pub line_of : Line → spec.Answer
 line_of l = told l.status.now l.text.now
@@ -19,5 +24,5 @@ abbrev pub body_end : Option (List ℕ) → List ℕ
 body_end body = field_line (codes "Content-Length") (length_of body) ++ line [] ++ or_nothing body
 
 -- the same answer with a context
-abbrev pub with_clock : Option (Bor (List ℕ)) → spec.Answer → spec.Answer
-with_clock vclock a = record a { vclock = option_copied vclock }
+abbrev pub with_clock : List Dot → spec.Answer → spec.Answer
+with_clock clock a = record a { vclock = vclock_of clock }

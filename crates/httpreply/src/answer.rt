@@ -7,6 +7,7 @@ ghost use Rattle.admission.specs.Admissions.{refusal_text, rule_text};
 ghost use Rattle.verifier.specs.Numbers.{rule_number};
 ghost use Rattle.bpfimage.specs.Image.{text_of};
 ghost use Rattle.httpask.specs.declared.ask.Form.TheVariants.{Parts};
+ghost use Rattle.quorum.specs.declared.fault.QuorumFault.TheVariants.{Rejected};
 ghost use Rattle.httpreply.specs.Answer as spec;
 ghost use Rattle.httpreply.specs.Answer.{print_answer, answer};
 ghost use Rattle.httpreply.specs.Parts.{tag_of};
@@ -17,12 +18,12 @@ use crate::field::{Answer, push_number, push_parts, push_tag};
 use crate::parts::push_parts_body;
 use crate::reply::{Bound, Reply};
 use crate::words::{
-    BROKEN, Line, NO_MEMORY, NOT_FOUND, UNAVAILABLE, UNPROCESSABLE, of_code, of_hook, of_name,
-    of_refusal, of_vnode,
+    BAD_VERDICT, DISAGREES, Line, NO_MEMORY, NOT_FOUND, TOO_FEW, TOO_LARGE, UNPROCESSABLE, UNSEEN,
+    of_code, of_hook, of_name, of_refusal, of_vnode,
 };
 use admission::Refusal as Unfit;
 use bpfimage::ImageFault;
-use dvv::Dot;
+use dvv::{Clock, Dot};
 use httpask::{Ask, Form};
 use insn::DecodeFault;
 use object::{Bytes, Content, KeyState, Sibling};
@@ -32,7 +33,7 @@ use verifier::{Refused, Rule};
 
 /// Adds the answer to a request, after the reply to its call. The text is a buffer for bodies that are made up.
 pub fn push_answer(
-    alloc: Global,
+    _alloc: Global,
     out: &mut Vec<u8>,
     text: &mut Vec<u8>,
     copies: u32,
@@ -52,7 +53,7 @@ pub fn push_answer(
             ends,
         ),
         Ask::Refused(refusal) => push_line(out, of_refusal(*refusal), ends),
-        Ask::Call(_, form) => push_reply(alloc, out, text, copies, form, reply, ends),
+        Ask::Call(_, form) => push_reply(out, text, copies, form, reply, ends),
     }
 }
 
@@ -76,7 +77,7 @@ fn push_told<'a>(
     let answer = Answer {
         status,
         media: Some(media),
-        vclock: None,
+        context: None,
         tag: None,
         body: Some(body),
     };
@@ -90,7 +91,7 @@ fn push_empty(out: &mut Vec<u8>, tag: Option<&[u8]>, ends: bool) -> Result<(), A
     let answer = Answer {
         status: b"204 No Content",
         media: None,
-        vclock: None,
+        context: None,
         tag,
         body: None,
     };
@@ -99,7 +100,6 @@ fn push_empty(out: &mut Vec<u8>, tag: Option<&[u8]>, ends: bool) -> Result<(), A
 
 // Adds the answer to a call.
 fn push_reply(
-    alloc: Global,
     out: &mut Vec<u8>,
     text: &mut Vec<u8>,
     copies: u32,
@@ -113,7 +113,7 @@ fn push_reply(
     match reply {
         Reply::Nothing | Reply::Installed(Ok(_)) | Reply::Removed(Ok(_)) | Reply::Set(Ok(_)) =>
             push_empty(out, None, ends),
-        Reply::Got(Ok(state)) => push_state(alloc, out, text, form, state, ends),
+        Reply::Got(Ok(state)) => push_state(out, text, form, state, ends),
         Reply::Got(Err(fault)) | Reply::Stored(Err(fault)) => push_quorum_fault(
             out, text, *fault, ends,
         ),
@@ -166,61 +166,34 @@ fn push_quorum_fault(
     ensures { OnOk result (out.new.items ≡ out.old.items ++ print_answer (spec.quorum_answer fault) ends) }
 {
     match fault {
-        QuorumFault::TooFew => push_line(
-            out,
-            Line {
-                status: UNAVAILABLE,
-                text: b"Q1\n",
-            },
-            ends,
-        ),
+        QuorumFault::Rejected(code) => push_rejected(out, text, code, ends),
+        QuorumFault::TooFew => push_line(out, TOO_FEW, ends),
         QuorumFault::Refused(fault) => push_line(out, of_vnode(fault), ends),
-        QuorumFault::Unseen => push_line(
-            out,
-            Line {
-                status: BROKEN,
-                text: b"G3\n",
-            },
-            ends,
-        ),
-        QuorumFault::Disagrees => push_line(
-            out,
-            Line {
-                status: BROKEN,
-                text: b"X4\n",
-            },
-            ends,
-        ),
-        QuorumFault::TooLarge => push_line(
-            out,
-            Line {
-                status: b"413 Payload Too Large",
-                text: b"X1\n",
-            },
-            ends,
-        ),
-        QuorumFault::BadVerdict(_) => push_line(
-            out,
-            Line {
-                status: BROKEN,
-                text: b"X2\n",
-            },
-            ends,
-        ),
-        QuorumFault::Rejected(code) => {
-            text.extend_from_slice(b"X3 ")?;
-            push_number(text, code as u64)?;
-            text.extend_from_slice(b"\n")?;
-            push_line(
-                out,
-                Line {
-                    status: b"403 Forbidden",
-                    text: text.as_slice(),
-                },
-                ends,
-            )
-        }
+        QuorumFault::Unseen => push_line(out, UNSEEN, ends),
+        QuorumFault::Disagrees => push_line(out, DISAGREES, ends),
+        QuorumFault::TooLarge => push_line(out, TOO_LARGE, ends),
+        QuorumFault::BadVerdict(_) => push_line(out, BAD_VERDICT, ends),
     }
+}
+
+// Adds that a hook let a content not in, and its number.
+fn push_rejected(
+    out: &mut Vec<u8>,
+    text: &mut Vec<u8>,
+    code: u8,
+    ends: bool,
+) -> Result<(), AllocError>
+    requires { text.old.items ≡ [] }
+    ensures { OnOk result (out.new.items ≡ out.old.items ++ print_answer (spec.quorum_answer (Rejected code)) ends) }
+{
+    text.extend_from_slice(b"X3 ")?;
+    push_number(text, code as u64)?;
+    text.extend_from_slice(b"\n")?;
+    let line = Line {
+        status: b"403 Forbidden",
+        text: text.as_slice(),
+    };
+    push_line(out, line, ends)
 }
 
 // Adds why an image is not let in, by a buffer for the text.
@@ -338,7 +311,6 @@ fn push_json_name(text: &mut Vec<u8>, name: &Option<Bytes>) -> Result<(), AllocE
 
 // Adds what a read shows, with its context unless nothing was ever written.
 fn push_state(
-    alloc: Global,
     out: &mut Vec<u8>,
     text: &mut Vec<u8>,
     form: &Form,
@@ -348,12 +320,7 @@ fn push_state(
     requires { text.old.items ≡ [] }
     ensures { OnOk result (out.new.items ≡ out.old.items ++ print_answer (spec.got_answer form.now (Ok state.now)) ends) }
 {
-    if state.clock().entries().is_empty() {
-        return push_shown(out, text, form, state.siblings(), None, ends);
-    }
-    let token = token::write(alloc, state.clock())?;
-    let vclock = Some(token.as_bytes());
-    push_shown(out, text, form, state.siblings(), vclock, ends)
+    push_shown(out, text, form, state.siblings(), state.clock(), ends)
 }
 
 // Adds the siblings of a key as they are asked for.
@@ -362,18 +329,18 @@ fn push_shown(
     text: &mut Vec<u8>,
     form: &Form,
     siblings: &[Sibling],
-    vclock: Option<&[u8]>,
+    context: &Clock,
     ends: bool,
 ) -> Result<(), AllocError>
     requires { text.old.items ≡ [] }
-    ensures { OnOk result (out.new.items ≡ out.old.items ++ print_answer (with_clock vclock.entry (spec.shown form.now siblings.now)) ends) }
+    ensures { OnOk result (out.new.items ≡ out.old.items ++ print_answer (with_clock context.now (spec.shown form.now siblings.now)) ends) }
 {
     match (form, siblings) {
-        (Form::One(tag), _) => push_tagged(out, text, siblings, tag.as_slice(), vclock, ends),
-        (_, []) => push_missing(out, vclock, ends),
-        (_, [sibling]) => push_content(out, &sibling.content, vclock, ends),
-        (Form::Parts, _) => push_mixed(out, text, siblings, vclock, ends),
-        (Form::Text, _) => push_listed(out, text, siblings, vclock, ends),
+        (Form::One(tag), _) => push_tagged(out, text, siblings, tag.as_slice(), context, ends),
+        (_, []) => push_missing(out, context, ends),
+        (_, [sibling]) => push_content(out, &sibling.content, context, ends),
+        (Form::Parts, _) => push_mixed(out, text, siblings, context, ends),
+        (Form::Text, _) => push_listed(out, text, siblings, context, ends),
     }
 }
 
@@ -383,15 +350,15 @@ fn push_tagged(
     text: &mut Vec<u8>,
     siblings: &[Sibling],
     tag: &[u8],
-    vclock: Option<&[u8]>,
+    context: &Clock,
     ends: bool,
 ) -> Result<(), AllocError>
-    ensures { OnOk result (out.new.items ≡ out.old.items ++ print_answer (with_clock vclock.entry (spec.sibling_answer (find (λ s. bytes_eq (tag_of s.dot) tag.now) siblings.now))) ends) }
+    ensures { OnOk result (out.new.items ≡ out.old.items ++ print_answer (with_clock context.now (spec.sibling_answer (find (λ s. bytes_eq (tag_of s.dot) tag.now) siblings.now))) ends) }
 {
     let found = find_tag(text, siblings, tag)?;
     match found {
-        Some(sibling) => push_content(out, &sibling.content, vclock, ends),
-        None => push_missing(out, vclock, ends),
+        Some(sibling) => push_content(out, &sibling.content, context, ends),
+        None => push_missing(out, context, ends),
     }
 }
 
@@ -400,24 +367,24 @@ fn push_listed(
     out: &mut Vec<u8>,
     text: &mut Vec<u8>,
     siblings: &[Sibling],
-    vclock: Option<&[u8]>,
+    context: &Clock,
     ends: bool,
 ) -> Result<(), AllocError>
     requires { text.old.items ≡ [] }
-    ensures { OnOk result (out.new.items ≡ out.old.items ++ print_answer (with_clock vclock.entry (spec.told spec.choices (spec.tags_text siblings.now))) ends) }
+    ensures { OnOk result (out.new.items ≡ out.old.items ++ print_answer (with_clock context.now (spec.told spec.choices (spec.tags_text siblings.now))) ends) }
 {
     push_tags(text, siblings)?;
-    push_choices(out, b"text/plain", text.as_slice(), vclock, ends)
+    push_choices(out, b"text/plain", text.as_slice(), context, ends)
 }
 
 // Adds that there is nothing.
-fn push_missing(out: &mut Vec<u8>, vclock: Option<&[u8]>, ends: bool) -> Result<(), AllocError>
-    ensures { OnOk result (out.new.items ≡ out.old.items ++ print_answer (with_clock vclock.entry spec.not_found) ends) }
+fn push_missing(out: &mut Vec<u8>, context: &Clock, ends: bool) -> Result<(), AllocError>
+    ensures { OnOk result (out.new.items ≡ out.old.items ++ print_answer (with_clock context.now spec.not_found) ends) }
 {
     let answer = Answer {
         status: NOT_FOUND,
         media: Some(b"text/plain"),
-        vclock,
+        context: Some(context),
         tag: None,
         body: Some(b"not found\n"),
     };
@@ -428,18 +395,18 @@ fn push_missing(out: &mut Vec<u8>, vclock: Option<&[u8]>, ends: bool) -> Result<
 fn push_content<'a, 'v>(
     out: &mut Vec<u8>,
     content: &'a Content,
-    vclock: Option<&'v [u8]>,
+    context: &'v Clock,
     ends: bool,
 ) -> Result<(), AllocError>
-    ensures { OnOk result (out.new.items ≡ out.old.items ++ print_answer (with_clock vclock.entry (spec.content_answer content.now)) ends) }
+    ensures { OnOk result (out.new.items ≡ out.old.items ++ print_answer (with_clock context.now (spec.content_answer content.now)) ends) }
 {
     match content {
-        Content::Tombstone => push_missing(out, vclock, ends),
+        Content::Tombstone => push_missing(out, context, ends),
         Content::Value { media, bytes } => {
             let answer = Answer {
                 status: b"200 OK",
                 media: Some(media.as_slice()),
-                vclock,
+                context: Some(context),
                 tag: None,
                 body: Some(bytes.as_slice()),
             };
@@ -453,15 +420,15 @@ fn push_choices<'a, 'v>(
     out: &mut Vec<u8>,
     media: &'a [u8],
     body: &'a [u8],
-    vclock: Option<&'v [u8]>,
+    context: &'v Clock,
     ends: bool,
 ) -> Result<(), AllocError>
-    ensures { OnOk result (out.new.items ≡ out.old.items ++ print_answer (with_clock vclock.entry (record (spec.told spec.choices body.now) { media = Some media.now })) ends) }
+    ensures { OnOk result (out.new.items ≡ out.old.items ++ print_answer (with_clock context.now (record (spec.told spec.choices body.now) { media = Some media.now })) ends) }
 {
     let answer = Answer {
         status: b"300 Multiple Choices",
         media: Some(media),
-        vclock,
+        context: Some(context),
         tag: None,
         body: Some(body),
     };
@@ -473,18 +440,18 @@ fn push_mixed(
     out: &mut Vec<u8>,
     text: &mut Vec<u8>,
     siblings: &[Sibling],
-    vclock: Option<&[u8]>,
+    context: &Clock,
     ends: bool,
 ) -> Result<(), AllocError>
     requires { text.old.items ≡ [] }
-    ensures { OnOk result (out.new.items ≡ out.old.items ++ print_answer (with_clock vclock.entry (spec.several_answer Parts siblings.now)) ends) }
+    ensures { OnOk result (out.new.items ≡ out.old.items ++ print_answer (with_clock context.now (spec.several_answer Parts siblings.now)) ends) }
 {
     let boundary = boundary_of(text, siblings)?;
     text.clear();
     let media_len = push_mixed_type(text, boundary)?;
     push_parts_body(text, boundary, siblings)?;
     let (media, body) = text.split_at(media_len);
-    push_choices(out, media, body, vclock, ends)
+    push_choices(out, media, body, context, ends)
 }
 
 // Adds the media type of a body in parts, and tells how many bytes the text has then.

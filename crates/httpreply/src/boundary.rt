@@ -6,7 +6,7 @@ ghost use Rattle.std.specs.Int.{IsInRange};
 ghost use Rattle.std.specs.List.{starts_with};
 ghost use Rattle.httpreply.specs.Marks.{Marked};
 ghost use Rattle.httpreply.specs.Parts as spec;
-ghost use Rattle.httpreply.specs.Parts.{occurs_in, delimiter};
+ghost use Rattle.httpreply.specs.Parts.{occurs_in, delimiter, IsLeastFree};
 
 use crate::parts::bytes_of;
 use memchr::memchr;
@@ -18,7 +18,8 @@ use std::alloc::AllocError;
 /// stand behind a `--s` in a buffer that is empty before.
 pub(crate) fn boundary_of(marks: &mut Vec<u8>, siblings: &[Sibling]) -> Result<u64, AllocError>
     requires { marks.old.items ≡ [] }
-    ensures { IfOk result (λ n. n ≡ spec.boundary_of siblings.now) }
+    ensures number { IfOk result (λ n. n ≡ spec.boundary_of siblings.now) }
+    ensures least { IfOk result (λ n. IsLeastFree siblings.now n) }
 {
     push_blanks(marks, siblings)?;
     for sibling in siblings {

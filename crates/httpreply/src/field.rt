@@ -2,19 +2,19 @@
 
 ghost use Rattle.std.specs.Prelude.{◌≡◌, ◌++◌, OnOk, codes, decimal};
 ghost use Rattle.std.specs.Option.{option_copied};
-ghost use Rattle.httpreply.specs.Answer.{closing, print_answer};
-ghost use Rattle.httpreply.specs.Parts.{field_line, tag_of};
-ghost use Rattle.httpreply.specs.View.{parts_of, body_end};
+ghost use Rattle.httpreply.specs.Answer.{closing, print_answer, vclock_of};
+ghost use Rattle.httpreply.specs.Parts.{line, field_line, tag_of};
+ghost use Rattle.httpreply.specs.View.{parts_of, context_of, body_end};
 
-use dvv::Dot;
+use dvv::{Clock, Dot};
 use std::alloc::AllocError;
 
 /// The parts of an answer; its context has a lifetime of its own.
 #[derive(Clone, Copy)]
-pub(crate) struct Answer<'a, 'v> {
+pub(crate) struct Answer<'a, 'c> {
     pub(crate) status: &'a [u8],
     pub(crate) media: Option<&'a [u8]>,
-    pub(crate) vclock: Option<&'v [u8]>,
+    pub(crate) context: Option<&'c Clock>,
     pub(crate) tag: Option<&'a [u8]>,
     pub(crate) body: Option<&'a [u8]>,
 }
@@ -23,14 +23,44 @@ pub(crate) struct Answer<'a, 'v> {
 pub(crate) fn push_parts(out: &mut Vec<u8>, answer: &Answer, ends: bool) -> Result<(), AllocError>
     ensures { OnOk result (out.new.items ≡ out.old.items ++ print_answer (parts_of answer.now) ends) }
 {
-    out.extend_from_slice(b"HTTP/1.1 ")?;
-    out.extend_from_slice(answer.status)?;
-    out.extend_from_slice(b"\r\n")?;
+    push_status(out, answer.status)?;
     push_field(out, b"Content-Type", answer.media)?;
-    push_field(out, b"X-Riak-Vclock", answer.vclock)?;
+    push_context(out, answer.context)?;
     push_field(out, b"X-Riak-Tag", answer.tag)?;
     push_close(out, ends)?;
     push_body(out, answer.body)?;
+    Ok(())
+}
+
+// Adds the first line.
+fn push_status(out: &mut Vec<u8>, status: &[u8]) -> Result<(), AllocError>
+    ensures { OnOk result (out.new.items ≡ out.old.items ++ line (codes "HTTP/1.1 " ++ status.now)) }
+{
+    out.extend_from_slice(b"HTTP/1.1 ")?;
+    out.extend_from_slice(status)?;
+    out.extend_from_slice(b"\r\n")
+}
+
+// Adds a context, where there is one.
+fn push_context(out: &mut Vec<u8>, context: Option<&Clock>) -> Result<(), AllocError>
+    ensures { OnOk result (out.new.items ≡ out.old.items ++ field_line (codes "X-Riak-Vclock") (context_of (option_copied context.entry))) }
+{
+    match context {
+        None => Ok(()),
+        Some(clock) => push_clock(out, clock),
+    }
+}
+
+// Adds the context that a clock is, unless nothing was ever written.
+fn push_clock(out: &mut Vec<u8>, clock: &Clock) -> Result<(), AllocError>
+    ensures { OnOk result (out.new.items ≡ out.old.items ++ field_line (codes "X-Riak-Vclock") (vclock_of clock.now)) }
+{
+    if clock.entries().is_empty() {
+        return Ok(());
+    }
+    out.extend_from_slice(b"X-Riak-Vclock: ")?;
+    token::write_to(clock, out)?;
+    out.extend_from_slice(b"\r\n")?;
     Ok(())
 }
 

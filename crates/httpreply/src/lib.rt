@@ -7,9 +7,11 @@
 mod answer;
 mod boundary;
 mod field;
+mod laws;
 mod parts;
 mod reply;
 mod words;
 
 pub use answer::push_answer;
+pub use laws::least_boundary;
 pub use reply::{Bound, Reply};

@@ -4,6 +4,7 @@ ghost use Rattle.std.specs.Prelude.{◌≡◌, ◌++◌, OnOk, [], codes};
 ghost use Rattle.httpreply.specs.Parts as spec;
 
 use crate::field::{push_field, push_number, push_tag};
+use dvv::Dot;
 use object::{Content, Sibling};
 use std::alloc::AllocError;
 
@@ -31,28 +32,45 @@ pub(crate) fn push_parts_body(
     push_end(out, boundary)
 }
 
+// Adds the last delimiter.
 fn push_end(out: &mut Vec<u8>, boundary: u64) -> Result<(), AllocError>
     ensures { OnOk result (out.new.items ≡ out.old.items ++ (spec.line [] ++ spec.line (spec.delimiter boundary ++ codes "--"))) }
 {
-    out.extend_from_slice(b"\r\n--s")?;
-    push_number(out, boundary)?;
+    push_delimiter(out, boundary)?;
     out.extend_from_slice(b"--\r\n")
 }
 
+// Adds a sibling as a part.
 fn push_part(out: &mut Vec<u8>, boundary: u64, sibling: &Sibling) -> Result<(), AllocError>
     ensures { OnOk result (out.new.items ≡ out.old.items ++ spec.part boundary sibling.now) }
 {
-    out.extend_from_slice(b"\r\n--s")?;
-    push_number(out, boundary)?;
+    push_delimiter(out, boundary)?;
     out.extend_from_slice(b"\r\n")?;
     push_kind(out, &sibling.content)?;
-    out.extend_from_slice(b"X-Riak-Tag: ")?;
-    push_tag(out, sibling.dot)?;
-    out.extend_from_slice(b"\r\n\r\n")?;
+    push_tag_line(out, sibling.dot)?;
     out.extend_from_slice(bytes_of(&sibling.content))?;
     Ok(())
 }
 
+// Adds the end of the line before, and a delimiter.
+fn push_delimiter(out: &mut Vec<u8>, boundary: u64) -> Result<(), AllocError>
+    ensures { OnOk result (out.new.items ≡ out.old.items ++ (spec.line [] ++ spec.delimiter boundary)) }
+{
+    out.extend_from_slice(b"\r\n--s")?;
+    push_number(out, boundary)
+}
+
+// Adds the tag of a part, and the empty line.
+fn push_tag_line(out: &mut Vec<u8>, dot: Dot) -> Result<(), AllocError>
+    ensures { OnOk result (out.new.items ≡ out.old.items ++ (spec.line (codes "X-Riak-Tag: " ++ spec.tag_of dot) ++ spec.line [])) }
+{
+    out.extend_from_slice(b"X-Riak-Tag: ")?;
+    push_tag(out, dot)?;
+    out.extend_from_slice(b"\r\n\r\n")?;
+    Ok(())
+}
+
+// Adds the first line of a part's head.
 fn push_kind(out: &mut Vec<u8>, content: &Content) -> Result<(), AllocError>
     ensures { OnOk result (out.new.items ≡ out.old.items ++ spec.kind_line content.now) }
 {

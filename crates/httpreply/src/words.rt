@@ -35,6 +35,36 @@ pub(crate) const NO_MEMORY: Line<'static> = Line {
     text: b"E1\n",
 };
 
+/// What is told where too few copies answered.
+pub(crate) const TOO_FEW: Line<'static> = Line {
+    status: UNAVAILABLE,
+    text: b"Q1\n",
+};
+
+/// What is told where a bound hook is not seen.
+pub(crate) const UNSEEN: Line<'static> = Line {
+    status: BROKEN,
+    text: b"G3\n",
+};
+
+/// What is told where copies disagree.
+pub(crate) const DISAGREES: Line<'static> = Line {
+    status: BROKEN,
+    text: b"X4\n",
+};
+
+/// What is told where a content is too large for a hook.
+pub(crate) const TOO_LARGE: Line<'static> = Line {
+    status: b"413 Payload Too Large",
+    text: b"X1\n",
+};
+
+/// What is told where a hook's verdict is none.
+pub(crate) const BAD_VERDICT: Line<'static> = Line {
+    status: BROKEN,
+    text: b"X2\n",
+};
+
 fn told(status: &'static [u8], text: &'static [u8]) -> Line<'static>
     ensures { line_of result ≡ spec.told status.now text.now }
 {
