@@ -1,0 +1,118 @@
+-- What a call leaves of the journals.
+use Rattle.std.proofs.Common.{◌≡◌, ℕ, zero, suc, ◌+◌, List, [], ◌∷◌, ◌++◌, ap, ◌∙◌, sym, subst, refl, Option, Some, None, Result, Ok, Err, Bool, true, false, MatchBool, MatchOption, slice_get, slice_set, ◌==◌, append_assoc, append-nil, ◌↔◌}
+use Rattle.std.specs.List.{list_any}
+use Rattle.dvv.specs.declared.Dot.{Dot}
+use Rattle.object.specs.declared.content.Content.{Content}
+use Rattle.object.specs.declared.content.Key.{Key}
+use Rattle.object.specs.State.{State}
+use Rattle.journal.specs.declared.entry.Entry.{Entry}
+use Rattle.journal.specs.declared.entry.Entry.TheVariants.{Put, Merge, Read}
+use Rattle.journal.specs.Journals.{IsJournal, MayFollow}
+use Rattle.journal.specs.Logs.{Log, with_entry}
+use Rattle.peers.specs.declared.peers.Answer.{Answer}
+use Rattle.peers.specs.declared.fault.PeerFault.{PeerFault}
+use Rattle.peers.specs.declared.fault.PeerFault.TheVariants.{Lost, Refused}
+use Rattle.peers.specs.Calls.{Call, PutAt, MergeAt, StateOf, KeysOf, Made}
+use Rattle.local.specs.Locals.{fresh_from, PutsIn, MergesIn, ReadsIn, KeysIn, AtVnode, Does, IsLost, LocalView, LocalStep}
+use Rattle.serving.specs.Journals.{AreJournals, GoesOn, GoOn}
+use Rattle.serving.proofs.Zips.{one_is, set_there, zip_same, zip_far, zip_set}
+
+pub goes_same : (log : Log) → GoesOn log log
+goes_same log = (refl, [], sym (append-nil log.entries))
+
+pub goes_far : (a b c : Log) → GoesOn a b → GoesOn b c → GoesOn a c
+goes_far a b c first second = (second.0 ∙ first.0, first.1 ++ second.1, second.2 ∙ ap (λ l. l ++ second.1) first.2 ∙ append_assoc a.entries first.1 second.1)
+
+pub go_same : (logs : List Log) → GoOn logs logs
+go_same = zip_same GoesOn goes_same
+
+pub go_far : (a b c : List Log) → GoOn a b → GoOn b c → GoOn a c
+go_far = zip_far GoesOn goes_far
+
+pub journal_at : (logs : List Log) (i : ℕ) (log : Log) → slice_get logs i ≡ Some log → AreJournals logs → IsJournal log.vnode log.entries
+journal_at [] i log h are = absurd cc
+journal_at (x ∷ logs) zero log h are = subst (λ (l : Log). IsJournal l.vnode l.entries) (one_is x log h) are.0
+journal_at (x ∷ logs) (suc i) log h are = journal_at logs i log h are.1
+
+set_journals : (logs : List Log) (i : ℕ) (after : Log) → IsJournal after.vnode after.entries → AreJournals logs → AreJournals (slice_set logs i after)
+set_journals [] i after is are = tt
+set_journals (x ∷ logs) zero after is are = (is, are.1)
+set_journals (x ∷ logs) (suc i) after is are = (are.0, set_journals logs i after is are.1)
+
+module _ (none : (vnode : ℕ) → IsJournal vnode []) where
+  pub fresh_journals : (id n : ℕ) → AreJournals (fresh_from id n)
+  fresh_journals id zero = tt
+  fresh_journals id (suc n) = (none id, fresh_journals (id + 1) n)
+
+module _ (more : (vnode : ℕ) (journal : List Entry) (e : Entry) → IsJournal vnode (journal ++ e ∷ []) ↔ (IsJournal vnode journal × MayFollow vnode journal e)) where
+  one_more : (log after : Log) (e : Entry) → IsJournal log.vnode log.entries → MayFollow log.vnode log.entries e → after ≡ with_entry log e → IsJournal after.vnode after.entries × GoesOn log after
+  one_more log after e legal may is = (
+    subst (λ (l : Log). IsJournal l.vnode l.entries) (sym is) ((more log.vnode log.entries e).1 (legal, may)),
+    (ap (λ (l : Log). l.vnode) is, e ∷ [], ap (λ (l : Log). l.entries) is),
+  )
+
+  not_one : (log after : Log) → IsJournal log.vnode log.entries → after ≡ log → IsJournal after.vnode after.entries × GoesOn log after
+  not_one log after legal is = (subst (λ (l : Log). IsJournal l.vnode l.entries) (sym is) legal, subst (λ (l : Log). GoesOn log l) (sym is) (goes_same log))
+
+  module _ (stamp : ℕ) (key : Key) (log after : Log) (legal : IsJournal log.vnode log.entries) where
+    put_in : (seen : List Dot) (content : Content) (back : Result Dot PeerFault) → PutsIn stamp key seen content log back after → IsJournal after.vnode after.entries × GoesOn log after
+    put_in seen content (Ok dot) h = one_more log after (Put stamp key seen content dot) legal (h.0, h.1) h.2
+    put_in seen content (Err Lost) h = absurd h
+    put_in seen content (Err (Refused fault)) h = not_one log after legal h.1
+
+    merge_in : (from at : ℕ) (state : State) (back : Result Bool PeerFault) → MergesIn stamp key from at state log back after → IsJournal after.vnode after.entries × GoesOn log after
+    merge_in from at state (Ok changed) h = one_more log after (Merge stamp key from at state) legal h.0 h.2
+    merge_in from at state (Err Lost) h = absurd h
+    merge_in from at state (Err (Refused fault)) h = not_one log after legal h.1
+
+    read_in : (back : Result Answer PeerFault) → ReadsIn stamp key log back after → IsJournal after.vnode after.entries × GoesOn log after
+    read_in (Ok answer) h = one_more log after (Read stamp key) legal h.0 h.4
+    read_in (Err Lost) h = absurd h
+    read_in (Err (Refused fault)) h = not_one log after legal h.1
+
+  unchanged : (old new : List Log) → AreJournals old → new ≡ old → AreJournals new × GoOn old new
+  unchanged old new are is = (subst AreJournals (sym is) are, subst (λ l. GoOn old l) (sym is) (go_same old))
+
+  at_vnode : (does : Log → Log → Type 0) (lost : Type 0) (found : Option Log) (old : List Log) (i : ℕ) (new : List Log) → slice_get old i ≡ found → AreJournals old
+      → ((log after : Log) → IsJournal log.vnode log.entries → does log after → IsJournal after.vnode after.entries × GoesOn log after)
+      → AtVnode does lost found old i new → AreJournals new × GoOn old new
+  at_vnode does lost None old i new is are one h = unchanged old new are h.1
+  at_vnode does lost (Some log) old i new is are one h =
+      let left = one log h.0 (journal_at old i log is are) h.1 in
+      subst (λ l. AreJournals l × GoOn old l) (sym h.2) (set_journals old i h.0 left.0 are, zip_set GoesOn goes_same old i log h.0 is left.1)
+
+  does_one : (stamp : ℕ) (old : List Log) (call : Call) (new : List Log) → AreJournals old → Does stamp old call new → AreJournals new × GoOn old new
+  does_one stamp old (PutAt i key seen content back) new are h = at_vnode (λ log after. PutsIn stamp key seen content log back after) (back ≡ Err Lost) (slice_get old i) old i new refl are (λ log after legal. put_in stamp key log after legal seen content back) h
+  does_one stamp old (MergeAt i key from at state back) new are h = at_vnode (λ log after. MergesIn stamp key from at state log back after) (back ≡ Err Lost) (slice_get old i) old i new refl are (λ log after legal. merge_in stamp key log after legal from at state back) h
+  does_one stamp old (StateOf i key back) new are h = at_vnode (λ log after. ReadsIn stamp key log back after) (back ≡ Err Lost) (slice_get old i) old i new refl are (λ log after legal. read_in stamp key log after legal back) h
+  does_one stamp old (KeysOf i back) new are h = unchanged old new are h.1
+
+  pub step_goes : (old : LocalView) (call : Call) (new : LocalView) → AreJournals old.logs → LocalStep old call new → AreJournals new.logs × GoOn old.logs new.logs
+  step_goes old call new are step = by_loss (list_any (λ n. n == old.calls) old.lost) step.vnodes
+    where
+      by_loss : (lost : Bool) → MatchBool lost (IsLost call × (new.logs ≡ old.logs)) (Does old.stamp old.logs call new.logs) → AreJournals new.logs × GoOn old.logs new.logs
+      by_loss true h = unchanged old.logs new.logs are h.1
+      by_loss false h = does_one old.stamp old.logs call new.logs are h
+
+  pub made_goes : (old new : LocalView) (calls : List Call) → AreJournals old.logs → Made LocalStep old calls new → AreJournals new.logs × GoOn old.logs new.logs
+  made_goes old new [] are made = unchanged old.logs new.logs are (ap (λ (l : LocalView). l.logs) made)
+  made_goes old new (call ∷ calls) are made =
+      let first = step_goes old call made.0 are made.1 in
+      let rest = made_goes made.0 new calls first.0 made.2 in
+      (rest.0, go_far old.logs made.0.logs new.logs first.1 rest.1)
+
+-- a call on one vnode that wasn't lost was made there
+pub was_made : (does : Log → Log → Type 0) (old new : LocalView) (i : ℕ) (call : Call) → (IsLost call → ⊥)
+    → (Does old.stamp old.logs call new.logs → AtVnode does (IsLost call) (slice_get old.logs i) old.logs i new.logs) → LocalStep old call new
+    → (log : Log) × (after : Log) × (slice_get old.logs i ≡ Some log) × does log after × (slice_get new.logs i ≡ Some after)
+was_made does old new i call came at step = by_loss (list_any (λ n. n == old.calls) old.lost) step.vnodes
+  where
+    by_log : (found : Option Log) → slice_get old.logs i ≡ found → AtVnode does (IsLost call) found old.logs i new.logs
+        → (log : Log) × (after : Log) × (slice_get old.logs i ≡ Some log) × does log after × (slice_get new.logs i ≡ Some after)
+    by_log None is h = absurd (came h.0)
+    by_log (Some log) is h = (log, h.0, is, h.1, ap (λ l. slice_get l i) h.2 ∙ set_there old.logs i log h.0 is)
+
+    by_loss : (lost : Bool) → MatchBool lost (IsLost call × (new.logs ≡ old.logs)) (Does old.stamp old.logs call new.logs)
+        → (log : Log) × (after : Log) × (slice_get old.logs i ≡ Some log) × does log after × (slice_get new.logs i ≡ Some after)
+    by_loss true h = absurd (came h.0)
+    by_loss false h = by_log (slice_get old.logs i) refl (at h)

@@ -1,0 +1,6 @@
+pub mod Hooks
+pub mod Journals
+pub mod Past
+pub mod Writes
+pub mod Reads
+pub mod Exchanges

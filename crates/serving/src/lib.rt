@@ -1,0 +1,10 @@
+//! A front on a store of one thread: what the bytes of a connection, the calls, the hooks and the journals come to together.
+//!
+//! `Serves` of `specs/Exchanges.antt` says it: the bytes that are written are the answers to the requests of the bytes that were read, in
+//! order, and what each answer tells is said by the changes of the hooks and by the journals of the vnodes at that moment.
+#![tactic(auto)]
+
+pub mod laws;
+mod serving;
+
+pub use serving::serve;

@@ -1,0 +1,50 @@
+//! All requests of a connection, on a store of one thread.
+
+ghost use Rattle.std.specs.Prelude.{◌≡◌, ℕ, List, Some, IfOk, IfErr, OnErr};
+ghost use Rattle.hooks.specs.Changes.{Change};
+ghost use Rattle.hooks.specs.Tables.{Shows};
+ghost use Rattle.httpfront.specs.Device.{HasRisen};
+ghost use Rattle.serving.specs.Exchanges.{Serves, ServesFront};
+ghost use Rattle.serving.specs.Journals.{AreJournals};
+ghost use Rattle.store.specs.View.{shown};
+
+use hooks::Registry;
+use httpfront::{Front, FrontFault, Sink, Source};
+use local::Local;
+use store::Store;
+
+/// Answers the requests of a connection until it ends, as [`Front::serve`] does, on the vnodes and hooks of one thread. The count of
+/// requests stays at its greatest.
+///
+/// Whatever the changes of the hooks so far are, each answer is that of the store with these changes and those that were answered on the
+/// connection before it: a hook that was bound is in force at the next request. A read shows what is current among the writes that the
+/// vnodes that answered know, or what the bucket's resolver made of it; a write's dot is that of an entry of its coordinator, and so
+/// many vnodes as were asked for know it.
+///
+/// After an error the same holds of the exchanges that there were, and a front of their answers was written.
+pub fn serve<S: Source, W: Sink>(
+    front: &mut Front,
+    source: &mut S,
+    sink: &mut W,
+    store: &mut Store<Local, Registry>,
+) -> Result<u64, FrontFault>
+    // All requests were answered, each by what the store was at that moment.
+    ensures answers { IfOk result (λ count. (bytes before : List ℕ) (changes : List Change)
+        → S.remaining source.old ≡ Some bytes → W.contents sink.old ≡ Some before
+        → Shows changes store.old.hooking.hooks → AreJournals store.old.peers.logs
+        → Serves bytes (shown store.old.peers store.old.hooking.hooks store.old.hooking.table.listed store.old.placement) (shown store.new.peers store.new.hooking.hooks store.new.hooking.table.listed store.new.placement) changes before (W.contents sink.new) count) }
+    // Where it breaks off, those of a front of the bytes were, and a front of the answers was written.
+    ensures breaks { OnErr result ((bytes before : List ℕ) (changes : List Change)
+        → S.remaining source.old ≡ Some bytes → W.contents sink.old ≡ Some before
+        → Shows changes store.old.hooking.hooks → AreJournals store.old.peers.logs
+        → ServesFront bytes (shown store.old.peers store.old.hooking.hooks store.old.hooking.table.listed store.old.placement) (shown store.new.peers store.new.hooking.hooks store.new.hooking.table.listed store.new.placement) changes before (W.contents sink.new)) }
+    ensures read_fault { IfErr result (λ fault. fault ≡ FrontFault.Read → HasRisen (S.failures source.old) (S.failures source.new)) }
+    ensures write_fault { IfErr result (λ fault. fault ≡ FrontFault.Write → HasRisen (W.failures sink.old) (W.failures sink.new)) }
+{
+    hooks::laws::changes_add_up();
+    hooks::laws::hook_is_of_changes();
+    journal::laws::journals_go_on();
+    journal::laws::siblings_are_current();
+    journal::laws::merges_are_current();
+    front.serve(source, sink, store)
+}
