@@ -1,0 +1,4 @@
+//! The tests of connections, one after the other.
+
+mod guests;
+mod loopback;

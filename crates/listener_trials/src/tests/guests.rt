@@ -1,0 +1,95 @@
+//! Connections in memory.
+
+use helpers::Table;
+use httpfront::{Backend, FailSink, FailSource, Front};
+use listener::{Door, NoConnection, Stopped, open, serve_all};
+use std::alloc::Global;
+use std::test::Fail;
+
+/// Connections whose bytes are all at hand; before each of them an `accept` may fail.
+#[derive(Drop)]
+struct Guests<'a> {
+    alloc: Global,
+    /// What the connections to come bring.
+    coming: &'a [&'a [u8]],
+    /// How often no connection comes before each of them.
+    misses: u32,
+    /// How often none came since the last.
+    missed: u32,
+    /// The answers, one connection's behind the other's.
+    told: Vec<u8>,
+}
+
+impl Door for Guests<'_> {
+    ghost use Rattle.std.specs.Prelude.{None};
+
+    ghost awaited = { λ _. None };
+
+    fn admit<B: Backend>(
+        &mut self,
+        front: &mut Front,
+        backend: &mut B,
+    ) -> Result<(), NoConnection> {
+        let Some((bytes, coming)) = self.coming.split_first() else {
+            return Err(NoConnection);
+        };
+        if self.missed < self.misses {
+            self.missed += 1;
+            return Err(NoConnection);
+        }
+        self.missed = 0;
+        self.coming = coming;
+        let mut source = FailSource::new(bytes, 7, None);
+        let mut sink = FailSink::new(self.alloc, usize::MAX, None);
+        let _ = front.serve(&mut source, &mut sink, backend);
+        let _ = self.told.extend_from_slice(&sink.bytes);
+        Ok(())
+    }
+}
+
+/// Two writes that don't know of each other, a request that breaks off, and a read.
+const COMING: [&[u8]; 4] = [
+    b"PUT /buckets/b/keys/k?at=0 HTTP/1.1\r\nHost: h\r\nContent-Length: 1\r\n\r\na",
+    b"PUT /buckets/b/keys/k?at=1 HTTP/1.1\r\nHost: h\r\nContent-Length: 1\r\n\r\nb",
+    b"PUT /buckets/b/keys/k?at=1 HTTP/1.1\r\nHost: h\r\nContent-Length: 9\r\n\r\nb",
+    b"GET /buckets/b/keys/k HTTP/1.1\r\nHost: h\r\n\r\nGET /pi",
+];
+
+/// The answers to all of them.
+const TOLD: &[u8] =
+    b"HTTP/1.1 204 No Content\r\nX-Riak-Tag: 458752-1\r\n\r\nHTTP/1.1 204 No Content\r\nX-Riak-Tag: 458753-1\r\n\r\nHTTP/1.1 300 Multiple Choices\r\nContent-Type: text/plain\r\nX-Riak-Vclock: AQACAAcAAAAAAAAAAAABAAcAAQAAAAAAAAAB\r\nContent-Length: 28\r\n\r\nSiblings:\n458752-1\n458753-1\n";
+
+/// How the server ends over these connections, and what it answered.
+fn over(
+    alloc: Global,
+    misses: u32,
+    count: Option<u32>,
+) -> Result<(Result<(), Stopped>, Vec<u8>), Fail> {
+    let mut guests = Guests {
+        alloc,
+        coming: &COMING,
+        misses,
+        missed: 0,
+        told: Vec::new(alloc),
+    };
+    let mut front = Front::new(alloc)?;
+    let mut store = open(alloc, Table::new(alloc), 7)?;
+    let ended = serve_all(&mut guests, &mut front, &mut store, count);
+    Ok((ended, guests.told))
+}
+
+/// Each connection is answered over what the ones before left, and one that breaks off changes nothing.
+#[test]
+fn one_after_the_other(rt: HostRuntime) -> Result<(), Fail> {
+    let (ended, told) = over(rt.alloc(), 3, Some(4))?;
+    assert_eq!(rt; (ended, told.as_slice()), (Ok(()), TOLD));
+    Ok(())
+}
+
+/// Where no connection comes any more, the server stops, and what it answered stays.
+#[test]
+fn no_more(rt: HostRuntime) -> Result<(), Fail> {
+    let (ended, told) = over(rt.alloc(), 0, None)?;
+    assert_eq!(rt; (ended, told.as_slice()), (Err(Stopped), TOLD));
+    Ok(())
+}
