@@ -8,6 +8,7 @@ mod words;
 
 use commands::files::{Files, Part};
 use commands::own::command_with_helpers;
+use commands::server::Offline;
 use std::alloc::{AllocError, Global};
 use std::io;
 use std::process::Abort;
@@ -107,7 +108,7 @@ fn expect(
     let mut shelf = Shelf { files };
     let mut out = Vec::new(alloc);
     let mut err = Vec::new(alloc);
-    let done = command_with_helpers(alloc, words, &mut shelf, &mut out, &mut err);
+    let done = command_with_helpers(alloc, words, &mut shelf, &mut Offline, &mut out, &mut err);
     let printed = (out.as_slice(), done);
     assert_eq!(rt; printed, (want.out.as_bytes(), Ok(want.status)), "{name}");
     assert_eq!(rt; err.as_slice(), want.err.as_bytes(), "{name}");

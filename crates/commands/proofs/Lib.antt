@@ -1,2 +1,3 @@
 pub mod Trimmed
 pub mod Parts
+pub mod Counting

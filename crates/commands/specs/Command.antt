@@ -1,11 +1,11 @@
 -- What a command leaves on its output (this store's profile).
-use Rattle.std.specs.Prelude.{◌≡◌, ℕ, List, Option, IfSome}
+use Rattle.std.specs.Prelude.{◌≡◌, ℕ, List, ◌++◌, codes, Option, IfSome}
 use Rattle.std.specs.Io.KnownBytes.{Appends}
 use Rattle.helpers.specs.declared.sig.Entry.{Entry}
 use Rattle.script.specs.Printing.{Simulated}
 use Rattle.commands.specs.declared.outcome.Outcome.{Outcome}
 use Rattle.commands.specs.declared.verify.Verdict.{Verdict}
-use Rattle.commands.specs.Outcome.{text_of, status_of}
+use Rattle.commands.specs.Outcome.{line, text_of, status_of}
 use Rattle.commands.specs.Run.{ComesTo}
 use Rattle.commands.specs.Verdict.{IsVerdict, verdict_text, verdict_status}
 
@@ -35,3 +35,7 @@ pub record SimulatedFile (sigs : List Entry) (held_script before after : Option 
   pub script : List ℕ
   pub from_script : IfSome held_script (λ known. script ≡ known)
   pub simulated : Simulated sigs script before after status
+
+-- the address at which connections are answered was told
+abbrev pub Listened : Option (List ℕ) → Option (List ℕ) → Type 0
+Listened before after = (bound : List ℕ) × Appends before after (line (codes "listening " ++ bound))

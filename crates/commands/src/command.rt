@@ -1,12 +1,13 @@
 //! The commands of the program.
-ghost use Rattle.std.specs.Prelude.{◌≡◌, ℕ, ◌<◌, ◌≤◌, List};
+ghost use Rattle.std.specs.Prelude.{◌≡◌, ℕ, ◌<◌, ◌≤◌, List, Option, OnOk, IfOk};
 ghost use Rattle.std.specs.Borrow.{Bor};
 ghost use Rattle.commands.specs.Words.{request_of};
-ghost use Rattle.commands.specs.Command.{Judged, Ran, SimulatedFile};
+ghost use Rattle.commands.specs.Command.{Judged, Listened, Ran, SimulatedFile};
 
 use crate::failure::Failure;
 use crate::files::Files;
 use crate::run::run;
+use crate::server::Server;
 use crate::simulate::simulate;
 use crate::verify::verify;
 use crate::words::{Request, parse};
@@ -14,30 +15,36 @@ use helpers::Table;
 use std::alloc::Global;
 use std::io::Write;
 
+/// The status where connections were served.
+const DONE: u8 = 0;
+
 /// The status after a [`Failure`].
 const FAILED: u8 = 2;
 
 /// Does what the words ask for. Gives the status of the program: 0 where it is done, 1 where it was refused, and 2 after a bad line of a
 /// script, which is told on `out` and why on `err`, or a [`Failure`], whose name is then all that stands on `err`.
-pub fn command<F: Files, O: Write, E: Write>(
+pub fn command<F: Files, S: Server, O: Write, E: Write>(
     alloc: Global,
-    table: &Table,
+    table: Table,
     words: &[&str],
     files: &mut F,
+    server: &mut S,
     out: &mut O,
     err: &mut E,
 ) -> u8
     ensures status { result ≤ 2 }
-    ensures ran { (image input : Bor (List ℕ)) → request_of words.now ≡ Some (Request.Run image input) → result < 2 → Ran table.now.listed (F.held files.old image.now) (F.held files.old input.now) (O.contents out.old) (O.contents out.new) result }
-    ensures judged { (image : Bor (List ℕ)) → request_of words.now ≡ Some (Request.Verify image) → result < 2 → Judged table.now.listed (F.held files.old image.now) (O.contents out.old) (O.contents out.new) result }
-    ensures simulated { (script : Bor (List ℕ)) → request_of words.now ≡ Some (Request.Sim script) → result < 2 → SimulatedFile table.now.listed (F.held files.old script.now) (O.contents out.old) (O.contents out.new) result }
+    ensures ran { (image input : Bor (List ℕ)) → request_of words.now ≡ Some (Request.Run image input) → result < 2 → Ran table.listed (F.held files.old image.now) (F.held files.old input.now) (O.contents out.old) (O.contents out.new) result }
+    ensures judged { (image : Bor (List ℕ)) → request_of words.now ≡ Some (Request.Verify image) → result < 2 → Judged table.listed (F.held files.old image.now) (O.contents out.old) (O.contents out.new) result }
+    ensures simulated { (script : Bor (List ℕ)) → request_of words.now ≡ Some (Request.Sim script) → result < 2 → SimulatedFile table.listed (F.held files.old script.now) (O.contents out.old) (O.contents out.new) result }
+    ensures served { (addr : Bor (List ℕ)) (count : Option ℕ) → request_of words.now ≡ Some (Request.Serve addr count) → result < 2 → Listened (O.contents out.old) (O.contents out.new) }
     ensures wrong_words { request_of words.now ≡ None → result ≡ 2 }
     ensures untouched { request_of words.now ≡ None → out.new ≡ out.old }
 {
     let done = match parse(words) {
-        Some(Request::Run { image, input }) => run(alloc, table, image, input, files, out),
-        Some(Request::Verify { image }) => verify(alloc, table, image, files, out),
-        Some(Request::Sim { script }) => simulate(alloc, table, script, files, out, err),
+        Some(Request::Run { image, input }) => run(alloc, &table, image, input, files, out),
+        Some(Request::Verify { image }) => verify(alloc, &table, image, files, out),
+        Some(Request::Sim { script }) => simulate(alloc, &table, script, files, out, err),
+        Some(Request::Serve { addr, count }) => serve(alloc, table, addr, count, server, out),
         None => Err(Failure::Usage),
     };
     match done {
@@ -48,4 +55,20 @@ pub fn command<F: Files, O: Write, E: Write>(
             FAILED
         }
     }
+}
+
+/// Serves the store at an address, and gives the status.
+fn serve<S: Server, O: Write>(
+    alloc: Global,
+    table: Table,
+    addr: &str,
+    count: Option<u32>,
+    server: &mut S,
+    out: &mut O,
+) -> Result<u8, Failure>
+    ensures status { IfOk result (λ status. status ≡ 0) }
+    ensures told { OnOk result (Listened (O.contents out.old) (O.contents out.new)) }
+{
+    server.serve(alloc, table, addr, count, out)?;
+    Ok(DONE)
 }

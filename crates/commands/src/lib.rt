@@ -7,6 +7,7 @@ pub mod files;
 pub mod outcome;
 pub mod own;
 pub mod run;
+pub mod server;
 pub mod simulate;
 pub mod verify;
 pub mod words;

@@ -1,6 +1,6 @@
 //! The helpers that hooks of this program may call.
 
-ghost use Rattle.std.specs.Prelude.{◌≡◌, ◌≤◌, ◌<◌, ◌^◌, ℕ, List, length, max, IfOk, OnOk, IsSome, ◌++◌, ◌∷◌, [], None, Some};
+ghost use Rattle.std.specs.Prelude.{◌≡◌, ◌≤◌, ◌<◌, ◌^◌, ℕ, List, length, max, IfOk, OnOk, IsSome, ◌++◌, ◌∷◌, [], Option, None, Some};
 ghost use Rattle.std.specs.Borrow.{Bor};
 ghost use Rattle.helpers.specs.Text.{order_of, place_of, spelled};
 ghost use Rattle.helpers.specs.Layout.{newest_of};
@@ -8,12 +8,13 @@ ghost use Rattle.helpers.specs.Shapes.{shape_of, written_shape};
 ghost use Rattle.helpers.specs.declared.sig.Entry.{Entry};
 ghost use Rattle.helpers.specs.Entries.{IsAdmitted};
 ghost use Rattle.helpers.specs.Answers.{IsCallableOn, AnswersOn};
-ghost use Rattle.commands.specs.Command.{Judged, Ran, SimulatedFile};
+ghost use Rattle.commands.specs.Command.{Judged, Listened, Ran, SimulatedFile};
 ghost use Rattle.commands.specs.Own.{one_number, shapes_of, own_shapes};
 ghost use Rattle.commands.specs.Words.{request_of};
 
 use crate::command::command;
 use crate::files::Files;
+use crate::server::Server;
 use crate::words::Request;
 use helpers::{
     ArgRule, Body, Helper, HelperFault, Sig, Table, decimal, find, newest, order, written_sig,
@@ -50,10 +51,11 @@ fn add(table: &mut Table, number: u32, sig: Sig, body: Body) -> Result<(), Alloc
 
 /// Does what the words ask for, as [`command`] does, where hooks may call the written helpers 16 to 19 and two of this program: 64, a number
 /// modulo 8, and 65, modulo 9. Fails only for want of memory for these.
-pub fn command_with_helpers<F: Files, O: Write, E: Write>(
+pub fn command_with_helpers<F: Files, S: Server, O: Write, E: Write>(
     alloc: Global,
     words: &[&str],
     files: &mut F,
+    server: &mut S,
     out: &mut O,
     err: &mut E,
 ) -> Result<u8, AllocError>
@@ -61,6 +63,7 @@ pub fn command_with_helpers<F: Files, O: Write, E: Write>(
     ensures ran { (image input : Bor (List ℕ)) → request_of words.now ≡ Some (Request.Run image input) → IfOk result (λ status. status < 2 → (sigs : List Entry) × (shapes_of sigs ≡ own_shapes) × Ran sigs (F.held files.old image.now) (F.held files.old input.now) (O.contents out.old) (O.contents out.new) status) }
     ensures judged { (image : Bor (List ℕ)) → request_of words.now ≡ Some (Request.Verify image) → IfOk result (λ status. status < 2 → (sigs : List Entry) × (shapes_of sigs ≡ own_shapes) × Judged sigs (F.held files.old image.now) (O.contents out.old) (O.contents out.new) status) }
     ensures simulated { (script : Bor (List ℕ)) → request_of words.now ≡ Some (Request.Sim script) → IfOk result (λ status. status < 2 → (sigs : List Entry) × (shapes_of sigs ≡ own_shapes) × SimulatedFile sigs (F.held files.old script.now) (O.contents out.old) (O.contents out.new) status) }
+    ensures served { (addr : Bor (List ℕ)) (count : Option ℕ) → request_of words.now ≡ Some (Request.Serve addr count) → IfOk result (λ status. status < 2 → Listened (O.contents out.old) (O.contents out.new)) }
     ensures wrong_words { request_of words.now ≡ None → IfOk result (λ status. status ≡ 2) }
     ensures untouched { request_of words.now ≡ None → out.new ≡ out.old }
 {
@@ -110,7 +113,7 @@ pub fn command_with_helpers<F: Files, O: Write, E: Write>(
         { numbers[0] % 9 },
     )?;
     add(&mut table, 65, one_number((0, 8)), body)?;
-    Ok(command(alloc, &table, words, files, out, err))
+    Ok(command(alloc, table, words, files, server, out, err))
 }
 
 /// The Sig of a helper that reads one number of any size.

@@ -1,6 +1,6 @@
 //! The words of a command line.
 ghost use Rattle.std.specs.Prelude.{◌≡◌};
-ghost use Rattle.commands.specs.Words.{request_of};
+ghost use Rattle.commands.specs.Words.{count_of, request_of, served_by};
 
 /// What the words ask for.
 #[derive(Clone, Copy)]
@@ -11,6 +11,8 @@ pub enum Request<'a> {
     Verify { image: &'a str },
     /// To run the script in the file.
     Sim { script: &'a str },
+    /// To serve the store at an address, by one worker: so many connections, or without end.
+    Serve { addr: &'a str, count: Option<u32> },
 }
 
 /// What the words ask for, where they are those of a command.
@@ -18,9 +20,46 @@ pub fn parse<'a>(words: &[&'a str]) -> Option<Request<'a>>
     ensures { result ≡ request_of words.now }
 {
     match words {
-        [name, image, input] if *name == "run" => Some(Request::Run { image, input }),
-        [name, image] if *name == "verify" => Some(Request::Verify { image }),
-        [name, script] if *name == "sim" => Some(Request::Sim { script }),
+        [name, file] => match *name {
+            "verify" => Some(Request::Verify { image: file }),
+            "sim" => Some(Request::Sim { script: file }),
+            _ => None,
+        },
+        [name, first, second] => match *name {
+            "run" => Some(Request::Run {
+                image: first,
+                input: second,
+            }),
+            "serve" => served(first, second, None),
+            _ => None,
+        },
+        [name, addr, workers, count] if *name == "serve" => served(
+            addr,
+            workers,
+            Some(count_in(count)?),
+        ),
         _ => None,
     }
+}
+
+/// To serve at an address, where one worker is asked for.
+fn served<'a>(addr: &'a str, workers: &str, count: Option<u32>) -> Option<Request<'a>>
+    ensures { result ≡ served_by addr.entry workers.now count }
+{
+    if workers == "1" {
+        Some(Request::Serve { addr, count })
+    } else {
+        None
+    }
+}
+
+/// The number of 1 to `2^32 - 1` that a decimal without sign and leading zeros spells.
+fn count_in(word: &str) -> Option<u32>
+    ensures { result ≡ count_of word.now }
+{
+    let first = *word.as_bytes().first()?;
+    if first == b'0' || first == b'+' {
+        return None;
+    }
+    word.parse().ok()
 }

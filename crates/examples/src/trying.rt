@@ -3,6 +3,7 @@
 use crate::folder::Folder;
 use commands::files::Files as _;
 use commands::own::command_with_helpers;
+use commands::server::Offline;
 use std::io;
 use std::io::Write;
 use std::rt::Files;
@@ -52,7 +53,14 @@ fn try_program<R: Files + AllocGlobal>(rt: &R, name: &str, told: &mut Vec<u8>) -
     let mut data = Folder { rt, path: "" };
     let mut err = Vec::new(alloc);
     write!(told, "{name} ")?;
-    command_with_helpers(alloc, &["verify", name], &mut data, told, &mut err)?;
+    command_with_helpers(
+        alloc,
+        &["verify", name],
+        &mut data,
+        &mut Offline,
+        told,
+        &mut err,
+    )?;
     told.write_all(&err)
 }
 
@@ -65,7 +73,7 @@ fn try_script<R: Files + AllocGlobal>(rt: &R, name: &str, told: &mut Vec<u8>) ->
     let mut out = Vec::new(alloc);
     let mut err = Vec::new(alloc);
     let words = ["sim", script.as_str()];
-    let status = command_with_helpers(alloc, &words, &mut hooks, &mut out, &mut err)?;
+    let status = command_with_helpers(alloc, &words, &mut hooks, &mut Offline, &mut out, &mut err)?;
     let is_same = out.as_slice() == want.as_slice() && err.is_empty();
     let comes_to = if is_same {
         "as written"
