@@ -2,8 +2,10 @@
 #![tactic(auto)]
 
 mod disk;
+mod network;
 
 use crate::disk::Disk;
+use crate::network::Network;
 use commands::own::command_with_helpers;
 use std::process::ExitCode;
 use std::{env, io};
@@ -26,10 +28,12 @@ fn main(rt: HostRuntime) -> io::Result<ExitCode> {
         words.push(argument.as_str())?;
     }
     let mut disk = Disk { rt: &rt };
+    let mut network = Network { rt: &rt };
     let status = command_with_helpers(
         alloc,
         &words,
         &mut disk,
+        &mut network,
         &mut rt.stdout(),
         &mut rt.stderr(),
     )?;
