@@ -1,4 +1,5 @@
 //! The tests by what is tried.
 
 mod put_hooks;
+mod registries;
 mod tables;

@@ -4,7 +4,6 @@ use crate::tests::opening::open;
 use crate::tests::rows::{ENDS, HOOKS, HTTP_SIBLINGS, RESOLVERS, Row};
 use httpfront::{FailSink, FailSource, Front, FrontFault, answers_to};
 use std::alloc::{AllocError, Global};
-use std::process::Abort;
 use std::test::Fail;
 
 /// The bytes of the requests, and those of the answers to them.
@@ -29,81 +28,124 @@ fn connect(
     Ok(front.serve(source, sink, &mut store))
 }
 
-/// Each of the rows is answered, whatever pieces the bytes come in and go out in.
-fn in_pieces(rt: &impl Abort, alloc: Global, rows: &[Row]) -> Result<(), Fail> {
+/// Whether each of so many requests is answered, where the bytes come in and go out in pieces of at most so many.
+fn is_answered(
+    alloc: Global,
+    front: &mut Front,
+    asked: &[u8],
+    told: &[u8],
+    requests: usize,
+    step: usize,
+) -> Result<bool, Fail> {
+    let mut source = FailSource::new(asked, step, None);
+    let mut sink = FailSink::new(alloc, step, None);
+    let count = connect(alloc, front, &mut source, &mut sink)??;
+    Ok(count == requests as u64 && sink.bytes.as_slice() == told)
+}
+
+/// The most bytes in a piece.
+const STEPS: [usize; 6] = [1, 2, 3, 61, 200, usize::MAX];
+
+/// How many of these sizes of pieces the rows are answered in, each by one front.
+fn in_pieces(alloc: Global, rows: &[Row]) -> Result<usize, Fail> {
     let (asked, told) = bytes_of(alloc, rows)?;
     let mut front = Front::new(alloc)?;
-    let steps: [usize; 6] = [1, 2, 3, 61, 200, usize::MAX];
-    for step in steps {
-        let mut source = FailSource::new(&asked, step, None);
-        let mut sink = FailSink::new(alloc, step, None);
-        assert_eq!(rt;
-            connect(alloc, &mut front, &mut source, &mut sink)??,
-            rows.len() as u64
-        );
-        assert_eq!(rt; sink.bytes.as_slice(), told.as_slice());
+    let mut answered = 0;
+    for step in &STEPS {
+        if is_answered(alloc, &mut front, &asked, &told, rows.len(), *step)? {
+            answered += 1;
+        }
     }
-    Ok(())
+    Ok(answered)
 }
 
 #[test]
 fn siblings_in_pieces(rt: HostRuntime) -> Result<(), Fail> {
-    in_pieces(&rt, rt.alloc(), &HTTP_SIBLINGS)
+    assert_eq!(rt; in_pieces(rt.alloc(), &HTTP_SIBLINGS)?, STEPS.len());
+    Ok(())
 }
 
 #[test]
 fn hooks_in_pieces(rt: HostRuntime) -> Result<(), Fail> {
-    in_pieces(&rt, rt.alloc(), &HOOKS)
+    assert_eq!(rt; in_pieces(rt.alloc(), &HOOKS)?, STEPS.len());
+    Ok(())
 }
 
 #[test]
 fn resolvers_in_pieces(rt: HostRuntime) -> Result<(), Fail> {
-    in_pieces(&rt, rt.alloc(), &RESOLVERS)
+    assert_eq!(rt; in_pieces(rt.alloc(), &RESOLVERS)?, STEPS.len());
+    Ok(())
 }
 
-/// The answers to the bytes, on a store of their own.
-fn answers(alloc: Global, asked: &[u8]) -> Result<Vec<u8>, Fail> {
+/// Whether these are the answers to the bytes, on a store of their own.
+fn are_answers(alloc: Global, asked: &[u8], told: &[u8]) -> Result<bool, Fail> {
     let mut store = open(alloc)?;
-    Ok(answers_to(alloc, asked, &mut store)?)
+    let answers = answers_to(alloc, asked, &mut store)?;
+    Ok(answers.as_slice() == told)
+}
+
+/// Whether the answers to the rows are all that is answered where one more request comes behind them.
+fn end_there(alloc: Global, rows: &[Row]) -> Result<bool, Fail> {
+    let (mut asked, told) = bytes_of(alloc, rows)?;
+    asked.extend_from_slice(b"GET /ping HTTP/1.1\r\n\r\n")?;
+    are_answers(alloc, &asked, &told)
 }
 
 /// What comes behind a request after which the connection ends is not read.
 #[test]
 fn nothing_after_the_last(rt: HostRuntime) -> Result<(), Fail> {
-    let alloc = rt.alloc();
-    let (mut asked, told) = bytes_of(alloc, &ENDS)?;
-    asked.extend_from_slice(b"GET /ping HTTP/1.1\r\n\r\n")?;
-    assert_eq!(rt; answers(alloc, &asked)?.as_slice(), told.as_slice());
+    assert!(rt; end_there(rt.alloc(), &ENDS)?);
     Ok(())
+}
+
+/// How many requests are answered that come together, by how many writes, and whether rightly.
+fn together(alloc: Global, asked: &[u8], told: &[u8]) -> Result<(u64, u64, bool), Fail> {
+    let mut front = Front::new(alloc)?;
+    let mut source = FailSource::new(asked, usize::MAX, None);
+    let mut sink = FailSink::new(alloc, usize::MAX, None);
+    let count = connect(alloc, &mut front, &mut source, &mut sink)??;
+    Ok((count, sink.writes, sink.bytes.as_slice() == told))
+}
+
+/// The same of rows.
+fn rows_together(alloc: Global, rows: &[Row]) -> Result<(u64, u64, bool), Fail> {
+    let (asked, told) = bytes_of(alloc, rows)?;
+    together(alloc, &asked, &told)
 }
 
 /// Requests that come together are answered together, by one write.
 #[test]
 fn pipelined(rt: HostRuntime) -> Result<(), Fail> {
-    let alloc = rt.alloc();
-    let (asked, told) = bytes_of(alloc, &HTTP_SIBLINGS)?;
-    let mut front = Front::new(alloc)?;
-    let mut source = FailSource::new(&asked, usize::MAX, None);
-    let mut sink = FailSink::new(alloc, usize::MAX, None);
-    assert_eq!(rt; connect(alloc, &mut front, &mut source, &mut sink)??, 9);
-    assert_eq!(rt; sink.writes, 1);
-    assert_eq!(rt; sink.bytes.as_slice(), told.as_slice());
+    assert_eq!(rt; rows_together(rt.alloc(), &HTTP_SIBLINGS)?, (9, 1, true));
     Ok(())
+}
+
+/// Whether a client that closes gets a front of the answers, and not all.
+fn is_part(alloc: Global, front: &mut Front, asked: &[u8], told: &[u8]) -> Result<bool, Fail> {
+    let mut source = FailSource::new(asked, usize::MAX, None);
+    let mut sink = FailSink::new(alloc, usize::MAX, None);
+    let count = connect(alloc, front, &mut source, &mut sink)??;
+    Ok(count < 9 && sink.bytes.len() < told.len() && told.starts_with(sink.bytes.as_slice()))
+}
+
+/// After how many bytes a client may close, each by one front, and how many there are.
+fn closing(alloc: Global, rows: &[Row]) -> Result<(usize, usize), Fail> {
+    let (asked, told) = bytes_of(alloc, rows)?;
+    let mut front = Front::new(alloc)?;
+    let mut rightly = 0;
+    for end in 0..asked.len() {
+        if is_part(alloc, &mut front, &asked[..end], &told)? {
+            rightly += 1;
+        }
+    }
+    Ok((rightly, asked.len()))
 }
 
 /// A client that closes after any byte gets the answers to its whole requests, and the next client none of it.
 #[test]
 fn closed_early(rt: HostRuntime) -> Result<(), Fail> {
-    let alloc = rt.alloc();
-    let (asked, told) = bytes_of(alloc, &HTTP_SIBLINGS)?;
-    let mut front = Front::new(alloc)?;
-    for end in 0..asked.len() {
-        let mut source = FailSource::new(&asked[..end], usize::MAX, None);
-        let mut sink = FailSink::new(alloc, usize::MAX, None);
-        assert!(rt; connect(alloc, &mut front, &mut source, &mut sink)?? < 9);
-        assert!(rt; sink.bytes.len() < told.len());
-        assert!(rt; told.as_slice().starts_with(sink.bytes.as_slice()));
-    }
+    let (rightly, all) = closing(rt.alloc(), &HTTP_SIBLINGS)?;
+    assert_eq!(rt; rightly, all);
     Ok(())
 }
 
@@ -119,24 +161,40 @@ fn is_front(
 ) -> Result<bool, Fail> {
     let mut source = FailSource::new(asked, 61, read);
     let mut sink = FailSink::new(alloc, 61, write);
-    let ended = match connect(alloc, front, &mut source, &mut sink)? {
-        Ok(count) => count == 9 && sink.failures == 0,
-        Err(FrontFault::Read) => read.is_some() && sink.failures == 0,
-        Err(FrontFault::Write) => sink.failures == 1,
+    let back = connect(alloc, front, &mut source, &mut sink)?;
+    Ok(has_ended(back, read, sink.failures) && told.starts_with(sink.bytes.as_slice()))
+}
+
+/// Whether a connection ended as its devices did.
+fn has_ended(back: Result<u64, FrontFault>, read: Option<u64>, failures: u64) -> bool {
+    match back {
+        Ok(count) => count == 9 && failures == 0,
+        Err(FrontFault::Read) => read.is_some() && failures == 0,
+        Err(FrontFault::Write) => failures == 1,
         Err(FrontFault::NoMemory) => false,
-    };
-    Ok(ended && told.starts_with(sink.bytes.as_slice()))
+    }
+}
+
+/// How many of the first 40 reads and of the first 40 writes may fail, each by one front.
+fn failing(alloc: Global, rows: &[Row]) -> Result<[u64; 2], Fail> {
+    let (asked, told) = bytes_of(alloc, rows)?;
+    let mut front = Front::new(alloc)?;
+    let mut reads = 0;
+    let mut writes = 0;
+    for number in 0..40u64 {
+        if is_front(alloc, &mut front, &asked, &told, Some(number), None)? {
+            reads += 1;
+        }
+        if is_front(alloc, &mut front, &asked, &told, None, Some(number))? {
+            writes += 1;
+        }
+    }
+    Ok([reads, writes])
 }
 
 /// Whichever read or write fails, a front of the answers was written.
 #[test]
 fn devices_that_fail(rt: HostRuntime) -> Result<(), Fail> {
-    let alloc = rt.alloc();
-    let (asked, told) = bytes_of(alloc, &HTTP_SIBLINGS)?;
-    let mut front = Front::new(alloc)?;
-    for number in 0..40 {
-        assert!(rt; is_front(alloc, &mut front, &asked, &told, Some(number), None)?);
-        assert!(rt; is_front(alloc, &mut front, &asked, &told, None, Some(number))?);
-    }
+    assert_eq!(rt; failing(rt.alloc(), &HTTP_SIBLINGS)?, [40, 40]);
     Ok(())
 }

@@ -3,7 +3,7 @@
 use abi::BadAnswer;
 use dvv::{Clock, Dot};
 use helpers::Table;
-use object::{Content, KeyState};
+use object::Content;
 use peers::Peers;
 use quorum::{Hooking, QuorumFault};
 use std::alloc::Global;
@@ -14,12 +14,7 @@ use trial_parts::hooking::{Hidden, program};
 use trial_parts::programs::{EXIT, PRE_COMMIT, WRITE_X, answer};
 
 /// What a put at vnode 0 answered, how many entries the vnodes' journals have after it, and how many calls failed.
-#[derive(Drop)]
-struct Outcome {
-    back: Result<Dot, QuorumFault>,
-    lengths: [usize; 3],
-    failures: u64,
-}
+type Outcome = (Result<Dot, QuorumFault>, [usize; 3], u64);
 
 /// What a put of `a` comes to under a pre-commit hook with this code, these calls lost.
 fn put_under(alloc: Global, in_len: u16, code: &[[u8; 8]], lost: &[u64]) -> Result<Outcome, Fail> {
@@ -39,47 +34,66 @@ fn put_under(alloc: Global, in_len: u16, code: &[[u8; 8]], lost: &[u64]) -> Resu
         &content,
         2,
     )?;
-    Ok(Outcome {
-        back,
-        lengths: lengths(&local),
-        failures: local.failures(),
-    })
+    Ok((back, lengths(&local), local.failures()))
 }
 
-/// What vnode 2 holds after a put under a hook that writes the value `x`.
-fn after_change(alloc: Global, content: &Content) -> Result<KeyState, Fail> {
-    let key = key_of(alloc, b"k")?;
-    let hook = program(alloc, PRE_COMMIT, 128, &WRITE_X)?;
-    let mut local = three_losing(alloc, &[])?;
-    let seen = Clock::new(alloc);
-    put_hooked(alloc, &mut local, hook, 0, &[1, 2], &key, &seen, content, 2)??;
-    let (state, _) = get(alloc, &mut local, &key, &[2], 1)?;
-    Ok(state)
+/// A hook's input window and its answer, and what the put answers and the journals' lengths after it.
+struct Row {
+    window: u16,
+    code: u16,
+    back: Result<Dot, QuorumFault>,
+    after: [usize; 3],
 }
+
+const STORED: Result<Dot, QuorumFault> = Ok(Dot { vnode: 0, n: 1 });
+
+const BAD: Result<Dot, QuorumFault> = Err(QuorumFault::BadVerdict(BadAnswer::UnknownCode));
+
+/// A new content of one byte and no sibling are shown in 41 bytes.
+const ANSWERS: [Row; 6] = [
+    Row {
+        window: 128,
+        code: 0,
+        back: STORED,
+        after: [3, 1, 1],
+    },
+    Row {
+        window: 41,
+        code: 257,
+        back: Err(QuorumFault::Rejected(1)),
+        after: [1, 0, 0],
+    },
+    Row {
+        window: 40,
+        code: 257,
+        back: Err(QuorumFault::TooLarge),
+        after: [1, 0, 0],
+    },
+    Row {
+        window: 128,
+        code: 511,
+        back: Err(QuorumFault::Rejected(255)),
+        after: [1, 0, 0],
+    },
+    Row {
+        window: 128,
+        code: 7,
+        back: BAD,
+        after: [1, 0, 0],
+    },
+    Row {
+        window: 128,
+        code: 2,
+        back: BAD,
+        after: [1, 0, 0],
+    },
+];
 
 #[test]
 fn pre_commit_hooks(rt: HostRuntime) -> Result<(), Fail> {
-    let stored = Ok(Dot { vnode: 0, n: 1 });
-    let bad = Err(QuorumFault::BadVerdict(BadAnswer::UnknownCode));
-    let reject_1 = Err(QuorumFault::Rejected(1));
-    let reject_255 = Err(QuorumFault::Rejected(255));
-    let large = Err(QuorumFault::TooLarge);
-    // A new content of one byte and no sibling are shown in 41 bytes.
-    let windows: [u16; 6] = [128, 41, 40, 128, 128, 128];
-    let answers: [u16; 6] = [0, 257, 257, 511, 7, 2];
-    let told = [stored, reject_1, large, reject_255, bad, bad];
-    let after = [
-        [3, 1, 1],
-        [1, 0, 0],
-        [1, 0, 0],
-        [1, 0, 0],
-        [1, 0, 0],
-        [1, 0, 0],
-    ];
-    for row in 0..6usize {
-        let outcome = put_under(rt.alloc(), windows[row], &answer(answers[row]), &[])?;
-        assert_eq!(rt; outcome.back, told[row], "row {row}");
-        assert_eq!(rt; outcome.lengths, after[row], "row {row}");
+    for row in &ANSWERS {
+        let (back, after, _) = put_under(rt.alloc(), row.window, &answer(row.code), &[])?;
+        assert_eq!(rt; (back, after), (row.back, row.after));
     }
     Ok(())
 }
@@ -87,20 +101,17 @@ fn pre_commit_hooks(rt: HostRuntime) -> Result<(), Fail> {
 #[test]
 fn lost_before_the_hook_runs(rt: HostRuntime) -> Result<(), Fail> {
     let outcome = put_under(rt.alloc(), 128, &answer(0), &[0])?;
-    assert_eq!(rt; outcome.back, Err(QuorumFault::TooFew));
-    assert_eq!(rt; outcome.lengths, [0, 0, 0]);
-    assert_eq!(rt; outcome.failures, 1);
+    assert_eq!(rt; outcome, (Err(QuorumFault::TooFew), [0, 0, 0], 1));
     Ok(())
 }
 
-#[test]
-fn a_hook_that_is_not_seen(rt: HostRuntime) -> Result<(), Fail> {
-    let alloc = rt.alloc();
+/// What a put of `a` comes to where the hooks can't be seen.
+fn put_unseen(alloc: Global) -> Result<Outcome, Fail> {
     let key = key_of(alloc, b"k")?;
-    let seen = Clock::new(alloc);
     let content = content_of(alloc, b"a")?;
     let mut local = three_losing(alloc, &[])?;
     let mut hidden = Hooking::new(alloc, Hidden, Table::new(alloc));
+    let seen = Clock::new(alloc);
     let back = put(
         &mut local,
         &mut hidden,
@@ -111,35 +122,53 @@ fn a_hook_that_is_not_seen(rt: HostRuntime) -> Result<(), Fail> {
         &content,
         1,
     );
-    assert_eq!(rt; back, Err(QuorumFault::Unseen));
-    assert_eq!(rt; lengths(&local), [0, 0, 0]);
-    assert_eq!(rt; local.failures(), 0);
+    Ok((back, lengths(&local), local.failures()))
+}
+
+#[test]
+fn a_hook_that_is_not_seen(rt: HostRuntime) -> Result<(), Fail> {
+    let outcome = put_unseen(rt.alloc())?;
+    assert_eq!(rt; outcome, (Err(QuorumFault::Unseen), [0, 0, 0], 0));
     Ok(())
+}
+
+/// Whether vnode 2 holds the value `x` of a media type after a put of a content under a hook that writes it.
+fn is_changed(alloc: Global, content: &Content, media: &[u8]) -> Result<bool, Fail> {
+    let key = key_of(alloc, b"k")?;
+    let hook = program(alloc, PRE_COMMIT, 128, &WRITE_X)?;
+    let mut local = three_losing(alloc, &[])?;
+    let seen = Clock::new(alloc);
+    put_hooked(alloc, &mut local, hook, 0, &[1, 2], &key, &seen, content, 2)??;
+    let (state, _) = get(alloc, &mut local, &key, &[2], 1)?;
+    Ok(is_value(&state, media, b"x"))
+}
+
+/// Whether a put of the value `a` is so changed, and one of a tombstone.
+fn are_changed(alloc: Global) -> Result<[bool; 2], Fail> {
+    let content = content_of(alloc, b"a")?;
+    let value = is_changed(alloc, &content, b"text/plain")?;
+    let tombstone = is_changed(alloc, &Content::Tombstone, b"application/octet-stream")?;
+    Ok([value, tombstone])
 }
 
 #[test]
 fn a_hook_changes_the_value(rt: HostRuntime) -> Result<(), Fail> {
-    let alloc = rt.alloc();
-    let state = after_change(alloc, &content_of(alloc, b"a")?)?;
-    assert!(rt; is_value(&state, b"text/plain", b"x"));
-    let state = after_change(alloc, &Content::Tombstone)?;
-    assert!(rt; is_value(&state, b"application/octet-stream", b"x"));
+    assert_eq!(rt; are_changed(rt.alloc())?, [true, true]);
     Ok(())
 }
+
+/// The code that writes the length 5 and answers 1.
+const WRITE_5: [[u8; 8]; 3] = [
+    [0x62, 3, 0, 0, 5, 0, 0, 0],
+    [0xb7, 0, 0, 0, 1, 0, 0, 0],
+    EXIT,
+];
 
 /// A written value of 5 bytes after its length doesn't fit the output window of 8.
 #[test]
 fn a_value_past_the_window(rt: HostRuntime) -> Result<(), Fail> {
-    let write_5 = [
-        [0x62, 3, 0, 0, 5, 0, 0, 0],
-        [0xb7, 0, 0, 0, 1, 0, 0, 0],
-        EXIT,
-    ];
-    let outcome = put_under(rt.alloc(), 128, &write_5, &[])?;
-    assert_eq!(rt;
-        outcome.back,
-        Err(QuorumFault::BadVerdict(BadAnswer::LengthPastWindow))
-    );
-    assert_eq!(rt; outcome.lengths, [1, 0, 0]);
+    let (back, after, _) = put_under(rt.alloc(), 128, &WRITE_5, &[])?;
+    let past = Err(QuorumFault::BadVerdict(BadAnswer::LengthPastWindow));
+    assert_eq!(rt; (back, after), (past, [1, 0, 0]));
     Ok(())
 }

@@ -50,11 +50,14 @@ fn lacking(
 }
 
 /// What a put of `a` answers, and how many entries the vnodes' journals then have.
+type Put = (Result<Dot, QuorumFault>, [usize; 3]);
+
+/// What a put of `a` comes to.
 fn put_once(
     alloc: Global,
     local: &mut Local,
     hooking: &mut Hooking<Registry>,
-) -> Result<(Result<Dot, QuorumFault>, [usize; 3]), Fail> {
+) -> Result<Put, Fail> {
     let key = key_of(alloc, b"k")?;
     let content = content_of(alloc, b"a")?;
     let seen = Clock::new(alloc);
@@ -62,50 +65,81 @@ fn put_once(
     Ok((back, lengths(local)))
 }
 
-/// Resolves at vnode 0 what a get answered.
+/// What a put comes to as things are, and one with this table after it.
+fn put_twice(
+    alloc: Global,
+    hooking: &mut Hooking<Registry>,
+    table: Table,
+) -> Result<[Put; 2], Fail> {
+    let mut local = three_losing(alloc, &[])?;
+    let without = put_once(alloc, &mut local, hooking)?;
+    hooking.table = table;
+    let with = put_once(alloc, &mut local, hooking)?;
+    Ok([without, with])
+}
+
+/// What puts come to under a hook whose window is too short for any content, without its helper and with it.
+fn puts(alloc: Global) -> Result<[Put; 2], Fail> {
+    let table = table_of_64(alloc)?;
+    let mut hooking = lacking(alloc, &table, ImageKind::PreCommit, PRE_COMMIT, 40)?;
+    put_twice(alloc, &mut hooking, table)
+}
+
+/// The table is looked at before the window's length, which is too short for any content.
+#[test]
+fn table_without_the_helper(rt: HostRuntime) -> Result<(), Fail> {
+    let [without, with] = puts(rt.alloc())?;
+    assert_eq!(rt; without, (Err(QuorumFault::Disagrees), [1, 0, 0]));
+    assert_eq!(rt; with, (Err(QuorumFault::TooLarge), [2, 0, 0]));
+    Ok(())
+}
+
+/// Why a resolve was cut short, if it was, whether its siblings have the dots at hand, and how many entries the vnodes' journals
+/// then have.
+type Outcome = (Option<ResolveFault>, bool, [usize; 3]);
+
+/// What a resolve at vnode 0 of what a get answered leaves, and what it comes to.
 fn resolve(
     local: &mut Local,
     hooking: &mut Hooking<Registry>,
     key: &Key,
     got: KeyState,
     answers: &[Answer],
-) -> Resolved {
-    quorum::resolve(local, hooking, 0, key, got, answers)
+    dots: &[(u32, u64)],
+) -> (KeyState, Outcome) {
+    let Resolved { state, cut } = quorum::resolve(local, hooking, 0, key, got, answers);
+    let outcome = (cut, shows(&state, dots), lengths(local));
+    (state, outcome)
 }
 
-/// The table is looked at before the window's length, which is too short for any content.
-#[test]
-fn table_without_the_helper(rt: HostRuntime) -> Result<(), Fail> {
-    let alloc = rt.alloc();
-    let table = table_of_64(alloc)?;
-    let mut hooking = lacking(alloc, &table, ImageKind::PreCommit, PRE_COMMIT, 40)?;
-    let mut local = three_losing(alloc, &[])?;
-    let (without, after) = put_once(alloc, &mut local, &mut hooking)?;
-    assert_eq!(rt; without, Err(QuorumFault::Disagrees));
-    assert_eq!(rt; after, [1, 0, 0]);
+/// What a resolve comes to as things are, and one with this table after it.
+fn resolve_twice(
+    alloc: Global,
+    hooking: &mut Hooking<Registry>,
+    table: Table,
+) -> Result<[Outcome; 2], Fail> {
+    let key = key_of(alloc, b"k")?;
+    let (mut local, got, answers) = two_siblings(alloc, &key)?;
+    let both = [(0, 1), (1, 1)];
+    let (got, without) = resolve(&mut local, hooking, &key, got, &answers, &both);
     hooking.table = table;
-    let (with, after) = put_once(alloc, &mut local, &mut hooking)?;
-    assert_eq!(rt; with, Err(QuorumFault::TooLarge));
-    assert_eq!(rt; after, [2, 0, 0]);
-    Ok(())
+    let (_, with) = resolve(&mut local, hooking, &key, got, &answers, &[(0, 2)]);
+    Ok([without, with])
+}
+
+/// What resolves come to without the resolver's helper and with it.
+fn resolves(alloc: Global) -> Result<[Outcome; 2], Fail> {
+    let table = table_of_64(alloc)?;
+    let mut hooking = lacking(alloc, &table, ImageKind::Resolver, RESOLVER, 128)?;
+    resolve_twice(alloc, &mut hooking, table)
 }
 
 /// Without the helper the get's own answer stands and no call is made; with it the first sibling is taken.
 #[test]
 fn resolver_without_the_helper(rt: HostRuntime) -> Result<(), Fail> {
-    let alloc = rt.alloc();
-    let key = key_of(alloc, b"k")?;
-    let table = table_of_64(alloc)?;
-    let mut hooking = lacking(alloc, &table, ImageKind::Resolver, RESOLVER, 128)?;
-    let (mut local, got, answers) = two_siblings(alloc, &key)?;
-    let Resolved { state: got, cut } = resolve(&mut local, &mut hooking, &key, got, &answers);
-    assert_eq!(rt; cut, Some(ResolveFault::Undecided(Unresolved::Disagrees)));
-    assert!(rt; shows(&got, &[(0, 1), (1, 1)]));
-    assert_eq!(rt; lengths(&local), [3, 3, 1]);
-    hooking.table = table;
-    let Resolved { state, cut } = resolve(&mut local, &mut hooking, &key, got, &answers);
-    assert_eq!(rt; cut, None);
-    assert!(rt; shows(&state, &[(0, 2)]));
-    assert_eq!(rt; lengths(&local), [7, 3, 1]);
+    let [without, with] = resolves(rt.alloc())?;
+    let cut = ResolveFault::Undecided(Unresolved::Disagrees);
+    assert_eq!(rt; without, (Some(cut), true, [3, 3, 1]));
+    assert_eq!(rt; with, (None, true, [7, 3, 1]));
     Ok(())
 }

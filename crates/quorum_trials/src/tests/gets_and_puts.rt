@@ -106,26 +106,11 @@ fn over_three(alloc: Global) -> Result<(Outcome, u64), Fail> {
 #[test]
 fn puts_and_gets(rt: HostRuntime) -> Result<(), Fail> {
     let (outcome, failures) = over_three(rt.alloc())?;
+    let stored = [458_753, 458_752, 458_754].map(|vnode| Ok(Dot { vnode, n: 1 }));
     assert_eq!(rt;
-        outcome.puts,
-        [
-            Ok(Dot {
-                vnode: 458_753,
-                n: 1
-            }),
-            Ok(Dot {
-                vnode: 458_752,
-                n: 1
-            }),
-            Ok(Dot {
-                vnode: 458_754,
-                n: 1
-            })
-        ]
+        (outcome.puts, outcome.lengths, outcome.found, failures),
+        (stored, [1, 2, 1], [true, true], 0)
     );
-    assert_eq!(rt; outcome.lengths, [1, 2, 1]);
-    assert_eq!(rt; outcome.found, [true, true]);
-    assert_eq!(rt; failures, 0);
     Ok(())
 }
 
@@ -144,15 +129,17 @@ fn by_its_list(
     Ok((stored, found && list.as_slice().len() == 3))
 }
 
+/// What they come to over five vnodes.
+fn over_five(alloc: Global) -> Result<(Result<Dot, QuorumFault>, bool), Fail> {
+    let key = key_of(alloc, b"k1")?;
+    let mut local = vnodes_of(alloc, 5, 0)?;
+    by_its_list(alloc, &mut local, &key)
+}
+
 /// A preference list is what a put and a get are told, as it stands. The key's place among five vnodes is by another program.
 #[test]
 fn preference_lists_are_told(rt: HostRuntime) -> Result<(), Fail> {
-    let alloc = rt.alloc();
-    let key = key_of(alloc, b"k1")?;
-    let mut local = vnodes_of(alloc, 5, 0)?;
-    let (stored, found) = by_its_list(alloc, &mut local, &key)?;
-    assert_eq!(rt; stored, Ok(Dot { vnode: 4, n: 1 }));
-    assert!(rt; found);
+    assert_eq!(rt; over_five(rt.alloc())?, (Ok(Dot { vnode: 4, n: 1 }), true));
     Ok(())
 }
 
@@ -182,25 +169,19 @@ fn over_two(alloc: Global) -> Result<Outcome, Fail> {
 #[test]
 fn brings_what_the_context_had_seen(rt: HostRuntime) -> Result<(), Fail> {
     let outcome = over_two(rt.alloc())?;
+    let puts = [Ok(Dot { vnode: 1, n: 1 }), STORED, AHEAD];
     assert_eq!(rt;
-        outcome.puts,
-        [
-            Ok(Dot { vnode: 1, n: 1 }),
-            Ok(Dot { vnode: 0, n: 1 }),
-            Err(QuorumFault::Refused(VnodeFault::ContextAhead))
-        ]
+        (outcome.puts, outcome.lengths, outcome.found),
+        (puts, [3, 4, 0], [true, true])
     );
-    assert_eq!(rt; outcome.lengths, [3, 4, 0]);
-    assert_eq!(rt; outcome.found, [true, true]);
     Ok(())
 }
 
 #[test]
 fn each_key_has_the_first_place(rt: HostRuntime) -> Result<(), Fail> {
-    let alloc = rt.alloc();
-    let local = Local::open_first(alloc, 3, 0, 2)?;
-    assert_eq!(rt; local.vnodes().len(), 3);
-    assert_eq!(rt; local.placement().place_of(b"b", b"k"), 2);
+    let local = Local::open_first(rt.alloc(), 3, 0, 2)?;
+    let place = local.placement().place_of(b"b", b"k");
+    assert_eq!(rt; (local.vnodes().len(), place), (3, 2));
     Ok(())
 }
 
@@ -244,11 +225,11 @@ fn losing(alloc: Global, lost: &[u64]) -> Result<Lossy, Fail> {
 fn too_few(rt: HostRuntime) -> Result<(), Fail> {
     let told = losing(rt.alloc(), &[0, 3])?;
     let few = Some(QuorumFault::TooFew);
-    assert_eq!(rt; told.put, Err(QuorumFault::TooFew));
-    assert_eq!(rt; told.gets, [few, few]);
-    assert_eq!(rt; told.failures, [1, 3]);
-    assert_eq!(rt; told.lengths, [1, 1, 0]);
-    assert!(rt; told.nothing);
+    assert_eq!(rt;
+        (told.put, told.gets, told.nothing),
+        (TOO_FEW, [few, few], true)
+    );
+    assert_eq!(rt; (told.failures, told.lengths), ([1, 3], [1, 1, 0]));
     Ok(())
 }
 
@@ -266,10 +247,7 @@ fn put_once(
 /// Vnode 0 stored the put, and its own read is lost: no copy is tried.
 #[test]
 fn own_read_is_lost(rt: HostRuntime) -> Result<(), Fail> {
-    let (back, lengths, failures) = put_once(rt.alloc(), &[1])?;
-    assert_eq!(rt; back, Err(QuorumFault::TooFew));
-    assert_eq!(rt; lengths, [1, 0, 0]);
-    assert_eq!(rt; failures, 1);
+    assert_eq!(rt; put_once(rt.alloc(), &[1])?, (TOO_FEW, [1, 0, 0], 1));
     Ok(())
 }
 
@@ -304,6 +282,8 @@ const STORED: Result<Dot, QuorumFault> = Ok(Dot { vnode: 0, n: 1 });
 
 const AHEAD: Result<Dot, QuorumFault> = Err(QuorumFault::Refused(VnodeFault::ContextAhead));
 
+const TOO_FEW: Result<Dot, QuorumFault> = Err(QuorumFault::TooFew);
+
 /// Call 0 is the first put, 1 and 2 bring vnode 1's state, 3 and 4 that of vnode 2, and 5 is the second put, where none of
 /// these is lost. A read that is lost brings no merge.
 const RETRIES: [Retry; 7] = [
@@ -314,7 +294,7 @@ const RETRIES: [Retry; 7] = [
     },
     Retry {
         lost: &[0],
-        back: Err(QuorumFault::TooFew),
+        back: TOO_FEW,
         after: [0, 2, 0],
     },
     Retry {
@@ -339,7 +319,7 @@ const RETRIES: [Retry; 7] = [
     },
     Retry {
         lost: &[5],
-        back: Err(QuorumFault::TooFew),
+        back: TOO_FEW,
         after: [2, 3, 1],
     },
 ];
@@ -347,9 +327,7 @@ const RETRIES: [Retry; 7] = [
 #[test]
 fn lost_calls_of_the_retry(rt: HostRuntime) -> Result<(), Fail> {
     for row in &RETRIES {
-        let (back, after) = retried(rt.alloc(), row.lost)?;
-        assert_eq!(rt; back, row.back);
-        assert_eq!(rt; after, row.after);
+        assert_eq!(rt; retried(rt.alloc(), row.lost)?, (row.back, row.after));
     }
     Ok(())
 }

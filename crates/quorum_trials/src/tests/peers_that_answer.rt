@@ -3,12 +3,11 @@
 ghost use Rattle.std.specs.Prelude.{◌≡◌};
 
 use abi::BadAnswer;
-use dvv::{Clock, Dot};
+use dvv::{Clock, ClockFault, Dot};
 use object::{Content, Key, KeyState};
 use peers::{Answer, PeerFault, Peers};
 use quorum::QuorumFault;
-use std::alloc::Global;
-use std::process::Abort;
+use std::alloc::{AllocError, Global};
 use std::test::Fail;
 use trial_parts::building::{content_of, key_of};
 use trial_parts::calling::{get, put_hooked, put_value};
@@ -17,33 +16,47 @@ use trial_parts::programs::{PRE_COMMIT, answer};
 use vnode::VnodeFault;
 
 /// What a call comes back with.
-#[derive(Drop)]
+#[derive(Clone, Copy)]
 enum Said {
+    /// Of a put.
     Put(Result<Dot, PeerFault>),
-    State(Result<Answer, PeerFault>),
+    /// Of a read that fails.
+    Unread(PeerFault),
+    /// Of a read: a state whose clock counts one event of each vnode from the first to before the last.
+    Counts(u32, u32),
 }
 
-/// Vnodes that answer from a list, from its end, and count the calls. A call of another kind than the list's is lost, and so is
-/// each after the list.
+/// Vnodes that answer from a list, and count the calls. A call of another kind than the list's is lost, and so is each after the
+/// list.
 #[derive(Drop)]
-struct Scripted {
-    says: Vec<Said>,
+struct Scripted<'a> {
+    alloc: Global,
+    says: &'a [Said],
     calls: u64,
     failures: u64,
 }
 
-impl Scripted {
+impl<'a> Scripted<'a> {
     ghost use Rattle.std.specs.Prelude.{if◌then◌else◌};
     ghost use Rattle.local.specs.Locals.{counted};
 
     /// Calls that come back with these, in order.
-    fn new(mut says: Vec<Said>) -> Scripted {
-        says.reverse();
+    fn new(alloc: Global, says: &'a [Said]) -> Scripted<'a> {
         Scripted {
+            alloc,
             says,
             calls: 0,
             failures: 0,
         }
+    }
+
+    /// What the next call comes back with.
+    fn next(&mut self) -> Option<Said>
+        ensures { self.new.failures ≡ self.old.failures }
+    {
+        let (said, rest) = self.says.split_first()?;
+        self.says = rest;
+        Some(*said)
     }
 
     /// Counts a call.
@@ -57,7 +70,7 @@ impl Scripted {
     }
 }
 
-impl Peers for Scripted {
+impl<'a> Peers for Scripted<'a> {
     ghost use Rattle.std.specs.Prelude.{refl};
     ghost use Rattle.peers.specs.Counts.{Counts};
 
@@ -78,7 +91,7 @@ impl Peers for Scripted {
         _seen: &Clock,
         _content: &Content,
     ) -> Result<Dot, PeerFault> {
-        let back = match self.says.pop() {
+        let back = match self.next() {
             Some(Said::Put(back)) => back,
             _ => Err(PeerFault::Lost),
         };
@@ -99,8 +112,9 @@ impl Peers for Scripted {
     }
 
     fn state_of(&mut self, _i: usize, _key: &Key) -> Result<Answer, PeerFault> {
-        let back = match self.says.pop() {
-            Some(Said::State(back)) => back,
+        let back = match self.next() {
+            Some(Said::Counts(first, past)) => answer_over(self.alloc, first, past),
+            Some(Said::Unread(fault)) => Err(fault),
             _ => Err(PeerFault::Lost),
         };
         self.count(back.is_err());
@@ -117,27 +131,46 @@ impl Peers for Scripted {
     }
 }
 
-/// What a put at vnode 0, with vnodes 1 and 2 after it, answers to what its calls come back with, and how many it makes.
-fn put_to(alloc: Global, says: Vec<Said>) -> Result<(Result<Dot, QuorumFault>, u64), Fail> {
-    let key = key_of(alloc, b"k")?;
-    let seen = Clock::new(alloc);
-    let mut peers = Scripted::new(says);
-    let back = put_value(alloc, &mut peers, 0, &[1, 2], &key, &seen, b"a", 1)?;
-    Ok((back, peers.calls))
+/// A clock that counts one event of each vnode from the first to before the last.
+fn clock_over(alloc: Global, first: u32, past: u32) -> Result<Clock, ClockFault> {
+    let mut clock = Clock::new(alloc);
+    for vnode in first..past {
+        let n = clock.counter(vnode) + 1;
+        clock.add(Dot { vnode, n })?;
+    }
+    Ok(clock)
 }
 
-/// Asserts that a put without a hook is told so, after so many calls.
-fn tells(
-    rt: &impl Abort,
-    alloc: Global,
-    says: Vec<Said>,
-    fault: VnodeFault,
-    calls: u64,
-) -> Result<(), Fail> {
-    let (back, made) = put_to(alloc, says)?;
-    assert_eq!(rt; back, Err(QuorumFault::Refused(fault)), "{fault}");
-    assert_eq!(rt; made, calls, "{fault}");
-    Ok(())
+/// A read's answer with that clock.
+fn answer_over(alloc: Global, first: u32, past: u32) -> Result<Answer, PeerFault> {
+    match clock_over(alloc, first, past) {
+        Ok(clock) => Ok(Answer {
+            from: first,
+            at: 0,
+            state: KeyState::from_parts(clock, Vec::new(alloc)),
+        }),
+        Err(_) => Err(PeerFault::Refused(VnodeFault::NoMemory)),
+    }
+}
+
+/// What a put answers, and how many calls it makes.
+type Put = (Result<Dot, QuorumFault>, u64);
+
+/// What a put at vnode 0, with vnodes 1 and 2 after it, comes to whose calls come back with these.
+fn put_to(alloc: Global, says: &[Said]) -> Result<Put, Fail> {
+    let key = key_of(alloc, b"k")?;
+    let mut peers = Scripted::new(alloc, says);
+    let back = put_value(
+        alloc,
+        &mut peers,
+        0,
+        &[1, 2],
+        &key,
+        &Clock::new(alloc),
+        b"a",
+        1,
+    )?;
+    Ok((back, peers.calls))
 }
 
 /// What a coordinator refuses.
@@ -148,17 +181,25 @@ const REFUSALS: [VnodeFault; 4] = [
     VnodeFault::NoMemory,
 ];
 
-/// The coordinator's refusal of its first put is the answer at once, and so is that of its own read after it.
+/// The coordinator's refusal of its first put is the answer at once.
 #[test]
 fn refusals_of_the_coordinator(rt: HostRuntime) -> Result<(), Fail> {
-    let alloc = rt.alloc();
-    for fault in REFUSALS {
-        let refused = PeerFault::Refused(fault);
-        let first = vec![in alloc; Said::Put(Err(refused))]?;
-        tells(&rt, alloc, first, fault, 1)?;
+    for fault in &REFUSALS {
+        let refused = PeerFault::Refused(*fault);
+        let put = put_to(rt.alloc(), &[Said::Put(Err(refused))])?;
+        assert_eq!(rt; put, (Err(QuorumFault::Refused(*fault)), 1));
+    }
+    Ok(())
+}
+
+/// So is that of its own read after it.
+#[test]
+fn refusals_of_the_read_after(rt: HostRuntime) -> Result<(), Fail> {
+    for fault in &REFUSALS {
         let stored = Said::Put(Ok(Dot { vnode: 0, n: 1 }));
-        let read = vec![in alloc; stored, Said::State(Err(refused))]?;
-        tells(&rt, alloc, read, fault, 2)?;
+        let read = Said::Unread(PeerFault::Refused(*fault));
+        let put = put_to(rt.alloc(), &[stored, read])?;
+        assert_eq!(rt; put, (Err(QuorumFault::Refused(*fault)), 2));
     }
     Ok(())
 }
@@ -166,76 +207,57 @@ fn refusals_of_the_coordinator(rt: HostRuntime) -> Result<(), Fail> {
 /// So is that of its second put: both reads of the others fail and are passed over.
 #[test]
 fn refusals_of_the_second_put(rt: HostRuntime) -> Result<(), Fail> {
-    let alloc = rt.alloc();
-    for fault in REFUSALS {
-        let refused = PeerFault::Refused(fault);
-        let second = vec![in alloc;
+    for fault in &REFUSALS {
+        let refused = PeerFault::Refused(*fault);
+        let says = [
             Said::Put(Err(PeerFault::Refused(VnodeFault::ContextAhead))),
-            Said::State(Err(PeerFault::Lost)),
-            Said::State(Err(refused)),
+            Said::Unread(PeerFault::Lost),
+            Said::Unread(refused),
             Said::Put(Err(refused)),
-        ]?;
-        tells(&rt, alloc, second, fault, 4)?;
+        ];
+        let put = put_to(rt.alloc(), &says)?;
+        assert_eq!(rt; put, (Err(QuorumFault::Refused(*fault)), 4));
     }
     Ok(())
 }
 
-/// What a put at vnode 0 under a hook that lets all through answers.
-fn put_under_hook(alloc: Global, peers: &mut Scripted) -> Result<Result<Dot, QuorumFault>, Fail> {
+/// What a put at vnode 0 under a hook that lets all through comes to whose calls come back with these.
+fn put_under_hook(alloc: Global, says: &[Said]) -> Result<Put, Fail> {
     let key = key_of(alloc, b"k")?;
     let content = content_of(alloc, b"a")?;
     let hook = program(alloc, PRE_COMMIT, 128, &answer(0))?;
+    let mut peers = Scripted::new(alloc, says);
     let seen = Clock::new(alloc);
-    put_hooked(alloc, peers, hook, 0, &[1, 2], &key, &seen, &content, 1)
-}
-
-/// What it answers where its own read is refused, and how many calls it makes.
-fn refused_before_the_hook(
-    alloc: Global,
-    fault: VnodeFault,
-) -> Result<(Result<Dot, QuorumFault>, u64), Fail> {
-    let before = vec![in alloc; Said::State(Err(PeerFault::Refused(fault)))]?;
-    let mut peers = Scripted::new(before);
-    let back = put_under_hook(alloc, &mut peers)?;
+    let back = put_hooked(
+        alloc,
+        &mut peers,
+        hook,
+        0,
+        &[1, 2],
+        &key,
+        &seen,
+        &content,
+        1,
+    )?;
     Ok((back, peers.calls))
 }
 
 /// So is that of the read before its hook.
 #[test]
 fn refusals_before_the_hook(rt: HostRuntime) -> Result<(), Fail> {
-    for fault in REFUSALS {
-        let (back, calls) = refused_before_the_hook(rt.alloc(), fault)?;
-        assert_eq!(rt; back, Err(QuorumFault::Refused(fault)), "{fault}");
-        assert_eq!(rt; calls, 1, "{fault}");
+    for fault in &REFUSALS {
+        let before = Said::Unread(PeerFault::Refused(*fault));
+        let put = put_under_hook(rt.alloc(), &[before])?;
+        assert_eq!(rt; put, (Err(QuorumFault::Refused(*fault)), 1));
     }
     Ok(())
 }
 
-/// A read's answer whose clock counts one event of each vnode from the first to before the last.
-fn answer_over(alloc: Global, first: u32, past: u32) -> Result<Said, Fail> {
-    let mut clock = Clock::new(alloc);
-    for vnode in first..past {
-        let n = clock.counter(vnode) + 1;
-        clock.add(Dot { vnode, n })?;
-    }
-    let state = KeyState::from_parts(clock, Vec::new(alloc));
-    Ok(Said::State(Ok(Answer {
-        from: first,
-        at: 0,
-        state,
-    })))
-}
-
-/// Vnodes of which a get's first answer counts over vnodes 0 to 599, and its second over 500 to before the last.
-fn two_reads(alloc: Global, past: u32) -> Result<Scripted, Fail> {
-    let first = answer_over(alloc, 0, 600)?;
-    let second = answer_over(alloc, 500, past)?;
-    Ok(Scripted::new(vec![in alloc; first, second]?))
-}
-
-/// Over how many vnodes the clock that a get merges of them counts, and how many answered.
+/// Over how many vnodes the clock counts that a get merges of two answers, over vnodes 0 to 599 and over 500 to before the last,
+/// and how many answered.
 fn merged(alloc: Global, past: u32) -> Result<Result<[usize; 2], QuorumFault>, Fail> {
-    let mut peers = two_reads(alloc, past)?;
+    let says = [Said::Counts(0, 600), Said::Counts(500, past)];
+    let mut peers = Scripted::new(alloc, &says);
     let key = key_of(alloc, b"k")?;
     match get(alloc, &mut peers, &key, &[0, 1], 2) {
         Ok((state, answers)) => Ok(Ok([state.clock().entries().len(), answers.len()])),
@@ -246,11 +268,12 @@ fn merged(alloc: Global, past: u32) -> Result<Result<[usize; 2], QuorumFault>, F
 /// A merged clock may count over 1,024 vnodes, and no more.
 #[test]
 fn merges_that_pass_the_clock(rt: HostRuntime) -> Result<(), Fail> {
-    let fits = merged(rt.alloc(), 1024)?;
-    assert_eq!(rt; fits, Ok([1024, 2]));
-    let passes = merged(rt.alloc(), 1025)?;
-    let full = Err(QuorumFault::Refused(VnodeFault::MergedClockFull));
-    assert_eq!(rt; passes, full);
+    let alloc = rt.alloc();
+    let full = QuorumFault::Refused(VnodeFault::MergedClockFull);
+    assert_eq!(rt;
+        (merged(alloc, 1024)?, merged(alloc, 1025)?),
+        (Ok([1024, 2]), Err(full))
+    );
     Ok(())
 }
 
@@ -266,11 +289,15 @@ const TEXTS: [(QuorumFault, &str); 8] = [
     (QuorumFault::Disagrees, "X4"),
 ];
 
+/// Whether a fault is shown so.
+fn is_shown(alloc: Global, fault: QuorumFault, want: &str) -> Result<bool, AllocError> {
+    Ok(format!(in alloc; "{fault}")?.as_str() == want)
+}
+
 #[test]
 fn faults_show_their_numbers(rt: HostRuntime) -> Result<(), Fail> {
-    let alloc = rt.alloc();
-    for (fault, want) in TEXTS {
-        assert_eq!(rt; format!(in alloc; "{fault}")?.as_str(), want);
+    for (fault, want) in &TEXTS {
+        assert!(rt; is_shown(rt.alloc(), *fault, want)?, "{want}");
     }
     Ok(())
 }

@@ -8,7 +8,6 @@ use object::{Key, KeyState};
 use peers::{Answer, Peers};
 use quorum::QuorumFault;
 use std::alloc::Global;
-use std::process::Abort;
 use std::test::Fail;
 use trial_parts::building::{is_value, key_of, lengths, put_alone, shows, three_losing, vnodes_of};
 use trial_parts::calling::{get, put_value};
@@ -29,46 +28,84 @@ fn is_the_put(state: &KeyState) -> bool {
     shows(state, &[(0, 1)]) && is_value(state, b"text/plain", b"a")
 }
 
-/// What a put at vnode 0 answers, these calls of it lost, and the vnodes after it.
-fn put_losing(alloc: Global, lost: &[u64]) -> Result<(Result<Dot, QuorumFault>, Local), Fail> {
-    let mut local = three_losing(alloc, lost)?;
-    let key = key_of(alloc, b"k")?;
-    let seen = Clock::new(alloc);
-    let back = put_value(alloc, &mut local, 0, &[1, 2], &key, &seen, b"a", 2)?;
-    Ok((back, local))
+/// A put at vnode 0: which of its calls are lost, what it answers, whether the get after it finds it and how many vnodes the repair
+/// after that reaches, and the journals' lengths after the put and after the repair.
+struct Row {
+    lost: &'static [u64],
+    put: Result<Dot, QuorumFault>,
+    found: (bool, u64),
+    lengths: [[usize; 3]; 2],
+}
+
+const STORED: Result<Dot, QuorumFault> = Ok(Dot { vnode: 0, n: 1 });
+
+const FEW: Result<Dot, QuorumFault> = Err(QuorumFault::TooFew);
+
+const ROWS: [Row; 4] = [
+    Row {
+        lost: &[],
+        put: STORED,
+        found: (true, 0),
+        lengths: [[2, 1, 1], [3, 2, 2]],
+    },
+    Row {
+        lost: &[3],
+        put: STORED,
+        found: (true, 2),
+        lengths: [[2, 1, 0], [3, 2, 3]],
+    },
+    Row {
+        lost: &[2, 3],
+        put: FEW,
+        found: (true, 2),
+        lengths: [[2, 0, 0], [3, 2, 2]],
+    },
+    Row {
+        lost: &[0],
+        put: FEW,
+        found: (false, 0),
+        lengths: [[0, 0, 0], [1, 1, 1]],
+    },
+];
+
+/// What a put at vnode 0 answers.
+fn put(alloc: Global, local: &mut Local, key: &Key) -> Result<Result<Dot, QuorumFault>, Fail> {
+    Ok(put_value(alloc, local, 0, &[1, 2], key, &Clock::new(alloc), b"a", 2)?)
 }
 
 /// Whether a get finds that put, or else nothing, and how many vnodes the repair after it reaches.
-fn get_and_repair(rt: &impl Abort, alloc: Global, local: &mut Local) -> Result<(bool, u64), Fail> {
-    let key = key_of(alloc, b"k")?;
-    let (state, answers) = get(alloc, local, &key, &[0, 1, 2], 1)?;
+fn get_and_repair(alloc: Global, local: &mut Local, key: &Key) -> Result<(bool, u64), Fail> {
+    let (state, answers) = get(alloc, local, key, &[0, 1, 2], 1)?;
     let found = is_the_put(&state);
-    assert_eq!(rt; state.siblings().is_empty(), !found);
-    assert!(rt; answers.len() < 4);
-    Ok((found, repair(local, &key, &answers)))
+    if answers.len() > 3 || state.siblings().is_empty() == found {
+        return Err(Fail::new("neither the put nor nothing"));
+    }
+    Ok((found, repair(local, key, &answers)))
 }
 
-/// A put, and then a get and read repair, after some calls of the put were lost.
+/// What a put, and the get and read repair after it, come to, and the journals' lengths after the put and after the repair.
+type Outcome = (Result<Dot, QuorumFault>, (bool, u64), [[usize; 3]; 2]);
+
+/// What they come to over these vnodes.
+fn put_and_repair(alloc: Global, local: &mut Local) -> Result<Outcome, Fail> {
+    let key = key_of(alloc, b"k")?;
+    let back = put(alloc, local, &key)?;
+    let after_put = lengths(local);
+    let found = get_and_repair(alloc, local, &key)?;
+    Ok((back, found, [after_put, lengths(local)]))
+}
+
+/// What they come to after some calls of the put were lost.
+fn losing(alloc: Global, lost: &[u64]) -> Result<Outcome, Fail> {
+    let mut local = three_losing(alloc, lost)?;
+    put_and_repair(alloc, &mut local)
+}
+
 #[test]
 fn lost_calls(rt: HostRuntime) -> Result<(), Fail> {
-    let alloc = rt.alloc();
-    let stored = Ok(Dot { vnode: 0, n: 1 });
-    let few = Err(QuorumFault::TooFew);
-    let lost: [&[u64]; 4] = [&[], &[3], &[2, 3], &[0]];
-    let puts = [stored, stored, few, few];
-    let after_put = [[2, 1, 1], [2, 1, 0], [2, 0, 0], [0, 0, 0]];
-    let found = [(true, 0), (true, 2), (true, 2), (false, 0)];
-    let after_get = [[3, 2, 2], [3, 2, 3], [3, 2, 2], [1, 1, 1]];
-    for row in 0..4usize {
-        let (back, mut local) = put_losing(alloc, lost[row])?;
-        assert_eq!(rt; back, puts[row], "row {row}");
-        assert_eq!(rt; lengths(&local), after_put[row], "row {row}");
-        assert_eq!(rt;
-            get_and_repair(&rt, alloc, &mut local)?,
-            found[row],
-            "row {row}"
-        );
-        assert_eq!(rt; lengths(&local), after_get[row], "row {row}");
+    for row in &ROWS {
+        let outcome = losing(rt.alloc(), row.lost)?;
+        assert_eq!(rt; outcome, (row.put, row.found, row.lengths));
     }
     Ok(())
 }
@@ -89,38 +126,60 @@ fn apart(alloc: Global) -> Result<Local, Fail> {
     Ok(local)
 }
 
-/// Both vnodes show a key alike.
-fn is_alike(rt: &impl Abort, alloc: Global, local: &mut Local, key: &[u8]) -> Result<(), Fail> {
+/// Whether both vnodes show a key alike.
+fn is_alike(alloc: Global, local: &mut Local, key: &[u8]) -> Result<bool, Fail> {
     let key = key_of(alloc, key)?;
     let (mine, _) = get(alloc, local, &key, &[0], 1)?;
     let (other, _) = get(alloc, local, &key, &[1], 1)?;
-    assert_eq!(rt; mine.clock().entries(), other.clock().entries());
-    assert_eq!(rt; mine.siblings().len(), other.siblings().len());
-    Ok(())
+    let clocks = mine.clock().entries() == other.clock().entries();
+    Ok(clocks && mine.siblings().len() == other.siblings().len())
+}
+
+/// Whether they show each key alike.
+fn are_alike(alloc: Global, local: &mut Local) -> Result<[bool; 3], Fail> {
+    let both = is_alike(alloc, local, b"both")?;
+    let ours = is_alike(alloc, local, b"ours")?;
+    let theirs = is_alike(alloc, local, b"theirs")?;
+    Ok([both, ours, theirs])
+}
+
+/// How many states each of two exchanges takes, the journals' lengths before them and after each, and whether the keys are then
+/// shown alike.
+fn exchange_twice(alloc: Global) -> Result<([u64; 2], [[usize; 3]; 3], [bool; 3]), Fail> {
+    let mut local = apart(alloc)?;
+    let before = lengths(&local);
+    let first = exchange(&mut local, 0, 1);
+    let between = lengths(&local);
+    let second = exchange(&mut local, 0, 1);
+    let after = lengths(&local);
+    Ok((
+        [first, second],
+        [before, between, after],
+        are_alike(alloc, &mut local)?,
+    ))
 }
 
 /// To vnode 1 go `both` and `ours`; back come `both`, whose clock grew, and `theirs`; `ours` is alike by then. Then each of
 /// the three keys is read on both sides, there and back, and no more.
 #[test]
 fn brings_each_key_to_the_other_side(rt: HostRuntime) -> Result<(), Fail> {
-    let alloc = rt.alloc();
-    let mut local = apart(alloc)?;
-    assert_eq!(rt; lengths(&local), [4, 4, 0]);
-    assert_eq!(rt; exchange(&mut local, 0, 1), 4);
-    assert_eq!(rt; lengths(&local), [11, 11, 0]);
-    assert_eq!(rt; exchange(&mut local, 0, 1), 0);
-    assert_eq!(rt; lengths(&local), [17, 17, 0]);
-    is_alike(&rt, alloc, &mut local, b"both")?;
-    is_alike(&rt, alloc, &mut local, b"ours")?;
-    is_alike(&rt, alloc, &mut local, b"theirs")
+    let (taken, lengths, alike) = exchange_twice(rt.alloc())?;
+    assert_eq!(rt;
+        (taken, lengths, alike),
+        (
+            [4, 0],
+            [[4, 4, 0], [11, 11, 0], [17, 17, 0]],
+            [true, true, true]
+        )
+    );
+    Ok(())
 }
 
 #[test]
 fn a_vnode_that_is_not_there(rt: HostRuntime) -> Result<(), Fail> {
-    let alloc = rt.alloc();
-    let mut local = apart(alloc)?;
-    assert_eq!(rt; local.failures(), 0);
-    assert_eq!(rt; exchange(&mut local, 0, 5), 0);
-    assert!(rt; local.failures() > 0);
+    let mut local = apart(rt.alloc())?;
+    let before = local.failures();
+    let taken = exchange(&mut local, 0, 5);
+    assert_eq!(rt; (before, taken, local.failures() > 0), (0, 0, true));
     Ok(())
 }

@@ -10,26 +10,48 @@ use helpers::{Sigs, Table};
 use object::{Content, KeyState};
 use std::alloc::{AllocError, Global};
 use std::fmt::Write as _;
-use std::process::Abort;
 use std::test::Fail;
 use trial_parts::building::{content_of, key_of};
 use trial_parts::programs::{RESOLVER, answer, hook};
 use verifier::Verified;
 use world::{Event, Hook, Reply, Resolution, Seen, World};
 
+/// An event of the key `k`, by its numbers.
+enum Step {
+    /// A value of one byte is put at a vnode, by one who has seen nothing.
+    Put(usize, u8),
+    Get(usize),
+    Send(usize),
+    /// The message of an event reaches a vnode.
+    Deliver(usize, usize),
+    /// A resolver runs on what a get answered.
+    Run(usize, Resolver),
+    /// What a run chose is put at a vnode.
+    Write(usize, usize),
+}
+
 /// A resolver with windows of these lengths, which answers so.
-fn resolver(alloc: Global, windows: (u16, u8), code: u16) -> Result<Verified, Fail> {
-    let (in_len, out_len) = windows;
-    hook(
+#[derive(Clone, Copy)]
+struct Resolver {
+    in_len: u16,
+    out_len: u8,
+    code: u16,
+}
+
+/// The program of a resolver.
+fn program(alloc: Global, resolver: Resolver) -> Result<Hook, Fail> {
+    let verified = hook(
         alloc,
         &Sigs::new(alloc),
         RESOLVER,
-        in_len,
-        out_len,
-        &answer(code),
-    )
+        resolver.in_len,
+        resolver.out_len,
+        &answer(resolver.code),
+    )?;
+    Ok(Hook::new(alloc, verified)?)
 }
 
+/// A put of a value of one byte at a vnode.
 fn put(alloc: Global, vnode: usize, value: u8) -> Result<Event, AllocError> {
     Ok(Event::Put {
         vnode,
@@ -39,32 +61,34 @@ fn put(alloc: Global, vnode: usize, value: u8) -> Result<Event, AllocError> {
     })
 }
 
-fn get(alloc: Global, vnode: usize) -> Result<Event, AllocError> {
-    Ok(Event::Get {
-        vnode,
-        key: key_of(alloc, b"k")?,
-    })
+/// The event of a step.
+fn event(alloc: Global, step: &Step) -> Result<Event, Fail> {
+    match *step {
+        Step::Put(vnode, value) => Ok(put(alloc, vnode, value)?),
+        Step::Get(vnode) => Ok(Event::Get {
+            vnode,
+            key: key_of(alloc, b"k")?,
+        }),
+        Step::Send(vnode) => Ok(Event::Send {
+            vnode,
+            key: key_of(alloc, b"k")?,
+        }),
+        Step::Deliver(message, vnode) => Ok(Event::Deliver { message, vnode }),
+        Step::Run(get, resolver) => Ok(Event::ResolveRead {
+            get,
+            hook: program(alloc, resolver)?,
+        }),
+        Step::Write(run, vnode) => Ok(Event::ResolveWrite { run, vnode }),
+    }
 }
 
-fn send(alloc: Global, vnode: usize) -> Result<Event, AllocError> {
-    Ok(Event::Send {
-        vnode,
-        key: key_of(alloc, b"k")?,
-    })
-}
-
-/// Two siblings at vnode 0, of vnodes 0 and 1, and a get of them, which is event 4.
-fn two_siblings(alloc: Global) -> Result<Vec<Event>, AllocError> {
-    Ok(vec![in alloc;
-        put(alloc, 0, b'a')?,
-        put(alloc, 1, b'b')?,
-        send(alloc, 1)?,
-        Event::Deliver {
-            message: 2,
-            vnode: 0
-        },
-        get(alloc, 0)?,
-    ]?)
+/// The events of steps.
+fn events_of(alloc: Global, steps: &[Step]) -> Result<Vec<Event>, Fail> {
+    let mut events = Vec::with_capacity(alloc, steps.len())?;
+    for step in steps {
+        events.push(event(alloc, step)?)?;
+    }
+    Ok(events)
 }
 
 /// Whether the event at a place is a get.
@@ -211,119 +235,146 @@ fn printed(alloc: Global, replies: &[Reply], from: usize) -> Result<String, Allo
     Ok(text)
 }
 
-/// Events over three vnodes reply so, from a place on.
-fn check(
-    rt: &impl Abort,
-    alloc: Global,
-    name: &str,
-    events: &[Event],
-    from: usize,
-    want: &str,
-) -> Result<(), Fail> {
+/// What steps over three vnodes reply, from a place on: the text of the replies.
+fn replied(alloc: Global, steps: &[Step], from: usize) -> Result<String, Fail> {
+    let events = events_of(alloc, steps)?;
     let table = Table::new(alloc);
-    assert!(rt; are_runnable(3, &table, events), "{name}");
-    let world = World::run(alloc, 3, &table, events)?;
-    let text = printed(alloc, world.replies(), from)?;
-    assert_eq!(rt; text.as_str(), want, "{name}");
-    Ok(())
+    if !are_runnable(3, &table, &events) {
+        return Err(Fail::new("not runnable"));
+    }
+    let world = World::run(alloc, 3, &table, &events)?;
+    Ok(printed(alloc, world.replies(), from)?)
 }
 
-/// A resolver's run on these siblings, which is event 5, with windows of these lengths and this answer.
-fn run_on_siblings(alloc: Global, windows: (u16, u8), code: u16) -> Result<Vec<Event>, Fail> {
-    let hook = Hook::new(alloc, resolver(alloc, windows, code)?)?;
-    let mut events = two_siblings(alloc)?;
-    events.push(Event::ResolveRead { get: 4, hook })?;
-    Ok(events)
-}
-
-/// Between a resolver's run and its write a value of vnode 2 comes to vnode 0, which is read at last.
-fn written_beside_another(alloc: Global) -> Result<Vec<Event>, Fail> {
-    let mut events = run_on_siblings(alloc, (128, 0), 256)?;
-    events.push(put(alloc, 2, b'c')?)?;
-    events.push(send(alloc, 2)?)?;
-    events.push(Event::Deliver {
-        message: 7,
-        vnode: 0,
-    })?;
-    events.push(Event::ResolveWrite { run: 5, vnode: 0 })?;
-    events.push(get(alloc, 0)?)?;
-    Ok(events)
-}
+/// Two siblings at vnode 0, of vnodes 0 and 1, and a get of them, which is event 4, and a resolver's run on them. Between the run
+/// and its write a value of vnode 2 comes to vnode 0, which is read at last.
+const WRITTEN_BESIDE_ANOTHER: [Step; 11] = [
+    Step::Put(0, b'a'),
+    Step::Put(1, b'b'),
+    Step::Send(1),
+    Step::Deliver(2, 0),
+    Step::Get(0),
+    Step::Run(
+        4,
+        Resolver {
+            in_len: 128,
+            out_len: 0,
+            code: 256,
+        },
+    ),
+    Step::Put(2, b'c'),
+    Step::Send(2),
+    Step::Deliver(7, 0),
+    Step::Write(5, 0),
+    Step::Get(0),
+];
 
 #[test]
 fn resolver_takes_first(rt: HostRuntime) -> Result<(), Fail> {
-    let alloc = rt.alloc();
-    let events = written_beside_another(alloc)?;
-    check(
-        &rt,
-        alloc,
-        "take.img",
-        &events,
-        0,
-        "0-1;1-1;ok;changed;0-1=a 1-1=b 0:1 1:1 ;take 0;2-1;ok;changed;0-2;0-2=a 2-1=c 0:2 1:1 2:1 ;",
-    )
+    let text = replied(rt.alloc(), &WRITTEN_BESIDE_ANOTHER, 0)?;
+    assert_eq!(rt;
+        text.as_str(),
+        "0-1;1-1;ok;changed;0-1=a 1-1=b 0:1 1:1 ;take 0;2-1;ok;changed;0-2;0-2=a 2-1=c 0:2 1:1 2:1 ;"
+    );
+    Ok(())
 }
 
-/// A run's write at vnode 0, again there, and at vnode 2, which knows nothing of the get; and a get at vnode 0.
-fn written_three_times(alloc: Global, windows: (u16, u8), code: u16) -> Result<Vec<Event>, Fail> {
-    let mut events = run_on_siblings(alloc, windows, code)?;
-    for vnode in [0usize, 0, 2] {
-        events.push(Event::ResolveWrite { run: 5, vnode })?;
-    }
-    events.push(get(alloc, 0)?)?;
-    Ok(events)
+/// The same siblings and get, a run's write at vnode 0, again there, and at vnode 2, which knows nothing of the get; and a get at
+/// vnode 0.
+fn written_three_times(resolver: Resolver) -> [Step; 10] {
+    [
+        Step::Put(0, b'a'),
+        Step::Put(1, b'b'),
+        Step::Send(1),
+        Step::Deliver(2, 0),
+        Step::Get(0),
+        Step::Run(4, resolver),
+        Step::Write(5, 0),
+        Step::Write(5, 0),
+        Step::Write(5, 2),
+        Step::Get(0),
+    ]
 }
+
+/// A resolver, and what its run, its writes and the get after them reply.
+struct Row {
+    name: &'static str,
+    resolver: Resolver,
+    want: &'static str,
+}
+
+const RUNS: [Row; 7] = [
+    Row {
+        name: "keep",
+        resolver: Resolver {
+            in_len: 128,
+            out_len: 0,
+            code: 0,
+        },
+        want: "keep;nothing;nothing;nothing;0-1=a 1-1=b 0:1 1:1 ;",
+    },
+    Row {
+        name: "take",
+        resolver: Resolver {
+            in_len: 66,
+            out_len: 0,
+            code: 257,
+        },
+        want: "take 1;0-2;0-3;P1;0-2=b 0-3=b 0:3 1:1 ;",
+    },
+    Row {
+        name: "a byte too few",
+        resolver: Resolver {
+            in_len: 65,
+            out_len: 0,
+            code: 257,
+        },
+        want: "large;nothing;nothing;nothing;0-1=a 1-1=b 0:1 1:1 ;",
+    },
+    Row {
+        name: "delete",
+        resolver: Resolver {
+            in_len: 128,
+            out_len: 0,
+            code: 2,
+        },
+        want: "delete;0-2;0-3;P1;0-2! 0-3! 0:3 1:1 ;",
+    },
+    Row {
+        name: "write",
+        resolver: Resolver {
+            in_len: 128,
+            out_len: 4,
+            code: 1,
+        },
+        want: "write=?;0-2;0-3;P1;0-2=? 0-3=? 0:3 1:1 ;",
+    },
+    Row {
+        name: "no such code",
+        resolver: Resolver {
+            in_len: 128,
+            out_len: 0,
+            code: 3,
+        },
+        want: "bad B1;nothing;nothing;nothing;0-1=a 1-1=b 0:1 1:1 ;",
+    },
+    Row {
+        name: "no such sibling",
+        resolver: Resolver {
+            in_len: 128,
+            out_len: 0,
+            code: 258,
+        },
+        want: "bad B3;nothing;nothing;nothing;0-1=a 1-1=b 0:1 1:1 ;",
+    },
+];
 
 /// What a run decides, what its writes reply, and what is then known.
 #[test]
 fn runs_are_written(rt: HostRuntime) -> Result<(), Fail> {
-    let alloc = rt.alloc();
-    for (name, windows, code, want) in [
-        (
-            "keep",
-            (128, 0),
-            0,
-            "keep;nothing;nothing;nothing;0-1=a 1-1=b 0:1 1:1 ;",
-        ),
-        (
-            "take",
-            (66, 0),
-            257,
-            "take 1;0-2;0-3;P1;0-2=b 0-3=b 0:3 1:1 ;",
-        ),
-        (
-            "a byte too few",
-            (65, 0),
-            257,
-            "large;nothing;nothing;nothing;0-1=a 1-1=b 0:1 1:1 ;",
-        ),
-        (
-            "delete",
-            (128, 0),
-            2,
-            "delete;0-2;0-3;P1;0-2! 0-3! 0:3 1:1 ;",
-        ),
-        (
-            "write",
-            (128, 4),
-            1,
-            "write=?;0-2;0-3;P1;0-2=? 0-3=? 0:3 1:1 ;",
-        ),
-        (
-            "no such code",
-            (128, 0),
-            3,
-            "bad B1;nothing;nothing;nothing;0-1=a 1-1=b 0:1 1:1 ;",
-        ),
-        (
-            "no such sibling",
-            (128, 0),
-            258,
-            "bad B3;nothing;nothing;nothing;0-1=a 1-1=b 0:1 1:1 ;",
-        ),
-    ] {
-        let events = written_three_times(alloc, windows, code)?;
-        check(&rt, alloc, name, &events, 5, want)?;
+    for row in &RUNS {
+        let text = replied(rt.alloc(), &written_three_times(row.resolver), 5)?;
+        assert_eq!(rt; text.as_str(), row.want, "{}", row.name);
     }
     Ok(())
 }

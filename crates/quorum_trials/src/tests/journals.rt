@@ -1,0 +1,86 @@
+//! A journal that grows.
+
+use dvv::{Clock, Dot};
+use journal::{Entry, Journal};
+use object::{Content, KeyState};
+use std::alloc::{AllocError, Global};
+use std::test::Fail;
+use trial_parts::building::key_of;
+
+fn read(alloc: Global, stamp: u64) -> Result<Entry, AllocError> {
+    Ok(Entry::Read {
+        stamp,
+        key: key_of(alloc, b"k")?,
+    })
+}
+
+fn put(alloc: Global, stamp: u64) -> Result<Entry, AllocError> {
+    Ok(Entry::Put {
+        stamp,
+        key: key_of(alloc, b"k")?,
+        seen: Clock::new(alloc),
+        content: Content::Tombstone,
+        dot: Dot { vnode: 65537, n: 1 },
+    })
+}
+
+fn merge(alloc: Global, stamp: u64) -> Result<Entry, AllocError> {
+    Ok(Entry::Merge {
+        stamp,
+        key: key_of(alloc, b"k")?,
+        from: 0,
+        at: 4,
+        state: KeyState::new(alloc),
+    })
+}
+
+/// The places of four entries that are pushed, and how many entries there are after two of them and once room is made.
+fn push_four(alloc: Global, journal: &mut Journal) -> Result<([u32; 4], usize), Fail> {
+    let restart = journal.push(Entry::Restart { stamp: 3 })?;
+    let read = journal.push(read(alloc, 5)?)?;
+    journal.reserve()?;
+    let between = journal.len();
+    let put = journal.push(put(alloc, 8)?)?;
+    let merge = journal.push(merge(alloc, 9)?)?;
+    Ok(([restart, read, put, merge], between))
+}
+
+/// The stamp of the entry at a place.
+fn stamp_at(journal: &Journal, place: u32) -> Option<u64> {
+    match journal.get(place)? {
+        Entry::Put { stamp, .. }
+        | Entry::Merge { stamp, .. }
+        | Entry::Read { stamp, .. }
+        | Entry::Restart { stamp } => Some(*stamp),
+    }
+}
+
+/// What is told of a journal: the stamps at five places, its lengths, and whose it is.
+type Told = ([Option<u64>; 5], [usize; 2], u32);
+
+fn told(journal: &Journal) -> Told {
+    (
+        [0, 1, 2, 3, 4].map(|place| stamp_at(journal, place)),
+        [journal.len(), journal.entries().len()],
+        journal.vnode(),
+    )
+}
+
+/// The places and the length between them, whether the journal is empty at first and at last, and full at last, and what is then
+/// told of it.
+fn in_places(alloc: Global) -> Result<(([u32; 4], usize), [bool; 3], Told), Fail> {
+    let mut journal = Journal::new(alloc, 65537);
+    let empty = journal.is_empty();
+    let places = push_four(alloc, &mut journal)?;
+    let marks = [empty, journal.is_empty(), journal.is_full()];
+    Ok((places, marks, told(&journal)))
+}
+
+#[test]
+fn entries_stay_in_their_places(rt: HostRuntime) -> Result<(), Fail> {
+    let (places, marks, told) = in_places(rt.alloc())?;
+    let stamps = [Some(3), Some(5), Some(8), Some(9), None];
+    assert_eq!(rt; (places, marks), (([0, 1, 2, 3], 2), [true, false, false]));
+    assert_eq!(rt; told, (stamps, [4, 4], 65537));
+    Ok(())
+}
