@@ -93,7 +93,8 @@ const ANSWERS: [Row; 6] = [
 fn pre_commit_hooks(rt: HostRuntime) -> Result<(), Fail> {
     for row in &ANSWERS {
         let (back, after, _) = put_under(rt.alloc(), row.window, &answer(row.code), &[])?;
-        assert_eq!(rt; (back, after), (row.back, row.after));
+        let want = row.after;
+        assert_eq!(rt; (back, after), (row.back, want));
     }
     Ok(())
 }

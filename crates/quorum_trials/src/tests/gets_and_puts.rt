@@ -106,9 +106,14 @@ fn over_three(alloc: Global) -> Result<(Outcome, u64), Fail> {
 #[test]
 fn puts_and_gets(rt: HostRuntime) -> Result<(), Fail> {
     let (outcome, failures) = over_three(rt.alloc())?;
+    let Outcome {
+        puts,
+        lengths,
+        found,
+    } = outcome;
     let stored = [458_753, 458_752, 458_754].map(|vnode| Ok(Dot { vnode, n: 1 }));
     assert_eq!(rt;
-        (outcome.puts, outcome.lengths, outcome.found, failures),
+        (puts, lengths, found, failures),
         (stored, [1, 2, 1], [true, true], 0)
     );
     Ok(())
@@ -168,12 +173,13 @@ fn over_two(alloc: Global) -> Result<Outcome, Fail> {
 
 #[test]
 fn brings_what_the_context_had_seen(rt: HostRuntime) -> Result<(), Fail> {
-    let outcome = over_two(rt.alloc())?;
-    let puts = [Ok(Dot { vnode: 1, n: 1 }), STORED, AHEAD];
-    assert_eq!(rt;
-        (outcome.puts, outcome.lengths, outcome.found),
-        (puts, [3, 4, 0], [true, true])
-    );
+    let Outcome {
+        puts,
+        lengths,
+        found,
+    } = over_two(rt.alloc())?;
+    let want = [Ok(Dot { vnode: 1, n: 1 }), STORED, AHEAD];
+    assert_eq!(rt; (puts, lengths, found), (want, [3, 4, 0], [true, true]));
     Ok(())
 }
 
@@ -223,13 +229,16 @@ fn losing(alloc: Global, lost: &[u64]) -> Result<Lossy, Fail> {
 
 #[test]
 fn too_few(rt: HostRuntime) -> Result<(), Fail> {
-    let told = losing(rt.alloc(), &[0, 3])?;
+    let Lossy {
+        put,
+        gets,
+        failures,
+        lengths,
+        nothing,
+    } = losing(rt.alloc(), &[0, 3])?;
     let few = Some(QuorumFault::TooFew);
-    assert_eq!(rt;
-        (told.put, told.gets, told.nothing),
-        (TOO_FEW, [few, few], true)
-    );
-    assert_eq!(rt; (told.failures, told.lengths), ([1, 3], [1, 1, 0]));
+    assert_eq!(rt; (put, gets, nothing), (TOO_FEW, [few, few], true));
+    assert_eq!(rt; (failures, lengths), ([1, 3], [1, 1, 0]));
     Ok(())
 }
 
@@ -327,7 +336,8 @@ const RETRIES: [Retry; 7] = [
 #[test]
 fn lost_calls_of_the_retry(rt: HostRuntime) -> Result<(), Fail> {
     for row in &RETRIES {
-        assert_eq!(rt; retried(rt.alloc(), row.lost)?, (row.back, row.after));
+        let after = row.after;
+        assert_eq!(rt; retried(rt.alloc(), row.lost)?, (row.back, after));
     }
     Ok(())
 }

@@ -105,7 +105,8 @@ fn losing(alloc: Global, lost: &[u64]) -> Result<Outcome, Fail> {
 fn lost_calls(rt: HostRuntime) -> Result<(), Fail> {
     for row in &ROWS {
         let outcome = losing(rt.alloc(), row.lost)?;
-        assert_eq!(rt; outcome, (row.put, row.found, row.lengths));
+        let lengths = row.lengths;
+        assert_eq!(rt; outcome, (row.put, row.found, lengths));
     }
     Ok(())
 }

@@ -17,6 +17,7 @@ use verifier::Verified;
 use world::{Event, Hook, Reply, Resolution, Seen, World};
 
 /// An event of the key `k`, by its numbers.
+#[derive(Clone, Copy)]
 enum Step {
     /// A value of one byte is put at a vnode, by one who has seen nothing.
     Put(usize, u8),
