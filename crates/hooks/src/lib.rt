@@ -7,8 +7,6 @@ mod fault;
 pub mod laws;
 mod lookup;
 mod registry;
-#[cfg(test)]
-mod tests;
 
 pub use changing::HookChanges;
 pub use fault::{HookFault, NameFault, NotSeen};

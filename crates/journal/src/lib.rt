@@ -5,8 +5,6 @@ mod entry;
 mod journal;
 pub mod laws;
 pub mod rows;
-#[cfg(test)]
-mod tests;
 
 pub use entry::Entry;
 pub use journal::{Journal, JournalFault};
