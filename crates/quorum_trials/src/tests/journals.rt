@@ -55,13 +55,13 @@ fn stamp_at(journal: &Journal, place: u32) -> Option<u64> {
     }
 }
 
-/// What is told of a journal: the stamps at five places, its lengths, and whose it is.
-type Told = ([Option<u64>; 5], [usize; 2], u32);
+/// What is told of a journal: the stamps at five places, its length, and whose it is.
+type Told = ([Option<u64>; 5], usize, u32);
 
 fn told(journal: &Journal) -> Told {
     (
         [0, 1, 2, 3, 4].map(|place| stamp_at(journal, place)),
-        [journal.len(), journal.entries().len()],
+        journal.len(),
         journal.vnode(),
     )
 }
@@ -81,6 +81,24 @@ fn entries_stay_in_their_places(rt: HostRuntime) -> Result<(), Fail> {
     let (places, marks, told) = in_places(rt.alloc())?;
     let stamps = [Some(3), Some(5), Some(8), Some(9), None];
     assert_eq!(rt; (places, marks), (([0, 1, 2, 3], 2), [true, false, false]));
-    assert_eq!(rt; told, (stamps, [4, 4], 65537));
+    assert_eq!(rt; told, (stamps, 4, 65537));
+    Ok(())
+}
+
+/// The stamps about the ends of blocks of 1,024, of a journal whose 2,050 entries have their places as stamps.
+fn about_the_ends_of_blocks(alloc: Global) -> Result<([Option<u64>; 7], usize), Fail> {
+    let mut journal = Journal::new(alloc, 0);
+    for stamp in 0..2050 {
+        journal.push(Entry::Restart { stamp })?;
+    }
+    let stamps = [0, 1023, 1024, 2047, 2048, 2049, 2050].map(|place| stamp_at(&journal, place));
+    Ok((stamps, journal.len()))
+}
+
+#[test]
+fn blocks_follow_one_another(rt: HostRuntime) -> Result<(), Fail> {
+    let (stamps, len) = about_the_ends_of_blocks(rt.alloc())?;
+    assert_eq!(rt; stamps, [Some(0), Some(1023), Some(1024), Some(2047), Some(2048), Some(2049), None]);
+    assert_eq!(rt; len, 2050);
     Ok(())
 }
