@@ -98,7 +98,18 @@ fn about_the_ends_of_blocks(alloc: Global) -> Result<([Option<u64>; 7], usize), 
 #[test]
 fn blocks_follow_one_another(rt: HostRuntime) -> Result<(), Fail> {
     let (stamps, len) = about_the_ends_of_blocks(rt.alloc())?;
-    assert_eq!(rt; stamps, [Some(0), Some(1023), Some(1024), Some(2047), Some(2048), Some(2049), None]);
+    assert_eq!(rt;
+        stamps,
+        [
+            Some(0),
+            Some(1023),
+            Some(1024),
+            Some(2047),
+            Some(2048),
+            Some(2049),
+            None
+        ]
+    );
     assert_eq!(rt; len, 2050);
     Ok(())
 }
