@@ -1,7 +1,6 @@
 -- What a call of the front does to a store of one thread, told by its past.
-use Rattle.std.proofs.Common.{◌≡◌, inl, inr, ℕ, ◌≤◌, List, [], ◌∷◌, ◌++◌, ap, ◌∙◌, sym, subst, refl, Option, Some, None, Result, Ok, Err, Bool, true, false, MatchBool, MatchResult, IfOk, length, map, nat_le, ◌↔◌, append-nil, append_assoc}
+use Rattle.std.proofs.Common.{◌≡◌, inl, inr, ℕ, ◌≤◌, List, [], ◌∷◌, ◌++◌, ap, ◌∙◌, sym, subst, refl, Option, None, Result, Ok, Err, Bool, true, false, MatchBool, IfOk, length, nat_le, ◌↔◌, append-nil}
 use Rattle.std.proofs.lemmas.List.{length-map}
-use Rattle.std.specs.Global.{Vec}
 use Rattle.dvv.specs.declared.Dot.{Dot}
 use Rattle.object.specs.declared.content.Content.{Content}
 use Rattle.object.specs.declared.content.Key.{Key}
@@ -15,17 +14,15 @@ use Rattle.helpers.specs.declared.sig.Entry as helper
 use Rattle.admission.specs.declared.refusal.Refusal.{Refusal}
 use Rattle.hooks.specs.declared.fault.NotSeen.{NotSeen}
 use Rattle.hooks.specs.declared.fault.NameFault.{NameFault}
-use Rattle.hooks.specs.declared.fault.NameFault.TheVariants as name_fault
 use Rattle.hooks.specs.declared.fault.HookFault.{HookFault}
 use Rattle.hooks.specs.Changes as registry
 use Rattle.hooks.specs.Changes.{hook_at}
-use Rattle.hooks.specs.Tables.{ChangesBy, Shown, Shows, Takes, bound_in, hook_in}
+use Rattle.hooks.specs.Tables.{ChangesBy, Shown, Shows, Takes, hook_in}
 use Rattle.journal.specs.declared.entry.Entry.{Entry}
 use Rattle.journal.specs.Brought.{BringsAll, AllShow, all_writes}
 use Rattle.journal.specs.Journals.{IsJournal, MayFollow}
 use Rattle.journal.specs.Replay.{sibling_in, known_in, IsMergeOf}
 use Rattle.peers.specs.declared.peers.Answer.{Answer}
-use Rattle.peers.specs.declared.fault.PeerFault.{PeerFault}
 use Rattle.peers.specs.Calls as peer
 use Rattle.peers.specs.Calls.{Made}
 use Rattle.local.specs.Locals.{LocalView, LocalStep}
@@ -42,27 +39,20 @@ use Rattle.httpask.specs.declared.ask.Call.TheVariants as ask
 use Rattle.httpreply.specs.declared.reply.Bound.{Bound}
 use Rattle.httpreply.specs.declared.reply.Reply.{Reply}
 use Rattle.httpreply.specs.declared.reply.Reply.TheVariants.{Got, Stored, Installed, Removed, Props, Set}
-use Rattle.store.specs.Calls.{Gets, Puts, IsKept, coordinator, list, the_others}
-use Rattle.store.specs.Changes.{Installs, Removes, Binds, Names, IsOfHooks, bindings_of}
+use Rattle.store.specs.Calls.{Gets, Puts, coordinator, list, the_others}
+use Rattle.store.specs.Changes.{Installs, Removes, Binds, Names, bindings_of}
 use Rattle.store.specs.Gives.{Gives, NamesBoth, gets, puts, installs, removes, tells, binds}
 use Rattle.serving.specs.Exchanges.{Answers, Tells}
 use Rattle.serving.specs.Hooks.{FindsAt, NamesAt, TakesAt}
 use Rattle.serving.specs.Journals.{AreJournals, GoOn}
 use Rattle.serving.specs.Past.{Now, past}
+use Rattle.serving.specs.Stores.{FindsIn, NamesIn}
 use Rattle.serving.specs.Reads.{IsCurrent}
-use Rattle.serving.specs.Writes.{IsStored}
 use Rattle.serving.proofs.HookLemmas.{takes_one, finds_one, names_one}
 use Rattle.serving.proofs.JournalLemmas.{go_same, go_far, made_goes}
 use Rattle.serving.proofs.CurrentLemmas.{all_same, read_all, merge_shows, journals_count}
 use Rattle.serving.proofs.PutLemmas.{copies_know}
 use Rattle.serving.proofs.GetLemmas.{resolve_tells}
-
--- what a registry finds and tells
-abbrev pub FindsIn : Shown → List ℕ → ImageKind → Result (Option Program) NotSeen → Shown → Type 0
-FindsIn before bucket kind found after = (after ≡ before) × IfOk found (λ hook. hook ≡ hook_in before bucket kind)
-
-abbrev pub NamesIn : Shown → List ℕ → ImageKind → Result (Option (List ℕ)) NameFault → Shown → Type 0
-NamesIn before bucket kind named after = (after ≡ before) × MatchResult named (λ name. name ≡ bound_in before.bindings bucket kind) (λ fault. fault ≡ name_fault.NoMemory)
 
 -- the first of these changes
 abbrev pub Extends : List registry.Change → List registry.Change → Type 0

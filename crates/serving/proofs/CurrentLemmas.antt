@@ -1,13 +1,11 @@
 -- What is read is what the journals leave.
-use Rattle.std.proofs.Common.{◌≡◌, ℕ, zero, suc, ◌+◌, ◌≤◌, List, [], ◌∷◌, ◌++◌, ap, ◌∙◌, sym, subst, refl, Option, Some, None, Result, Ok, Err, Bool, true, false, cond, ◌||◌, MatchBool, map, length, slice_get, slice_set, ◌==◌}
+use Rattle.std.proofs.Common.{◌≡◌, ℕ, suc, List, [], ◌∷◌, ◌++◌, ap, ◌∙◌, sym, subst, refl, Option, Some, None, Result, Ok, Err, Bool, true, false, cond, ◌||◌, MatchBool, length, slice_get, ◌==◌}
 use Rattle.std.specs.List.{list_any, AllZip}
 use Rattle.std.specs.Option.{option_or}
 use Rattle.dvv.specs.declared.Dot.{Dot}
-use Rattle.dvv.specs.Clock.{covers}
-use Rattle.object.specs.declared.content.Content.{Content}
 use Rattle.object.specs.declared.content.Key.{Key}
 use Rattle.object.specs.Known.{Write, ShowsKnown, current_among, context_of}
-use Rattle.object.specs.State.{State, content_at}
+use Rattle.object.specs.State.{State}
 use Rattle.journal.specs.declared.entry.Entry.{Entry}
 use Rattle.journal.specs.declared.entry.Entry.TheVariants.{Read}
 use Rattle.journal.specs.Brought.{BringsAll, AllShow, all_writes}
@@ -18,7 +16,7 @@ use Rattle.journal.specs.Replay.{first_held, sibling_in, known_in, IsReplay, IsM
 use Rattle.peers.specs.declared.peers.Answer.{Answer}
 use Rattle.peers.specs.declared.fault.PeerFault.{PeerFault}
 use Rattle.peers.specs.declared.fault.PeerFault.TheVariants.{Lost, Refused}
-use Rattle.peers.specs.Calls.{Call, StateOf, Made}
+use Rattle.peers.specs.Calls.{StateOf, Made}
 use Rattle.local.specs.Locals.{ReadsIn, AtVnode, Does, IsLost, LocalView, LocalStep}
 use Rattle.quorum.specs.Gets.{reads, answers, states_of}
 use Rattle.serving.specs.Journals.{AreJournals}

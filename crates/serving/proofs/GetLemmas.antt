@@ -1,11 +1,9 @@
 -- What the answer to a read shows.
-use Rattle.std.proofs.Common.{◌≡◌, ◌⊎◌, inl, inr, ℕ, ◌≤◌, List, [], ◌∷◌, ◌++◌, ap, ◌∙◌, sym, subst, refl, Option, Some, None, Result, Ok, Err, Bool, true, false, MatchBool, length, nat_le, slice_get, ◌↔◌}
-use Rattle.std.specs.Global.{Vec}
+use Rattle.std.proofs.Common.{◌≡◌, ◌⊎◌, inl, inr, ℕ, List, [], ◌∷◌, ◌++◌, ap, ◌∙◌, sym, subst, refl, Option, Some, None, Result, Ok, Err, Bool, true, false, MatchBool, length, nat_le, slice_get, ◌↔◌}
 use Rattle.dvv.specs.declared.Dot.{Dot}
 use Rattle.object.specs.declared.content.Content.{Content}
 use Rattle.object.specs.declared.content.Key.{Key}
 use Rattle.object.specs.State.{State}
-use Rattle.bpfimage.specs.declared.image.ImageKind.{ImageKind}
 use Rattle.bpfimage.specs.declared.image.ImageKind.TheVariants.{Resolver}
 use Rattle.verifier.specs.Program.{Program}
 use Rattle.hookrun.specs.declared.resolving.Resolution.{Resolution}
@@ -29,7 +27,6 @@ use Rattle.serving.specs.Journals.{AreJournals, GoOn}
 use Rattle.serving.specs.Past.{Past}
 use Rattle.serving.specs.Reads.{IsResolved}
 use Rattle.serving.specs.Writes.{IsPutAt}
-use Rattle.serving.proofs.JournalLemmas.{made_goes}
 use Rattle.serving.proofs.CurrentLemmas.{read_answers, replay_read}
 use Rattle.serving.proofs.PutLemmas.{made_split, put_among, put_widened}
 

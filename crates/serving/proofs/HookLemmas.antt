@@ -1,6 +1,5 @@
 -- A registry that shows the changes so far does what these say.
 use Rattle.std.proofs.Common.{◌≡◌, ℕ, List, [], ◌∷◌, ◌++◌, Option, Some, None, Result, Ok, Err, Bool, true, false, ◌&&◌, refl, ap, sym, ◌∙◌, subst, MatchResult, IfOk}
-use Rattle.std.specs.List.{list_all}
 use Rattle.bpfimage.specs.declared.image.ImageKind.{ImageKind}
 use Rattle.verifier.specs.Program.{Program}
 use Rattle.hooks.specs.declared.fault.NotSeen.{NotSeen}
@@ -8,7 +7,7 @@ use Rattle.hooks.specs.declared.fault.NameFault.{NameFault}
 use Rattle.hooks.specs.declared.fault.NameFault.TheVariants as name_fault
 use Rattle.hooks.specs.declared.fault.HookFault.{HookFault}
 use Rattle.hooks.specs.declared.fault.HookFault.TheVariants.{NameUnknown, KindDiffers, NoMemory}
-use Rattle.hooks.specs.Changes.{Change, Install, Remove, Bind, Binding, are_fitting, are_known, is_known, is_fitting, has_kind, has_program, of_kind, bound_at, hook_at, hook_named, program_at}
+use Rattle.hooks.specs.Changes.{Change, Install, Remove, Bind, Binding, are_fitting, are_known, is_known, is_fitting, has_kind, has_program, hook_at, program_at}
 use Rattle.hooks.specs.Tables as tables
 use Rattle.hooks.specs.Tables.{ChangesBy, IsAllowed, Shown, Shows, Takes, bound_in, hook_in, program_in}
 use Rattle.serving.specs.Hooks.{FindsAt, NamesAt, TakesAt, Allows, Refuses}

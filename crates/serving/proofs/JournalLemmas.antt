@@ -1,5 +1,5 @@
 -- What a call leaves of the journals.
-use Rattle.std.proofs.Common.{◌≡◌, ℕ, zero, suc, ◌+◌, List, [], ◌∷◌, ◌++◌, ap, ◌∙◌, sym, subst, refl, Option, Some, None, Result, Ok, Err, Bool, true, false, MatchBool, MatchOption, slice_get, slice_set, ◌==◌, append_assoc, append-nil, ◌↔◌}
+use Rattle.std.proofs.Common.{◌≡◌, ℕ, zero, suc, ◌+◌, List, [], ◌∷◌, ◌++◌, ap, ◌∙◌, sym, subst, refl, Option, Some, None, Result, Ok, Err, Bool, true, false, MatchBool, slice_get, slice_set, ◌==◌, append_assoc, append-nil, ◌↔◌}
 use Rattle.std.specs.List.{list_any}
 use Rattle.dvv.specs.declared.Dot.{Dot}
 use Rattle.object.specs.declared.content.Content.{Content}
@@ -13,7 +13,7 @@ use Rattle.peers.specs.declared.peers.Answer.{Answer}
 use Rattle.peers.specs.declared.fault.PeerFault.{PeerFault}
 use Rattle.peers.specs.declared.fault.PeerFault.TheVariants.{Lost, Refused}
 use Rattle.peers.specs.Calls.{Call, PutAt, MergeAt, StateOf, KeysOf, Made}
-use Rattle.local.specs.Locals.{fresh_from, PutsIn, MergesIn, ReadsIn, KeysIn, AtVnode, Does, IsLost, LocalView, LocalStep}
+use Rattle.local.specs.Locals.{fresh_from, PutsIn, MergesIn, ReadsIn, AtVnode, Does, IsLost, LocalView, LocalStep}
 use Rattle.serving.specs.Journals.{AreJournals, GoesOn, GoOn}
 use Rattle.serving.proofs.Zips.{one_is, set_there, zip_same, zip_far, zip_set}
 

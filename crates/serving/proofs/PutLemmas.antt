@@ -1,5 +1,5 @@
 -- What a write leaves in the journals.
-use Rattle.std.proofs.Common.{◌≡◌, ℕ, zero, suc, ◌+◌, ◌≤◌, List, [], ◌∷◌, ◌++◌, ap, ◌∙◌, sym, subst, refl, arith, Option, Some, None, Result, Ok, Err, Bool, true, false, cond, ◌||◌, ◌&&◌, MatchBool, length, slice_get, count_by, is_ok, ◌==◌, ◌↔◌}
+use Rattle.std.proofs.Common.{◌≡◌, ℕ, ◌+◌, ◌≤◌, List, [], ◌∷◌, ◌++◌, ap, ◌∙◌, sym, subst, refl, arith, Some, Result, Ok, Err, Bool, true, false, cond, ◌||◌, ◌&&◌, length, slice_get, count_by, is_ok, ◌↔◌}
 use Rattle.std.specs.List.{list_any}
 use Rattle.std.proofs.lemmas.List.Folds.{list_any-append}
 use Rattle.std.proofs.lemmas.List.Sums.{sum_by-cons}
@@ -10,18 +10,18 @@ use Rattle.object.specs.declared.content.Key.{Key}
 use Rattle.object.specs.State.{State, is_dot}
 use Rattle.object.proofs.Siblings.{is_dot-same}
 use Rattle.journal.specs.declared.entry.Entry.{Entry}
-use Rattle.journal.specs.declared.entry.Entry.TheVariants.{Put, Merge, Read}
+use Rattle.journal.specs.declared.entry.Entry.TheVariants.{Put, Merge}
 use Rattle.journal.specs.Entries.{tells}
 use Rattle.journal.specs.Keys.{same_key}
 use Rattle.journal.specs.Journals.{IsJournal, MayFollow}
 use Rattle.journal.specs.Logs.{Log, with_entry}
-use Rattle.journal.specs.Replay.{known_in, IsReplay}
+use Rattle.journal.specs.Replay.{known_in}
 use Rattle.journal.proofs.Keyed.{same_itself}
 use Rattle.peers.specs.declared.peers.Answer.{Answer}
 use Rattle.peers.specs.declared.fault.PeerFault.{PeerFault}
 use Rattle.peers.specs.Calls.{Call, PutAt, MergeAt, StateOf, Made}
 use Rattle.local.specs.Locals.{PutsIn, MergesIn, LocalView, LocalStep}
-use Rattle.quorum.specs.Puts.{merges, copies, StoresCopies}
+use Rattle.quorum.specs.Puts.{merges, StoresCopies}
 use Rattle.serving.specs.Journals.{AreJournals, GoesOn, GoOn}
 use Rattle.serving.specs.Writes.{IsPutAt, knows}
 use Rattle.serving.proofs.JournalLemmas.{goes_far, was_made, step_goes, made_goes}

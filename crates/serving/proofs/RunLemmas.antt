@@ -1,26 +1,24 @@
 -- What the exchanges of a connection do to a store of one thread, told by its past.
-use Rattle.std.proofs.Common.{◌≡◌, ℕ, List, [], ◌∷◌, ◌++◌, ap, ◌∙◌, sym, subst, refl, Option, Some, None, Result, Ok, Err, IfOk, OnErr, ◌↔◌, append_assoc}
+use Rattle.std.proofs.Common.{◌≡◌, ℕ, List, [], ◌∷◌, ◌++◌, ap, ◌∙◌, sym, subst, Option, Some, None, Result, Ok, Err, IfOk, OnErr, ◌↔◌, append_assoc}
 use Rattle.dvv.specs.declared.Dot.{Dot}
 use Rattle.object.specs.declared.content.Key.{Key}
 use Rattle.object.specs.Known.{Write, ShowsKnown, current_among, context_of}
 use Rattle.object.specs.State.{State}
 use Rattle.bpfimage.specs.declared.image.ImageKind.{ImageKind}
 use Rattle.hooks.specs.Changes.{Change, hook_at}
-use Rattle.hooks.specs.Tables.{ChangesBy, Shown, Shows, Takes, hook_in}
+use Rattle.hooks.specs.Tables.{ChangesBy, Shown, Shows, hook_in}
 use Rattle.journal.specs.declared.entry.Entry.{Entry}
 use Rattle.journal.specs.Brought.{BringsAll, AllShow, all_writes}
 use Rattle.journal.specs.Journals.{IsJournal, MayFollow}
 use Rattle.journal.specs.Replay.{sibling_in, known_in, IsMergeOf}
-use Rattle.local.specs.Locals.{LocalStep}
 use Rattle.httpask.specs.declared.ask.Call.{Call}
 use Rattle.httpreply.specs.declared.reply.Reply.{Reply}
-use Rattle.httpfront.specs.Dialogue.{Exchange, BreaksOff, Completes, Converses, Does, Runs, call_of}
-use Rattle.place.specs.Places.{copies_of}
-use Rattle.store.specs.Gives.{Gives}
+use Rattle.httpfront.specs.Dialogue.{Exchange, Talks, answers_of, BreaksOff, Completes, Does, Runs, call_of}
 use Rattle.serving.specs.Exchanges.{Answers, Follows, Serves, ServesFront}
-use Rattle.serving.specs.Journals.{AreJournals, GoOn}
+use Rattle.serving.specs.Journals.{AreJournals}
 use Rattle.serving.specs.Past.{Now, past}
-use Rattle.serving.proofs.AnswerLemmas.{FindsIn, NamesIn, call_leads, none_made}
+use Rattle.serving.specs.Stores.{IsOfOneThread}
+use Rattle.serving.proofs.AnswerLemmas.{call_leads, none_made}
 use Rattle.serving.proofs.JournalLemmas.{go_same, go_far}
 
 follows_far : (a b c : Now) (first second third : List Change) → Follows a b first second → Follows b c second third → Follows a c first third
@@ -38,11 +36,7 @@ module _ (add : (changes : List Change) (change : Change) (old new : Shown) → 
     (siblings : (k : Key) (journal : List Entry) (known : List Write) → BringsAll k journal known → (d : Dot) → sibling_in journal k d ≡ current_among known d)
     (clock : (vnode : ℕ) (k : Key) (journal : List Entry) (known : List Write) → IsJournal vnode journal → BringsAll k journal known → (d : Dot) → known_in journal k d ≡ context_of known d)
     (merges : (k : Key) (states : List State) (knowns : List (List Write)) (merge : State) → AllShow states knowns → IsMergeOf k states merge → ShowsKnown merge (all_writes knowns))
-    {B : Type 0} (now_of : B → Now) where
-  -- what the store gives to a call
-  abbrev pub Given : B → Call → Reply → B → Type 0
-  Given old call reply new = Gives LocalStep FindsIn NamesIn Takes (now_of old) (now_of new) call reply
-
+    {B : Type 0} (Given : B → Call → Reply → B → Type 0) (counted : B → ℕ) (now_of : B → Now) (is_store : IsOfOneThread Given counted now_of) where
   same_store : (old new : B) (changes : List Change) → Shows changes (now_of old).hooks → AreJournals (now_of old).peers.logs → new ≡ old → Follows (now_of old) (now_of new) changes changes
   same_store old new changes shows are is =
       let same : Follows (now_of old) (now_of old) changes changes = record { made = (none_made changes).0; behind = (none_made changes).1; shows = shows; are = are; go_on = go_same (now_of old).peers.logs } in
@@ -52,7 +46,7 @@ module _ (add : (changes : List Change) (change : Change) (old new : Shown) → 
       → (after : List Change) × Does Answers (past (now_of old) changes) call reply (past (now_of new) after) × Follows (now_of old) (now_of new) changes after
   does_lead old new changes None reply shows are is = (changes, ap (λ (s : B). past (now_of s) changes) is, same_store old new changes shows are is)
   does_lead old new changes (Some call) reply shows are given =
-      let lead = call_leads add at_changes more siblings clock merges (now_of old) (now_of new) changes shows are call reply given in
+      let lead = call_leads add at_changes more siblings clock merges (now_of old) (now_of new) changes shows are call reply (is_store.calls old new call reply given) in
       (lead.0, lead.1, record { made = lead.2.0; behind = lead.2.1; shows = lead.3; are = lead.4.0; go_on = lead.4.1 })
 
   runs_lead : (old new : B) (changes : List Change) (xs : List Exchange) → Shows changes (now_of old).hooks → AreJournals (now_of old).peers.logs → Runs Given old xs new
@@ -65,16 +59,16 @@ module _ (add : (changes : List Change) (change : Change) (old new : Shown) → 
 
   module _ (bytes before : List ℕ) (old new : B) (changes : List Change) (shows : Shows changes (now_of old).hooks) (are : AreJournals (now_of old).peers.logs) (written : Option (List ℕ)) where
     -- a whole connection
-    pub completes_lead : (count : ℕ) → Completes Given (copies_of (now_of old).placement.vnodes) bytes old new before written count → Serves bytes (now_of old) (now_of new) changes before written count
-    completes_lead count (xs, after, talk, over, wrote, counted) =
+    pub completes_lead : (count : ℕ) → Completes Given (counted old) bytes old new before written count → Serves bytes (now_of old) (now_of new) changes before written count
+    completes_lead count (xs, after, talk, over, wrote, total) =
         let lead = runs_lead old new changes xs shows are talk.runs in
-        (lead.0, (xs, after, record { talks = talk.talks; runs = lead.1 }, over, wrote, counted), lead.2)
+        (lead.0, (xs, after, record { talks = subst (λ n. Talks n bytes xs after) (is_store.counts old) talk.talks; runs = lead.1 }, over, subst (λ n. written ≡ Some (before ++ answers_of n xs)) (is_store.counts old) wrote, total), lead.2)
 
     -- one that broke off
-    pub breaks_lead : BreaksOff Given (copies_of (now_of old).placement.vnodes) bytes old new before written → ServesFront bytes (now_of old) (now_of new) changes before written
+    pub breaks_lead : BreaksOff Given (counted old) bytes old new before written → ServesFront bytes (now_of old) (now_of new) changes before written
     breaks_lead (xs, after, talk, front, rest, gathered, wrote) =
         let lead = runs_lead old new changes xs shows are talk.runs in
-        (lead.0, (xs, after, record { talks = talk.talks; runs = lead.1 }, front, rest, gathered, wrote), lead.2)
+        (lead.0, (xs, after, record { talks = subst (λ n. Talks n bytes xs after) (is_store.counts old) talk.talks; runs = lead.1 }, front, rest, subst (λ n. answers_of n xs ≡ front ++ rest) (is_store.counts old) gathered, wrote), lead.2)
 
 pub if_ok_on : {T E : Type 0} (result : Result T E) (P Q : T → Type 0) → ((x : T) → P x → Q x) → IfOk result P → IfOk result Q
 if_ok_on (Ok x) P Q on h = on x h

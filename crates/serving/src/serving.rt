@@ -6,14 +6,13 @@ ghost use Rattle.hooks.specs.Tables.{Shows};
 ghost use Rattle.httpfront.specs.Device.{HasRisen};
 ghost use Rattle.serving.specs.Exchanges.{Serves, ServesFront};
 ghost use Rattle.serving.specs.Journals.{AreJournals};
-ghost use Rattle.store.specs.View.{shown};
+ghost use Rattle.serving.specs.Past.{Now};
+ghost use Rattle.serving.specs.Stores.{IsOfOneThread};
 
-use hooks::Registry;
-use httpfront::{Front, FrontFault, Sink, Source};
-use local::Local;
-use store::Store;
+use httpfront::{Backend, Front, FrontFault, Sink, Source};
 
-/// Answers the requests of a connection until it ends, as [`Front::serve`] does, on the vnodes and hooks of one thread. The count of
+/// Answers the requests of a connection until it ends, as [`Front::serve`] does, on a store over the vnodes and the
+/// hooks of one thread, as `Store<Local, Registry>` is one. The count of
 /// requests stays at its greatest.
 ///
 /// Whatever the changes of the hooks so far are, each answer is that of the store with these changes and those that were answered on the
@@ -22,22 +21,22 @@ use store::Store;
 /// many vnodes as were asked for know it.
 ///
 /// After an error the same holds of the exchanges that there were, and a front of their answers was written.
-pub fn serve<S: Source, W: Sink>(
+pub fn serve<S: Source, W: Sink, B: Backend>(
     front: &mut Front,
     source: &mut S,
     sink: &mut W,
-    store: &mut Store<Local, Registry>,
+    store: &mut B,
 ) -> Result<u64, FrontFault>
     // All requests were answered, each by what the store was at that moment.
-    ensures answers { IfOk result (λ count. (bytes before : List ℕ) (changes : List Change)
+    ensures answers { IfOk result (λ count. (now : B → Now) (bytes before : List ℕ) (changes : List Change) → IsOfOneThread B.gives B.copies now
         → S.remaining source.old ≡ Some bytes → W.contents sink.old ≡ Some before
-        → Shows changes store.old.hooking.hooks → AreJournals store.old.peers.logs
-        → Serves bytes (shown store.old.peers store.old.hooking.hooks store.old.hooking.table.listed store.old.placement) (shown store.new.peers store.new.hooking.hooks store.new.hooking.table.listed store.new.placement) changes before (W.contents sink.new) count) }
+        → Shows changes (now store.old).hooks → AreJournals (now store.old).peers.logs
+        → Serves bytes (now store.old) (now store.new) changes before (W.contents sink.new) count) }
     // Where it breaks off, those of a front of the bytes were, and a front of the answers was written.
-    ensures breaks { OnErr result ((bytes before : List ℕ) (changes : List Change)
+    ensures breaks { OnErr result ((now : B → Now) (bytes before : List ℕ) (changes : List Change) → IsOfOneThread B.gives B.copies now
         → S.remaining source.old ≡ Some bytes → W.contents sink.old ≡ Some before
-        → Shows changes store.old.hooking.hooks → AreJournals store.old.peers.logs
-        → ServesFront bytes (shown store.old.peers store.old.hooking.hooks store.old.hooking.table.listed store.old.placement) (shown store.new.peers store.new.hooking.hooks store.new.hooking.table.listed store.new.placement) changes before (W.contents sink.new)) }
+        → Shows changes (now store.old).hooks → AreJournals (now store.old).peers.logs
+        → ServesFront bytes (now store.old) (now store.new) changes before (W.contents sink.new)) }
     ensures read_fault { IfErr result (λ fault. fault ≡ FrontFault.Read → HasRisen (S.failures source.old) (S.failures source.new)) }
     ensures write_fault { IfErr result (λ fault. fault ≡ FrontFault.Write → HasRisen (W.failures sink.old) (W.failures sink.new)) }
 {
