@@ -25,7 +25,7 @@ fn connect(
     sink: &mut FailSink,
 ) -> Result<Result<u64, FrontFault>, AllocError> {
     let mut store = open(alloc)?;
-    Ok(front.serve(source, sink, &mut store))
+    Ok(serving::serve(front, source, sink, &mut store))
 }
 
 /// Whether each of so many requests is answered, where the bytes come in and go out in pieces of at most so many.
