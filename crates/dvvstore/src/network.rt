@@ -3,10 +3,17 @@
 use commands::failure::Failure;
 use commands::server::Server;
 use helpers::Table;
+use hooks::Registry;
+use local::Local;
+use quorum::Hooking;
 use std::alloc::Global;
 use std::io::Write;
 use std::net::{Net, TcpListener, TcpStream};
 use std::rt::Clock;
+use store::Store;
+
+/// How many vnodes there are.
+const VNODES: u32 = 3;
 
 /// The network of the system.
 #[derive(Drop)]
@@ -34,9 +41,12 @@ impl<R: Clock + Net<Listener = TcpListener, Stream = TcpStream>> Server for Netw
         count: Option<u32>,
         out: &mut O,
     ) -> Result<(), Failure> {
-        let Ok(mut store) = listener::open(alloc, table, self.incarnation()) else {
+        let Ok(vnodes) = Local::open(alloc, VNODES, self.incarnation()) else {
             return Err(Failure::Unreadable);
         };
+        let placement = vnodes.placement();
+        let hooking = Hooking::new(alloc, Registry::new(alloc), table);
+        let mut store = Store::new(alloc, vnodes, hooking, placement);
         listener::serve(self.rt, alloc, &mut store, addr, count, out)?;
         Ok(())
     }

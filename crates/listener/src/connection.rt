@@ -26,7 +26,7 @@ pub(crate) fn converse<B: Backend>(stream: &TcpStream, front: &mut Front, backen
     let mut source = ReadSource::new(stream);
     let mut sink = WriteSink::new(stream);
     // However it ended, the connection is over, and the next one comes.
-    let _ = front.serve(&mut source, &mut sink, backend);
+    let _ = serving::serve(front, &mut source, &mut sink, backend);
     hang_up(stream);
 }
 

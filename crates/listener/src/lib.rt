@@ -3,9 +3,9 @@
 
 mod connection;
 mod door;
-mod serving;
 mod start;
+mod visiting;
 
 pub use door::{Door, NoConnection};
-pub use serving::{MOST_FAILURES, Stopped, serve_all};
-pub use start::{open, serve};
+pub use start::serve;
+pub use visiting::{MOST_FAILURES, Stopped, serve_all};

@@ -1,41 +1,14 @@
-//! The store with its listener.
+//! A store with its listener.
 
-ghost use Rattle.std.specs.Prelude.{◌≡◌, ◌++◌, ◌∷◌, [], ℕ, List, IfOk, OnOk, None, codes};
+ghost use Rattle.std.specs.Prelude.{◌≡◌, ◌++◌, ◌∷◌, [], ℕ, List, OnOk, codes};
 ghost use Rattle.std.specs.Io.KnownBytes.{Appends};
-ghost use Rattle.hooks.specs.Tables.{Shows};
-ghost use Rattle.local.specs.Locals.{fresh};
 
-use crate::serving::serve_all;
-use helpers::Table;
-use hooks::Registry;
+use crate::visiting::serve_all;
 use httpfront::{Backend, Front};
-use local::Local;
-use quorum::Hooking;
-use std::alloc::{AllocError, Global};
+use std::alloc::Global;
 use std::io;
 use std::io::Write;
 use std::net::{Net, TcpListener, TcpStream};
-use store::Store;
-
-/// How many vnodes there are.
-const VNODES: u32 = 3;
-
-/// Three vnodes of an incarnation, with nothing written, and no hook; hooks may call the helpers of the table.
-pub fn open(
-    alloc: Global,
-    table: Table,
-    incarnation: u16,
-) -> Result<Store<Local, Registry>, AllocError>
-    ensures vnodes { IfOk result (λ store. store.peers ≡ record { logs = fresh incarnation 3; first = None; lost = []; calls = 0; stamp = 0; failures = 0 }) }
-    ensures hooks { IfOk result (λ store. Shows [] store.hooking.hooks) }
-    ensures table { IfOk result (λ store. store.hooking.table ≡ table) }
-    ensures placement { IfOk result (λ store. store.placement ≡ record { vnodes = 3; first = None }) }
-{
-    let vnodes = Local::open(alloc, VNODES, incarnation)?;
-    let placement = vnodes.placement();
-    let hooking = Hooking::new(alloc, Registry::new(alloc), table);
-    Ok(Store::new(alloc, vnodes, hooking, placement))
-}
 
 /// Binds the address and tells on `out` which one it is.
 fn listen<R: Net<Listener = TcpListener, Stream = TcpStream>, O: Write>(

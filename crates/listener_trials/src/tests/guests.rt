@@ -1,8 +1,8 @@
 //! Connections in memory.
 
-use helpers::Table;
+use crate::tests::stores::open;
 use httpfront::{Backend, FailSink, FailSource, Front};
-use listener::{Door, NoConnection, Stopped, open, serve_all};
+use listener::{Door, NoConnection, Stopped, serve_all};
 use std::alloc::Global;
 use std::test::Fail;
 
@@ -73,7 +73,7 @@ fn over(
         told: Vec::new(alloc),
     };
     let mut front = Front::new(alloc)?;
-    let mut store = open(alloc, Table::new(alloc), 7)?;
+    let mut store = open(alloc, 7)?;
     let ended = serve_all(&mut guests, &mut front, &mut store, count);
     Ok((ended, guests.told))
 }

@@ -1,8 +1,8 @@
 //! A connection over loopback.
 
-use helpers::Table;
+use crate::tests::stores::open;
 use httpfront::Front;
-use listener::{open, serve_all};
+use listener::serve_all;
 use std::io;
 use std::io::{Read, Write};
 use std::net::{Shutdown, TcpListener, TcpStream};
@@ -17,7 +17,7 @@ fn over_loopback(rt: HostRuntime) -> Result<(), Fail> {
     client.write_all(b"GET /ping HTTP/1.1\r\nHost: h\r\n\r\n")?;
     client.shutdown(Shutdown::Write)?;
     let mut front = Front::new(alloc)?;
-    let mut store = open(alloc, Table::new(alloc), 0)?;
+    let mut store = open(alloc, 0)?;
     let ended = serve_all(&mut listener, &mut front, &mut store, Some(1));
     let told = io::read_to_string(alloc, client)?;
     assert_eq!(rt;

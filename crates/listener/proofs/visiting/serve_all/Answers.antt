@@ -1,6 +1,6 @@
 use Rattle.std.proofs.Common.{◌+◌, arith}
 use Rattle.listener.proofs.VisitLemmas.{serves_more}
-use Rattle.listener.proofs.serving.serve_all.Goals as goal
+use Rattle.listener.proofs.visiting.serve_all.Goals as goal
 
 pub loop-left-preserved-in-Ok : goal.loop-left-preserved-in-Ok
 loop-left-preserved-in-Ok g c =

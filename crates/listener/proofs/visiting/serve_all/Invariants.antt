@@ -1,6 +1,6 @@
 use Rattle.std.proofs.Common.{◌≡◌, ℕ, ◌+◌, ◌-◌, ◌*◌, ◌≤◌}
 use Rattle.listener.specs.Visits.{Serves, wanted}
-use Rattle.listener.proofs.serving.serve_all.Given as goal
+use Rattle.listener.proofs.visiting.serve_all.Given as goal
 
 -- so many connections were served, and the others are left
 abbrev pub invariant-loop-left : goal.invariant-loop-left
