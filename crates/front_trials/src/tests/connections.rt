@@ -50,10 +50,10 @@ const STEPS: [usize; 6] = [1, 2, 3, 61, 200, usize::MAX];
 fn in_pieces(alloc: Global, rows: &[Row]) -> Result<usize, Fail> {
     let (asked, told) = bytes_of(alloc, rows)?;
     let mut front = Front::new(alloc)?;
-    let mut answered = 0;
+    let mut answered = 0usize;
     for step in &STEPS {
         if is_answered(alloc, &mut front, &asked, &told, rows.len(), *step)? {
-            answered += 1;
+            answered = answered.saturating_add(1);
         }
     }
     Ok(answered)
@@ -132,10 +132,10 @@ fn is_part(alloc: Global, front: &mut Front, asked: &[u8], told: &[u8]) -> Resul
 fn closing(alloc: Global, rows: &[Row]) -> Result<(usize, usize), Fail> {
     let (asked, told) = bytes_of(alloc, rows)?;
     let mut front = Front::new(alloc)?;
-    let mut rightly = 0;
+    let mut rightly = 0usize;
     for end in 0..asked.len() {
         if is_part(alloc, &mut front, &asked[..end], &told)? {
-            rightly += 1;
+            rightly = rightly.saturating_add(1);
         }
     }
     Ok((rightly, asked.len()))
@@ -179,14 +179,14 @@ fn has_ended(back: Result<u64, FrontFault>, read: Option<u64>, failures: u64) ->
 fn failing(alloc: Global, rows: &[Row]) -> Result<[u64; 2], Fail> {
     let (asked, told) = bytes_of(alloc, rows)?;
     let mut front = Front::new(alloc)?;
-    let mut reads = 0;
-    let mut writes = 0;
+    let mut reads = 0u64;
+    let mut writes = 0u64;
     for number in 0..40u64 {
         if is_front(alloc, &mut front, &asked, &told, Some(number), None)? {
-            reads += 1;
+            reads = reads.saturating_add(1);
         }
         if is_front(alloc, &mut front, &asked, &told, None, Some(number))? {
-            writes += 1;
+            writes = writes.saturating_add(1);
         }
     }
     Ok([reads, writes])
