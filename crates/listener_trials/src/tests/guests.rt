@@ -10,8 +10,10 @@ use std::test::Fail;
 #[derive(Drop)]
 struct Guests<'a> {
     alloc: Global,
-    /// What the connections to come bring.
-    coming: &'a [&'a [u8]],
+    /// What the connections bring.
+    guests: &'a [&'a [u8]],
+    /// How many of them came.
+    came: usize,
     /// How often no connection comes before each of them.
     misses: u32,
     /// How often none came since the last.
@@ -30,15 +32,15 @@ impl Door for Guests<'_> {
         front: &mut Front,
         backend: &mut B,
     ) -> Result<(), NoConnection> {
-        let Some((bytes, coming)) = self.coming.split_first() else {
+        let Some(bytes) = self.guests.get(self.came) else {
             return Err(NoConnection);
         };
         if self.missed < self.misses {
-            self.missed += 1;
+            self.missed = self.missed.saturating_add(1);
             return Err(NoConnection);
         }
         self.missed = 0;
-        self.coming = coming;
+        self.came = self.came.saturating_add(1);
         let mut source = FailSource::new(bytes, 7, None);
         let mut sink = FailSink::new(self.alloc, usize::MAX, None);
         let _ = front.serve(&mut source, &mut sink, backend);
@@ -67,7 +69,8 @@ fn over(
 ) -> Result<(Result<(), Stopped>, Vec<u8>), Fail> {
     let mut guests = Guests {
         alloc,
-        coming: &COMING,
+        guests: &COMING,
+        came: 0,
         misses,
         missed: 0,
         told: Vec::new(alloc),

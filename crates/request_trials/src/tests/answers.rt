@@ -1,6 +1,6 @@
 //! The answers of the table, byte for byte.
 
-use super::replies::{FIRST, faulty, plain, text_of};
+use super::replies::{FIRST, delete, expect, expect_plain};
 use abi::BadAnswer;
 use admission::Refusal as Unfit;
 use bpfimage::{FormRule, ImageFault};
@@ -18,17 +18,22 @@ use vnode::VnodeFault;
 
 #[test]
 fn pings(rt: HostRuntime) -> Result<(), Fail> {
-    let got = text_of(rt.alloc(), &Ask::Ping, &Reply::Nothing, false)?;
-    assert_eq!(rt;
-        got.as_str(),
-        "HTTP/1.1 200 OK\r\nContent-Type: text/plain\r\nContent-Length: 2\r\n\r\nOK"
-    );
-    let last = text_of(rt.alloc(), &Ask::Ping, &Reply::Nothing, true)?;
-    assert_eq!(rt;
-        last.as_str(),
-        "HTTP/1.1 200 OK\r\nContent-Type: text/plain\r\nConnection: close\r\nContent-Length: 2\r\n\r\nOK"
-    );
-    Ok(())
+    expect(
+        &rt,
+        rt.alloc(),
+        &Ask::Ping,
+        &Reply::Nothing,
+        false,
+        "HTTP/1.1 200 OK\r\nContent-Type: text/plain\r\nContent-Length: 2\r\n\r\nOK",
+    )?;
+    expect(
+        &rt,
+        rt.alloc(),
+        &Ask::Ping,
+        &Reply::Nothing,
+        true,
+        "HTTP/1.1 200 OK\r\nContent-Type: text/plain\r\nConnection: close\r\nContent-Length: 2\r\n\r\nOK",
+    )
 }
 
 /// What a request is told that is refused without the store.
@@ -70,10 +75,9 @@ const REFUSALS: [(Refusal, &str, &str); 17] = [
 
 #[test]
 fn refused_requests(rt: HostRuntime) -> Result<(), Fail> {
-    for (refusal, status, line) in REFUSALS {
-        let got = text_of(rt.alloc(), &Ask::Refused(refusal), &Reply::Nothing, false)?;
-        let want = plain(rt.alloc(), status, line)?;
-        assert_eq!(rt; got.as_str(), want.as_str(), "{line}");
+    for (refusal, status, line) in &REFUSALS {
+        let ask = Ask::Refused(*refusal);
+        expect_plain(&rt, rt.alloc(), &ask, &Reply::Nothing, status, line)?;
     }
     Ok(())
 }
@@ -126,10 +130,10 @@ const FAULTS: [(QuorumFault, &str, &str); 14] = [
 
 #[test]
 fn puts_without_an_answer(rt: HostRuntime) -> Result<(), Fail> {
-    for (fault, status, line) in FAULTS {
-        let got = faulty(rt.alloc(), fault)?;
-        let want = plain(rt.alloc(), status, line)?;
-        assert_eq!(rt; got.as_str(), want.as_str(), "{line}");
+    let ask = delete(rt.alloc())?;
+    for (fault, status, line) in &FAULTS {
+        let reply = Reply::Stored(Err(*fault));
+        expect_plain(&rt, rt.alloc(), &ask, &reply, status, line)?;
     }
     Ok(())
 }
@@ -200,33 +204,32 @@ fn removal(alloc: Global) -> Result<Ask, AllocError> {
 #[test]
 fn images_that_are_not_let_in(rt: HostRuntime) -> Result<(), Fail> {
     let ask = removal(rt.alloc())?;
-    for (refusal, status, line) in UNFIT {
-        let got = text_of(rt.alloc(), &ask, &Reply::Installed(Err(refusal)), false)?;
-        let want = plain(rt.alloc(), status, line)?;
-        assert_eq!(rt; got.as_str(), want.as_str(), "{line}");
+    for (refusal, status, line) in &UNFIT {
+        let reply = Reply::Installed(Err(*refusal));
+        expect_plain(&rt, rt.alloc(), &ask, &reply, status, line)?;
     }
     Ok(())
 }
 
-/// A change that a store has made.
+/// What a store says of a change.
 #[derive(Clone, Copy)]
-enum Made {
-    Install,
-    Remove,
-    Set,
-    Store,
+enum Said {
+    Installed,
+    Removed(Result<(), HookFault>),
+    Set(Result<(), HookFault>),
+    Stored,
+    Unread(NameFault),
 }
 
-/// The answer to a change that was made.
-fn text_of_made(alloc: Global, made: Made, ends: bool) -> Result<String, AllocError> {
-    let ask = removal(alloc)?;
-    let reply = match made {
-        Made::Install => Reply::Installed(Ok(())),
-        Made::Remove => Reply::Removed(Ok(())),
-        Made::Set => Reply::Set(Ok(())),
-        Made::Store => Reply::Stored(Ok(FIRST)),
-    };
-    text_of(alloc, &ask, &reply, ends)
+/// The reply that says so.
+fn reply_of(said: Said) -> Reply {
+    match said {
+        Said::Installed => Reply::Installed(Ok(())),
+        Said::Removed(result) => Reply::Removed(result),
+        Said::Set(result) => Reply::Set(result),
+        Said::Stored => Reply::Stored(Ok(FIRST)),
+        Said::Unread(fault) => Reply::Props(Err(fault)),
+    }
 }
 
 /// The answer to what is done, where the connection goes on, and where it ends.
@@ -234,15 +237,15 @@ const DONE: &str = "HTTP/1.1 204 No Content\r\n\r\n";
 
 const LAST: &str = "HTTP/1.1 204 No Content\r\nConnection: close\r\n\r\n";
 
-const MADE: [(Made, bool, &str); 7] = [
-    (Made::Install, false, DONE),
-    (Made::Remove, false, DONE),
-    (Made::Set, false, DONE),
-    (Made::Install, true, LAST),
-    (Made::Remove, true, LAST),
-    (Made::Set, true, LAST),
+const MADE: [(Said, bool, &str); 7] = [
+    (Said::Installed, false, DONE),
+    (Said::Removed(Ok(())), false, DONE),
+    (Said::Set(Ok(())), false, DONE),
+    (Said::Installed, true, LAST),
+    (Said::Removed(Ok(())), true, LAST),
+    (Said::Set(Ok(())), true, LAST),
     (
-        Made::Store,
+        Said::Stored,
         false,
         "HTTP/1.1 204 No Content\r\nX-Riak-Tag: 0-1\r\n\r\n",
     ),
@@ -250,82 +253,103 @@ const MADE: [(Made, bool, &str); 7] = [
 
 #[test]
 fn changes_that_are_made(rt: HostRuntime) -> Result<(), Fail> {
-    for &(made, ends, want) in &MADE {
-        let text = text_of_made(rt.alloc(), made, ends)?;
-        assert_eq!(rt; text.as_str(), want);
+    let ask = removal(rt.alloc())?;
+    for (said, ends, want) in &MADE {
+        expect(&rt, rt.alloc(), &ask, &reply_of(*said), *ends, want)?;
     }
     Ok(())
 }
+
+const UNMADE: [(Said, &str, &str); 7] = [
+    (
+        Said::Removed(Err(HookFault::NameUnknown)),
+        "404 Not Found",
+        "G1",
+    ),
+    (
+        Said::Removed(Err(HookFault::NoMemory)),
+        "500 Internal Server Error",
+        "E1",
+    ),
+    (
+        Said::Set(Err(HookFault::NameUnknown)),
+        "422 Unprocessable Entity",
+        "G1",
+    ),
+    (
+        Said::Set(Err(HookFault::KindDiffers)),
+        "422 Unprocessable Entity",
+        "G2",
+    ),
+    (
+        Said::Set(Err(HookFault::NoMemory)),
+        "500 Internal Server Error",
+        "E1",
+    ),
+    (
+        Said::Unread(NameFault::NotSeen),
+        "500 Internal Server Error",
+        "G3",
+    ),
+    (
+        Said::Unread(NameFault::NoMemory),
+        "500 Internal Server Error",
+        "E1",
+    ),
+];
 
 #[test]
 fn changes_that_are_refused(rt: HostRuntime) -> Result<(), Fail> {
     let ask = removal(rt.alloc())?;
-    let rows = [
-        (
-            Reply::Removed(Err(HookFault::NameUnknown)),
-            "404 Not Found",
-            "G1",
-        ),
-        (
-            Reply::Removed(Err(HookFault::NoMemory)),
-            "500 Internal Server Error",
-            "E1",
-        ),
-        (
-            Reply::Set(Err(HookFault::NameUnknown)),
-            "422 Unprocessable Entity",
-            "G1",
-        ),
-        (
-            Reply::Set(Err(HookFault::KindDiffers)),
-            "422 Unprocessable Entity",
-            "G2",
-        ),
-        (
-            Reply::Set(Err(HookFault::NoMemory)),
-            "500 Internal Server Error",
-            "E1",
-        ),
-        (
-            Reply::Props(Err(NameFault::NotSeen)),
-            "500 Internal Server Error",
-            "G3",
-        ),
-        (
-            Reply::Props(Err(NameFault::NoMemory)),
-            "500 Internal Server Error",
-            "E1",
-        ),
-    ];
-    for (reply, status, line) in rows {
-        let got = text_of(rt.alloc(), &ask, &reply, false)?;
-        let want = plain(rt.alloc(), status, line)?;
-        assert_eq!(rt; got.as_str(), want.as_str(), "{line}");
+    for (said, status, line) in &UNMADE {
+        expect_plain(&rt, rt.alloc(), &ask, &reply_of(*said), status, line)?;
     }
     Ok(())
 }
 
+/// A read of which hooks are bound.
+fn props(alloc: Global) -> Result<Ask, AllocError> {
+    let bucket = Bytes::from_slice(alloc, b"b")?;
+    Ok(Ask::Call(Call::ReadProps { bucket }, Form::Text))
+}
+
+/// Both hooks bound.
+fn both(alloc: Global) -> Result<Reply, AllocError> {
+    let precommit = Bytes::from_slice(alloc, b"no")?;
+    let resolver = Bytes::from_slice(alloc, b"take")?;
+    Ok(Reply::Props(Ok(Bound {
+        precommit: Some(precommit),
+        resolver: Some(resolver),
+    })))
+}
+
 #[test]
-fn properties(rt: HostRuntime) -> Result<(), Fail> {
-    let bucket = Bytes::from_slice(rt.alloc(), b"b")?;
-    let ask = Ask::Call(Call::ReadProps { bucket }, Form::Text);
+fn unbound_properties(rt: HostRuntime) -> Result<(), Fail> {
+    let ask = props(rt.alloc())?;
     let none = Reply::Props(Ok(Bound {
         precommit: None,
         resolver: None,
     }));
-    let got = text_of(rt.alloc(), &ask, &none, false)?;
-    assert_eq!(rt;
-        got.as_str(),
-        "HTTP/1.1 200 OK\r\nContent-Type: application/json\r\nContent-Length: 72\r\n\r\n{\"props\":{\"allow_mult\":true,\"n_val\":3,\"precommit\":null,\"resolver\":null}}"
-    );
-    let both = Reply::Props(Ok(Bound {
-        precommit: Some(Bytes::from_slice(rt.alloc(), b"no")?),
-        resolver: Some(Bytes::from_slice(rt.alloc(), b"take")?),
-    }));
-    let got = text_of(rt.alloc(), &ask, &both, false)?;
-    assert_eq!(rt;
-        got.as_str(),
-        "HTTP/1.1 200 OK\r\nContent-Type: application/json\r\nContent-Length: 74\r\n\r\n{\"props\":{\"allow_mult\":true,\"n_val\":3,\"precommit\":\"no\",\"resolver\":\"take\"}}"
-    );
-    Ok(())
+    expect(
+        &rt,
+        rt.alloc(),
+        &ask,
+        &none,
+        false,
+        "HTTP/1.1 200 OK\r\nContent-Type: application/json\r\nContent-Length: 72\r\n\r\n{\"props\":{\"allow_mult\":true,\"n_val\":3,\"precommit\":null,\"resolver\":null}}",
+    )
+}
+
+#[test]
+fn bound_properties(rt: HostRuntime) -> Result<(), Fail> {
+    let ask = props(rt.alloc())?;
+    let reply = both(rt.alloc())?;
+    expect(
+        &rt,
+        rt.alloc(),
+        &ask,
+        &reply,
+        false,
+        "HTTP/1.1 200 OK\r\nContent-Type: application/json\r\nContent-Length: 74\r\n\r\n{\"props\":{\"allow_mult\":true,\"n_val\":3,\"precommit\":\"no\",\"resolver\":\"take\"}}",
+    )
 }

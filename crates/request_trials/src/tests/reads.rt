@@ -1,72 +1,67 @@
 //! The answers to reads of a key: one sibling, several, and one by its tag.
 
-use super::replies::{got, read, state_of, text_of, value};
+use super::replies::{Shown, expect, expect_got, read_shown, state_of, text_of, value};
 use dvv::Clock;
-use httpask::Form;
 use httpreply::Reply;
-use object::{Bytes, Content, KeyState};
-use std::alloc::Global;
+use object::{Content, KeyState};
+use std::alloc::{AllocError, Global};
+use std::process::Abort;
 use std::test::Fail;
+
+/// Each way to show a read of one sibling.
+const WAYS: [Shown; 3] = [Shown::Text, Shown::Parts, Shown::One("0-1")];
 
 #[test]
 fn unknown_key(rt: HostRuntime) -> Result<(), Fail> {
-    for form in [
-        Form::Text,
-        Form::Parts,
-        Form::One(Bytes::from_slice(rt.alloc(), b"0-1")?),
-    ] {
-        let answer = got(rt.alloc(), &[], form)?;
-        assert_eq!(rt;
-            answer.as_str(),
-            "HTTP/1.1 404 Not Found\r\nContent-Type: text/plain\r\nContent-Length: 10\r\n\r\nnot found\n"
-        );
+    for shown in &WAYS {
+        expect_got(
+            &rt,
+            rt.alloc(),
+            &[],
+            *shown,
+            "HTTP/1.1 404 Not Found\r\nContent-Type: text/plain\r\nContent-Length: 10\r\n\r\nnot found\n",
+        )?;
     }
     Ok(())
 }
 
 #[test]
 fn one_value(rt: HostRuntime) -> Result<(), Fail> {
-    for form in [
-        Form::Text,
-        Form::Parts,
-        Form::One(Bytes::from_slice(rt.alloc(), b"0-1")?),
-    ] {
-        let answer = got(rt.alloc(), &[(0, "a")], form)?;
-        assert_eq!(rt;
-            answer.as_str(),
-            "HTTP/1.1 200 OK\r\nContent-Type: text/plain\r\nX-Riak-Vclock: AQABAAAAAAAAAAAAAAAB\r\nContent-Length: 1\r\n\r\na"
-        );
+    for shown in &WAYS {
+        expect_got(
+            &rt,
+            rt.alloc(),
+            &[(0, "a")],
+            *shown,
+            "HTTP/1.1 200 OK\r\nContent-Type: text/plain\r\nX-Riak-Vclock: AQABAAAAAAAAAAAAAAAB\r\nContent-Length: 1\r\n\r\na",
+        )?;
     }
     Ok(())
 }
 
 const TWO: [(u32, &str); 2] = [(0, "a"), (1, "b")];
 
+/// How two siblings are shown: as a list, one by its tag, and one of a tag that none has.
+const SIBLINGS: [(Shown, &str); 3] = [
+    (
+        Shown::Text,
+        "HTTP/1.1 300 Multiple Choices\r\nContent-Type: text/plain\r\nX-Riak-Vclock: AQACAAAAAAAAAAAAAAABAAAAAQAAAAAAAAAB\r\nContent-Length: 18\r\n\r\nSiblings:\n0-1\n1-1\n",
+    ),
+    (
+        Shown::One("1-1"),
+        "HTTP/1.1 200 OK\r\nContent-Type: text/plain\r\nX-Riak-Vclock: AQACAAAAAAAAAAAAAAABAAAAAQAAAAAAAAAB\r\nContent-Length: 1\r\n\r\nb",
+    ),
+    (
+        Shown::One("1-10"),
+        "HTTP/1.1 404 Not Found\r\nContent-Type: text/plain\r\nX-Riak-Vclock: AQACAAAAAAAAAAAAAAABAAAAAQAAAAAAAAAB\r\nContent-Length: 10\r\n\r\nnot found\n",
+    ),
+];
+
 #[test]
 fn http_siblings(rt: HostRuntime) -> Result<(), Fail> {
-    let answer = got(rt.alloc(), &TWO, Form::Text)?;
-    assert_eq!(rt;
-        answer.as_str(),
-        "HTTP/1.1 300 Multiple Choices\r\nContent-Type: text/plain\r\nX-Riak-Vclock: AQACAAAAAAAAAAAAAAABAAAAAQAAAAAAAAAB\r\nContent-Length: 18\r\n\r\nSiblings:\n0-1\n1-1\n"
-    );
-    let tagged = got(
-        rt.alloc(),
-        &TWO,
-        Form::One(Bytes::from_slice(rt.alloc(), b"1-1")?),
-    )?;
-    assert_eq!(rt;
-        tagged.as_str(),
-        "HTTP/1.1 200 OK\r\nContent-Type: text/plain\r\nX-Riak-Vclock: AQACAAAAAAAAAAAAAAABAAAAAQAAAAAAAAAB\r\nContent-Length: 1\r\n\r\nb"
-    );
-    let unknown = got(
-        rt.alloc(),
-        &TWO,
-        Form::One(Bytes::from_slice(rt.alloc(), b"1-10")?),
-    )?;
-    assert_eq!(rt;
-        unknown.as_str(),
-        "HTTP/1.1 404 Not Found\r\nContent-Type: text/plain\r\nX-Riak-Vclock: AQACAAAAAAAAAAAAAAABAAAAAQAAAAAAAAAB\r\nContent-Length: 10\r\n\r\nnot found\n"
-    );
+    for (shown, want) in &SIBLINGS {
+        expect_got(&rt, rt.alloc(), &TWO, *shown, want)?;
+    }
     Ok(())
 }
 
@@ -86,21 +81,40 @@ const PARTS: [(&str, &str, usize); 8] = [
     ),
 ];
 
+/// The answer in parts where the second sibling is this one.
+fn parts_of(
+    alloc: Global,
+    value: &str,
+    boundary: &str,
+    length: usize,
+) -> Result<String, AllocError> {
+    format!(in alloc;
+        "HTTP/1.1 300 Multiple Choices\r\nContent-Type: multipart/mixed; boundary={boundary}\r\nX-Riak-Vclock: AQACAAAAAAAAAAAAAAABAAAAAQAAAAAAAAAB\r\nContent-Length: {length}\r\n\r\n\r\n--{boundary}\r\nContent-Type: text/plain\r\nX-Riak-Tag: 0-1\r\n\r\na\r\n--{boundary}\r\nContent-Type: text/plain\r\nX-Riak-Tag: 1-1\r\n\r\n{value}\r\n--{boundary}--\r\n"
+    )
+}
+
+/// Checks the answer in parts where the second sibling is this one.
+fn check_parts(
+    rt: &impl Abort,
+    alloc: Global,
+    value: &str,
+    boundary: &str,
+    length: usize,
+) -> Result<(), Fail> {
+    let want = parts_of(alloc, value, boundary, length)?;
+    expect_got(
+        rt,
+        alloc,
+        &[(0, "a"), (1, value)],
+        Shown::Parts,
+        want.as_str(),
+    )
+}
+
 #[test]
 fn multipart_length(rt: HostRuntime) -> Result<(), Fail> {
-    for (value, boundary, length) in PARTS {
-        let answer = got(rt.alloc(), &[(0, "a"), (1, value)], Form::Parts)?;
-        let head = format!(in rt.alloc();
-            "HTTP/1.1 300 Multiple Choices\r\nContent-Type: multipart/mixed; boundary={boundary}\r\nX-Riak-Vclock: AQACAAAAAAAAAAAAAAABAAAAAQAAAAAAAAAB\r\nContent-Length: {length}\r\n\r\n"
-        )?;
-        let first = format!(in rt.alloc();
-            "\r\n--{boundary}\r\nContent-Type: text/plain\r\nX-Riak-Tag: 0-1\r\n\r\na"
-        )?;
-        let second = format!(in rt.alloc();
-            "\r\n--{boundary}\r\nContent-Type: text/plain\r\nX-Riak-Tag: 1-1\r\n\r\n{value}"
-        )?;
-        let want = format!(in rt.alloc(); "{head}{first}{second}\r\n--{boundary}--\r\n")?;
-        assert_eq!(rt; answer.as_str(), want.as_str(), "{value}");
+    for (value, boundary, length) in &PARTS {
+        check_parts(&rt, rt.alloc(), value, boundary, *length)?;
     }
     Ok(())
 }
@@ -120,63 +134,104 @@ fn put_b(alloc: Global, state: &mut KeyState) -> Result<(), Fail> {
     Ok(())
 }
 
-/// The answer to a read where a tombstone stands beside a value.
-fn beside_tombstone(alloc: Global, form: Form, ends: bool) -> Result<String, Fail> {
+/// The reply to a read where a tombstone stands beside a value.
+fn beside_tombstone(alloc: Global) -> Result<Reply, Fail> {
     let mut state = state_of(alloc, &[(0, "a")])?;
     delete_first(alloc, &mut state)?;
     put_b(alloc, &mut state)?;
-    let ask = read(alloc, form)?;
-    Ok(text_of(alloc, &ask, &Reply::Got(Ok(state)), ends)?)
+    Ok(Reply::Got(Ok(state)))
 }
 
-/// The siblings 0-2, a tombstone, and 1-1 `b`.
+/// How the siblings 0-2, a tombstone, and 1-1 `b` are shown.
+const TOMBSTONE: [(Shown, bool, &str); 3] = [
+    (
+        Shown::Text,
+        false,
+        "HTTP/1.1 300 Multiple Choices\r\nContent-Type: text/plain\r\nX-Riak-Vclock: AQACAAAAAAAAAAAAAAACAAAAAQAAAAAAAAAB\r\nContent-Length: 18\r\n\r\nSiblings:\n0-2\n1-1\n",
+    ),
+    (
+        Shown::Parts,
+        true,
+        "HTTP/1.1 300 Multiple Choices\r\nContent-Type: multipart/mixed; boundary=s0\r\nX-Riak-Vclock: AQACAAAAAAAAAAAAAAACAAAAAQAAAAAAAAAB\r\nConnection: close\r\nContent-Length: 113\r\n\r\n\r\n--s0\r\nX-Riak-Deleted: true\r\nX-Riak-Tag: 0-2\r\n\r\n\r\n--s0\r\nContent-Type: text/plain\r\nX-Riak-Tag: 1-1\r\n\r\nb\r\n--s0--\r\n",
+    ),
+    (
+        Shown::One("0-2"),
+        false,
+        "HTTP/1.1 404 Not Found\r\nContent-Type: text/plain\r\nX-Riak-Vclock: AQACAAAAAAAAAAAAAAACAAAAAQAAAAAAAAAB\r\nContent-Length: 10\r\n\r\nnot found\n",
+    ),
+];
+
+/// Checks how a reply to a read is shown.
+fn check_shown(
+    rt: &impl Abort,
+    alloc: Global,
+    shown: Shown,
+    reply: &Reply,
+    ends: bool,
+    want: &str,
+) -> Result<(), Fail> {
+    let ask = read_shown(alloc, shown)?;
+    expect(rt, alloc, &ask, reply, ends, want)
+}
+
 #[test]
 fn tombstone_beside_value(rt: HostRuntime) -> Result<(), Fail> {
-    let alloc = rt.alloc();
-    assert_eq!(rt;
-        beside_tombstone(alloc, Form::Text, false)?.as_str(),
-        "HTTP/1.1 300 Multiple Choices\r\nContent-Type: text/plain\r\nX-Riak-Vclock: AQACAAAAAAAAAAAAAAACAAAAAQAAAAAAAAAB\r\nContent-Length: 18\r\n\r\nSiblings:\n0-2\n1-1\n"
-    );
-    assert_eq!(rt;
-        beside_tombstone(alloc, Form::Parts, true)?.as_str(),
-        "HTTP/1.1 300 Multiple Choices\r\nContent-Type: multipart/mixed; boundary=s0\r\nX-Riak-Vclock: AQACAAAAAAAAAAAAAAACAAAAAQAAAAAAAAAB\r\nConnection: close\r\nContent-Length: 113\r\n\r\n\r\n--s0\r\nX-Riak-Deleted: true\r\nX-Riak-Tag: 0-2\r\n\r\n\r\n--s0\r\nContent-Type: text/plain\r\nX-Riak-Tag: 1-1\r\n\r\nb\r\n--s0--\r\n"
-    );
-    let tag = Form::One(Bytes::from_slice(alloc, b"0-2")?);
-    assert_eq!(rt;
-        beside_tombstone(alloc, tag, false)?.as_str(),
-        "HTTP/1.1 404 Not Found\r\nContent-Type: text/plain\r\nX-Riak-Vclock: AQACAAAAAAAAAAAAAAACAAAAAQAAAAAAAAAB\r\nContent-Length: 10\r\n\r\nnot found\n"
-    );
+    let reply = beside_tombstone(rt.alloc())?;
+    for (shown, ends, want) in &TOMBSTONE {
+        check_shown(&rt, rt.alloc(), *shown, &reply, *ends, want)?;
+    }
     Ok(())
+}
+
+/// Adds the delimiter of a number.
+fn push_delimiter(text: &mut Vec<u8>, alloc: Global, n: u32) -> Result<(), AllocError> {
+    let delimiter = format!(in alloc; "--s{n}")?;
+    text.extend_from_slice(delimiter.as_str().as_bytes())
+}
+
+/// As many delimiters as 65,536 bytes have room for, and a front of the next.
+fn delimiters(alloc: Global) -> Result<Vec<u8>, AllocError> {
+    let mut text = Vec::new(alloc);
+    for n in 0..9_521u32 {
+        push_delimiter(&mut text, alloc, n)?;
+    }
+    text.truncate(65_536);
+    Ok(text)
+}
+
+/// Puts the text at so many vnodes, each as one who has seen nothing.
+fn put_at_each(alloc: Global, state: &mut KeyState, text: &[u8], vnodes: u32) -> Result<(), Fail> {
+    for vnode in 0..vnodes {
+        let content = value(alloc, b"text/plain", text)?;
+        state.put(vnode, &Clock::new(alloc), content)?;
+    }
+    Ok(())
+}
+
+/// Sixty-four siblings of this text, in parts.
+fn sixty_four(alloc: Global, text: &[u8]) -> Result<Reply, Fail> {
+    let mut state = state_of(alloc, &[])?;
+    put_at_each(alloc, &mut state, text, 64)?;
+    Ok(Reply::Got(Ok(state)))
+}
+
+/// Whether the answer in parts begins so.
+fn begins_with(alloc: Global, reply: &Reply, front: &str) -> Result<bool, AllocError> {
+    let ask = read_shown(alloc, Shown::Parts)?;
+    let answer = text_of(alloc, &ask, reply, false)?;
+    Ok(answer.as_str().starts_with(front))
 }
 
 /// Sixty-four siblings of 65,536 bytes, full of delimiters: the least number that stands in none.
 #[test]
 fn siblings_of_full_size(rt: HostRuntime) -> Result<(), Fail> {
-    let mut text = String::new(rt.alloc());
-    for n in 0..9_521u32 {
-        text.push_str(format!(in rt.alloc(); "--s{n}")?.as_str())?;
-    }
-    let mut full = text.into_bytes();
-    full.truncate(65_536);
-    assert_eq!(rt; full.len(), 65_536);
-    let mut state = state_of(rt.alloc(), &[])?;
-    for vnode in 0..64u32 {
-        state.put(
-            vnode,
-            &Clock::new(rt.alloc()),
-            value(rt.alloc(), b"text/plain", &full)?,
-        )?;
-    }
-    let answer = text_of(
+    let text = delimiters(rt.alloc())?;
+    let reply = sixty_four(rt.alloc(), &text)?;
+    let begins = begins_with(
         rt.alloc(),
-        &read(rt.alloc(), Form::Parts)?,
-        &Reply::Got(Ok(state)),
-        false,
+        &reply,
+        "HTTP/1.1 300 Multiple Choices\r\nContent-Type: multipart/mixed; boundary=s9520\r\n",
     )?;
-    assert!(rt;
-        answer.as_str().starts_with(
-            "HTTP/1.1 300 Multiple Choices\r\nContent-Type: multipart/mixed; boundary=s9520\r\n"
-        )
-    );
+    assert_eq!(rt; (text.len(), begins), (65_536, true));
     Ok(())
 }

@@ -4,8 +4,8 @@ use dvv::{Clock, Dot};
 use httpask::{Ask, Call, Form};
 use httpreply::{Reply, push_answer};
 use object::{Bytes, Content, Key, KeyState};
-use quorum::QuorumFault;
 use std::alloc::{AllocError, Global};
+use std::process::Abort;
 use std::test::Fail;
 
 /// The answer to a request as text, where each key has three copies.
@@ -17,7 +17,7 @@ pub fn text_of(alloc: Global, ask: &Ask, reply: &Reply, ends: bool) -> Result<St
 }
 
 /// A key of bucket `b`.
-pub fn key_of(alloc: Global, key: &[u8]) -> Result<Key, AllocError> {
+fn key_of(alloc: Global, key: &[u8]) -> Result<Key, AllocError> {
     Ok(Key {
         bucket: Bytes::from_slice(alloc, b"b")?,
         key: Bytes::from_slice(alloc, key)?,
@@ -60,20 +60,77 @@ pub fn state_of(alloc: Global, puts: &[(u32, &str)]) -> Result<KeyState, Fail> {
     Ok(state)
 }
 
-/// What a read of that state is answered.
-pub fn got(alloc: Global, puts: &[(u32, &str)], form: Form) -> Result<String, Fail> {
-    let ask = read(alloc, form)?;
-    let reply = Reply::Got(Ok(state_of(alloc, puts)?));
-    Ok(text_of(alloc, &ask, &reply, false)?)
+/// How an answer to a read is shown, by a name.
+#[derive(Clone, Copy)]
+pub enum Shown {
+    Text,
+    Parts,
+    One(&'static str),
 }
 
-/// What a delete is answered that has this fault.
-pub fn faulty(alloc: Global, fault: QuorumFault) -> Result<String, AllocError> {
-    text_of(alloc, &delete(alloc)?, &Reply::Stored(Err(fault)), false)
+/// The form of that name.
+pub fn form_of(alloc: Global, shown: Shown) -> Result<Form, AllocError> {
+    match shown {
+        Shown::Text => Ok(Form::Text),
+        Shown::Parts => Ok(Form::Parts),
+        Shown::One(tag) => Ok(Form::One(Bytes::from_slice(alloc, tag.as_bytes())?)),
+    }
+}
+
+/// A read of a key, shown so.
+pub fn read_shown(alloc: Global, shown: Shown) -> Result<Ask, AllocError> {
+    let form = form_of(alloc, shown)?;
+    read(alloc, form)
+}
+
+/// A read's reply: the state at which these vnodes have put.
+pub fn got(alloc: Global, puts: &[(u32, &str)]) -> Result<Reply, Fail> {
+    let state = state_of(alloc, puts)?;
+    Ok(Reply::Got(Ok(state)))
+}
+
+/// Checks the answer to a request.
+pub fn expect(
+    rt: &impl Abort,
+    alloc: Global,
+    ask: &Ask,
+    reply: &Reply,
+    ends: bool,
+    want: &str,
+) -> Result<(), Fail> {
+    let text = text_of(alloc, ask, reply, ends)?;
+    assert_eq!(rt; text.as_str(), want);
+    Ok(())
+}
+
+/// Checks the answer to a request that is a status and a line of text, where the connection goes on.
+pub fn expect_plain(
+    rt: &impl Abort,
+    alloc: Global,
+    ask: &Ask,
+    reply: &Reply,
+    status: &str,
+    line: &str,
+) -> Result<(), Fail> {
+    let want = plain(alloc, status, line)?;
+    expect(rt, alloc, ask, reply, false, want.as_str())
+}
+
+/// Checks the answer to a read of the state at which these vnodes have put.
+pub fn expect_got(
+    rt: &impl Abort,
+    alloc: Global,
+    puts: &[(u32, &str)],
+    shown: Shown,
+    want: &str,
+) -> Result<(), Fail> {
+    let ask = read_shown(alloc, shown)?;
+    let reply = got(alloc, puts)?;
+    expect(rt, alloc, &ask, &reply, false, want)
 }
 
 /// An answer of a status and a line of text.
-pub fn plain(alloc: Global, status: &str, line: &str) -> Result<String, AllocError> {
+fn plain(alloc: Global, status: &str, line: &str) -> Result<String, AllocError> {
     let length = line.len().saturating_add(1);
     format!(in alloc;
         "HTTP/1.1 {status}\r\nContent-Type: text/plain\r\nContent-Length: {length}\r\n\r\n{line}\n"
