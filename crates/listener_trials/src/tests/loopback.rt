@@ -2,30 +2,44 @@
 
 use crate::tests::stores::open;
 use httpfront::Front;
-use listener::serve_all;
+use listener::{Stopped, serve_all};
+use std::alloc::Global;
 use std::io;
-use std::io::{Read, Write};
-use std::net::{Shutdown, TcpListener, TcpStream};
+use std::io::Write;
+use std::net::{Net, Shutdown, TcpListener, TcpStream};
 use std::test::Fail;
+
+/// What the client asks.
+const ASKED: &[u8] = b"GET /ping HTTP/1.1\r\nHost: h\r\n\r\n";
+
+/// What it is told.
+const TOLD: &str = "HTTP/1.1 200 OK\r\nContent-Type: text/plain\r\nContent-Length: 2\r\n\r\nOK";
+
+/// A client that has asked, and sends no more.
+fn ask<R: Net<Listener = TcpListener, Stream = TcpStream>>(
+    rt: &R,
+    listener: &TcpListener,
+) -> io::Result<TcpStream> {
+    let mut client = TcpStream::connect(rt, listener.local_addr()?)?;
+    client.write_all(ASKED)?;
+    client.shutdown(Shutdown::Write)?;
+    Ok(client)
+}
+
+/// How a server ends that answers one connection over a store of its own.
+fn visit(alloc: Global, listener: &mut TcpListener) -> Result<Result<(), Stopped>, Fail> {
+    let mut front = Front::new(alloc)?;
+    let mut store = open(alloc, 0)?;
+    Ok(serve_all(listener, &mut front, &mut store, Some(1)))
+}
 
 /// The kernel holds the connection and what it brings, until the server takes it.
 #[test]
 fn over_loopback(rt: HostRuntime) -> Result<(), Fail> {
-    let alloc = rt.alloc();
     let mut listener = TcpListener::bind(&rt, "127.0.0.1:0")?;
-    let mut client = TcpStream::connect(&rt, listener.local_addr()?)?;
-    client.write_all(b"GET /ping HTTP/1.1\r\nHost: h\r\n\r\n")?;
-    client.shutdown(Shutdown::Write)?;
-    let mut front = Front::new(alloc)?;
-    let mut store = open(alloc, 0)?;
-    let ended = serve_all(&mut listener, &mut front, &mut store, Some(1));
-    let told = io::read_to_string(alloc, client)?;
-    assert_eq!(rt;
-        (ended, told.as_str()),
-        (
-            Ok(()),
-            "HTTP/1.1 200 OK\r\nContent-Type: text/plain\r\nContent-Length: 2\r\n\r\nOK"
-        )
-    );
+    let client = ask(&rt, &listener)?;
+    let ended = visit(rt.alloc(), &mut listener)?;
+    let told = io::read_to_string(rt.alloc(), client)?;
+    assert_eq!(rt; (ended, told.as_str()), (Ok(()), TOLD));
     Ok(())
 }

@@ -2,6 +2,7 @@
 
 use super::{Outcome, told};
 use httpask::Refusal;
+use std::alloc::{AllocError, Global};
 use std::test::Fail;
 use token::TokenFault;
 
@@ -200,26 +201,25 @@ const REFUSED: [(&str, &str, Refusal); 48] = [
 
 #[test]
 fn broken(rt: HostRuntime) -> Result<(), Fail> {
-    for (request, refusal) in BROKEN {
-        assert_eq!(rt;
-            told(rt.alloc(), request.as_bytes())?,
-            Outcome::Broken(refusal),
-            "{request}"
-        );
+    for &(request, refusal) in &BROKEN {
+        let outcome = told(rt.alloc(), request.as_bytes())?;
+        assert_eq!(rt; outcome, Outcome::Broken(refusal), "{request}");
     }
     Ok(())
 }
 
+/// What a head without its length line and a body come to.
+fn told_of(alloc: Global, head: &str, body: &str) -> Result<Outcome, AllocError> {
+    let len = body.len();
+    let request = format!(in alloc; "{head}\r\nContent-Length: {len}\r\n\r\n{body}")?;
+    told(alloc, request.as_bytes())
+}
+
 #[test]
 fn refused(rt: HostRuntime) -> Result<(), Fail> {
-    for (head, body, refusal) in REFUSED {
-        let len = body.len();
-        let request = format!(in rt.alloc(); "{head}\r\nContent-Length: {len}\r\n\r\n{body}")?;
-        assert_eq!(rt;
-            told(rt.alloc(), request.as_bytes())?,
-            Outcome::Refused(refusal),
-            "{request}"
-        );
+    for &(head, body, refusal) in &REFUSED {
+        let outcome = told_of(rt.alloc(), head, body)?;
+        assert_eq!(rt; outcome, Outcome::Refused(refusal), "{head} {body}");
     }
     Ok(())
 }

@@ -200,11 +200,23 @@ fn joined(
     Ok(bytes)
 }
 
+/// What the parts in one come to.
+fn told_of(
+    alloc: Global,
+    front: &str,
+    piece: &str,
+    times: usize,
+    end: &str,
+) -> Result<Outcome, AllocError> {
+    let bytes = joined(alloc, front, piece, times, end)?;
+    told(alloc, &bytes)
+}
+
 #[test]
 fn limits(rt: HostRuntime) -> Result<(), Fail> {
-    for (front, piece, times, end, want) in ROWS {
-        let bytes = joined(rt.alloc(), front, piece, times, end)?;
-        assert_eq!(rt; told(rt.alloc(), &bytes)?, want, "{front}{times} {piece}");
+    for &(front, piece, times, end, want) in &ROWS {
+        let outcome = told_of(rt.alloc(), front, piece, times, end)?;
+        assert_eq!(rt; outcome, want, "{front}{times} {piece}");
     }
     Ok(())
 }
