@@ -3,7 +3,7 @@
 use std::fmt;
 
 /// Why a line may not stand where it stands. It shows the reason in a few words.
-#[derive(Clone, Copy, PartialEq, Eq)]
+#[derive(Clone, Copy, Debug, PartialEq, Eq)]
 pub enum BadLine<'a> {
     /// The line doesn't end by a line feed.
     NoLineFeed,
@@ -35,22 +35,21 @@ pub enum BadLine<'a> {
 
 impl fmt::Display for BadLine<'_> {
     fn fmt<W: fmt::Write>(&self, f: &mut fmt::Formatter<W>) -> fmt::Result {
-        let reason = match self {
-            BadLine::NoLineFeed => "no line feed at the end",
-            BadLine::NoSuchLine => "no such line",
-            BadLine::WordCount => "too many or too few words",
-            BadLine::NoNumber => "a number that is no decimal",
-            BadLine::NoWord => "a word that is not 1 to 64 letters and digits",
-            BadLine::NoContext => "a context that is none of -, @NAME and =TOKEN",
-            BadLine::NoFileName => "a file name that is no text",
-            BadLine::VnodeCount => "vnodes are 1 to 64",
-            BadLine::VnodesAgain => "vnodes stands once",
-            BadLine::NoVnode(vnode) => return write!(f, "no vnode {vnode}"),
-            BadLine::NoGet(name) => return write_named(f, "get", name),
-            BadLine::NoSend(name) => return write_named(f, "send", name),
-            BadLine::NoFile(file) => return write!(f, "no file {file}"),
-        };
-        f.write_str(reason)
+        match self {
+            BadLine::NoLineFeed => f.write_str("no line feed at the end"),
+            BadLine::NoSuchLine => f.write_str("no such line"),
+            BadLine::WordCount => f.write_str("too many or too few words"),
+            BadLine::NoNumber => f.write_str("a number that is no decimal"),
+            BadLine::NoWord => f.write_str("a word that is not 1 to 64 letters and digits"),
+            BadLine::NoContext => f.write_str("a context that is none of -, @NAME and =TOKEN"),
+            BadLine::NoFileName => f.write_str("a file name that is no text"),
+            BadLine::VnodeCount => f.write_str("vnodes are 1 to 64"),
+            BadLine::VnodesAgain => f.write_str("vnodes stands once"),
+            BadLine::NoVnode(vnode) => write!(f, "no vnode {vnode}"),
+            BadLine::NoGet(name) => write_named(f, "get", name),
+            BadLine::NoSend(name) => write_named(f, "send", name),
+            BadLine::NoFile(file) => write!(f, "no file {file}"),
+        }
     }
 }
 

@@ -2,7 +2,6 @@
 #![tactic(auto)]
 
 mod bad;
-mod command;
 mod cut;
 mod line;
 mod words;

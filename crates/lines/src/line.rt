@@ -4,7 +4,6 @@ ghost use Rattle.std.specs.Prelude.{IfOk};
 ghost use Rattle.lines.specs.Spelling.{Spells};
 
 use crate::bad::BadLine;
-use crate::command::Command;
 use crate::words::{is_word, number};
 use std::alloc::{AllocError, Global};
 use std::str;
@@ -107,18 +106,18 @@ fn spelled<'a>(words: &[&'a [u8]]) -> Result<Line<'a>, BadLine<'a>> {
     let Some((command, arguments)) = words.split_first() else {
         return Err(BadLine::NoSuchLine);
     };
-    match Command::of(command) {
-        Some(Command::Vnodes) => vnodes(arguments),
-        Some(Command::Put) => put(arguments),
-        Some(Command::Del) => del(arguments),
-        Some(Command::Get) => get(arguments),
-        Some(Command::Send) => send(arguments),
-        Some(Command::Deliver) => deliver(arguments),
-        Some(Command::Restart) => restart(arguments),
-        Some(Command::Resolve) => resolve(arguments),
-        Some(Command::Commit) => commit(arguments),
-        Some(Command::Check) => check(arguments),
-        None => Err(BadLine::NoSuchLine),
+    match *command {
+        b"vnodes" => vnodes(arguments),
+        b"put" => put(arguments),
+        b"del" => del(arguments),
+        b"get" => get(arguments),
+        b"send" => send(arguments),
+        b"deliver" => deliver(arguments),
+        b"restart" => restart(arguments),
+        b"resolve" => resolve(arguments),
+        b"commit" => commit(arguments),
+        b"check" => check(arguments),
+        _ => Err(BadLine::NoSuchLine),
     }
 }
 
@@ -126,28 +125,18 @@ fn vnodes<'a>(arguments: &[&'a [u8]]) -> Result<Line<'a>, BadLine<'a>> {
     let [count] = arguments else {
         return Err(BadLine::WordCount);
     };
-    let Some(count) = number(count) else {
-        return Err(BadLine::NoNumber);
-    };
-    Ok(Line::Vnodes(count))
+    Ok(Line::Vnodes(number_of(count)?))
 }
 
 fn put<'a>(arguments: &[&'a [u8]]) -> Result<Line<'a>, BadLine<'a>> {
     let [vnode, key, value, context] = arguments else {
         return Err(BadLine::WordCount);
     };
-    let Some(vnode) = number(vnode) else {
-        return Err(BadLine::NoNumber);
-    };
-    if !is_word(key) || !is_word(value) {
-        return Err(BadLine::NoWord);
-    }
-    let context = context_of(context)?;
     Ok(Line::Put {
-        vnode,
-        key,
-        value: Some(value),
-        context,
+        vnode: number_of(vnode)?,
+        key: name_of(key)?,
+        value: Some(name_of(value)?),
+        context: context_of(context)?,
     })
 }
 
@@ -155,115 +144,106 @@ fn del<'a>(arguments: &[&'a [u8]]) -> Result<Line<'a>, BadLine<'a>> {
     let [vnode, key, context] = arguments else {
         return Err(BadLine::WordCount);
     };
-    let Some(vnode) = number(vnode) else {
-        return Err(BadLine::NoNumber);
-    };
-    if !is_word(key) {
-        return Err(BadLine::NoWord);
-    }
-    let context = context_of(context)?;
     Ok(Line::Put {
-        vnode,
-        key,
+        vnode: number_of(vnode)?,
+        key: name_of(key)?,
         value: None,
-        context,
+        context: context_of(context)?,
     })
 }
 
 fn get<'a>(arguments: &[&'a [u8]]) -> Result<Line<'a>, BadLine<'a>> {
-    let [vnode, key, name] = arguments else {
+    let [vnode, key, answer] = arguments else {
         return Err(BadLine::WordCount);
     };
-    let Some(vnode) = number(vnode) else {
-        return Err(BadLine::NoNumber);
-    };
-    if !is_word(key) || !is_word(name) {
-        return Err(BadLine::NoWord);
-    }
-    Ok(Line::Get { vnode, key, name })
+    Ok(Line::Get {
+        vnode: number_of(vnode)?,
+        key: name_of(key)?,
+        name: name_of(answer)?,
+    })
 }
 
 fn send<'a>(arguments: &[&'a [u8]]) -> Result<Line<'a>, BadLine<'a>> {
-    let [vnode, key, name] = arguments else {
+    let [vnode, key, message] = arguments else {
         return Err(BadLine::WordCount);
     };
-    let Some(vnode) = number(vnode) else {
-        return Err(BadLine::NoNumber);
-    };
-    if !is_word(key) || !is_word(name) {
-        return Err(BadLine::NoWord);
-    }
-    Ok(Line::Send { vnode, key, name })
+    Ok(Line::Send {
+        vnode: number_of(vnode)?,
+        key: name_of(key)?,
+        name: name_of(message)?,
+    })
 }
 
 fn deliver<'a>(arguments: &[&'a [u8]]) -> Result<Line<'a>, BadLine<'a>> {
-    let [name, vnode] = arguments else {
+    let [message, vnode] = arguments else {
         return Err(BadLine::WordCount);
     };
-    if !is_word(name) {
-        return Err(BadLine::NoWord);
-    }
-    let Some(vnode) = number(vnode) else {
-        return Err(BadLine::NoNumber);
-    };
-    Ok(Line::Deliver { name, vnode })
+    Ok(Line::Deliver {
+        name: name_of(message)?,
+        vnode: number_of(vnode)?,
+    })
 }
 
 fn restart<'a>(arguments: &[&'a [u8]]) -> Result<Line<'a>, BadLine<'a>> {
     let [vnode] = arguments else {
         return Err(BadLine::WordCount);
     };
-    let Some(vnode) = number(vnode) else {
-        return Err(BadLine::NoNumber);
-    };
-    Ok(Line::Restart { vnode })
+    Ok(Line::Restart {
+        vnode: number_of(vnode)?,
+    })
 }
 
 fn resolve<'a>(arguments: &[&'a [u8]]) -> Result<Line<'a>, BadLine<'a>> {
-    let [name, file] = arguments else {
+    let [answer, file] = arguments else {
         return Err(BadLine::WordCount);
     };
-    if !is_word(name) {
-        return Err(BadLine::NoWord);
-    }
-    let file = file_of(file)?;
-    Ok(Line::Resolve { name, file })
+    Ok(Line::Resolve {
+        name: name_of(answer)?,
+        file: file_of(file)?,
+    })
 }
 
 fn commit<'a>(arguments: &[&'a [u8]]) -> Result<Line<'a>, BadLine<'a>> {
-    let [vnode, name] = arguments else {
+    let [vnode, answer] = arguments else {
         return Err(BadLine::WordCount);
     };
-    let Some(vnode) = number(vnode) else {
-        return Err(BadLine::NoNumber);
-    };
-    if !is_word(name) {
-        return Err(BadLine::NoWord);
-    }
-    Ok(Line::Commit { vnode, name })
+    Ok(Line::Commit {
+        vnode: number_of(vnode)?,
+        name: name_of(answer)?,
+    })
 }
 
 fn check<'a>(arguments: &[&'a [u8]]) -> Result<Line<'a>, BadLine<'a>> {
     let [vnode, key, value, file] = arguments else {
         return Err(BadLine::WordCount);
     };
-    let Some(vnode) = number(vnode) else {
-        return Err(BadLine::NoNumber);
-    };
-    if !is_word(key) || !is_word(value) {
-        return Err(BadLine::NoWord);
-    }
-    let file = file_of(file)?;
     Ok(Line::Check {
-        vnode,
-        key,
-        value,
-        file,
+        vnode: number_of(vnode)?,
+        key: name_of(key)?,
+        value: name_of(value)?,
+        file: file_of(file)?,
     })
 }
 
+// An index or a count.
+fn number_of<'a>(word: &'a [u8]) -> Result<usize, BadLine<'a>> {
+    match number(word) {
+        Some(number) => Ok(number),
+        None => Err(BadLine::NoNumber),
+    }
+}
+
+// A key, a value or a name.
+fn name_of<'a>(word: &'a [u8]) -> Result<&'a [u8], BadLine<'a>> {
+    if is_word(word) {
+        Ok(word)
+    } else {
+        Err(BadLine::NoWord)
+    }
+}
+
 // The name of a file, which is text.
-fn file_of(word: &[u8]) -> Result<&str, BadLine<'_>> {
+fn file_of<'a>(word: &'a [u8]) -> Result<&'a str, BadLine<'a>> {
     match str::from_utf8(word) {
         Ok(file) => Ok(file),
         Err(_) => Err(BadLine::NoFileName),
@@ -271,11 +251,10 @@ fn file_of(word: &[u8]) -> Result<&str, BadLine<'_>> {
 }
 
 // The context that a word stands for.
-fn context_of(word: &[u8]) -> Result<Context<'_>, BadLine<'_>> {
+fn context_of<'a>(word: &'a [u8]) -> Result<Context<'a>, BadLine<'a>> {
     match word.split_first() {
         Some((b'-', [])) => Ok(Context::Nothing),
-        Some((b'@', name)) if is_word(name) => Ok(Context::OfGet(name)),
-        Some((b'@', _)) => Err(BadLine::NoWord),
+        Some((b'@', name)) => Ok(Context::OfGet(name_of(name)?)),
         Some((b'=', token)) => Ok(Context::Token(token)),
         _ => Err(BadLine::NoContext),
     }
