@@ -3,6 +3,13 @@
 ghost use Rattle.std.specs.Prelude.{ℕ};
 ghost use Rattle.local.specs.Locals.{fresh};
 ghost use Rattle.serving.specs.Journals.{AreJournals};
+ghost use Rattle.serving.specs.Stores.{IsOfOneThread};
+ghost use Rattle.store.specs.View.{shown};
+
+use hooks::Registry;
+use httpfront::Backend;
+use local::Local;
+use store::Store;
 
 /// Vnodes with nothing written have journals, so a connection may begin with them.
 pub fn fresh_vnodes_have_journals()
@@ -10,3 +17,8 @@ pub fn fresh_vnodes_have_journals()
 {
     journal::laws::journals_go_on();
 }
+
+/// A store on the vnodes of one thread and a registry is one of one thread, so [`serve`](crate::serve) says of it what it says of these.
+pub fn stores_are_of_one_thread(_store: &Store<Local, Registry>)
+    ensures { IsOfOneThread ⟦<Store<Local, Registry> as Backend>⟧.gives ⟦<Store<Local, Registry> as Backend>⟧.copies (λ s. shown s.peers s.hooking.hooks s.hooking.table.listed s.placement) }
+{}
