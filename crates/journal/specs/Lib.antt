@@ -1,4 +1,6 @@
 pub mod Keys
+pub mod Entry
+pub mod Forms
 pub mod Entries
 pub mod Logs
 pub mod Stamps

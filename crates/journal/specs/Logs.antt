@@ -1,6 +1,6 @@
 -- A journal and whose it is.
 use Rattle.std.specs.Prelude.{ℕ, ◌^◌, List, [], ◌∷◌, ◌++◌}
-use Rattle.journal.specs.declared.entry.Entry.{Entry}
+use Rattle.journal.specs.Entry.{Entry}
 
 -- the most entries of a vnode (this store's profile)
 abbrev pub max_entries : ℕ

@@ -1,7 +1,6 @@
 -- Stamps: in what order the entries of several journals were made (this store's profile).
 use Rattle.std.specs.Prelude.{ℕ}
-use Rattle.journal.specs.declared.entry.Entry.{Entry}
-use Rattle.journal.specs.declared.entry.Entry.TheVariants.{Put, Merge, Read, Restart}
+use Rattle.journal.specs.Entry.{Entry, Put, Merge, Read, Restart}
 
 -- an entry's stamp
 abbrev pub stamp_of : Entry → ℕ

@@ -7,7 +7,7 @@ use Rattle.dvv.specs.declared.Dot.{Dot}
 use Rattle.object.specs.declared.content.Content.{Content}
 use Rattle.object.specs.declared.content.Key.{Key}
 use Rattle.object.specs.State.{State}
-use Rattle.journal.specs.declared.entry.Entry.TheVariants.{Put, Merge, Read}
+use Rattle.journal.specs.Entry.{Put, Merge, Read}
 use Rattle.journal.specs.Keys.{key_cmp}
 use Rattle.journal.specs.Replay.{IsNextDot, IsReplay, IsKeyOf}
 use Rattle.journal.specs.Limits.{TakesEntry, AcceptsPut, AcceptsMerge}

@@ -18,7 +18,7 @@ use Rattle.hooks.specs.declared.fault.HookFault.{HookFault}
 use Rattle.hooks.specs.Changes as registry
 use Rattle.hooks.specs.Changes.{hook_at}
 use Rattle.hooks.specs.Tables.{ChangesBy, Shown, Shows, Takes, hook_in}
-use Rattle.journal.specs.declared.entry.Entry.{Entry}
+use Rattle.journal.specs.Entry.{Entry}
 use Rattle.journal.specs.Brought.{BringsAll, AllShow, all_writes}
 use Rattle.journal.specs.Journals.{IsJournal, MayFollow}
 use Rattle.journal.specs.Replay.{sibling_in, known_in, IsMergeOf}

@@ -6,8 +6,7 @@ use Rattle.dvv.specs.declared.Dot.{Dot}
 use Rattle.object.specs.declared.content.Key.{Key}
 use Rattle.object.specs.Known.{Write, ShowsKnown, current_among, context_of}
 use Rattle.object.specs.State.{State}
-use Rattle.journal.specs.declared.entry.Entry.{Entry}
-use Rattle.journal.specs.declared.entry.Entry.TheVariants.{Read}
+use Rattle.journal.specs.Entry.{Entry, Read}
 use Rattle.journal.specs.Brought.{BringsAll, AllShow, all_writes}
 use Rattle.journal.specs.Entries.{held_by, drops, tells}
 use Rattle.journal.specs.Journals.{IsJournal}

@@ -10,8 +10,7 @@ use Rattle.hookrun.specs.declared.resolving.Resolution.{Resolution}
 use Rattle.hookrun.specs.Resolving.{IsResolution, chosen_by}
 use Rattle.hooks.specs.declared.fault.NotSeen.{NotSeen}
 use Rattle.hooks.specs.Changes.{Change, hook_at}
-use Rattle.journal.specs.declared.entry.Entry.{Entry}
-use Rattle.journal.specs.declared.entry.Entry.TheVariants.{Read}
+use Rattle.journal.specs.Entry.{Entry, Read}
 use Rattle.journal.specs.Journals.{IsJournal, MayFollow}
 use Rattle.journal.specs.Logs.{Log, with_entry}
 use Rattle.journal.specs.Replay.{IsReplay}

@@ -9,8 +9,7 @@ use Rattle.object.specs.declared.content.Content.{Content}
 use Rattle.object.specs.declared.content.Key.{Key}
 use Rattle.object.specs.State.{State, is_dot}
 use Rattle.object.proofs.Siblings.{is_dot-same}
-use Rattle.journal.specs.declared.entry.Entry.{Entry}
-use Rattle.journal.specs.declared.entry.Entry.TheVariants.{Put, Merge}
+use Rattle.journal.specs.Entry.{Entry, Put, Merge}
 use Rattle.journal.specs.Entries.{tells}
 use Rattle.journal.specs.Keys.{same_key}
 use Rattle.journal.specs.Journals.{IsJournal, MayFollow}

@@ -7,7 +7,7 @@ use Rattle.object.specs.State.{State}
 use Rattle.bpfimage.specs.declared.image.ImageKind.{ImageKind}
 use Rattle.hooks.specs.Changes.{Change, hook_at}
 use Rattle.hooks.specs.Tables.{ChangesBy, Shown, Shows, hook_in}
-use Rattle.journal.specs.declared.entry.Entry.{Entry}
+use Rattle.journal.specs.Entry.{Entry}
 use Rattle.journal.specs.Brought.{BringsAll, AllShow, all_writes}
 use Rattle.journal.specs.Journals.{IsJournal, MayFollow}
 use Rattle.journal.specs.Replay.{sibling_in, known_in, IsMergeOf}

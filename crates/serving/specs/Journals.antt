@@ -1,7 +1,7 @@
 -- The journals of the vnodes, from one request to the next (this store's profile).
 use Rattle.std.specs.Prelude.{◌≡◌, List, ◌++◌}
 use Rattle.std.specs.List.{AllByRecursion, AllZip}
-use Rattle.journal.specs.declared.entry.Entry.{Entry}
+use Rattle.journal.specs.Entry.{Entry}
 use Rattle.journal.specs.Journals.{IsJournal}
 use Rattle.journal.specs.Logs.{Log}
 

@@ -3,7 +3,7 @@ use Rattle.std.specs.Prelude.{◌≡◌, ℕ, ◌≤◌, Bool, false, List, ◌�
 use Rattle.dvv.specs.declared.Dot.{Dot}
 use Rattle.object.specs.declared.content.Content.{Content}
 use Rattle.object.specs.declared.content.Key.{Key}
-use Rattle.journal.specs.declared.entry.Entry.TheVariants.{Put}
+use Rattle.journal.specs.Entry.{Put}
 use Rattle.journal.specs.Logs.{Log, with_entry}
 use Rattle.journal.specs.Replay.{IsNextDot, known_in}
 use Rattle.store.specs.Calls.{coordinator, the_others}

@@ -3,7 +3,7 @@
 ghost use Rattle.std.specs.Prelude.{◌≡◌, ◌≢◌, ◌↔◌, Contains, OnOk, OnErr, IfOk, IfErr, [], length, Err};
 
 use crate::fault::VnodeFault;
-use crate::steps::{copy_of, keys_in, merge_at, put_at};
+use crate::steps::{copies_at, keys_in, merge_at, put_at};
 use dvv::{Clock, Dot};
 use journal::{Entry, Journal};
 use object::{Content, Key, KeyState};
@@ -31,7 +31,7 @@ impl Model for Vnode {
 }
 
 impl Vnode {
-    ghost use Rattle.journal.specs.declared.entry.Entry.TheVariants.{Put, Merge, Read, Restart};
+    ghost use Rattle.journal.specs.Entry.{Put, Merge, Read, Restart};
     ghost use Rattle.journal.specs.Logs.{Log, with_entry};
     ghost use Rattle.object.specs.declared.content.Key.{Key};
     ghost use Rattle.object.specs.State.{State};
@@ -156,12 +156,8 @@ impl Vnode {
         ensures legal { IsJournal self.new.vnode self.new.entries }
     {
         self.journal.reserve()?;
-        let entry_key = key.copy()?;
-        let state = copy_of(self.alloc, &self.states, key)?;
-        let place = self.journal.append(Entry::Read {
-            stamp,
-            key: entry_key,
-        });
+        let (own, state) = copies_at(self.alloc, &self.states, key)?;
+        let place = self.journal.append(Entry::read(stamp, own));
         Ok((state, place))
     }
 
@@ -177,6 +173,6 @@ impl Vnode {
         ensures legal { IsJournal self.new.vnode self.new.entries }
     {
         self.journal.reserve()?;
-        Ok(self.journal.append(Entry::Restart { stamp }))
+        Ok(self.journal.append(Entry::restart(stamp)))
     }
 }

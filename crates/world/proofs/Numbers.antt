@@ -9,7 +9,7 @@ use Rattle.dvv.specs.declared.Dot.{Dot}
 use Rattle.object.specs.declared.content.Key.{Key}
 use Rattle.object.specs.Known.{Write, InContext, AreUnique, NoneSawItself}
 use Rattle.journal.specs.Keys.{same_key}
-use Rattle.journal.specs.declared.entry.Entry.{Entry}
+use Rattle.journal.specs.Entry.{Entry}
 use Rattle.journal.specs.Replay.{IsNextDot}
 use Rattle.journal.proofs.Keyed.{one_key}
 use Rattle.world.specs.Knowledge.{Knowledge, KeyedWrite, known_at, of_key, under, learns, is_of, next_dot, id_of}

@@ -9,8 +9,8 @@ use Rattle.object.specs.Known.{Write}
 use Rattle.object.specs.State.{State, kept, next}
 use Rattle.journal.specs.Logs.{Log}
 use Rattle.object.specs.declared.content.Content.{Content}
-use Rattle.journal.specs.declared.entry.Entry.{Entry}
-use Rattle.journal.specs.declared.entry.Entry.TheVariants as entry
+use Rattle.journal.specs.Entry.{Entry}
+use Rattle.journal.specs.Entry as entry
 use Rattle.journal.specs.Answers.{TellsChange}
 use Rattle.journal.specs.Journals.{MayFollow}
 use Rattle.journal.specs.Replay.{IsReplay}

@@ -10,7 +10,7 @@ use Rattle.object.specs.declared.content.Content.{Content}
 use Rattle.object.specs.declared.content.Key.{Key}
 use Rattle.object.specs.State.{State, is_dot, content_at}
 use Rattle.object.specs.Known.{Write, IsCurrent, InContext, AreUnique}
-use Rattle.journal.specs.declared.entry.Entry.{Entry}
+use Rattle.journal.specs.Entry.{Entry}
 use Rattle.journal.specs.Replay.{IsReplay}
 use Rattle.journal.specs.Journals.{IsJournal}
 use Rattle.object.specs.Known.{NoneSawItself, ShowsKnown, seen_among, written_among, current_among, context_of}

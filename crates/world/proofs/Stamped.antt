@@ -4,7 +4,7 @@ use Rattle.std.specs.Prelude.{Contains, slice_set}
 use Rattle.std.proofs.lemmas.List.{get_or_default}
 use Rattle.std.proofs.lemmas.List.Elements.{Contains-push_cases}
 use Rattle.std.proofs.lemmas.List.Sums.{sum_by-set}
-use Rattle.journal.specs.declared.entry.Entry.{Entry}
+use Rattle.journal.specs.Entry.{Entry}
 use Rattle.journal.specs.Logs.{Log, with_entry}
 use Rattle.journal.specs.Stamps.{stamp_of}
 use Rattle.world.specs.Causality.{EachAfter}

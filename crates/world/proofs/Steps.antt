@@ -12,8 +12,7 @@ use Rattle.object.specs.declared.content.Key.{Key}
 use Rattle.object.specs.State.{State, next, kept}
 use Rattle.object.specs.Known.{Write, IsCurrent, AreUnique}
 use Rattle.journal.specs.Keys.{same_key}
-use Rattle.journal.specs.declared.entry.Entry.{Entry}
-use Rattle.journal.specs.declared.entry.Entry.TheVariants.{Put, Merge, Read, Restart}
+use Rattle.journal.specs.Entry.{Entry, Put, Merge, Read, Restart}
 use Rattle.journal.specs.Logs.{Log, with_entry}
 use Rattle.journal.specs.Replay.{sibling_in, known_in, IsReplay, IsNextDot, LeaveAlike, Knows, Leaves}
 use Rattle.journal.specs.Limits.{TakesEntry, TakesClock, AcceptsPut}

@@ -1,6 +1,6 @@
 -- One entry more at one of the vnodes.
 use Rattle.std.specs.Prelude.{◌≡◌, ℕ, List}
-use Rattle.journal.specs.declared.entry.Entry.{Entry}
+use Rattle.journal.specs.Entry.{Entry}
 use Rattle.journal.specs.Journals.{MayFollow}
 use Rattle.journal.specs.Logs.{Log}
 use Rattle.world.specs.Represents.{log_at, with_entry_at}

@@ -4,7 +4,7 @@ use Rattle.dvv.specs.declared.Dot.{Dot}
 use Rattle.object.specs.declared.content.Content.{Content}
 use Rattle.object.specs.declared.content.Key.{Key}
 use Rattle.object.specs.Known.{Write, IsCurrent, InContext}
-use Rattle.journal.specs.declared.entry.Entry.{Entry}
+use Rattle.journal.specs.Entry.{Entry}
 use Rattle.journal.specs.Logs.{Log, with_entry}
 use Rattle.journal.specs.Replay.{sibling_in, known_in}
 use Rattle.journal.specs.Journals.{IsJournal}

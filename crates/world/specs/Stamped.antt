@@ -1,7 +1,7 @@
 -- The stamps of a world's entries: each is the number of entries that all journals had before (this store's profile).
 use Rattle.std.specs.Prelude.{◌≡◌, ℕ, ◌<◌, List, [], length, Contains}
 use Rattle.std.specs.List.{sum_by}
-use Rattle.journal.specs.declared.entry.Entry.{Entry}
+use Rattle.journal.specs.Entry.{Entry}
 use Rattle.journal.specs.Logs.{Log}
 use Rattle.journal.specs.Stamps.{stamp_of}
 use Rattle.world.specs.Causality.{EachAfter}

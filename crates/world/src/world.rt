@@ -6,7 +6,7 @@ ghost use Rattle.std.specs.Prelude.{◌≡◌, ◌≢◌, ℕ, ◌<◌, ◌≤�
 ghost use Rattle.verifier.specs.Program.{Program};
 ghost use Rattle.dvv.specs.declared.Dot.{Dot as Identifier};
 ghost use Rattle.object.specs.declared.content.Key.{Key as StoredKey};
-ghost use Rattle.journal.specs.declared.entry.Entry.TheVariants.{Put, Merge, Read, Restart};
+ghost use Rattle.journal.specs.Entry.{Put, Merge, Read, Restart};
 ghost use Rattle.world.specs.declared.event.Event.TheVariants as event;
 ghost use Rattle.journal.specs.Logs.{Log};
 ghost use Rattle.journal.specs.Replay.{IsReplay};

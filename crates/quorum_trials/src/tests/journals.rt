@@ -8,35 +8,24 @@ use std::test::Fail;
 use trial_parts::building::key_of;
 
 fn read(alloc: Global, stamp: u64) -> Result<Entry, AllocError> {
-    Ok(Entry::Read {
-        stamp,
-        key: key_of(alloc, b"k")?,
-    })
+    Ok(Entry::read(stamp, key_of(alloc, b"k")?))
 }
 
 fn put(alloc: Global, stamp: u64) -> Result<Entry, AllocError> {
-    Ok(Entry::Put {
-        stamp,
-        key: key_of(alloc, b"k")?,
-        seen: Clock::new(alloc),
-        content: Content::Tombstone,
-        dot: Dot { vnode: 65537, n: 1 },
-    })
+    let key = key_of(alloc, b"k")?;
+    let seen = Clock::new(alloc);
+    let dot = Dot { vnode: 65537, n: 1 };
+    Entry::put(alloc, stamp, key, seen, Content::Tombstone, dot)
 }
 
 fn merge(alloc: Global, stamp: u64) -> Result<Entry, AllocError> {
-    Ok(Entry::Merge {
-        stamp,
-        key: key_of(alloc, b"k")?,
-        from: 0,
-        at: 4,
-        state: KeyState::new(alloc),
-    })
+    let key = key_of(alloc, b"k")?;
+    Entry::merge(alloc, stamp, key, 0, 4, KeyState::new(alloc))
 }
 
 /// The places of four entries that are pushed, and how many entries there are after two of them and once room is made.
 fn push_four(alloc: Global, journal: &mut Journal) -> Result<([u32; 4], usize), Fail> {
-    let restart = journal.push(Entry::Restart { stamp: 3 })?;
+    let restart = journal.push(Entry::restart(3))?;
     let read = journal.push(read(alloc, 5)?)?;
     journal.reserve()?;
     let between = journal.len();
@@ -47,12 +36,7 @@ fn push_four(alloc: Global, journal: &mut Journal) -> Result<([u32; 4], usize), 
 
 /// The stamp of the entry at a place.
 fn stamp_at(journal: &Journal, place: u32) -> Option<u64> {
-    match journal.get(place)? {
-        Entry::Put { stamp, .. }
-        | Entry::Merge { stamp, .. }
-        | Entry::Read { stamp, .. }
-        | Entry::Restart { stamp } => Some(*stamp),
-    }
+    Some(journal.get(place)?.stamp())
 }
 
 /// What is told of a journal: the stamps at five places, its length, and whose it is.
@@ -89,7 +73,7 @@ fn entries_stay_in_their_places(rt: HostRuntime) -> Result<(), Fail> {
 fn about_the_ends_of_blocks(alloc: Global) -> Result<([Option<u64>; 7], usize), Fail> {
     let mut journal = Journal::new(alloc, 0);
     for stamp in 0..2050 {
-        journal.push(Entry::Restart { stamp })?;
+        journal.push(Entry::restart(stamp))?;
     }
     let stamps = [0, 1023, 1024, 2047, 2048, 2049, 2050].map(|place| stamp_at(&journal, place));
     Ok((stamps, journal.len()))

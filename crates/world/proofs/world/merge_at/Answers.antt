@@ -1,7 +1,7 @@
 use Rattle.std.proofs.Common.{[], refl, subst}
 use Rattle.std.proofs.lemmas.List.{get_or_default}
 use Rattle.journal.specs.Answers.{TellsChange}
-use Rattle.journal.specs.declared.entry.Entry.TheVariants.{Merge}
+use Rattle.journal.specs.Entry.{Merge}
 use Rattle.journal.specs.Logs.{Log}
 use Rattle.vnode.specs.Refusals.{RefusesMerge}
 use Rattle.world.proofs.Stamped.{stamped_at}

@@ -1,6 +1,6 @@
 use Rattle.std.proofs.Common.{[], refl, subst}
 use Rattle.std.proofs.lemmas.List.{get_or_default}
-use Rattle.journal.specs.declared.entry.Entry.TheVariants.{Put}
+use Rattle.journal.specs.Entry.{Put}
 use Rattle.journal.specs.Logs.{Log}
 use Rattle.vnode.specs.Refusals.{RefusesPut}
 use Rattle.world.proofs.Stamped.{stamped_at}

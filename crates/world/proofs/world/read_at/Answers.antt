@@ -1,6 +1,6 @@
 use Rattle.std.proofs.Common.{[], length, refl, ap, subst, ◌∙◌}
 use Rattle.std.proofs.lemmas.List.{get_or_default}
-use Rattle.journal.specs.declared.entry.Entry.TheVariants.{Read}
+use Rattle.journal.specs.Entry.{Read}
 use Rattle.journal.specs.Logs.{Log}
 use Rattle.journal.specs.Replay.{IsReplay}
 use Rattle.vnode.specs.Refusals.{RefusesEntry}
