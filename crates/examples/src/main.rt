@@ -1,7 +1,8 @@
-//! The examples in data/, tried one after another by the commands of dvvstore: whether a program is let in, and whether a script
-//! prints what stands beside it.
+//! The examples in data/, tried one after another by the commands of dvvstore: whether a program is let in, whether a script
+//! prints what stands beside it, and whether the requests of a connection are answered by what stands beside them.
 #![tactic(auto)]
 
+mod dialogue;
 mod folder;
 mod trying;
 

@@ -1,9 +1,11 @@
 //! What each example comes to.
 
+use crate::dialogue::Dialogue;
 use crate::folder::Folder;
 use commands::files::Files as _;
 use commands::own::command_with_helpers;
 use commands::server::Offline;
+use std::alloc::Global;
 use std::io;
 use std::io::Write;
 use std::rt::Files;
@@ -36,6 +38,9 @@ const SCRIPTS: [&str; 7] = [
     "union_of_records",
 ];
 
+/// Dialogues of data/http/: what a client sends on one connection, each with the answers in a file beside it.
+const DIALOGUES: [&str; 3] = ["cart", "hooks", "refused"];
+
 /// Tells of each example what it comes to.
 pub fn try_all<R: Files + AllocGlobal>(rt: &R, told: &mut Vec<u8>) -> io::Result<()> {
     for name in PROGRAMS {
@@ -43,6 +48,9 @@ pub fn try_all<R: Files + AllocGlobal>(rt: &R, told: &mut Vec<u8>) -> io::Result
     }
     for name in SCRIPTS {
         try_script(rt, name, told)?;
+    }
+    for name in DIALOGUES {
+        try_dialogue(rt, name, told)?;
     }
     Ok(())
 }
@@ -81,4 +89,45 @@ fn try_script<R: Files + AllocGlobal>(rt: &R, name: &str, told: &mut Vec<u8>) ->
         "something else"
     };
     writeln!(told, "{script} {comes_to}, status {status}")
+}
+
+/// Tells whether the requests of a connection are answered by what stands beside them, or from which byte on they aren't.
+fn try_dialogue<R: Files + AllocGlobal>(rt: &R, name: &str, told: &mut Vec<u8>) -> io::Result<()> {
+    let alloc = rt.alloc();
+    let mut http = Folder { rt, path: "http/" };
+    let requests = http.read(alloc, format!(in alloc; "{name}.requests")?.as_str())?;
+    let want = http.read(alloc, format!(in alloc; "{name}.answers")?.as_str())?;
+    let answers = answers_on_store(alloc, &mut http, &requests)?;
+    write!(told, "http/{name}.requests ")?;
+    match first_difference(&answers, &want) {
+        None => writeln!(told, "as written"),
+        Some(at) => writeln!(told, "something else from byte {at} on"),
+    }
+}
+
+/// What a client is answered to the bytes that it sends, by the store that dvvstore serves; nothing where it isn't served.
+fn answers_on_store<R: Files + AllocGlobal>(
+    alloc: Global,
+    data: &mut Folder<'_, R>,
+    requests: &[u8],
+) -> io::Result<Vec<u8>> {
+    let mut dialogue = Dialogue {
+        requests,
+        answers: Vec::new(alloc),
+    };
+    let mut out = Vec::new(alloc);
+    let mut err = Vec::new(alloc);
+    let words = ["serve", "memory", "1", "1"];
+    command_with_helpers(alloc, &words, data, &mut dialogue, &mut out, &mut err)?;
+    Ok(dialogue.answers)
+}
+
+/// The first place, from 0, where two texts differ: the end of the shorter, where it is the beginning of the other.
+fn first_difference(one: &[u8], other: &[u8]) -> Option<usize> {
+    let same = one.iter().zip(other).take_while(|(a, b)| a == b).count();
+    if same == one.len() && same == other.len() {
+        None
+    } else {
+        Some(same)
+    }
 }

@@ -1,0 +1,53 @@
+//! The bytes of one connection, in the place of a network.
+
+use commands::failure::Failure;
+use commands::server::Server;
+use helpers::Table;
+use hooks::Registry;
+use httpfront::answers_to;
+use local::Local;
+use quorum::Hooking;
+use std::alloc::Global;
+use std::io::Write;
+use store::Store;
+
+/// How many vnodes there are.
+const VNODES: u32 = 3;
+
+/// The number of the start: always the same, so that tags and contexts are.
+const INCARNATION: u16 = 0;
+
+/// One connection, whose requests are all at hand.
+#[derive(Drop)]
+pub struct Dialogue<'a> {
+    /// The bytes that the client sends.
+    pub requests: &'a [u8],
+    /// The bytes that it is answered.
+    pub answers: Vec<u8>,
+}
+
+impl Server for Dialogue<'_> {
+    fn serve<O: Write>(
+        &mut self,
+        alloc: Global,
+        table: Table,
+        addr: &str,
+        _count: Option<u32>,
+        out: &mut O,
+    ) -> Result<(), Failure> {
+        writeln!(out, "listening {addr}")?;
+        let Ok(vnodes) = Local::open(alloc, VNODES, INCARNATION) else {
+            return Err(Failure::Unreadable);
+        };
+        let placement = vnodes.placement();
+        let hooking = Hooking::new(alloc, Registry::new(alloc), table);
+        let mut store = Store::new(alloc, vnodes, hooking, placement);
+        match answers_to(alloc, self.requests, &mut store) {
+            Ok(answers) => {
+                self.answers = answers;
+                Ok(())
+            }
+            Err(_) => Err(Failure::Unreadable),
+        }
+    }
+}
