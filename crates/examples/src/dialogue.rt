@@ -3,13 +3,11 @@
 use commands::failure::Failure;
 use commands::server::Server;
 use helpers::Table;
-use hooks::Registry;
 use httpfront::answers_to;
 use local::Local;
-use quorum::Hooking;
+use serving::one_thread;
 use std::alloc::Global;
 use std::io::Write;
-use store::Store;
 
 /// How many vnodes there are.
 const VNODES: u32 = 3;
@@ -39,9 +37,7 @@ impl Server for Dialogue<'_> {
         let Ok(vnodes) = Local::open(alloc, VNODES, INCARNATION) else {
             return Err(Failure::Unreadable);
         };
-        let placement = vnodes.placement();
-        let hooking = Hooking::new(alloc, Registry::new(alloc), table);
-        let mut store = Store::new(alloc, vnodes, hooking, placement);
+        let mut store = one_thread(alloc, vnodes, table);
         match answers_to(alloc, self.requests, &mut store) {
             Ok(answers) => {
                 self.answers = answers;

@@ -5,6 +5,8 @@
 #![tactic(auto)]
 
 pub mod laws;
+mod opening;
 mod serving;
 
+pub use opening::one_thread;
 pub use serving::serve;
