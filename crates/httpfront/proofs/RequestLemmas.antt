@@ -14,6 +14,7 @@ use Rattle.httpask.specs.declared.ask.Call.{Call}
 use Rattle.httpread.specs.Finds.{next_of}
 use Rattle.httpreply.specs.declared.reply.Reply.{Reply}
 use Rattle.httpreply.specs.Answer.{answer}
+use Rattle.httpfront.specs.Room.{room}
 use Rattle.httpfront.specs.Dialogue.{Exchange, Does, call_of, answer_of}
 use Rattle.httpfront.specs.Turns.{Makes, Steps, Halts}
 use Rattle.httpfront.specs.declared.turn.Step.TheVariants as step
@@ -76,7 +77,7 @@ body_within head e =
     (no_coding (is_some (value_of (codes "transfer-encoding") (pairs_of head))) (length_fault head.method (length_said (values_of (codes "content-length") (pairs_of head)))) e)
 
 -- bytes that end inside a request are fewer than a longest head and a longest body
-pub unfinished_short : (rest : List ℕ) → IsUnfinished rest → length rest < 131072
+pub unfinished_short : (rest : List ℕ) → IsUnfinished rest → length rest < room
 unfinished_short rest (in_head head) = omega (arith, head.short)
 unfinished_short rest (in_body head after begins origin fault short) =
     omega (arith, ap length begins.reads.1, length-append (print_request head) after, begins.short, short, body_within head fault)

@@ -9,6 +9,7 @@ use Rattle.httpfront.specs.Device.{Sends}
 use Rattle.httpfront.specs.Dialogue.{Completes, BreaksOff, answer_of}
 use Rattle.httpfront.specs.Turns.{Makes, Steps, Halts, SoFar, one_more}
 use Rattle.httpfront.specs.declared.turn.Step.TheVariants as step
+use Rattle.httpfront.specs.declared.turn.Wanted.{Wanted}
 use Rattle.httpfront.proofs.TalkLemmas.{some_is, known_rest, known_read, so_far-kept, so_far-more, so_far-sent, so_far-completes, so_far-breaks}
 
 -- at the end nothing comes
@@ -23,7 +24,7 @@ module _ {B : Type 0} (gives : B → Call → Reply → B → Type 0) (copies : 
   taken_rest : (more : List ℕ) × (comes ≡ Some more) × (w ++ more ≡ so.rest)
   taken_rest = known_rest w comes so.rest so.left_is
 
-  module _ (waits : Steps gives (copies now) step.Waits w w' now new out out') where
+  module _ (wanted : Wanted) (waits : Steps gives (copies now) (step.Waits wanted) w w' now new out out') where
     so_far-waits : SoFar gives copies bytes before start new (prepend_known w' comes) written out' count
     so_far-waits =
         so_far-kept gives copies bytes before start now (prepend_known w comes) written out count so new (prepend_known w' comes) out' waits.2

@@ -3,6 +3,7 @@ use Rattle.std.specs.Prelude.{◌≡◌, ℕ, ◌+◌, ◌-◌, ◌^◌, ◌<◌
 use Rattle.httpask.specs.Ask.{Asks, IsUnfinished}
 use Rattle.httpask.specs.declared.ask.Call.{Call}
 use Rattle.httpreply.specs.declared.reply.Reply.{Reply}
+use Rattle.httpfront.specs.Room.{room, HasRoom}
 use Rattle.httpfront.specs.Dialogue.{Exchange, Does, call_of, answer_of, answers_of, Converses, Completes}
 use Rattle.httpfront.specs.declared.turn.Step.{Step}
 use Rattle.httpfront.specs.declared.turn.Step.TheVariants as step
@@ -15,7 +16,7 @@ one_more count = min (count + 1) (2 ^ 64 - 1)
 
 -- the turn comes nearer to the end: reads are left, or fewer bytes wait
 abbrev pub Progresses : Turn → ℕ → ℕ → ℕ → ℕ → Type 0
-Progresses turn.Read reads reads' waits waits' = (reads' < reads) × (waits' ≤ 131072)
+Progresses turn.Read reads reads' waits waits' = (reads' < reads) × (waits' ≤ room)
 Progresses turn.Answered reads reads' waits waits' = (reads' ≡ reads) × (waits' < waits)
 Progresses turn.Last reads reads' waits waits' = Unit {0}
 Progresses turn.Over reads reads' waits waits' = Unit {0}
@@ -29,8 +30,8 @@ module _ {B : Type 0} (gives : B → Call → Reply → B → Type 0) where
 
     -- whatever comes behind the bytes that wait, their first request is not whole yet, or it was answered and taken
     abbrev pub Steps : Step → List ℕ → List ℕ → B → B → List ℕ → List ℕ → Type 0
-    Steps step.Waits waits waits' old new out out' =
-        IsUnfinished waits × (waits' ≡ waits) × (new ≡ old) × (out' ≡ out)
+    Steps (step.Waits wanted) waits waits' old new out out' =
+        IsUnfinished waits × (waits' ≡ waits) × (new ≡ old) × (out' ≡ out) × HasRoom wanted
     Steps step.Answered waits waits' old new out out' =
         (x : Exchange) × ((more : List ℕ) → Makes (waits ++ more) old new x (waits' ++ more))
         × (out' ≡ out ++ answer_of copies x) × (length waits' < length waits)

@@ -1,6 +1,6 @@
 //! Readers and writers that count their failed calls.
 
-ghost use Rattle.std.specs.Prelude.{◌≡◌, ℕ, ◌<◌, List, length, Option, IfOk, OnOk, OnErr, []};
+ghost use Rattle.std.specs.Prelude.{◌≡◌, ℕ, ◌<◌, ◌≤◌, List, length, Option, IfOk, OnOk, OnErr, []};
 ghost use Rattle.std.specs.Io.{ReadsAtMost, WritesAtMost};
 ghost use Rattle.std.specs.Io.KnownBytes.{ReadConsumes, WriteAppends};
 ghost use Rattle.httpfront.specs.Device.{Rises, Sends};
@@ -17,7 +17,7 @@ pub trait Source {
     /// How many reads have failed.
     ghost failures: { Self → ℕ };
 
-    /// How many more reads can give bytes, before one fails or the source ends.
+    /// How many more reads can give bytes, before one fails or the source ends. No read makes them more.
     ghost reads_left: { Self → ℕ };
 
     /// Reads some bytes to the front of `buf`, and answers how many. None come only at the end.
@@ -27,6 +27,7 @@ pub trait Source {
         ensures bytes { ReadConsumes (remaining self.old) (remaining self.new) result buf.new }
         ensures counted { OnOk result (failures self.new ≡ failures self.old) }
         ensures failed { OnErr result (Rises (failures self.old) (failures self.new)) }
+        ensures left { OnOk result (reads_left self.new ≤ reads_left self.old) }
         ensures ends { IfOk result (λ n. 0 < n → reads_left self.new < reads_left self.old) };
 }
 

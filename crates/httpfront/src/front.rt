@@ -8,7 +8,8 @@ ghost use Rattle.httpread.specs.declared.request.Asking.TheVariants.{First};
 ghost use Rattle.httpreply.specs.declared.reply.Reply.{Reply};
 ghost use Rattle.httpreply.specs.Answer.{answer};
 ghost use Rattle.httpfront.specs.Device.{Rises, HasRisen, Sends};
-ghost use Rattle.httpfront.specs.Waiting.{waiting};
+ghost use Rattle.httpfront.specs.Waiting.{waiting, Knows};
+ghost use Rattle.httpfront.specs.Room.{room, HasRoom};
 ghost use Rattle.httpfront.specs.Dialogue.{Completes, BreaksOff, Does, call_of};
 ghost use Rattle.httpfront.specs.Turns.{Steps, Halts, SoFar, Leads, Progresses};
 
@@ -18,9 +19,9 @@ use crate::device::{Failed, Sink, Source};
 use crate::fault::FrontFault;
 use crate::inbox::Inbox;
 use crate::outbox::Outbox;
-use crate::turn::{Step, Turn};
+use crate::turn::{Step, Turn, Wanted};
 use httpask::Ask;
-use httpread::{Asking, Routes, first_request};
+use httpread::{Asking, Routes};
 use std::alloc::{AllocError, Global};
 
 /// What a worker keeps from one connection to the next: the routes, and the room for requests and for answers.
@@ -84,6 +85,7 @@ impl Front {
         sink: &mut W,
         backend: &mut B,
     ) -> Result<Turn, FrontFault>
+        requires { Knows self.old.inbox }
         ensures leads { IfOk result (λ turn. (bytes before : List ℕ) (start : B) (count : ℕ)
             → SoFar B.gives B.copies bytes before start backend.old
             (prepend_known (waiting self.old.inbox) (S.remaining source.old)) (W.contents sink.old) self.old.outbox.answers.items count
@@ -95,6 +97,7 @@ impl Front {
             → BreaksOff B.gives (B.copies start) bytes start backend.new before (W.contents sink.new)) }
         ensures progress { IfOk result (λ turn. Progresses turn (S.reads_left source.old) (S.reads_left source.new)
             (length (waiting self.old.inbox)) (length (waiting self.new.inbox))) }
+        ensures knows { OnOk result (Knows self.new.inbox) }
         ensures reads { OnOk result (S.failures source.new ≡ S.failures source.old) }
         ensures writes { OnOk result (W.failures sink.new ≡ W.failures sink.old) }
         ensures read_fault { IfErr result (λ fault. fault ≡ FrontFault.Read → Rises (S.failures source.old) (S.failures source.new)) }
@@ -102,7 +105,7 @@ impl Front {
     {
         match self.answer_first(backend) {
             Err(AllocError) => Err(FrontFault::NoMemory),
-            Ok(Step::Waits) => match self.read_more(source, sink) {
+            Ok(Step::Waits(wanted)) => match self.read_more(source, sink, wanted) {
                 Err(fault) => Err(fault),
                 Ok(0) => Ok(Turn::Over),
                 Ok(_) => Ok(Turn::Read),
@@ -123,14 +126,18 @@ impl Front {
         &mut self,
         source: &mut S,
         sink: &mut W,
+        wanted: Wanted,
     ) -> Result<usize, FrontFault>
-        requires { length (waiting self.old.inbox) < 131072 }
+        requires knows { Knows self.old.inbox }
+        requires free { length (waiting self.old.inbox) < room }
+        requires fits { HasRoom wanted }
         ensures read { IfOk result (λ n. (more : List ℕ) × (length more ≡ n) × (waiting self.new.inbox ≡ waiting self.old.inbox ++ more)
             × Consumes (S.remaining source.old) (S.remaining source.new) more × (n ≡ 0 → IsAtEnd (S.remaining source.new))) }
         ensures written { OnOk result (Sends (W.contents sink.old) (W.contents sink.new) self.old.outbox.answers.items self.new.outbox.answers.items) }
         ensures empty { OnOk result (self.new.outbox.answers.items ≡ []) }
         ensures breaks { OnErr result ((left : List ℕ) × Sends (W.contents sink.old) (W.contents sink.new) self.old.outbox.answers.items left) }
-        ensures fits { length (waiting self.new.inbox) ≤ 131072 }
+        ensures knows { OnOk result (Knows self.new.inbox) }
+        ensures fits { length (waiting self.new.inbox) ≤ room }
         ensures ends { IfOk result (λ n. 0 < n → S.reads_left source.new < S.reads_left source.old) }
         ensures reads { OnOk result (S.failures source.new ≡ S.failures source.old) }
         ensures writes { OnOk result (W.failures sink.new ≡ W.failures sink.old) }
@@ -139,7 +146,7 @@ impl Front {
     {
         match self.outbox.flush(sink) {
             Err(Failed) => Err(FrontFault::Write),
-            Ok(()) => match self.inbox.read_from(source) {
+            Ok(()) => match self.inbox.read_up_to(source, wanted) {
                 Err(Failed) => Err(FrontFault::Read),
                 Ok(n) => Ok(n),
             },
@@ -148,18 +155,18 @@ impl Front {
 
     // Answers the first request of the bytes that wait, if it is whole.
     fn answer_first<B: Backend>(&mut self, backend: &mut B) -> Result<Step, AllocError>
+        requires { Knows self.old.inbox }
         ensures steps { IfOk result (λ step. Steps B.gives (B.copies backend.old) step (waiting self.old.inbox) (waiting self.new.inbox)
             backend.old backend.new self.old.outbox.answers.items self.new.outbox.answers.items) }
         ensures halts { OnErr result (Halts B.gives (B.copies backend.old) (waiting self.old.inbox) backend.old backend.new) }
         ensures stays { B.copies backend.new ≡ B.copies backend.old }
+        ensures knows { OnOk result (Knows self.new.inbox) }
     {
         let copies = backend.copies();
-        let asking = match self.first_request(copies) {
-            Ok(asking) => asking,
-            Err(AllocError) => return Err(AllocError),
-        };
+        let asking = self.inbox.first_request(self.alloc, &self.routes, copies)?;
         match asking {
-            Asking::More => Ok(Step::Waits),
+            Asking::Head => Ok(Step::Waits(Wanted::Line)),
+            Asking::Body { needs } => Ok(Step::Waits(Wanted::Bytes(needs))),
             Asking::First { ask, ends, len } => self.answer(backend, copies, &ask, ends, len),
         }
     }
@@ -179,6 +186,7 @@ impl Front {
             backend.old backend.new self.old.outbox.answers.items self.new.outbox.answers.items) }
         ensures halts { OnErr result (Halts B.gives (B.copies backend.old) (waiting self.old.inbox) backend.old backend.new) }
         ensures stays { B.copies backend.new ≡ B.copies backend.old }
+        ensures knows { OnOk result (Knows self.new.inbox) }
     {
         match self.push_reply(backend, copies, ask, ends) {
             Err(AllocError) => Err(AllocError),
@@ -206,14 +214,5 @@ impl Front {
     {
         let reply = make_call(backend, ask);
         self.outbox.push(self.alloc, copies, ask, &reply, ends)
-    }
-
-    // What the bytes that wait come to.
-    fn first_request(&self, copies: u32) -> Result<Asking, AllocError>
-        requires some { 1 ≤ copies }
-        requires few { copies ≤ 3 }
-        ensures { IfOk result (Finds copies (waiting self.now.inbox)) }
-    {
-        first_request(self.alloc, &self.routes, copies, self.inbox.unread())
     }
 }

@@ -1,5 +1,5 @@
 -- On the request at the front of some bytes.
-use Rattle.std.proofs.Common.{◌≡◌, ℕ, ◌+◌, ◌<◌, ◌≤◌, Bool, true, List, [], ◌++◌, length, take, drop, map, sym, ap, subst, ◌∙◌, refl, arith, length-drop, None, Some, Option}
+use Rattle.std.proofs.Common.{◌≡◌, ℕ, ◌+◌, ◌<◌, ◌≤◌, Bool, true, List, [], ◌++◌, length, take, drop, map, sym, ap, subst, ◌∙◌, refl, arith, length-append, length-drop, None, Some, Option}
 use Rattle.httparse.specs.Grammar.{RequestHead}
 use Rattle.httparse.specs.Spans.{IsRequestAt, header_bytes}
 use Rattle.httparse.specs.declared.spans.HeaderSpan.{HeaderSpan}
@@ -53,12 +53,13 @@ module _ (n : ℕ) (buf : List ℕ) (lines : List HeaderSpan) (spans : RequestSp
       bad_fields head (drop spans.len buf ++ more) refusal (begins_append buf head (drop spans.len buf) more begins)
       (subst IsOriginTarget t origin) (fault_is (Some refusal) f)
 
-  -- a body that isn't whole yet
-  pub waits : (len : ℕ) → IsOriginTarget target → fault_among method fields ≡ None → len ≡ length_among fields
-      → spans.len ≤ length buf → length buf < spans.len + len → IsUnfinished buf
-  waits len origin f e within short =
-      in_body head (drop spans.len buf) begins (subst IsOriginTarget t origin) (fault_is None f)
-      (omega (arith, length_is len e, length-drop spans.len buf, within, short))
+  -- a body that isn't whole yet, nor with so many more bytes
+  pub waits : (len : ℕ) (more : List ℕ) → IsOriginTarget target → fault_among method fields ≡ None → len ≡ length_among fields
+      → spans.len ≤ length buf → length buf + length more < spans.len + len → IsUnfinished (buf ++ more)
+  waits len more origin f e within short =
+      in_body head (drop spans.len buf ++ more) (begins_append buf head (drop spans.len buf) more begins)
+      (subst IsOriginTarget t origin) (fault_is None f)
+      (omega (arith, length_is len e, length-append (drop spans.len buf) more, length-drop spans.len buf, within, short))
 
   -- a request whose body is at hand
   pub is_whole : (len : ℕ) (ask : Ask) (path query body : List ℕ) (ends : Bool) → IsOriginTarget target → fault_among method fields ≡ None

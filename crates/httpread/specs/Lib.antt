@@ -5,4 +5,5 @@ pub mod Firsts
 pub mod Words
 pub mod Targets
 pub mod Finds
+pub mod Known
 pub mod One

@@ -9,6 +9,7 @@ ghost use Rattle.httparse.specs.Grammar.{trim_ows, skip_ows};
 ghost use Rattle.std.specs.Char.{is_ascii_digit};
 ghost use Rattle.httparse.specs.Spans.{header_bytes, IsHeaderWithin};
 ghost use Rattle.httpask.specs.Fields as spec;
+ghost use Rattle.httpask.specs.Limits.{longest_body};
 ghost use Rattle.httpread.specs.Firsts.{AreFirst, says};
 
 use crate::firsts::Fields;
@@ -149,6 +150,7 @@ pub(crate) fn body_length(
     ensures fault { IfErr result (λ refusal. spec.fault_among method.now (map (header_bytes bytes.now) lines.now) ≡ Some refusal) }
     ensures ok { OnOk result (spec.fault_among method.now (map (header_bytes bytes.now) lines.now) ≡ None) }
     ensures length { IfOk result (λ len. len ≡ spec.length_among (map (header_bytes bytes.now) lines.now)) }
+    ensures small { IfOk result (λ len. len ≤ longest_body) }
 {
     if fields.transfer_encoding.is_some() {
         return Err(Refusal::Coding);

@@ -2,13 +2,15 @@
 //!
 //! [`first_request`] tells what the first request asks for by the definitions of `httpask` (`Asks`, `IsUnfinished`). Heads
 //! are read by httparse, targets by http_uri, routes by matchit, names by percent_encoding, queries by form_urlencoded. The
-//! fields and the words of the query that the store reads are found in one pass each.
+//! fields and the words of the query that the store reads are found in one pass each. A whole head whose body is missing is
+//! kept as a [`KnownHead`], and not parsed again.
 #![tactic(auto)]
 
 mod asked;
 mod fields;
 mod firsts;
 mod head;
+mod known;
 pub mod laws;
 mod names;
 mod number;
@@ -17,5 +19,6 @@ mod request;
 mod routes;
 mod whole;
 
+pub use known::KnownHead;
 pub use request::{Asking, first_request};
 pub use routes::Routes;

@@ -6,46 +6,90 @@ ghost use Rattle.httpask.specs.Head.{IsOriginTarget};
 ghost use Rattle.httpask.specs.declared.ask.Ask.TheVariants.{Refused};
 ghost use Rattle.httpread.specs.Finds.{Finds};
 ghost use Rattle.httpread.specs.Heads.{StandsAt};
+ghost use Rattle.httpread.specs.Known.{IsKnownOf, Leaves, kept_of};
 ghost use Rattle.httpread.specs.Targets.{IsUriOf};
 ghost use Rattle.httpread.specs.declared.request.Asking.TheVariants.{First};
 
 use crate::fields::{body_length, closes};
 use crate::firsts::fields_of;
 use crate::head::{HeadAt, read_head};
+use crate::known::KnownHead;
 use crate::routes::Routes;
 use crate::whole::Request;
 use http_uri::{Uri, UriError};
-use httparse::spans::{EMPTY_HEADER_SPAN, HeaderSpan, RequestSpans};
-use httpask::{Ask, MAX_LINES, Refusal};
+use httparse::spans::{HeaderSpan, RequestSpans};
+use httpask::{Ask, Refusal};
 use std::alloc::{AllocError, Global};
 
 /// What the bytes at hand come to.
 #[derive(Drop)]
 pub enum Asking {
-    /// No whole request is there yet.
-    More,
+    /// No whole head is there yet. A head ends with a line feed, so the bytes are worth another look after a new one, or with
+    /// more than [`MAX_HEAD`](httpask::MAX_HEAD) bytes, which are too many.
+    Head,
+    /// The head is whole, and its body isn't. So many bytes from the first on are the whole request, and with fewer there is
+    /// none yet.
+    Body { needs: usize },
     /// The first request: what it asks for, whether the connection ends after the answer, and how many of the bytes are
     /// its own. Where the connection ends nothing behind them is read.
     First { ask: Ask, ends: bool, len: usize },
 }
 
 /// What the bytes at hand come to, where each key has so many copies, 1 to 3. The bytes may be cut anywhere: what is told of
-/// them holds whatever follows. The error is want of memory.
+/// them holds whatever follows. What is known of their head isn't found again. The error is want of memory.
 pub fn first_request(
     alloc: Global,
     routes: &Routes,
     copies: u32,
+    known: &mut KnownHead,
     bytes: &[u8],
 ) -> Result<Asking, AllocError>
     requires some { 1 ≤ copies }
     requires few { copies ≤ 3 }
-    ensures { IfOk result (Finds copies bytes.now) }
+    requires known { IsKnownOf known.old bytes.now }
+    ensures finds { IfOk result (Finds copies bytes.now) }
+    ensures known { IsKnownOf known.new bytes.now }
+    ensures leaves { IfOk result (λ asking. Leaves asking bytes.now known.new) }
 {
-    let mut lines = [EMPTY_HEADER_SPAN; MAX_LINES];
-    match read_head(bytes, &mut lines) {
-        HeadAt::Unfinished => Ok(Asking::More),
+    if let Some(spans) = known.spans {
+        return request_with(alloc, routes, copies, known, bytes, spans);
+    }
+    match read_head(bytes, &mut known.lines) {
+        HeadAt::Unfinished => Ok(Asking::Head),
         HeadAt::Bad => Ok(broken(Refusal::BadHead, bytes.len())),
-        HeadAt::Whole(spans) => request_at(alloc, routes, copies, bytes, spans, &lines),
+        HeadAt::Whole(spans) => request_with(alloc, routes, copies, known, bytes, spans),
+    }
+}
+
+// What a request with a whole head comes to. The head is kept while its body is missing.
+fn request_with(
+    alloc: Global,
+    routes: &Routes,
+    copies: u32,
+    known: &mut KnownHead,
+    bytes: &[u8],
+    spans: RequestSpans,
+) -> Result<Asking, AllocError>
+    requires some { 1 ≤ copies }
+    requires few { copies ≤ 3 }
+    requires known { IsKnownOf known.old bytes.now }
+    requires head { StandsAt bytes.now known.old.lines spans }
+    ensures finds { IfOk result (Finds copies bytes.now) }
+    ensures known { IsKnownOf known.new bytes.now }
+    ensures leaves { IfOk result (λ asking. Leaves asking bytes.now known.new) }
+{
+    let asking = request_at(alloc, routes, copies, bytes, spans, &known.lines)?;
+    known.spans = kept(&asking, spans);
+    Ok(asking)
+}
+
+// The head that an answer leaves known.
+fn kept(asking: &Asking, spans: RequestSpans) -> Option<RequestSpans>
+    ensures { result ≡ kept_of asking.now spans }
+{
+    match asking {
+        Asking::Body { .. } => Some(spans),
+        Asking::Head | Asking::First { .. } => None,
     }
 }
 
@@ -104,7 +148,7 @@ fn request_to(
         Ok(body) => spans.len + body,
     };
     if bytes.len() < len {
-        return Ok(Asking::More);
+        return Ok(Asking::Body { needs: len });
     }
     let request = Request {
         method,

@@ -1,5 +1,6 @@
-use Rattle.std.proofs.Common.{[], ◌≡◌, ◌+◌, ◌-◌, ◌∙◌, sym, ap, rules, arith, take, drop}
+use Rattle.std.proofs.Common.{[], ◌≡◌, ◌+◌, ◌-◌, ◌∙◌, sym, ap, subst, rules, arith, take, drop, append-nil}
 use Rattle.std.specs.Prelude.{◌==◌, ◌||◌, codes, unwrap_or}
+use Rattle.httpask.specs.Ask.{IsUnfinished}
 use Rattle.httpread.specs.Firsts.{says}
 use Rattle.httpread.proofs.TargetLemmas.{head_not_empty, now_or}
 use Rattle.httpread.proofs.RequestLemmas.{no_fields, waits, is_whole}
@@ -20,8 +21,15 @@ pub returns-then-bytes-len : goal.returns-then-bytes-len
 returns-then-bytes-len c =
     let h = c.requires.head.1 in
     let uri = c.requires.target in
-    waits c.args.copies c.args.bytes.now c.args.lines.now c.args.spans h.0 h.1 h.2 _ _ (c.of-method.ensures ∙ h.1.method) h.1.path
-    c.in-Ok.body uri.0 c.in-Ok.ensures.ok c.in-Ok.ensures.length c.requires.head.0.section.len_fits c.if-bytes-len.true
+    let fits = c.requires.head.0.section.len_fits in
+    let short = c.if-bytes-len.true in
+    let waits_with = waits c.args.copies c.args.bytes.now c.args.lines.now c.args.spans h.0 h.1 h.2 _ _ (c.of-method.ensures ∙ h.1.method) h.1.path
+    c.in-Ok.body in (
+      subst IsUnfinished (append-nil c.args.bytes.now) (waits_with [] uri.0 c.in-Ok.ensures.ok c.in-Ok.ensures.length fits (omega (arith, short))),
+      short,
+      omega (arith, h.1.len, h.2.short, c.in-Ok.ensures.small),
+      λ more fewer. waits_with more uri.0 c.in-Ok.ensures.ok c.in-Ok.ensures.length fits fewer,
+    )
 
 pub returns : goal.returns
 returns c =

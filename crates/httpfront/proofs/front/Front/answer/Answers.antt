@@ -22,4 +22,4 @@ returns-else-ends-clause-steps g c =
     steps_answered g.B.Backend.gives c.args.copies (g.B.Backend.copies c.args.backend.now) c.requires.copies c.args.backend.now
     c.push_reply.new.backend c.args.ask.now does.0 c.args.ends (waiting c.args.self.now.inbox) c.args.len c.requires.finds.3 does.1
     (waiting c.take.new.self) c.args.self.now.outbox.answers.items _ c.if-ends.false
-    (c.take.ensures ∙ ap (drop c.args.len) c.in-Ok.ensures.waits) does.2 (c.requires.finds.1 c.if-ends.false) c.requires.finds.0
+    (c.take.ensures.waits ∙ ap (drop c.args.len) c.in-Ok.ensures.waits) does.2 (c.requires.finds.1 c.if-ends.false) c.requires.finds.0

@@ -13,9 +13,10 @@ requests-init g c = record {
   talk = λ bytes before known held.
       so_far-start g.B.Backend.gives g.B.Backend.copies bytes before c.args.backend.now
       (prepend_known (waiting c.clear.new.self) (g.S.Source.remaining c.args.source.now)) (g.W.Sink.contents c.args.sink.now) _
-      (ap (λ w. prepend_known w (g.S.Source.remaining c.args.source.now)) c.clear.ensures ∙ (prepend_known-nil _ ∙ known)) held c.clear-2.ensures;
+      (ap (λ w. prepend_known w (g.S.Source.remaining c.args.source.now)) c.clear.ensures.waits ∙ (prepend_known-nil _ ∙ known)) held c.clear-2.ensures;
   reads = refl;
   writes = refl;
+  knows = c.clear.ensures.knows;
 }
 
 pub requests-preserved-in-Ok-Read : goal.requests-preserved-in-Ok-Read
@@ -24,6 +25,7 @@ requests-preserved-in-Ok-Read g c =
       talk = λ bytes before known held. leads bytes before c.args.backend.now c.requests.answered (c.requests.invariant.talk bytes before known held);
       reads = c.in-Ok-Read.ensures.reads ∙ c.requests.invariant.reads;
       writes = c.in-Ok-Read.ensures.writes ∙ c.requests.invariant.writes;
+      knows = c.in-Ok-Read.ensures.knows;
     }
 
 pub requests-preserved : goal.requests-preserved
@@ -37,6 +39,7 @@ requests-preserved g c =
           (leads bytes before c.args.backend.now c.requests.answered (c.requests.invariant.talk bytes before known held));
       reads = c.in-Ok-Answered.ensures.reads ∙ c.requests.invariant.reads;
       writes = c.in-Ok-Answered.ensures.writes ∙ c.requests.invariant.writes;
+      knows = c.in-Ok-Answered.ensures.knows;
     }
 
 pub returns-in-Ok-Last-clause-answers : goal.returns-in-Ok-Last-clause-answers

@@ -1,6 +1,7 @@
 use Rattle.std.proofs.Common.{◌≡◌, ℕ, ◌+◌, ◌*◌, List, length, Some}
 use Rattle.std.specs.Io.KnownBytes.{prepend_known}
-use Rattle.httpfront.specs.Waiting.{waiting}
+use Rattle.httpfront.specs.Room.{room}
+use Rattle.httpfront.specs.Waiting.{waiting, Knows}
 use Rattle.httpfront.specs.Turns.{SoFar}
 use Rattle.httpfront.proofs.front.Front.serve.Given as goal
 
@@ -12,8 +13,9 @@ invariant-requests g l = record {
       (prepend_known (waiting l.self.inbox) (g.S.Source.remaining l.source)) (g.W.Sink.contents l.sink) l.self.outbox.answers.items l.answered;
   reads : g.S.Source.failures l.source ≡ g.S.Source.failures l.initial.source;
   writes : g.W.Sink.failures l.sink ≡ g.W.Sink.failures l.initial.sink;
+  knows : Knows l.self.inbox;
 }
 
 -- each read counts for more than all the bytes that may wait
 abbrev pub decreases-requests : goal.decreases-requests
-decreases-requests g l = g.S.Source.reads_left l.source * 131073 + length (waiting l.self.inbox)
+decreases-requests g l = g.S.Source.reads_left l.source * (room + 1) + length (waiting l.self.inbox)

@@ -1,13 +1,19 @@
 use Rattle.std.proofs.Common.{[], length, ◌<◌, subst, sym, ◌∙◌}
+use Rattle.httpfront.specs.Room.{room}
 use Rattle.httpfront.specs.Waiting.{waiting}
 use Rattle.httpfront.proofs.RequestLemmas.{unfinished_short}
 use Rattle.httpfront.proofs.TurnLemmas.{so_far-read, so_far-over, so_far-answered, so_far-ended, breaks_reading, breaks_answered, breaks_last, breaks_halting}
 use Rattle.httpfront.proofs.front.Front.take_turn.Goals as goal
 
-pub read_more-requires : goal.read_more-requires
-read_more-requires g c =
+pub read_more-requires-clause-free : goal.read_more-requires-clause-free
+read_more-requires-clause-free g c =
     let waits = rw c.in-Ok-Waits.field-0-is at c.in-Ok-Waits.ensures.steps in
-    subst (λ w. length w < 131072) (sym waits.1) (unfinished_short _ waits.0)
+    subst (λ w. length w < room) (sym waits.1) (unfinished_short _ waits.0)
+
+pub read_more-requires-clause-fits : goal.read_more-requires-clause-fits
+read_more-requires-clause-fits g c =
+    let waits = rw c.in-Ok-Waits.field-0-is at c.in-Ok-Waits.ensures.steps in
+    waits.4
 
 pub returns-in-Err-clause-breaks : goal.returns-in-Err-clause-breaks
 returns-in-Err-clause-breaks g c = λ bytes before start count so.
@@ -21,7 +27,7 @@ returns-in-Err-read_more-clause-breaks g c = λ bytes before start count so.
     let failed = c.in-Err-read_more.ensures.breaks in
     breaks_reading g.B.Backend.gives g.B.Backend.copies bytes before start c.args.backend.now c.answer_first.new.backend count
     (waiting c.args.self.now.inbox) (waiting c.answer_first.new.self.inbox) (g.S.Source.remaining c.args.source.now) (g.W.Sink.contents c.args.sink.now)
-    c.args.self.now.outbox.answers.items c.answer_first.new.self.outbox.answers.items so waits (g.W.Sink.contents c.read_more.new.sink) failed.0 failed.1
+    c.args.self.now.outbox.answers.items c.answer_first.new.self.outbox.answers.items so _ waits (g.W.Sink.contents c.read_more.new.sink) failed.0 failed.1
 
 pub returns-in-Ok-eq0-clause-leads : goal.returns-in-Ok-eq0-clause-leads
 returns-in-Ok-eq0-clause-leads g c = λ bytes before start count so.
@@ -29,7 +35,7 @@ returns-in-Ok-eq0-clause-leads g c = λ bytes before start count so.
     let read = c.in-Ok-eq0.ensures.read in
     so_far-over g.B.Backend.gives g.B.Backend.copies bytes before start c.args.backend.now c.answer_first.new.backend count
     (waiting c.args.self.now.inbox) (waiting c.answer_first.new.self.inbox) (g.S.Source.remaining c.args.source.now) (g.W.Sink.contents c.args.sink.now)
-    c.args.self.now.outbox.answers.items c.answer_first.new.self.outbox.answers.items so waits
+    c.args.self.now.outbox.answers.items c.answer_first.new.self.outbox.answers.items so _ waits
     (g.W.Sink.contents c.read_more.new.sink) (g.S.Source.remaining c.read_more.new.source) (waiting c.read_more.new.self.inbox) read.0 _ c.in-Ok-eq0.ensures.written read.2
     read.3 (read.1 ∙ c.in-Ok-eq0.field-0-test) (read.4 c.in-Ok-eq0.field-0-test) c.in-Ok-eq0.ensures.empty
 
@@ -39,7 +45,7 @@ returns-in-Ok-clause-leads g c = λ bytes before start count so.
     let read = c.in-Ok.ensures.read in
     so_far-read g.B.Backend.gives g.B.Backend.copies bytes before start c.args.backend.now c.answer_first.new.backend count
     (waiting c.args.self.now.inbox) (waiting c.answer_first.new.self.inbox) (g.S.Source.remaining c.args.source.now) (g.W.Sink.contents c.args.sink.now)
-    c.args.self.now.outbox.answers.items c.answer_first.new.self.outbox.answers.items so waits
+    c.args.self.now.outbox.answers.items c.answer_first.new.self.outbox.answers.items so _ waits
     (g.W.Sink.contents c.read_more.new.sink) (g.S.Source.remaining c.read_more.new.source) (waiting c.read_more.new.self.inbox) read.0 _ c.in-Ok.ensures.written read.2 read.3
 
 pub returns-in-Err-flush_many-clause-breaks : goal.returns-in-Err-flush_many-clause-breaks

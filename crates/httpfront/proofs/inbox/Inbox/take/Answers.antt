@@ -4,14 +4,14 @@ use Rattle.httpfront.specs.Waiting.{waiting}
 use Rattle.httpfront.proofs.DeviceLemmas.{waits_fewer}
 use Rattle.httpfront.proofs.inbox.Inbox.take.Goals as goal
 
-pub returns-then-self : goal.returns-then-self
-returns-then-self c =
+pub returns-then-self-clause-waits : goal.returns-then-self-clause-waits
+returns-then-self-clause-waits c =
     let s = c.args.self.now in
-    c.clear.ensures
+    c.clear-then-self.ensures.waits
     ∙ sym (drop_all c.args.len (waiting s) (omega (arith, c.if-self.true, length-take (s.end - s.start) (drop s.start s.bytes.items))))
 
-pub returns-else-self : goal.returns-else-self
-returns-else-self c =
+pub returns-else-self-clause-waits : goal.returns-else-self-clause-waits
+returns-else-self-clause-waits c =
     let s = c.args.self.now in
     waits_fewer s.bytes.items s.start s.end c.args.len
     (omega (arith, c.requires, length-take (s.end - s.start) (drop s.start s.bytes.items)))
