@@ -1,6 +1,6 @@
 -- On the first request of the bytes that wait.
 use Rattle.std.proofs.Common.{◌≡◌, ℕ, ◌<◌, ◌≤◌, List, ◌++◌, length, drop, Bool, true, false, None, sym, ap, subst, ◌∙◌, arith, length-append, length-drop, inr}
-use Rattle.std.specs.Prelude.{if◌then◌else◌, nat_le, codes, is_some}
+use Rattle.std.specs.Prelude.{if◌then◌else◌, nat_le, codes, is_some, Result, Ok, Err, OnErr}
 use Rattle.std.proofs.Common.{Option, Some, refl}
 use Rattle.std.proofs.lemmas.Bool.{leb-true}
 use Rattle.httpask.specs.Limits.{longest_body}
@@ -18,6 +18,11 @@ use Rattle.httpfront.specs.Room.{room}
 use Rattle.httpfront.specs.Dialogue.{Exchange, Does, call_of, answer_of}
 use Rattle.httpfront.specs.Turns.{Makes, Steps, Halts}
 use Rattle.httpfront.specs.declared.turn.Step.TheVariants as step
+
+-- what holds holds where there is an error
+pub on_err : {A E P : Type 0} (r : Result A E) → P → OnErr r P
+on_err (Ok x) p = tt
+on_err (Err e) p = p
 
 module _ {B : Type 0} (gives : B → Call → Reply → B → Type 0) (n copies : ℕ) (is : n ≡ copies) (old new : B) (ask : Ask) (reply : Reply)
     (ends : Bool) (w : List ℕ) (len : ℕ) (asks : (more : List ℕ) → Asks n (w ++ more) ask ends (next_of ends len w more))

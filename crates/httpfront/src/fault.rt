@@ -1,5 +1,9 @@
 //! Why a connection breaks off.
 
+ghost use Rattle.std.specs.Prelude.{◌≡◌};
+ghost use Rattle.httpfront.specs.declared.fault.FrontFault.TheVariants.{NoMemory};
+
+use std::alloc::AllocError;
 use thiserror::Error;
 
 /// Why a connection breaks off. The calls made before stand, and what was written is a front of their answers. It is shown
@@ -15,4 +19,12 @@ pub enum FrontFault {
     /// A growth was refused.
     #[error("E1")]
     NoMemory,
+}
+
+impl From<AllocError> for FrontFault {
+    ghost from_gives = { λ _ fault. fault ≡ NoMemory };
+
+    fn from(_: AllocError) -> FrontFault {
+        FrontFault::NoMemory
+    }
 }

@@ -15,7 +15,7 @@ ghost use Rattle.httpfront.specs.Turns.{Steps, Halts, SoFar, Leads, Progresses};
 
 use crate::backend::Backend;
 use crate::call::make_call;
-use crate::device::{Failed, Sink, Source};
+use crate::device::{Sink, Source};
 use crate::fault::FrontFault;
 use crate::inbox::Inbox;
 use crate::outbox::Outbox;
@@ -91,10 +91,10 @@ impl Front {
             (prepend_known (waiting self.old.inbox) (S.remaining source.old)) (W.contents sink.old) self.old.outbox.answers.items count
             → Leads B.gives B.copies turn bytes before start backend.new
             (prepend_known (waiting self.new.inbox) (S.remaining source.new)) (W.contents sink.new) self.new.outbox.answers.items count) }
-        ensures breaks { OnErr result ((bytes before : List ℕ) (start : B) (count : ℕ)
+        ensures breaks { (bytes before : List ℕ) (start : B) (count : ℕ)
             → SoFar B.gives B.copies bytes before start backend.old
             (prepend_known (waiting self.old.inbox) (S.remaining source.old)) (W.contents sink.old) self.old.outbox.answers.items count
-            → BreaksOff B.gives (B.copies start) bytes start backend.new before (W.contents sink.new)) }
+            → OnErr result (BreaksOff B.gives (B.copies start) bytes start backend.new before (W.contents sink.new)) }
         ensures progress { IfOk result (λ turn. Progresses turn (S.reads_left source.old) (S.reads_left source.new)
             (length (waiting self.old.inbox)) (length (waiting self.new.inbox))) }
         ensures knows { OnOk result (Knows self.new.inbox) }
@@ -103,21 +103,20 @@ impl Front {
         ensures read_fault { IfErr result (λ fault. fault ≡ FrontFault.Read → Rises (S.failures source.old) (S.failures source.new)) }
         ensures write_fault { IfErr result (λ fault. fault ≡ FrontFault.Write → Rises (W.failures sink.old) (W.failures sink.new)) }
     {
-        match self.answer_first(backend) {
-            Err(AllocError) => Err(FrontFault::NoMemory),
-            Ok(Step::Waits(wanted)) => match self.read_more(source, sink, wanted) {
-                Err(fault) => Err(fault),
-                Ok(0) => Ok(Turn::Over),
-                Ok(_) => Ok(Turn::Read),
-            },
-            Ok(Step::Answered) => match self.outbox.flush_many(sink) {
-                Err(Failed) => Err(FrontFault::Write),
-                Ok(()) => Ok(Turn::Answered),
-            },
-            Ok(Step::Last) => match self.outbox.flush(sink) {
-                Err(Failed) => Err(FrontFault::Write),
-                Ok(()) => Ok(Turn::Last),
-            },
+        let step = self.answer_first(backend)?;
+        match step {
+            Step::Waits(wanted) => {
+                let n = self.read_more(source, sink, wanted)?;
+                Ok(if n == 0 { Turn::Over } else { Turn::Read })
+            }
+            Step::Answered => {
+                self.outbox.flush_many(sink)?;
+                Ok(Turn::Answered)
+            }
+            Step::Last => {
+                self.outbox.flush(sink)?;
+                Ok(Turn::Last)
+            }
         }
     }
 
@@ -144,13 +143,8 @@ impl Front {
         ensures read_fault { IfErr result (λ fault. fault ≡ FrontFault.Read → Rises (S.failures source.old) (S.failures source.new)) }
         ensures write_fault { IfErr result (λ fault. fault ≡ FrontFault.Write → Rises (W.failures sink.old) (W.failures sink.new)) }
     {
-        match self.outbox.flush(sink) {
-            Err(Failed) => Err(FrontFault::Write),
-            Ok(()) => match self.inbox.read_up_to(source, wanted) {
-                Err(Failed) => Err(FrontFault::Read),
-                Ok(n) => Ok(n),
-            },
-        }
+        self.outbox.flush(sink)?;
+        self.inbox.read_up_to(source, wanted)
     }
 
     // Answers the first request of the bytes that wait, if it is whole.
@@ -188,13 +182,9 @@ impl Front {
         ensures stays { B.copies backend.new ≡ B.copies backend.old }
         ensures knows { OnOk result (Knows self.new.inbox) }
     {
-        match self.push_reply(backend, copies, ask, ends) {
-            Err(AllocError) => Err(AllocError),
-            Ok(()) => {
-                self.inbox.take(len);
-                Ok(if ends { Step::Last } else { Step::Answered })
-            }
-        }
+        self.push_reply(backend, copies, ask, ends)?;
+        self.inbox.take(len);
+        Ok(if ends { Step::Last } else { Step::Answered })
     }
 
     // Makes the call of a request, and adds its answer to those that wait.

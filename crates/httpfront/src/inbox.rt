@@ -1,12 +1,13 @@
 //! The bytes of a connection that came and wait to be read.
 
-ghost use Rattle.std.specs.Prelude.{◌≡◌, ℕ, ◌+◌, ◌<◌, ◌≤◌, List, ◌++◌, length, false, IfOk, OnOk, OnErr, [], take, drop, slice_range};
+ghost use Rattle.std.specs.Prelude.{◌≡◌, ℕ, ◌+◌, ◌<◌, ◌≤◌, List, ◌++◌, length, false, IfOk, IfErr, OnOk, OnErr, [], take, drop, slice_range};
 ghost use Rattle.std.specs.Io.KnownBytes.{Consumes, Keeps, IsAtEnd};
 ghost use Rattle.httpread.specs.Finds.{Finds};
 ghost use Rattle.httpfront.specs.Device.{Rises};
 ghost use Rattle.httpfront.specs.Room.{room, HasRoom};
 
 use crate::device::{Failed, Source};
+use crate::fault::FrontFault;
 use crate::turn::Wanted;
 use httpask::MAX_HEAD;
 use httpread::laws::heads_stay_known;
@@ -99,12 +100,13 @@ impl Inbox {
         &mut self,
         source: &mut S,
         wanted: Wanted,
-    ) -> Result<usize, Failed>
+    ) -> Result<usize, FrontFault>
         requires knows { Knows self.old }
         requires free { length (waiting self.old) < room }
         requires fits { HasRoom wanted }
         ensures ok { IfOk result (λ n. (more : List ℕ) × (length more ≡ n) × (waiting self.new ≡ waiting self.old ++ more)
             × Consumes (S.remaining source.old) (S.remaining source.new) more × (n ≡ 0 → IsAtEnd (S.remaining source.new))) }
+        ensures fault { IfErr result (λ fault. fault ≡ FrontFault.Read) }
         ensures err { OnErr result ((more : List ℕ) × (waiting self.new ≡ waiting self.old ++ more)
             × Consumes (S.remaining source.old) (S.remaining source.new) more) }
         ensures knows { Knows self.new }
@@ -140,10 +142,11 @@ impl Inbox {
     }
 
     // Reads once, behind the bytes that wait, and answers how many came. None come only at the end.
-    fn read_from<S: Source>(&mut self, source: &mut S) -> Result<usize, Failed>
+    fn read_from<S: Source>(&mut self, source: &mut S) -> Result<usize, FrontFault>
         requires { length (waiting self.old) < room }
         ensures ok { IfOk result (λ n. (more : List ℕ) × (length more ≡ n) × (waiting self.new ≡ waiting self.old ++ more)
             × Consumes (S.remaining source.old) (S.remaining source.new) more × (n ≡ 0 → IsAtEnd (S.remaining source.new))) }
+        ensures fault { IfErr result (λ fault. fault ≡ FrontFault.Read) }
         ensures err { OnErr result ((waiting self.new ≡ waiting self.old) × Keeps (S.remaining source.old) (S.remaining source.new)) }
         ensures known { self.new.known ≡ self.old.known }
         ensures fits { length (waiting self.new) ≤ room }
@@ -155,9 +158,13 @@ impl Inbox {
         if self.end == ROOM {
             self.close_up();
         }
-        let n = read_behind(source, &mut self.bytes, self.end)?;
-        self.end += n;
-        Ok(n)
+        match read_behind(source, &mut self.bytes, self.end) {
+            Ok(n) => {
+                self.end += n;
+                Ok(n)
+            }
+            Err(Failed) => Err(FrontFault::Read),
+        }
     }
 
     // Moves the bytes that wait to the front of the room.

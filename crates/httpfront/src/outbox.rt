@@ -1,10 +1,11 @@
 //! The answers that wait to be written.
 
-ghost use Rattle.std.specs.Prelude.{◌≡◌, ◌++◌, List, ℕ, [], OnOk, OnErr};
+ghost use Rattle.std.specs.Prelude.{◌≡◌, ◌++◌, List, ℕ, [], IfErr, OnOk, OnErr};
 ghost use Rattle.httpreply.specs.Answer.{answer};
 ghost use Rattle.httpfront.specs.Device.{Rises, Sends};
 
 use crate::device::{Failed, Sink, send};
+use crate::fault::FrontFault;
 use httpask::Ask;
 use httpreply::{Reply, push_answer};
 use std::alloc::{AllocError, Global};
@@ -58,9 +59,10 @@ impl Outbox {
     }
 
     /// Writes what waits.
-    pub(crate) fn flush<W: Sink>(&mut self, sink: &mut W) -> Result<(), Failed>
+    pub(crate) fn flush<W: Sink>(&mut self, sink: &mut W) -> Result<(), FrontFault>
         ensures ok { OnOk result (Sends (W.contents sink.old) (W.contents sink.new) self.old.answers.items self.new.answers.items) }
         ensures empty { OnOk result (self.new.answers.items ≡ []) }
+        ensures fault { IfErr result (λ fault. fault ≡ FrontFault.Write) }
         ensures err { OnErr result ((left : List ℕ) × Sends (W.contents sink.old) (W.contents sink.new) self.old.answers.items left) }
         ensures counted { OnOk result (W.failures sink.new ≡ W.failures sink.old) }
         ensures failed { OnErr result (Rises (W.failures sink.old) (W.failures sink.new)) }
@@ -70,13 +72,14 @@ impl Outbox {
                 self.answers.clear();
                 Ok(())
             }
-            Err(Failed) => Err(Failed),
+            Err(Failed) => Err(FrontFault::Write),
         }
     }
 
     /// Writes what waits, where it is much.
-    pub(crate) fn flush_many<W: Sink>(&mut self, sink: &mut W) -> Result<(), Failed>
+    pub(crate) fn flush_many<W: Sink>(&mut self, sink: &mut W) -> Result<(), FrontFault>
         ensures ok { OnOk result (Sends (W.contents sink.old) (W.contents sink.new) self.old.answers.items self.new.answers.items) }
+        ensures fault { IfErr result (λ fault. fault ≡ FrontFault.Write) }
         ensures err { OnErr result ((left : List ℕ) × Sends (W.contents sink.old) (W.contents sink.new) self.old.answers.items left) }
         ensures counted { OnOk result (W.failures sink.new ≡ W.failures sink.old) }
         ensures failed { OnErr result (Rises (W.failures sink.old) (W.failures sink.new)) }

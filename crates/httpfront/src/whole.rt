@@ -18,13 +18,9 @@ pub fn answers_to<B: Backend>(
     ensures { IfOk result (λ out. (count : ℕ)
         × Completes B.gives (B.copies backend.old) bytes.now backend.old backend.new [] (Some out.items) count) }
 {
-    let Ok(mut front) = Front::new(alloc) else {
-        return Err(FrontFault::NoMemory);
-    };
+    let mut front = Front::new(alloc)?;
     let mut source = FailSource::new(bytes, usize::MAX, None);
     let mut sink = FailSink::new(alloc, usize::MAX, None);
-    match front.serve(&mut source, &mut sink, backend) {
-        Ok(_) => Ok(sink.bytes),
-        Err(fault) => Err(fault),
-    }
+    front.serve(&mut source, &mut sink, backend)?;
+    Ok(sink.bytes)
 }

@@ -1,25 +1,25 @@
 use Rattle.std.proofs.Common.{ap, ◌∙◌, drop}
 use Rattle.httpfront.specs.Waiting.{waiting}
-use Rattle.httpfront.proofs.RequestLemmas.{halts_called, steps_answered, steps_last}
+use Rattle.httpfront.proofs.RequestLemmas.{on_err, halts_called, steps_answered, steps_last}
 use Rattle.httpfront.proofs.front.Front.answer.Goals as goal
 
-pub returns-in-Err-clause-halts : goal.returns-in-Err-clause-halts
-returns-in-Err-clause-halts g c =
-    let does = c.in-Err.ensures.does in
-    halts_called g.B.Backend.gives c.args.copies (g.B.Backend.copies c.args.backend.now) c.requires.copies c.args.backend.now
-    c.push_reply.new.backend c.args.ask.now does.0 c.args.ends (waiting c.args.self.now.inbox) c.args.len c.requires.finds.3 does.1
+pub returns-in_err-push_reply-clause-halts : goal.returns-in_err-push_reply-clause-halts
+returns-in_err-push_reply-clause-halts g c =
+    let does = c.in_err-push_reply.ensures.does in
+    on_err c.from_residual.result (halts_called g.B.Backend.gives c.args.copies (g.B.Backend.copies c.args.backend.now) c.requires.copies c.args.backend.now
+    c.push_reply.new.backend c.args.ask.now does.0 c.args.ends (waiting c.args.self.now.inbox) c.args.len c.requires.finds.3 does.1)
 
 pub returns-then-ends-clause-steps : goal.returns-then-ends-clause-steps
 returns-then-ends-clause-steps g c =
-    let does = c.in-Ok.ensures.does in
+    let does = c.in_ok-push_reply.ensures.does in
     steps_last g.B.Backend.gives c.args.copies (g.B.Backend.copies c.args.backend.now) c.requires.copies c.args.backend.now
     c.push_reply.new.backend c.args.ask.now does.0 c.args.ends (waiting c.args.self.now.inbox) c.args.len c.requires.finds.3 does.1
     (waiting c.take.new.self) c.args.self.now.outbox.answers.items _ c.if-ends.true does.2
 
 pub returns-else-ends-clause-steps : goal.returns-else-ends-clause-steps
 returns-else-ends-clause-steps g c =
-    let does = c.in-Ok.ensures.does in
+    let does = c.in_ok-push_reply.ensures.does in
     steps_answered g.B.Backend.gives c.args.copies (g.B.Backend.copies c.args.backend.now) c.requires.copies c.args.backend.now
     c.push_reply.new.backend c.args.ask.now does.0 c.args.ends (waiting c.args.self.now.inbox) c.args.len c.requires.finds.3 does.1
     (waiting c.take.new.self) c.args.self.now.outbox.answers.items _ c.if-ends.false
-    (c.take.ensures.waits ∙ ap (drop c.args.len) c.in-Ok.ensures.waits) does.2 (c.requires.finds.1 c.if-ends.false) c.requires.finds.0
+    (c.take.ensures.waits ∙ ap (drop c.args.len) c.in_ok-push_reply.ensures.waits) does.2 (c.requires.finds.1 c.if-ends.false) c.requires.finds.0
