@@ -14,10 +14,12 @@ use Rattle.httpask.specs.declared.ask.Call.{Call}
 use Rattle.httpread.specs.Finds.{next_of}
 use Rattle.httpreply.specs.declared.reply.Reply.{Reply}
 use Rattle.httpreply.specs.Answer.{answer}
-use Rattle.httpfront.specs.Room.{room}
+use Rattle.httpfront.specs.Room.{room, HasRoom}
 use Rattle.httpfront.specs.Dialogue.{Exchange, Does, call_of, answer_of}
-use Rattle.httpfront.specs.Turns.{Makes, Steps, Halts}
+use Rattle.httpfront.specs.Turns.{Awaits, Makes, Steps, Halts}
 use Rattle.httpfront.specs.declared.turn.Step.TheVariants as step
+use Rattle.httpfront.specs.declared.turn.Wanted.{Wanted}
+use Rattle.httpfront.specs.declared.turn.Wanted.TheVariants.{Line, Bytes}
 
 -- what holds holds where there is an error
 pub on_err : {A E P : Type 0} (r : Result A E) → P → OnErr r P
@@ -86,3 +88,8 @@ pub unfinished_short : (rest : List ℕ) → IsUnfinished rest → length rest <
 unfinished_short rest (in_head head) = omega (arith, head.short)
 unfinished_short rest (in_body head after begins origin fault short) =
     omega (arith, ap length begins.reads.1, length-append (print_request head) after, begins.short, short, body_within head fault)
+
+-- what is awaited has room
+pub has_room : (wanted : Wanted) (waits : List ℕ) → Awaits wanted waits → HasRoom wanted
+has_room Line waits awaits = tt
+has_room (Bytes needs) waits awaits = awaits.0

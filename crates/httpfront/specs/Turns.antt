@@ -3,16 +3,24 @@ use Rattle.std.specs.Prelude.{◌≡◌, ℕ, ◌+◌, ◌-◌, ◌^◌, ◌<◌
 use Rattle.httpask.specs.Ask.{Asks, IsUnfinished}
 use Rattle.httpask.specs.declared.ask.Call.{Call}
 use Rattle.httpreply.specs.declared.reply.Reply.{Reply}
-use Rattle.httpfront.specs.Room.{room, HasRoom}
+use Rattle.httpfront.specs.Room.{room}
 use Rattle.httpfront.specs.Dialogue.{Exchange, Does, call_of, answer_of, answers_of, Converses, Completes}
 use Rattle.httpfront.specs.declared.turn.Step.{Step}
 use Rattle.httpfront.specs.declared.turn.Step.TheVariants as step
 use Rattle.httpfront.specs.declared.turn.Turn.{Turn}
 use Rattle.httpfront.specs.declared.turn.Turn.TheVariants as turn
+use Rattle.httpfront.specs.declared.turn.Wanted.{Wanted}
+use Rattle.httpfront.specs.declared.turn.Wanted.TheVariants.{Line, Bytes}
 
 -- a count after one more: it stays at the greatest number
 abbrev pub one_more : ℕ → ℕ
 one_more count = min (count + 1) (2 ^ 64 - 1)
+
+-- what is wanted has room, and with fewer bytes than are wanted there is no whole request
+abbrev pub Awaits : Wanted → List ℕ → Type 0
+Awaits Line waits = Unit {0}
+Awaits (Bytes needs) waits =
+    (needs ≤ room) × (length waits < needs) × ((more : List ℕ) → length waits + length more < needs → IsUnfinished (waits ++ more))
 
 -- the turn comes nearer to the end: reads are left, or fewer bytes wait
 abbrev pub Progresses : Turn → ℕ → ℕ → ℕ → ℕ → Type 0
@@ -31,7 +39,7 @@ module _ {B : Type 0} (gives : B → Call → Reply → B → Type 0) where
     -- whatever comes behind the bytes that wait, their first request is not whole yet, or it was answered and taken
     abbrev pub Steps : Step → List ℕ → List ℕ → B → B → List ℕ → List ℕ → Type 0
     Steps (step.Waits wanted) waits waits' old new out out' =
-        IsUnfinished waits × (waits' ≡ waits) × (new ≡ old) × (out' ≡ out) × HasRoom wanted
+        IsUnfinished waits × (waits' ≡ waits) × (new ≡ old) × (out' ≡ out) × Awaits wanted waits
     Steps step.Answered waits waits' old new out out' =
         (x : Exchange) × ((more : List ℕ) → Makes (waits ++ more) old new x (waits' ++ more))
         × (out' ≡ out ++ answer_of copies x) × (length waits' < length waits)

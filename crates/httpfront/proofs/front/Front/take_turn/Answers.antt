@@ -1,7 +1,7 @@
 use Rattle.std.proofs.Common.{[], length, ◌<◌, subst, sym, ◌∙◌}
 use Rattle.httpfront.specs.Room.{room}
 use Rattle.httpfront.specs.Waiting.{waiting}
-use Rattle.httpfront.proofs.RequestLemmas.{unfinished_short, on_err}
+use Rattle.httpfront.proofs.RequestLemmas.{unfinished_short, has_room, on_err}
 use Rattle.httpfront.proofs.TurnLemmas.{so_far-read, so_far-over, so_far-answered, so_far-ended, breaks_reading, breaks_answered, breaks_last, breaks_halting}
 use Rattle.httpfront.proofs.front.Front.take_turn.Goals as goal
 
@@ -13,7 +13,7 @@ read_more-requires-clause-free g c =
 pub read_more-requires-clause-fits : goal.read_more-requires-clause-fits
 read_more-requires-clause-fits g c =
     let waits = rw c.in-Waits.is at c.in_ok-step.ensures.steps in
-    waits.4
+    has_room _ _ waits.4
 
 pub returns-in_err-step-clause-breaks : goal.returns-in_err-step-clause-breaks
 returns-in_err-step-clause-breaks g c = λ bytes before start count so.
