@@ -56,7 +56,7 @@ impl Inbox {
     }
 
     /// The bytes that wait.
-    fn unread(&self) -> &[u8]
+    pub(crate) fn unread(&self) -> &[u8]
         ensures value { result.now ≡ waiting self.now }
         ensures fits { length result.now ≤ room }
     {
