@@ -7,6 +7,7 @@ use admission::admit_program;
 use helpers::Table;
 use machine::{padded, run};
 use std::alloc::Global;
+use std::io::Write;
 use std::process::ExitCode;
 use std::rt::Clock;
 use std::time::{Duration, Instant};
@@ -89,27 +90,82 @@ fn time_run(
     Ok(tally)
 }
 
+/// What an image took, in hundredths of a nanosecond an instruction.
+#[derive(Clone, Copy)]
+struct Figures {
+    verifying: u128,
+    running: u128,
+}
+
+impl Figures {
+    fn print(self, out: &mut impl Write) -> io::Result<()> {
+        print_line(out, "verify", self.verifying)?;
+        print_line(out, "run", self.running)
+    }
+}
+
+fn print_line(out: &mut impl Write, what: &str, hundredths: u128) -> io::Result<()> {
+    writeln!(
+        out,
+        "{what} {}.{:02} ns",
+        hundredths / 100,
+        hundredths % 100
+    )
+}
+
+/// Times the verifier and the run of an image; nothing where it is not let in.
+fn figures_of(
+    clock: &impl Clock,
+    alloc: Global,
+    bytes: &[u8],
+    turns: u32,
+) -> io::Result<Option<Figures>> {
+    let table = Table::new(alloc);
+    match admit_program(alloc, bytes, &table.listed) {
+        Ok(verified) if table.agrees(verified.sigs()) => {
+            time_both(clock, alloc, &table, bytes, &verified, turns).map(Some)
+        }
+        _ => Ok(None),
+    }
+}
+
+/// Times the verifier and the run of a program and the bytes that it was let in as.
+fn time_both(
+    clock: &impl Clock,
+    alloc: Global,
+    table: &Table,
+    bytes: &[u8],
+    verified: &Verified,
+    turns: u32,
+) -> io::Result<Figures>
+    requires { AgreesWith table.now.listed verified.now.sigs }
+{
+    let slots = verified.image().code.len() as u32;
+    let verifying = time_verify(clock, alloc, table, bytes, slots, turns)?.hundredths();
+    let running = time_run(clock, alloc, table, verified, turns)?.hundredths();
+    Ok(Figures { verifying, running })
+}
+
+/// Times the image of this name.
+fn bench(rt: &HostRuntime, name: &str, turns: u32) -> io::Result<ExitCode> {
+    let bytes = fs::read(rt, name)?;
+    match figures_of(rt, rt.alloc(), &bytes, turns)? {
+        Some(figures) => {
+            figures.print(&mut rt.stdout())?;
+            Ok(ExitCode::SUCCESS)
+        }
+        None => {
+            rt.stdout().write_all(b"refused\n")?;
+            Ok(ExitCode::FAILURE)
+        }
+    }
+}
+
 fn main(rt: HostRuntime) -> io::Result<ExitCode> {
-    let alloc = rt.alloc();
     let mut words = env::args(&rt)?.skip(1);
     let (Some(name), Some(turns)) = (words.next(), words.next()) else {
         println!(rt; "{WORDS}")?;
         return Ok(ExitCode::SUCCESS);
     };
-    let bytes = fs::read(&rt, name.as_str())?;
-    let turns = turns.parse().unwrap_or(1);
-    let table = Table::new(alloc);
-    let verified = match admit_program(alloc, &bytes, &table.listed) {
-        Ok(verified) if table.agrees(verified.sigs()) => verified,
-        _ => {
-            println!(rt; "refused")?;
-            return Ok(ExitCode::FAILURE);
-        }
-    };
-    let slots = verified.image().code.len() as u32;
-    let verifying = time_verify(&rt, alloc, &table, &bytes, slots, turns)?.hundredths();
-    let running = time_run(&rt, alloc, &table, &verified, turns)?.hundredths();
-    println!(rt; "verify {}.{:02} ns", verifying / 100, verifying % 100)?;
-    println!(rt; "run {}.{:02} ns", running / 100, running % 100)?;
-    Ok(ExitCode::SUCCESS)
+    bench(&rt, name.as_str(), turns.parse().unwrap_or(1))
 }
