@@ -6,8 +6,6 @@ ghost use Rattle.std.specs.Prelude.{◌≡◌, ◌↔◌, IsTrue};
 
 mod clock;
 mod fault;
-#[cfg(test)]
-mod tests;
 mod walk;
 
 pub use clock::Clock;

@@ -1,4 +1,6 @@
 //! The tests by what they try.
 
+mod clocks;
+mod contexts;
 mod states;
 mod vnodes;

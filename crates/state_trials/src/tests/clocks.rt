@@ -7,11 +7,11 @@ mod limits;
 
 ghost use Rattle.std.specs.Prelude.{◌+◌, ◌^◌, ◌<◌};
 
-use crate::{Clock, ClockFault, Dot};
+use dvv::{Clock, ClockFault, Dot};
 use std::alloc::Global;
 
 /// The clock that counts so many events of each vnode.
-fn clock_of(alloc: Global, counts: &[(u32, u64)]) -> Result<Clock, ClockFault> {
+pub fn clock_of(alloc: Global, counts: &[(u32, u64)]) -> Result<Clock, ClockFault> {
     let mut clock = Clock::new(alloc);
     for &(vnode, count) in counts {
         for _ in 0..count {

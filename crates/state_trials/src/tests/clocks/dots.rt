@@ -1,6 +1,6 @@
 //! The order of events.
 
-use crate::Dot;
+use dvv::Dot;
 
 #[test]
 fn dots_in_order(rt: HostRuntime) {

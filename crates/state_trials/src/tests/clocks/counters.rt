@@ -1,7 +1,7 @@
 //! What a clock counts, and which events it covers.
 
 use super::{clock_of, shows};
-use crate::Dot;
+use dvv::Dot;
 use std::test::Fail;
 
 /// The entries of a clock after one more event of each of these vnodes.

@@ -1,7 +1,7 @@
 //! Where a clock takes no more: past the greatest counter, and past the most entries.
 
 use super::{row_of, shows};
-use crate::{Clock, ClockFault, Dot};
+use dvv::{Clock, ClockFault, Dot};
 use std::alloc::Global;
 use std::test::Fail;
 
