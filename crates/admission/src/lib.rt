@@ -17,7 +17,8 @@ use verifier::{Verified, verify};
 
 /// The program of an image, verified for tables with these helpers.
 ///
-/// Refused with the first fault of the bytes, then with the first rule that the program breaks; want of memory is among both.
+/// Refused with the first fault of the bytes, then with the first rule that the program breaks. `NoMemory` is told only of bytes that have
+/// the head of an image and code of a length that code may have, and of a program that keeps the rules of form.
 pub fn admit_image(alloc: Global, bytes: &[u8], sigs: &Sigs) -> Result<Verified, Refusal>
     ensures admitted { IfOk result (IsLetIn bytes.now sigs.now) }
     ensures refused { IfErr result (IsTurnedAway bytes.now sigs.now) }

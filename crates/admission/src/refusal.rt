@@ -2,10 +2,12 @@
 
 use bpfimage::ImageFault;
 use std::fmt;
-use verifier::Refused;
+use verifier::{Refused, Rule};
 
 /// Why bytes are not let in. `{}` writes a fault of the image or its code (`I2`, `D7 0`), the rule that is broken and its slot
-/// (`V24 3`), or `G2` for another kind; want of memory is `E1 0`.
+/// (`V24 3`), `G2` for another kind, or `E1 0` for want of memory.
+///
+/// What is told of bytes as a fault or a rule is never want of memory.
 #[derive(Clone, Copy, Debug, PartialEq, Eq)]
 pub enum Refusal {
     /// The bytes are no image, or no code.
@@ -14,27 +16,35 @@ pub enum Refusal {
     Rule(Refused),
     /// The image is of another kind than is asked for.
     OtherKind,
+    /// Memory ran out.
+    NoMemory,
 }
 
 impl From<ImageFault> for Refusal {
     ghost use Rattle.std.specs.Prelude.{◌≡◌};
-    ghost use Rattle.admission.specs.declared.refusal.Refusal.TheVariants.{Image};
+    ghost use Rattle.admission.specs.Admissions.{of_fault};
 
-    ghost from_gives = { λ fault refusal. refusal ≡ Image fault };
+    ghost from_gives = { λ fault refusal. refusal ≡ of_fault fault };
 
     fn from(fault: ImageFault) -> Refusal {
-        Refusal::Image(fault)
+        match fault {
+            ImageFault::NoMemory => Refusal::NoMemory,
+            _ => Refusal::Image(fault),
+        }
     }
 }
 
 impl From<Refused> for Refusal {
     ghost use Rattle.std.specs.Prelude.{◌≡◌};
-    ghost use Rattle.admission.specs.declared.refusal.Refusal.TheVariants.{Rule};
+    ghost use Rattle.admission.specs.Admissions.{of_rule};
 
-    ghost from_gives = { λ refused refusal. refusal ≡ Rule refused };
+    ghost from_gives = { λ refused refusal. refusal ≡ of_rule refused };
 
     fn from(refused: Refused) -> Refusal {
-        Refusal::Rule(refused)
+        match refused.rule {
+            Rule::NoMemory => Refusal::NoMemory,
+            _ => Refusal::Rule(refused),
+        }
     }
 }
 
@@ -52,6 +62,7 @@ impl fmt::Display for Refusal {
                 None => f.write_str("E1 0"),
             },
             Refusal::OtherKind => f.write_str("G2"),
+            Refusal::NoMemory => f.write_str("E1 0"),
         }
     }
 }

@@ -1,12 +1,12 @@
 -- What the first bytes of files come to is what all of them come to.
-use Rattle.std.proofs.Common.{◌≡◌, ℕ, ◌<◌, ◌≤◌, inl, List, length, take, arith, refl, sym, ap, subst, ◌∙◌}
+use Rattle.std.proofs.Common.{◌≡◌, ℕ, ◌<◌, ◌≤◌, inl, inr, List, length, take, arith, refl, sym, ap, subst, ◌∙◌}
 use Rattle.std.specs.Prelude.{Bool, MatchBool, true, false, Option, None, Some, IfSome}
 use Rattle.std.specs.Io.KnownBytes.{Appends}
 use Rattle.std.proofs.lemmas.List.{take_all, take-take, length-take}
 use Rattle.insn.specs.declared.Insn.{Insn}
 use Rattle.bpfimage.specs.Image.{number_at, IsImage, IsRaw, is_marked}
 use Rattle.bpfimage.specs.declared.image.ImageKind.{ImageKind}
-use Rattle.bpfimage.specs.declared.image.ImageFault.TheVariants.{Window}
+use Rattle.bpfimage.specs.declared.image.ImageFault.TheVariants.{Window, NoMemory}
 use Rattle.helpers.specs.declared.sig.Entry.{Entry}
 use Rattle.verifier.specs.Program.{Program}
 use Rattle.admission.specs.Enough.{AreReadAlike}
@@ -31,9 +31,11 @@ let_in_of_all : (some all : List ℕ) (sigs : List Entry) (p : Program) → AreR
 let_in_of_all some all sigs p alike x = (program_of_all some all sigs p alike x.0, x.1)
 
 not_run_of_all : (some all : List ℕ) (sigs : List Entry) (r : Refusal) → AreReadAlike some all → IsNotRun some sigs r → IsNotRun all sigs r
-not_run_of_all some all sigs (refusal.Image fault) alike x = (alike.no_programs fault).0 x
-not_run_of_all some all sigs (refusal.Rule refused) alike x = (x.0, program_of_all some all sigs x.0 alike x.1, x.2)
+not_run_of_all some all sigs (refusal.Image fault) alike x = (x.0, (alike.no_programs fault).0 x.1)
+not_run_of_all some all sigs (refusal.Rule refused) alike (told, (p, of, broken)) = (told, (p, program_of_all some all sigs p alike of, broken))
 not_run_of_all some all sigs refusal.OtherKind alike x = absurd x
+not_run_of_all some all sigs refusal.NoMemory alike (inl read) = inl ((alike.no_programs NoMemory).0 read)
+not_run_of_all some all sigs refusal.NoMemory alike (inr (p, of, verified)) = inr (p, program_of_all some all sigs p alike of, verified)
 
 verdict_of_all : (sigs : List Entry) (some all : List ℕ) (v : Verdict) → AreReadAlike some all → IsVerdict sigs some v → IsVerdict sigs all v
 unfolding IsVerdict

@@ -5,7 +5,7 @@ ghost use Rattle.helpers.specs.declared.sig.Entry.{Entry};
 ghost use Rattle.helpers.specs.Entries.{AgreesWith};
 
 use admission::Refusal;
-use bpfimage::{ImageFault, ImageKind};
+use bpfimage::ImageKind;
 use std::alloc::{AllocError, Global};
 use std::io;
 use verifier::Verified;
@@ -20,9 +20,15 @@ pub enum NoHook {
 }
 
 impl From<AllocError> for NoHook {
+    ghost use Rattle.std.specs.Prelude.{◌≡◌};
+    ghost use Rattle.admission.specs.declared.refusal.Refusal.TheVariants.{NoMemory};
+    ghost use Rattle.events.specs.declared.images.NoHook.TheVariants.{Refused};
+
+    ghost from_gives = { λ _ no_hook. no_hook ≡ Refused NoMemory };
+
     /// Want of memory for a hook is told as the refusal of its image.
     fn from(_: AllocError) -> NoHook {
-        NoHook::Refused(Refusal::Image(ImageFault::NoMemory))
+        NoHook::Refused(Refusal::NoMemory)
     }
 }
 

@@ -1,5 +1,5 @@
 -- The answer to each request, and its bytes (RFC 9112, sections 4 to 6; Riak KV documentation, HTTP API; this store's profile).
-use Rattle.std.specs.Prelude.{ℕ, Bool, true, false, if◌then◌else◌, bytes_eq, List, [], ◌∷◌, ◌++◌, length, codes, Option, Some, None, Result, Ok, Err, decimal}
+use Rattle.std.specs.Prelude.{ℕ, Bool, if◌then◌else◌, bytes_eq, List, [], ◌∷◌, ◌++◌, length, codes, Option, Some, None, Result, Ok, Err, decimal}
 use Rattle.std.specs.List.{flat_map, find}
 use Rattle.dvv.specs.declared.Dot.{Dot}
 use Rattle.object.specs.declared.content.Content.{Content}
@@ -17,9 +17,6 @@ use Rattle.hooks.specs.declared.fault.NameFault.{NameFault}
 use Rattle.hooks.specs.declared.fault.NameFault.TheVariants as name_fault
 use Rattle.quorum.specs.declared.fault.QuorumFault.{QuorumFault}
 use Rattle.quorum.specs.declared.fault.QuorumFault.TheVariants as quorum_fault
-use Rattle.bpfimage.specs.declared.image.ImageFault.TheVariants as image_fault
-use Rattle.verifier.specs.declared.rule.Rule.{Rule}
-use Rattle.verifier.specs.declared.rule.Rule.TheVariants as rule
 use Rattle.admission.specs.declared.refusal.Refusal.{Refusal as Unfit}
 use Rattle.admission.specs.declared.refusal.Refusal.TheVariants as unfit
 use Rattle.admission.specs.Admissions.{refusal_text}
@@ -142,21 +139,10 @@ quorum_answer quorum_fault.TooLarge = line_told (codes "413 Payload Too Large") 
 quorum_answer (quorum_fault.BadVerdict bad) = line_told broken (codes "X2")
 quorum_answer (quorum_fault.Rejected code) = line_told (codes "403 Forbidden") (codes "X3 " ++ decimal code)
 
--- a broken rule is none: memory ran out
-abbrev pub is_rule_no_memory : Rule → Bool
-is_rule_no_memory rule.NoMemory = true
-is_rule_no_memory other = false
-
--- a refusal is that memory ran out
-abbrev pub is_no_memory : Unfit → Bool
-is_no_memory (unfit.Image image_fault.NoMemory) = true
-is_no_memory (unfit.Image fault) = false
-is_no_memory (unfit.Rule broke) = is_rule_no_memory broke.rule
-is_no_memory unfit.OtherKind = false
-
--- an image that is not let in: the refusal as it is shown
+-- an image that is not let in: the refusal as it is shown, but for want of memory
 abbrev pub unfit_answer : Unfit → Answer
-unfit_answer refusal = if is_no_memory refusal then no_memory else line_told unprocessable (refusal_text refusal)
+unfit_answer unfit.NoMemory = no_memory
+unfit_answer other = line_told unprocessable (refusal_text other)
 
 -- a name as JSON
 abbrev pub json_name : Option (List ℕ) → List ℕ

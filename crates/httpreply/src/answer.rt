@@ -3,7 +3,7 @@
 ghost use Rattle.std.specs.Prelude.{◌≡◌, ◌++◌, OnOk, IfOk, Ok, Some, [], ◌∷◌, length, bytes_eq};
 ghost use Rattle.std.specs.List.{find};
 ghost use Rattle.std.specs.Option.{option_copied};
-ghost use Rattle.admission.specs.Admissions.{refusal_text, rule_text};
+ghost use Rattle.admission.specs.Admissions.{rule_text};
 ghost use Rattle.verifier.specs.Numbers.{rule_number};
 ghost use Rattle.bpfimage.specs.Image.{text_of};
 ghost use Rattle.httpask.specs.declared.ask.Form.TheVariants.{Parts};
@@ -18,8 +18,8 @@ use crate::field::{Answer, push_number, push_parts, push_tag};
 use crate::parts::push_parts_body;
 use crate::reply::{Bound, Reply};
 use crate::words::{
-    BAD_VERDICT, DISAGREES, Line, NO_MEMORY, NOT_FOUND, TOO_FEW, TOO_LARGE, UNPROCESSABLE, UNSEEN,
-    of_code, of_hook, of_name, of_refusal, of_vnode,
+    BAD_VERDICT, DISAGREES, Line, NO_MEMORY, NOT_FOUND, OTHER_KIND, TOO_FEW, TOO_LARGE,
+    UNPROCESSABLE, UNSEEN, of_code, of_hook, of_name, of_refusal, of_vnode,
 };
 use admission::Refusal as Unfit;
 use bpfimage::ImageFault;
@@ -29,7 +29,7 @@ use insn::DecodeFault;
 use object::{Bytes, Content, KeyState, Sibling};
 use quorum::QuorumFault;
 use std::alloc::{AllocError, Global};
-use verifier::{Refused, Rule};
+use verifier::Refused;
 
 /// Adds the answer to a request, after the reply to its call. The text is a buffer for bodies that are made up.
 pub fn push_answer(
@@ -206,10 +206,24 @@ fn push_unfit(
     requires { text.old.items ≡ [] }
     ensures { OnOk result (out.new.items ≡ out.old.items ++ print_answer (spec.unfit_answer refusal) ends) }
 {
-    if is_no_memory(refusal) {
-        return push_line(out, NO_MEMORY, ends);
+    match refusal {
+        Unfit::Image(fault) => {
+            push_image_fault(text, fault)?;
+            push_unprocessable(out, text, ends)
+        }
+        Unfit::Rule(refused) => {
+            push_broken_rule(text, refused)?;
+            push_unprocessable(out, text, ends)
+        }
+        Unfit::OtherKind => push_line(out, OTHER_KIND, ends),
+        Unfit::NoMemory => push_line(out, NO_MEMORY, ends),
     }
-    push_refusal(text, refusal)?;
+}
+
+// Adds why an image is not let in, where the text shows it.
+fn push_unprocessable(out: &mut Vec<u8>, text: &mut Vec<u8>, ends: bool) -> Result<(), AllocError>
+    ensures { OnOk result (out.new.items ≡ out.old.items ++ print_answer (spec.line_told spec.unprocessable text.old.items) ends) }
+{
     text.extend_from_slice(b"\n")?;
     push_line(
         out,
@@ -219,33 +233,6 @@ fn push_unfit(
         },
         ends,
     )
-}
-
-// Whether an image is not let in for want of memory.
-fn is_no_memory(refusal: Unfit) -> bool
-    ensures { result ≡ spec.is_no_memory refusal }
-{
-    match refusal {
-        Unfit::Image(ImageFault::NoMemory) => true,
-        Unfit::Rule(
-            Refused {
-                rule: Rule::NoMemory,
-                ..
-            },
-        ) => true,
-        _ => false,
-    }
-}
-
-// Adds a refusal as it is shown.
-fn push_refusal(text: &mut Vec<u8>, refusal: Unfit) -> Result<(), AllocError>
-    ensures { OnOk result (text.new.items ≡ text.old.items ++ refusal_text refusal) }
-{
-    match refusal {
-        Unfit::Image(fault) => push_image_fault(text, fault),
-        Unfit::Rule(refused) => push_broken_rule(text, refused),
-        Unfit::OtherKind => text.extend_from_slice(b"G2"),
-    }
 }
 
 // Adds a fault of an image as it is shown.

@@ -35,6 +35,12 @@ pub(crate) const NO_MEMORY: Line<'static> = Line {
     text: b"E1\n",
 };
 
+/// What is told of an image of another kind than is asked for.
+pub(crate) const OTHER_KIND: Line<'static> = Line {
+    status: UNPROCESSABLE,
+    text: b"G2\n",
+};
+
 /// What is told where too few copies answered.
 pub(crate) const TOO_FEW: Line<'static> = Line {
     status: UNAVAILABLE,

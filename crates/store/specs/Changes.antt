@@ -2,7 +2,6 @@
 use Rattle.std.specs.Prelude.{◌≡◌, ◌⊎◌, ℕ, List, [], ◌∷◌, ◌++◌, Option, Some, None, Result, Ok, Err}
 use Rattle.bpfimage.specs.declared.image.ImageKind.{ImageKind}
 use Rattle.bpfimage.specs.declared.image.ImageKind.TheVariants.{PreCommit, Resolver}
-use Rattle.bpfimage.specs.declared.image.ImageFault.TheVariants as image_fault
 use Rattle.verifier.specs.Program.{Program}
 use Rattle.admission.specs.declared.refusal.Refusal.{Refusal}
 use Rattle.admission.specs.declared.refusal.Refusal.TheVariants as refusal
@@ -35,8 +34,8 @@ module _ {P H : Type 0} (takes : H → registry.Change → Result Unit HookFault
   Installs old name image (Ok done) new = (program : Program) × IsLetIn image old.listed program × takes old.hooks (registry.Install name program) (Ok done) new.hooks × IsOfHooks old new
   Installs old name image (Err why) new =
       (IsTurnedAway image old.listed why × (new ≡ old))
-      ⊎ ((why ≡ refusal.Image image_fault.NoMemory) × (new ≡ old))
-      ⊎ ((program : Program) × (fault : HookFault) × IsLetIn image old.listed program × takes old.hooks (registry.Install name program) (Err fault) new.hooks × (why ≡ refusal.Image image_fault.NoMemory) × IsOfHooks old new)
+      ⊎ ((why ≡ refusal.NoMemory) × (new ≡ old))
+      ⊎ ((program : Program) × (fault : HookFault) × IsLetIn image old.listed program × takes old.hooks (registry.Install name program) (Err fault) new.hooks × (why ≡ refusal.NoMemory) × IsOfHooks old new)
 
   -- a name is given up
   abbrev pub Removes : StoreView P H → List ℕ → Result Unit HookFault → StoreView P H → Type 0

@@ -6,7 +6,7 @@ ghost use Rattle.store.specs.View.{shown};
 
 use crate::store::Store;
 use admission::{Refusal, admit_image};
-use bpfimage::{ImageFault, ImageKind};
+use bpfimage::ImageKind;
 use hooks::{HookChanges, HookFault, Hooks, NameFault};
 use httpask::Change;
 use object::Bytes;
@@ -16,7 +16,7 @@ use std::sync::Arc;
 impl<P, H: HookChanges> Store<P, H> {
     /// Installs the hook of an image under a name, in place of the one that had it.
     ///
-    /// Refused as [`admit_image`] refuses the image, and as that does for want of memory where it lacks here.
+    /// Refused as [`admit_image`] refuses the image, `NoMemory` too where memory lacks here.
     pub fn install(&mut self, name: &Bytes, image: &[u8]) -> Result<(), Refusal>
         ensures { Installs H.takes (shown self.old.peers self.old.hooking.hooks self.old.hooking.table.listed self.old.placement) name.now image.now result (shown self.new.peers self.new.hooking.hooks self.new.hooking.table.listed self.new.placement) }
     {
@@ -25,14 +25,14 @@ impl<P, H: HookChanges> Store<P, H> {
             Err(refusal) => return Err(refusal),
         };
         let Ok(program) = Arc::new(self.alloc, verified) else {
-            return Err(Refusal::Image(ImageFault::NoMemory));
+            return Err(Refusal::NoMemory);
         };
         let Ok(name) = name.copy() else {
-            return Err(Refusal::Image(ImageFault::NoMemory));
+            return Err(Refusal::NoMemory);
         };
         match self.hooking.hooks.install(name, program) {
             Ok(()) => Ok(()),
-            Err(_) => Err(Refusal::Image(ImageFault::NoMemory)),
+            Err(_) => Err(Refusal::NoMemory),
         }
     }
 

@@ -139,7 +139,7 @@ fn puts_without_an_answer(rt: HostRuntime) -> Result<(), Fail> {
 }
 
 /// Why an image is not let in, and what that is told as.
-const UNFIT: [(Unfit, &str, &str); 9] = [
+const UNFIT: [(Unfit, &str, &str); 8] = [
     (
         Unfit::Image(ImageFault::Short),
         "422 Unprocessable Entity",
@@ -164,11 +164,6 @@ const UNFIT: [(Unfit, &str, &str); 9] = [
         "D7 12",
     ),
     (
-        Unfit::Image(ImageFault::NoMemory),
-        "500 Internal Server Error",
-        "E1",
-    ),
-    (
         Unfit::Rule(Refused {
             rule: Rule::Kinds(KindRule::OutsideWindow),
             slot: 3,
@@ -184,15 +179,8 @@ const UNFIT: [(Unfit, &str, &str); 9] = [
         "422 Unprocessable Entity",
         "V12 0",
     ),
-    (
-        Unfit::Rule(Refused {
-            rule: Rule::NoMemory,
-            slot: 0,
-        }),
-        "500 Internal Server Error",
-        "E1",
-    ),
     (Unfit::OtherKind, "422 Unprocessable Entity", "G2"),
+    (Unfit::NoMemory, "500 Internal Server Error", "E1"),
 ];
 
 /// A request to take a hook away, which stands for each whose answer tells of its reply alone.
