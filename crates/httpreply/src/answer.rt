@@ -28,12 +28,11 @@ use httpask::{Ask, Form};
 use insn::DecodeFault;
 use object::{Bytes, Content, KeyState, Sibling};
 use quorum::QuorumFault;
-use std::alloc::{AllocError, Global};
+use std::alloc::AllocError;
 use verifier::Refused;
 
 /// Adds the answer to a request, after the reply to its call. The text is a buffer for bodies that are made up.
 pub fn push_answer(
-    _alloc: Global,
     out: &mut Vec<u8>,
     text: &mut Vec<u8>,
     copies: u32,

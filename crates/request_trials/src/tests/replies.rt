@@ -12,7 +12,7 @@ use std::test::Fail;
 pub fn text_of(alloc: Global, ask: &Ask, reply: &Reply, ends: bool) -> Result<String, AllocError> {
     let mut out = Vec::new(alloc);
     let mut text = Vec::from_slice(alloc, b"left over")?;
-    push_answer(alloc, &mut out, &mut text, 3, ask, reply, ends)?;
+    push_answer(&mut out, &mut text, 3, ask, reply, ends)?;
     String::from_utf8_lossy(alloc, &out)
 }
 
