@@ -203,6 +203,6 @@ impl Front {
         ensures waits { waiting self.new.inbox ≡ waiting self.old.inbox }
     {
         let reply = make_call(backend, ask);
-        self.outbox.push(self.alloc, copies, ask, &reply, ends)
+        self.outbox.push(copies, ask, &reply, ends)
     }
 }

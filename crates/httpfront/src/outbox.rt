@@ -39,7 +39,6 @@ impl Outbox {
     /// Adds the answer to a request.
     pub(crate) fn push(
         &mut self,
-        alloc: Global,
         copies: u32,
         ask: &Ask,
         reply: &Reply,
@@ -47,15 +46,7 @@ impl Outbox {
     ) -> Result<(), AllocError>
         ensures { OnOk result (self.new.answers.items ≡ self.old.answers.items ++ answer copies ask.now reply.now ends) }
     {
-        push_answer(
-            alloc,
-            &mut self.answers,
-            &mut self.text,
-            copies,
-            ask,
-            reply,
-            ends,
-        )
+        push_answer(&mut self.answers, &mut self.text, copies, ask, reply, ends)
     }
 
     /// Writes what waits.
