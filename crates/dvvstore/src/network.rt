@@ -3,14 +3,12 @@
 use commands::failure::Failure;
 use commands::server::Server;
 use helpers::Table;
-use hooks::Registry;
 use local::Local;
-use quorum::Hooking;
+use serving::one_thread;
 use std::alloc::Global;
 use std::io::Write;
 use std::net::{Net, TcpListener, TcpStream};
 use std::rt::Clock;
-use store::Store;
 
 /// How many vnodes there are.
 const VNODES: u32 = 3;
@@ -44,9 +42,7 @@ impl<R: Clock + Net<Listener = TcpListener, Stream = TcpStream>> Server for Netw
         let Ok(vnodes) = Local::open(alloc, VNODES, self.incarnation()) else {
             return Err(Failure::Unreadable);
         };
-        let placement = vnodes.placement();
-        let hooking = Hooking::new(alloc, Registry::new(alloc), table);
-        let mut store = Store::new(alloc, vnodes, hooking, placement);
+        let mut store = one_thread(alloc, vnodes, table);
         listener::serve(self.rt, alloc, &mut store, addr, count, out)?;
         Ok(())
     }
