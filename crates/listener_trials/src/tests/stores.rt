@@ -3,7 +3,7 @@
 use helpers::Table;
 use hooks::Registry;
 use local::Local;
-use quorum::Hooking;
+use serving::one_thread;
 use std::alloc::Global;
 use std::test::Fail;
 use store::Store;
@@ -11,7 +11,5 @@ use store::Store;
 /// Three vnodes of an incarnation, with nothing written and no hook.
 pub(crate) fn open(alloc: Global, incarnation: u16) -> Result<Store<Local, Registry>, Fail> {
     let vnodes = Local::open(alloc, 3, incarnation)?;
-    let placement = vnodes.placement();
-    let hooking = Hooking::new(alloc, Registry::new(alloc), Table::new(alloc));
-    Ok(Store::new(alloc, vnodes, hooking, placement))
+    Ok(one_thread(alloc, vnodes, Table::new(alloc)))
 }
