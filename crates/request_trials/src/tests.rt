@@ -10,7 +10,7 @@ mod reads;
 mod replies;
 
 use httpask::{Ask, Refusal};
-use httpread::{Asking, Routes, first_request};
+use httpread::{Asking, KnownHead, Routes, first_request};
 use std::alloc::{AllocError, Global};
 
 /// What some bytes come to.
@@ -26,10 +26,16 @@ enum Outcome {
     Broken(Refusal),
 }
 
+/// What the bytes come to, where nothing is known of their head and each key has three copies.
+fn first(alloc: Global, routes: &Routes, bytes: &[u8]) -> Result<Asking, AllocError> {
+    let mut known = KnownHead::new();
+    first_request(alloc, routes, 3, &mut known, bytes)
+}
+
 /// What the bytes come to, where each key has three copies.
 fn told(alloc: Global, bytes: &[u8]) -> Result<Outcome, AllocError> {
     let routes = Routes::new(alloc)?;
-    let asking = first_request(alloc, &routes, 3, bytes)?;
+    let asking = first(alloc, &routes, bytes)?;
     let Asking::First { ask, ends, .. } = asking else {
         return Ok(Outcome::More);
     };

@@ -1,7 +1,8 @@
 //! Worked requests, and what they ask for.
 
+use super::first;
 use httpask::{Ask, Call, Change, Form};
-use httpread::{Asking, Routes, first_request};
+use httpread::{Asking, Routes};
 use object::{Bytes, Content, Key};
 use std::alloc::{AllocError, Global};
 use std::test::Fail;
@@ -96,7 +97,7 @@ fn call_text(alloc: Global, call: &Call, form: &Form) -> Result<String, Fail> {
 
 /// What the bytes come to, in words; and before it how many bytes the request has, where another may follow.
 fn words(alloc: Global, routes: &Routes, bytes: &[u8]) -> Result<String, Fail> {
-    let Asking::First { ask, ends, len } = first_request(alloc, routes, 3, bytes)? else {
+    let Asking::First { ask, ends, len } = first(alloc, routes, bytes)? else {
         return Ok(String::from_str(alloc, "more")?);
     };
     let asked = match ask {
