@@ -3,6 +3,7 @@
 mod calls;
 mod runs;
 mod scripts;
+mod serving;
 mod verdicts;
 mod words;
 

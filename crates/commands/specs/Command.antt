@@ -39,3 +39,8 @@ pub record SimulatedFile (sigs : List Entry) (held_script before after : Option 
 -- the address at which connections are answered was told
 abbrev pub Listened : Option (List ℕ) → Option (List ℕ) → Type 0
 Listened before after = (bound : List ℕ) × Appends before after (line (codes "listening " ++ bound))
+
+-- connections were answered at an address that was told, or memory was refused for the store, and that alone was told
+pub data Served (before after : Option (List ℕ)) (status : ℕ) : Type 0 where
+  listened : status ≡ 0 → Listened before after → Served before after status
+  no_memory : status ≡ 1 → Appends before after (line (codes "E1")) → Served before after status

@@ -2,12 +2,12 @@
 ghost use Rattle.std.specs.Prelude.{◌≡◌, ℕ, ◌<◌, ◌≤◌, List, Option, OnOk, IfOk};
 ghost use Rattle.std.specs.Borrow.{Bor};
 ghost use Rattle.commands.specs.Words.{request_of};
-ghost use Rattle.commands.specs.Command.{Judged, Listened, Ran, SimulatedFile};
+ghost use Rattle.commands.specs.Command.{Judged, Ran, Served, SimulatedFile};
 
 use crate::failure::Failure;
 use crate::files::Files;
 use crate::run::run;
-use crate::server::Server;
+use crate::server::{Server, Unserved};
 use crate::simulate::simulate;
 use crate::verify::verify;
 use crate::words::{Request, parse};
@@ -17,6 +17,9 @@ use std::io::Write;
 
 /// The status where connections were served.
 const DONE: u8 = 0;
+
+/// The status where memory was refused for the store.
+const REFUSED: u8 = 1;
 
 /// The status after a [`Failure`].
 const FAILED: u8 = 2;
@@ -36,7 +39,7 @@ pub fn command<F: Files, S: Server, O: Write, E: Write>(
     ensures ran { (image input : Bor (List ℕ)) → request_of words.now ≡ Some (Request.Run image input) → result < 2 → Ran table.listed (F.held files.old image.now) (F.held files.old input.now) (O.contents out.old) (O.contents out.new) result }
     ensures judged { (image : Bor (List ℕ)) → request_of words.now ≡ Some (Request.Verify image) → result < 2 → Judged table.listed (F.held files.old image.now) (O.contents out.old) (O.contents out.new) result }
     ensures simulated { (script : Bor (List ℕ)) → request_of words.now ≡ Some (Request.Sim script) → result < 2 → SimulatedFile table.listed (F.held files.old script.now) (O.contents out.old) (O.contents out.new) result }
-    ensures served { (addr : Bor (List ℕ)) (count : Option ℕ) → request_of words.now ≡ Some (Request.Serve addr count) → result < 2 → Listened (O.contents out.old) (O.contents out.new) }
+    ensures served { (addr : Bor (List ℕ)) (count : Option ℕ) → request_of words.now ≡ Some (Request.Serve addr count) → result < 2 → Served (O.contents out.old) (O.contents out.new) result }
     ensures wrong_words { request_of words.now ≡ None → result ≡ 2 }
     ensures untouched { request_of words.now ≡ None → out.new ≡ out.old }
 {
@@ -57,7 +60,7 @@ pub fn command<F: Files, S: Server, O: Write, E: Write>(
     }
 }
 
-/// Serves the store at an address, and gives the status.
+/// Serves the store at an address, and gives the status. Want of memory before that is told on `out`.
 fn serve<S: Server, O: Write>(
     alloc: Global,
     table: Table,
@@ -66,9 +69,15 @@ fn serve<S: Server, O: Write>(
     server: &mut S,
     out: &mut O,
 ) -> Result<u8, Failure>
-    ensures status { IfOk result (λ status. status ≡ 0) }
-    ensures told { OnOk result (Listened (O.contents out.old) (O.contents out.new)) }
+    ensures status { IfOk result (λ status. status ≤ 2) }
+    ensures served { IfOk result (Served (O.contents out.old) (O.contents out.new)) }
 {
-    server.serve(alloc, table, addr, count, out)?;
-    Ok(DONE)
+    match server.serve(alloc, table, addr, count, out) {
+        Ok(()) => Ok(DONE),
+        Err(Unserved::NoMemory) => {
+            out.write_all(b"E1\n")?;
+            Ok(REFUSED)
+        }
+        Err(Unserved::Unreadable) => Err(Failure::Unreadable),
+    }
 }

@@ -8,7 +8,7 @@ ghost use Rattle.helpers.specs.Shapes.{shape_of, written_shape};
 ghost use Rattle.helpers.specs.declared.sig.Entry.{Entry};
 ghost use Rattle.helpers.specs.Entries.{IsAdmitted};
 ghost use Rattle.helpers.specs.Answers.{IsCallableOn, AnswersOn};
-ghost use Rattle.commands.specs.Command.{Judged, Listened, Ran, SimulatedFile};
+ghost use Rattle.commands.specs.Command.{Judged, Ran, Served, SimulatedFile};
 ghost use Rattle.commands.specs.Own.{one_number, shapes_of, own_shapes};
 ghost use Rattle.commands.specs.Words.{request_of};
 
@@ -63,7 +63,7 @@ pub fn command_with_helpers<F: Files, S: Server, O: Write, E: Write>(
     ensures ran { (image input : Bor (List ℕ)) → request_of words.now ≡ Some (Request.Run image input) → IfOk result (λ status. status < 2 → (sigs : List Entry) × (shapes_of sigs ≡ own_shapes) × Ran sigs (F.held files.old image.now) (F.held files.old input.now) (O.contents out.old) (O.contents out.new) status) }
     ensures judged { (image : Bor (List ℕ)) → request_of words.now ≡ Some (Request.Verify image) → IfOk result (λ status. status < 2 → (sigs : List Entry) × (shapes_of sigs ≡ own_shapes) × Judged sigs (F.held files.old image.now) (O.contents out.old) (O.contents out.new) status) }
     ensures simulated { (script : Bor (List ℕ)) → request_of words.now ≡ Some (Request.Sim script) → IfOk result (λ status. status < 2 → (sigs : List Entry) × (shapes_of sigs ≡ own_shapes) × SimulatedFile sigs (F.held files.old script.now) (O.contents out.old) (O.contents out.new) status) }
-    ensures served { (addr : Bor (List ℕ)) (count : Option ℕ) → request_of words.now ≡ Some (Request.Serve addr count) → IfOk result (λ status. status < 2 → Listened (O.contents out.old) (O.contents out.new)) }
+    ensures served { (addr : Bor (List ℕ)) (count : Option ℕ) → request_of words.now ≡ Some (Request.Serve addr count) → IfOk result (λ status. status < 2 → Served (O.contents out.old) (O.contents out.new) status) }
     ensures wrong_words { request_of words.now ≡ None → IfOk result (λ status. status ≡ 2) }
     ensures untouched { request_of words.now ≡ None → out.new ≡ out.old }
 {

@@ -1,11 +1,30 @@
 //! Who serves the store.
-ghost use Rattle.std.specs.Prelude.{OnOk};
+ghost use Rattle.std.specs.Prelude.{◌≡◌, OnOk, IfErr};
 ghost use Rattle.commands.specs.Command.{Listened};
 
-use crate::failure::Failure;
 use helpers::Table;
 use std::alloc::Global;
+use std::io;
 use std::io::Write;
+
+/// Why the store is not served, or no longer.
+#[derive(Clone, Copy, Debug, PartialEq, Eq)]
+pub enum Unserved {
+    /// Memory ran out before anything was told.
+    NoMemory,
+    /// The address can't be bound, the output can't be written, or no connection can be had any more.
+    Unreadable,
+}
+
+impl From<io::Error> for Unserved {
+    ghost use Rattle.commands.specs.declared.server.Unserved.TheVariants.{Unreadable};
+
+    ghost from_gives = { λ _ why. why ≡ Unreadable };
+
+    fn from(_: io::Error) -> Unserved {
+        Unserved::Unreadable
+    }
+}
 
 /// Serves the store over a network.
 pub trait Server {
@@ -18,8 +37,9 @@ pub trait Server {
         addr: &str,
         count: Option<u32>,
         out: &mut O,
-    ) -> Result<(), Failure>
-        ensures { OnOk result (Listened (O.contents out.old) (O.contents out.new)) };
+    ) -> Result<(), Unserved>
+        ensures told { OnOk result (Listened (O.contents out.old) (O.contents out.new)) }
+        ensures untold { IfErr result (λ why. why ≡ Unserved.NoMemory → O.contents out.new ≡ O.contents out.old) };
 }
 
 /// Serves nothing: no address can be bound.
@@ -34,7 +54,7 @@ impl Server for Offline {
         _addr: &str,
         _count: Option<u32>,
         _out: &mut O,
-    ) -> Result<(), Failure> {
-        Err(Failure::Unreadable)
+    ) -> Result<(), Unserved> {
+        Err(Unserved::Unreadable)
     }
 }

@@ -1,7 +1,6 @@
 //! The network of the system.
 
-use commands::failure::Failure;
-use commands::server::Server;
+use commands::server::{Server, Unserved};
 use helpers::Table;
 use local::Local;
 use serving::one_thread;
@@ -38,9 +37,9 @@ impl<R: Clock + Net<Listener = TcpListener, Stream = TcpStream>> Server for Netw
         addr: &str,
         count: Option<u32>,
         out: &mut O,
-    ) -> Result<(), Failure> {
+    ) -> Result<(), Unserved> {
         let Ok(vnodes) = Local::open(alloc, VNODES, self.incarnation()) else {
-            return Err(Failure::Unreadable);
+            return Err(Unserved::NoMemory);
         };
         let mut store = one_thread(alloc, vnodes, table);
         listener::serve(self.rt, alloc, &mut store, addr, count, out)?;

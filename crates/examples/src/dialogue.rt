@@ -1,7 +1,6 @@
 //! The bytes of one connection, in the place of a network.
 
-use commands::failure::Failure;
-use commands::server::Server;
+use commands::server::{Server, Unserved};
 use helpers::Table;
 use httpfront::answers_to;
 use local::Local;
@@ -32,18 +31,18 @@ impl Server for Dialogue<'_> {
         addr: &str,
         _count: Option<u32>,
         out: &mut O,
-    ) -> Result<(), Failure> {
-        writeln!(out, "listening {addr}")?;
+    ) -> Result<(), Unserved> {
         let Ok(vnodes) = Local::open(alloc, VNODES, INCARNATION) else {
-            return Err(Failure::Unreadable);
+            return Err(Unserved::NoMemory);
         };
+        writeln!(out, "listening {addr}")?;
         let mut store = one_thread(alloc, vnodes, table);
         match answers_to(alloc, self.requests, &mut store) {
             Ok(answers) => {
                 self.answers = answers;
                 Ok(())
             }
-            Err(_) => Err(Failure::Unreadable),
+            Err(_) => Err(Unserved::Unreadable),
         }
     }
 }
