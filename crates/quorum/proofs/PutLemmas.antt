@@ -1,10 +1,9 @@
 -- One vnode more of a put's ways.
-use Rattle.std.proofs.Common.{◌≡◌, ℕ, ◌+◌, ◌≤◌, ◌<◌, List, [], ◌∷◌, ◌++◌, length, get_or, refl, ap, sym, subst, arith, Result, Ok, Err, count_by, is_ok, cond, Bool, true, false, nat_le, MatchBool}
+use Rattle.std.proofs.Common.{◌≡◌, ℕ, ◌+◌, ◌≤◌, ◌<◌, List, [], ◌∷◌, ◌++◌, length, get_or, refl, ap, sym, subst, arith, Result, Ok, Err, count_by, is_ok, cond, Bool, true, false, MatchBool}
 use Rattle.std.proofs.lemmas.Bool.Decides.{nat_tests}
 use Rattle.std.proofs.lemmas.List.Sums.{sum_by-append}
 use Rattle.dvv.specs.declared.Dot.{Dot}
 use Rattle.quorum.specs.declared.fault.QuorumFault.{QuorumFault}
-use Rattle.quorum.specs.declared.fault.QuorumFault.TheVariants.{TooFew}
 use Rattle.object.specs.declared.content.Content.{Content}
 use Rattle.object.specs.declared.content.Key.{Key}
 use Rattle.peers.specs.declared.peers.Answer.{Answer}
@@ -72,12 +71,6 @@ copies_end backs back = at_end back (count_by is_ok (backs ++ back ∷ [])) (cou
 -- the calls that follow one, with it in front
 pub one_first : {S : Type 0} (happens : S → Call → S → Type 0) (start mid new : S) (call : Call) (calls : List Call) → happens start call mid → Made happens mid calls new → Made happens start (call ∷ calls) new
 one_first happens start mid new call calls h m = (mid, h, m)
-
-pub chosen : (w stored : ℕ) (dot : Dot) → w ≤ stored → ◌≡◌ {A = Result Dot QuorumFault} (Ok dot) (cond (nat_le w stored) (Ok dot) (Err TooFew))
-chosen w stored dot h = grind (arith, nat_tests)
-
-pub refused_so : (w stored : ℕ) (dot : Dot) → stored < w → ◌≡◌ {A = Result Dot QuorumFault} (Err TooFew) (cond (nat_le w stored) (Ok dot) (Err TooFew))
-refused_so w stored dot h = grind (arith, nat_tests)
 
 module _ (coordinator : ℕ) (others : List ℕ) (key : Key) (w : ℕ) (seen : List Dot) (content : Content) (first : Result Dot PeerFault) (calls : List Call) (result : Result Dot QuorumFault) where
   pub tries_again : is_ahead first ≡ true → TriesAgain coordinator others key w seen content calls result → AfterFirst coordinator others key w seen content first calls result
