@@ -7,6 +7,7 @@ use std::alloc::Global;
 use std::io::Write;
 
 /// A server without memory for a store.
+#[derive(Drop)]
 struct Cramped;
 
 impl Server for Cramped {
