@@ -1,6 +1,6 @@
 //! What a write stores, and what it is stored under.
 
-ghost use Rattle.std.specs.Prelude.{◌≡◌, IfOk};
+ghost use Rattle.std.specs.Prelude.{◌≡◌, ◌↔◌, IfOk, IsTrue};
 
 use crate::bytes::Bytes;
 use dvv::Dot;
@@ -26,6 +26,23 @@ impl Content {
             Content::Tombstone => Ok(Content::Tombstone),
         }
     }
+
+    /// Whether another content is the same.
+    pub fn is_same(&self, other: &Content) -> bool
+        ensures { IsTrue result ↔ (self.now ≡ other.now) }
+    {
+        match (self, other) {
+            (
+                Content::Value { media, bytes },
+                Content::Value {
+                    media: other_media,
+                    bytes: other_bytes,
+                },
+            ) => media == other_media && bytes == other_bytes,
+            (Content::Tombstone, Content::Tombstone) => true,
+            _ => false,
+        }
+    }
 }
 
 /// A content under the dot of its write.
@@ -44,6 +61,13 @@ impl Sibling {
             dot: self.dot,
             content: self.content.copy()?,
         })
+    }
+
+    /// Whether another sibling is the same.
+    pub fn is_same(&self, other: &Sibling) -> bool
+        ensures { IsTrue result ↔ (self.now ≡ other.now) }
+    {
+        self.dot == other.dot && self.content.is_same(&other.content)
     }
 }
 

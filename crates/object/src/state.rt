@@ -81,6 +81,14 @@ impl KeyState {
         })
     }
 
+    /// Whether another state is the same: each sibling with its content, and the clock.
+    pub fn is_same(&self, other: &KeyState) -> bool
+        ensures { IsTrue result ↔ (self.now ≡ other.now) }
+    {
+        have_same_entries(self.clock.entries(), other.clock.entries())
+            && are_same(&self.siblings, &other.siblings)
+    }
+
     /// The dot that a put at a vnode would get, or what it would be refused for, want of memory aside.
     pub fn check_put(&self, vnode: u32, seen: &Clock) -> Result<Dot, PutRefusal>
         ensures dot { IfOk result (λ dot. dot ≡ next self.now vnode) }
@@ -232,6 +240,36 @@ fn copies_of(alloc: Global, siblings: &[Sibling]) -> Result<Vec<Sibling>, AllocE
         copies.push(sibling.copy()?)?;
     }
     Ok(copies)
+}
+
+// Whether two clocks' entries are the same.
+fn have_same_entries(entries: &[Dot], others: &[Dot]) -> bool
+    ensures { IsTrue result ↔ (entries.now ≡ others.now) }
+{
+    if entries.len() != others.len() {
+        return false;
+    }
+    for i in 0..entries.len() {
+        if entries[i] != others[i] {
+            return false;
+        }
+    }
+    true
+}
+
+// Whether two lists of siblings are the same.
+fn are_same(siblings: &[Sibling], others: &[Sibling]) -> bool
+    ensures { IsTrue result ↔ (siblings.now ≡ others.now) }
+{
+    if siblings.len() != others.len() {
+        return false;
+    }
+    for i in 0..siblings.len() {
+        if !siblings[i].is_same(&others[i]) {
+            return false;
+        }
+    }
+    true
 }
 
 // The union of two clocks, for a merge.
