@@ -1,8 +1,10 @@
--- How an entry is kept: what is long, beside it.
+-- How an entry is kept, what is long beside it, and how its parts are lent.
 use Rattle.std.specs.Prelude.{ℕ}
 use Rattle.journal.specs.Entry.{Entry, Put, Merge, Read, Restart}
 use Rattle.journal.specs.declared.entry.Event.{Event}
 use Rattle.journal.specs.declared.entry.Event.TheVariants as kept
+use Rattle.journal.specs.declared.entry.Said.{Said}
+use Rattle.journal.specs.declared.entry.Said.TheVariants as lent
 
 -- the entry of a stamp and a kept event
 abbrev pub entry_of : ℕ → Event → Entry
@@ -10,3 +12,10 @@ entry_of stamp (kept.Put write) = Put stamp write.value.key write.value.seen wri
 entry_of stamp (kept.Merge merge) = Merge stamp merge.value.key merge.value.from merge.value.at merge.value.state
 entry_of stamp (kept.Read key) = Read stamp key
 entry_of stamp kept.Restart = Restart stamp
+
+-- the entry of lent parts
+abbrev pub entry_said : Said → Entry
+entry_said (lent.Put stamp key seen content dot) = Put stamp key.now seen.now content.now dot
+entry_said (lent.Merge stamp key from at state) = Merge stamp key.now from at state.now
+entry_said (lent.Read stamp key) = Read stamp key.now
+entry_said (lent.Restart stamp) = Restart stamp

@@ -6,5 +6,5 @@ mod journal;
 pub mod laws;
 pub mod rows;
 
-pub use entry::Entry;
+pub use entry::{Entry, Said};
 pub use journal::{Journal, JournalFault};
