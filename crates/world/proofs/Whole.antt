@@ -34,7 +34,7 @@ use Rattle.world.proofs.Stamped.{none_stamped}
 use Rattle.world.proofs.Steps.{opened_represents, shown, state_shown}
 
 -- what stands in a list with one more at its end
-more_cases : {X : Type 0} (xs : List X) (x y : X) (place : ℕ) → slice_get (xs ++ x ∷ []) place ≡ Some y → ((place < length xs) × (slice_get xs place ≡ Some y)) ⊎ ((place ≡ length xs) × (x ≡ y))
+pub more_cases : {X : Type 0} (xs : List X) (x y : X) (place : ℕ) → slice_get (xs ++ x ∷ []) place ≡ Some y → ((place < length xs) × (slice_get xs place ≡ Some y)) ⊎ ((place ≡ length xs) × (x ≡ y))
 more_cases {X = X} xs x y place h = go (cases_lt place (length xs))
   where
     within : place < length (xs ++ x ∷ [])
@@ -123,7 +123,7 @@ what_left listed old event reply new (choice_refused run v key writes content cl
 what_left listed old event reply new (nothing_chosen run v key writes is l r e) = (Nothing, ap (λ (w : Knowledge). w.left) e, nothing_left old event reply (subst (λ (x : Reply). Holds x Nothing) (sym r) tt) (λ resolution h. absurd (cc)))
 
 -- what stands in a list stands there once one more was added
-still_at : {X : Type 0} (xs : List X) (x y : X) (place : ℕ) → slice_get xs place ≡ Some y → slice_get (xs ++ x ∷ []) place ≡ Some y
+pub still_at : {X : Type 0} (xs : List X) (x y : X) (place : ℕ) → slice_get xs place ≡ Some y → slice_get (xs ++ x ∷ []) place ≡ Some y
 still_at xs x y place h =
     let lt : place < length xs = slice_get_within xs place y h in
     slice_get_read (xs ++ x ∷ []) (length (xs ++ x ∷ [])) place y refl (omega (arith, lt, length-append xs (x ∷ []))) (sym (get_or-append xs (x ∷ []) y place lt ∙ get_or_from_slice_get xs place y y h))
@@ -141,7 +141,7 @@ copied_within [] place key writes h = absurd (cc)
 copied_within (l ∷ ls) zero key writes h = omega arith
 copied_within (l ∷ ls) (suc place) key writes h = let lt = copied_within ls place key writes h in omega (arith, lt)
 
-remember_more : (listed : List Helper) (replies : List Reply) (old : Knowledge) (event : Event) (reply : Reply) (new : Knowledge) → Remember replies old → Happens listed old event reply new → Remember (replies ++ reply ∷ []) new
+pub remember_more : (listed : List Helper) (replies : List Reply) (old : Knowledge) (event : Event) (reply : Reply) (new : Knowledge) → Remember replies old → Happens listed old event reply new → Remember (replies ++ reply ∷ []) new
 remember_more listed replies old event reply new remember happens =
     let h = what_left listed old event reply new happens in
     record {
