@@ -1,0 +1,56 @@
+-- Whose entry is next, where some of the entries of each journal have happened.
+use Rattle.std.specs.Prelude.{◌≡◌, ℕ, ◌<◌, ◌≤◌, ◌⊎◌, List, length, map, slice_get, slice_index_or, Some}
+use denote.Ref.{Bor}
+use Rattle.journal.specs.Entry.{Entry}
+use Rattle.journal.specs.Logs.{Log, RoomyLog}
+use Rattle.world.specs.Represents.{log_at}
+use Rattle.journal.specs.Stamps.{stamp_of}
+use Rattle.audit.specs.declared.turns.Head.{Head}
+
+-- what some journals hold
+abbrev pub logs_of : List (Bor RoomyLog) → List Log
+logs_of journals = map (λ journal. journal.now.log) journals
+
+-- an entry of the journal with this index
+abbrev pub EntryIn : List Log → ℕ → ℕ → Entry → Type 0
+EntryIn logs index place e = (index < length logs) × (slice_get (log_at logs index).entries place ≡ Some e)
+
+-- how many entries of a journal have happened
+abbrev pub count_at : List ℕ → ℕ → ℕ
+count_at counts index = slice_index_or counts index 0
+
+-- it has happened
+abbrev pub HasHappened : List Log → List ℕ → ℕ → ℕ → Entry → Type 0
+HasHappened logs counts index place e = EntryIn logs index place e × (place < count_at counts index)
+
+-- it is to come
+abbrev pub IsToCome : List Log → List ℕ → ℕ → ℕ → Entry → Type 0
+IsToCome logs counts index place e = EntryIn logs index place e × (count_at counts index ≤ place)
+
+-- the first entry of a journal that is to come
+abbrev pub IsHead : List Log → List ℕ → ℕ → Entry → Type 0
+IsHead logs counts index e = EntryIn logs index (count_at counts index) e
+
+-- an entry with a stamp, of a vnode, doesn't come after another: by stamp, and then by vnode
+abbrev pub IsNotAfter : ℕ → ℕ → ℕ → ℕ → Type 0
+IsNotAfter stamp vnode later other = (stamp < later) ⊎ ((stamp ≡ later) × (vnode ≤ other))
+
+-- the same of two heads
+abbrev pub IsHeadNotAfter : Head → Head → Type 0
+IsHeadNotAfter a b = IsNotAfter a.stamp a.vnode b.stamp b.vnode
+
+-- what is told of the first entry of a journal that is to come
+abbrev pub IsHeadOf : List Log → List ℕ → ℕ → Head → Type 0
+IsHeadOf logs counts index head = (head.index ≡ index) × (head.vnode ≡ (log_at logs index).vnode) × ((e : Entry) × IsHead logs counts index e × (head.stamp ≡ stamp_of e))
+
+-- it doesn't come after the heads of the journals before this index
+abbrev pub IsFirstBelow : List Log → List ℕ → ℕ → Head → Type 0
+IsFirstBelow logs counts end head = (index : ℕ) (e : Entry) → index < end → IsHead logs counts index e → IsNotAfter head.stamp head.vnode (stamp_of e) (log_at logs index).vnode
+
+-- the next entry of all, of the journals before this index
+abbrev pub IsNextBelow : List Log → List ℕ → ℕ → Head → Type 0
+IsNextBelow logs counts end head = (head.index < end) × IsHeadOf logs counts head.index head × IsFirstBelow logs counts end head
+
+-- all entries of the journals before this index have happened
+abbrev pub NoneBelow : List Log → List ℕ → ℕ → Type 0
+NoneBelow logs counts end = (index : ℕ) (e : Entry) → index < end → IsHead logs counts index e → ⊥

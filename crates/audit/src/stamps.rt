@@ -1,0 +1,152 @@
+//! Whether the stamps rise in each journal, and no two journals have one.
+
+ghost use Rattle.std.specs.Prelude.{◌≡◌, ◌≢◌, ◌⊎◌, ◌<◌, ◌≤◌, ◌^◌, length, slice_get, map, IfSome, IfErr, OnOk, MatchBool, MatchOption, None, Some};
+ghost use Rattle.world.specs.Represents.{log_at, AreDistinct};
+ghost use Rattle.journal.specs.Stamps.{stamp_of};
+ghost use Rattle.audit.specs.Interleaved.{ids_of};
+ghost use Rattle.audit.specs.Turns.{logs_of, EntryIn, count_at};
+ghost use Rattle.audit.specs.Faulty.{NoneFalls, NoneTwice, IsFault, IsFaultAt};
+ghost use Rattle.audit.specs.Sorting.{NoneFallsIn, IsFallOf, IsFallNotAfter, NoneFallsBelow, IsFirstFallBelow};
+ghost use Rattle.journal.specs.Entry.{Entry as Entered};
+ghost use Rattle.audit.specs.declared.auditing.AuditCode.TheVariants.{Falls};
+
+use crate::auditing::{AuditCode, AuditFault};
+use crate::turns::{entry_at, next_of, vnode_at};
+use journal::Journal;
+use std::alloc::Global;
+
+/// A place whose stamp isn't above the one before it.
+#[derive(Clone, Copy, Drop)]
+pub(crate) struct Fall {
+    pub(crate) vnode: u32,
+    pub(crate) place: u32,
+}
+
+impl Fall {
+    // Whether it comes before another: by vnode, and then by place.
+    fn is_before(self, other: Fall) -> bool
+        ensures { MatchBool result (IsFallNotAfter self other) (IsFallNotAfter other self) }
+    {
+        self.vnode < other.vnode || (self.vnode == other.vnode && self.place <= other.place)
+    }
+}
+
+// The stamp at a place of the journal with this index.
+fn stamp_at(journals: &[&Journal], index: usize, place: usize) -> u64
+    requires inside { index < length journals.now }
+    requires there { place < length (log_at (logs_of journals.now) index).entries }
+    ensures { (e : Entered) × EntryIn (logs_of journals.now) index place e × (result ≡ stamp_of e) }
+{
+    match entry_at(journals, index, place) {
+        Some(entry) => entry.stamp(),
+        None => unreachable!(),
+    }
+}
+
+// How many entries the journal with this index has.
+fn len_at(journals: &[&Journal], index: usize) -> usize
+    requires inside { index < length journals.now }
+    ensures len { result ≡ length (log_at (logs_of journals.now) index).entries }
+    ensures limit { result ≤ 2 ^ 32 }
+{
+    journals[index].len()
+}
+
+// The first place of a journal whose stamp isn't above the one before it.
+fn fall_of(journals: &[&Journal], index: usize) -> Option<Fall>
+    requires inside { index < length journals.now }
+    ensures { let logs = logs_of journals.now in MatchOption result (NoneFallsIn logs index (length (log_at logs index).entries)) (λ fall. IsFallOf logs index fall) }
+{
+    for place in 1..len_at(journals, index) {
+        if stamp_at(journals, index, place) <= stamp_at(journals, index, place - 1) {
+            return Some(Fall {
+                vnode: vnode_at(journals, index),
+                place: place as u32,
+            });
+        }
+    }
+    None
+}
+
+// The first of two.
+fn first_of(a: Option<Fall>, b: Option<Fall>) -> Option<Fall>
+    ensures one { (result ≡ a) ⊎ (result ≡ b) }
+    ensures first { MatchOption result ((a ≡ None) × (b ≡ None)) (λ fall. IfSome a (λ other. IsFallNotAfter fall other) × IfSome b (λ other. IsFallNotAfter fall other)) }
+{
+    match (a, b) {
+        (Some(own), Some(other)) => { if own.is_before(other) { a } else { b } }
+        (Some(_), None) => a,
+        (None, _) => b,
+    }
+}
+
+// The first place of all, by vnode and then by place.
+fn first_fall(journals: &[&Journal]) -> Option<Fall>
+    ensures { let logs = logs_of journals.now in MatchOption result (NoneFallsBelow logs (length journals.now)) (λ fall. IsFirstFallBelow logs (length journals.now) fall) }
+{
+    let mut first = None;
+    for index in 0..journals.len() {
+        first = first_of(first, fall_of(journals, index));
+    }
+    first
+}
+
+/// Tests that the stamps rise in each journal.
+pub(crate) fn check_rising(journals: &[&Journal]) -> Result<(), AuditFault>
+    ensures ok { OnOk result (NoneFalls (logs_of journals.now)) }
+    ensures err { IfErr result (IsFault (logs_of journals.now)) }
+{
+    match first_fall(journals) {
+        Some(fall) => Err(AuditFault::Found {
+            code: AuditCode::Falls,
+            vnode: fall.vnode,
+            place: fall.place,
+        }),
+        None => Ok(()),
+    }
+}
+
+// A place of a journal, which has at most 2^32.
+pub(crate) fn place_of(journals: &[&Journal], index: usize, place: usize) -> u32
+    requires inside { index < length journals.now }
+    requires there { place < length (log_at (logs_of journals.now) index).entries }
+    ensures { result ≡ place }
+{
+    let _len = len_at(journals, index);
+    place as u32
+}
+
+// Whether a stamp is the last one.
+fn is_last(last: Option<u64>, stamp: u64) -> bool
+    ensures { MatchBool result (last ≡ Some stamp) (last ≢ Some stamp) }
+{
+    match last {
+        Some(last) => last == stamp,
+        None => false,
+    }
+}
+
+/// Tests that no stamp stands in two journals. The stamps rise in each.
+pub(crate) fn check_single(alloc: Global, journals: &[&Journal]) -> Result<(), AuditFault>
+    requires distinct { AreDistinct (ids_of (logs_of journals.now)) }
+    requires rising { NoneFalls (logs_of journals.now) }
+    ensures ok { OnOk result (NoneTwice (logs_of journals.now)) }
+    ensures err { IfErr result (IsFault (logs_of journals.now)) }
+{
+    let mut counts = vec![in alloc; 0; journals.len()]?;
+    let mut last = None;
+    while let Some(head) = next_of(journals, &counts) {
+        let place = counts[head.index];
+        let here = place_of(journals, head.index, place);
+        if is_last(last, head.stamp) {
+            return Err(AuditFault::Found {
+                code: AuditCode::Twice,
+                vnode: head.vnode,
+                place: here,
+            });
+        }
+        last = Some(head.stamp);
+        counts[head.index] = place + 1;
+    }
+    Ok(())
+}
