@@ -1,5 +1,5 @@
 -- All entries have happened again, or one may not.
-use Rattle.std.proofs.Common.{◌≡◌, ℕ, suc, ◌<◌, ◌≤◌, List, [], ◌∷◌, length, get_or, refl, sym, ap, subst, ◌∙◌, inl, inr, arith, Some, take}
+use Rattle.std.proofs.Common.{◌≡◌, ℕ, suc, ◌<◌, ◌≤◌, List, [], ◌∷◌, ◌++◌, length, get_or, refl, sym, ap, subst, ◌∙◌, inl, inr, arith, Some, take}
 use Rattle.std.specs.Prelude.{Err}
 use Rattle.std.specs.List.Sorted.{IsPermutation}
 use Rattle.std.proofs.lemmas.Bool.{cases_lt}
@@ -12,6 +12,11 @@ use Rattle.journal.specs.Logs.{Log}
 use Rattle.journal.specs.Replay.{IsReplay}
 use Rattle.journal.proofs.Unique.{one_replay}
 use Rattle.world.specs.Represents.{Represents, log_at, AreDistinct}
+use Rattle.world.specs.declared.event.Event.{Event}
+use Rattle.world.specs.declared.event.Reply.{Reply}
+use Rattle.world.specs.Happening.{Happens, Run}
+use Rattle.world.specs.Knowledge.{Knowledge, opened}
+use Rattle.world.proofs.Causal.{run_causal}
 use Rattle.world.proofs.Steps.{shown}
 use Rattle.audit.specs.Again.{IsAgain, again_at}
 use Rattle.audit.specs.declared.rerun.Again.{Again}
@@ -20,8 +25,8 @@ use Rattle.audit.specs.declared.turns.Head.{Head}
 use Rattle.audit.specs.declared.auditing.AuditCode.{AuditCode}
 use Rattle.audit.specs.declared.auditing.AuditCode.TheVariants.{NoSource, OtherState, Twice, Falls}
 use Rattle.audit.specs.declared.auditing.AuditFault.TheVariants.{Found}
-use Rattle.audit.specs.Order.{steps_of}
-use Rattle.audit.specs.Interleaved.{IsInterleaving, ids_of}
+use Rattle.audit.specs.Order.{Step, steps_of}
+use Rattle.audit.specs.Interleaved.{Happened, nothing, one_more, IsInterleaving, ids_of}
 use Rattle.audit.specs.Faulty.{EntryAt, NoneFalls, NoneTwice, HasNoSuchSource, AllHaveSources, IsFault}
 use Rattle.audit.specs.Rerun.{HasRun, CheckTells}
 use Rattle.audit.specs.Turns.{EntryIn, HasHappened, IsNextBelow, NoneBelow, count_at}
@@ -48,16 +53,34 @@ all_there logs counts now answers run none = same_lists now logs (record { vnode
     at : (index : ℕ) → index < length logs → log_at now index ≡ log_at logs index
     at index lt = run.taken index lt ∙ ap (λ (es : List Entry). let l : Log = record { vnode = (log_at logs index).vnode; entries = es } in l) (take_all (count_at counts index) (log_at logs index).entries (full index lt))
 
+-- one event more of a run
+run_more : (old : Knowledge) (events : List Event) (replies : List Reply) (known : Knowledge) (event : Event) (reply : Reply) (new : Knowledge) → Run [] old events replies known → Happens [] known event reply new → Run [] old (events ++ event ∷ []) (replies ++ reply ∷ []) new
+run_more old [] [] known event reply new run happens = (new, subst (λ (w : Knowledge). Happens [] w event reply new) run happens, refl)
+run_more old (e ∷ es) (r ∷ rs) known event reply new run happens = (run.0, run.1, run_more run.0 es rs known event reply new run.2 happens)
+run_more old [] (r ∷ rs) known event reply new run happens = absurd run
+run_more old (e ∷ es) [] known event reply new run happens = absurd run
+
+-- steps that happened are a run
+run_of : (logs : List Log) (steps : List Step) (replies : List Reply) (known : Knowledge) → Happened logs steps replies known → (events : List Event) × Run [] (opened (ids_of logs)) events replies known
+run_of logs _ _ _ nothing = ([], refl)
+run_of logs _ _ _ (one_more steps replies old step what reply new before is happens) =
+    let r = run_of logs steps replies old before in
+    (r.0 ++ what ∷ [], run_more (opened (ids_of logs)) r.0 replies old what reply new r.1 happens)
+
 -- so the journals are an interleaving
 pub interleaved : (logs : List Log) (counts : List ℕ) (now : List Log) (answers : List (List Again)) → HasRun logs counts now answers → NoneBelow logs counts (length logs) → IsInterleaving logs
 interleaved logs counts now answers run none =
     let same = all_there logs counts now answers run none in
+    let ran = run_of logs run.order run.so_far.replies run.so_far.known run.so_far.happened in
     record {
       order = run.order;
       in_order = record { same = subst (λ (ls : List Log). IsPermutation (steps_of 0 ls) run.order) same run.all; rising = run.rising };
       replies = run.so_far.replies;
       known = run.so_far.known;
       happened = run.so_far.happened;
+      events = ran.0;
+      run = ran.1;
+      causal = run_causal [] (ids_of logs) ran.0 run.so_far.replies run.so_far.known ran.1;
       siblings = λ vnode key lt. shown logs run.so_far.known vnode key (subst (λ (ls : List Log). Represents ls run.so_far.known) same run.so_far.represents) lt;
     }
 

@@ -9,7 +9,8 @@ use Rattle.world.specs.declared.event.Seen.TheVariants.{Clock as Given}
 use Rattle.world.specs.declared.event.Message.{Message}
 use Rattle.world.specs.declared.event.Reply.{Reply}
 use Rattle.world.specs.declared.event.Reply.TheVariants.{Stored, Sent, Changed, Restarted}
-use Rattle.world.specs.Happening.{Happens}
+use Rattle.world.specs.Causality.{IsCausal}
+use Rattle.world.specs.Happening.{Happens, Run}
 use Rattle.world.specs.Knowledge.{Knowledge, opened, known_at}
 use Rattle.world.specs.Represents.{ShowsAt, log_at}
 use Rattle.audit.specs.Order.{Step, IsInStampOrder}
@@ -40,12 +41,15 @@ pub data Happened (logs : List Log) : List Step → List Reply → Knowledge →
       → Happened logs steps replies old → IsEventOf logs steps replies step.vnode step.entry what reply → Happens [] old what reply new
       → Happened logs (steps ++ step ∷ []) (replies ++ reply ∷ []) new
 
--- All entries of all journals, in the order of their stamps, are a run of the world. So each journal leaves at each key the current ones of the writes
--- that its vnode knows, and their context.
+-- All entries of all journals, in the order of their stamps, are a run of the world. So no write had seen its own identifier or a later put's, no
+-- identifier of a key stands for two, and each journal leaves at each key the current ones of the writes that its vnode knows, and their context.
 pub record IsInterleaving (logs : List Log) : Type 0 where
   pub order : List Step
   pub in_order : IsInStampOrder logs order
   pub replies : List Reply
   pub known : Knowledge
   pub happened : Happened logs order replies known
+  pub events : List Event
+  pub run : Run [] (opened (ids_of logs)) events replies known
+  pub causal : IsCausal known.puts
   pub siblings : (vnode : ℕ) (key : Key) → vnode < length logs → ShowsAt (log_at logs vnode).entries key (known_at known vnode key)
