@@ -1,11 +1,13 @@
 -- A registry of hooks as the list of the changes that made it (this store's profile; Riak KV documentation, pre-commit hooks in bucket properties).
-use Rattle.std.specs.Prelude.{ℕ, Bool, true, false, List, Option, Some, None, if◌then◌else◌, is_some}
+use Rattle.std.specs.Prelude.{◌≡◌, ℕ, Bool, true, false, List, Option, Some, None, if◌then◌else◌, is_some}
 use Rattle.std.specs.List.{fold, list_all}
 use Rattle.std.specs.Ordering.{nat_cmp, is_eq}
 use Rattle.std.specs.Cmp.Lexicographic.{slice_cmp}
 use Rattle.bpfimage.specs.declared.image.ImageKind.{ImageKind}
 use Rattle.bpfimage.specs.declared.image.ImageKind.TheVariants.{Plain, PreCommit, Resolver}
 use Rattle.verifier.specs.Program.{Program}
+use Rattle.hooks.specs.declared.fault.HookFault.{HookFault}
+use Rattle.hooks.specs.declared.fault.HookFault.TheVariants.{NameUnknown, KindDiffers, NoMemory}
 
 -- two names are one, byte by byte
 abbrev pub is_name : List ℕ → List ℕ → Bool
@@ -86,3 +88,13 @@ is_fitting program binding = has_kind program binding.0 binding.1
 
 abbrev pub are_fitting : (List ℕ → Option Program) → List Binding → Bool
 are_fitting program bindings = list_all (is_fitting program) bindings
+
+-- bindings that may be made: each name has a program of its kind
+abbrev pub AreAllowed : (List ℕ → Option Program) → List Binding → Type 0
+AreAllowed program bindings = (are_known program bindings ≡ true) × (are_fitting program bindings ≡ true)
+
+-- why bindings may not be made: a name without a program, told before a kind that differs
+abbrev pub AreRefused : (List ℕ → Option Program) → List Binding → HookFault → Type 0
+AreRefused program bindings NameUnknown = are_known program bindings ≡ false
+AreRefused program bindings KindDiffers = (are_known program bindings ≡ true) × (are_fitting program bindings ≡ false)
+AreRefused program bindings NoMemory = ⊥

@@ -1,11 +1,11 @@
 //! The registry of one thread: a change takes effect at once.
 
-ghost use Rattle.std.specs.Prelude.{◌≡◌, ◌≢◌, ◌↔◌, [], true, false, None, Option, Result, OnOk, OnErr, IfErr, MatchResult, IsTrue, IfOk};
+ghost use Rattle.std.specs.Prelude.{◌≡◌, ◌≢◌, ◌↔◌, [], true, false, None, Option, Result, OnOk, OnErr, IfErr, MatchResult, IsTrue, IfOk, is_some};
 ghost use Rattle.std.specs.List.{fold};
 ghost use Rattle.std.specs.Option.{option_copied, option_map};
 ghost use Rattle.std.specs.Arc.{arc_value};
 ghost use Rattle.bpfimage.specs.declared.image.ImageKind.{ImageKind as Kind};
-ghost use Rattle.hooks.specs.Changes.{Bind, Install, Remove, are_fitting, are_known, binding_after, is_fitting, is_kind, is_known, of_kind};
+ghost use Rattle.hooks.specs.Changes.{AreAllowed, AreRefused, Bind, Install, Remove, are_fitting, are_known, binding_after, is_fitting, is_kind, is_known, of_kind};
 ghost use Rattle.hooks.specs.Bindings.{bound_by, bound_if};
 ghost use Rattle.hooks.specs.Tables.{ChangesBy, Shows, bound_in, hook_in, program_in};
 
@@ -83,14 +83,30 @@ impl Registry {
         ensures differs { result ≡ Err HookFault.KindDiffers ↔ ((are_known (program_in self.old.programs) bindings.now ≡ true) × (are_fitting (program_in self.old.programs) bindings.now ≡ false)) }
         ensures err { OnErr result (self.new ≡ self.old) }
     {
+        self.allows(bindings)?;
+        let bound = bound_anew(self.bindings.get(bucket), bindings)?;
+        self.bindings.insert(bucket.copy()?, bound)?;
+        Ok(())
+    }
+
+    /// Whether a name has a program.
+    pub fn has(&self, name: &Bytes) -> bool
+        ensures { result ≡ is_some (program_in self.now.programs name.now) }
+    {
+        self.programs.contains_key(name)
+    }
+
+    /// Whether bindings may be made. `NameUnknown` where a name has no program; `KindDiffers` where each has one, and one of
+    /// them is of another kind.
+    pub fn allows(&self, bindings: &[(ImageKind, Option<Bytes>)]) -> Result<(), HookFault>
+        ensures { MatchResult result (λ _. AreAllowed (program_in self.now.programs) bindings.now) (AreRefused (program_in self.now.programs) bindings.now) }
+    {
         if !are_known(&self.programs, bindings) {
             return Err(HookFault::NameUnknown);
         }
         if !are_fitting(&self.programs, bindings) {
             return Err(HookFault::KindDiffers);
         }
-        let bound = bound_anew(self.bindings.get(bucket), bindings)?;
-        self.bindings.insert(bucket.copy()?, bound)?;
         Ok(())
     }
 
