@@ -1,0 +1,70 @@
+//! One change.
+
+ghost use Rattle.std.specs.Prelude.{◌≡◌, OnOk, OnErr, IfOk};
+ghost use Rattle.hooks.specs.Tables.{ChangesBy};
+ghost use Rattle.shared_hooks.specs.Edits.{change_of};
+
+use bpfimage::ImageKind;
+use hooks::Registry;
+use object::Bytes;
+use std::alloc::{AllocError, Global};
+use std::sync::Arc;
+use verifier::Verified;
+
+/// A change that is kept until each copy of the registry has taken it in.
+#[derive(Drop)]
+pub enum Edit {
+    Install {
+        name: Bytes,
+        program: Arc<Verified>,
+    },
+    Remove {
+        name: Bytes,
+    },
+    Bind {
+        bucket: Bytes,
+        bindings: Vec<(ImageKind, Option<Bytes>)>,
+    },
+}
+
+impl Edit {
+    /// Changes a registry so.
+    pub(crate) fn apply(&self, registry: &mut Registry) -> Result<(), AllocError>
+        ensures ok { OnOk result (ChangesBy registry.old registry.new (change_of self.now)) }
+        ensures err { OnErr result (registry.new ≡ registry.old) }
+    {
+        match self {
+            Edit::Install { name, program } => {
+                let name = name.copy()?;
+                let program = Arc::try_clone(program)?;
+                registry.install(name, program)
+            }
+            Edit::Remove { name } => match registry.remove(name) {
+                Ok(()) => Ok(()),
+                Err(_) => Err(AllocError),
+            },
+            Edit::Bind { bucket, bindings } => match registry.bind(bucket, bindings) {
+                Ok(()) => Ok(()),
+                Err(_) => Err(AllocError),
+            },
+        }
+    }
+}
+
+/// The same bindings.
+pub(crate) fn copy_of(
+    alloc: Global,
+    bindings: &[(ImageKind, Option<Bytes>)],
+) -> Result<Vec<(ImageKind, Option<Bytes>)>, AllocError>
+    ensures { IfOk result (λ copy. copy.items ≡ bindings.now) }
+{
+    let mut copy = Vec::with_capacity(alloc, bindings.len())?;
+    for (kind, name) in bindings {
+        let name = match name {
+            Some(name) => Some(name.copy()?),
+            None => None,
+        };
+        copy.push((*kind, name))?;
+    }
+    Ok(copy)
+}
