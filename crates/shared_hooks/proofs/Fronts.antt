@@ -1,9 +1,9 @@
 -- Fronts of one list.
-use Rattle.std.proofs.Common.{◌≡◌, ◌⊎◌, ℕ, ◌+◌, ◌-◌, ◌<◌, ◌≤◌, List, [], ◌∷◌, ◌++◌, length, refl, sym, ap, ◌∙◌, subst, arith, length-append, ⊎_elim}
+use Rattle.std.proofs.Common.{◌≡◌, ◌⊎◌, fold, ℕ, ◌+◌, ◌-◌, ◌<◌, ◌≤◌, List, [], ◌∷◌, ◌++◌, length, refl, sym, ap, ◌∙◌, subst, arith, length-append, ⊎_elim}
 use mathlib.Core.List.{IsPrefix}
 use Rattle.std.proofs.lemmas.List.{map-append}
 use Rattle.shared_hooks.specs.declared.edit.Edit.{Edit}
-use Rattle.shared_hooks.specs.Edits.{change_of, changes_of}
+use Rattle.shared_hooks.specs.Edits.{change_of, changes_of, last_of}
 use Rattle.fronts.proofs.Fronts.{prefix_shorter, prefix_whole, prefix_length}
 
 -- the longer of two is the one that isn't shorter
@@ -24,3 +24,8 @@ one_longer {A} mine op r before e one this that ends some short =
 -- the changes of a front begin those of a longer one
 pub changes_prefix : (xs ys : List Edit) → IsPrefix xs ys → IsPrefix (changes_of xs) (changes_of ys)
 changes_prefix xs ys p = (changes_of p.0, sym (map-append change_of xs p.0) ∙ ap changes_of p.1)
+
+-- a front that one change after another ends
+pub last_of_applied : (applied : List Edit → List Edit → List Edit) → ((before after : List Edit) → applied before after ≡ after) → (before : List Edit) (lists : List (List Edit)) → fold applied before lists ≡ last_of before lists
+last_of_applied applied last before [] = refl
+last_of_applied applied last before (xs ∷ lists) = ap (λ ys. fold applied ys lists) (last before xs) ∙ last_of_applied applied last xs lists

@@ -2,7 +2,13 @@
 #![tactic(auto)]
 
 mod edit;
+mod installer;
+mod opening;
+mod outlet;
 mod published;
 mod reader;
 
+pub use installer::Installer;
+pub use opening::{Ground, NoReader, Opening};
+pub use published::{Published, Rack};
 pub use reader::{HookReader, Note};

@@ -100,3 +100,23 @@ impl<J: Naming> Absorb<Op<J>> for Published<J> {
         Ok(())
     }
 }
+
+/// What takes in one change after another, each with the front that it ends.
+pub trait Rack<J: Naming>: Absorb<Op<J>, State = [Edit; 0]> {
+    /// The front of all changes that were taken in.
+    fn front(&self) -> &Front<Edit, J>
+        ensures { result.now ≡ Self.state self.now };
+
+    // the last change ends the front
+    ghost last: { (before after : List Made) → Self.applied before after ≡ after };
+}
+
+impl<J: Naming> Rack<J> for Published<J> {
+    ghost use Rattle.std.specs.Prelude.{refl};
+
+    ghost last = { λ before after. refl };
+
+    fn front(&self) -> &Front<Edit, J> {
+        Published::front(self)
+    }
+}

@@ -60,10 +60,14 @@ impl<J: Naming> Model for HookReader<J> {
 }
 
 impl<J: Naming> HookReader<J> {
-    pub(crate) fn new(handle: ReadHandle<Published<J>>, known: Front<Edit, J>) -> HookReader<J>
-        ensures { result ≡ changes_of known }
+    /// A reader of a handle, told of what was published.
+    pub fn new(handle: ReadHandle<Published<J>>, note: &Note<J>) -> HookReader<J>
+        ensures { result ≡ note.now }
     {
-        HookReader { handle, known }
+        HookReader {
+            handle,
+            known: note.front.again(),
+        }
     }
 
     /// Takes in what was published: each later look-up sees it.
@@ -118,10 +122,7 @@ impl<J: Naming> HookReader<J> {
 }
 
 /// The front that a reader sees, where it has all that the reader knew.
-fn caught_up<J: Naming>(
-    front: &Front<Edit, J>,
-    known: &Front<Edit, J>,
-) -> Option<Front<Edit, J>>
+fn caught_up<J: Naming>(front: &Front<Edit, J>, known: &Front<Edit, J>) -> Option<Front<Edit, J>>
     ensures whole { IfSome result (λ seen. seen ≡ front.now) }
     ensures later { IfSome result (λ seen. IsPrefix (changes_of known.now) (changes_of seen)) }
 {

@@ -1,0 +1,56 @@
+//! Where a shared registry is opened.
+
+ghost use Rattle.std.specs.Prelude.{◌≡◌, []};
+ghost use Rattle.shared_hooks.specs.Lists.{list_of};
+
+use crate::edit::Edit;
+use crate::published::Published;
+use fronts::{Book, Front, Naming, Opened};
+use hooks::Registry;
+use std::alloc::Global;
+use thiserror::Error;
+
+/// Why there is no further reader: each place for one is taken. It is shown as its number.
+#[derive(Clone, Copy, Debug, PartialEq, Eq, Drop, Error)]
+#[error("G3")]
+pub struct NoReader;
+
+/// The empty list of changes, which has no name yet.
+pub struct Opening {
+    list: Opened<Edit>,
+}
+
+impl Opening {
+    /// A list of its own.
+    pub fn new() -> Opening {
+        Opening {
+            list: Opened::new(),
+        }
+    }
+
+    /// The list under a name, with two copies of a registry where nothing is installed.
+    pub fn named<J: Naming>(self, alloc: Global) -> Ground<J, Published<J>>
+        requires { list_of self ≡ J.book }
+        ensures { (result.front ≡ []) × (result.first ≡ []) × (result.second ≡ []) }
+    {
+        let Opening { list } = self;
+        let (book, front) = list.named::<J>();
+        let first = Published::new(Registry::new(alloc), front.again());
+        let second = Published::new(Registry::new(alloc), front.again());
+        Ground {
+            book,
+            front,
+            first,
+            second,
+        }
+    }
+}
+
+/// What an installer begins with: a name for the list, its empty front, and two copies of what readers see.
+#[derive(Drop)]
+pub struct Ground<J: Naming, T> {
+    pub book: Book<Edit, J>,
+    pub front: Front<Edit, J>,
+    pub first: T,
+    pub second: T,
+}
