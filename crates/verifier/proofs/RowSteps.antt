@@ -8,7 +8,8 @@ use Rattle.ranges.specs.declared.kind.Kind.{Kind}
 use Rattle.ranges.specs.declared.kind.Kind.TheVariants.{Unset}
 use Rattle.verifier.specs.Registers.{Row}
 use Rattle.verifier.specs.Table.{join_rows, joined, AreKinds}
-use Rattle.verifier.specs.Rows.{row_at, AreRowKinds}
+use Rattle.verifier.specs.Rows.{row_at, HasKinds, AreRowKinds}
+use Rattle.std.proofs.lemmas.Option.{same_Some}
 
 -- ---- kinds stay kinds
 
@@ -50,15 +51,12 @@ rest_of_row row long =
     ∙ ap (λ ks. get_or row 9 Unset ∷ ks)
     (drop-cons row 10 Unset (omega (arith, long)) ∙ ap (λ ks. get_or row 10 Unset ∷ ks) (drop_none 11 row (omega (arith, long))))))))
 
-same_row : (o : Option Row) (row : Row) → Some (Some row) ≡ Some o → o ≡ Some row
-same_row o row e = cc
-
-pub row_kinds_set : (rows : List (Option Row)) (i : ℕ) (next : Row) → AreRowKinds rows → AreKinds next → AreRowKinds (set rows i (Some next))
-row_kinds_set [] i next h hn k row e = h k row e
-row_kinds_set (o ∷ rows) zero next h hn zero row e = let same : next ≡ row = cc in subst AreKinds same hn
-row_kinds_set (o ∷ rows) zero next h hn (suc k) row e = h (suc k) row e
-row_kinds_set (o ∷ rows) (suc i) next h hn zero row e = h zero row e
-row_kinds_set (o ∷ rows) (suc i) next h hn (suc k) row e = row_kinds_set rows i next (λ n. h (suc n)) hn k row e
+pub row_kinds_set : (rows : List (Option Row)) (i : ℕ) (next : Option Row) → AreRowKinds rows → HasKinds next → AreRowKinds (set rows i next)
+row_kinds_set [] i next h hn k o e = h k o e
+row_kinds_set (r ∷ rows) zero next h hn zero o e = subst HasKinds (same_Some _ _ e) hn
+row_kinds_set (r ∷ rows) zero next h hn (suc k) o e = h (suc k) o e
+row_kinds_set (r ∷ rows) (suc i) next h hn zero o e = h zero o e
+row_kinds_set (r ∷ rows) (suc i) next h hn (suc k) o e = row_kinds_set rows i next (λ n. h (suc n)) hn k o e
 
 -- ---- joins
 
@@ -72,21 +70,31 @@ join_suc i (x ∷ xs) [] d h g = absurd (omega arith)
 join_suc zero (x ∷ xs) (y ∷ ys) d h g = refl
 join_suc (suc i) (x ∷ xs) (y ∷ ys) d h g = ap (λ zs. join_of x y ∷ zs) (join_suc i xs ys d (omega arith) (omega arith))
 
-pub join_more : (i : ℕ) (a b row : Row) (k : Kind) → i < length a → i < length b → k ≡ join_of (get_or a i Unset) (get_or b i Unset) → row ≡ join_rows (take i a) (take i b) ++ drop i a → set row i k ≡ join_rows (take (i + 1) a) (take (i + 1) b) ++ drop (i + 1) a
+front_at : (i : ℕ) (a b : Row) (d : Kind) → i < length a → i < length b → get_or (front i a b) i d ≡ get_or a i d
 unfolding front
-join_more i a b row k h g ek e = rw (e, ek, add-one) (join_suc i a b Unset h g)
+front_at i [] b d h g = absurd (omega arith)
+front_at i (x ∷ xs) [] d h g = absurd (omega arith)
+front_at zero (x ∷ xs) (y ∷ ys) d h g = refl
+front_at (suc i) (x ∷ xs) (y ∷ ys) d h g = front_at i xs ys d (omega arith) (omega arith)
+
+pub join_more : (i : ℕ) (a b row : Row) (k : Kind) → i < length a → i < length b → k ≡ join_of (get_or row i Unset) (get_or b i Unset) → row ≡ join_rows (take i a) (take i b) ++ drop i a → set row i k ≡ join_rows (take (i + 1) a) (take (i + 1) b) ++ drop (i + 1) a
+unfolding front
+join_more i a b row k h g ek e =
+    let here : get_or row i Unset ≡ get_or a i Unset = ap (λ r. get_or r i Unset) e ∙ front_at i a b Unset h g in
+    let ek' : k ≡ join_of (get_or a i Unset) (get_or b i Unset) = ek ∙ ap (λ x. join_of x (get_or b i Unset)) here in
+    rw (e, ek', add-one) (join_suc i a b Unset h g)
 
 row_is : (rows : List (Option Row)) (k : ℕ) (d : Option Row) → k < length rows → get_or rows k d ≡ row_at rows k
 row_is [] k d h = absurd (omega arith)
 row_is (r ∷ rows) zero d h = refl
 row_is (r ∷ rows) (suc k) d h = row_is rows k d (omega arith)
 
-pub pushed_at : (rows : List (Option Row)) (k : ℕ) (o : Option Row) (row next : Row) → k < length rows → o ≡ get_or rows k o → Some next ≡ joined o row → set rows k (Some next) ≡ set rows k (joined (row_at rows k) row)
-pushed_at rows k o row next h e n = ap (set rows k) (n ∙ ap (λ q. joined q row) (e ∙ row_is rows k o h))
+pub pushed_at : (rows : List (Option Row)) (k : ℕ) (o next : Option Row) (row : Row) → k < length rows → o ≡ get_or rows k o → next ≡ joined o row → set rows k next ≡ set rows k (joined (row_at rows k) row)
+pushed_at rows k o next row h e n = ap (set rows k) (n ∙ ap (λ q. joined q row) (e ∙ row_is rows k o h))
 
 -- a row that is read has the kinds of the rows
-pub read_kinds : (rows : List (Option Row)) (k : ℕ) (o : Option Row) (row : Row) → k < length rows → o ≡ get_or rows k o → o ≡ Some row → AreRowKinds rows → AreKinds row
-read_kinds rows k o row h e is kinds = kinds k row (at rows k o h e ∙ ap Some is)
+pub read_kinds : (rows : List (Option Row)) (k : ℕ) (o : Option Row) → k < length rows → o ≡ get_or rows k o → AreRowKinds rows → HasKinds o
+read_kinds rows k o h e kinds = kinds k o (at rows k o h e)
   where
     at : (rows : List (Option Row)) (k : ℕ) (o : Option Row) → k < length rows → o ≡ get_or rows k o → slice_get rows k ≡ Some o
     at [] k o h e = absurd (omega arith)

@@ -1,5 +1,5 @@
 -- Where the instructions of formed code lead.
-use Rattle.std.proofs.Common.{◌≡◌, ◌≢◌, ℕ, zero, suc, ℤ, pos, negsuc, ◌+◌, ◌<◌, List, [], ◌∷◌, ◌++◌, length, Option, Some, None, refl, sym, ap, ◌∙◌, subst, inl, inr, ⊎_elim, arith}
+use Rattle.std.proofs.Common.{◌≡◌, ◌≢◌, ℕ, zero, suc, ℤ, pos, negsuc, ◌+◌, ◌<◌, ◌≤◌, List, [], ◌∷◌, ◌++◌, length, Option, Some, None, refl, sym, ap, ◌∙◌, subst, inl, inr, ⊎_elim, arith}
 use Rattle.std.specs.Prelude.{◌⊎◌, slice_get, IsSomeAnd, ◌≤ℤ◌}
 use Rattle.std.proofs.lemmas.Int.{ints}
 use Rattle.std.proofs.lemmas.Bool.{cases_lt}
@@ -14,6 +14,7 @@ use Rattle.bpfimage.specs.Form.{target_of, next_of, slot_at, BreaksRule, IsForme
 use Rattle.helpers.specs.Calls.{Callee}
 use Rattle.verifier.specs.Registers.{Row}
 use Rattle.verifier.specs.Rules.{row_after, row_taken}
+use Rattle.verifier.specs.Rows.{LeadBelow}
 use Rattle.verifier.specs.Table.{Edge, next_edge, target_edge, edges_from}
 
 -- an instruction of formed code keeps each rule
@@ -159,33 +160,19 @@ target_edge_at z k row e = ap (λ y. target_edge (Some y) row) e
 
 -- ---- what needs no pairs
 
-abbrev pub AllAbove : ℕ → List Edge → Type 0
-AllAbove i [] = Unit {0}
-AllAbove i (e ∷ es) = (i < e.0) × AllAbove i es
-
-above_append : (i : ℕ) (es fs : List Edge) → AllAbove i es → AllAbove i fs → AllAbove i (es ++ fs)
-above_append i [] fs a b = b
-above_append i (e ∷ es) fs a b = (a.0, above_append i es fs a.1 b)
-
-above_next : (i : ℕ) (o : Option ℕ) (row : Row) → ((k : ℕ) → o ≡ Some k → i < k) → AllAbove i (next_edge o row)
-above_next i None row h = tt
-above_next i (Some k) row h = (h k refl, tt)
-
-above_target : (i : ℕ) (o : Option ℤ) (row : Row) → ((k : ℕ) → o ≡ Some (pos k) → i < k) → AllAbove i (target_edge o row)
-above_target i None row h = tt
-above_target i (Some (pos k)) row h = (h k refl, tt)
-above_target i (Some (negsuc k)) row h = tt
-
 same_pos : (j k : ℕ) → pos k ≡ pos j → j ≡ k
 same_pos j k e = cc
-
-pub edges_above : (callee : Callee) (code : List Insn) (i : ℕ) (x : Insn) (row : Row) → IsFormed code → slice_get code i ≡ Some x → AllAbove i (edges_from callee i row x)
-edges_above callee code i x row formed at =
-    above_append i _ _ (above_next i (next_of i x) (row_after callee row x) (λ k e. next_above i x k e))
-    (above_target i (target_of i x) (row_taken row x) (λ k e. let l = target_leads code i x (pos k) formed at e in subst (λ j. i < j) (same_pos l.0 k l.1) l.2.above))
 
 pub next_within : (code : List Insn) (i : ℕ) (x : Insn) (k : ℕ) → IsFormed code → slice_get code i ≡ Some x → next_of i x ≡ Some k → k < length code
 next_within code i x k formed at e = ⊎_elim (λ lt. lt) (λ le. absurd (keeps code i x RunsPast formed at (some_from (next_of i x) k _ e le))) (cases_lt k (length code))
 
 pub target_within : (code : List Insn) (i : ℕ) (x : Insn) (z : ℤ) → IsFormed code → slice_get code i ≡ Some x → target_of i x ≡ Some z → (k : ℕ) × (z ≡ pos k) × (k < length code)
 target_within code i x z formed at e = let l = target_leads code i x z formed at e in (l.0, l.1, slice_get_within code l.0 l.2.to l.2.there)
+
+pub target_below : (code : List Insn) (i : ℕ) (x : Insn) (row : Row) (n : ℕ) → IsFormed code → slice_get code i ≡ Some x → length code ≤ n → LeadBelow n (target_edge (target_of i x) row)
+target_below code i x row n formed at le = below (target_of i x) (λ k e. let h = target_within code i x (pos k) formed at e in omega (arith, h.2, same_pos h.0 k h.1, le))
+  where
+    below : (o : Option ℤ) → ((k : ℕ) → o ≡ Some (pos k) → k < n) → LeadBelow n (target_edge o row)
+    below None h = tt
+    below (Some (pos k)) h = (h k refl, tt)
+    below (Some (negsuc k)) h = tt

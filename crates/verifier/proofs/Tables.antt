@@ -6,9 +6,8 @@ use Rattle.std.proofs.lemmas.List.{length-replicate}
 use Rattle.std.proofs.lemmas.Option.{same_Some}
 use Rattle.verifier.specs.Program.{Program}
 use Rattle.verifier.specs.Registers.{Row, entry}
-use Rattle.verifier.specs.Rows.{row_at, push_one, pushed, IsPass}
+use Rattle.verifier.specs.Rows.{row_at, push_one, pushed, Misses, IsPass}
 use Rattle.verifier.specs.Table.{Edge, joined, into, edges_of, arrivals, rows_before, table}
-use Rattle.verifier.proofs.Shape.{AllAbove}
 
 -- ---- the table's rows
 
@@ -73,64 +72,68 @@ all_edges : (rows : List (Option Row)) (es : List Edge) (k : ℕ) (o : Option Ro
 all_edges rows [] k o e = e
 all_edges rows (x ∷ es) k o e = all_edges (push_one rows x) es k _ (one_edge rows x k o e)
 
-kept_below : (i : ℕ) (es : List Edge) (rows : List (Option Row)) → AllAbove i es → (m : ℕ) → m ≤ i → slice_get (pushed rows es) m ≡ slice_get rows m
-kept_below i [] rows a m le = refl
-kept_below i (e ∷ es) rows a m le =
-    let above = a.0 in
-    kept_below i es (push_one rows e) a.1 m le ∙ get_set_other rows e.0 m _ (apart m e.0 (omega arith))
-  where
-    apart : (m k : ℕ) → m < k → m ≢ k
-    apart m k lt e = omega arith
-
 length_pushed : (es : List Edge) (rows : List (Option Row)) → length (pushed rows es) ≡ length rows
 length_pushed [] rows = refl
 length_pushed (e ∷ es) rows = length_pushed es (push_one rows e) ∙ length-set rows e.0 _
 
 -- ---- the pass
 
--- the row that is read there is the table's
-pub row_here : (p : Program) (rows : List (Option Row)) (i : ℕ) → IsPass p rows i → i < length p.code → slice_get rows i ≡ slice_get (table p) i
-row_here p rows i h lt =
-    let m : min i i ≡ i = omega arith in
-    h.rows_are i (omega (arith, h.long)) ∙ ap (λ n. Some (arrivals p (table p) n i)) m ∙ sym (table_at p i lt)
+-- the row at hand is the table's
+pub row_here : (p : Program) (rows : List (Option Row)) (here : Option Row) (i : ℕ) → IsPass p rows here i → i < length p.code → slice_get (table p) i ≡ Some here
+row_here p rows here i h lt = table_at p i lt ∙ ap Some (sym h.here_is)
+
+missed : (k : ℕ) (es : List Edge) (o : Option Row) → Misses k es → into k es o ≡ o
+missed k [] o m = refl
+missed k (e ∷ es) o m = ap (into k es) (cond-false (eqb e.0 k) (joined o e.1) o (ne_eqb e.0 k m.0)) ∙ missed k es o m.1
 
 -- one slot more
-pub pass_more : (p : Program) (rows : List (Option Row)) (i : ℕ) (es : List Edge) → IsPass p rows i → i < length p.code → es ≡ edges_of p.sigs i (slice_get p.code i) (slice_get (table p) i) → AllAbove i es → IsPass p (pushed rows es) (i + 1)
-pass_more p rows i es h lt is a =
-    let len = length_pushed es rows in
-    record {
-      long = len ∙ h.long;
-      rows_are = λ k lt. ⊎_elim
-          (λ above. let m : min i k ≡ i = omega arith in
-          let m' : min (i + 1) k ≡ suc i = omega arith in
-          all_edges rows es k (arrivals p (table p) (min i k) k) (h.rows_are k (omega (arith, len)))
-          ∙ ap (λ n. Some (into k es (arrivals p (table p) n k))) m
-          ∙ ap (λ xs. Some (into k xs (arrivals p (table p) i k))) is
-          ∙ ap (λ n. Some (arrivals p (table p) n k)) (sym m'))
-          (λ le. let m : min (i + 1) k ≡ min i k = omega arith in
-          kept_below i es rows a k le ∙ h.rows_are k (omega (arith, len)) ∙ ap (λ n. Some (arrivals p (table p) n k)) (sym m))
-          (cases_lt i k);
-    }
+module _ (p : Program) (rows : List (Option Row)) (here : Option Row) (i : ℕ) (es : List Edge) (h : IsPass p rows here i) (lt : i < length p.code) (is : es ≡ edges_of p.sigs i (slice_get p.code i) (slice_get (table p) i)) where
+  arrive : (k : ℕ) → into k es (arrivals p (table p) i k) ≡ arrivals p (table p) (i + 1) k
+  arrive k = let one : suc i ≡ i + 1 = omega arith in ap (λ xs. into k xs (arrivals p (table p) i k)) is ∙ ap (λ n. arrivals p (table p) n k) one
+
+  -- with all its edges joined in
+  pub pass_all : (next : Option Row) → slice_get (pushed rows es) (i + 1) ≡ Some next → IsPass p (pushed rows es) next (i + 1)
+  pass_all next e =
+      let len = length_pushed es rows in
+      let there = all_edges rows es (i + 1) _ (h.rows_are (i + 1) (omega arith) (omega (arith, h.long, lt))) in
+      record {
+        long = len ∙ h.long;
+        here_is = same_Some _ _ (sym e ∙ there) ∙ arrive (i + 1);
+        rows_are = λ k above within. all_edges rows es k _ (h.rows_are k (omega arith) (omega (arith, len))) ∙ ap Some (arrive k);
+      }
+
+  -- where its row goes on as it stands
+  pub pass_alone : (row : Row) (fs : List Edge) → es ≡ (i + 1, row) ∷ fs → slice_get rows (i + 1) ≡ Some None → Misses (i + 1) fs → IsPass p (pushed rows fs) (Some row) (i + 1)
+  pass_alone row fs e none m =
+      let len = length_pushed fs rows in
+      let empty : arrivals p (table p) i (i + 1) ≡ None = same_Some _ _ (sym (h.rows_are (i + 1) (omega arith) (omega (arith, h.long, lt))) ∙ none) in
+      record {
+        long = len ∙ h.long;
+        here_is =
+            sym
+            (sym (arrive (i + 1))
+            ∙ ap (λ xs. into (i + 1) xs (arrivals p (table p) i (i + 1))) e
+            ∙ ap (into (i + 1) ((i + 1, row) ∷ fs)) empty
+            ∙ ap (into (i + 1) fs) (cond-true (eqb (i + 1) (i + 1)) (Some row) None (eq-eqb (i + 1) (i + 1) refl))
+            ∙ missed (i + 1) fs (Some row) m);
+        rows_are = λ k above within.
+            all_edges rows fs k _ (h.rows_are k (omega arith) (omega (arith, len)))
+            ∙ ap (λ o. Some (into k fs o)) (sym (cond-false (eqb (i + 1) k) (joined (arrivals p (table p) i k) row) (arrivals p (table p) i k) (ne_eqb (i + 1) k (λ q. omega (arith, q)))))
+            ∙ ap (λ xs. Some (into k xs (arrivals p (table p) i k))) (sym e)
+            ∙ ap Some (arrive k);
+      }
 
 get_replicate : (n k : ℕ) (o : Option Row) → k < n → slice_get (replicate n o) k ≡ Some o
 get_replicate zero k o h = absurd (omega arith)
 get_replicate (suc n) zero o h = refl
 get_replicate (suc n) (suc k) o h = get_replicate n k o (omega arith)
 
--- the rows before the first slot
-pub pass_first : (p : Program) (rows : List (Option Row)) → 1 ≤ length p.code → rows ≡ set (replicate (length p.code) None) 0 (Some (entry p)) → IsPass p rows 0
-pass_first p rows some e =
-    let n = length p.code in
-    let len : length rows ≡ n = ap length e ∙ length-set (replicate n None) 0 (Some (entry p)) ∙ length-replicate {A = Option Row} n None in
+-- before the first slot
+pub pass_first : (p : Program) (rows : List (Option Row)) (n : ℕ) → n ≡ length p.code + 1 → rows ≡ replicate n None → IsPass p rows (Some (entry p)) 0
+pass_first p rows n m e =
+    let len : length rows ≡ n = ap length e ∙ length-replicate {A = Option Row} n None in
     record {
-      long = len;
-      rows_are = λ k lt. ap (λ xs. slice_get xs k) e ∙ first n k (omega (arith, len)) ∙ ap (λ m. Some (arrivals p (table p) m k)) (least k);
+      long = len ∙ m;
+      here_is = refl;
+      rows_are = λ k above within. ap (λ xs. slice_get xs k) e ∙ get_replicate n k None (omega (arith, len)) ∙ ap Some (sym (cond-false (eqb k 0) (Some (entry p)) None (ne_eqb k 0 (λ q. omega (arith, q)))));
     }
-  where
-    least : (k : ℕ) → 0 ≡ min 0 k
-    least k = omega arith
-
-    first : (n k : ℕ) → k < n → slice_get (set (replicate n None) 0 (Some (entry p))) k ≡ Some (arrivals p (table p) 0 k)
-    first zero k h = absurd (omega arith)
-    first (suc n) zero h = refl
-    first (suc n) (suc k) h = get_replicate n k None (omega arith) ∙ ap Some (sym (cond-false (eqb (suc k) 0) (Some (entry p)) None (ne_eqb (suc k) 0 (λ e. omega arith))))

@@ -1,5 +1,5 @@
 -- One slot of the pass.
-use Rattle.std.proofs.Common.{◌≡◌, ℕ, ◌+◌, ◌<◌, ◌≤◌, List, [], length, Option, Some, None, refl, sym, ap, ◌∙◌, arith}
+use Rattle.std.proofs.Common.{◌≡◌, ℕ, ◌+◌, ◌<◌, ◌≤◌, List, [], ◌++◌, length, Option, Some, None, refl, sym, ap, ◌∙◌, subst, arith}
 use Rattle.std.specs.Prelude.{◌⊎◌, slice_get}
 use Rattle.std.proofs.Common.{inl, inr}
 use Rattle.verifier.specs.Verdict.{IsRefused}
@@ -13,12 +13,13 @@ use Rattle.bpfimage.specs.Form.{IsFormed}
 use Rattle.verifier.specs.Program.{Program}
 use Rattle.verifier.specs.Registers.{Row}
 use Rattle.helpers.specs.declared.sig.Entry.{Entry}
-use Rattle.verifier.specs.Rules.{callee_in, broken_in}
-use Rattle.verifier.specs.Rows.{pushed, IsPass}
-use Rattle.verifier.specs.Table.{edges_from, edges_of, table, broken_with, broken_at, IsAccepted}
+use Rattle.helpers.specs.Calls.{Callee}
+use Rattle.bpfimage.specs.Form.{next_of, target_of}
+use Rattle.verifier.specs.Rules.{callee_in, broken_in, row_after, row_taken}
+use Rattle.verifier.specs.Rows.{pushed, Misses, IsPass}
+use Rattle.verifier.specs.Table.{Edge, next_edge, target_edge, edges_from, edges_of, table, broken_with, broken_at, IsAccepted}
 use Rattle.verifier.specs.declared.rule.KindRule.{KindRule}
-use Rattle.verifier.proofs.Shape.{edges_above}
-use Rattle.verifier.proofs.Tables.{row_here, pass_more}
+use Rattle.verifier.proofs.Tables.{row_here, pass_all, pass_alone}
 
 no_rule : (p : Program) (o : Option Insn) → broken_with p o (Some None) ≡ None
 no_rule p None = refl
@@ -28,24 +29,38 @@ no_edges : (sigs : List Entry) (i : ℕ) (o : Option Insn) → [] ≡ edges_of s
 no_edges sigs i None = refl
 no_edges sigs i (Some x) = refl
 
-module _ (p : Program) (rows : List (Option Row)) (i : ℕ) (pass : IsPass p rows i) (within : i < length p.code) where
-  kinds_are : (o : Option Row) → slice_get rows i ≡ Some o → slice_get (table p) i ≡ Some o
-  kinds_are o e = sym (row_here p rows i pass within) ∙ e
-
+module _ (p : Program) (rows : List (Option Row)) (i : ℕ) (within : i < length p.code) where
   -- a slot that no kinds reach
-  pub none_unbroken : slice_get rows i ≡ Some None → broken_at p i ≡ None
-  none_unbroken e = ap (broken_with p (slice_get p.code i)) (kinds_are None e) ∙ no_rule p (slice_get p.code i)
+  pub none_unbroken : IsPass p rows None i → broken_at p i ≡ None
+  none_unbroken pass = ap (broken_with p (slice_get p.code i)) (row_here p rows None i pass within) ∙ no_rule p (slice_get p.code i)
 
-  pub none_pass : slice_get rows i ≡ Some None → IsPass p rows (i + 1)
-  none_pass e = pass_more p rows i [] pass within (no_edges p.sigs i (slice_get p.code i) ∙ ap (edges_of p.sigs i (slice_get p.code i)) (sym (kinds_are None e))) tt
+  pub none_pass : (next : Option Row) → IsPass p rows None i → slice_get rows (i + 1) ≡ Some next → IsPass p rows next (i + 1)
+  none_pass next pass e = pass_all p rows None i [] pass within (no_edges p.sigs i (slice_get p.code i) ∙ ap (edges_of p.sigs i (slice_get p.code i)) (sym (row_here p rows None i pass within))) next e
 
   -- a slot that some reach
-  pub broken_here : (row : Row) (x : Insn) → slice_get rows i ≡ Some (Some row) → slice_get p.code i ≡ Some x → broken_at p i ≡ broken_in p row x
-  broken_here row x e at = ap (λ o. broken_with p o (slice_get (table p) i)) at ∙ ap (broken_with p (Some x)) (kinds_are (Some row) e)
+  module _ (row : Row) (x : Insn) (pass : IsPass p rows (Some row) i) (at : slice_get p.code i ≡ Some x) where
+    pub broken_here : broken_at p i ≡ broken_in p row x
+    broken_here = ap (λ o. broken_with p o (slice_get (table p) i)) at ∙ ap (broken_with p (Some x)) (row_here p rows (Some row) i pass within)
 
-  pub pass_here : (row : Row) (x : Insn) → IsFormed p.code → slice_get rows i ≡ Some (Some row) → slice_get p.code i ≡ Some x → IsPass p (pushed rows (edges_from (callee_in p.sigs x) i row x)) (i + 1)
-  pass_here row x formed e at =
-      pass_more p rows i (edges_from (callee_in p.sigs x) i row x) pass within (ap (λ r. edges_of p.sigs i (Some x) r) (sym (kinds_are (Some row) e)) ∙ ap (λ o. edges_of p.sigs i o (slice_get (table p) i)) (sym at)) (edges_above (callee_in p.sigs x) p.code i x row formed at)
+    edges_here : edges_from (callee_in p.sigs x) i row x ≡ edges_of p.sigs i (slice_get p.code i) (slice_get (table p) i)
+    edges_here = ap (λ r. edges_of p.sigs i (Some x) r) (sym (row_here p rows (Some row) i pass within)) ∙ ap (λ o. edges_of p.sigs i o (slice_get (table p) i)) (sym at)
+
+    -- its edges, of which the first is that of the next slot
+    module _ (callee : Callee) (after : Row) (fs : List Edge) (called : callee ≡ callee_in p.sigs x) (goes : after ≡ row_after callee row x) (takes : fs ≡ target_edge (target_of i x) (row_taken row x)) where
+      edges_are : next_edge (next_of i x) after ++ fs ≡ edges_from (callee_in p.sigs x) i row x
+      edges_are = ap (λ r. next_edge (next_of i x) r ++ fs) goes ∙ ap (λ es. next_edge (next_of i x) (row_after callee row x) ++ es) takes ∙ ap (λ y. edges_from y i row x) called
+
+      pub all_here : (rows' : List (Option Row)) (next : Option Row) → rows' ≡ pushed rows (next_edge (next_of i x) after ++ fs) → slice_get rows' (i + 1) ≡ Some next → IsPass p rows' next (i + 1)
+      all_here rows' next are e =
+          let es = next_edge (next_of i x) after ++ fs in
+          subst (λ xs. IsPass p xs next (i + 1)) (sym are)
+          (pass_all p rows (Some row) i es pass within (edges_are ∙ edges_here) next (ap (λ xs. slice_get xs (i + 1)) (sym are) ∙ e))
+
+      pub alone_here : (rows' : List (Option Row)) → rows' ≡ pushed rows fs → next_of i x ≡ Some (i + 1) → slice_get rows (i + 1) ≡ Some None → Misses (i + 1) fs → IsPass p rows' (Some after) (i + 1)
+      alone_here rows' are on none m =
+          let es = next_edge (next_of i x) after ++ fs in
+          subst (λ xs. IsPass p xs (Some after) (i + 1)) (sym are)
+          (pass_alone p rows (Some row) i es pass within (edges_are ∙ edges_here) after fs (ap (λ o. next_edge o after ++ fs) on) none m)
 
 past_code : (p : Program) (k : ℕ) → length p.code ≤ k → broken_at p k ≡ None
 past_code p k h = ap (λ o. broken_with p o (slice_get (table p) k)) (slice_get_past p.code k h)

@@ -1,7 +1,8 @@
 -- A list of rows with edges joined in.
-use Rattle.std.specs.Prelude.{◌≡◌, ℕ, zero, suc, ◌<◌, min, List, [], ◌∷◌, Option, Some, None, length, slice_get, slice_set}
+use Rattle.std.specs.Prelude.{◌≡◌, ◌≢◌, ℕ, zero, suc, ◌+◌, ◌<◌, List, [], ◌∷◌, Option, Some, None, length, slice_get, slice_set}
 use Rattle.verifier.specs.Program.{Program}
 use Rattle.verifier.specs.Registers.{Row}
+use Rattle.verifier.specs.declared.edges.Taken.{Taken}
 use Rattle.verifier.specs.Table.{Edge, joined, arrivals, table, AreKinds}
 
 abbrev pub row_at : List (Option Row) → ℕ → Option Row
@@ -17,11 +18,38 @@ abbrev pub pushed : List (Option Row) → List Edge → List (Option Row)
 pushed rows [] = rows
 pushed rows (e ∷ es) = pushed (push_one rows e) es
 
--- every kind of every row may stand in it
-abbrev pub AreRowKinds : List (Option Row) → Type 0
-AreRowKinds rows = (k : ℕ) (row : Row) → slice_get rows k ≡ Some (Some row) → AreKinds row
+-- the edge of a jump, if there is one
+abbrev pub edge_list : Option Taken → List Edge
+edge_list None = []
+edge_list (Some taken) = (taken.to, taken.row) ∷ []
 
--- the rows before slot i is visited: each has the edges from lower slots than i joined in
-pub record IsPass (p : Program) (rows : List (Option Row)) (i : ℕ) : Type 0 where
-  pub long : length rows ≡ length p.code
-  pub rows_are : (k : ℕ) → k < length rows → slice_get rows k ≡ Some (arrivals p (table p) (min i k) k)
+-- each edge leads to a slot below n
+abbrev pub LeadBelow : ℕ → List Edge → Type 0
+LeadBelow n [] = Unit {0}
+LeadBelow n (e ∷ es) = (e.0 < n) × LeadBelow n es
+
+-- no edge leads to slot k
+abbrev pub Misses : ℕ → List Edge → Type 0
+Misses k [] = Unit {0}
+Misses k (e ∷ es) = (e.0 ≢ k) × Misses k es
+
+-- every kind that an edge brings may stand in it
+abbrev pub HaveKinds : List Edge → Type 0
+HaveKinds [] = Unit {0}
+HaveKinds (e ∷ es) = AreKinds e.1 × HaveKinds es
+
+-- every kind of a row, if there is one, may stand in it
+abbrev pub HasKinds : Option Row → Type 0
+HasKinds None = Unit {0}
+HasKinds (Some row) = AreKinds row
+
+-- and so in all rows
+abbrev pub AreRowKinds : List (Option Row) → Type 0
+AreRowKinds rows = (k : ℕ) (o : Option Row) → slice_get rows k ≡ Some o → HasKinds o
+
+-- before slot i is visited: the row at hand is the join over all edges into it, and the row that is kept for each higher slot is
+-- that over the edges so far
+pub record IsPass (p : Program) (rows : List (Option Row)) (here : Option Row) (i : ℕ) : Type 0 where
+  pub long : length rows ≡ length p.code + 1
+  pub here_is : here ≡ arrivals p (table p) i i
+  pub rows_are : (k : ℕ) → i < k → k < length rows → slice_get rows k ≡ Some (arrivals p (table p) i k)

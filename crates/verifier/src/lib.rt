@@ -3,6 +3,7 @@
 
 mod callee;
 mod candidate;
+mod edges;
 mod kinds;
 pub mod rule;
 mod rules;

@@ -1,24 +1,25 @@
 //! The rules over kinds, at one slot.
 
-ghost use Rattle.std.specs.Prelude.{◌≡◌, ◌∷◌, ◌||◌, ℕ, List, Option, Some, None};
+ghost use Rattle.std.specs.Prelude.{◌≡◌, ◌||◌, false, not, IfOk, IfNone};
 ghost use Rattle.insn.specs.Encoding.{size_bytes};
 ghost use Rattle.insn.specs.declared.Insn.TheVariants as insn;
-ghost use Rattle.memory.specs.State.{no_calls, writes, operand_reads};
+ghost use Rattle.memory.specs.State.{writes, operand_reads};
 ghost use Rattle.helpers.specs.Calls.{Unknown};
 ghost use Rattle.ranges.specs.Kinds.{IsKind};
 ghost use Rattle.verifier.specs.Candidates.{program_in};
-ghost use Rattle.verifier.specs.Registers.{kind_at, kind_from, is_unset, is_pointer, any_unset, is_inside};
-ghost use Rattle.verifier.specs.CallKinds.{callee_from};
-ghost use Rattle.verifier.specs.Rules.{is_frame, bad_result, first_of, reads_by, call_rules, class_rules, rules_by};
+ghost use Rattle.verifier.specs.Registers.{kind_at, with_kind, kind_from, is_unset, is_pointer, any_unset, is_inside};
+ghost use Rattle.verifier.specs.CallKinds.{callee_from, row_after_call};
+ghost use Rattle.verifier.specs.Rules.{is_frame, bad_result, result_kind, broken_if, first_of, reads_by, call_rules, class_rules, rules_by, loaded, refined, row_after};
 ghost use Rattle.verifier.specs.Table.{AreKinds};
+ghost use Rattle.verifier.specs.declared.rule.KindRule.TheVariants.{PointerOperand, OutsideWindow};
 
-use crate::callee::{Called, is_argument_unset, is_given};
+use crate::callee::{Called, is_argument_unset, is_given, row_after_call};
 use crate::candidate::Candidate;
-use crate::kinds::{Row, kind_of, kind_of_operand};
+use crate::kinds::{Row, kind_of, kind_of_operand, loaded, one_number, refine_row, set_kind};
 use crate::rule::KindRule;
 use crate::windows::is_inside;
-use alu::Op;
-use insn::{Insn, Operand, Register, Size};
+use alu::{Cond, Op, Width};
+use insn::{Extend, Insn, Operand, Register, Size};
 use memory::Region;
 use ranges::{Bad, Kind, transfer, transfer_swap};
 
@@ -81,12 +82,19 @@ fn is_access_inside(program: &Candidate, kind: Kind, offset: i16, size: Size) ->
     is_inside(program, kind, offset, size.bytes() as u32)
 }
 
-/// The rule that a refused operation breaks.
-fn bad_rule(outcome: Result<Kind, Bad>) -> Option<KindRule>
-    ensures { result ≡ bad_result outcome }
+/// Gives a register what an operation leaves in it, or tells the rule that the operation breaks.
+fn settle(row: &mut Row, dst: Register, outcome: Result<Kind, Bad>) -> Option<KindRule>
+    requires old { AreKinds row.old }
+    requires kind { IfOk outcome IsKind }
+    ensures rule { result ≡ bad_result outcome }
+    ensures row { IfNone result (row.new ≡ with_kind row.old dst (result_kind outcome)) }
+    ensures kinds { IfNone result (AreKinds row.new) }
 {
     match outcome {
-        Ok(_) => None,
+        Ok(kind) => {
+            set_kind(row, dst, kind);
+            None
+        }
         Err(Bad::V22) => Some(KindRule::PointerOperand),
         Err(Bad::V23) => Some(KindRule::FarOffset),
     }
@@ -138,10 +146,71 @@ fn call_rule(program: &Candidate, callee: &Called, row: &Row) -> Option<KindRule
     }
 }
 
-/// The first rule that an instruction breaks, of those that its class can break.
-fn class_rule(program: &Candidate, callee: &Called, row: &Row, insn: Insn) -> Option<KindRule>
-    requires kinds { AreKinds row.now }
-    ensures { result ≡ first_of (class_rules (program_in program.now) (callee_from callee.now) row.now insn) }
+/// Goes over a conditional jump that is not taken, or tells the rule that it breaks.
+fn compare(
+    cond: Cond,
+    width: Width,
+    left: Register,
+    right: Operand,
+    row: &mut Row,
+) -> Option<KindRule>
+    requires kinds { AreKinds row.old }
+    ensures rule { result ≡ broken_if (is_pointer (kind_at row.old left) || is_pointer (kind_from row.old right)) PointerOperand }
+    ensures row { IfNone result (row.new ≡ refined cond width left right false row.old) }
+    ensures kinds { IfNone result (AreKinds row.new) }
+{
+    match (kind_of(row, left), kind_of_operand(row, right)) {
+        (Kind::Ptr { .. }, _) | (_, Kind::Ptr { .. }) => Some(KindRule::PointerOperand),
+        _ => {
+            refine_row(cond, width, left, right, false, row);
+            None
+        }
+    }
+}
+
+/// Goes over a load, or tells the rule that it breaks.
+fn load(
+    program: &Candidate,
+    row: &mut Row,
+    size: Size,
+    extend: Extend,
+    dst: Register,
+    base: Register,
+    offset: i16,
+) -> Option<KindRule>
+    requires kinds { AreKinds row.old }
+    ensures rule { result ≡ broken_if (not (is_inside (program_in program.now) (kind_at row.old base) offset (size_bytes size))) OutsideWindow }
+    ensures row { IfNone result (row.new ≡ with_kind row.old dst (loaded size extend)) }
+    ensures kinds { IfNone result (AreKinds row.new) }
+{
+    if is_access_inside(program, kind_of(row, base), offset, size) {
+        set_kind(row, dst, loaded(size, extend));
+        None
+    } else {
+        Some(KindRule::OutsideWindow)
+    }
+}
+
+/// Goes over a call, or tells the first rule that it breaks.
+fn call(program: &Candidate, callee: &Called, row: &mut Row) -> Option<KindRule>
+    requires kinds { AreKinds row.old }
+    ensures rule { result ≡ first_of (call_rules (program_in program.now) (callee_from callee.now) row.old) }
+    ensures row { IfNone result (row.new ≡ row_after_call (callee_from callee.now) row.old) }
+    ensures kinds { IfNone result (AreKinds row.new) }
+{
+    if let Some(rule) = call_rule(program, callee, row) {
+        return Some(rule);
+    }
+    *row = row_after_call(row, callee);
+    None
+}
+
+/// Goes over an instruction that reads what is set, or tells the first rule that it breaks of those that its class can break.
+fn class_step(program: &Candidate, callee: &Called, row: &mut Row, insn: Insn) -> Option<KindRule>
+    requires kinds { AreKinds row.old }
+    ensures rule { result ≡ first_of (class_rules (program_in program.now) (callee_from callee.now) row.old insn) }
+    ensures row { IfNone result (row.new ≡ row_after (callee_from callee.now) row.old insn) }
+    ensures kinds { IfNone result (AreKinds row.new) }
 {
     match insn {
         Insn::Alu {
@@ -149,45 +218,54 @@ fn class_rule(program: &Candidate, callee: &Called, row: &Row, insn: Insn) -> Op
             width,
             dst,
             src,
-        } => bad_rule(transfer(op, width, kind_of(row, dst), kind_of_operand(row, src))),
-        Insn::Swap { kind, bits, dst } => bad_rule(transfer_swap(kind, bits, kind_of(row, dst))),
+        } => {
+            let outcome = transfer(op, width, kind_of(row, dst), kind_of_operand(row, src));
+            settle(row, dst, outcome)
+        }
+        Insn::Swap { kind, bits, dst } => {
+            let outcome = transfer_swap(kind, bits, kind_of(row, dst));
+            settle(row, dst, outcome)
+        }
         Insn::Load {
             size,
+            extend,
+            dst,
             base,
             offset,
-            ..
-        } => {
-            if is_access_inside(program, kind_of(row, base), offset, size) {
-                None
-            } else {
-                Some(KindRule::OutsideWindow)
-            }
-        }
+        } => load(program, row, size, extend, dst, base, offset),
         Insn::Store {
             size,
             base,
             offset,
             src,
         } => store_rule(program, row, size, base, offset, src),
-        Insn::JumpIf { left, right, .. } => {
-            match (kind_of(row, left), kind_of_operand(row, right)) {
-                (Kind::Ptr { .. }, _) | (_, Kind::Ptr { .. }) => Some(KindRule::PointerOperand),
-                _ => None,
-            }
+        Insn::JumpIf {
+            cond,
+            width,
+            left,
+            right,
+            ..
+        } => compare(cond, width, left, right, row),
+        Insn::Call { .. } => call(program, callee, row),
+        Insn::Wide { dst, value } => {
+            set_kind(row, dst, one_number(value));
+            None
         }
-        Insn::Call { .. } => call_rule(program, callee, row),
         Insn::Exit => match kind_of(row, Register::R0) {
             Kind::Ptr { .. } => Some(KindRule::PointerAnswer),
             _ => None,
         },
-        Insn::Jump { .. } | Insn::Wide { .. } | Insn::Tail => None,
+        Insn::Jump { .. } | Insn::Tail => None,
     }
 }
 
-/// The lowest rule that an instruction, with what it calls, breaks at a row of kinds.
-pub fn broken_rule(program: &Candidate, callee: &Called, row: &Row, insn: Insn) -> Option<KindRule>
-    requires kinds { AreKinds row.now }
-    ensures { result ≡ first_of (rules_by (program_in program.now) (callee_from callee.now) row.now insn) }
+/// Goes over an instruction, with what it calls, in a row of kinds: to the kinds where it goes on to the next slot. What it
+/// breaks, the lowest rule, is told.
+pub fn advance(program: &Candidate, callee: &Called, row: &mut Row, insn: Insn) -> Option<KindRule>
+    requires kinds { AreKinds row.old }
+    ensures rule { result ≡ first_of (rules_by (program_in program.now) (callee_from callee.now) row.old insn) }
+    ensures row { IfNone result (row.new ≡ row_after (callee_from callee.now) row.old insn) }
+    ensures kinds { IfNone result (AreKinds row.new) }
 {
     if reads_unset(callee, row, insn) {
         return Some(KindRule::UnsetRead);
@@ -195,5 +273,5 @@ pub fn broken_rule(program: &Candidate, callee: &Called, row: &Row, insn: Insn) 
     if writes_frame(insn) {
         return Some(KindRule::FrameWritten);
     }
-    class_rule(program, callee, row, insn)
+    class_step(program, callee, row, insn)
 }

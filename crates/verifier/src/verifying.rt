@@ -7,22 +7,23 @@ ghost use Rattle.verifier.specs.Program.{program_of, IsSafeProgram};
 ghost use Rattle.verifier.specs.Candidates.{program_in};
 ghost use Rattle.verifier.specs.Registers.{entry};
 ghost use Rattle.verifier.specs.Table.{IsAccepted, IsFirstRule, broken_at, AreKinds};
-ghost use Rattle.verifier.specs.Rows.{AreRowKinds, IsPass};
+ghost use Rattle.verifier.specs.Rows.{HasKinds, AreRowKinds, IsPass};
 ghost use Rattle.verifier.specs.Verdict.{IsRefused};
 ghost use Rattle.verifier.specs.Plain.{IsPlain, IsWellBehaved};
 
 use crate::callee::callee_in;
 use crate::candidate::Candidate;
-use crate::kinds::{Row, push_edges};
+use crate::edges::{lead_on, taken_edge};
+use crate::kinds::Row;
 use crate::rule::{KindRule, Refused, Rule};
-use crate::rules::broken_rule;
+use crate::rules::advance;
 use crate::verified::Verified;
 use bpfimage::{Image, form_fault};
 use helpers::Sigs;
 use insn::code_is_paired;
 use memory::Region;
 use ranges::{Kind, kinds_are_sound};
-use std::alloc::{AllocError, Global};
+use std::alloc::Global;
 
 /// The kind of the address of a window: of its first byte, or of the stack's end.
 fn address_of(region: Region) -> Kind
@@ -62,39 +63,39 @@ fn entry(program: &Candidate) -> Row
     ]
 }
 
-/// The rows before the first slot: its own is the entry, and no kinds have reached the others.
-fn first_rows(alloc: Global, program: &Candidate) -> Result<Vec<Option<Row>>, AllocError>
-    ensures items { IfOk result (λ rows. rows.items ≡ slice_set (replicate (length program.now.image.code.items) None) 0 (Some (entry (program_in program.now)))) }
-    ensures kinds { IfOk result (λ rows. AreRowKinds rows.items) }
-{
-    let mut rows = vec![in alloc; None; program.image.code.len()]?;
-    rows[0] = Some(entry(program));
-    Ok(rows)
-}
-
-/// Tests a slot, and joins its edges into the rows of their targets.
-fn visit(program: &Candidate, at: usize, rows: &mut Vec<Option<Row>>) -> Option<KindRule>
+/// Tests a slot, by the kinds that reach it, and goes over it: to those that reach the next slot. Its jump's edge is joined into
+/// the row of its target.
+fn visit(
+    program: &Candidate,
+    at: usize,
+    rows: &mut Vec<Option<Row>>,
+    here: &mut Option<Row>,
+) -> Option<KindRule>
     requires formed { IsFormed program.now.image.code.items }
     requires within { at < length program.now.image.code.items }
-    requires pass { IsPass (program_in program.now) rows.old.items at }
+    requires pass { IsPass (program_in program.now) rows.old.items here.old at }
     requires kinds { AreRowKinds rows.old.items }
+    requires here { HasKinds here.old }
     ensures broken { IfSome result (λ rule. broken_at (program_in program.now) at ≡ Some rule) }
     ensures unbroken { IfNone result (broken_at (program_in program.now) at ≡ None) }
-    ensures pass { IfNone result (IsPass (program_in program.now) rows.new.items (at + 1)) }
+    ensures pass { IfNone result (IsPass (program_in program.now) rows.new.items here.new (at + 1)) }
     ensures kinds { IfNone result (AreRowKinds rows.new.items) }
+    ensures here { IfNone result (HasKinds here.new) }
 {
-    let Some(row) = rows[at] else {
+    let Some(row) = here else {
+        *here = rows[at + 1];
         return None;
     };
     let insn = program.image.code[at];
     let callee = callee_in(&program.sigs, insn);
-    match broken_rule(program, &callee, &row, insn) {
-        Some(rule) => Some(rule),
-        None => {
-            push_edges(rows, &callee, at, &row, insn);
-            None
-        }
+    let taken = taken_edge(at, row, insn);
+    if let Some(rule) = advance(program, &callee, row, insn) {
+        return Some(rule);
     }
+    if !lead_on(rows, at, row, insn, &taken) {
+        *here = rows[at + 1];
+    }
+    None
 }
 
 /// The first rule over kinds that a slot breaks.
@@ -103,14 +104,17 @@ fn check_kinds(alloc: Global, program: &Candidate) -> Result<(), Refused>
     ensures ok { OnOk result (IsAccepted (program_in program.now)) }
     ensures refused { IfErr result (λ refused. IsRefused (program_in program.now) refused.rule refused.slot) }
 {
-    let Ok(mut rows) = first_rows(alloc, program) else {
+    let slots = program.image.code.len();
+    // The row of slot i is kept at i until the pass gets there; nothing is kept past the last.
+    let Ok(mut rows) = vec![in alloc; None; slots + 1] else {
         return Err(Refused {
             rule: Rule::NoMemory,
             slot: 0,
         });
     };
-    for at in 0..program.image.code.len() {
-        if let Some(rule) = visit(program, at, &mut rows) {
+    let mut here = Some(entry(program));
+    for at in 0..slots {
+        if let Some(rule) = visit(program, at, &mut rows, &mut here) {
             return Err(Refused {
                 rule: Rule::Kinds(rule),
                 slot: at as u32,

@@ -9,9 +9,10 @@ pub loop-at-preserved : goal.loop-at-preserved
 loop-at-preserved c = record {
   pass = c.in_default-visit.ensures.pass;
   kinds = c.in_default-visit.ensures.kinds;
+  here = c.in_default-visit.ensures.here;
   unbroken = λ k lt. ⊎_elim (λ same. ap (broken_at (program_in c.args.program.now)) same ∙ c.in_default-visit.ensures.unbroken) (λ other. c.loop-at.invariant.unbroken k (omega arith)) (cases_eq k c.loop-at.at);
 }
 
 pub returns-clause-ok : goal.returns-clause-ok
 returns-clause-ok c =
-    all_visited (program_in c.args.program.now) c.loop-at.at c.requires (omega (arith, c.len-at-end.ensures, c.args.program.now.image.code.ok.0, c.loop-at-test.false)) c.loop-at.invariant.unbroken
+    all_visited (program_in c.args.program.now) c.loop-at.at c.requires (omega (arith, c.len-slots.ensures, c.args.program.now.image.code.ok.0, c.loop-at-test.false)) c.loop-at.invariant.unbroken

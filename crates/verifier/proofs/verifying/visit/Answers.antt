@@ -1,67 +1,89 @@
-use Rattle.std.proofs.Common.{◌+◌, Some, sym, ap, ◌∙◌, subst, arith}
+use Rattle.std.proofs.Common.{◌+◌, Some, refl, sym, ap, ◌∙◌, subst, arith}
+use Rattle.std.specs.Prelude.{vec_len}
 use Rattle.std.proofs.lemmas.Option.{slice_get_read}
 use Rattle.verifier.specs.Candidates.{program_in}
-use Rattle.verifier.specs.Rows.{pushed, IsPass}
-use Rattle.verifier.specs.Rules.{first_of, rules_by}
-use Rattle.verifier.specs.Table.{edges_from}
-use Rattle.verifier.proofs.Shape.{next_within, target_within}
-use Rattle.verifier.proofs.Visits.{none_unbroken, none_pass, broken_here, pass_here}
+use Rattle.verifier.specs.CallKinds.{callee_from}
+use Rattle.verifier.specs.Rows.{LeadBelow, edge_list, IsPass}
+use Rattle.verifier.specs.Rules.{first_of, rules_by, row_taken}
+use Rattle.verifier.proofs.Shape.{next_within, target_within, target_below}
+use Rattle.verifier.proofs.Visits.{none_unbroken, none_pass, broken_here, all_here, alone_here}
 use Rattle.verifier.proofs.verifying.visit.Goals as goal
 
 pub returns-in_default-clause-unbroken : goal.returns-in_default-clause-unbroken
 returns-in_default-clause-unbroken c =
+    let p = program_in c.args.program.now in
     let rows = c.args.rows.now.items in
-    let here = slice_get_read rows c.args.rows.now.len c.args.at c.index.result.now c.args.rows.now.ok.0 (omega (arith, c.requires.pass.long, c.requires.within, c.args.rows.now.ok.0)) c.index.ensures in
-    none_unbroken (program_in c.args.program.now) rows c.args.at c.requires.pass c.requires.within (here ∙ ap Some c.in_default.is)
+    none_unbroken p rows c.args.at c.requires.within (subst (λ o. IsPass p rows o c.args.at) c.in_default.is c.requires.pass)
 
 pub returns-in_default-clause-pass : goal.returns-in_default-clause-pass
 returns-in_default-clause-pass c =
+    let p = program_in c.args.program.now in
     let rows = c.args.rows.now.items in
-    let here = slice_get_read rows c.args.rows.now.len c.args.at c.index.result.now c.args.rows.now.ok.0 (omega (arith, c.requires.pass.long, c.requires.within, c.args.rows.now.ok.0)) c.index.ensures in
-    none_pass (program_in c.args.program.now) rows c.args.at c.requires.pass c.requires.within (here ∙ ap Some c.in_default.is)
+    let there = slice_get_read rows c.args.rows.now.len (c.args.at + 1) c.index.result.now c.args.rows.now.ok.0 (omega (arith, c.requires.pass.long, c.requires.within, c.args.rows.now.ok.0)) c.index.ensures in
+    none_pass p rows c.args.at c.requires.within c.index.result.now (subst (λ o. IsPass p rows o c.args.at) c.in_default.is c.requires.pass) there
 
-pub broken_rule-requires : goal.broken_rule-requires
-broken_rule-requires c =
+pub returns-in_default-clause-here : goal.returns-in_default-clause-here
+returns-in_default-clause-here c =
     let rows = c.args.rows.now.items in
-    let here = slice_get_read rows c.args.rows.now.len c.args.at c.index.result.now c.args.rows.now.ok.0 (omega (arith, c.requires.pass.long, c.requires.within, c.args.rows.now.ok.0)) c.index.ensures in
-    record { kinds = c.requires.kinds c.args.at c.in-Some.row (here ∙ ap Some c.in-Some.is) }
+    let there = slice_get_read rows c.args.rows.now.len (c.args.at + 1) c.index.result.now c.args.rows.now.ok.0 (omega (arith, c.requires.pass.long, c.requires.within, c.args.rows.now.ok.0)) c.index.ensures in
+    c.requires.kinds (c.args.at + 1) c.index.result.now there
 
-pub returns-in-Some-broken_rule-clause-broken : goal.returns-in-Some-broken_rule-clause-broken
-returns-in-Some-broken_rule-clause-broken c =
-    let rows = c.args.rows.now.items in
-    let here = slice_get_read rows c.args.rows.now.len c.args.at c.index.result.now c.args.rows.now.ok.0 (omega (arith, c.requires.pass.long, c.requires.within, c.args.rows.now.ok.0)) c.index.ensures in
+pub taken_edge-taken-requires-clause-ahead : goal.taken_edge-taken-requires-clause-ahead
+taken_edge-taken-requires-clause-ahead c = λ z e.
     let insn = slice_get_read c.args.program.now.image.code.items c.args.program.now.image.code.len c.args.at c.index-insn.result.now c.args.program.now.image.code.ok.0 (omega (arith, c.requires.within, c.args.program.now.image.code.ok.0)) c.index-insn.ensures in
-    broken_here (program_in c.args.program.now) rows c.args.at c.requires.pass c.requires.within c.in-Some.row c.index-insn.result.now (here ∙ ap Some c.in-Some.is) insn ∙ ap (λ y. first_of (rules_by (program_in c.args.program.now) y c.in-Some.row c.index-insn.result.now)) (sym c.callee_in-callee.ensures) ∙ sym c.broken_rule.ensures ∙ c.in-Some-broken_rule.is
+    let h = target_within c.args.program.now.image.code.items c.args.at c.index-insn.result.now z c.requires.formed insn e in
+    (h.0, h.1)
 
-pub returns-in-None-clause-unbroken : goal.returns-in-None-clause-unbroken
-returns-in-None-clause-unbroken c =
+pub returns-in-Some-advance-clause-broken : goal.returns-in-Some-advance-clause-broken
+returns-in-Some-advance-clause-broken c =
+    let p = program_in c.args.program.now in
     let rows = c.args.rows.now.items in
-    let here = slice_get_read rows c.args.rows.now.len c.args.at c.index.result.now c.args.rows.now.ok.0 (omega (arith, c.requires.pass.long, c.requires.within, c.args.rows.now.ok.0)) c.index.ensures in
     let insn = slice_get_read c.args.program.now.image.code.items c.args.program.now.image.code.len c.args.at c.index-insn.result.now c.args.program.now.image.code.ok.0 (omega (arith, c.requires.within, c.args.program.now.image.code.ok.0)) c.index-insn.ensures in
-    broken_here (program_in c.args.program.now) rows c.args.at c.requires.pass c.requires.within c.in-Some.row c.index-insn.result.now (here ∙ ap Some c.in-Some.is) insn ∙ ap (λ y. first_of (rules_by (program_in c.args.program.now) y c.in-Some.row c.index-insn.result.now)) (sym c.callee_in-callee.ensures) ∙ sym c.broken_rule.ensures ∙ c.in-None.is
+    broken_here p rows c.args.at c.requires.within c.in-Some.row c.index-insn.result.now (subst (λ o. IsPass p rows o c.args.at) c.in-Some.is c.requires.pass) insn ∙ ap (λ y. first_of (rules_by p y c.in-Some.row c.index-insn.result.now)) (sym c.callee_in-callee.ensures) ∙ sym c.advance.ensures.rule ∙ c.in-Some-advance.is
 
-pub push_edges-requires-clause-kinds : goal.push_edges-requires-clause-kinds
-push_edges-requires-clause-kinds c =
-    let rows = c.args.rows.now.items in
-    let here = slice_get_read rows c.args.rows.now.len c.args.at c.index.result.now c.args.rows.now.ok.0 (omega (arith, c.requires.pass.long, c.requires.within, c.args.rows.now.ok.0)) c.index.ensures in
-    c.requires.kinds c.args.at c.in-Some.row (here ∙ ap Some c.in-Some.is)
-
-pub push_edges-requires-clause-next : goal.push_edges-requires-clause-next
-push_edges-requires-clause-next c = λ k e.
+pub lead_on-requires-clause-next : goal.lead_on-requires-clause-next
+lead_on-requires-clause-next c = λ k e.
     let insn = slice_get_read c.args.program.now.image.code.items c.args.program.now.image.code.len c.args.at c.index-insn.result.now c.args.program.now.image.code.ok.0 (omega (arith, c.requires.within, c.args.program.now.image.code.ok.0)) c.index-insn.ensures in
     let h = next_within c.args.program.now.image.code.items c.args.at c.index-insn.result.now k c.requires.formed insn e in
     omega (arith, h, c.requires.pass.long, c.args.rows.now.ok.0)
 
-pub push_edges-requires-clause-target : goal.push_edges-requires-clause-target
-push_edges-requires-clause-target c = λ z e.
+pub lead_on-requires-clause-within : goal.lead_on-requires-clause-within
+lead_on-requires-clause-within c =
     let insn = slice_get_read c.args.program.now.image.code.items c.args.program.now.image.code.len c.args.at c.index-insn.result.now c.args.program.now.image.code.ok.0 (omega (arith, c.requires.within, c.args.program.now.image.code.ok.0)) c.index-insn.ensures in
-    let h = target_within c.args.program.now.image.code.items c.args.at c.index-insn.result.now z c.requires.formed insn e in
-    (h.0, h.1, omega (arith, h.2, c.requires.pass.long, c.args.rows.now.ok.0))
+    subst (LeadBelow (vec_len c.args.rows.now)) (sym c.taken_edge-taken.ensures.edge)
+    (target_below c.args.program.now.image.code.items c.args.at c.index-insn.result.now (row_taken c.in-Some.row c.index-insn.result.now) (vec_len c.args.rows.now) c.requires.formed insn (omega (arith, c.requires.pass.long, c.args.rows.now.ok.0)))
 
-pub returns-in-None-clause-pass : goal.returns-in-None-clause-pass
-returns-in-None-clause-pass c =
+pub returns-then-not-lead_on-clause-unbroken : goal.returns-then-not-lead_on-clause-unbroken
+returns-then-not-lead_on-clause-unbroken c =
+    let p = program_in c.args.program.now in
     let rows = c.args.rows.now.items in
-    let here = slice_get_read rows c.args.rows.now.len c.args.at c.index.result.now c.args.rows.now.ok.0 (omega (arith, c.requires.pass.long, c.requires.within, c.args.rows.now.ok.0)) c.index.ensures in
     let insn = slice_get_read c.args.program.now.image.code.items c.args.program.now.image.code.len c.args.at c.index-insn.result.now c.args.program.now.image.code.ok.0 (omega (arith, c.requires.within, c.args.program.now.image.code.ok.0)) c.index-insn.ensures in
-    subst (λ xs. IsPass (program_in c.args.program.now) xs (c.args.at + 1)) (sym (c.push_edges.ensures.items ∙ ap (λ y. pushed rows (edges_from y c.args.at c.in-Some.row c.index-insn.result.now)) c.callee_in-callee.ensures))
-    (pass_here (program_in c.args.program.now) rows c.args.at c.requires.pass c.requires.within c.in-Some.row c.index-insn.result.now c.requires.formed (here ∙ ap Some c.in-Some.is) insn)
+    broken_here p rows c.args.at c.requires.within c.in-Some.row c.index-insn.result.now (subst (λ o. IsPass p rows o c.args.at) c.in-Some.is c.requires.pass) insn ∙ ap (λ y. first_of (rules_by p y c.in-Some.row c.index-insn.result.now)) (sym c.callee_in-callee.ensures) ∙ sym c.advance.ensures.rule ∙ c.in_default-advance.is
+
+pub returns-then-not-lead_on-clause-pass : goal.returns-then-not-lead_on-clause-pass
+returns-then-not-lead_on-clause-pass c =
+    let p = program_in c.args.program.now in
+    let rows = c.args.rows.now.items in
+    let insn = slice_get_read c.args.program.now.image.code.items c.args.program.now.image.code.len c.args.at c.index-insn.result.now c.args.program.now.image.code.ok.0 (omega (arith, c.requires.within, c.args.program.now.image.code.ok.0)) c.index-insn.ensures in
+    let there = slice_get_read c.lead_on.new.rows.items c.lead_on.new.rows.len (c.args.at + 1) c.index-then-not-lead_on.result.now c.lead_on.new.rows.ok.0 (omega (arith, c.lead_on.ensures.len, c.requires.pass.long, c.requires.within, c.args.rows.now.ok.0, c.lead_on.new.rows.ok.0)) c.index-then-not-lead_on.ensures in
+    all_here p rows c.args.at c.requires.within c.in-Some.row c.index-insn.result.now (subst (λ o. IsPass p rows o c.args.at) c.in-Some.is c.requires.pass) insn (callee_from c.callee_in-callee.result) c.advance.new.row (edge_list c.taken_edge-taken.result) c.callee_in-callee.ensures c.in_default-advance.ensures.row c.taken_edge-taken.ensures.edge c.lead_on.new.rows.items c.index-then-not-lead_on.result.now (c.if-not-lead_on.ensures.all refl) there
+
+pub returns-then-not-lead_on-clause-here : goal.returns-then-not-lead_on-clause-here
+returns-then-not-lead_on-clause-here c =
+    let there = slice_get_read c.lead_on.new.rows.items c.lead_on.new.rows.len (c.args.at + 1) c.index-then-not-lead_on.result.now c.lead_on.new.rows.ok.0 (omega (arith, c.lead_on.ensures.len, c.requires.pass.long, c.requires.within, c.args.rows.now.ok.0, c.lead_on.new.rows.ok.0)) c.index-then-not-lead_on.ensures in
+    c.lead_on.ensures.kinds (c.args.at + 1) c.index-then-not-lead_on.result.now there
+
+pub returns-else-not-lead_on-clause-unbroken : goal.returns-else-not-lead_on-clause-unbroken
+returns-else-not-lead_on-clause-unbroken c =
+    let p = program_in c.args.program.now in
+    let rows = c.args.rows.now.items in
+    let insn = slice_get_read c.args.program.now.image.code.items c.args.program.now.image.code.len c.args.at c.index-insn.result.now c.args.program.now.image.code.ok.0 (omega (arith, c.requires.within, c.args.program.now.image.code.ok.0)) c.index-insn.ensures in
+    broken_here p rows c.args.at c.requires.within c.in-Some.row c.index-insn.result.now (subst (λ o. IsPass p rows o c.args.at) c.in-Some.is c.requires.pass) insn ∙ ap (λ y. first_of (rules_by p y c.in-Some.row c.index-insn.result.now)) (sym c.callee_in-callee.ensures) ∙ sym c.advance.ensures.rule ∙ c.in_default-advance.is
+
+pub returns-else-not-lead_on-clause-pass : goal.returns-else-not-lead_on-clause-pass
+returns-else-not-lead_on-clause-pass c =
+    let p = program_in c.args.program.now in
+    let rows = c.args.rows.now.items in
+    let insn = slice_get_read c.args.program.now.image.code.items c.args.program.now.image.code.len c.args.at c.index-insn.result.now c.args.program.now.image.code.ok.0 (omega (arith, c.requires.within, c.args.program.now.image.code.ok.0)) c.index-insn.ensures in
+    let alone = c.if-not-lead_on.ensures.alone refl in
+    alone_here p rows c.args.at c.requires.within c.in-Some.row c.index-insn.result.now (subst (λ o. IsPass p rows o c.args.at) c.in-Some.is c.requires.pass) insn (callee_from c.callee_in-callee.result) c.advance.new.row (edge_list c.taken_edge-taken.result) c.callee_in-callee.ensures c.in_default-advance.ensures.row c.taken_edge-taken.ensures.edge c.lead_on.new.rows.items (c.if-not-lead_on.ensures.rest refl) alone.0 alone.1 alone.2
