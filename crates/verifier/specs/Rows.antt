@@ -2,7 +2,6 @@
 use Rattle.std.specs.Prelude.{◌≡◌, ◌≢◌, ℕ, zero, suc, ◌+◌, ◌<◌, List, [], ◌∷◌, Option, Some, None, length, slice_get, slice_set}
 use Rattle.verifier.specs.Program.{Program}
 use Rattle.verifier.specs.Registers.{Row}
-use Rattle.verifier.specs.declared.edges.Taken.{Taken}
 use Rattle.verifier.specs.Table.{Edge, joined, arrivals, table, AreKinds}
 
 abbrev pub row_at : List (Option Row) → ℕ → Option Row
@@ -18,10 +17,10 @@ abbrev pub pushed : List (Option Row) → List Edge → List (Option Row)
 pushed rows [] = rows
 pushed rows (e ∷ es) = pushed (push_one rows e) es
 
--- the edge of a jump, if there is one
-abbrev pub edge_list : Option Taken → List Edge
-edge_list None = []
-edge_list (Some taken) = (taken.to, taken.row) ∷ []
+-- the edge of a jump, if there is one: where it leads, and the kinds that it brings there
+abbrev pub edge_list : Option ℕ → Row → List Edge
+edge_list None row = []
+edge_list (Some k) row = (k, row) ∷ []
 
 -- each edge leads to a slot below n
 abbrev pub LeadBelow : ℕ → List Edge → Type 0

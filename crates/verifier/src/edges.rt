@@ -6,17 +6,10 @@ ghost use Rattle.verifier.specs.Rules.{row_taken};
 ghost use Rattle.verifier.specs.Table.{join_rows, joined, next_edge, target_edge, AreKinds};
 ghost use Rattle.verifier.specs.Rows.{push_one, pushed, edge_list, LeadBelow, HaveKinds, Misses, HasKinds, AreRowKinds};
 
-use crate::kinds::{Row, row_taken};
+use crate::kinds::{Row, write_taken};
 use bpfimage::form::{next_of, target_of};
 use insn::Insn;
 use ranges::join;
-
-/// Where a jump leads, and the kinds that it brings there.
-#[derive(Clone, Copy)]
-pub struct Taken {
-    to: usize,
-    row: Row,
-}
 
 /// Joins a row into one that was there before.
 fn join_row(kept: &mut Row, new: &Row)
@@ -51,79 +44,67 @@ fn push_edge(rows: &mut Vec<Option<Row>>, to: usize, row: &Row)
     join_edge(&mut rows[to], row);
 }
 
-/// The edge of a jump.
-pub fn taken_edge(at: usize, row: &Row, insn: Insn) -> Option<Taken>
+/// The edge of a jump: where it leads. The kinds that it brings there are written over a row.
+pub fn taken_edge(at: usize, row: &Row, insn: Insn, taken: &mut Row) -> Option<usize>
     requires small { at < 4096 }
     requires ahead { (z : ℤ) → target_of at insn ≡ Some z → (k : ℕ) × (z ≡ pos k) }
     requires kinds { AreKinds row.now }
-    ensures edge { edge_list result ≡ target_edge (target_of at insn) (row_taken row.now insn) }
-    ensures kinds { HaveKinds (edge_list result) }
+    ensures edge { edge_list result taken.new ≡ target_edge (target_of at insn) (row_taken row.now insn) }
+    ensures kinds { HaveKinds (edge_list result taken.new) }
 {
     match target_of(at, insn) {
         Some(target) => {
-            let row = row_taken(row, insn);
-            Some(Taken {
-                to: target as usize,
-                row,
-            })
+            write_taken(row, insn, taken);
+            Some(target as usize)
         }
         None => None,
     }
 }
 
 /// Joins a jump's edge, if there is one, into its target's row.
-fn push_taken(rows: &mut Vec<Option<Row>>, taken: &Option<Taken>)
-    requires within { LeadBelow (vec_len rows.old) (edge_list taken.now) }
-    requires kinds { HaveKinds (edge_list taken.now) }
+fn push_taken(rows: &mut Vec<Option<Row>>, target: Option<usize>, taken: &Row)
+    requires within { LeadBelow (vec_len rows.old) (edge_list target taken.now) }
+    requires kinds { HaveKinds (edge_list target taken.now) }
     requires old { AreRowKinds rows.old.items }
-    ensures items { rows.new.items ≡ pushed rows.old.items (edge_list taken.now) }
+    ensures items { rows.new.items ≡ pushed rows.old.items (edge_list target taken.now) }
     ensures len { vec_len rows.new ≡ vec_len rows.old }
     ensures kinds { AreRowKinds rows.new.items }
 {
-    if let Some(taken) = taken {
-        push_edge(rows, taken.to, &taken.row);
+    if let Some(target) = target {
+        push_edge(rows, target, taken);
     }
 }
 
-/// Whether a jump leads elsewhere than to a slot.
-fn misses(taken: &Option<Taken>, slot: usize) -> bool
-    ensures { result ≡ true → Misses slot (edge_list taken.now) }
-{
-    match taken {
-        Some(taken) => taken.to != slot,
-        None => true,
-    }
-}
-
-/// Joins an instruction's edges into the rows of their targets. Where its own row is all that reaches the next slot, that
-/// edge is left out, and the answer is true: the row goes on as it stands.
+/// Joins an instruction's edges into the rows of their targets: that of its jump, and that of its own row after it. Where this
+/// row is all that reaches the next slot, its edge is left out, and the answer is true: the row goes on as it stands.
 pub fn lead_on(
     rows: &mut Vec<Option<Row>>,
     at: usize,
     row: &Row,
     insn: Insn,
-    taken: &Option<Taken>,
+    target: Option<usize>,
+    taken: &Row,
 ) -> bool
     requires small { at < 4096 }
     requires next { (k : ℕ) → next_of at insn ≡ Some k → k < vec_len rows.old }
-    requires within { LeadBelow (vec_len rows.old) (edge_list taken.now) }
+    requires within { LeadBelow (vec_len rows.old) (edge_list target taken.now) }
     requires kinds { AreKinds row.now }
-    requires taken_kinds { HaveKinds (edge_list taken.now) }
+    requires taken_kinds { HaveKinds (edge_list target taken.now) }
     requires old { AreRowKinds rows.old.items }
-    ensures alone { result ≡ true → next_of at insn ≡ Some (at + 1) × slice_get rows.old.items (at + 1) ≡ Some None × Misses (at + 1) (edge_list taken.now) }
-    ensures rest { result ≡ true → rows.new.items ≡ pushed rows.old.items (edge_list taken.now) }
-    ensures all { result ≡ false → rows.new.items ≡ pushed rows.old.items (next_edge (next_of at insn) row.now ++ edge_list taken.now) }
+    ensures alone { result ≡ true → next_of at insn ≡ Some (at + 1) × slice_get rows.old.items (at + 1) ≡ Some None × Misses (at + 1) (edge_list target taken.now) }
+    ensures rest { result ≡ true → rows.new.items ≡ pushed rows.old.items (edge_list target taken.now) }
+    ensures all { result ≡ false → rows.new.items ≡ pushed rows.old.items (next_edge (next_of at insn) row.now ++ edge_list target taken.now) }
     ensures len { vec_len rows.new ≡ vec_len rows.old }
     ensures kinds { AreRowKinds rows.new.items }
 {
     let next = next_of(at, insn);
-    if next == Some(at + 1) && rows[at + 1].is_none() && misses(taken, at + 1) {
-        push_taken(rows, taken);
+    if next == Some(at + 1) && rows[at + 1].is_none() && target != Some(at + 1) {
+        push_taken(rows, target, taken);
         return true;
     }
     if let Some(next) = next {
         push_edge(rows, next, row);
     }
-    push_taken(rows, taken);
+    push_taken(rows, target, taken);
     false
 }

@@ -103,13 +103,13 @@ pub fn refine_row(
     }
 }
 
-/// The kinds where a jump is taken.
-pub fn row_taken(row: &Row, insn: Insn) -> Row
+/// Writes the kinds where a jump is taken.
+pub fn write_taken(row: &Row, insn: Insn, taken: &mut Row)
     requires { AreKinds row.now }
-    ensures table { result ≡ row_taken row.now insn }
-    ensures kinds { AreKinds result }
+    ensures table { taken.new ≡ row_taken row.now insn }
+    ensures kinds { AreKinds taken.new }
 {
-    let mut taken = *row;
+    *taken = *row;
     if let Insn::JumpIf {
         cond,
         width,
@@ -118,7 +118,6 @@ pub fn row_taken(row: &Row, insn: Insn) -> Row
         ..
     } = insn
     {
-        refine_row(cond, width, left, right, true, &mut taken);
+        refine_row(cond, width, left, right, true, taken);
     }
-    taken
 }

@@ -64,12 +64,13 @@ fn entry(program: &Candidate) -> Row
 }
 
 /// Tests a slot, by the kinds that reach it, and goes over it: to those that reach the next slot. Its jump's edge is joined into
-/// the row of its target.
+/// the row of its target; a row is lent to write this edge's kinds to.
 fn visit(
     program: &Candidate,
     at: usize,
     rows: &mut Vec<Option<Row>>,
     here: &mut Option<Row>,
+    taken: &mut Row,
 ) -> Option<KindRule>
     requires formed { IsFormed program.now.image.code.items }
     requires within { at < length program.now.image.code.items }
@@ -88,11 +89,11 @@ fn visit(
     };
     let insn = program.image.code[at];
     let callee = callee_in(&program.sigs, insn);
-    let taken = taken_edge(at, row, insn);
+    let target = taken_edge(at, row, insn, taken);
     if let Some(rule) = advance(program, &callee, row, insn) {
         return Some(rule);
     }
-    if !lead_on(rows, at, row, insn, &taken) {
+    if !lead_on(rows, at, row, insn, target, taken) {
         *here = rows[at + 1];
     }
     None
@@ -112,9 +113,11 @@ fn check_kinds(alloc: Global, program: &Candidate) -> Result<(), Refused>
             slot: 0,
         });
     };
-    let mut here = Some(entry(program));
+    let first = entry(program);
+    let mut here = Some(first);
+    let mut taken = first;
     for at in 0..slots {
-        if let Some(rule) = visit(program, at, &mut rows, &mut here) {
+        if let Some(rule) = visit(program, at, &mut rows, &mut here, &mut taken) {
             return Err(Refused {
                 rule: Rule::Kinds(rule),
                 slot: at as u32,

@@ -1,4 +1,4 @@
-use Rattle.std.proofs.Common.{◌≡◌, ◌++◌, take, drop, length}
+use Rattle.std.proofs.Common.{◌≡◌, ◌++◌, take, drop}
 use Rattle.verifier.specs.Table.{join_rows, AreKinds}
 use Rattle.verifier.proofs.edges.join_row.Given as goal
 

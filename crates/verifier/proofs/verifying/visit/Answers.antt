@@ -1,4 +1,4 @@
-use Rattle.std.proofs.Common.{◌+◌, Some, refl, sym, ap, ◌∙◌, subst, arith}
+use Rattle.std.proofs.Common.{◌+◌, refl, sym, ap, ◌∙◌, subst, arith}
 use Rattle.std.specs.Prelude.{vec_len}
 use Rattle.std.proofs.lemmas.Option.{slice_get_read}
 use Rattle.verifier.specs.Candidates.{program_in}
@@ -28,8 +28,8 @@ returns-in_default-clause-here c =
     let there = slice_get_read rows c.args.rows.now.len (c.args.at + 1) c.index.result.now c.args.rows.now.ok.0 (omega (arith, c.requires.pass.long, c.requires.within, c.args.rows.now.ok.0)) c.index.ensures in
     c.requires.kinds (c.args.at + 1) c.index.result.now there
 
-pub taken_edge-taken-requires-clause-ahead : goal.taken_edge-taken-requires-clause-ahead
-taken_edge-taken-requires-clause-ahead c = λ z e.
+pub taken_edge-target-requires-clause-ahead : goal.taken_edge-target-requires-clause-ahead
+taken_edge-target-requires-clause-ahead c = λ z e.
     let insn = slice_get_read c.args.program.now.image.code.items c.args.program.now.image.code.len c.args.at c.index-insn.result.now c.args.program.now.image.code.ok.0 (omega (arith, c.requires.within, c.args.program.now.image.code.ok.0)) c.index-insn.ensures in
     let h = target_within c.args.program.now.image.code.items c.args.at c.index-insn.result.now z c.requires.formed insn e in
     (h.0, h.1)
@@ -50,7 +50,7 @@ lead_on-requires-clause-next c = λ k e.
 pub lead_on-requires-clause-within : goal.lead_on-requires-clause-within
 lead_on-requires-clause-within c =
     let insn = slice_get_read c.args.program.now.image.code.items c.args.program.now.image.code.len c.args.at c.index-insn.result.now c.args.program.now.image.code.ok.0 (omega (arith, c.requires.within, c.args.program.now.image.code.ok.0)) c.index-insn.ensures in
-    subst (LeadBelow (vec_len c.args.rows.now)) (sym c.taken_edge-taken.ensures.edge)
+    subst (LeadBelow (vec_len c.args.rows.now)) (sym c.taken_edge-target.ensures.edge)
     (target_below c.args.program.now.image.code.items c.args.at c.index-insn.result.now (row_taken c.in-Some.row c.index-insn.result.now) (vec_len c.args.rows.now) c.requires.formed insn (omega (arith, c.requires.pass.long, c.args.rows.now.ok.0)))
 
 pub returns-then-not-lead_on-clause-unbroken : goal.returns-then-not-lead_on-clause-unbroken
@@ -66,7 +66,7 @@ returns-then-not-lead_on-clause-pass c =
     let rows = c.args.rows.now.items in
     let insn = slice_get_read c.args.program.now.image.code.items c.args.program.now.image.code.len c.args.at c.index-insn.result.now c.args.program.now.image.code.ok.0 (omega (arith, c.requires.within, c.args.program.now.image.code.ok.0)) c.index-insn.ensures in
     let there = slice_get_read c.lead_on.new.rows.items c.lead_on.new.rows.len (c.args.at + 1) c.index-then-not-lead_on.result.now c.lead_on.new.rows.ok.0 (omega (arith, c.lead_on.ensures.len, c.requires.pass.long, c.requires.within, c.args.rows.now.ok.0, c.lead_on.new.rows.ok.0)) c.index-then-not-lead_on.ensures in
-    all_here p rows c.args.at c.requires.within c.in-Some.row c.index-insn.result.now (subst (λ o. IsPass p rows o c.args.at) c.in-Some.is c.requires.pass) insn (callee_from c.callee_in-callee.result) c.advance.new.row (edge_list c.taken_edge-taken.result) c.callee_in-callee.ensures c.in_default-advance.ensures.row c.taken_edge-taken.ensures.edge c.lead_on.new.rows.items c.index-then-not-lead_on.result.now (c.if-not-lead_on.ensures.all refl) there
+    all_here p rows c.args.at c.requires.within c.in-Some.row c.index-insn.result.now (subst (λ o. IsPass p rows o c.args.at) c.in-Some.is c.requires.pass) insn (callee_from c.callee_in-callee.result) c.advance.new.row (edge_list c.taken_edge-target.result c.taken_edge-target.new.taken) c.callee_in-callee.ensures c.in_default-advance.ensures.row c.taken_edge-target.ensures.edge c.lead_on.new.rows.items c.index-then-not-lead_on.result.now (c.if-not-lead_on.ensures.all refl) there
 
 pub returns-then-not-lead_on-clause-here : goal.returns-then-not-lead_on-clause-here
 returns-then-not-lead_on-clause-here c =
@@ -86,4 +86,4 @@ returns-else-not-lead_on-clause-pass c =
     let rows = c.args.rows.now.items in
     let insn = slice_get_read c.args.program.now.image.code.items c.args.program.now.image.code.len c.args.at c.index-insn.result.now c.args.program.now.image.code.ok.0 (omega (arith, c.requires.within, c.args.program.now.image.code.ok.0)) c.index-insn.ensures in
     let alone = c.if-not-lead_on.ensures.alone refl in
-    alone_here p rows c.args.at c.requires.within c.in-Some.row c.index-insn.result.now (subst (λ o. IsPass p rows o c.args.at) c.in-Some.is c.requires.pass) insn (callee_from c.callee_in-callee.result) c.advance.new.row (edge_list c.taken_edge-taken.result) c.callee_in-callee.ensures c.in_default-advance.ensures.row c.taken_edge-taken.ensures.edge c.lead_on.new.rows.items (c.if-not-lead_on.ensures.rest refl) alone.0 alone.1 alone.2
+    alone_here p rows c.args.at c.requires.within c.in-Some.row c.index-insn.result.now (subst (λ o. IsPass p rows o c.args.at) c.in-Some.is c.requires.pass) insn (callee_from c.callee_in-callee.result) c.advance.new.row (edge_list c.taken_edge-target.result c.taken_edge-target.new.taken) c.callee_in-callee.ensures c.in_default-advance.ensures.row c.taken_edge-target.ensures.edge c.lead_on.new.rows.items (c.if-not-lead_on.ensures.rest refl) alone.0 alone.1 alone.2
