@@ -1,18 +1,17 @@
 -- Vnodes of one thread: what a call that isn't lost does.
-use Rattle.std.specs.Prelude.{◌≡◌, ℕ, zero, suc, ◌+◌, ◌*◌, ◌-◌, ◌^◌, List, [], ◌∷◌, length, Option, Some, None, Result, Ok, Err, slice_get, slice_set, MatchBool, MatchOption, Contains, ◌↔◌, ◌==◌, Bool, false, is_ok, if◌then◌else◌, min}
+use Rattle.std.specs.Prelude.{◌≡◌, ℕ, zero, suc, ◌+◌, ◌*◌, ◌-◌, ◌^◌, List, [], ◌∷◌, length, Option, Some, None, Result, Ok, Err, slice_get, slice_set, MatchBool, MatchOption, ◌==◌, Bool, false, is_ok, if◌then◌else◌, min}
 use Rattle.std.specs.List.{list_any}
-use Rattle.std.specs.List.Sorted.{IsStrictlySortedBy}
 use Rattle.std.specs.Global.{Vec}
 use Rattle.dvv.specs.declared.Dot.{Dot}
 use Rattle.object.specs.declared.content.Content.{Content}
 use Rattle.object.specs.declared.content.Key.{Key}
 use Rattle.object.specs.State.{State}
 use Rattle.journal.specs.Entry.{Put, Merge, Read}
-use Rattle.journal.specs.Keys.{key_cmp}
-use Rattle.journal.specs.Replay.{IsNextDot, IsReplay, IsKeyOf}
+use Rattle.journal.specs.Replay.{IsNextDot, IsReplay}
 use Rattle.journal.specs.Limits.{TakesEntry, AcceptsPut, AcceptsMerge}
 use Rattle.journal.specs.Answers.{TellsChange}
 use Rattle.journal.specs.Logs.{Log, with_entry}
+use Rattle.vnode.specs.Keys.{AreKeys}
 use Rattle.vnode.specs.Refusals.{RefusesPut, RefusesMerge, RefusesEntry}
 use Rattle.vnode.specs.declared.fault.VnodeFault.TheVariants.{NoMemory}
 use Rattle.peers.specs.declared.peers.Answer.{Answer}
@@ -52,11 +51,6 @@ abbrev pub ReadsIn : ℕ → Key → Log → Result Answer PeerFault → Log →
 ReadsIn stamp key old (Ok answer) new = TakesEntry old.entries × IsReplay old.entries key answer.state × (answer.from ≡ old.vnode) × (answer.at ≡ length old.entries) × (new ≡ with_entry old (Read stamp key))
 ReadsIn stamp key old (Err Lost) new = ⊥
 ReadsIn stamp key old (Err (Refused fault)) new = RefusesEntry old fault × (new ≡ old)
-
--- the keys of a vnode, each once, in the order of bytes
-pub record AreKeys (log : Log) (keys : List Key) : Type 0 where
-  pub each : (k : Key) → Contains keys k ↔ IsKeyOf log.entries k
-  pub rising : IsStrictlySortedBy key_cmp keys
 
 -- the keys that one vnode names; only memory can lack
 abbrev pub KeysIn : Log → Result (Vec Key) PeerFault → Type 0

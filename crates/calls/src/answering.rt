@@ -1,0 +1,43 @@
+//! A vnode answers a request.
+
+ghost use Rattle.std.specs.Prelude.{◌≡◌, ◌≢◌, ◌<◌, ◌^◌, OnOk, Err, length};
+ghost use Rattle.vnode.specs.declared.fault.VnodeFault.{VnodeFault};
+ghost use Rattle.calls.specs.Answered.{IsOutcome, Refuses, with_made};
+
+use crate::request::{Reply, Request};
+use vnode::{Vnode, VnodeFault};
+
+/// A vnode answers a request. Where it is accepted the vnode has one entry more, with the stamp. Each refusal comes exactly where its
+/// limit is the first that is passed, and leaves the vnode as it was; want of memory comes only where the request would be accepted.
+pub fn answer(vnode: &mut Vnode, stamp: u64, request: &Request) -> Result<Reply, VnodeFault>
+    ensures outcome { IsOutcome vnode.old stamp request.now result }
+    ensures log { vnode.new ≡ with_made vnode.old stamp request.now result }
+    ensures room { OnOk result (length vnode.old.entries < 2 ^ 32) }
+
+    // No memory is asked for before a limit was looked at.
+    ensures exact { (fault : VnodeFault) → fault ≢ VnodeFault.NoMemory → Refuses vnode.old request.now fault → result ≡ Err fault }
+{
+    match request {
+        Request::Put { key, seen, content } => {
+            let (dot, _) = vnode.put(stamp, key, seen, content)?;
+            Ok(Reply::Dot(dot))
+        }
+        Request::Merge {
+            key,
+            from,
+            at,
+            state,
+        } => {
+            let (changed, _) = vnode.merge(stamp, key, *from, *at, state)?;
+            Ok(Reply::Changed(changed))
+        }
+        Request::Read { key } => {
+            let (state, _) = vnode.read(stamp, key)?;
+            Ok(Reply::State(state))
+        }
+        Request::Restart => {
+            vnode.restart(stamp)?;
+            Ok(Reply::Done)
+        }
+    }
+}

@@ -1,0 +1,12 @@
+-- The keys that a vnode names.
+use Rattle.std.specs.Prelude.{List, Contains, ◌↔◌}
+use Rattle.std.specs.List.Sorted.{IsStrictlySortedBy}
+use Rattle.object.specs.declared.content.Key.{Key}
+use Rattle.journal.specs.Keys.{key_cmp}
+use Rattle.journal.specs.Logs.{Log}
+use Rattle.journal.specs.Replay.{IsKeyOf}
+
+-- the keys of a vnode, each once, in the order of bytes
+pub record AreKeys (log : Log) (keys : List Key) : Type 0 where
+  pub each : (k : Key) → Contains keys k ↔ IsKeyOf log.entries k
+  pub rising : IsStrictlySortedBy key_cmp keys
