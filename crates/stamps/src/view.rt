@@ -1,0 +1,53 @@
+//! What a seat of the stamp word knows. No value of these types is made, but Size.
+
+use calls::{Reply, Request};
+use std::collections::LinkedList;
+use vnode::VnodeFault;
+
+/// What the caller of a vnode was told.
+pub struct Told {
+    /// The vnode's identifier.
+    pub vnode: u32,
+    /// The place of the call's entry, or where it was refused how many entries there were.
+    pub at: u64,
+    /// The stamp that was drawn for it.
+    pub stamp: u64,
+    /// What was asked.
+    pub request: Request,
+    /// What came of it.
+    pub outcome: Result<Reply, VnodeFault>,
+}
+
+/// All that one vnode has told, in order.
+pub struct History {
+    /// The vnode's identifier.
+    pub vnode: u32,
+    /// What it told, oldest first.
+    pub told: LinkedList<Told>,
+}
+
+/// What a seat knows. A pass has one part, and a vnode's seat has its history.
+pub struct View {
+    /// How many passes it stands for.
+    pub parts: u64,
+    /// How many stamps it drew.
+    pub drawn: u64,
+    /// A stamp that was drawn, and of which nothing was told yet.
+    pub pending: LinkedList<u64>,
+    /// What it was told, oldest first.
+    pub told: LinkedList<Told>,
+    /// A call that has its entry, and of which it is still to be told.
+    pub owed: LinkedList<Told>,
+    /// The histories that it keeps.
+    pub histories: LinkedList<History>,
+}
+
+/// How many vnodes and passes there are, and the identifier of the first vnode.
+pub struct Size {
+    /// The identifier of the first vnode. The others follow it.
+    pub first: u32,
+    /// How many vnodes there are.
+    pub vnodes: usize,
+    /// How many passes there are, 64 at most.
+    pub passes: usize,
+}
