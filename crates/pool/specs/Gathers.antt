@@ -1,0 +1,50 @@
+-- What a gathered cluster shows.
+use Rattle.std.specs.Prelude.{◌≡◌, ℕ, ◌==◌, if◌then◌else◌, List, [], ◌∷◌, ◌++◌, length, map}
+use Rattle.std.specs.List.{Contains, flat_map}
+use Rattle.std.specs.List.Sorted.{IsStrictlyIncreasing}
+use Rattle.journal.specs.Entry.{Entry}
+use Rattle.journal.specs.Stamps.{stamp_of}
+use Rattle.journal.specs.Logs.{Log}
+use Rattle.stamps.specs.Rule.{IsWhole, total, entry_count}
+use Rattle.stamps.specs.declared.view.Told.{Told}
+use Rattle.stamps.specs.declared.view.History.{History}
+use Rattle.pool.specs.Answers.{IsAnswered, entry_of_call, entries_of, AreAnswered}
+
+-- the history is that of the vnode: its journal has the entries of the accepted calls, and each call was answered as one thread answers it there
+pub record IsHistory (v : Log) (h : History) : Type 0 where
+  pub number_is : h.vnode ≡ v.vnode
+  pub journal_is : entries_of h.told ≡ v.entries
+  pub answered : AreAnswered [] h.told
+
+-- the histories are those of the vnodes
+abbrev pub AreVnodes : List Log → List History → Type 0
+AreVnodes [] [] = Unit {0}
+AreVnodes [] (h ∷ hs) = ⊥
+AreVnodes (v ∷ vs) [] = ⊥
+AreVnodes (v ∷ vs) (h ∷ hs) = IsHistory v h × AreVnodes vs hs
+
+-- what these vnodes told is what was told, each once
+abbrev pub IsGathered : List Told → List Log → Type 0
+IsGathered ts vs = (hs : List History) × AreVnodes vs hs × IsWhole ts hs
+
+-- the journal is a front, the entry of the call where it has one, and a rest; the front has as many entries as the call says; one thread answers so after it
+abbrev pub FitsIn : List Entry → Told → Type 0
+FitsIn journal t =
+    (front : List Entry) × (rest : List Entry) × (journal ≡ front ++ (entry_of_call t ++ rest)) × (length front ≡ t.at) × IsAnswered front t
+
+-- the call stands in the journal of its vnode
+abbrev pub Stands : List Log → Told → Type 0
+Stands vs t = (v : Log) × Contains vs v × (v.vnode ≡ t.vnode) × FitsIn v.entries t
+
+-- how many of these calls made an entry of this vnode
+abbrev pub receipts_of : ℕ → List Told → ℕ
+receipts_of number ts = total (λ t. if t.vnode == number then entry_count t.outcome else 0) ts
+
+-- each journal has as many entries as there are receipts for it, and its stamps rise
+abbrev pub AreCounted : List Told → List Log → Type 0
+AreCounted ts [] = Unit {0}
+AreCounted ts (v ∷ vs) = (length v.entries ≡ receipts_of v.vnode ts) × IsStrictlyIncreasing (map stamp_of v.entries) × AreCounted ts vs
+
+-- the stamps of all journals
+abbrev pub journal_stamps : List Log → List ℕ
+journal_stamps vs = flat_map (λ v. map stamp_of v.entries) vs

@@ -1,0 +1,234 @@
+//! The vnodes under their locks, and the word from which stamps are drawn.
+ghost use Rattle.std.specs.Prelude.{◌≡◌, ℕ, ◌+◌, ◌-◌, ◌*◌, ◌<◌, ◌≤◌, ◌^◌, [], ◌∷◌, ◌++◌, length, map, IfOk, IfErr, OnOk, vec_len, vec_capacity};
+ghost use Rattle.std.specs.List.{flat_map, All, Contains};
+ghost use Rattle.stamps.specs.declared.view.Told.{Told};
+ghost use Rattle.stamps.specs.Rule.{newcomer, nothing, fresh, times, call_of};
+ghost use Rattle.pool.specs.Gathers.{AreVnodes, IsGathered, AreCounted, Stands, journal_stamps};
+ghost use Rattle.pool.specs.GatherFaults.{IsGatherFault};
+ghost use Rattle.pool.specs.Calls.{pass_view, undealt, IsNews, IsFault, AreKeysOf, outcome_ok};
+
+use crate::fault::{CallFault, GatherFault, Receipt};
+use crate::locked::Locked;
+use crate::pass::{Pass, Room};
+use calls::{Reply, Request};
+use object::Key;
+use stamps::{Card, Stamps};
+use std::alloc::{AllocError, Global};
+use std::marker::{Model, PhantomData};
+use std::sync::{Mutex, Wait};
+use vnode::Vnode;
+
+/// Is told of each call.
+pub trait Gate {
+    /// A call on the vnode of this index is about to be made. Its lock is held.
+    fn told(&self, vnode: usize);
+}
+
+/// Vnodes under a lock each. Contracts see the identifier of the first, and how many vnodes and passes there are.
+#[derive(Drop)]
+pub struct Cluster<B: Room> {
+    alloc: Global,
+    stamps: Stamps,
+    vnodes: Vec<Mutex<Locked<B>>>,
+    first: u32,
+    passes: usize,
+    room: PhantomData<B>,
+}
+
+impl<B: Room> Model for Cluster<B> {
+    ghost use Rattle.std.specs.Prelude.{◌≡◌, ◌+◌, ◌≤◌, ◌^◌, vec_len};
+    ghost use Rattle.stamps.specs.declared.view.Size.{Size};
+
+    ghost Value = { Size };
+
+    ghost view = { λ c. record { first = c.first; vnodes = vec_len c.vnodes; passes = c.passes } };
+
+    ghost invariant = { λ c. (c.stamps.table.shared.table_id ≡ B.table) × (c.stamps.table.shared.key ≡ record { first = c.first; vnodes = vec_len c.vnodes; passes = c.passes }) × (c.first + vec_len c.vnodes ≤ 2 ^ 32) };
+}
+
+impl<B: Room> Cluster<B> {
+    /// How many vnodes there are.
+    pub fn count(&self) -> usize
+        ensures { result ≡ self.now.vnodes }
+    {
+        self.vnodes.len()
+    }
+
+    /// Makes a call on the vnode of an index, under its lock. The answer is that of one thread at the receipt's place, which is above all
+    /// that the pass was told of there. Refused where the pass has drawn all its stamps; else as the vnode refuses it.
+    pub fn call<R: Wait, G: Gate>(
+        &self,
+        rt: &R,
+        pass: &mut Pass<B>,
+        vnode: usize,
+        request: &Request,
+        gate: &G,
+    ) -> Result<(Reply, Receipt), CallFault>
+        requires { vnode < self.now.vnodes }
+        ensures ok { IfOk result (λ r. (r.1.vnode ≡ self.now.first + vnode) × IsNews pass.old pass.new (call_of (self.now.first + vnode) r.1.place r.1.stamp request.now (outcome_ok r.0))) }
+        ensures err { IfErr result (IsFault pass.old pass.new (self.now.first + vnode) request.now) }
+        ensures drawn { pass.new.drawn ≤ pass.old.drawn + 1 }
+    {
+        let mut guard = self.vnodes[vnode].lock(rt);
+        gate.told(vnode);
+        guard.make(&self.stamps, pass, self.first + vnode as u32, request)
+    }
+}
+
+impl<B: Room> Cluster<B> {
+    /// The keys of a vnode after some front of its journal, which has all that the pass was told of there, in the order of bytes. It
+    /// is no event there.
+    pub fn keys_of<R: Wait>(
+        &self,
+        rt: &R,
+        pass: &mut Pass<B>,
+        vnode: usize,
+    ) -> Result<Vec<Key>, AllocError>
+        requires { vnode < self.now.vnodes }
+        ensures same { (pass.new.told ≡ pass.old.told) × (pass.new.drawn ≡ pass.old.drawn) }
+        ensures ok { IfOk result (λ keys. AreKeysOf self.now pass.old vnode keys.items) }
+    {
+        let mut guard = self.vnodes[vnode].lock(rt);
+        guard.keys(&self.stamps, pass, self.first + vnode as u32)
+    }
+}
+
+// Joins what the passes know.
+fn join_passes<B: Room>(stamps: &Stamps, all: &mut Card, passes: Vec<Pass<B>>)
+    requires table { (stamps.now.table.shared.table_id ≡ B.table) × (all.old.table_id ≡ B.table) }
+    requires none { (all.old.me.1 ≡ []) × (all.old.me.0 ≡ nothing) }
+    ensures table { (all.new.table_id ≡ B.table) × (all.new.me.1 ≡ []) }
+    ensures passes { (all.new.me.0.parts ≡ vec_len passes) × (all.new.me.0.told ≡ flat_map (λ p. p.told) passes.items) }
+    ensures rest { (all.new.me.0.pending ≡ []) × (all.new.me.0.owed ≡ []) × (all.new.me.0.histories ≡ []) }
+{
+    for pass in passes {
+        let Pass { card, .. } = pass;
+        stamps.join(all, card);
+    }
+}
+
+// Joins what the vnodes know, and takes them out of their locks.
+fn join_vnodes<B: Room>(
+    stamps: &Stamps,
+    all: &mut Card,
+    locks: Vec<Mutex<Locked<B>>>,
+    vnodes: &mut Vec<Vnode>,
+)
+    requires table { (stamps.now.table.shared.table_id ≡ B.table) × (all.old.table_id ≡ B.table) × (all.old.me.1 ≡ []) }
+    requires none { (all.old.me.0.pending ≡ []) × (all.old.me.0.owed ≡ []) × (all.old.me.0.histories ≡ []) × (vnodes.old.items ≡ []) }
+    requires room { vec_len locks ≤ vec_capacity vnodes.old }
+    ensures table { (all.new.table_id ≡ B.table) × (all.new.me.1 ≡ []) × (all.new.me.0.pending ≡ []) × (all.new.me.0.owed ≡ []) }
+    ensures same { (all.new.me.0.parts ≡ all.old.me.0.parts) × (all.new.me.0.told ≡ all.old.me.0.told) }
+    ensures vnodes { AreVnodes vnodes.new.items all.new.me.0.histories × (length all.new.me.0.histories ≡ vec_len locks) × (vec_len vnodes.new ≡ vec_len locks) }
+{
+    for lock in locks {
+        let (vnode, card) = lock.into_inner().into_parts();
+        stamps.join(all, card);
+        vnodes.push_reserved(vnode);
+    }
+}
+
+impl<B: Room> Cluster<B> {
+    /// The vnodes, once all passes are back. Whatever a pass was told stands in the journal of its vnode, each entry was told to one pass,
+    /// and no two have one stamp. Where it is refused, all is handed back.
+    pub fn gather(
+        self,
+        passes: Vec<Pass<B>>,
+    ) -> Result<Vec<Vnode>, (Cluster<B>, Vec<Pass<B>>, GatherFault)>
+        ensures ok { IfOk result (λ vs. IsGathered (flat_map (λ p. p.told) passes.items) vs.items × (vec_len vs ≡ self.vnodes)) }
+        ensures counted { IfOk result (λ vs. AreCounted (flat_map (λ p. p.told) passes.items) vs.items) }
+        ensures apart { IfOk result (λ vs. (x : ℕ) → (times x (map (λ t. t.stamp) (flat_map (λ p. p.told) passes.items)) ≤ 1) × (times x (journal_stamps vs.items) ≤ 1)) }
+        ensures stands { IfOk result (λ vs. (t : Told) → Contains (flat_map (λ p. p.told) passes.items) t → Stands vs.items t) }
+        ensures all { OnOk result (self.passes ≤ vec_len passes) }
+        ensures err { IfErr result (λ e. (e.0 ≡ self) × (e.1.items ≡ passes.items) × IsGatherFault e.2 (vec_len passes) self.passes) }
+    {
+        if passes.len() < self.passes {
+            return Err((self, passes, GatherFault::Missing));
+        }
+        let Ok(mut out) = Vec::with_capacity(self.alloc, self.vnodes.len()) else {
+            return Err((self, passes, GatherFault::NoMemory));
+        };
+        let Cluster { stamps, vnodes, .. } = self;
+        let mut all = stamps.blank();
+        join_passes(&stamps, &mut all, passes);
+        join_vnodes(&stamps, &mut all, vnodes, &mut out);
+        stamps.close(all);
+        Ok(out)
+    }
+}
+
+// Takes a pass for each part of the card.
+fn deal_passes<B: Room>(stamps: &Stamps, card: &mut Card, passes: &mut Vec<Pass<B>>, count: usize)
+    requires table { (stamps.now.table.shared.table_id ≡ B.table) × (card.old.table_id ≡ B.table) }
+    requires card { card.old.me ≡ (undealt count card.old.me.0.histories, []) }
+    requires room { (count ≤ vec_capacity passes.old) × (passes.old.items ≡ []) }
+    ensures table { card.new.table_id ≡ B.table }
+    ensures card { card.new.me ≡ (undealt 0 card.old.me.0.histories, []) }
+    ensures passes { (vec_len passes.new ≡ count) × All (λ p. p ≡ pass_view 0 []) passes.new.items }
+{
+    for _dealt in 0..count {
+        let pass = stamps.take_part(card);
+        passes.push_reserved(Pass {
+            card: pass,
+            drawn: 0,
+            room: PhantomData,
+        });
+    }
+}
+
+// Puts a new vnode under a lock for each history of the card.
+fn deal_vnodes<B: Room>(
+    alloc: Global,
+    stamps: &Stamps,
+    mut card: Card,
+    locks: &mut Vec<Mutex<Locked<B>>>,
+    first: u32,
+    count: usize,
+)
+    requires table { (stamps.now.table.shared.table_id ≡ B.table) × (card.table_id ≡ B.table) }
+    requires card { card.me ≡ (undealt 0 (fresh first count), []) }
+    requires few { first + count ≤ 2 ^ 32 }
+    requires room { (count ≤ vec_capacity locks.old) × (vec_len locks.old ≡ 0) }
+    ensures { vec_len locks.new ≡ count }
+{
+    for number in 0..count {
+        let rest = stamps.take_rest(&mut card);
+        let vnode = Vnode::new(alloc, first + number as u32);
+        locks.push_reserved(Mutex::new(Locked::new(vnode, card)));
+        card = rest;
+    }
+}
+
+impl<B: Room> Cluster<B> {
+    /// So many vnodes with nothing written, numbered from the first identifier on, and so many passes, over a word that nobody has drawn from.
+    pub fn open(
+        alloc: Global,
+        stamps: Stamps,
+        mut card: Card,
+        first: u32,
+        vnodes: usize,
+        passes: usize,
+    ) -> Result<(Cluster<B>, Vec<Pass<B>>), AllocError>
+        requires table { (stamps.table.shared.table_id ≡ B.table) × (card.table_id ≡ B.table) }
+        requires size { stamps.table.shared.key ≡ record { first = first; vnodes = vnodes; passes = passes } }
+        requires few { first + vnodes ≤ 2 ^ 32 }
+        requires card { card.me ≡ (newcomer stamps.table.shared.key, []) }
+        ensures { IfOk result (λ r. (r.0 ≡ record { first = first; vnodes = vnodes; passes = passes }) × (vec_len r.1 ≡ passes) × All (λ p. p ≡ pass_view 0 []) r.1.items) }
+    {
+        let mut locks = Vec::with_capacity(alloc, vnodes)?;
+        let mut dealt = Vec::with_capacity(alloc, passes)?;
+        deal_passes(&stamps, &mut card, &mut dealt, passes);
+        deal_vnodes(alloc, &stamps, card, &mut locks, first, vnodes);
+        Ok((
+            Cluster {
+                alloc,
+                stamps,
+                vnodes: locks,
+                first,
+                passes,
+                room: PhantomData,
+            },
+            dealt,
+        ))
+    }
+}

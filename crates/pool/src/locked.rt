@@ -1,0 +1,219 @@
+//! A vnode under a lock, beside what its seat of the stamp word knows.
+
+ghost use Rattle.std.specs.Prelude.{◌≡◌, ◌+◌, ◌*◌, ◌<◌, ◌≤◌, ◌^◌, [], ◌∷◌, ◌++◌, length, IfOk, IfErr, OnOk, IsTrue, ◌↔◌, Err, false};
+ghost use Rattle.stamps.specs.Rule.{together, nothing, without_pass, pass_of, stamps_each, IsWithin, call_of};
+ghost use Rattle.std.specs.Prelude.{List};
+ghost use Rattle.journal.specs.Entry.{Entry};
+ghost use Rattle.journal.specs.Journals.{IsJournal};
+ghost use Rattle.vnode.specs.Keys.{AreKeys};
+ghost use Rattle.pool.specs.Answers.{IsVnodes, lacks_memory, log_of};
+ghost use Rattle.pool.specs.Calls.{pass_view, told_then, IsTold, IsNews, IsFault, outcome_ok};
+
+use crate::fault::{CallFault, Receipt};
+use crate::pass::{Pass, Room};
+use calls::{Reply, Request, answer};
+use object::Key;
+use stamps::{Card, STAMPS_EACH, Stamps};
+use std::alloc::AllocError;
+use std::marker::{Model, PhantomData};
+use vnode::{Vnode, VnodeFault};
+
+// The vnode's card takes in what the pass knows.
+fn lend(stamps: &Stamps, card: &mut Card, pass: &mut Card)
+    requires table { (card.old.table_id ≡ stamps.now.table.shared.table_id) × (pass.old.table_id ≡ stamps.now.table.shared.table_id) }
+    requires none { (card.old.me.0.pending ≡ []) × (pass.old.me.0.pending ≡ []) × (card.old.me.0.owed ≡ []) × (pass.old.me.0.owed ≡ []) }
+    ensures card { (card.new.table_id ≡ card.old.table_id) × (card.new.me ≡ (together card.old.me.0 pass.old.me.0, card.old.me.1)) }
+    ensures pass { (pass.new.table_id ≡ pass.old.table_id) × (pass.new.me ≡ (nothing, pass.old.me.1)) }
+{
+    let mine = stamps.take_all(pass);
+    stamps.join(card, mine);
+}
+
+// The pass gets back what is its own.
+fn give_back(stamps: &Stamps, card: &mut Card, pass: &mut Card)
+    requires table { (card.old.table_id ≡ stamps.now.table.shared.table_id) × (pass.old.table_id ≡ stamps.now.table.shared.table_id) }
+    requires none { (pass.old.me.0 ≡ nothing) × (card.old.me.0.owed ≡ []) }
+    ensures card { (card.new.table_id ≡ card.old.table_id) × (card.new.me ≡ (without_pass card.old.me.0, card.old.me.1)) }
+    ensures pass { (pass.new.table_id ≡ pass.old.table_id) × (pass.new.me ≡ (pass_of card.old.me.0, pass.old.me.1)) }
+{
+    let mine = stamps.take_pass(card);
+    stamps.join(pass, mine);
+}
+
+// Whether a request was refused for memory.
+fn lacks_memory(outcome: &Result<Reply, VnodeFault>) -> bool
+    ensures { result ≡ lacks_memory outcome.now }
+{
+    match outcome {
+        Ok(_) => false,
+        Err(fault) => match *fault {
+            VnodeFault::NoMemory => true,
+            VnodeFault::ContextAhead => false,
+            VnodeFault::TooManySiblings => false,
+            VnodeFault::ClockFull => false,
+            VnodeFault::MergedClockFull => false,
+            VnodeFault::JournalFull => false,
+        },
+    }
+}
+
+// What a call came to.
+struct Asked {
+    at: usize,
+    stamp: u64,
+    outcome: Result<Reply, VnodeFault>,
+}
+
+// Asks the vnode, and tells the pass. A request that is refused for memory leaves nothing but a gap in the stamps.
+fn ask(
+    stamps: &Stamps,
+    vnode: &mut Vnode,
+    card: &mut Card,
+    pass: &mut Card,
+    request: &Request,
+) -> Asked
+    requires table { (card.old.table_id ≡ stamps.now.table.shared.table_id) × (pass.old.table_id ≡ stamps.now.table.shared.table_id) }
+    requires vnode { IsVnodes vnode.old card.old.me.0 }
+    requires pass { pass.old.me.0 ≡ pass_view pass.old.me.0.drawn pass.old.me.0.told }
+    requires room { pass.old.me.0.drawn < stamps_each }
+    ensures table { (card.new.table_id ≡ card.old.table_id) × (pass.new.table_id ≡ pass.old.table_id) × (card.new.me.1 ≡ card.old.me.1) }
+    ensures vnode { IsVnodes vnode.new card.new.me.0 }
+    ensures id { vnode.new.vnode ≡ vnode.old.vnode }
+    ensures pass { pass.new.me ≡ (pass_view (pass.old.me.0.drawn + 1) (told_then pass.old.me.0.told (call_of vnode.old.vnode result.at result.stamp request.now result.outcome)), pass.old.me.1) }
+    ensures call { lacks_memory result.outcome ≡ false → IsTold (call_of vnode.old.vnode result.at result.stamp request.now result.outcome) pass.old.me.0.told }
+    ensures short { OnOk result.outcome (result.at < 2 ^ 32) }
+{
+    lend(stamps, card, pass);
+    let stamp = stamps.draw(card);
+    let at = vnode.journal().len();
+    let outcome = answer(vnode, stamp, request);
+    if lacks_memory(&outcome) {
+        stamps.forget(card);
+        give_back(stamps, card, pass);
+        return Asked { at, stamp, outcome };
+    }
+    stamps.tell(card, vnode.id(), at, stamp, request, &outcome);
+    give_back(stamps, card, pass);
+    Asked { at, stamp, outcome }
+}
+
+/// What lies under a vnode's lock.
+#[derive(Drop)]
+pub struct Locked<B: Room> {
+    vnode: Vnode,
+    card: Card,
+    room: PhantomData<B>,
+}
+
+impl<B: Room> Model for Locked<B> {
+    ghost use Rattle.std.specs.Prelude.{◌≡◌, []};
+    ghost use Rattle.stamps.specs.declared.view.View.{View};
+    ghost use Rattle.pool.specs.Answers.{IsVnodes};
+
+    ghost Value = { View };
+
+    ghost view = { λ l. l.card.me.0 };
+
+    ghost invariant = { λ l. (l.card.table_id ≡ B.table) × (l.card.me.1 ≡ []) × IsVnodes l.vnode l.card.me.0 };
+}
+
+impl<B: Room> Locked<B> {
+    /// Makes a call of the pass on this vnode, which has this identifier.
+    pub fn make(
+        &mut self,
+        stamps: &Stamps,
+        pass: &mut Pass<B>,
+        id: u32,
+        request: &Request,
+    ) -> Result<(Reply, Receipt), CallFault>
+        requires { stamps.now.table.shared.table_id ≡ B.table }
+        ensures ok { IfOk result (λ r. (r.1.vnode ≡ id) × IsNews pass.old pass.new (call_of id r.1.place r.1.stamp request.now (outcome_ok r.0))) }
+        ensures err { IfErr result (IsFault pass.old pass.new id request.now) }
+        ensures drawn { pass.new.drawn ≤ pass.old.drawn + 1 }
+    {
+        if pass.drawn >= STAMPS_EACH {
+            return Err(CallFault::PassSpent);
+        }
+        let Locked { vnode, card, .. } = self;
+        if vnode.id() != id {
+            return Err(CallFault::Refused(VnodeFault::NoMemory));
+        }
+        let Asked { at, stamp, outcome } = ask(stamps, vnode, card, &mut pass.card, request);
+        pass.drawn += 1;
+        match outcome {
+            Ok(reply) => Ok((
+                reply,
+                Receipt {
+                    vnode: id,
+                    place: at as u32,
+                    stamp,
+                },
+            )),
+            Err(fault) => Err(CallFault::Refused(fault)),
+        }
+    }
+}
+
+// The keys of the vnode, and that all that the pass was told of it lies within its journal.
+fn look(
+    stamps: &Stamps,
+    vnode: &Vnode,
+    card: &mut Card,
+    pass: &mut Card,
+) -> Result<Vec<Key>, AllocError>
+    requires table { (card.old.table_id ≡ stamps.now.table.shared.table_id) × (pass.old.table_id ≡ stamps.now.table.shared.table_id) }
+    requires vnode { IsVnodes vnode.now card.old.me.0 }
+    requires pass { pass.old.me.0 ≡ pass_view pass.old.me.0.drawn pass.old.me.0.told }
+    ensures table { (card.new.table_id ≡ card.old.table_id) × (pass.new.table_id ≡ pass.old.table_id) × (card.new.me.1 ≡ card.old.me.1) }
+    ensures vnode { IsVnodes vnode.now card.new.me.0 }
+    ensures pass { pass.new.me ≡ (pass_view pass.old.me.0.drawn pass.old.me.0.told, pass.old.me.1) }
+    ensures within { IsWithin vnode.now.vnode (length vnode.now.entries) pass.old.me.0.told }
+    ensures keys { IfOk result (λ keys. AreKeys vnode.now keys.items) }
+{
+    lend(stamps, card, pass);
+    stamps.look(card);
+    give_back(stamps, card, pass);
+    vnode.keys()
+}
+
+impl<B: Room> Locked<B> {
+    /// The keys of this vnode, which has this identifier.
+    pub fn keys(
+        &mut self,
+        stamps: &Stamps,
+        pass: &mut Pass<B>,
+        id: u32,
+    ) -> Result<Vec<Key>, AllocError>
+        requires { stamps.now.table.shared.table_id ≡ B.table }
+        ensures same { (pass.new.told ≡ pass.old.told) × (pass.new.drawn ≡ pass.old.drawn) }
+        ensures ok { IfOk result (λ keys. (front : List Entry) × IsJournal id front × AreKeys (log_of id front) keys.items × IsWithin id (length front) pass.old.told) }
+    {
+        let Locked { vnode, card, .. } = self;
+        if vnode.id() != id {
+            return Err(AllocError);
+        }
+        let _journal = vnode.journal();
+        look(stamps, vnode, card, &mut pass.card)
+    }
+
+    /// A vnode beside the seat that has its history.
+    pub fn new(vnode: Vnode, card: Card) -> Locked<B>
+        requires table { (card.table_id ≡ B.table) × (card.me.1 ≡ []) }
+        requires vnode { IsVnodes vnode card.me.0 }
+    {
+        Locked {
+            vnode,
+            card,
+            room: PhantomData,
+        }
+    }
+
+    /// The vnode and its seat.
+    pub fn into_parts(self) -> (Vnode, Card)
+        ensures table { (result.1.table_id ≡ B.table) × (result.1.me.1 ≡ []) }
+        ensures vnode { IsVnodes result.0 result.1.me.0 }
+    {
+        let Locked { vnode, card, .. } = self;
+        (vnode, card)
+    }
+}
