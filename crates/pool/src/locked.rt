@@ -135,6 +135,7 @@ impl<B: Room> Locked<B> {
             return Err(CallFault::PassSpent);
         }
         let Locked { vnode, card, .. } = self;
+        // Each vnode lies under the lock of its place. What is known of a lock doesn't say so: hence the test, which finds it so.
         if vnode.id() != id {
             return Err(CallFault::Refused(VnodeFault::NoMemory));
         }
@@ -189,6 +190,7 @@ impl<B: Room> Locked<B> {
         ensures ok { IfOk result (λ keys. (front : List Entry) × IsJournal id front × AreKeys (log_of id front) keys.items × IsWithin id (length front) pass.old.told) }
     {
         let Locked { vnode, card, .. } = self;
+        // As in `make`.
         if vnode.id() != id {
             return Err(AllocError);
         }

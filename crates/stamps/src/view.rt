@@ -43,6 +43,7 @@ pub struct View {
 }
 
 /// How many vnodes and passes there are, and the identifier of the first vnode.
+#[derive(Clone, Copy)]
 pub struct Size {
     /// The identifier of the first vnode. The others follow it.
     pub first: u32,
