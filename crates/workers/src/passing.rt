@@ -1,0 +1,263 @@
+//! The vnodes of a cluster as peers, by one pass.
+
+ghost use Rattle.std.specs.Prelude.{◌≡◌, ◌^◌, ◌-◌, ◌+◌, min, if◌then◌else◌};
+ghost use Rattle.calls.specs.declared.request.Request.TheVariants as request;
+ghost use Rattle.peers.specs.declared.fault.PeerFault.TheVariants.{Lost, Refused};
+ghost use Rattle.workers.specs.Peering.{IsPut, IsMerge, IsRead, IsKeys, MatchCall};
+
+use calls::{Reply, Request};
+use dvv::{Clock, Dot};
+use object::{Content, Key, KeyState};
+use peers::{Answer, PeerFault, Peers};
+use pool::{CallFault, Cluster, Gate, Pass, Room};
+use std::alloc::Global;
+use std::sync::Wait;
+use vnode::VnodeFault;
+
+/// The vnodes of a cluster, by one pass. A call on a vnode is one call of the cluster, under that vnode's lock. A call on an index
+/// that has no vnode is lost, and so is one where the pass has drawn all its stamps.
+#[derive(Drop)]
+pub struct PassPeers<'a, B: Room, R: Wait, G: Gate> {
+    alloc: Global,
+    rt: &'a R,
+    cluster: &'a Cluster<B>,
+    pass: &'a mut Pass<B>,
+    gate: &'a G,
+    failures: u64,
+}
+
+// Why a call came back without a reply.
+fn no_reply(fault: CallFault) -> PeerFault
+    ensures { MatchCall fault (result ≡ Lost) (λ why. result ≡ Refused why) }
+{
+    match fault {
+        CallFault::PassSpent => PeerFault::Lost,
+        CallFault::Refused(fault) => PeerFault::Refused(fault),
+    }
+}
+
+// Puts at a vnode.
+fn put_through<B: Room, R: Wait, G: Gate>(
+    alloc: Global,
+    rt: &R,
+    cluster: &Cluster<B>,
+    pass: &mut Pass<B>,
+    gate: &G,
+    i: usize,
+    key: &Key,
+    seen: &Clock,
+    content: &Content,
+) -> Result<Dot, PeerFault>
+    ensures { IsPut cluster.now pass.old pass.new i (request.Put key.now seen.now content.now) result }
+{
+    if i >= cluster.count() {
+        return Err(PeerFault::Lost);
+    }
+    let Ok(key) = key.copy() else {
+        return Err(PeerFault::Refused(VnodeFault::NoMemory));
+    };
+    let Ok(seen) = seen.copy(alloc) else {
+        return Err(PeerFault::Refused(VnodeFault::NoMemory));
+    };
+    let Ok(content) = content.copy() else {
+        return Err(PeerFault::Refused(VnodeFault::NoMemory));
+    };
+    match cluster.call(rt, pass, i, &Request::Put { key, seen, content }, gate) {
+        Ok((Reply::Dot(dot), _)) => Ok(dot),
+        Ok(_) => unreachable!(),
+        Err(fault) => Err(no_reply(fault)),
+    }
+}
+
+// Merges at a vnode.
+fn merge_through<B: Room, R: Wait, G: Gate>(
+    alloc: Global,
+    rt: &R,
+    cluster: &Cluster<B>,
+    pass: &mut Pass<B>,
+    gate: &G,
+    i: usize,
+    key: &Key,
+    from: u32,
+    at: u32,
+    state: &KeyState,
+) -> Result<bool, PeerFault>
+    ensures { IsMerge cluster.now pass.old pass.new i (request.Merge key.now from at state.now) result }
+{
+    if i >= cluster.count() {
+        return Err(PeerFault::Lost);
+    }
+    let Ok(key) = key.copy() else {
+        return Err(PeerFault::Refused(VnodeFault::NoMemory));
+    };
+    let Ok(state) = state.copy(alloc) else {
+        return Err(PeerFault::Refused(VnodeFault::NoMemory));
+    };
+    let request = Request::Merge {
+        key,
+        from,
+        at,
+        state,
+    };
+    match cluster.call(rt, pass, i, &request, gate) {
+        Ok((Reply::Changed(changed), _)) => Ok(changed),
+        Ok(_) => unreachable!(),
+        Err(fault) => Err(no_reply(fault)),
+    }
+}
+
+// Reads at a vnode.
+fn read_through<B: Room, R: Wait, G: Gate>(
+    rt: &R,
+    cluster: &Cluster<B>,
+    pass: &mut Pass<B>,
+    gate: &G,
+    i: usize,
+    key: &Key,
+) -> Result<Answer, PeerFault>
+    ensures { IsRead cluster.now pass.old pass.new i (request.Read key.now) result }
+{
+    if i >= cluster.count() {
+        return Err(PeerFault::Lost);
+    }
+    let Ok(key) = key.copy() else {
+        return Err(PeerFault::Refused(VnodeFault::NoMemory));
+    };
+    match cluster.call(rt, pass, i, &Request::Read { key }, gate) {
+        Ok((reply, receipt)) => match reply {
+            Reply::State(state) => Ok(Answer {
+                from: receipt.vnode,
+                at: receipt.place,
+                state,
+            }),
+            _ => unreachable!(),
+        },
+        Err(fault) => Err(no_reply(fault)),
+    }
+}
+
+// Names the keys of a vnode.
+fn keys_through<B: Room, R: Wait>(
+    rt: &R,
+    cluster: &Cluster<B>,
+    pass: &mut Pass<B>,
+    i: usize,
+) -> Result<Vec<Key>, PeerFault>
+    ensures { IsKeys cluster.now pass.old pass.new i result }
+{
+    if i >= cluster.count() {
+        return Err(PeerFault::Lost);
+    }
+    match cluster.keys_of(rt, pass, i) {
+        Ok(keys) => Ok(keys),
+        Err(_) => Err(PeerFault::Refused(VnodeFault::NoMemory)),
+    }
+}
+
+impl<'a, B: Room, R: Wait, G: Gate> PassPeers<'a, B, R, G> {
+    /// The vnodes of a cluster, by a pass, with no call made yet.
+    pub fn new(
+        alloc: Global,
+        rt: &'a R,
+        cluster: &'a Cluster<B>,
+        pass: &'a mut Pass<B>,
+        gate: &'a G,
+    ) -> Self
+        ensures lent { result.pass.ghost_name ≡ pass.entry.ghost_name }
+        ensures none { result.failures ≡ 0 }
+    {
+        PassPeers {
+            alloc,
+            rt,
+            cluster,
+            pass,
+            gate,
+            failures: 0,
+        }
+    }
+
+    // Counts a call that was lost or refused.
+    fn count(&mut self, failed: bool)
+        ensures { self.new ≡ record self.old { failures = if failed then min (self.old.failures + 1) (2 ^ 64 - 1) else self.old.failures } }
+    {
+        if failed {
+            self.failures = self.failures.saturating_add(1);
+        }
+    }
+}
+
+impl<'a, B: Room, R: Wait, G: Gate> Peers for PassPeers<'a, B, R, G> {
+    ghost use Rattle.workers.specs.Peering.{PassStep};
+
+    ghost happens = { λ old call new. PassStep old.cluster.now old.pass.now old.failures call new.pass.now new.failures old.pass.ghost_name new.pass.ghost_name new.cluster.now };
+
+    ghost failures = { λ p. p.failures };
+
+    ghost origin = { λ p. p.pass.ghost_name };
+
+    ghost counted = { λ old new call h. h.count };
+
+    ghost stays = { λ old new call h. h.origin_is };
+
+    fn put_at(
+        &mut self,
+        i: usize,
+        key: &Key,
+        seen: &Clock,
+        content: &Content,
+    ) -> Result<Dot, PeerFault> {
+        let back = put_through(
+            self.alloc,
+            self.rt,
+            self.cluster,
+            self.pass,
+            self.gate,
+            i,
+            key,
+            seen,
+            content,
+        );
+        self.count(back.is_err());
+        back
+    }
+
+    fn merge_at(
+        &mut self,
+        i: usize,
+        key: &Key,
+        from: u32,
+        at: u32,
+        state: &KeyState,
+    ) -> Result<bool, PeerFault> {
+        let back = merge_through(
+            self.alloc,
+            self.rt,
+            self.cluster,
+            self.pass,
+            self.gate,
+            i,
+            key,
+            from,
+            at,
+            state,
+        );
+        self.count(back.is_err());
+        back
+    }
+
+    fn state_of(&mut self, i: usize, key: &Key) -> Result<Answer, PeerFault> {
+        let back = read_through(self.rt, self.cluster, self.pass, self.gate, i, key);
+        self.count(back.is_err());
+        back
+    }
+
+    fn keys_of(&mut self, i: usize) -> Result<Vec<Key>, PeerFault> {
+        let back = keys_through(self.rt, self.cluster, self.pass, i);
+        self.count(back.is_err());
+        back
+    }
+
+    fn failures(&self) -> u64 {
+        self.failures
+    }
+}

@@ -1,0 +1,51 @@
+//! Workers, each on a thread of its own.
+
+ghost use Rattle.std.specs.Prelude.{◌≡◌};
+
+use crate::passing::PassPeers;
+use peers::Peers;
+use pool::{Cluster, Gate, Pass, Room};
+use std::alloc::Global;
+use std::sync::Wait;
+use std::thread;
+use std::thread::Threads;
+
+/// Work over any vnodes.
+pub trait Worker: Send {
+    /// Does the work, by calls on the vnodes.
+    fn run<P: Peers>(&mut self, peers: &mut P)
+        ensures { P.origin peers.new ≡ P.origin peers.old };
+}
+
+// Runs one worker over its own pass.
+fn serve_one<B: Room, W: Worker, G: Gate, R: Wait>(
+    alloc: Global,
+    rt: &R,
+    cluster: &Cluster<B>,
+    worker: &mut (Pass<B>, W),
+    gate: &G,
+) {
+    let (pass, work) = worker;
+    let mut peers = PassPeers::new(alloc, rt, cluster, pass, gate);
+    work.run(&mut peers);
+}
+
+/// Runs each worker on a thread of its own, or on the caller's where no thread can be made. Returns when all have.
+pub fn serve_all<B: Room + Send + Sync, W: Worker, G: Gate + Sync, R: Threads + Wait + Sync>(
+    alloc: Global,
+    rt: &R,
+    cluster: &Cluster<B>,
+    workers: &mut [(Pass<B>, W)],
+    gate: &G,
+) {
+    let count = workers.len();
+    if count == 0 {
+        return;
+    }
+    thread::for_each_mut(
+        rt,
+        workers,
+        count,
+        &|_, worker| { serve_one(alloc, rt, cluster, worker, gate) },
+    );
+}
