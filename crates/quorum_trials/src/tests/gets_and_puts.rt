@@ -103,22 +103,6 @@ fn over_three(alloc: Global) -> Result<(Outcome, u64), Fail> {
     Ok((outcome, local.failures()))
 }
 
-#[test]
-fn puts_and_gets(rt: HostRuntime) -> Result<(), Fail> {
-    let (outcome, failures) = over_three(rt.alloc())?;
-    let Outcome {
-        puts,
-        lengths,
-        found,
-    } = outcome;
-    let stored = [458_753, 458_752, 458_754].map(|vnode| Ok(Dot { vnode, n: 1 }));
-    assert_eq!(rt;
-        (puts, lengths, found, failures),
-        (stored, [1, 2, 1], [true, true], 0)
-    );
-    Ok(())
-}
-
 /// What a put of `a` by the key's preference list answers, and whether a get by the same list finds it at three vnodes.
 fn by_its_list(
     alloc: Global,
@@ -139,13 +123,6 @@ fn over_five(alloc: Global) -> Result<(Result<Dot, QuorumFault>, bool), Fail> {
     let key = key_of(alloc, b"k1")?;
     let mut local = vnodes_of(alloc, 5, 0)?;
     by_its_list(alloc, &mut local, &key)
-}
-
-/// A preference list is what a put and a get are told, as it stands. The key's place among five vnodes is by another program.
-#[test]
-fn preference_lists_are_told(rt: HostRuntime) -> Result<(), Fail> {
-    assert_eq!(rt; over_five(rt.alloc())?, (Ok(Dot { vnode: 4, n: 1 }), true));
-    Ok(())
 }
 
 /// A put at vnode 0 has seen what was put at vnode 1 alone, and both vnodes end with it. One whose context is ahead of what is
@@ -171,23 +148,41 @@ fn over_two(alloc: Global) -> Result<Outcome, Fail> {
     put_after_another(alloc, &mut local, &key)
 }
 
+/// The three puts over three vnodes, and those over two.
 #[test]
-fn brings_what_the_context_had_seen(rt: HostRuntime) -> Result<(), Fail> {
+fn puts_and_gets(rt: HostRuntime) -> Result<(), Fail> {
+    let (outcome, failures) = over_three(rt.alloc())?;
+    let Outcome {
+        puts,
+        lengths,
+        found,
+    } = outcome;
+    let stored = [458_753, 458_752, 458_754].map(|vnode| Ok(Dot { vnode, n: 1 }));
+    assert_eq!(rt;
+        (puts, lengths, found, failures),
+        (stored, [1, 2, 1], [true, true], 0)
+    );
     let Outcome {
         puts,
         lengths,
         found,
     } = over_two(rt.alloc())?;
-    let want = [Ok(Dot { vnode: 1, n: 1 }), STORED, AHEAD];
-    assert_eq!(rt; (puts, lengths, found), (want, [3, 4, 0], [true, true]));
+    let brought = [Ok(Dot { vnode: 1, n: 1 }), STORED, AHEAD];
+    assert_eq!(rt; (puts, lengths, found), (brought, [3, 4, 0], [true, true]));
     Ok(())
 }
 
+/// How many vnodes there are where every key has place 2, and the place of one.
+fn at_one_place(alloc: Global) -> Result<(usize, u32), Fail> {
+    let local = Local::open_first(alloc, 3, 0, 2)?;
+    Ok((local.vnodes().len(), local.placement().place_of(b"b", b"k")))
+}
+
+/// A preference list is what a put and a get are told, as it stands. The key's place among five vnodes is by another program.
 #[test]
-fn each_key_has_the_first_place(rt: HostRuntime) -> Result<(), Fail> {
-    let local = Local::open_first(rt.alloc(), 3, 0, 2)?;
-    let place = local.placement().place_of(b"b", b"k");
-    assert_eq!(rt; (local.vnodes().len(), place), (3, 2));
+fn preference_lists_are_told(rt: HostRuntime) -> Result<(), Fail> {
+    assert_eq!(rt; over_five(rt.alloc())?, (Ok(Dot { vnode: 4, n: 1 }), true));
+    assert_eq!(rt; at_one_place(rt.alloc())?, (3, 2));
     Ok(())
 }
 
@@ -227,6 +222,18 @@ fn losing(alloc: Global, lost: &[u64]) -> Result<Lossy, Fail> {
     put_and_get(alloc, &mut local, &key)
 }
 
+/// What a put at vnode 0 answers, these calls lost, the journals' lengths after it, and how many calls failed.
+fn put_once(
+    alloc: Global,
+    lost: &[u64],
+) -> Result<(Result<Dot, QuorumFault>, [usize; 3], u64), Fail> {
+    let key = key_of(alloc, b"k")?;
+    let mut local = three_losing(alloc, lost)?;
+    let back = put_seeing(alloc, &mut local, 0, &[1, 2], &key, (0, 0), b"a", 1)?;
+    Ok((back, lengths(&local), local.failures()))
+}
+
+/// At last vnode 0 stored the put, and its own read is lost: no copy is tried.
 #[test]
 fn too_few(rt: HostRuntime) -> Result<(), Fail> {
     let Lossy {
@@ -239,23 +246,6 @@ fn too_few(rt: HostRuntime) -> Result<(), Fail> {
     let few = Some(QuorumFault::TooFew);
     assert_eq!(rt; (put, gets, nothing), (TOO_FEW, [few, few], true));
     assert_eq!(rt; (failures, lengths), ([1, 3], [1, 1, 0]));
-    Ok(())
-}
-
-/// What a put at vnode 0 answers, these calls lost, the journals' lengths after it, and how many calls failed.
-fn put_once(
-    alloc: Global,
-    lost: &[u64],
-) -> Result<(Result<Dot, QuorumFault>, [usize; 3], u64), Fail> {
-    let key = key_of(alloc, b"k")?;
-    let mut local = three_losing(alloc, lost)?;
-    let back = put_seeing(alloc, &mut local, 0, &[1, 2], &key, (0, 0), b"a", 1)?;
-    Ok((back, lengths(&local), local.failures()))
-}
-
-/// Vnode 0 stored the put, and its own read is lost: no copy is tried.
-#[test]
-fn own_read_is_lost(rt: HostRuntime) -> Result<(), Fail> {
     assert_eq!(rt; put_once(rt.alloc(), &[1])?, (TOO_FEW, [1, 0, 0], 1));
     Ok(())
 }

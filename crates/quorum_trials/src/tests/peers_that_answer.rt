@@ -181,46 +181,6 @@ const REFUSALS: [VnodeFault; 4] = [
     VnodeFault::NoMemory,
 ];
 
-/// The coordinator's refusal of its first put is the answer at once.
-#[test]
-fn refusals_of_the_coordinator(rt: HostRuntime) -> Result<(), Fail> {
-    for fault in &REFUSALS {
-        let refused = PeerFault::Refused(*fault);
-        let put = put_to(rt.alloc(), &[Said::Put(Err(refused))])?;
-        assert_eq!(rt; put, (Err(QuorumFault::Refused(*fault)), 1));
-    }
-    Ok(())
-}
-
-/// So is that of its own read after it.
-#[test]
-fn refusals_of_the_read_after(rt: HostRuntime) -> Result<(), Fail> {
-    for fault in &REFUSALS {
-        let stored = Said::Put(Ok(Dot { vnode: 0, n: 1 }));
-        let read = Said::Unread(PeerFault::Refused(*fault));
-        let put = put_to(rt.alloc(), &[stored, read])?;
-        assert_eq!(rt; put, (Err(QuorumFault::Refused(*fault)), 2));
-    }
-    Ok(())
-}
-
-/// So is that of its second put: both reads of the others fail and are passed over.
-#[test]
-fn refusals_of_the_second_put(rt: HostRuntime) -> Result<(), Fail> {
-    for fault in &REFUSALS {
-        let refused = PeerFault::Refused(*fault);
-        let says = [
-            Said::Put(Err(PeerFault::Refused(VnodeFault::ContextAhead))),
-            Said::Unread(PeerFault::Lost),
-            Said::Unread(refused),
-            Said::Put(Err(refused)),
-        ];
-        let put = put_to(rt.alloc(), &says)?;
-        assert_eq!(rt; put, (Err(QuorumFault::Refused(*fault)), 4));
-    }
-    Ok(())
-}
-
 /// What a put at vnode 0 under a hook that lets all through comes to whose calls come back with these.
 fn put_under_hook(alloc: Global, says: &[Said]) -> Result<Put, Fail> {
     let key = key_of(alloc, b"k")?;
@@ -242,13 +202,33 @@ fn put_under_hook(alloc: Global, says: &[Said]) -> Result<Put, Fail> {
     Ok((back, peers.calls))
 }
 
-/// So is that of the read before its hook.
+/// What a put comes to whose coordinator refuses so its first put, its own read after it, or its second put, where both reads of the
+/// others fail and are passed over; and one under a hook whose read before it is refused.
+fn refused(alloc: Global, fault: VnodeFault) -> Result<[Put; 4], Fail> {
+    let refused = PeerFault::Refused(fault);
+    let first = put_to(alloc, &[Said::Put(Err(refused))])?;
+    let stored = Said::Put(Ok(Dot { vnode: 0, n: 1 }));
+    let after = put_to(alloc, &[stored, Said::Unread(refused)])?;
+    let says = [
+        Said::Put(Err(PeerFault::Refused(VnodeFault::ContextAhead))),
+        Said::Unread(PeerFault::Lost),
+        Said::Unread(refused),
+        Said::Put(Err(refused)),
+    ];
+    let second = put_to(alloc, &says)?;
+    let before = put_under_hook(alloc, &[Said::Unread(refused)])?;
+    Ok([first, after, second, before])
+}
+
+/// The coordinator's refusal is the answer at once.
 #[test]
-fn refusals_before_the_hook(rt: HostRuntime) -> Result<(), Fail> {
+fn refusals_of_the_coordinator(rt: HostRuntime) -> Result<(), Fail> {
     for fault in &REFUSALS {
-        let before = Said::Unread(PeerFault::Refused(*fault));
-        let put = put_under_hook(rt.alloc(), &[before])?;
-        assert_eq!(rt; put, (Err(QuorumFault::Refused(*fault)), 1));
+        let answer = Err(QuorumFault::Refused(*fault));
+        assert_eq!(rt;
+            refused(rt.alloc(), *fault)?,
+            [1, 2, 4, 1].map(|calls| (answer, calls))
+        );
     }
     Ok(())
 }

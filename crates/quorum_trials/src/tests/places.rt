@@ -28,18 +28,19 @@ fn places(rt: HostRuntime) {
         let some = bucket.len() <= 64 && *vnodes > 0;
         assert!(rt; some && place(bucket, key, *vnodes) == *want);
     }
+    let one = Placement::at_one(64, 7);
+    assert_eq!(rt;
+        (
+            one.place_of(b"b", b"k"),
+            one.vnodes(),
+            Placement::by_digest(64).place_of(b"b", b"k")
+        ),
+        (7, 64, 2)
+    );
 }
 
 /// How many vnodes there are, how many copies, and how many of these are a quorum.
 const QUORUMS: [[u32; 3]; 5] = [[1, 1, 1], [2, 2, 2], [3, 3, 2], [4, 3, 2], [64, 3, 2]];
-
-#[test]
-fn quorums(rt: HostRuntime) {
-    for [vnodes, want, enough] in &QUORUMS {
-        assert_eq!(rt; copies(*vnodes), *want);
-        assert_eq!(rt; quorum(*want), *enough);
-    }
-}
 
 /// A place, how many vnodes there are, and the list that begins at it.
 const LISTS: [(u32, u32, &[usize]); 7] = [
@@ -52,13 +53,6 @@ const LISTS: [(u32, u32, &[usize]); 7] = [
     (u32::MAX - 1, u32::MAX, &[4_294_967_294, 0, 1]),
 ];
 
-#[test]
-fn lists(rt: HostRuntime) {
-    for (first, vnodes, list) in &LISTS {
-        assert!(rt; *first < *vnodes && preferred(*first, *vnodes).as_slice() == *list);
-    }
-}
-
 /// A place, an index of the list that begins at it, how many vnodes there are, and the list without the vnode at the index.
 const OTHERS: [(u32, u32, u32, &[usize]); 6] = [
     (0, 0, 1, &[]),
@@ -70,16 +64,15 @@ const OTHERS: [(u32, u32, u32, &[usize]); 6] = [
 ];
 
 #[test]
-fn lists_without_one(rt: HostRuntime) {
+fn quorums_and_lists(rt: HostRuntime) {
+    for [vnodes, want, enough] in &QUORUMS {
+        assert_eq!(rt; [copies(*vnodes), quorum(*want)], [*want, *enough]);
+    }
+    for (first, vnodes, list) in &LISTS {
+        assert!(rt; *first < *vnodes && preferred(*first, *vnodes).as_slice() == *list);
+    }
     for (first, at, vnodes, list) in &OTHERS {
         let inside = *first < *vnodes && *at < copies(*vnodes);
         assert!(rt; inside && others(*first, *at, *vnodes).as_slice() == *list);
     }
-}
-
-#[test]
-fn placements(rt: HostRuntime) {
-    let one = Placement::at_one(64, 7);
-    assert_eq!(rt; Placement::by_digest(64).place_of(b"b", b"k"), 2);
-    assert_eq!(rt; (one.place_of(b"b", b"k"), one.vnodes()), (7, 64));
 }
