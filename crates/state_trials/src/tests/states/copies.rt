@@ -19,32 +19,49 @@ fn key_of(alloc: Global, bucket: &[u8], key: &[u8]) -> Result<Key, AllocError> {
     })
 }
 
-#[test]
-fn keys(rt: HostRuntime) -> Result<(), Fail> {
-    let key = key_of(rt.alloc(), b"b", &[1, 2])?;
-    assert!(rt; may_be_sent(&key));
-    let later = key_of(rt.alloc(), b"b", &[1, 2, 0])?;
-    assert!(rt; key < later);
-    let mut states = BTreeMap::new(rt.alloc());
-    states.insert(key.copy()?, KeyState::new(rt.alloc()))?;
-    assert!(rt; states.contains_key(&key) && !states.contains_key(&later));
-    Ok(())
+/// Whether a map with a copy of the first key has it, and not the second.
+fn is_found(alloc: Global, key: &Key, other: &Key) -> Result<bool, Fail> {
+    let mut states = BTreeMap::new(alloc);
+    states.insert(key.copy()?, KeyState::new(alloc))?;
+    Ok(states.contains_key(key) && !states.contains_key(other))
+}
+
+/// Whether two keys are in order, and told apart in a map.
+fn keys_in_order(alloc: Global) -> Result<bool, Fail> {
+    let key = key_of(alloc, b"b", &[1, 2])?;
+    let later = key_of(alloc, b"b", &[1, 2, 0])?;
+    let found = is_found(alloc, &key, &later)?;
+    Ok(found && may_be_sent(&key) && key < later)
+}
+
+/// Whether a content is the `a` of a plain text, and so its copied bytes.
+fn is_plain_a(content: &Content) -> Result<bool, AllocError> {
+    match content {
+        Content::Value { media, bytes } => {
+            let copied = bytes.copy()?.as_slice() == b"a".as_slice();
+            Ok(copied && media.as_slice() == b"text/plain".as_slice())
+        }
+        Content::Tombstone => Ok(false),
+    }
+}
+
+/// The dot of a copied sibling, and whether its content is what it was.
+fn copied(alloc: Global) -> Result<(Dot, bool), Fail> {
+    let sibling = Sibling {
+        dot: Dot { vnode: 3, n: 7 },
+        content: value(alloc, b'a')?,
+    };
+    let copy = sibling.copy()?;
+    let same = is_plain_a(&copy.content)?;
+    Ok((copy.dot, same))
 }
 
 #[test]
-fn copies(rt: HostRuntime) -> Result<(), Fail> {
-    let sibling = Sibling {
-        dot: Dot { vnode: 3, n: 7 },
-        content: value(rt.alloc(), b'a')?,
-    };
-    let copy = sibling.copy()?;
-    assert_eq!(rt; copy.dot, Dot { vnode: 3, n: 7 });
-    match copy.content {
-        Content::Value { media, bytes } => {
-            assert_eq!(rt; media.as_slice(), b"text/plain".as_slice());
-            assert_eq!(rt; bytes.copy()?.as_slice(), b"a".as_slice());
-        }
-        Content::Tombstone => panic!(rt; "a copy of a value"),
-    }
+fn keys_and_copies(rt: HostRuntime) -> Result<(), Fail> {
+    let alloc = rt.alloc();
+    assert_eq!(rt;
+        (keys_in_order(alloc)?, copied(alloc)?),
+        (true, (Dot { vnode: 3, n: 7 }, true))
+    );
     Ok(())
 }

@@ -4,7 +4,6 @@ use super::{shown, value};
 use dvv::{Clock, Dot};
 use object::{Content, KeyState, MergeFault, PutFault};
 use std::alloc::Global;
-use std::process::Abort;
 use std::test::Fail;
 
 /// Puts an `a` without a context at vnode 0.
@@ -12,18 +11,35 @@ fn put_without_context(alloc: Global, state: &mut KeyState) -> Result<Result<Dot
     Ok(state.put(0, &Clock::new(alloc), value(alloc, b'a')?))
 }
 
+/// How many such puts a state takes, each with the next number.
+fn taken(alloc: Global, state: &mut KeyState) -> Result<u64, Fail> {
+    for n in 1..66 {
+        if put_without_context(alloc, state)? != Ok(Dot { vnode: 0, n }) {
+            return Ok(n - 1);
+        }
+    }
+    Ok(65)
+}
+
+/// Whether a state refuses one more for its many siblings, and shows then what it showed before.
+fn refuses_one_more(alloc: Global, state: &mut KeyState) -> Result<bool, Fail> {
+    let before = shown(alloc, state)?;
+    let refused = put_without_context(alloc, state)? == Err(PutFault::TooManySiblings);
+    let after = shown(alloc, state)?;
+    Ok(refused && after.as_str() == before.as_str())
+}
+
+/// How many puts a state takes, whether it refuses one more, and how many siblings it then has.
+fn filled(alloc: Global) -> Result<(u64, bool, usize), Fail> {
+    let mut state = KeyState::new(alloc);
+    let taken = taken(alloc, &mut state)?;
+    let refused = refuses_one_more(alloc, &mut state)?;
+    Ok((taken, refused, state.siblings().len()))
+}
+
 #[test]
 fn sixty_fifth_sibling(rt: HostRuntime) -> Result<(), Fail> {
-    let mut state = KeyState::new(rt.alloc());
-    for n in 1..65 {
-        let answer = put_without_context(rt.alloc(), &mut state)?;
-        assert_eq!(rt; answer, Ok(Dot { vnode: 0, n }));
-    }
-    let before = shown(rt.alloc(), &state)?;
-    let answer = put_without_context(rt.alloc(), &mut state)?;
-    assert_eq!(rt; answer, Err(PutFault::TooManySiblings));
-    assert_eq!(rt; state.siblings().len(), 64);
-    assert_eq!(rt; shown(rt.alloc(), &state)?, before);
+    assert_eq!(rt; filled(rt.alloc())?, (64, true, 64));
     Ok(())
 }
 
@@ -42,41 +58,56 @@ fn delete(alloc: Global, state: &mut KeyState, vnode: u32) -> Result<Dot, PutFau
     state.put(vnode, &Clock::new(alloc), Content::Tombstone)
 }
 
-#[test]
-fn full_counter(rt: HostRuntime) -> Result<(), Fail> {
-    let mut clock = Clock::new(rt.alloc());
+/// What two deletes answer where vnode 0 has counted to the end, at vnode 0 and at vnode 1.
+fn past_the_counter(alloc: Global) -> Result<[Result<Dot, PutFault>; 2], Fail> {
+    let mut clock = Clock::new(alloc);
     clock.push(Dot {
         vnode: 0,
         n: 1 << 62,
     })?;
-    let mut state = KeyState::from_parts(clock, Vec::new(rt.alloc()));
-    let answer = delete(rt.alloc(), &mut state, 0);
-    assert_eq!(rt; answer, Err(PutFault::ClockFull));
-    let answer = delete(rt.alloc(), &mut state, 1);
-    assert_eq!(rt; answer, Ok(Dot { vnode: 1, n: 1 }));
-    Ok(())
+    let mut state = KeyState::from_parts(clock, Vec::new(alloc));
+    let full = delete(alloc, &mut state, 0);
+    let other = delete(alloc, &mut state, 1);
+    Ok([full, other])
 }
 
-/// Tries a merge that a state takes or refuses, as it tells before.
-fn tries_merge(
-    rt: &impl Abort,
-    state: &mut KeyState,
-    other: &KeyState,
-    want: Result<bool, MergeFault>,
-) {
-    assert_eq!(rt; state.can_merge(other), want.is_ok());
-    assert_eq!(rt; state.merge(other), want);
+/// Whether a state can merge another, and what the merge answers.
+type Merge = (bool, Result<bool, MergeFault>);
+
+fn merge(state: &mut KeyState, other: &KeyState) -> Merge {
+    let can = state.can_merge(other);
+    (can, state.merge(other))
+}
+
+/// What comes of a merge with one more vnode and of one with vnodes that are counted, and what a delete at one more vnode
+/// answers.
+fn past_the_entries(
+    alloc: Global,
+    full: &mut KeyState,
+) -> Result<(Merge, Merge, Result<Dot, PutFault>), Fail> {
+    let more = merge(full, &knowing(alloc, 1023, 1025)?);
+    let within = merge(full, &knowing(alloc, 1000, 1024)?);
+    Ok((more, within, delete(alloc, full, 1024)))
 }
 
 #[test]
-fn full_entries(rt: HostRuntime) -> Result<(), Fail> {
+fn full_clocks(rt: HostRuntime) -> Result<(), Fail> {
+    let counted = [Err(PutFault::ClockFull), Ok(Dot { vnode: 1, n: 1 })];
+    assert_eq!(rt; past_the_counter(rt.alloc())?, counted);
     let mut full = knowing(rt.alloc(), 0, 1024)?;
-    let more = knowing(rt.alloc(), 1023, 1025)?;
-    tries_merge(&rt, &mut full, &more, Err(MergeFault::ClockFull));
-    let within = knowing(rt.alloc(), 1000, 1024)?;
-    tries_merge(&rt, &mut full, &within, Ok(false));
-    let answer = delete(rt.alloc(), &mut full, 1024);
-    assert_eq!(rt; answer, Err(PutFault::ClockFull));
-    assert_eq!(rt; full.clock().entries().len(), 1024);
+    assert_eq!(rt;
+        (
+            past_the_entries(rt.alloc(), &mut full)?,
+            full.clock().entries().len()
+        ),
+        (
+            (
+                (false, Err(MergeFault::ClockFull)),
+                (true, Ok(false)),
+                Err(PutFault::ClockFull)
+            ),
+            1024
+        )
+    );
     Ok(())
 }
