@@ -1,9 +1,11 @@
 //! The examples in data/, tried one after another by the commands of dvvstore: whether a program is let in, whether a script
-//! prints what stands beside it, and whether the requests of a connection are answered by what stands beside them.
+//! prints what stands beside it, whether the requests of connections are answered by what stands beside them, and whether the
+//! programs of rows are told so.
 #![tactic(auto)]
 
 mod dialogue;
 mod folder;
+mod rows;
 mod trying;
 
 use crate::trying::try_all;

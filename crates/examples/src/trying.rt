@@ -2,6 +2,7 @@
 
 use crate::dialogue::Dialogue;
 use crate::folder::Folder;
+use crate::rows::try_rows;
 use commands::files::Files as _;
 use commands::own::command_with_helpers;
 use commands::server::Offline;
@@ -38,8 +39,27 @@ const SCRIPTS: [&str; 7] = [
     "union_of_records",
 ];
 
-/// Dialogues of data/http/: what a client sends on one connection, each with the answers in a file beside it.
-const DIALOGUES: [&str; 3] = ["cart", "hooks", "refused"];
+/// Dialogues of data/http/: what clients send, a connection each, with the answers in a file beside it.
+const DIALOGUES: [&str; 10] = [
+    "broken", "cart", "changes", "hooks", "images", "limits", "parts", "reads", "refused",
+    "strange",
+];
+
+/// What stands between two connections of a file: the separator of records.
+const SEPARATOR: u8 = 0x1e;
+
+/// Rows of data/rows/, programs each with what the verifier tells of it in a file beside them.
+const VERDICTS: [&str; 6] = ["calls", "forms", "images", "joins", "programs", "refusals"];
+
+/// The same, each with what it comes to.
+const RUNS: [&str; 6] = [
+    "accesses",
+    "helpers",
+    "inputs",
+    "jumps",
+    "operations",
+    "runs",
+];
 
 /// Tells of each example what it comes to.
 pub fn try_all<R: Files + AllocGlobal>(rt: &R, told: &mut Vec<u8>) -> io::Result<()> {
@@ -51,6 +71,12 @@ pub fn try_all<R: Files + AllocGlobal>(rt: &R, told: &mut Vec<u8>) -> io::Result
     }
     for name in DIALOGUES {
         try_dialogue(rt, name, told)?;
+    }
+    for name in VERDICTS {
+        try_rows(rt, &["verify", "program"], name, told)?;
+    }
+    for name in RUNS {
+        try_rows(rt, &["run", "program", "input"], name, told)?;
     }
     Ok(())
 }
@@ -91,18 +117,26 @@ fn try_script<R: Files + AllocGlobal>(rt: &R, name: &str, told: &mut Vec<u8>) ->
     writeln!(told, "{script} {comes_to}, status {status}")
 }
 
-/// Tells whether the requests of a connection are answered by what stands beside them, or from which byte on they aren't.
+/// Tells of how many connections the requests are answered by what stands beside them, and of each other one from which byte on
+/// they aren't.
 fn try_dialogue<R: Files + AllocGlobal>(rt: &R, name: &str, told: &mut Vec<u8>) -> io::Result<()> {
     let alloc = rt.alloc();
     let mut http = Folder { rt, path: "http/" };
     let requests = http.read(alloc, format!(in alloc; "{name}.requests")?.as_str())?;
     let want = http.read(alloc, format!(in alloc; "{name}.answers")?.as_str())?;
-    let answers = answers_on_store(alloc, &mut http, &requests)?;
-    write!(told, "http/{name}.requests ")?;
-    match first_difference(&answers, &want) {
-        None => writeln!(told, "as written"),
-        Some(at) => writeln!(told, "something else from byte {at} on"),
+    let mut want = want.split(|byte| *byte == SEPARATOR);
+    let mut as_written = 0u32;
+    for requests in requests.split(|byte| *byte == SEPARATOR) {
+        let answers = answers_on_store(alloc, &mut http, requests)?;
+        match first_difference(&answers, want.next().unwrap_or(&[])) {
+            None => as_written = as_written.saturating_add(1),
+            Some(at) => writeln!(
+                told,
+                "http/{name}.requests something else from byte {at} on"
+            )?,
+        }
     }
+    writeln!(told, "http/{name}.requests as written on {as_written}")
 }
 
 /// What a client is answered to the bytes that it sends, by the store that dvvstore serves; nothing where it isn't served.
@@ -120,6 +154,14 @@ fn answers_on_store<R: Files + AllocGlobal>(
     let words = ["serve", "memory", "1", "1"];
     command_with_helpers(alloc, &words, data, &mut dialogue, &mut out, &mut err)?;
     Ok(dialogue.answers)
+}
+
+/// Tells whether two texts are the same, or from which byte on, counted from 0, they aren't.
+pub fn tell_difference(one: &[u8], other: &[u8], told: &mut Vec<u8>) -> io::Result<()> {
+    match first_difference(one, other) {
+        None => writeln!(told, "as written"),
+        Some(at) => writeln!(told, "something else from byte {at} on"),
+    }
 }
 
 /// The first place, from 0, where two texts differ: the end of the shorter, where it is the beginning of the other.

@@ -1,10 +1,11 @@
 #!/usr/bin/env python3
-"""Writes the dialogues of this folder: the bytes that a client sends on one connection, and those of the answers to them.
+"""Writes the dialogues of this folder: the bytes that clients send, a connection each, and those of the answers to them.
 
     make_dialogues.py        NAME.requests and NAME.answers, for each name in DIALOGUES
 
 A dialogue is a function that gives exchanges: a request, and beside it the answer that the rules ask for. No store is asked. The
-store that is meant has three vnodes of the first start, numbered 0, 1 and 2, all within reach, and nothing is written in it.
+store that is meant has three vnodes of the first start, numbered 0, 1 and 2, all within reach, and nothing is written in it. Between
+two connections, each of which has a store of its own, stands the separator of records, on both sides.
 """
 import base64
 import hashlib
@@ -27,11 +28,14 @@ PHRASES = {
     412: "Precondition Failed",
     413: "Payload Too Large",
     422: "Unprocessable Entity",
+    501: "Not Implemented",
 }
 TEXT = "text/plain"
 OCTETS = "application/octet-stream"
 JSON = "application/json"
-NOTHING = b""  # in place of an answer, where the connection has ended
+NOTHING = b""  # in place of an answer, where the connection has ended or the request is cut
+SEPARATOR = b"\x1e"
+NEXT = SEPARATOR, SEPARATOR  # in place of an exchange, where another connection begins
 
 
 def as_bytes(text):
@@ -320,12 +324,401 @@ def refused():
     yield request("GET /ping"), NOTHING
 
 
-DIALOGUES = {"cart": cart, "hooks": hooks, "refused": refused}
+# Rows of requests, each with its answer
+
+
+def apart(connections):
+    """Exchanges of several connections."""
+    for number, exchanges in enumerate(connections):
+        if number:
+            yield NEXT
+        yield from exchanges
+
+
+def ping(*fields):
+    return request("GET /ping", *fields)
+
+
+def pong(closes=False):
+    return answer(200, TEXT, closes=closes, body="OK")
+
+
+BAD_HEAD = 400, "bad head"
+CODING = 501, "coding"
+BAD_LENGTH = 400, "bad length"
+NO_LENGTH = 411, "length"
+LARGE = 413, "large"
+NO_ROUTE = 404, "no route"
+METHOD = 405, "method"
+QUERY = 400, "bad query"
+BAD_NAME = 400, "bad name"
+BAD_TYPE = 400, "bad type"
+BAD_PROPS = 400, "bad props"
+
+# Requests after whose answer the connection ends, each on a connection of its own, in the order in which faults are told.
+BROKEN = [
+    ("GET ping HTTP/1.1\r\n\r\n", BAD_HEAD),
+    ("GET * HTTP/1.1\r\n\r\n", BAD_HEAD),
+    ("GET http://h/ping HTTP/1.1\r\n\r\n", BAD_HEAD),
+    ("GET /ping` HTTP/1.1\r\n\r\n", BAD_HEAD),
+    ("GET /ping HTTP/2.0\r\n\r\n", BAD_HEAD),
+    ("GET /ping\r\n\r\n", BAD_HEAD),
+    ("G(T /ping HTTP/1.1\r\n\r\n", BAD_HEAD),
+    ("GET /ping HTTP/1.1\r\nA b: c\r\n\r\n", BAD_HEAD),
+    ("GET /ping HTTP/1.1\r\nA: b\r\n c\r\n\r\n", BAD_HEAD),
+    # a bad target and a coding
+    ("PUT ping HTTP/1.1\r\nTransfer-Encoding: chunked\r\n\r\n", BAD_HEAD),
+    ("POST /ping HTTP/1.1\r\ntransfer-encoding: chunked\r\n\r\n", CODING),
+    # a coding and a length that is no number, and none
+    ("PUT /x HTTP/1.1\r\nContent-Length: x\r\nTransfer-Encoding: chunked\r\n\r\n", CODING),
+    ("PUT /x HTTP/1.1\r\nTransfer-Encoding:\r\n\r\n", CODING),
+    ("GET /ping HTTP/1.1\r\nContent-Length: +1\r\n\r\n", BAD_LENGTH),
+    ("GET /ping HTTP/1.1\r\nContent-Length: 1 1\r\n\r\n", BAD_LENGTH),
+    ("GET /ping HTTP/1.1\r\nContent-Length:\r\n\r\n", BAD_LENGTH),
+    ("GET /ping HTTP/1.1\r\nContent-Length: 1, 1\r\n\r\n", BAD_LENGTH),
+    ("GET /ping HTTP/1.1\r\nContent-Length: 1\r\nContent-Length: 2\r\n\r\n", BAD_LENGTH),
+    ("GET /ping HTTP/1.1\r\nContent-Length: 1\r\nContent-Length: x\r\n\r\n", BAD_LENGTH),
+    # lengths that are too large and differ, and a path of no route
+    ("PUT /x HTTP/1.1\r\nContent-Length: 65537\r\nContent-Length: 65538\r\n\r\n", BAD_LENGTH),
+    ("PUT /buckets/b/keys/k HTTP/1.1\r\n\r\n", NO_LENGTH),
+    # no length, no route and an HTTP/1.0 head
+    ("POST /x HTTP/1.0\r\n\r\n", NO_LENGTH),
+    ("PUT /buckets/b/keys/k HTTP/1.1\r\nContent-Length: 65537\r\n\r\n", LARGE),
+    ("GET /ping HTTP/1.1\r\nContent-Length: 65537\r\n\r\n", LARGE),
+    ("GET /ping HTTP/1.1\r\nContent-Length: 18446744073709551617\r\n\r\n", LARGE),
+    # too large a body and no route
+    ("PUT /x HTTP/1.1\r\nContent-Length: 65537\r\n\r\n", LARGE),
+]
+
+# Requests after whose answer the connection goes on: heads without their length line and the empty line, and bodies.
+REFUSED = [
+    ("GET / HTTP/1.1", "", NO_ROUTE),
+    ("GET /ping/ HTTP/1.1", "", NO_ROUTE),
+    ("GET /Ping HTTP/1.1", "", NO_ROUTE),
+    ("GET /hooks/a/b HTTP/1.1", "", NO_ROUTE),
+    ("GET /buckets//keys/k HTTP/1.1", "", NO_ROUTE),
+    ("GET /buckets/b/keys/ HTTP/1.1", "", NO_ROUTE),
+    # no route, and a method of none
+    ("BREW /pong?r=0 HTTP/1.1", "", NO_ROUTE),
+    ("POST /ping HTTP/1.1", "", METHOD),
+    ("HEAD /ping HTTP/1.1", "", METHOD),
+    ("get /ping HTTP/1.1", "", METHOD),
+    ("GET /hooks/a HTTP/1.1", "", METHOD),
+    ("POST /hooks/a HTTP/1.1", "", METHOD),
+    ("DELETE /buckets/b/props HTTP/1.1", "", METHOD),
+    ("POST /buckets/b/props HTTP/1.1", "{", METHOD),
+    # a method and the query, and a method and a name
+    ("PATCH /buckets/b/keys/k?r=0 HTTP/1.1", "", METHOD),
+    ("GET /hooks/a.b HTTP/1.1", "", METHOD),
+    ("GET /buckets/b/keys/k?r=0 HTTP/1.1", "", QUERY),
+    ("GET /buckets/b/keys/k?r=4 HTTP/1.1", "", QUERY),
+    ("GET /buckets/b/keys/k?r=01 HTTP/1.1", "", QUERY),
+    ("GET /buckets/b/keys/k?r=+1 HTTP/1.1", "", QUERY),
+    ("GET /buckets/b/keys/k?r= HTTP/1.1", "", QUERY),
+    ("GET /buckets/b/keys/k?r HTTP/1.1", "", QUERY),
+    ("GET /buckets/b/keys/k?r=ALL HTTP/1.1", "", QUERY),
+    ("GET /buckets/b/keys/k?r=9&r=1 HTTP/1.1", "", QUERY),
+    ("GET /buckets/b/keys/k?w=x HTTP/1.1", "", QUERY),
+    ("GET /buckets/b/keys/k?at=3 HTTP/1.1", "", QUERY),
+    ("GET /buckets/b/keys/k?at=00 HTTP/1.1", "", QUERY),
+    ("GET /buckets/b/keys/k?at=all HTTP/1.1", "", QUERY),
+    ("GET /buckets/b/keys/k?at=4294967296 HTTP/1.1", "", QUERY),
+    # the query and a context, and the query and a media type
+    ("PUT /buckets/b/keys/k?w=0 HTTP/1.1\r\nX-Riak-Vclock: AQA", "a", QUERY),
+    ("PUT /buckets/b/keys/k?w=0 HTTP/1.1\r\nContent-Type:", "a", QUERY),
+    ("PUT /hooks/a.b HTTP/1.1", "", BAD_NAME),
+    ("DELETE /hooks/a%20b HTTP/1.1", "", BAD_NAME),
+    ("PUT /hooks/%C3%BC HTTP/1.1", "", BAD_NAME),
+    ("PUT /buckets/b/keys/k HTTP/1.1\r\nX-Riak-Vclock: AQA", "a", (400, "K1")),
+    ("PUT /buckets/b/keys/k HTTP/1.1\r\nX-Riak-Vclock: AgAA", "a", (400, "K2")),
+    ("POST /buckets/b/keys/k HTTP/1.1\r\nx-riak-vclock: AQACAAAAAAAAAAAAAAABAAAAAAAAAAAAAAAB", "a", (400, "K3")),
+    ("DELETE /buckets/b/keys/k HTTP/1.1\r\nX-Riak-Vclock:", "", (400, "K4")),
+    ("DELETE /buckets/b/keys/k HTTP/1.1\r\nX-Riak-Vclock: Af//\r\nX-Riak-Vclock: AQAA", "", (400, "K5")),
+    # a context and a media type
+    ("PUT /buckets/b/keys/k HTTP/1.1\r\nContent-Type:\r\nX-Riak-Vclock: AQA", "a", (400, "K1")),
+    ("PUT /buckets/b/keys/k HTTP/1.1\r\nContent-Type: \t \r\nContent-Type: a/b", "a", BAD_TYPE),
+    ("PUT /buckets/b/props HTTP/1.1", "", BAD_PROPS),
+    ("PUT /buckets/b/props HTTP/1.1", "{", BAD_PROPS),
+    ("PUT /buckets/b/props HTTP/1.1", "{}", BAD_PROPS),
+    ("PUT /buckets/b/props HTTP/1.1", '{"props":[]}', BAD_PROPS),
+    ("PUT /buckets/b/props HTTP/1.1", '{"props":{"precommit":1}}', BAD_PROPS),
+    ("PUT /buckets/b/props HTTP/1.1", '{"props":{"precommit":"a","resolver":[]}}', BAD_PROPS),
+    ("PUT /buckets/b/props HTTP/1.1", '{"props":{"allow_mult":null}}', BAD_PROPS),
+]
+
+
+def ending(bytes_sent, fault):
+    """A request after whose answer the connection ends: what comes behind it is not read."""
+    return [(as_bytes(bytes_sent), told(*fault, closes=True)), (ping(), NOTHING)]
+
+
+def going_on(bytes_sent, answered):
+    """A request after whose answer the connection goes on."""
+    return [(as_bytes(bytes_sent), answered), (ping(), pong())]
+
+
+def broken():
+    """Requests that are refused, each of which ends its connection; and, on the last, requests that are refused one after another."""
+    yield from apart(ending(*row) for row in BROKEN)
+    yield NEXT
+    for head, body, fault in REFUSED:
+        yield f"{head}\r\nContent-Length: {len(body)}\r\n\r\n{body}".encode(), told(*fault)
+    yield request("GET /none"), told(*NO_ROUTE)
+    # Requests that ask for the end of the connection.
+    for bytes_sent, answered in [
+        (ping("Connection: close"), pong(closes=True)),
+        (b"GET /ping HTTP/1.0\r\n\r\n", pong(closes=True)),
+        (ping("Connection: keep-alive, CLOSE"), pong(closes=True)),
+        (request("HEAD /ping", "connection: close"), told(*METHOD, closes=True)),
+    ]:
+        yield NEXT
+        yield bytes_sent, answered
+        yield ping(), NOTHING
+
+
+def limits():
+    """Heads, lines, bodies and names at their limits, and one past them, each on a connection of its own."""
+    key = Key("b", "k")
+    put = f"PUT {key.target} HTTP/1.1\r\nContent-Length: "
+    first = written(key.vnode(), 1)
+
+    def cut(bytes_sent):
+        """No whole request."""
+        return [(as_bytes(bytes_sent), NOTHING)]
+
+    def refused(bytes_sent, fault):
+        return going_on(bytes_sent, told(*fault))
+
+    return apart(
+        [
+            # a head of 32,768 bytes, and of one more
+            going_on("GET /ping HTTP/1.1\r\nX: " + "a" * 32_741 + "\r\n\r\n", pong()),
+            ending("GET /ping HTTP/1.1\r\nX: " + "a" * 32_742 + "\r\n\r\n", BAD_HEAD),
+            # as many bytes without an end
+            cut("GET /ping HTTP/1.1\r\nX: " + "a" * 32_745),
+            ending("GET /ping HTTP/1.1\r\nX: " + "a" * 32_746, BAD_HEAD),
+            cut("GET /" + "a" * 32_763),
+            ending("GET /" + "a" * 32_764, BAD_HEAD),
+            # 64 lines, and one more
+            going_on("GET /ping HTTP/1.1\r\n" + "A: b\r\n" * 64 + "\r\n", pong()),
+            ending("GET /ping HTTP/1.1\r\n" + "A: b\r\n" * 65 + "\r\n", BAD_HEAD),
+            # too many lines and a coding
+            ending("POST /ping HTTP/1.1\r\nTransfer-Encoding: chunked\r\n" + "A: b\r\n" * 64 + "\r\n", BAD_HEAD),
+            # a body of 65,536 bytes, and one that is announced longer
+            going_on(f"{put}65536\r\n\r\n" + "a" * 65_536, first),
+            cut(f"{put}65536\r\n\r\n" + "a" * 65_535),
+            ending(f"{put}65537\r\n\r\n", LARGE),
+            ending(f"{put}65537\r\n\r\n" + "a" * 65_537, LARGE),
+            going_on(put + "0" * 100 + "1\r\nContent-Length: 1\r\n\r\na", first),
+            # buckets, keys and names of hooks
+            going_on("GET /buckets/" + "b" * 64 + "/keys/k HTTP/1.1\r\n\r\n", not_found()),
+            refused("GET /buckets/" + "b" * 65 + "/keys/k HTTP/1.1\r\n\r\n", BAD_NAME),
+            refused("GET /buckets/" + "b" * 65 + "/props HTTP/1.1\r\n\r\n", BAD_NAME),
+            going_on("GET /buckets/b/keys/" + "%00" * 255 + " HTTP/1.1\r\n\r\n", not_found()),
+            refused("GET /buckets/b/keys/" + "k" * 256 + " HTTP/1.1\r\n\r\n", BAD_NAME),
+            # the query is told before a name, and a name before a context and a media type
+            refused("GET /buckets/b/keys/" + "k" * 256 + "?r=0 HTTP/1.1\r\n\r\n", QUERY),
+            refused(
+                "PUT /buckets/b/keys/" + "k" * 256 + " HTTP/1.1\r\n"
+                "Content-Length: 0\r\nX-Riak-Vclock: AQA\r\nContent-Type:\r\n\r\n",
+                BAD_NAME,
+            ),
+            going_on("DELETE /hooks/" + "h" * 64 + " HTTP/1.1\r\n\r\n", told(404, "G1")),
+            refused("DELETE /hooks/" + "h" * 65 + " HTTP/1.1\r\n\r\n", BAD_NAME),
+            # the name of a bucket before its properties
+            refused("PUT /buckets/" + "b" * 65 + "/props HTTP/1.1\r\nContent-Length: 1\r\n\r\n{", BAD_NAME),
+            # media types
+            going_on(f"{put}0\r\nContent-Type: " + "t" * 127 + "\r\n\r\n", first),
+            refused(f"{put}0\r\nContent-Type: " + "t" * 128 + "\r\n\r\n", BAD_TYPE),
+        ]
+    )
+
+
+STRANGE = "PUT /buckets/b/keys/k?x=y HTTP/1.1\r\nX: y\r\nContent-Length: 1\r\n\r\na"
+
+
+def strange():
+    """A request with a byte that is no text in one place, for each of its places, and with a zero there."""
+    body = len(STRANGE) - 1
+    # the value of a field that is passed over, and the return behind it, since a line feed alone ends a line too
+    passed = range(STRANGE.index("X: y") + 2, STRANGE.index("X: y") + 5)
+    # the length, likewise
+    length = range(STRANGE.index(": 1\r") + 1, STRANGE.index(": 1\r") + 4)
+    assert (passed, length, body) == (range(38, 41), range(57, 60), 63)
+
+    def spoiled(place, byte):
+        sent = STRANGE.encode()
+        sent = sent[:place] + bytes([byte]) + sent[place + 1 :]
+        if place == body or (byte == 0xFF and place in passed):
+            return going_on(sent, written(Key("b", "k").vnode(), 1))
+        return ending(sent, BAD_LENGTH if byte == 0xFF and place in length else BAD_HEAD)
+
+    return apart(spoiled(place, byte) for place in range(len(STRANGE)) for byte in (0xFF, 0))
+
+
+# Reads
+
+
+def reads():
+    """One sibling and several, as text, as parts and by a tag, also where a delete is one of them."""
+    key = Key("b", "k")
+    one, two = key.vnode(0), key.vnode(1)
+    as_parts = "Accept: multipart/mixed"
+    by_tag = f"GET {key.target}?vtag="
+
+    # No sibling, and one.
+    for fields in [(), (as_parts,)]:
+        yield request(f"GET {key.target}", *fields), not_found()
+    yield request(f"{by_tag}{one}-1"), not_found()
+    yield request(f"PUT {key.target}", typed(TEXT), body="a"), written(one, 1)
+    for fields in [(), (as_parts,)]:
+        yield request(f"GET {key.target}", *fields), value({one: 1}, "a")
+    yield request(f"{by_tag}{one}-1"), value({one: 1}, "a")
+
+    # Two.
+    yield request(f"PUT {key.target}?at=1", typed(TEXT), body="b"), written(two, 1)
+    both = {one: 1, two: 1}
+    yield request(f"GET {key.target}"), choices(both, (one, 1), (two, 1))
+    yield request(f"GET {key.target}", as_parts), parts(both, {(one, 1): "a", (two, 1): "b"})
+    yield request(f"{by_tag}{two}-1"), value(both, "b")
+    yield request(f"{by_tag}{two}-10"), not_found(both)
+
+    # A delete that has seen the first.
+    yield request(f"DELETE {key.target}", seen({one: 1})), written(one, 2)
+    beside = {one: 2, two: 1}
+    yield request(f"GET {key.target}"), choices(beside, (one, 2), (two, 1))
+    yield request(f"{by_tag}{one}-2"), not_found(beside)
+    closing = parts(beside, {(one, 2): None, (two, 1): "b"}).replace(b"Content-Length", b"Connection: close\r\nContent-Length", 1)
+    yield request(f"GET {key.target}", as_parts, "Connection: close"), closing
+    yield ping(), NOTHING
+
+
+# The second of two siblings, and the boundary and length of the answer in parts that its value leads to.
+PARTS = [
+    ("b", "s0", 118),
+    ("x--s0", "s1", 122),
+    ("--s10", "s0", 122),
+    ("--s0--s10", "s2", 126),
+    ("--s0--s1--s2", "s3", 129),
+    ("--s00", "s1", 122),
+    ("--s99999999999999999999", "s0", 140),
+    ("--s0 --s1 --s2 --s3 --s4 --s5 --s6 --s7 --s8 --s9", "s10", 169),
+]
+
+
+def in_parts():
+    """Two siblings in parts: the boundary is the first that stands in neither."""
+    for number, (second, boundary, length) in enumerate(PARTS):
+        key = Key("parts", f"k{number}")
+        one, two = key.vnode(0), key.vnode(1)
+        yield request(f"PUT {key.target}", typed(TEXT), body="a"), written(one, 1)
+        yield request(f"PUT {key.target}?at=1", typed(TEXT), body=second), written(two, 1)
+        shown = parts({one: 1, two: 1}, {(one, 1): "a", (two, 1): second})
+        assert f"boundary={boundary}\r\n".encode() in shown and f"Content-Length: {length}\r\n".encode() in shown
+        yield request(f"GET {key.target}", "Accept: multipart/mixed"), shown
+
+
+def changes():
+    """Hooks put, bound and taken away, where the connection goes on and where it ends with that."""
+    reject = b"RBPF" + bytes([1, 1, 0, 0, 0x80]) + bytes(7) + bytes([0xB7, 0, 0, 0, 1, 1, 0, 0, 0x95]) + bytes(7)
+    take = b"RBPF" + bytes([1, 2, 0, 0, 0x80]) + bytes(7) + bytes([0xB7, 0, 0, 0, 0, 1, 0, 0, 0x95]) + bytes(7)
+    bound = '{"props":{"precommit":"no","resolver":"take"}}'
+    key = Key("b", "k")
+
+    def install(*fields):
+        return request("PUT /hooks/no", *fields, body=reject)
+
+    def bind(*fields):
+        return request("PUT /buckets/b/props", *fields, body=bound)
+
+    def remove(*fields):
+        return request("DELETE /hooks/no", *fields)
+
+    both = [(install(), done()), (request("PUT /hooks/take", body=take), done())]
+    last = answer(204, closes=True)
+    yield request("GET /buckets/b/props"), properties(None, None)
+    yield remove(), told(404, "G1")
+    yield bind(), told(422, "G1")
+    yield from both
+    yield bind(), done()
+    yield request("GET /buckets/b/props"), properties("no", "take")
+    yield request(f"PUT {key.target}", body="a"), told(403, "X3 1")
+    yield request("PUT /buckets/b/props", body='{"props":{"resolver":"no"}}'), told(422, "G2")
+    yield request(f"DELETE {key.target}"), told(403, "X3 1")
+    yield remove(), done()
+    yield NEXT
+    yield install("Connection: close"), last
+    yield NEXT
+    yield from both
+    yield bind("Connection: close"), last
+    yield NEXT
+    yield from both
+    yield remove("Connection: close"), last
+
+
+# The program `indexed_byte`: it reads the byte of the input that its length names.
+INDEXED_BYTE = bytes.fromhex(
+    "52425046 01000000 00010000 00000000"
+    "bf26000000000000 57060000ff000000 0f61000000000000 7110000000000000 9500000000000000"
+)
+
+# The place of one byte of the image, what stands there, and what is told.
+HEADS = [
+    (0, 0x53, "I2"),
+    (3, 0x47, "I2"),
+    (4, 2, "I3"),
+    (5, 3, "I4"),
+    (6, 1, "I4"),
+    (7, 1, "I4"),
+    (10, 2, "I5"),
+    (14, 2, "I5"),
+    (16, 0xC3, "D8 0"),
+]
+
+
+def images():
+    """An image that is cut after each byte, and one with another byte in one place."""
+
+    def install(image):
+        return request("PUT /hooks/no", body=image)
+
+    def cut(length):
+        """What is told of so many first bytes: code begins with byte 16 and goes past its end until the last slot is there."""
+        if length < 16:
+            return "I1"
+        if length % 8:
+            return "D1 0"
+        return "D2 0" if length == 16 else f"V13 {(length - 24) // 8}"
+
+    for length in range(len(INDEXED_BYTE)):
+        yield install(INDEXED_BYTE[:length]), told(422, cut(length))
+    yield install(INDEXED_BYTE), done()
+    for place, byte, why in HEADS:
+        yield install(INDEXED_BYTE[:place] + bytes([byte]) + INDEXED_BYTE[place + 1 :]), told(422, why)
+    # Another kind: a plain image is bound to nothing, a resolver is.
+    yield request("PUT /buckets/b/props", body='{"props":{"resolver":"no"}}'), told(422, "G2")
+    yield install(INDEXED_BYTE[:5] + bytes([2]) + INDEXED_BYTE[6:]), done()
+    yield request("PUT /buckets/b/props", body='{"props":{"resolver":"no"}}'), done()
+
+
+DIALOGUES = {
+    "broken": broken,
+    "cart": cart,
+    "changes": changes,
+    "hooks": hooks,
+    "images": images,
+    "limits": limits,
+    "parts": in_parts,
+    "reads": reads,
+    "refused": refused,
+    "strange": strange,
+}
 
 
 def main():
     for name, dialogue in DIALOGUES.items():
         requests, answers = zip(*dialogue())
+        assert all(text == SEPARATOR or SEPARATOR not in text for text in requests + answers), name
         (HERE / f"{name}.requests").write_bytes(b"".join(requests))
         (HERE / f"{name}.answers").write_bytes(b"".join(answers))
 

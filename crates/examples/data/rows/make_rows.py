@@ -1,0 +1,1454 @@
+#!/usr/bin/env python3
+"""Writes the rows of this folder: programs, and what the rules say of them.
+
+    make_rows.py        NAME.rows and NAME.told, for each name in VERDICTS and RUNS
+
+A row has a name, a program and its input in hexadecimal, and the program's slots in words, which are a comment. In NAME.told stands
+the row's name and behind it what `dvvstore verify`, or `dvvstore run`, tells of the program, and its status. Neither is asked: what is told comes from
+the instruction table of RFC 9669, sections 4 and 5, and from the rules of the decoder and of the verifier.
+"""
+import struct
+from pathlib import Path
+
+HERE = Path(__file__).resolve().parent
+
+MAX = 2**64 - 1
+LEAST = 2**63
+NARROW = 2**32 - 1
+NARROW_LEAST = 2**31
+
+
+# Slots: their bytes, and what they do in words
+
+
+def fields(opcode, dst, src, offset, imm):
+    """A slot by its fields; the immediate may be written as a number without a sign."""
+    code = struct.pack("<BBhI", opcode, src << 4 | dst, offset, imm % 2**32)
+    return code, f"{opcode:02x} r{dst} r{src} {offset:+} {imm}"
+
+
+def named(words, *parts):
+    return fields(*parts)[0], words
+
+
+def wide(dst, n):
+    """A constant of 64 bits, in two slots."""
+    code = struct.pack("<BBhIII", 0x18, dst, 0, n % 2**32, 0, n >> 32)
+    return code, f"r{dst} = {n:#x} (wide)"
+
+
+def put(dst, n):
+    return named(f"r{dst} = {n}", 0xB7, dst, 0, 0, n)
+
+
+def copied(dst, src):
+    return named(f"r{dst} = r{src}", 0xBF, dst, src, 0, 0)
+
+
+def raised(dst, n):
+    return named(f"r{dst} += {n}", 0x07, dst, 0, 0, n)
+
+
+def added(dst, src):
+    return named(f"r{dst} += r{src}", 0x0F, dst, src, 0, 0)
+
+
+def load_byte(dst, base, offset):
+    return named(f"r{dst} = byte r{base}{offset:+}", 0x71, dst, base, offset, 0)
+
+
+def store_byte(base, offset, n):
+    return named(f"byte r{base}{offset:+} = {n}", 0x72, base, 0, offset, n)
+
+
+def jump(ahead):
+    return named(f"goto {ahead:+}", 0x05, 0, 0, ahead, 0)
+
+
+def call(number):
+    return named(f"call {number}", 0x85, 0, 0, 0, number)
+
+
+EXIT = named("exit", 0x95, 0, 0, 0, 0)
+CLEAR = put(0, 0)
+NOTHING = jump(0)
+
+
+def code_of(slots):
+    return b"".join(code for code, _ in slots)
+
+
+def image(in_len, out_len, slots):
+    """A plain image with windows of these lengths."""
+    return b"RBPF" + bytes([1, 0, 0, 0]) + struct.pack("<II", in_len, out_len) + code_of(slots)
+
+
+# What is told
+
+
+def accepted(slots):
+    return f"accepted {slots}\n"
+
+
+def refused(rule, slot):
+    return f"refused V{rule} {slot}\n"
+
+
+def comes_to(answer, steps, output=b""):
+    """What a run tells: its output up to the last byte that is not zero."""
+    shown = bytes(output).rstrip(b"\0").hex()
+    return f"answer {answer}\nsteps {steps}\noutput {shown or '-'}\n"
+
+
+def row(name, code, told, slots=(), given=b""):
+    words = "; ".join(words for _, words in slots)
+    status = int(told.startswith("refused"))
+    return f"{name}|{code.hex()}|{bytes(given).hex()}|{words}", f"{told}status {status}\n"
+
+
+def raw_rows(rows):
+    """Rows of raw code, which has windows of 4,096 bytes."""
+    for name, slots, told in rows:
+        yield row(name, code_of(slots), told, slots)
+
+
+def image_rows(in_len, out_len, rows):
+    for name, slots, told in rows:
+        yield row(name, image(in_len, out_len, slots), told, slots)
+
+
+def run_rows(rows, windows=None):
+    """Rows of a name, slots, an input, and the answer, the steps and the front of the output."""
+    for name, slots, given, ended in rows:
+        code = code_of(slots) if windows is None else image(*windows, slots)
+        yield row(name, code, comes_to(*ended), slots, bytes(given))
+
+
+# Operations and jumps
+
+# The opcode, offset and immediate of an operation on R0 and R1, these two before it, and R0 after it.
+ARITHMETIC = [
+    # 64 bits
+    (0x07, 0, -1, 5, 0, 4),
+    (0x07, 0, 1, MAX, 0, 0),
+    (0x0f, 0, 0, MAX, 2, 1),
+    (0x17, 0, 5, 3, 0, 0xffff_ffff_ffff_fffe),
+    (0x1f, 0, 0, 0, 1, MAX),
+    (0x27, 0, -2, 3, 0, 0xffff_ffff_ffff_fffa),
+    (0x2f, 0, 0, 0x1_0000_0001, 0x1_0000_0001, 0x2_0000_0001),
+    (0x37, 0, -1, LEAST, 0, 0),
+    (0x37, 0, -1, MAX, 0, 1),
+    (0x37, 0, 0, 7, 0, 0),
+    (0x37, 1, -1, LEAST, 0, LEAST),
+    (0x37, 1, 0, MAX, 0, 0),
+    (0x3f, 0, 0, 7, 0, 0),
+    (0x3f, 0, 0, MAX, 2, 0x7fff_ffff_ffff_ffff),
+    (0x3f, 1, 0, 0xffff_ffff_ffff_fff9, 2, 0xffff_ffff_ffff_fffd),
+    (0x3f, 1, 0, 7, 0xffff_ffff_ffff_fffe, 0xffff_ffff_ffff_fffd),
+    (0x47, 0, -16, 0x0f, 0, MAX),
+    (0x4f, 0, 0, 0xf0, 0x0f, 0xff),
+    (0x57, 0, -256, MAX, 0, 0xffff_ffff_ffff_ff00),
+    (0x5f, 0, 0, 0b1100, 0b1010, 0b1000),
+    (0x67, 0, 63, 1, 0, LEAST),
+    (0x67, 0, 64, 1, 0, 1),
+    (0x67, 0, 65, 1, 0, 2),
+    (0x67, 0, -1, 1, 0, LEAST),
+    (0x6f, 0, 0, 3, 63, LEAST),
+    (0x6f, 0, 0, 3, 64, 3),
+    (0x77, 0, 63, LEAST, 0, 1),
+    (0x77, 0, 64, LEAST, 0, LEAST),
+    (0x7f, 0, 0, MAX, 1, 0x7fff_ffff_ffff_ffff),
+    (0x7f, 0, 0, MAX, 127, 1),
+    (0x87, 0, 0, 1, 0, MAX),
+    (0x87, 0, 0, LEAST, 0, LEAST),
+    (0x87, 0, 0, 0, 0, 0),
+    (0x97, 0, 5, 17, 0, 2),
+    (0x97, 0, 0, LEAST, 0, LEAST),
+    (0x97, 0, -1, MAX, 0, 0),
+    (0x97, 1, 3, 0xffff_ffff_ffff_fff9, 0, MAX),
+    (0x97, 1, -1, LEAST, 0, 0),
+    (0x9f, 0, 0, 7, 0, 7),
+    (0x9f, 0, 0, MAX, 10, 5),
+    (0x9f, 1, 0, 7, 0xffff_ffff_ffff_fffd, 1),
+    (0x9f, 1, 0, 0xffff_ffff_ffff_fff9, 0, 0xffff_ffff_ffff_fff9),
+    (0xa7, 0, -1, 0, 0, MAX),
+    (0xaf, 0, 0, 0b1100, 0b1010, 0b0110),
+    (0xb7, 0, -1, 0, 0, MAX),
+    (0xb7, 0, 0x7fff_ffff, MAX, 0, 0x7fff_ffff),
+    (0xbf, 0, 0, 0, LEAST, LEAST),
+    (0xbf, 8, 0, 0, 0x80, 0xffff_ffff_ffff_ff80),
+    (0xbf, 8, 0, 0, 0x17f, 0x7f),
+    (0xbf, 16, 0, 0, 0x8000, 0xffff_ffff_ffff_8000),
+    (0xbf, 16, 0, 0, 0xffff_7fff, 0x7fff),
+    (0xbf, 32, 0, 0, NARROW_LEAST, 0xffff_ffff_8000_0000),
+    (0xbf, 32, 0, 0, 0xffff_ffff_7fff_ffff, 0x7fff_ffff),
+    (0xc7, 0, 63, LEAST, 0, MAX),
+    (0xc7, 0, 64, LEAST, 0, LEAST),
+    (0xc7, 0, 62, 0x4000_0000_0000_0000, 0, 1),
+    (0xcf, 0, 0, 0xffff_ffff_ffff_fff0, 2, 0xffff_ffff_ffff_fffc),
+    (0xcf, 0, 0, 0xffff_ffff_ffff_fff0, 66, 0xffff_ffff_ffff_fffc),
+    # 32 bits: the high half of the result is zero
+    (0x04, 0, 1, MAX, 0, 0),
+    (0x04, 0, -1, 0x1_0000_0005, 0, 4),
+    (0x0c, 0, 0, NARROW, 0xffff_ffff_0000_0002, 1),
+    (0x14, 0, 1, 0xffff_ffff_0000_0000, 0, NARROW),
+    (0x1c, 0, 0, 5, 0x7_0000_0003, 2),
+    (0x24, 0, 2, 0x8000_0001, 0, 2),
+    (0x2c, 0, 0, NARROW, NARROW, 1),
+    (0x34, 0, 2, MAX, 0, 0x7fff_ffff),
+    (0x34, 0, 0, MAX, 0, 0),
+    (0x34, 0, -1, NARROW, 0, 1),
+    (0x34, 1, -1, NARROW_LEAST, 0, NARROW_LEAST),
+    (0x34, 1, 2, 0xffff_fff9, 0, 0xffff_fffd),
+    (0x3c, 0, 0, 0x1_0000_0007, 0x5_0000_0000, 0),
+    (0x3c, 0, 0, 100, 7, 14),
+    (0x3c, 1, 0, 7, 0xffff_fffe, 0xffff_fffd),
+    (0x44, 0, -1, 0xff00_0000_0000_0000, 0, NARROW),
+    (0x4c, 0, 0, 0x1_0000_00f0, 0x0f, 0xff),
+    (0x54, 0, -1, MAX, 0, NARROW),
+    (0x5c, 0, 0, 0xf_0000_000c, 0xf_0000_000a, 8),
+    (0x64, 0, 31, 1, 0, NARROW_LEAST),
+    (0x64, 0, 32, 1, 0, 1),
+    (0x64, 0, 33, 1, 0, 2),
+    (0x64, 0, 1, 0x8000_0001, 0, 2),
+    (0x6c, 0, 0, 3, 31, NARROW_LEAST),
+    (0x6c, 0, 0, 3, 63, NARROW_LEAST),
+    (0x6c, 0, 0, 3, 32, 3),
+    (0x74, 0, 31, 0x1_8000_0000, 0, 1),
+    (0x74, 0, 32, 0xffff_ffff_8000_0000, 0, NARROW_LEAST),
+    (0x7c, 0, 0, MAX, 1, 0x7fff_ffff),
+    (0x84, 0, 0, 1, 0, NARROW),
+    (0x84, 0, 0, NARROW_LEAST, 0, NARROW_LEAST),
+    (0x84, 0, 0, 0x1_0000_0000, 0, 0),
+    (0x94, 0, 0, 0x1_0000_0007, 0, 7),
+    (0x94, 0, 5, 0x1_0000_0011, 0, 2),
+    (0x94, 1, 3, 0xffff_fff9, 0, NARROW),
+    (0x94, 1, -1, NARROW_LEAST, 0, 0),
+    (0x9c, 0, 0, 0x1_0000_0007, 0, 7),
+    (0x9c, 0, 0, 0x1_0000_0007, 0x9_0000_0004, 3),
+    (0x9c, 1, 0, 7, 0xffff_fffd, 1),
+    (0x9c, 1, 0, 0xffff_ffff_ffff_fff9, 0, 0xffff_fff9),
+    (0xa4, 0, -1, MAX, 0, 0),
+    (0xac, 0, 0, 0x1_0000_000c, 0x2_0000_000a, 6),
+    (0xb4, 0, -1, 0, 0, NARROW),
+    (0xbc, 0, 0, 0, 0xffff_ffff_8000_0000, NARROW_LEAST),
+    (0xbc, 8, 0, 0, 0x80, 0xffff_ff80),
+    (0xbc, 16, 0, 0, 0x8000, 0xffff_8000),
+    (0xbc, 16, 0, MAX, 0x1_7fff, 0x7fff),
+    (0xc4, 0, 31, NARROW_LEAST, 0, NARROW),
+    (0xc4, 0, 32, NARROW_LEAST, 0, NARROW_LEAST),
+    (0xc4, 0, 30, 0xffff_ffff_4000_0000, 0, 1),
+    (0xcc, 0, 0, 0xffff_fff0, 2, 0xffff_fffc),
+    (0xcc, 0, 0, 0xffff_fff0, 34, 0xffff_fffc),
+    # byte swaps
+    (0xd4, 0, 16, 0x0102_0304_0506_0708, 0, 0x0708),
+    (0xd4, 0, 32, 0x0102_0304_0506_0708, 0, 0x0506_0708),
+    (0xd4, 0, 64, 0x0102_0304_0506_0708, 0, 0x0102_0304_0506_0708),
+    (0xdc, 0, 16, 0x0102_0304_0506_0708, 0, 0x0807),
+    (0xdc, 0, 32, 0x0102_0304_0506_0708, 0, 0x0807_0605),
+    (0xdc, 0, 64, 0x0102_0304_0506_0708, 0, 0x0807_0605_0403_0201),
+    (0xd7, 0, 16, 0x0102_0304_0506_0708, 0, 0x0807),
+    (0xd7, 0, 32, 0x0102_0304_0506_0708, 0, 0x0807_0605),
+    (0xd7, 0, 64, 0x0102_0304_0506_0708, 0, 0x0807_0605_0403_0201),
+    (0xd4, 0, 16, MAX, 0, 0xffff),
+    (0xdc, 0, 32, MAX, 0, NARROW),
+]
+
+
+def operations():
+    for opcode, offset, imm, a, b, want in ARITHMETIC:
+        # The operand is R1 where the opcode says so; a swap has none.
+        src = 1 if opcode & 8 and opcode not in (0xD4, 0xDC, 0xD7) else 0
+        slots = [wide(0, a), wide(1, b), fields(opcode, 0, src, offset, imm), EXIT]
+        yield row(f"{opcode:02x} {offset} {imm} on {a:#x} and {b:#x}", code_of(slots), comes_to(want, 4), slots)
+
+
+# The opcode and immediate of a conditional jump, R0 and R1 before it, and whether it is taken.
+JUMPS = [
+    # 64 bits
+    (0x15, -1, MAX, 0, True),
+    (0x15, -1, NARROW, 0, False),
+    (0x1d, 0, LEAST, LEAST, True),
+    (0x1d, 0, 5, 0x1_0000_0005, False),
+    (0x25, -2, MAX, 0, True),
+    (0x25, -1, 5, 0, False),
+    (0x2d, 0, LEAST, 1, True),
+    (0x2d, 0, 1, 1, False),
+    (0x35, 5, 5, 0, True),
+    (0x35, 5, 4, 0, False),
+    (0x3d, 0, 1, 1, True),
+    (0x3d, 0, 0, 1, False),
+    (0x45, -1, LEAST, 0, True),
+    (0x45, 7, 8, 0, False),
+    (0x4d, 0, 6, 3, True),
+    (0x4d, 0, 6, 9, False),
+    (0x55, 5, 0x1_0000_0005, 0, True),
+    (0x55, 5, 5, 0, False),
+    (0x5d, 0, 1, 2, True),
+    (0x5d, 0, MAX, MAX, False),
+    (0x65, -2, MAX, 0, True),
+    (0x65, 0, LEAST, 0, False),
+    (0x6d, 0, 0, MAX, True),
+    (0x6d, 0, LEAST, 1, False),
+    (0x75, -1, MAX, 0, True),
+    (0x75, -1, LEAST, 0, False),
+    (0x7d, 0, MAX, MAX, True),
+    (0x7d, 0, LEAST, 0, False),
+    (0xa5, -1, 5, 0, True),
+    (0xa5, 5, 5, 0, False),
+    (0xad, 0, 1, LEAST, True),
+    (0xad, 0, 1, 1, False),
+    (0xb5, 5, 5, 0, True),
+    (0xb5, 5, 6, 0, False),
+    (0xbd, 0, 1, 1, True),
+    (0xbd, 0, LEAST, 1, False),
+    (0xc5, 0, LEAST, 0, True),
+    (0xc5, -1, 0, 0, False),
+    (0xcd, 0, LEAST, 1, True),
+    (0xcd, 0, 1, 1, False),
+    (0xd5, -1, MAX, 0, True),
+    (0xd5, 0, 0x7fff_ffff_ffff_ffff, 0, False),
+    (0xdd, 0, LEAST, LEAST, True),
+    (0xdd, 0, 0, MAX, False),
+    # 32 bits: the high halves are not compared
+    (0x16, 5, 0x7_0000_0005, 0, True),
+    (0x16, 5, 6, 0, False),
+    (0x1e, 0, 0x1_0000_0005, 0x2_0000_0005, True),
+    (0x1e, 0, 5, 6, False),
+    (0x26, 1, NARROW, 0, True),
+    (0x26, 0, 0x1_0000_0000, 0, False),
+    (0x2e, 0, NARROW_LEAST, 1, True),
+    (0x2e, 0, 0x1_0000_0000, 0, False),
+    (0x36, 5, 0x1_0000_0005, 0, True),
+    (0x36, 5, 0x1_0000_0004, 0, False),
+    (0x3e, 0, 0, 0x1_0000_0000, True),
+    (0x3e, 0, 0x1_0000_0000, 1, False),
+    (0x46, -1, NARROW_LEAST, 0, True),
+    (0x46, -1, 0x1_0000_0000, 0, False),
+    (0x4e, 0, 0xf_0000_0006, 0xf_0000_0003, True),
+    (0x4e, 0, 0xf_0000_0006, 0xf_0000_0009, False),
+    (0x56, 5, 4, 0, True),
+    (0x56, 5, 0x1_0000_0005, 0, False),
+    (0x5e, 0, 1, 2, True),
+    (0x5e, 0, 0x1_0000_0005, 0x2_0000_0005, False),
+    (0x66, -1, 0x7fff_ffff, 0, True),
+    (0x66, 0, NARROW_LEAST, 0, False),
+    (0x6e, 0, 0, NARROW, True),
+    (0x6e, 0, NARROW_LEAST, 1, False),
+    (0x76, -1, NARROW, 0, True),
+    (0x76, -1, NARROW_LEAST, 0, False),
+    (0x7e, 0, NARROW, 0x1_ffff_ffff, True),
+    (0x7e, 0, NARROW_LEAST, 0, False),
+    (0xa6, 2, 0xf_0000_0001, 0, True),
+    (0xa6, -1, NARROW, 0, False),
+    (0xae, 0, 0xf_0000_0001, 2, True),
+    (0xae, 0, 2, 0x1_0000_0001, False),
+    (0xb6, 2, 0xf_0000_0002, 0, True),
+    (0xb6, 2, 3, 0, False),
+    (0xbe, 0, 0x1_0000_0001, 1, True),
+    (0xbe, 0, 2, 1, False),
+    (0xc6, 0, NARROW_LEAST, 0, True),
+    (0xc6, -1, 0x7fff_ffff, 0, False),
+    (0xce, 0, NARROW_LEAST, 1, True),
+    (0xce, 0, 1, 1, False),
+    (0xd6, -1, NARROW, 0, True),
+    (0xd6, -1, 0, 0, False),
+    (0xde, 0, NARROW_LEAST, NARROW_LEAST, True),
+    (0xde, 0, 0, NARROW, False),
+]
+
+
+def jumps():
+    for opcode, imm, a, b, taken in JUMPS:
+        # The jump passes over the two slots that answer 0.
+        src = 1 if opcode & 8 else 0
+        slots = [wide(0, a), wide(1, b), fields(opcode, 0, src, 2, imm), put(0, 0), EXIT, put(0, 1), EXIT]
+        yield row(f"{opcode:02x} {imm} on {a:#x} and {b:#x}", code_of(slots), comes_to(int(taken), 5), slots)
+
+
+# Loads and stores
+
+INPUT = bytes([0x01, 0x82, 0x83, 0x84, 0x85, 0x86, 0x87, 0x88, 0xFF])
+
+# The opcode and offset of a load from the input, and what it gives.
+LOADS = [
+    (0x71, 0, 0x01),
+    (0x71, 8, 0xff),
+    (0x69, 0, 0x8201),
+    (0x61, 1, 0x8584_8382),
+    (0x79, 0, 0x8887_8685_8483_8201),
+    (0x79, 1, 0xff88_8786_8584_8382),
+    (0x91, 0, 0x01),
+    (0x91, 1, 0xffff_ffff_ffff_ff82),
+    (0x89, 0, 0xffff_ffff_ffff_8201),
+    (0x89, 7, 0xffff_ffff_ffff_ff88),
+    (0x81, 1, 0xffff_ffff_8584_8382),
+    (0x81, 5, 0xffff_ffff_ff88_8786),
+]
+
+# The opcode, offset and immediate of a store of R2 to the output, and the bytes there after it.
+STORES = [
+    (0x62, 2, 0x0403_0201, [0, 0, 1, 2, 3, 4, 0, 0]),
+    (0x6a, 0, 0x0403_0201, [1, 2, 0, 0, 0, 0, 0, 0]),
+    (0x72, 7, 0x1ff, [0, 0, 0, 0, 0, 0, 0, 0xff]),
+    (
+        0x7a,
+        0,
+        -2,
+        [0xfe, 0xff, 0xff, 0xff, 0xff, 0xff, 0xff, 0xff],
+    ),
+    (0x7a, 0, 1, [1, 0, 0, 0, 0, 0, 0, 0]),
+    (0x63, 4, 0, [0, 0, 0, 0, 1, 2, 3, 4]),
+    (0x6b, 0, 0, [1, 2, 0, 0, 0, 0, 0, 0]),
+    (0x73, 3, 0, [0, 0, 0, 1, 0, 0, 0, 0]),
+    (0x7b, 0, 0, [1, 2, 3, 4, 5, 6, 7, 8]),
+]
+
+
+def accesses():
+    for opcode, offset, want in LOADS:
+        slots = [fields(opcode, 0, 1, offset, 0), EXIT]
+        yield row(f"{opcode:02x} at {offset}", code_of(slots), comes_to(want, 2), slots, INPUT)
+    for opcode, offset, imm, want in STORES:
+        src = 2 if opcode % 8 == 3 else 0
+        slots = [wide(2, 0x0807_0605_0403_0201), fields(opcode, 3, src, offset, imm), put(0, 0), EXIT]
+        yield row(f"{opcode:02x} at {offset} of {imm}", code_of(slots), comes_to(0, 4, want), slots)
+
+
+# Programs that are run
+
+# Raw programs.
+RUN_RAW = [
+    (
+        "exit_zero",
+        [put(0, 0), jump(0), jump(0), jump(0), EXIT],
+        [],
+        (0, 5, []),
+    ),
+    (
+        "division_by_zero",
+        [put(0, 7), put(6, 0), fields(0x3f, 0, 6, 0, 0), EXIT],
+        [],
+        (0, 4, []),
+    ),
+    (
+        "modulo_by_zero",
+        [put(0, 7), put(6, 0), fields(0x9f, 0, 6, 0, 0), EXIT],
+        [],
+        (7, 4, []),
+    ),
+    (
+        "modulo_by_zero_in_32_bits",
+        [
+            wide(0, 0x1_0000_0007),
+            put(6, 0),
+            fields(0x9c, 0, 6, 0, 0),
+            EXIT,
+        ],
+        [],
+        (7, 4, []),
+    ),
+    (
+        "unsigned_division_of_the_high_bit",
+        [wide(0, LEAST), fields(0x37, 0, 0, 1, -1), EXIT],
+        [],
+        (LEAST, 3, []),
+    ),
+    (
+        "stack_bounds",
+        [fields(0x7a, 10, 0, -512, 0), put(0, 0), EXIT],
+        [],
+        (0, 3, []),
+    ),
+    (
+        "sign_extended_immediate",
+        [fields(0xb4, 0, 0, 0, -1), EXIT],
+        [],
+        (NARROW, 2, []),
+    ),
+    (
+        "sign_extended_immediate of 64",
+        [put(0, -1), EXIT],
+        [],
+        (MAX, 2, []),
+    ),
+    (
+        "signed_modulo",
+        [put(0, -7), fields(0x97, 0, 0, 1, 3), EXIT],
+        [],
+        (MAX, 3, []),
+    ),
+    (
+        "swap_to_big_endian",
+        [put(0, 0x1234), fields(0xdc, 0, 0, 0, 16), EXIT],
+        [],
+        (0x3412, 3, []),
+    ),
+    (
+        "raw_text_section",
+        [copied(0, 2), raised(0, 1), EXIT],
+        [1, 2, 3],
+        (4, 3, []),
+    ),
+    (
+        "jump not taken",
+        [
+            put(0, 0),
+            fields(0x15, 2, 0, 1, 0),
+            raised(0, 5),
+            raised(0, 1),
+            EXIT,
+        ],
+        [9],
+        (6, 5, []),
+    ),
+    (
+        "jump taken",
+        [
+            put(0, 0),
+            fields(0x15, 2, 0, 1, 0),
+            raised(0, 5),
+            raised(0, 1),
+            EXIT,
+        ],
+        [],
+        (1, 4, []),
+    ),
+    (
+        "byte to output",
+        [put(0, 0), load_byte(6, 1, 0), fields(0x73, 3, 6, 1, 0), EXIT],
+        [7],
+        (0, 4, [0, 7]),
+    ),
+]
+
+# Reads the byte at the place that the input's first eight bytes name, if that is 255 at most.
+BOUND = [put(0, 0), fields(0x79, 6, 1, 0, 0), fields(0x25, 6, 0, 2, 0xFF), added(1, 6), load_byte(0, 1, 0), EXIT]
+
+# Programs with an input of 256 bytes and no output.
+RUN_BOUNDED = [
+    (
+        "indexed_byte",
+        [
+            copied(6, 2),
+            fields(0x57, 6, 0, 0, 0xff),
+            added(1, 6),
+            load_byte(0, 1, 0),
+            EXIT,
+        ],
+        [42] * 256,
+        (42, 5, []),
+    ),
+    (
+        "jmp64 not taken",
+        BOUND,
+        [3, 0, 0, 0, 0, 0, 0, 0],
+        (0, 6, []),
+    ),
+    ("jmp64 taken", BOUND, [3, 1, 0, 0, 0, 0, 0, 0], (0, 4, [])),
+]
+
+# Programs that call, with an input of 16 bytes and an output of 8.
+RUN_CALLS = [
+    (
+        "copy",
+        [copied(2, 1), copied(1, 3), put(3, 4), call(1), EXIT],
+        [1, 2, 3, 4],
+        (0, 5, [1, 2, 3, 4]),
+    ),
+    (
+        "copy of nothing to the end",
+        [
+            copied(2, 1),
+            copied(1, 3),
+            raised(1, 8),
+            put(3, 0),
+            call(1),
+            EXIT,
+        ],
+        [1, 2, 3, 4],
+        (0, 6, []),
+    ),
+    (
+        "fill and same",
+        [
+            copied(1, 3),
+            copied(6, 3),
+            put(2, 0x1ff),
+            put(3, 3),
+            call(2),
+            copied(1, 6),
+            copied(2, 6),
+            raised(2, 1),
+            put(3, 2),
+            call(3),
+            EXIT,
+        ],
+        [],
+        (1, 11, [255, 255, 255]),
+    ),
+    (
+        "same of nothing at the end of the stack",
+        [copied(2, 10), put(3, 0), call(3), EXIT],
+        [],
+        (1, 4, []),
+    ),
+    (
+        "order of two Reads",
+        [
+            put(2, 2),
+            copied(3, 1),
+            raised(3, 2),
+            put(4, 2),
+            call(16),
+            EXIT,
+        ],
+        b"acab",
+        (2, 6, []),
+    ),
+    (
+        "find the second Read",
+        [
+            put(2, 4),
+            copied(3, 1),
+            raised(3, 2),
+            put(4, 2),
+            call(17),
+            EXIT,
+        ],
+        b"xyab",
+        (3, 6, []),
+    ),
+    (
+        "newest of no layout",
+        [call(19), EXIT],
+        [0] * 16,
+        (64, 2, []),
+    ),
+    ("decimal", [call(18), EXIT], b"123", (123, 2, [])),
+    ("decimal of nothing", [call(18), EXIT], b"", (MAX, 2, [])),
+    (
+        "helper_indexes_output",
+        [
+            copied(6, 3),
+            copied(1, 2),
+            call(64),
+            added(6, 0),
+            store_byte(6, 0, 1),
+            EXIT,
+        ],
+        [0, 0, 0],
+        (3, 6, [0, 0, 0, 1]),
+    ),
+]
+
+# Raw programs, and what they come to or why they are refused.
+COMMAND_RUNS = [
+    ("exit_zero", [CLEAR, EXIT], b"", comes_to(0, 2)),
+    ("division_and_modulo_by_zero: division", [put(0, 7), put(6, 0), fields(0x3f, 0, 6, 0, 0), EXIT], b"", comes_to(0, 4)),
+    ("division_and_modulo_by_zero: modulo", [put(0, 7), put(6, 0), fields(0x9f, 0, 6, 0, 0), EXIT], b"", comes_to(7, 4)),
+    ("modulo_by_zero_in_32_bits", [wide(0, 0x100000007), put(6, 0), fields(0x9c, 0, 6, 0, 0), EXIT], b"", comes_to(7, 4)),
+    ("unsigned_division_of_the_high_bit", [wide(0, 0x8000000000000000), fields(0x37, 0, 0, 1, -1), EXIT], b"", comes_to(LEAST, 3)),
+    ("sign_extended_immediate: 32 bits", [fields(0xb4, 0, 0, 0, -1), EXIT], b"", comes_to(NARROW, 2)),
+    ("sign_extended_immediate: 64 bits", [put(0, -1), EXIT], b"", comes_to(MAX, 2)),
+    ("signed_modulo", [put(0, -7), fields(0x97, 0, 0, 1, 3), EXIT], b"", comes_to(MAX, 3)),
+    ("swap_to_big_endian", [put(0, 4660), fields(0xdc, 0, 0, 0, 16), EXIT], b"", comes_to(13330, 3)),
+    ("stack_bounds", [fields(0x7a, 10, 0, -512, 0), CLEAR, EXIT], b"", comes_to(0, 3)),
+    ("raw_text_section", [copied(0, 2), raised(0, 1), EXIT], b"abc", comes_to(4, 3)),
+    ("an output", [load_byte(0, 1, 0), fields(0x73, 3, 0, 1, 0), EXIT], bytes.fromhex("ab"), comes_to(171, 3, bytes.fromhex("00ab"))),
+    ("whole windows", [load_byte(0, 1, 4095), copied(0, 4), EXIT], b"", comes_to(4096, 3)),
+    ("cut_wide", [fields(0x18, 0, 0, 0, 0)], b"", "refused D7 0\n"),
+    ("swap_to_big_endian: no such width", [put(0, 4660), fields(0xdc, 0, 0, 0, 17), EXIT], b"", "refused D9 1\n"),
+    ("an empty file", [], b"", "refused D2 0\n"),
+    ("an atomic instruction", [fields(0xc3, 0, 0, 0, 0)], b"", "refused D8 0\n"),
+    ("unset_answer", [EXIT], b"", refused(20, 0)),
+    ("no exit", [CLEAR], b"", refused(13, 0)),
+    ("a jump before the code", [jump(-5)], b"", refused(10, 0)),
+    ("jump_targets: back", [jump(-1), EXIT], b"", refused(12, 0)),
+    ("jump_targets: into a wide instruction", [CLEAR, jump(1), wide(0, 0x0), EXIT], b"", refused(11, 1)),
+    ("jump_targets: the lowest slot first", [jump(-1), jump(1), wide(0, 0x0), EXIT], b"", refused(12, 0)),
+    ("stack_bounds: below the stack", [fields(0x7a, 10, 0, -513, 0), CLEAR, EXIT], b"", refused(24, 0)),
+    ("stack_bounds: past its end", [fields(0x7a, 10, 0, -4, 0), CLEAR, EXIT], b"", refused(24, 0)),
+    ("a call of no helper", [call(9), EXIT], b"", refused(27, 0)),
+]
+
+
+def runs():
+    yield from run_rows(RUN_RAW)
+    yield from run_rows(RUN_BOUNDED, (256, 0))
+    yield from run_rows(RUN_CALLS, (16, 8))
+    for name, slots, given, told in COMMAND_RUNS:
+        yield row(name, code_of(slots), told, slots, given)
+
+
+# Programs that call helpers, with windows of these lengths.
+HELPER_CALLS = [
+    ("copy of 4 bytes", (16, 8), [copied(2, 1), copied(1, 3), put(3, 4), call(1), EXIT], bytes.fromhex("01020304"), comes_to(0, 5, bytes.fromhex("01020304"))),
+    ("copy of 9 bytes", (16, 8), [copied(2, 1), copied(1, 3), put(3, 9), call(1), EXIT], b"", refused(28, 3)),
+    ("a load after the copy", (16, 8), [copied(2, 1), copied(1, 3), put(3, 4), call(1), load_byte(0, 1, 0), EXIT], b"", refused(20, 4)),
+    ("decimal", (16, 0), [call(18), EXIT], b"123", comes_to(123, 2)),
+    ("decimal of nothing", (16, 0), [call(18), EXIT], b"", comes_to(MAX, 2)),
+    ("helper_indexes_output: 64", (16, 8), [copied(6, 3), copied(1, 2), call(64), added(6, 0), store_byte(6, 0, 1), EXIT], bytes.fromhex("000000"), comes_to(3, 6, bytes.fromhex("00000001"))),
+    ("helper_indexes_output: 65", (16, 8), [copied(6, 3), copied(1, 2), call(65), added(6, 0), store_byte(6, 0, 1), EXIT], bytes.fromhex("000000"), refused(24, 4)),
+    ("64 of 15", (16, 0), [put(1, 15), call(64), EXIT], b"", comes_to(7, 3)),
+    ("64 of 8", (16, 0), [put(1, 8), call(64), EXIT], b"", comes_to(0, 3)),
+    ("64 of the greatest number", (16, 0), [put(1, -1), call(64), EXIT], b"", comes_to(7, 3)),
+    ("65 of 17", (16, 0), [put(1, 17), call(65), EXIT], b"", comes_to(8, 3)),
+    ("65 of 9", (16, 0), [put(1, 9), call(65), EXIT], b"", comes_to(0, 3)),
+    ("65 of the greatest number", (16, 0), [put(1, -1), call(65), EXIT], b"", comes_to(6, 3)),
+    ("order of abcabd", (16, 0), [copied(3, 1), raised(3, 3), put(2, 3), put(4, 3), call(16), EXIT], b"abcabd", comes_to(0, 6)),
+    ("order of abcabc", (16, 0), [copied(3, 1), raised(3, 3), put(2, 3), put(4, 3), call(16), EXIT], b"abcabc", comes_to(1, 6)),
+    ("order of abdabc", (16, 0), [copied(3, 1), raised(3, 3), put(2, 3), put(4, 3), call(16), EXIT], b"abdabc", comes_to(2, 6)),
+    ("order of bytes past 127", (16, 0), [copied(3, 1), raised(3, 3), put(2, 3), put(4, 3), call(16), EXIT], bytes.fromhex("61628061627f"), comes_to(2, 6)),
+    ("order of `` and `lo`", (16, 0), [fields(0x6a, 10, 0, -8, 28524), copied(3, 10), raised(3, -8), put(4, 2), call(16), EXIT], b"", comes_to(0, 6)),
+    ("order of `l` and `lo`", (16, 0), [fields(0x6a, 10, 0, -8, 28524), copied(3, 10), raised(3, -8), put(4, 2), call(16), EXIT], b"l", comes_to(0, 6)),
+    ("order of `lo` and `lo`", (16, 0), [fields(0x6a, 10, 0, -8, 28524), copied(3, 10), raised(3, -8), put(4, 2), call(16), EXIT], b"lo", comes_to(1, 6)),
+    ("order of `lol` and `lo`", (16, 0), [fields(0x6a, 10, 0, -8, 28524), copied(3, 10), raised(3, -8), put(4, 2), call(16), EXIT], b"lol", comes_to(2, 6)),
+    ("order of `m` and `lo`", (16, 0), [fields(0x6a, 10, 0, -8, 28524), copied(3, 10), raised(3, -8), put(4, 2), call(16), EXIT], b"m", comes_to(2, 6)),
+    ("find `lo` in `hello`", (16, 0), [fields(0x6a, 10, 0, -8, 28524), copied(3, 10), raised(3, -8), put(4, 2), call(17), EXIT], b"hello", comes_to(4, 6)),
+    ("find `lo` in `lolo`", (16, 0), [fields(0x6a, 10, 0, -8, 28524), copied(3, 10), raised(3, -8), put(4, 2), call(17), EXIT], b"lolo", comes_to(1, 6)),
+    ("find `lo` in `l`", (16, 0), [fields(0x6a, 10, 0, -8, 28524), copied(3, 10), raised(3, -8), put(4, 2), call(17), EXIT], b"l", comes_to(0, 6)),
+    ("find `lo` in ``", (16, 0), [fields(0x6a, 10, 0, -8, 28524), copied(3, 10), raised(3, -8), put(4, 2), call(17), EXIT], b"", comes_to(0, 6)),
+    ("find `lo` in `help`", (16, 0), [fields(0x6a, 10, 0, -8, 28524), copied(3, 10), raised(3, -8), put(4, 2), call(17), EXIT], b"help", comes_to(0, 6)),
+    ("find nothing in `hello`", (16, 0), [copied(3, 10), raised(3, -8), put(4, 0), call(17), EXIT], b"hello", comes_to(1, 5)),
+    ("find nothing in nothing", (16, 0), [copied(3, 10), raised(3, -8), put(4, 0), call(17), EXIT], b"", comes_to(1, 5)),
+    ("decimal of 19 digits", (32, 0), [call(18), EXIT], b"9999999999999999999", comes_to(9999999999999999999, 2)),
+    ("decimal of 20 digits", (32, 0), [call(18), EXIT], b"00000000000000000001", comes_to(MAX, 2)),
+    ("decimal of zeros first", (32, 0), [call(18), EXIT], b"007", comes_to(7, 2)),
+    ("decimal of a letter", (32, 0), [call(18), EXIT], b"12a", comes_to(MAX, 2)),
+    ("newest of two siblings", (128, 0), [call(19), EXIT], bytes.fromhex("020000000200000042000000000000000000000001000000010000000000000040000000010000000100000001000000010000000000000041000000010000006162"), comes_to(1, 2)),
+    ("newest beside a new content", (128, 0), [call(19), EXIT], bytes.fromhex("01000000030000005b00000000000000000000000100000000000000000000005800000001000000000000000100000003000000000000005900000001000000010000000100000002000000000000005a00000001000000636162"), comes_to(1, 2)),
+    ("newest of a cut layout", (128, 0), [put(2, 63), call(19), EXIT], bytes.fromhex("020000000200000042000000000000000000000001000000010000000000000040000000010000000100000001000000010000000000000041000000010000006162"), comes_to(64, 3)),
+    ("newest of no layout", (16, 0), [call(19), EXIT], b"abc", comes_to(64, 2)),
+    ("newest of nothing", (16, 0), [call(19), EXIT], b"", comes_to(64, 2)),
+]
+
+
+def helpers():
+    for name, windows, slots, given, told in HELPER_CALLS:
+        yield row(name, image(*windows, slots), told, slots, given)
+
+
+# Inputs of a window's length, and longer ones
+
+EXIT_ZERO = [CLEAR, EXIT]
+INDEXED = [copied(6, 2), fields(0x57, 6, 0, 0, 255), added(1, 6), load_byte(0, 1, 0), EXIT]
+INDEXED_TWO = [copied(6, 2), fields(0x57, 6, 0, 0, 255), added(1, 6), fields(0x69, 0, 1, 0, 0), EXIT]
+LONG = "refused input\n"
+
+
+def inputs():
+    yield row("a byte too many", code_of(EXIT_ZERO), LONG, EXIT_ZERO, bytes(4097))
+    yield row("a whole window", code_of(EXIT_ZERO), comes_to(0, 2), EXIT_ZERO, bytes(4096))
+    # The program's refusal is told before the input's.
+    yield row("no code", b"", "refused D2 0\n", (), bytes(4097))
+    yield row("no answer", code_of([EXIT]), refused(20, 0), [EXIT], bytes(4097))
+    yield row("seven bytes", code_of([EXIT])[:7], "refused D1 0\n")
+    yield row("indexed_byte: the last byte", image(256, 0, INDEXED), comes_to(42, 5), INDEXED, [42] * 256)
+    yield row("indexed_byte: a byte too many", image(256, 0, INDEXED), LONG, INDEXED, bytes(257))
+    # Of two bytes the second may lie past the window.
+    yield row("indexed_byte: two bytes", image(256, 0, INDEXED_TWO), refused(24, 3), INDEXED_TWO, bytes(257))
+
+
+# Programs that are verified
+
+# Raw programs.
+RAW = [
+    (
+        "exit_zero",
+        [CLEAR, NOTHING, NOTHING, NOTHING, EXIT],
+        accepted(5),
+    ),
+    (
+        "division_and_modulo_by_zero",
+        [
+            put(0, 7),
+            put(6, 0),
+            fields(0x3f, 0, 6, 0, 0),
+            NOTHING,
+            EXIT,
+        ],
+        accepted(5),
+    ),
+    (
+        "modulo_by_zero_in_32_bits",
+        [
+            wide(0, 0x1_0000_0007),
+            put(6, 0),
+            fields(0x9c, 0, 6, 0, 0),
+            EXIT,
+        ],
+        accepted(5),
+    ),
+    (
+        "unsigned_division_of_the_high_bit",
+        [wide(0, 1 << 63), fields(0x37, 0, 0, 1, -1), NOTHING, EXIT],
+        accepted(5),
+    ),
+    (
+        "jump_targets to itself",
+        [jump(-1), NOTHING, NOTHING, NOTHING, EXIT],
+        refused(12, 0),
+    ),
+    (
+        "jump_targets into a wide one",
+        [CLEAR, jump(1), wide(0, 0), EXIT],
+        refused(11, 1),
+    ),
+    (
+        "jump_targets both",
+        [jump(-1), jump(1), wide(0, 0), EXIT],
+        refused(12, 0),
+    ),
+    (
+        "unset_answer",
+        [NOTHING, NOTHING, NOTHING, NOTHING, EXIT],
+        refused(20, 4),
+    ),
+    (
+        "stack_bounds",
+        [fields(0x7a, 10, 0, -512, 0), CLEAR, NOTHING, NOTHING, EXIT],
+        accepted(5),
+    ),
+    (
+        "stack_bounds below",
+        [fields(0x7a, 10, 0, -513, 0), CLEAR, NOTHING, NOTHING, EXIT],
+        refused(24, 0),
+    ),
+    (
+        "stack_bounds above",
+        [fields(0x7a, 10, 0, -4, 0), CLEAR, NOTHING, NOTHING, EXIT],
+        refused(24, 0),
+    ),
+    (
+        "raw_text_section",
+        [copied(0, 2), raised(0, 1), NOTHING, NOTHING, EXIT],
+        accepted(5),
+    ),
+    (
+        "signed_modulo",
+        [put(0, -7), fields(0x97, 0, 0, 1, 3), NOTHING, NOTHING, EXIT],
+        accepted(5),
+    ),
+    (
+        "swap_to_big_endian",
+        [
+            put(0, 4660),
+            fields(0xdc, 0, 0, 0, 16),
+            NOTHING,
+            NOTHING,
+            EXIT,
+        ],
+        accepted(5),
+    ),
+    (
+        "frame pointer written",
+        [CLEAR, raised(10, 1), NOTHING, NOTHING, EXIT],
+        refused(21, 1),
+    ),
+    (
+        "pointers multiplied",
+        [CLEAR, fields(0x2f, 1, 1, 0, 0), NOTHING, NOTHING, EXIT],
+        refused(22, 1),
+    ),
+    (
+        "pointers compared",
+        [CLEAR, fields(0x1d, 1, 3, 0, 0), NOTHING, NOTHING, EXIT],
+        refused(22, 1),
+    ),
+    (
+        "far offset",
+        [CLEAR, raised(1, 1048577), NOTHING, NOTHING, EXIT],
+        refused(23, 1),
+    ),
+    (
+        "near offset",
+        [CLEAR, raised(1, 1048576), NOTHING, NOTHING, EXIT],
+        accepted(5),
+    ),
+    (
+        "number as address",
+        [CLEAR, load_byte(0, 2, 0), NOTHING, NOTHING, EXIT],
+        refused(24, 1),
+    ),
+    (
+        "store to input",
+        [CLEAR, store_byte(1, 0, 0), NOTHING, NOTHING, EXIT],
+        refused(25, 1),
+    ),
+    (
+        "pointer stored",
+        [CLEAR, fields(0x7b, 10, 1, -8, 0), NOTHING, NOTHING, EXIT],
+        refused(26, 1),
+    ),
+    (
+        "unknown helper",
+        [CLEAR, call(4), NOTHING, NOTHING, EXIT],
+        refused(27, 1),
+    ),
+    (
+        "pointer as answer",
+        [copied(0, 1), NOTHING, NOTHING, NOTHING, EXIT],
+        refused(29, 4),
+    ),
+]
+
+COPY = copied(6, 2)
+MASK = fields(0x57, 6, 0, 0, 255)
+ADD = added(1, 6)
+BYTE = load_byte(0, 1, 0)
+HALF = fields(0x69, 0, 1, 0, 0)
+WORD = fields(0x79, 6, 1, 0, 0)
+NARROW_BOUND = fields(0x26, 6, 0, 2, 255)
+WHOLE_BOUND = fields(0x25, 6, 0, 2, 255)
+
+# Images with a window of 256 bytes as their input, and none as their output.
+IMAGES = [
+    (
+        "indexed_byte",
+        [COPY, MASK, ADD, BYTE, EXIT],
+        accepted(5),
+    ),
+    (
+        "indexed_byte of two",
+        [COPY, MASK, ADD, HALF, EXIT],
+        refused(24, 3),
+    ),
+    (
+        "jmp32_bounds_nothing",
+        [CLEAR, WORD, NARROW_BOUND, ADD, BYTE, EXIT],
+        refused(23, 3),
+    ),
+    (
+        "jmp64 bounds",
+        [CLEAR, WORD, WHOLE_BOUND, ADD, BYTE, EXIT],
+        accepted(6),
+    ),
+    ("cut after one", [COPY], refused(13, 0)),
+    ("cut after two", [COPY, MASK], refused(13, 1)),
+    ("cut after three", [COPY, MASK, ADD], refused(13, 2)),
+    (
+        "cut after four",
+        [COPY, MASK, ADD, BYTE],
+        refused(13, 3),
+    ),
+]
+
+
+def programs():
+    yield from raw_rows(RAW)
+    yield from image_rows(256, 0, IMAGES)
+
+
+# Goes round the next slot if the input is empty.
+ROUND = fields(0x15, 2, 0, 1, 0)
+SET = put(6, 1)
+READ = copied(0, 6)
+
+# R6 is set on one of two paths, or on both; a jump on R2 leads round its first setting. Last the window of an address that is
+# one of two.
+JOINS = [
+    (
+        "on one path",
+        [ROUND, SET, READ, EXIT],
+        refused(20, 2),
+    ),
+    (
+        "on both",
+        [SET, ROUND, NOTHING, READ, EXIT],
+        accepted(5),
+    ),
+    (
+        "two windows",
+        [ROUND, copied(1, 3), load_byte(0, 1, 0), EXIT],
+        refused(20, 2),
+    ),
+]
+
+
+def joins():
+    return raw_rows(JOINS)
+
+
+FROM_INPUT = copied(2, 1)
+TO_OUTPUT = copied(1, 3)
+LOAD = load_byte(0, 1, 0)
+KEEP = copied(6, 3)
+ADD_ANSWER = added(6, 0)
+END = raised(1, 8)
+
+# Programs that copy, with an input of 16 bytes and an output of 8.
+COPIES = [
+    (
+        "of 4 bytes",
+        [FROM_INPUT, TO_OUTPUT, put(3, 4), call(1), EXIT],
+        accepted(5),
+    ),
+    (
+        "of 9 bytes",
+        [FROM_INPUT, TO_OUTPUT, put(3, 9), call(1), EXIT],
+        refused(28, 3),
+    ),
+    (
+        "and a load through an argument",
+        [FROM_INPUT, TO_OUTPUT, put(3, 4), call(1), LOAD, EXIT],
+        refused(20, 4),
+    ),
+]
+
+# Programs that call 1 to 3, with the same windows.
+OWN_CALLS = [
+    (
+        "copy",
+        [
+            CLEAR,
+            CLEAR,
+            CLEAR,
+            FROM_INPUT,
+            TO_OUTPUT,
+            put(3, 4),
+            call(1),
+            EXIT,
+        ],
+        accepted(8),
+    ),
+    (
+        "copy of a whole window",
+        [
+            CLEAR,
+            CLEAR,
+            CLEAR,
+            FROM_INPUT,
+            TO_OUTPUT,
+            put(3, 8),
+            call(1),
+            EXIT,
+        ],
+        accepted(8),
+    ),
+    (
+        "copy past the window",
+        [
+            CLEAR,
+            CLEAR,
+            CLEAR,
+            FROM_INPUT,
+            TO_OUTPUT,
+            put(3, 9),
+            call(1),
+            EXIT,
+        ],
+        refused(28, 6),
+    ),
+    (
+        "copy of up to 16 bytes",
+        [
+            CLEAR,
+            CLEAR,
+            copied(7, 2),
+            FROM_INPUT,
+            TO_OUTPUT,
+            copied(3, 7),
+            call(1),
+            EXIT,
+        ],
+        refused(28, 6),
+    ),
+    (
+        "copy to the input",
+        [
+            CLEAR,
+            CLEAR,
+            CLEAR,
+            CLEAR,
+            copied(2, 3),
+            put(3, 4),
+            call(1),
+            EXIT,
+        ],
+        refused(28, 6),
+    ),
+    (
+        "copy from a number",
+        [
+            CLEAR,
+            CLEAR,
+            CLEAR,
+            CLEAR,
+            TO_OUTPUT,
+            put(3, 4),
+            call(1),
+            EXIT,
+        ],
+        refused(28, 6),
+    ),
+    (
+        "copy of a pointer's number",
+        [
+            CLEAR,
+            CLEAR,
+            CLEAR,
+            CLEAR,
+            FROM_INPUT,
+            TO_OUTPUT,
+            call(1),
+            EXIT,
+        ],
+        refused(28, 6),
+    ),
+    (
+        "argument after copy",
+        [
+            CLEAR,
+            CLEAR,
+            FROM_INPUT,
+            TO_OUTPUT,
+            put(3, 4),
+            call(1),
+            LOAD,
+            EXIT,
+        ],
+        refused(20, 6),
+    ),
+    (
+        "fifth register after copy",
+        [
+            put(5, 1),
+            FROM_INPUT,
+            TO_OUTPUT,
+            put(3, 4),
+            call(1),
+            CLEAR,
+            copied(0, 5),
+            EXIT,
+        ],
+        refused(20, 6),
+    ),
+    (
+        "kept register after copy",
+        [
+            put(6, 1),
+            FROM_INPUT,
+            TO_OUTPUT,
+            put(3, 4),
+            call(1),
+            CLEAR,
+            copied(0, 6),
+            EXIT,
+        ],
+        accepted(8),
+    ),
+    (
+        "copy answers nothing else",
+        [
+            KEEP,
+            FROM_INPUT,
+            TO_OUTPUT,
+            put(3, 4),
+            call(1),
+            ADD_ANSWER,
+            store_byte(6, 7, 1),
+            EXIT,
+        ],
+        accepted(8),
+    ),
+    (
+        "fill",
+        [
+            CLEAR,
+            CLEAR,
+            CLEAR,
+            CLEAR,
+            TO_OUTPUT,
+            put(3, 8),
+            call(2),
+            EXIT,
+        ],
+        accepted(8),
+    ),
+    (
+        "fill of nothing at the end",
+        [
+            CLEAR,
+            CLEAR,
+            CLEAR,
+            TO_OUTPUT,
+            END,
+            put(3, 0),
+            call(2),
+            EXIT,
+        ],
+        accepted(8),
+    ),
+    (
+        "fill past the end",
+        [
+            CLEAR,
+            CLEAR,
+            CLEAR,
+            TO_OUTPUT,
+            END,
+            put(3, 1),
+            call(2),
+            EXIT,
+        ],
+        refused(28, 6),
+    ),
+    (
+        "fill of the input",
+        [CLEAR, CLEAR, CLEAR, CLEAR, CLEAR, put(3, 4), call(2), EXIT],
+        refused(28, 6),
+    ),
+    (
+        "fill with a pointer",
+        [
+            CLEAR,
+            CLEAR,
+            CLEAR,
+            FROM_INPUT,
+            TO_OUTPUT,
+            put(3, 4),
+            call(2),
+            EXIT,
+        ],
+        refused(28, 6),
+    ),
+    (
+        "fill answers nothing else",
+        [
+            KEEP,
+            CLEAR,
+            TO_OUTPUT,
+            put(3, 4),
+            call(2),
+            ADD_ANSWER,
+            store_byte(6, 7, 1),
+            EXIT,
+        ],
+        accepted(8),
+    ),
+    (
+        "same",
+        [
+            KEEP,
+            CLEAR,
+            copied(2, 3),
+            put(3, 8),
+            call(3),
+            ADD_ANSWER,
+            store_byte(6, 6, 1),
+            EXIT,
+        ],
+        accepted(8),
+    ),
+    (
+        "same answers one",
+        [
+            KEEP,
+            CLEAR,
+            copied(2, 3),
+            put(3, 8),
+            call(3),
+            ADD_ANSWER,
+            store_byte(6, 7, 1),
+            EXIT,
+        ],
+        refused(24, 6),
+    ),
+    (
+        "same past the shorter window",
+        [
+            KEEP,
+            CLEAR,
+            copied(2, 3),
+            put(3, 9),
+            call(3),
+            ADD_ANSWER,
+            store_byte(6, 6, 1),
+            EXIT,
+        ],
+        refused(28, 4),
+    ),
+    (
+        "unset argument before an argument's rule",
+        [
+            CLEAR,
+            CLEAR,
+            copied(2, 3),
+            put(3, 8),
+            call(3),
+            call(3),
+            CLEAR,
+            EXIT,
+        ],
+        refused(20, 5),
+    ),
+]
+
+
+def calls():
+    return image_rows(16, 8, COPIES + OWN_CALLS)
+
+
+# Code, and the rule of form that it breaks first.
+JUMP_TARGETS = [
+    (
+        [jump(-1), EXIT, EXIT, EXIT, EXIT],
+        refused(12, 0),
+    ),
+    (
+        [CLEAR, jump(1), wide(0, 0), EXIT],
+        refused(11, 1),
+    ),
+    (
+        [jump(-1), jump(1), wide(0, 0), EXIT],
+        refused(12, 0),
+    ),
+    (
+        [jump(-2), EXIT, EXIT, EXIT, EXIT],
+        refused(10, 0),
+    ),
+    (
+        [CLEAR, CLEAR, jump(0), jump(2), EXIT],
+        refused(10, 3),
+    ),
+    (
+        [CLEAR, EXIT, CLEAR, CLEAR, EXIT],
+        refused(14, 2),
+    ),
+    (
+        [CLEAR, jump(1), EXIT, CLEAR, EXIT],
+        refused(14, 2),
+    ),
+    (
+        [CLEAR, CLEAR, CLEAR, wide(0, 0)],
+        refused(13, 3),
+    ),
+    ([CLEAR, CLEAR, wide(0, 0), EXIT], accepted(5)),
+]
+
+
+def forms():
+    for slots, told in JUMP_TARGETS:
+        yield row("jump_targets", code_of(slots), told, slots)
+    yield row("no code", b"", "refused D2 0\n")
+
+
+# Slots that are refused, at which of them, and why.
+REFUSALS = [
+    # no opcode of the table: a negation of a register, a signed load of 64 bits, forms that no class has
+    ([[0x8f, 0, 0, 0, 0, 0, 0, 0]], 0, "D4"),
+    ([[0x99, 0, 0, 0, 0, 0, 0, 0]], 0, "D4"),
+    ([[0, 0, 0, 0, 0, 0, 0, 0]], 0, "D4"),
+    # fields that are not used: a source beside an immediate, an immediate beside a source, any of an exit
+    ([[0xb7, 0x10, 0, 0, 0, 0, 0, 0]], 0, "D5"),
+    ([[0xbf, 0x10, 0, 0, 1, 0, 0, 0]], 0, "D5"),
+    ([[0x95, 1, 0, 0, 0, 0, 0, 0]], 0, "D5"),
+    ([[0x05, 0, 0, 0, 1, 0, 0, 0]], 0, "D5"),
+    ([[0x06, 0, 1, 0, 0, 0, 0, 0]], 0, "D5"),
+    ([[0x87, 0, 0, 0, 1, 0, 0, 0]], 0, "D5"),
+    ([[0x62, 0x10, 0, 0, 0, 0, 0, 0]], 0, "D5"),
+    ([[0x85, 0x30, 0, 0, 0, 0, 0, 0]], 0, "D5"),
+    (
+        [[0x18, 0x70, 0, 0, 0, 0, 0, 0], [0] * 8],
+        0,
+        "D5",
+    ),
+    # offsets that choose no operation
+    ([[0x37, 0, 2, 0, 1, 0, 0, 0]], 0, "D5"),
+    ([[0xb7, 0, 8, 0, 0, 0, 0, 0]], 0, "D5"),
+    ([[0xbc, 0x10, 32, 0, 0, 0, 0, 0]], 0, "D5"),
+    # registers
+    ([[0xb7, 0x0b, 0, 0, 0, 0, 0, 0]], 0, "D6"),
+    ([[0xbf, 0xb0, 0, 0, 0, 0, 0, 0]], 0, "D6"),
+    # wide instructions that are cut
+    ([[0x18, 0, 0, 0, 0, 0, 0, 0]], 0, "D7"),
+    (
+        [[0x18, 0, 0, 0, 0, 0, 0, 0], [0, 1, 0, 0, 0, 0, 0, 0]],
+        0,
+        "D7",
+    ),
+    # forms that are left out, told before all else
+    ([[0x85, 0x1b, 1, 0, 0, 0, 0, 0]], 0, "D8"),
+    ([[0x18, 0x10, 0, 0, 0, 0, 0, 0]], 0, "D8"),
+    # byte swaps
+    ([[0xd7, 0, 0, 0, 8, 0, 0, 0]], 0, "D9"),
+    # of several rules the first, and the lowest slot
+    ([[0xb7, 0xbb, 0, 0, 0, 0, 0, 0]], 0, "D5"),
+    (
+        [
+            [0x18, 0, 0, 0, 0, 0, 0, 0],
+            [0] * 8,
+            [0xb7, 0x0b, 0, 0, 0, 0, 0, 0],
+            [0] * 8,
+        ],
+        2,
+        "D6",
+    ),
+]
+
+
+def refusals():
+    for slots, slot, why in REFUSALS:
+        code = b"".join(map(bytes, slots))
+        yield row(f"{why} at {slot}", code, f"refused {why} {slot}\n")
+
+
+# How much of the image of `indexed_byte` is left, and the verdict. Fewer than 4 bytes of it are no mark of an image, but raw code.
+CUTS = [
+    (0, "D2 0"),
+    (3, "D1 0"),
+    (4, "I1"),
+    (8, "I1"),
+    (15, "I1"),
+    (16, "D2 0"),
+    (17, "D1 0"),
+    (24, "V13 0"),
+    (32, "V13 1"),
+    (40, "V13 2"),
+    (47, "D1 0"),
+    (48, "V13 3"),
+]
+
+# A byte of its head that is changed, what it is changed to, and the verdict.
+HEADS = [(4, 2, "I3"), (5, 3, "I4"), (6, 1, "I4"), (7, 1, "I4"), (10, 2, "I5"), (14, 2, "I5")]
+
+
+def images():
+    whole = image(256, 0, INDEXED)
+    for left, why in CUTS:
+        yield row(f"the first {left}", whole[:left], f"refused {why}\n")
+    yield row("all", whole, accepted(5), INDEXED)
+    for place, byte, why in HEADS:
+        yield row(f"byte {place}", whole[:place] + bytes([byte]) + whole[place + 1 :], f"refused {why}\n")
+    yield row("a resolver", whole[:5] + bytes([2]) + whole[6:], accepted(5), INDEXED)
+
+
+VERDICTS = {
+    "calls": calls,
+    "forms": forms,
+    "images": images,
+    "joins": joins,
+    "programs": programs,
+    "refusals": refusals,
+}
+RUNS = {
+    "accesses": accesses,
+    "helpers": helpers,
+    "inputs": inputs,
+    "jumps": jumps,
+    "operations": operations,
+    "runs": runs,
+}
+
+
+def main():
+    for name, rows in {**VERDICTS, **RUNS}.items():
+        lines, told = zip(*rows())
+        names = [line.partition("|")[0] for line in lines]
+        (HERE / f"{name}.rows").write_text("".join(f"{line}\n" for line in lines))
+        (HERE / f"{name}.told").write_text("".join(f"{name}\n{text}" for name, text in zip(names, told)))
+
+
+if __name__ == "__main__":
+    main()

@@ -1,0 +1,84 @@
+//! Programs in rows of a file, tried one after another.
+
+use crate::folder::Folder;
+use crate::trying::tell_difference;
+use commands::files::{Files, Part};
+use commands::own::command_with_helpers;
+use commands::server::Offline;
+use std::alloc::Global;
+use std::io::Write;
+use std::{io, rt};
+
+/// The files of one row: a program, and its input.
+#[derive(Drop)]
+struct Row {
+    program: Vec<u8>,
+    input: Vec<u8>,
+}
+
+impl Files for Row {
+    fn read(&self, alloc: Global, name: &str) -> io::Result<Vec<u8>> {
+        let bytes = if name == "program" {
+            &self.program
+        } else {
+            &self.input
+        };
+        Ok(bytes.as_slice().to_vec(alloc)?)
+    }
+
+    fn read_part(&self, alloc: Global, name: &str, most: usize) -> io::Result<Part> {
+        let mut bytes = self.read(alloc, name)?;
+        let len = bytes.len() as u64;
+        bytes.truncate(most);
+        Ok(Part { bytes, len })
+    }
+
+    fn write(&mut self, _name: &str, _bytes: &[u8]) -> io::Result<()> {
+        Err(io::Error::from(io::ErrorKind::PermissionDenied))
+    }
+}
+
+/// Tells whether the rows of a file are told, each behind its name, as is written beside them. The words are those of a command.
+pub fn try_rows<R: rt::Files + AllocGlobal>(
+    rt: &R,
+    words: &[&str],
+    name: &str,
+    told: &mut Vec<u8>,
+) -> io::Result<()> {
+    let alloc = rt.alloc();
+    let folder = Folder { rt, path: "rows/" };
+    let rows = folder.read(alloc, format!(in alloc; "{name}.rows")?.as_str())?;
+    let want = folder.read(alloc, format!(in alloc; "{name}.told")?.as_str())?;
+    let mut got = Vec::new(alloc);
+    for line in rows.split(|byte| *byte == b'\n') {
+        if !line.is_empty() {
+            try_row(alloc, words, line, &mut got)?;
+        }
+    }
+    write!(told, "rows/{name}.rows ")?;
+    tell_difference(&got, &want, told)
+}
+
+/// Tells the name of a row, what the command says of its program, and its status. The parts of a row are its name, the program and its input,
+/// these two in hexadecimal, and a comment.
+fn try_row(alloc: Global, words: &[&str], line: &[u8], got: &mut Vec<u8>) -> io::Result<()> {
+    let mut parts = line.split(|byte| *byte == b'|');
+    got.write_all(parts.next().unwrap_or(&[]))?;
+    got.write_all(b"\n")?;
+    let mut row = Row {
+        program: bytes_of(alloc, parts.next())?,
+        input: bytes_of(alloc, parts.next())?,
+    };
+    let mut err = Vec::new(alloc);
+    let status = command_with_helpers(alloc, words, &mut row, &mut Offline, got, &mut err)?;
+    got.write_all(&err)?;
+    writeln!(got, "status {status}")
+}
+
+/// The bytes that a part of a row spells.
+fn bytes_of(alloc: Global, digits: Option<&[u8]>) -> io::Result<Vec<u8>> {
+    match hex::decode(alloc, digits.unwrap_or(&[])) {
+        Ok(bytes) => Ok(bytes),
+        Err(_) => Err(io::Error::from(io::ErrorKind::InvalidData)),
+    }
+}
