@@ -1,17 +1,16 @@
-//! Programs, and what the verifier tells of them.
+//! Programs of the greatest size and calls of a host's helpers, and what the verifier tells of them. Smaller programs stand in rows
+//! of the examples.
 
 mod calls;
-mod images;
-mod programs;
 mod sizes;
 
-use code_parts::Slot::{Jump, Put};
+use code_parts::Slot::Put;
 use code_parts::{Slot, image_of};
 use helpers::Sigs;
 use std::alloc::Global;
 use std::process::Abort;
 use std::test::Fail;
-use verifier::{ImageFault, raw_image, read_image, verify};
+use verifier::{ImageFault, read_image, verify};
 
 /// What is told of a program: how many slots it has, the rule that it breaks and where, or that memory ran out.
 #[derive(Clone, Copy, Debug, PartialEq, Eq)]
@@ -24,17 +23,9 @@ enum Told {
 /// `r0 = 0`
 const CLEAR: Slot = Put(0, 0);
 
-/// Goes on to the next slot.
-const NOTHING: Slot = Jump(0);
-
-/// What is told of an image, or of raw code.
+/// What is told of an image.
 fn verdict_of(alloc: Global, bytes: &[u8], sigs: &Sigs) -> Result<Told, ImageFault> {
-    let image = if bytes.starts_with(b"RBPF") {
-        read_image(alloc, bytes)?
-    } else {
-        raw_image(alloc, bytes)?
-    };
-    match verify(alloc, image, sigs) {
+    match verify(alloc, read_image(alloc, bytes)?, sigs) {
         Ok(verified) => Ok(Told::Accepted(verified.image().code.len())),
         Err(refused) => Ok(match refused.rule.number() {
             Some(number) => Told::Refused(number, refused.slot),

@@ -60,11 +60,6 @@ const EQUALITY: [Row; 8] = [
     (AnySet, W64, PAIR, [PAIR, PAIR]),
 ];
 
-#[test]
-fn equality(rt: HostRuntime) {
-    narrows(&rt, &EQUALITY);
-}
-
 const ANY: Pair = (FULL, One(255));
 
 const ABOVE_BYTE: Pair = (Num(256, MAX), One(255));
@@ -88,11 +83,6 @@ const UNSIGNED_ORDER: [Row; 8] = [
     (Greater, W32, PAST, [PAST, PAST]),
 ];
 
-#[test]
-fn unsigned_order(rt: HostRuntime) {
-    narrows(&rt, &UNSIGNED_ORDER);
-}
-
 /// A condition, its width, and what is known of two operands before it and after it, whether it holds or not.
 type Kept = (Cond, Width, Pair);
 
@@ -112,11 +102,6 @@ const NOTHING_LEFT: [Kept; 5] = [
 ];
 
 /// Where no number is left on one way, what was known stays.
-#[test]
-fn nothing_is_left(rt: HostRuntime) {
-    keeps(&rt, &NOTHING_LEFT);
-}
-
 const WITHIN: Pair = (Num(0, HALF - 1), One(10));
 
 const WITHIN_32: Pair = (Num(0, HALF_32 - 1), One(10));
@@ -145,11 +130,6 @@ const SIGNED_ORDER: [Row; 8] = [
 ];
 
 /// Signed orders narrow numbers below half of the width, as if they had no sign.
-#[test]
-fn signed_order(rt: HostRuntime) {
-    narrows(&rt, &SIGNED_ORDER);
-}
-
 const SIGNED: [Cond; 4] = [
     SignedLess,
     SignedLessEqual,
@@ -189,6 +169,14 @@ const NO_NUMBERS: [Kept; 4] = [
 ];
 
 #[test]
-fn only_numbers_narrow(rt: HostRuntime) {
+fn conditions_that_narrow(rt: HostRuntime) {
+    narrows(&rt, &EQUALITY);
+    narrows(&rt, &UNSIGNED_ORDER);
+    narrows(&rt, &SIGNED_ORDER);
+}
+
+#[test]
+fn conditions_that_keep(rt: HostRuntime) {
+    keeps(&rt, &NOTHING_LEFT);
     keeps(&rt, &NO_NUMBERS);
 }

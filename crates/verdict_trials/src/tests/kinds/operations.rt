@@ -39,11 +39,6 @@ const MOVES: [Row; 10] = [
     (W32, Unset, Input(0, 0), Err(Bad::V22)),
 ];
 
-#[test]
-fn moves(rt: HostRuntime) {
-    leaves(&rt, Mov, &MOVES);
-}
-
 const SUMS: [Row; 11] = [
     (W64, Num(0, 5), Num(1, 2), Ok(Num(1, 7))),
     (W64, Num(1, MAX), One(0), Ok(Num(1, MAX))),
@@ -58,11 +53,6 @@ const SUMS: [Row; 11] = [
     (W32, One(PAST_32 + 7), Num(1, 2), Ok(Num(8, 9))),
 ];
 
-#[test]
-fn sums(rt: HostRuntime) {
-    leaves(&rt, Add, &SUMS);
-}
-
 const DIFFERENCES: [Row; 9] = [
     (W64, Num(5, 9), Num(1, 3), Ok(Num(2, 8))),
     (W64, Num(5, 9), Num(1, 5), Ok(Num(0, 8))),
@@ -74,11 +64,6 @@ const DIFFERENCES: [Row; 9] = [
     (W32, Num(5, 9), Num(1, 6), Ok(FULL_32)),
     (W32, One(0), One(1), Ok(One(MAX_32))),
 ];
-
-#[test]
-fn differences(rt: HostRuntime) {
-    leaves(&rt, Sub, &DIFFERENCES);
-}
 
 const PRODUCTS: [Row; 8] = [
     (W64, Num(2, 3), Num(4, 5), Ok(Num(8, 15))),
@@ -101,11 +86,6 @@ const PRODUCTS: [Row; 8] = [
     (W32, One(65536), One(65537), Ok(One(65536))),
 ];
 
-#[test]
-fn products(rt: HostRuntime) {
-    leaves(&rt, Mul, &PRODUCTS);
-}
-
 const QUOTIENTS: [Row; 8] = [
     (W64, Num(10, 20), Num(2, 5), Ok(Num(2, 10))),
     (W64, Num(10, 20), Num(0, 5), Ok(Num(0, 20))),
@@ -126,12 +106,6 @@ const SIGNED_QUOTIENTS: [Row; 6] = [
     (W32, One(7), One(0), Ok(One(0))),
 ];
 
-#[test]
-fn quotients(rt: HostRuntime) {
-    leaves(&rt, Div, &QUOTIENTS);
-    leaves(&rt, SignedDiv, &SIGNED_QUOTIENTS);
-}
-
 const REMAINDERS: [Row; 9] = [
     (W64, Num(10, 20), Num(3, 5), Ok(Num(0, 4))),
     (W64, Num(1, 3), Num(1, 10), Ok(Num(0, 3))),
@@ -150,12 +124,6 @@ const SIGNED_REMAINDERS: [Row; 4] = [
     (W32, Num(10, 20), One(3), Ok(FULL_32)),
     (W32, One(HALF_32), One(MAX_32), Ok(One(0))),
 ];
-
-#[test]
-fn remainders(rt: HostRuntime) {
-    leaves(&rt, Mod, &REMAINDERS);
-    leaves(&rt, SignedMod, &SIGNED_REMAINDERS);
-}
 
 const COMMON_BITS: [Row; 6] = [
     (W64, Num(4, 12), Num(2, 10), Ok(Num(0, 10))),
@@ -189,16 +157,6 @@ const TWELVE_OR_TEN: [Row; 1] = [(W64, One(12), One(10), Ok(One(14)))];
 
 const TWELVE_XOR_TEN: [Row; 1] = [(W64, One(12), One(10), Ok(One(6)))];
 
-#[test]
-fn bits(rt: HostRuntime) {
-    leaves(&rt, And, &COMMON_BITS);
-    for op in [Or, Xor] {
-        leaves(&rt, op, &UNITED_BITS);
-    }
-    leaves(&rt, Or, &TWELVE_OR_TEN);
-    leaves(&rt, Xor, &TWELVE_XOR_TEN);
-}
-
 const LEFT_SHIFTS: [Row; 9] = [
     (W64, Num(1, 3), One(4), Ok(Num(16, 48))),
     (W64, Num(1, 3), Num(0, 1), Ok(FULL)),
@@ -231,13 +189,6 @@ const SIGNED_SHIFTS: [Row; 8] = [
     (W32, One(HALF_32), One(31), Ok(One(MAX_32))),
 ];
 
-#[test]
-fn shifts(rt: HostRuntime) {
-    leaves(&rt, Lsh, &LEFT_SHIFTS);
-    leaves(&rt, Rsh, &RIGHT_SHIFTS);
-    leaves(&rt, Arsh, &SIGNED_SHIFTS);
-}
-
 const NEGATIONS: [Row; 6] = [
     (W64, Num(1, 2), Unset, Ok(FULL)),
     (W64, One(1), Unset, Ok(One(MAX))),
@@ -266,7 +217,23 @@ const WORDS_EXTENDED: [Row; 2] = [
 ];
 
 #[test]
-fn single_operand(rt: HostRuntime) {
+fn operations(rt: HostRuntime) {
+    leaves(&rt, Mov, &MOVES);
+    leaves(&rt, Add, &SUMS);
+    leaves(&rt, Sub, &DIFFERENCES);
+    leaves(&rt, Mul, &PRODUCTS);
+    leaves(&rt, Div, &QUOTIENTS);
+    leaves(&rt, SignedDiv, &SIGNED_QUOTIENTS);
+    leaves(&rt, Mod, &REMAINDERS);
+    leaves(&rt, SignedMod, &SIGNED_REMAINDERS);
+    leaves(&rt, And, &COMMON_BITS);
+    leaves(&rt, Or, &UNITED_BITS);
+    leaves(&rt, Xor, &UNITED_BITS);
+    leaves(&rt, Or, &TWELVE_OR_TEN);
+    leaves(&rt, Xor, &TWELVE_XOR_TEN);
+    leaves(&rt, Lsh, &LEFT_SHIFTS);
+    leaves(&rt, Rsh, &RIGHT_SHIFTS);
+    leaves(&rt, Arsh, &SIGNED_SHIFTS);
     leaves(&rt, Neg, &NEGATIONS);
     leaves(&rt, Movsx8, &BYTES_EXTENDED);
     leaves(&rt, Movsx16, &HALVES_EXTENDED);
