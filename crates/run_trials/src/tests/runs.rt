@@ -1,13 +1,9 @@
-//! Programs run step by step, accepted programs run both ways, and what they give.
-//! Values are those of the instruction table of RFC 9669, sections 4 and 5.
+//! Programs run step by step, also such as the verifier refuses, and what they give. What accepted programs come to stands in
+//! rows of the examples.
 
-mod accesses;
-mod alike;
 mod calls;
 mod faults;
 mod helping;
-mod jumps;
-mod operations;
 
 use code_parts::{Slot, code_of};
 use helpers::Table;
@@ -18,12 +14,6 @@ use std::alloc::Global;
 use std::test::Fail;
 
 const MAX: u64 = u64::MAX;
-
-const LEAST: u64 = 1 << 63;
-
-const NARROW: u64 = 0xffff_ffff;
-
-const NARROW_LEAST: u64 = 0x8000_0000;
 
 /// The bytes of an output that nothing was written to.
 const NONE: [u8; 8] = [0; 8];

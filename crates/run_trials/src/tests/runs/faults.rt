@@ -55,14 +55,26 @@ fn faults(rt: HostRuntime) -> Result<(), Fail> {
 }
 
 /// The slots of a program, the fuel of a drive, and how it ends.
-const FUEL: [(&[Slot], u64, Stop); 6] = [
+const FUEL: [(&[Slot], u64, Stop); 8] = [
     (&[Put(0, 0), Exit], 0, Stop::Fuel),
     (&[Put(0, 0), Exit], 1, Stop::Fuel),
     (&[Put(0, 0), Exit], 2, EXIT),
     (&[Put(0, 0), Exit], u64::MAX, EXIT),
     (&[Put(0, 0)], 1, Stop::Fuel),
     (&[Put(0, 0)], 2, PAST_END),
+    // A slot that no path reaches is passed over.
+    (&[Put(0, 1), Jump(1), Put(0, 0), Exit], 100, OVER),
+    (
+        &[Put(0, 1), Fields(0x06, 0, 0, 0, 1), Put(0, 0), Exit],
+        100,
+        OVER,
+    ),
 ];
+
+const OVER: Stop = Stop::Exit {
+    answer: 1,
+    steps: 3,
+};
 
 const EXIT: Stop = Stop::Exit {
     answer: 0,

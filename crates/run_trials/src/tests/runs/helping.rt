@@ -2,7 +2,7 @@
 
 ghost use Rattle.std.specs.Prelude.{◌≤◌};
 
-use super::{alike, calls};
+use super::calls;
 use crate::tests::adding::{ANY, Refused, UNUSED, add, add_modulo_8, add_written};
 use helpers::{ArgRule, Body, Helper, Sig, Table};
 use std::alloc::Global;
@@ -39,6 +39,5 @@ fn helper_calls(rt: HostRuntime) -> Result<(), Fail> {
     let alloc = rt.alloc();
     let mut table = Table::new(alloc);
     assert!(rt; add_helpers(alloc, &mut table)?);
-    calls::with_helpers(&rt, alloc, &table)?;
-    alike::with_helpers(&rt, alloc, &table)
+    calls::with_helpers(&rt, alloc, &table)
 }
