@@ -1,6 +1,6 @@
-//! The commands on files in memory, against what they must print.
+//! The commands on files in memory, against what they must print. What they say of programs stands in rows of the examples, but for
+//! files of the greatest length.
 
-mod calls;
 mod runs;
 mod scripts;
 mod serving;
@@ -34,15 +34,6 @@ const BY_NINE: Slot = [0x85, 0, 0, 0, 65, 0, 0, 0];
 
 /// The head of a plain program with an input window of 256 bytes.
 const HEAD: Head = [0x52, 0x42, 0x50, 0x46, 1, 0, 0, 0, 0, 1, 0, 0, 0, 0, 0, 0];
-
-/// Reads the byte of the input that its used length names.
-const INDEXED: [Slot; 5] = [
-    [0xbf, 0x26, 0, 0, 0, 0, 0, 0],
-    [0x57, 0x06, 0, 0, 0xff, 0, 0, 0],
-    [0x0f, 0x61, 0, 0, 0, 0, 0, 0],
-    [0x71, 0x10, 0, 0, 0, 0, 0, 0],
-    EXIT,
-];
 
 /// The bytes of a head and of code.
 fn image(alloc: Global, head: &[u8], slots: &[Slot]) -> Result<Vec<u8>, AllocError> {
@@ -113,23 +104,4 @@ fn expect(
     let printed = (out.as_slice(), done);
     assert_eq!(rt; printed, (want.out.as_bytes(), Ok(want.status)), "{name}");
     assert_eq!(rt; err.as_slice(), want.err.as_bytes(), "{name}");
-}
-
-/// Runs a program on an input.
-fn expect_run(
-    rt: &impl Abort,
-    alloc: Global,
-    name: &str,
-    image: &[u8],
-    input: &[u8],
-    want: (&str, u8),
-) {
-    let files = [("image", image), ("input", input)];
-    let (out, status) = want;
-    let want = Want {
-        out,
-        err: "",
-        status,
-    };
-    expect(rt, alloc, name, &["run", "image", "input"], &files, want);
 }
