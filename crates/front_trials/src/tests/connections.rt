@@ -1,8 +1,8 @@
 //! Connections whose bytes are cut, that end early, or whose devices fail.
 
 use crate::tests::opening::open;
-use crate::tests::rows::{ENDS, HOOKS, HTTP_SIBLINGS, RESOLVERS, Row};
-use httpfront::{FailSink, FailSource, Front, FrontFault, answers_to};
+use crate::tests::rows::{HOOKS, HTTP_SIBLINGS, RESOLVERS, Row};
+use httpfront::{FailSink, FailSource, Front, FrontFault};
 use std::alloc::{AllocError, Global};
 use std::test::Fail;
 
@@ -60,41 +60,10 @@ fn in_pieces(alloc: Global, rows: &[Row]) -> Result<usize, Fail> {
 }
 
 #[test]
-fn siblings_in_pieces(rt: HostRuntime) -> Result<(), Fail> {
+fn pieces_of_each_size(rt: HostRuntime) -> Result<(), Fail> {
     assert_eq!(rt; in_pieces(rt.alloc(), &HTTP_SIBLINGS)?, STEPS.len());
-    Ok(())
-}
-
-#[test]
-fn hooks_in_pieces(rt: HostRuntime) -> Result<(), Fail> {
     assert_eq!(rt; in_pieces(rt.alloc(), &HOOKS)?, STEPS.len());
-    Ok(())
-}
-
-#[test]
-fn resolvers_in_pieces(rt: HostRuntime) -> Result<(), Fail> {
     assert_eq!(rt; in_pieces(rt.alloc(), &RESOLVERS)?, STEPS.len());
-    Ok(())
-}
-
-/// Whether these are the answers to the bytes, on a store of their own.
-fn are_answers(alloc: Global, asked: &[u8], told: &[u8]) -> Result<bool, Fail> {
-    let mut store = open(alloc)?;
-    let answers = answers_to(alloc, asked, &mut store)?;
-    Ok(answers.as_slice() == told)
-}
-
-/// Whether the answers to the rows are all that is answered where one more request comes behind them.
-fn end_there(alloc: Global, rows: &[Row]) -> Result<bool, Fail> {
-    let (mut asked, told) = bytes_of(alloc, rows)?;
-    asked.extend_from_slice(b"GET /ping HTTP/1.1\r\n\r\n")?;
-    are_answers(alloc, &asked, &told)
-}
-
-/// What comes behind a request after which the connection ends is not read.
-#[test]
-fn nothing_after_the_last(rt: HostRuntime) -> Result<(), Fail> {
-    assert!(rt; end_there(rt.alloc(), &ENDS)?);
     Ok(())
 }
 

@@ -102,15 +102,3 @@ pub(crate) const RESOLVERS: [Row; 6] = [
         b"HTTP/1.1 204 No Content\r\n\r\n",
     ),
 ];
-
-/// No route, and a last request that asks for the end of the connection.
-pub(crate) const ENDS: [Row; 2] = [
-    (
-        b"GET /none HTTP/1.1\r\nHost: h\r\n\r\n",
-        b"HTTP/1.1 404 Not Found\r\nContent-Type: text/plain\r\nContent-Length: 9\r\n\r\nno route\n",
-    ),
-    (
-        b"GET /ping HTTP/1.1\r\nHost: h\r\nConnection: close\r\n\r\n",
-        b"HTTP/1.1 200 OK\r\nContent-Type: text/plain\r\nConnection: close\r\nContent-Length: 2\r\n\r\nOK",
-    ),
-];
