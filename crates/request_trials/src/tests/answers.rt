@@ -1,12 +1,12 @@
-//! The answers of the table, byte for byte.
+//! Answers of the table, byte for byte.
 
-use super::replies::{FIRST, delete, expect, expect_plain};
+use super::replies::{delete, expect_plain};
 use abi::BadAnswer;
 use admission::Refusal as Unfit;
 use bpfimage::{FormRule, ImageFault};
 use hooks::{HookFault, NameFault};
 use httpask::{Ask, Call, Form, Refusal};
-use httpreply::{Bound, Reply};
+use httpreply::Reply;
 use insn::{DecodeFault, Refusal as CodeRefusal};
 use object::Bytes;
 use quorum::QuorumFault;
@@ -16,70 +16,18 @@ use token::TokenFault;
 use verifier::{KindRule, Refused, Rule};
 use vnode::VnodeFault;
 
+/// What a request is told whose context found no memory.
 #[test]
-fn pings(rt: HostRuntime) -> Result<(), Fail> {
-    expect(
+fn context_without_memory(rt: HostRuntime) -> Result<(), Fail> {
+    let ask = Ask::Refused(Refusal::Token(TokenFault::NoMemory));
+    expect_plain(
         &rt,
         rt.alloc(),
-        &Ask::Ping,
+        &ask,
         &Reply::Nothing,
-        false,
-        "HTTP/1.1 200 OK\r\nContent-Type: text/plain\r\nContent-Length: 2\r\n\r\nOK",
-    )?;
-    expect(
-        &rt,
-        rt.alloc(),
-        &Ask::Ping,
-        &Reply::Nothing,
-        true,
-        "HTTP/1.1 200 OK\r\nContent-Type: text/plain\r\nConnection: close\r\nContent-Length: 2\r\n\r\nOK",
-    )
-}
-
-/// What a request is told that is refused without the store.
-const REFUSALS: [(Refusal, &str, &str); 17] = [
-    (Refusal::BadHead, "400 Bad Request", "bad head"),
-    (Refusal::Coding, "501 Not Implemented", "coding"),
-    (Refusal::BadLength, "400 Bad Request", "bad length"),
-    (Refusal::NoLength, "411 Length Required", "length"),
-    (Refusal::Large, "413 Payload Too Large", "large"),
-    (Refusal::NoRoute, "404 Not Found", "no route"),
-    (Refusal::Method, "405 Method Not Allowed", "method"),
-    (Refusal::Query, "400 Bad Request", "bad query"),
-    (Refusal::BadName, "400 Bad Request", "bad name"),
-    (
-        Refusal::Token(TokenFault::NotBase64),
-        "400 Bad Request",
-        "K1",
-    ),
-    (Refusal::Token(TokenFault::Version), "400 Bad Request", "K2"),
-    (
-        Refusal::Token(TokenFault::NotRising),
-        "400 Bad Request",
-        "K3",
-    ),
-    (Refusal::Token(TokenFault::Cut), "400 Bad Request", "K4"),
-    (
-        Refusal::Token(TokenFault::PastLimit),
-        "400 Bad Request",
-        "K5",
-    ),
-    (
-        Refusal::Token(TokenFault::NoMemory),
         "500 Internal Server Error",
         "E1",
-    ),
-    (Refusal::BadType, "400 Bad Request", "bad type"),
-    (Refusal::BadProps, "400 Bad Request", "bad props"),
-];
-
-#[test]
-fn refused_requests(rt: HostRuntime) -> Result<(), Fail> {
-    for (refusal, status, line) in &REFUSALS {
-        let ask = Ask::Refused(*refusal);
-        expect_plain(&rt, rt.alloc(), &ask, &Reply::Nothing, status, line)?;
-    }
-    Ok(())
+    )
 }
 
 /// What a put is told that has no answer.
@@ -199,78 +147,42 @@ fn images_that_are_not_let_in(rt: HostRuntime) -> Result<(), Fail> {
     Ok(())
 }
 
-/// What a store says of a change.
+/// Why a store does not change or read what is bound.
 #[derive(Clone, Copy)]
 enum Said {
-    Installed,
-    Removed(Result<(), HookFault>),
-    Set(Result<(), HookFault>),
-    Stored,
+    Removed(HookFault),
+    Set(HookFault),
     Unread(NameFault),
 }
 
 /// The reply that says so.
 fn reply_of(said: Said) -> Reply {
     match said {
-        Said::Installed => Reply::Installed(Ok(())),
-        Said::Removed(result) => Reply::Removed(result),
-        Said::Set(result) => Reply::Set(result),
-        Said::Stored => Reply::Stored(Ok(FIRST)),
+        Said::Removed(fault) => Reply::Removed(Err(fault)),
+        Said::Set(fault) => Reply::Set(Err(fault)),
         Said::Unread(fault) => Reply::Props(Err(fault)),
     }
 }
 
-/// The answer to what is done, where the connection goes on, and where it ends.
-const DONE: &str = "HTTP/1.1 204 No Content\r\n\r\n";
-
-const LAST: &str = "HTTP/1.1 204 No Content\r\nConnection: close\r\n\r\n";
-
-const MADE: [(Said, bool, &str); 7] = [
-    (Said::Installed, false, DONE),
-    (Said::Removed(Ok(())), false, DONE),
-    (Said::Set(Ok(())), false, DONE),
-    (Said::Installed, true, LAST),
-    (Said::Removed(Ok(())), true, LAST),
-    (Said::Set(Ok(())), true, LAST),
-    (
-        Said::Stored,
-        false,
-        "HTTP/1.1 204 No Content\r\nX-Riak-Tag: 0-1\r\n\r\n",
-    ),
-];
-
-#[test]
-fn changes_that_are_made(rt: HostRuntime) -> Result<(), Fail> {
-    let ask = removal(rt.alloc())?;
-    for (said, ends, want) in &MADE {
-        expect(&rt, rt.alloc(), &ask, &reply_of(*said), *ends, want)?;
-    }
-    Ok(())
-}
-
 const UNMADE: [(Said, &str, &str); 7] = [
+    (Said::Removed(HookFault::NameUnknown), "404 Not Found", "G1"),
     (
-        Said::Removed(Err(HookFault::NameUnknown)),
-        "404 Not Found",
-        "G1",
-    ),
-    (
-        Said::Removed(Err(HookFault::NoMemory)),
+        Said::Removed(HookFault::NoMemory),
         "500 Internal Server Error",
         "E1",
     ),
     (
-        Said::Set(Err(HookFault::NameUnknown)),
+        Said::Set(HookFault::NameUnknown),
         "422 Unprocessable Entity",
         "G1",
     ),
     (
-        Said::Set(Err(HookFault::KindDiffers)),
+        Said::Set(HookFault::KindDiffers),
         "422 Unprocessable Entity",
         "G2",
     ),
     (
-        Said::Set(Err(HookFault::NoMemory)),
+        Said::Set(HookFault::NoMemory),
         "500 Internal Server Error",
         "E1",
     ),
@@ -293,51 +205,4 @@ fn changes_that_are_refused(rt: HostRuntime) -> Result<(), Fail> {
         expect_plain(&rt, rt.alloc(), &ask, &reply_of(*said), status, line)?;
     }
     Ok(())
-}
-
-/// A read of which hooks are bound.
-fn props(alloc: Global) -> Result<Ask, AllocError> {
-    let bucket = Bytes::from_slice(alloc, b"b")?;
-    Ok(Ask::Call(Call::ReadProps { bucket }, Form::Text))
-}
-
-/// Both hooks bound.
-fn both(alloc: Global) -> Result<Reply, AllocError> {
-    let precommit = Bytes::from_slice(alloc, b"no")?;
-    let resolver = Bytes::from_slice(alloc, b"take")?;
-    Ok(Reply::Props(Ok(Bound {
-        precommit: Some(precommit),
-        resolver: Some(resolver),
-    })))
-}
-
-#[test]
-fn unbound_properties(rt: HostRuntime) -> Result<(), Fail> {
-    let ask = props(rt.alloc())?;
-    let none = Reply::Props(Ok(Bound {
-        precommit: None,
-        resolver: None,
-    }));
-    expect(
-        &rt,
-        rt.alloc(),
-        &ask,
-        &none,
-        false,
-        "HTTP/1.1 200 OK\r\nContent-Type: application/json\r\nContent-Length: 72\r\n\r\n{\"props\":{\"allow_mult\":true,\"n_val\":3,\"precommit\":null,\"resolver\":null}}",
-    )
-}
-
-#[test]
-fn bound_properties(rt: HostRuntime) -> Result<(), Fail> {
-    let ask = props(rt.alloc())?;
-    let reply = both(rt.alloc())?;
-    expect(
-        &rt,
-        rt.alloc(),
-        &ask,
-        &reply,
-        false,
-        "HTTP/1.1 200 OK\r\nContent-Type: application/json\r\nContent-Length: 74\r\n\r\n{\"props\":{\"allow_mult\":true,\"n_val\":3,\"precommit\":\"no\",\"resolver\":\"take\"}}",
-    )
 }
