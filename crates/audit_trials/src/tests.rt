@@ -1,0 +1,5 @@
+//! The tests of audits.
+
+mod faults;
+mod judging;
+mod runs;
