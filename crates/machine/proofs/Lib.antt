@@ -11,3 +11,5 @@ pub mod Helping
 pub mod Once
 pub mod Ended
 pub mod Agreeing
+pub mod Arms
+pub mod Reached

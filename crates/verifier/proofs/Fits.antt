@@ -124,7 +124,7 @@ into_old sound k [] o vs a h f = f
 into_old sound k (e ∷ es) o vs a h f =
     into_old sound k es _ vs a.1 (step_is_row k e o a.0 h) (cond_both (eqb e.0 k) _ _ (λ p. FitsSome p vs) (λ _. joined_old sound o e.1 vs h a.0 f) (λ _. f))
 
-same_slot : (j k : ℕ) → pos j ≡ pos k → j ≡ k
+pub same_slot : (j k : ℕ) → pos j ≡ pos k → j ≡ k
 same_slot j k e = cc
 
 pub into_new : (sound : IsSoundTable) (k : ℕ) (es : List Edge) (o : Option Row) (vs : List (Option ℕ)) → AreRows es → IsRowIfAny o → SomeEdge (pos k) vs es → FitsSome (into k es o) vs

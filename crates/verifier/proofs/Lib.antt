@@ -9,6 +9,7 @@ pub mod Classes
 pub mod Counting
 pub mod Tables
 pub mod Soundness
+pub mod Lowering
 pub mod Visits
 pub mod PlainRows
 pub mod PlainPrograms

@@ -121,17 +121,17 @@ arrives sound p i (suc n) k x row vs lt at here e =
 -- ---- one state
 
 -- what is known of a state that a run reaches
-record Stands (p : Program) (n : ℕ) (s : State) : Type 0 where
-  at : ℕ
-  slot : s.slot ≡ pos at
-  here : Insn
-  found : slice_get p.code at ≡ Some here
-  starts : here ≢ insn.Tail
-  row : Row
-  kinds : slice_get (table p) at ≡ Some (Some row)
-  fits : FitsRow row s.registers
-  memory : IsMemory p s.memory
-  steps : n ≤ instruction_count (take at p.code)
+pub record Stands (p : Program) (n : ℕ) (s : State) : Type 0 where
+  pub at : ℕ
+  pub slot : s.slot ≡ pos at
+  pub here : Insn
+  pub found : slice_get p.code at ≡ Some here
+  pub starts : here ≢ insn.Tail
+  pub row : Row
+  pub kinds : slice_get (table p) at ≡ Some (Some row)
+  pub fits : FitsRow row s.registers
+  pub memory : IsMemory p s.memory
+  pub steps : n ≤ instruction_count (take at p.code)
 
 lead_any : (p : Program) (i : ℕ) (es : List Edge) (z : ℤ) (vs : List (Option ℕ)) → AllLead p.code i es → SomeEdge z vs es → (k : ℕ) × (z ≡ pos k) × Leads p.code i k
 lead_any p i [] z vs a e = absurd e
@@ -148,7 +148,7 @@ found_first [] h = absurd (omega arith)
 found_first (x ∷ code) h = (x, refl)
 
 module _ (sound : IsSoundTable) (p : Program) (limits : HasLimits p) (paired : IsPaired p.code) (some : 1 ≤ length p.code) (accepted : IsAccepted p) where
-  rules_kept : (n : ℕ) (s : State) (g : Stands p n s) → AllNone (rules_of p g.row g.here)
+  pub rules_kept : (n : ℕ) (s : State) (g : Stands p n s) → AllNone (rules_of p g.row g.here)
   rules_kept n s g =
       none_each (rules_of p g.row g.here) (subst (λ o. broken_with p (Some g.here) o ≡ None) g.kinds (subst (λ o. broken_with p o (slice_get (table p) g.at) ≡ None) g.found (accepted.unbroken g.at)))
 
@@ -212,7 +212,7 @@ module _ (sound : IsSoundTable) (p : Program) (limits : HasLimits p) (paired : I
         steps = omega arith;
       }
 
-  all_stand : (input : List ℕ) (used : ℕ) → IsInput p.in_len input used → (n : ℕ) (t : State) → Runs (calls_of p.sigs) p.code n (start input used p.out_len) t → Stands p n t
+  pub all_stand : (input : List ℕ) (used : ℕ) → IsInput p.in_len input used → (n : ℕ) (t : State) → Runs (calls_of p.sigs) p.code n (start input used p.out_len) t → Stands p n t
   all_stand input used h zero t e = subst (Stands p 0) e (stands_first input used h)
   all_stand input used h (suc n) t (u, before, last) = one_step n u t (all_stand input used h n u before) last
 

@@ -8,3 +8,4 @@ pub mod Table
 pub mod Rows
 pub mod Verdict
 pub mod Plain
+pub mod Lowered

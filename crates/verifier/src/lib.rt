@@ -7,6 +7,7 @@ mod edges;
 mod kinds;
 pub mod rule;
 mod rules;
+mod slots;
 pub mod verified;
 pub mod verifying;
 mod windows;

@@ -8,6 +8,7 @@ ghost use Rattle.verifier.specs.Candidates.{program_in};
 ghost use Rattle.verifier.specs.Registers.{entry};
 ghost use Rattle.verifier.specs.Table.{IsAccepted, IsFirstRule, broken_at, AreKinds};
 ghost use Rattle.verifier.specs.Rows.{HasKinds, AreRowKinds, IsPass};
+ghost use Rattle.verifier.specs.Lowered.{AreSlots};
 ghost use Rattle.verifier.specs.Verdict.{IsRefused};
 ghost use Rattle.verifier.specs.Plain.{IsPlain, IsWellBehaved};
 
@@ -17,10 +18,12 @@ use crate::edges::{lead_on, taken_edge};
 use crate::kinds::Row;
 use crate::rule::{KindRule, Refused, Rule};
 use crate::rules::advance;
+use crate::slots::lower_slot;
 use crate::verified::Verified;
 use bpfimage::{Image, form_fault};
 use helpers::Sigs;
 use insn::code_is_paired;
+use lows::{Low, tail};
 use memory::Region;
 use ranges::{Kind, kinds_are_sound};
 use std::alloc::Global;
@@ -99,10 +102,11 @@ fn visit(
     None
 }
 
-/// The first rule over kinds that a slot breaks.
-fn check_kinds(alloc: Global, program: &Candidate) -> Result<(), Refused>
+/// The lowered code of a program that breaks no rule over kinds, or else the first rule that a slot breaks.
+fn check_kinds(alloc: Global, program: &Candidate) -> Result<Vec<Low>, Refused>
     requires { IsFormed program.now.image.code.items }
     ensures ok { OnOk result (IsAccepted (program_in program.now)) }
+    ensures lowered { IfOk result (λ lows. AreSlots (program_in program.now) lows.items (length program.now.image.code.items)) }
     ensures refused { IfErr result (λ refused. IsRefused (program_in program.now) refused.rule refused.slot) }
 {
     let slots = program.image.code.len();
@@ -113,10 +117,17 @@ fn check_kinds(alloc: Global, program: &Candidate) -> Result<(), Refused>
             slot: 0,
         });
     };
+    let Ok(mut lows) = vec![in alloc; tail(); slots] else {
+        return Err(Refused {
+            rule: Rule::NoMemory,
+            slot: 0,
+        });
+    };
     let first = entry(program);
     let mut here = Some(first);
     let mut taken = first;
     for at in 0..slots {
+        lows[at] = lower_slot(program, at, &here);
         if let Some(rule) = visit(program, at, &mut rows, &mut here, &mut taken) {
             return Err(Refused {
                 rule: Rule::Kinds(rule),
@@ -124,7 +135,7 @@ fn check_kinds(alloc: Global, program: &Candidate) -> Result<(), Refused>
             });
         }
     }
-    Ok(())
+    Ok(lows)
 }
 
 /// The first rule of form that an image breaks.
@@ -165,8 +176,8 @@ pub fn verify(alloc: Global, image: Image, sigs: &Sigs) -> Result<Verified, Refu
         });
     };
     let program = Candidate { image, sigs };
-    check_kinds(alloc, &program)?;
+    let lows = check_kinds(alloc, &program)?;
     // That a table of kinds loses no value is why no run of the program goes wrong.
     kinds_are_sound();
-    Ok(Verified::new(program))
+    Ok(Verified::new(program, lows))
 }

@@ -1,10 +1,11 @@
 use Rattle.std.proofs.Common.{sym, subst}
-use Rattle.std.proofs.Math.Logic.{∥∥₁_elim}
+use Rattle.std.proofs.Math.Logic.{∥∥₁_elim, ∥∥₁_map}
 use Rattle.std.proofs.Props.{props}
-use Rattle.verifier.specs.Program.{program_of, IsSafeProgram}
+use Rattle.verifier.specs.Program.{program_of, HasLimits, IsSafeProgram}
 use Rattle.verifier.specs.Table.{IsAccepted}
 use Rattle.verifier.specs.Verdict.{IsRefused}
 use Rattle.verifier.proofs.Soundness.{safe}
+use Rattle.verifier.proofs.Lowering.{runs_of}
 use Rattle.verifier.proofs.Visits.{only_memory}
 use Rattle.verifier.proofs.Shape.{NextStarts, paired_by, paired_starts}
 use Rattle.verifier.proofs.PlainPrograms.{well_behaved_accepted}
@@ -29,15 +30,15 @@ returns-in_err-check_form-clause-plain_only c = λ plain good.
     let starts : NextStarts p.code = ∥∥₁_elim c.args.image.is_code (hlevel props) (λ code. paired_starts p.code (paired code)) in
     rw (e.1, e.2) (only_memory p fault.rule fault.slot (c.in_err-check_form.ensures.refused c.args.sigs.now) (λ no. no (well_behaved_accepted p c.args.image.some_slots starts plain good)))
 
-pub returns-in_err-check_kinds-clause-plain_only : goal.returns-in_err-check_kinds-clause-plain_only
-returns-in_err-check_kinds-clause-plain_only c = λ plain good.
+pub returns-in_err-lows-clause-plain_only : goal.returns-in_err-lows-clause-plain_only
+returns-in_err-lows-clause-plain_only c = λ plain good.
     let p = program_of c.args.image c.args.sigs.now in
     let law = c.code_is_paired.ensures in
     let paired = paired_by law.after_wide law.before_tail law.no_tail_first law.instructions p.code in
-    let e = err_from_is_err_and c.from_residual-in_err-check_kinds.result c.from_residual-in_err-check_kinds.ensures.1 in
-    let fault = c.in_err-check_kinds.field-0.0 in
+    let e = err_from_is_err_and c.from_residual-in_err-lows.result c.from_residual-in_err-lows.ensures.1 in
+    let fault = c.in_err-lows.field-0.0 in
     let starts : NextStarts p.code = ∥∥₁_elim c.args.image.is_code (hlevel props) (λ code. paired_starts p.code (paired code)) in
-    let refused = subst (λ sigs. IsRefused (program_of c.args.image sigs) fault.rule fault.slot) c.in-Ok.ensures c.in_err-check_kinds.ensures.refused in
+    let refused = subst (λ sigs. IsRefused (program_of c.args.image sigs) fault.rule fault.slot) c.in-Ok.ensures c.in_err-lows.ensures.refused in
     rw (e.1, e.2) (only_memory p fault.rule fault.slot refused (λ no. no (well_behaved_accepted p c.args.image.some_slots starts plain good)))
 
 pub new-requires : goal.new-requires
@@ -45,8 +46,11 @@ new-requires c =
     let p = program_of c.args.image c.in-Ok.sigs in
     let law = c.code_is_paired.ensures in
     let paired = paired_by law.after_wide law.before_tail law.no_tail_first law.instructions p.code in
-    ∥∥₁_elim c.args.image.is_code (hlevel props)
-    (λ code. safe c.kinds_are_sound.ensures p record { slots = c.args.image.few_slots; input = c.args.image.in_small; output = c.args.image.out_small } (paired code) c.args.image.some_slots c.in_ok-check_kinds.ensures.ok)
+    let limits : HasLimits p = record { slots = c.args.image.few_slots; input = c.args.image.in_small; output = c.args.image.out_small } in
+    record {
+      safe = ∥∥₁_elim c.args.image.is_code (hlevel props) (λ code. safe c.kinds_are_sound.ensures p limits (paired code) c.args.image.some_slots c.in_ok-lows.ensures.ok);
+      lowered = runs_of c.kinds_are_sound.ensures p limits (∥∥₁_map c.args.image.is_code paired) c.args.image.some_slots c.in_ok-lows.ensures.ok c.in_ok-lows.lows.items c.in_ok-lows.ensures.lowered;
+    }
 
 pub returns-clause-safe : goal.returns-clause-safe
 returns-clause-safe c =
@@ -55,7 +59,7 @@ returns-clause-safe c =
     let paired = paired_by law.after_wide law.before_tail law.no_tail_first law.instructions p.code in
     subst IsSafeProgram (sym c.new.ensures)
     (∥∥₁_elim c.args.image.is_code (hlevel props)
-    (λ code. safe c.kinds_are_sound.ensures p record { slots = c.args.image.few_slots; input = c.args.image.in_small; output = c.args.image.out_small } (paired code) c.args.image.some_slots c.in_ok-check_kinds.ensures.ok))
+    (λ code. safe c.kinds_are_sound.ensures p record { slots = c.args.image.few_slots; input = c.args.image.in_small; output = c.args.image.out_small } (paired code) c.args.image.some_slots c.in_ok-lows.ensures.ok))
 
 pub returns-clause-plain_accepted : goal.returns-clause-plain_accepted
 returns-clause-plain_accepted c = λ plain.
@@ -63,5 +67,5 @@ returns-clause-plain_accepted c = λ plain.
     let law = c.code_is_paired.ensures in
     let paired = paired_by law.after_wide law.before_tail law.no_tail_first law.instructions p.code in
     let starts : NextStarts p.code = ∥∥₁_elim c.args.image.is_code (hlevel props) (λ code. paired_starts p.code (paired code)) in
-    let accepted = subst (λ sigs. IsAccepted (program_of c.args.image sigs)) c.in-Ok.ensures c.in_ok-check_kinds.ensures.ok in
+    let accepted = subst (λ sigs. IsAccepted (program_of c.args.image sigs)) c.in-Ok.ensures c.in_ok-lows.ensures.ok in
     accepted_well_behaved p c.args.image.some_slots starts plain accepted
