@@ -1,6 +1,7 @@
 //! Where the registry is changed.
 
-ghost use Rattle.std.specs.Prelude.{◌≡◌, ◌<◌, ◌^◌, ◌++◌, ◌∷◌, [], IfOk, MatchResult, OnOk, OnErr};
+ghost use Rattle.std.specs.Prelude.{◌≡◌, ◌<◌, ◌^◌, ◌++◌, ◌∷◌, [], IfOk, IsTrue, MatchResult, OnOk, OnErr};
+ghost use mathlib.Core.List.{IsPrefix};
 ghost use Rattle.hooks.specs.Tables.{Shows};
 ghost use Rattle.hooks.specs.Changes.{AreAllowed, bound_at, program_at};
 ghost use Rattle.left_right.specs.Handles.{published};
@@ -11,7 +12,7 @@ use crate::edit::{Edit, copy_of};
 use crate::opening::{Ground, NoReader};
 use crate::outlet::Outlet;
 use crate::published::Rack;
-use crate::reader::Note;
+use crate::reader::{HookReader, Note};
 use bpfimage::ImageKind;
 use fronts::Naming;
 use hooks::{HookChanges, HookFault, Registry};
@@ -24,6 +25,7 @@ use verifier::Verified;
 
 /// Installs hooks, gives them up and binds them. Readers see it once it is published. Contracts see all changes so far, and
 /// those that are published.
+#[derive(Drop)]
 pub struct Installer<J: Naming, T: Rack<J> + Drop, R: Wait + Drop> {
     outlet: Outlet<J, T, R>,
     // What all changes so far make.
@@ -80,6 +82,13 @@ impl<J: Naming, T: Rack<J> + Drop, R: Wait + Drop> Installer<J, T, R> {
         ensures { result ≡ self.now.published }
     {
         Note::new(self.outlet.shown().front().again())
+    }
+
+    /// Whether all that a reader knows is among the changes so far, at their head. Of a reader of this registry it always is.
+    pub fn has_all(&self, reader: &HookReader<J>) -> bool
+        ensures { IsTrue result → IsPrefix reader.now self.now.made }
+    {
+        self.outlet.begins_with(reader.known())
     }
 
     /// Shows readers all changes so far, and answers a note of them. It waits for those that still look into what was shown

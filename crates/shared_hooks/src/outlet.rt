@@ -1,10 +1,11 @@
 //! Where changes go out to readers.
 
-ghost use Rattle.std.specs.Prelude.{◌≡◌, ◌-◌, ◌<◌, ◌^◌, ◌++◌, ◌∷◌, [], None, MatchResult, IfOk, OnOk, OnErr};
+ghost use Rattle.std.specs.Prelude.{◌≡◌, ◌-◌, ◌<◌, ◌^◌, ◌++◌, ◌∷◌, [], None, IsTrue, MatchResult, IfOk, OnOk, OnErr};
 ghost use Rattle.std.specs.Option.{option_to_list};
 ghost use Rattle.std.specs.VecDeque.{deque_capacity, deque_len};
+ghost use mathlib.Core.List.{IsPrefix};
 ghost use Rattle.left_right.specs.Handles.{pending, published};
-ghost use Rattle.shared_hooks.specs.Edits.{last_of};
+ghost use Rattle.shared_hooks.specs.Edits.{changes_of, last_of};
 
 use crate::edit::Edit;
 use crate::opening::Ground;
@@ -19,6 +20,7 @@ use std::sync::Wait;
 const MOST: u64 = 1 << 62;
 
 /// The writer, beside the front of all changes that were handed to it or are held back, and the changes that come after them.
+#[derive(Drop)]
 pub(crate) struct Outlet<J: Naming, T: Rack<J> + Drop, R: Wait + Drop> {
     writer: WriteHandle<T, Op<J>, R>,
     book: Book<Edit, J>,
@@ -67,6 +69,13 @@ impl<J: Naming, T: Rack<J> + Drop, R: Wait + Drop> Outlet<J, T, R> {
         ensures { result.now ≡ published self.now.writer }
     {
         self.writer.published()
+    }
+
+    /// Whether all changes of a front are among those that are taken in, at their head.
+    pub(crate) fn begins_with(&self, known: &Front<Edit, J>) -> bool
+        ensures { IsTrue result → IsPrefix (changes_of known.now) (changes_of (self.now.front ++ self.now.waiting.items)) }
+    {
+        self.front.longer(known).len() == self.front.len()
     }
 
     /// Room for one change more.

@@ -70,6 +70,13 @@ impl<J: Naming> HookReader<J> {
         }
     }
 
+    /// What it has seen or was told of.
+    pub(crate) fn known(&self) -> &Front<Edit, J>
+        ensures { changes_of result.now ≡ self.now }
+    {
+        &self.known
+    }
+
     /// Takes in what was published: each later look-up sees it.
     pub fn learn(&mut self, note: &Note<J>)
         ensures one { (self.new ≡ self.old) ⊎ (self.new ≡ note.now) }

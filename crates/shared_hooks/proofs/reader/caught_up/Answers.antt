@@ -1,5 +1,4 @@
-use Rattle.std.proofs.Common.{◌≤◌, length, arith}
-use Rattle.std.proofs.lemmas.Bool.Decides.{nat_tests}
+use Rattle.std.proofs.Common.{arith}
 use Rattle.shared_hooks.proofs.Fronts.{no_shorter, changes_prefix}
 use Rattle.shared_hooks.proofs.reader.caught_up.Goals as goal
 
