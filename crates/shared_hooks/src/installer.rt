@@ -16,7 +16,6 @@ use crate::reader::{HookReader, Note};
 use bpfimage::ImageKind;
 use fronts::Naming;
 use hooks::{HookChanges, HookFault, Registry};
-use left_right::ReadHandle;
 use object::Bytes;
 use std::alloc::{AllocError, Global};
 use std::marker::Model;
@@ -25,7 +24,6 @@ use verifier::Verified;
 
 /// Installs hooks, gives them up and binds them. Readers see it once it is published. Contracts see all changes so far, and
 /// those that are published.
-#[derive(Drop)]
 pub struct Installer<J: Naming, T: Rack<J> + Drop, R: Wait + Drop> {
     outlet: Outlet<J, T, R>,
     // What all changes so far make.
@@ -69,10 +67,12 @@ impl<J: Naming, T: Rack<J> + Drop, R: Wait + Drop> Installer<J, T, R> {
         }
     }
 
-    /// A handle for a reader. `NoReader` where each place for one is taken.
-    pub fn handle(&self) -> Result<ReadHandle<T>, NoReader> {
+    /// A reader that knows all that is published. `NoReader` where each place for one is taken, or memory runs out.
+    pub fn reader(&self) -> Result<HookReader<J, T>, NoReader>
+        ensures { IfOk result (λ reader. reader ≡ self.now.published) }
+    {
         match self.outlet.handle() {
-            Ok(handle) => Ok(handle),
+            Ok(handle) => Ok(HookReader::new(handle, &self.note())),
             Err(_) => Err(NoReader),
         }
     }
@@ -85,7 +85,7 @@ impl<J: Naming, T: Rack<J> + Drop, R: Wait + Drop> Installer<J, T, R> {
     }
 
     /// Whether all that a reader knows is among the changes so far, at their head. Of a reader of this registry it always is.
-    pub fn has_all(&self, reader: &HookReader<J>) -> bool
+    pub fn has_all(&self, reader: &HookReader<J, T>) -> bool
         ensures { IsTrue result → IsPrefix reader.now self.now.made }
     {
         self.outlet.begins_with(reader.known())
@@ -125,6 +125,27 @@ impl<J: Naming, T: Rack<J> + Drop, R: Wait + Drop> Installer<J, T, R> {
         edit.apply(&mut self.registry)?;
         self.outlet.take_in(edit);
         Ok(())
+    }
+}
+
+impl<J: Naming, T: Rack<J> + Drop, R: Wait + Drop> Drop for Installer<J, T, R> {
+    // It waits for those that still look into what was published. All parts are let go here, one by one: a call that takes the outlet has
+    // no proof.
+    fn drop(self) {
+        let Self {
+            outlet,
+            registry,
+            alloc: _,
+        } = self;
+        let Outlet {
+            writer,
+            book: _,
+            front: _,
+            held_back: _,
+            waiting: _,
+        } = outlet;
+        drop(writer);
+        drop(registry);
     }
 }
 

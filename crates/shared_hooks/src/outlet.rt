@@ -20,14 +20,13 @@ use std::sync::Wait;
 const MOST: u64 = 1 << 62;
 
 /// The writer, beside the front of all changes that were handed to it or are held back, and the changes that come after them.
-#[derive(Drop)]
 pub(crate) struct Outlet<J: Naming, T: Rack<J> + Drop, R: Wait + Drop> {
-    writer: WriteHandle<T, Op<J>, R>,
-    book: Book<Edit, J>,
-    front: Front<Edit, J>,
-    // The last change of the front, where the writer had no memory for it.
-    held_back: Option<Op<J>>,
-    waiting: VecDeque<Edit>,
+    pub(crate) writer: WriteHandle<T, Op<J>, R>,
+    pub(crate) book: Book<Edit, J>,
+    pub(crate) front: Front<Edit, J>,
+    /// The last change of the front, where the writer had no memory for it.
+    pub(crate) held_back: Option<Op<J>>,
+    pub(crate) waiting: VecDeque<Edit>,
     pub(crate) ghost agreed: { last_of (T.state (published writer)) (pending writer ++ option_to_list held_back) ≡ front },
 }
 

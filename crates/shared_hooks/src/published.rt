@@ -39,18 +39,6 @@ impl<J: Naming> Published<J> {
     {
         Published { registry, front }
     }
-
-    pub(crate) fn registry(&self) -> &Registry
-        ensures { Shows (changes_of self.now) result.now }
-    {
-        &self.registry
-    }
-
-    pub(crate) fn front(&self) -> &Front<Edit, J>
-        ensures { result.now ≡ self.now }
-    {
-        &self.front
-    }
 }
 
 /// A change, with the front that ends with it. Contracts see the front.
@@ -107,6 +95,10 @@ pub trait Rack<J: Naming>: Absorb<Op<J>, State = [Edit; 0]> {
     fn front(&self) -> &Front<Edit, J>
         ensures { result.now ≡ Self.state self.now };
 
+    /// The registry that they make.
+    fn registry(&self) -> &Registry
+        ensures { Shows (changes_of (Self.state self.now)) result.now };
+
     // the last change ends the front
     ghost last: { (before after : List Made) → Self.applied before after ≡ after };
 }
@@ -117,6 +109,10 @@ impl<J: Naming> Rack<J> for Published<J> {
     ghost last = { λ before after. refl };
 
     fn front(&self) -> &Front<Edit, J> {
-        Published::front(self)
+        &self.front
+    }
+
+    fn registry(&self) -> &Registry {
+        &self.registry
     }
 }

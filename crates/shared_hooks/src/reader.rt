@@ -8,7 +8,7 @@ ghost use Rattle.hooks.specs.Changes.{hook_at, bound_at};
 ghost use Rattle.shared_hooks.specs.Edits.{changes_of, Finds, Names};
 
 use crate::edit::Edit;
-use crate::published::Published;
+use crate::published::Rack;
 use bpfimage::ImageKind;
 use fronts::{Front, Naming};
 use hooks::{Hooks, NameFault, NotSeen};
@@ -44,12 +44,12 @@ impl<J: Naming> Note<J> {
 
 /// A reader of the registry. Contracts see the changes that it has seen or was told of.
 #[derive(Drop)]
-pub struct HookReader<J: Naming> {
-    handle: ReadHandle<Published<J>>,
+pub struct HookReader<J: Naming, T: Drop> {
+    handle: ReadHandle<T>,
     known: Front<Edit, J>,
 }
 
-impl<J: Naming> Model for HookReader<J> {
+impl<J: Naming, T: Drop> Model for HookReader<J, T> {
     ghost use Rattle.std.specs.Prelude.{List};
     ghost use Rattle.hooks.specs.Changes.{Change};
     ghost use Rattle.shared_hooks.specs.Edits.{changes_of};
@@ -59,9 +59,9 @@ impl<J: Naming> Model for HookReader<J> {
     ghost view = { λ r. changes_of r.known };
 }
 
-impl<J: Naming> HookReader<J> {
+impl<J: Naming, T: Drop> HookReader<J, T> {
     /// A reader of a handle, told of what was published.
-    pub fn new(handle: ReadHandle<Published<J>>, note: &Note<J>) -> HookReader<J>
+    pub(crate) fn new(handle: ReadHandle<T>, note: &Note<J>) -> HookReader<J, T>
         ensures { result ≡ note.now }
     {
         HookReader {
@@ -85,7 +85,9 @@ impl<J: Naming> HookReader<J> {
     {
         self.known = self.known.longer(&note.front);
     }
+}
 
+impl<J: Naming, T: Rack<J> + Drop> HookReader<J, T> {
     /// The hook of a bucket and a kind, of a list of published changes that has all that this reader has seen or was told of.
     /// It takes no memory and waits for nobody; `NotSeen` where the registry can't be read now, or the program can have no
     /// further owner.
@@ -139,7 +141,7 @@ fn caught_up<J: Naming>(front: &Front<Edit, J>, known: &Front<Edit, J>) -> Optio
     Some(front.longer(known))
 }
 
-impl<J: Naming> Hooks for HookReader<J> {
+impl<J: Naming, T: Rack<J> + Drop> Hooks for HookReader<J, T> {
     ghost finds = { Finds };
 
     ghost names = { Names };

@@ -1,0 +1,9 @@
+//! Hooks of workers on threads: each looks hooks up in a reader of its own, and changes go through an installer behind a lock.
+#![tactic(auto)]
+
+mod making;
+mod opening;
+mod worker;
+
+pub use opening::{OpenFault, open};
+pub use worker::WorkerHooks;
