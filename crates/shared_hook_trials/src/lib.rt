@@ -1,0 +1,5 @@
+//! Tests of the registry of hooks that threads share, on one thread and on several.
+#![tactic(auto)]
+
+#[cfg(test)]
+mod tests;
