@@ -1,15 +1,10 @@
 -- Whose entry is next, where some of the entries of each journal have happened.
-use Rattle.std.specs.Prelude.{◌≡◌, ℕ, ◌<◌, ◌≤◌, ◌⊎◌, List, length, map, slice_get, slice_index_or, Some}
-use denote.Ref.{Bor}
+use Rattle.std.specs.Prelude.{◌≡◌, ℕ, ◌<◌, ◌≤◌, ◌⊎◌, List, length, slice_get, slice_index_or, Some}
 use Rattle.journal.specs.Entry.{Entry}
-use Rattle.journal.specs.Logs.{Log, RoomyLog}
+use Rattle.journal.specs.Logs.{Log}
 use Rattle.world.specs.Represents.{log_at}
 use Rattle.journal.specs.Stamps.{stamp_of}
 use Rattle.audit.specs.declared.turns.Head.{Head}
-
--- what some journals hold
-abbrev pub logs_of : List (Bor RoomyLog) → List Log
-logs_of journals = map (λ journal. journal.now.log) journals
 
 -- an entry of the journal with this index
 abbrev pub EntryIn : List Log → ℕ → ℕ → Entry → Type 0

@@ -5,11 +5,10 @@ ghost use Rattle.world.specs.Represents.{AreDistinct};
 ghost use Rattle.audit.specs.Faulty.{IsFault, IsFaultless};
 ghost use Rattle.audit.specs.Interleaved.{IsInterleaving, ids_of};
 ghost use Rattle.audit.specs.Rerun.{AreJournals};
-ghost use Rattle.audit.specs.Turns.{logs_of};
 
 use crate::rerun::check_sources;
 use crate::stamps::{check_rising, check_single};
-use journal::Journal;
+use journal::Whole;
 use std::alloc::{AllocError, Global};
 use thiserror::Error;
 
@@ -64,12 +63,12 @@ impl From<AllocError> for AuditFault {
 /// with another state. `NoMemory` where a growth was refused: one count for each vnode after the stamps of each journal were
 /// tested, and then the vnodes' own growths as the entries happen again. The journal of a vnode that was closed belongs to the
 /// others, for merges from it have their source there.
-pub fn audit(alloc: Global, journals: &[&Journal]) -> Result<(), AuditFault>
-    requires distinct { AreDistinct (ids_of (logs_of journals.now)) }
-    requires legal { AreJournals (logs_of journals.now) }
-    ensures yes { OnOk result (IsInterleaving (logs_of journals.now)) }
-    ensures faultless { OnOk result (IsFaultless (logs_of journals.now)) }
-    ensures no { IfErr result (IsFault (logs_of journals.now)) }
+pub fn audit(alloc: Global, journals: &[Whole<'_>]) -> Result<(), AuditFault>
+    requires distinct { AreDistinct (ids_of journals.now) }
+    requires legal { AreJournals journals.now }
+    ensures yes { OnOk result (IsInterleaving journals.now) }
+    ensures faultless { OnOk result (IsFaultless journals.now) }
+    ensures no { IfErr result (IsFault journals.now) }
 {
     check_rising(journals)?;
     check_single(alloc, journals)?;

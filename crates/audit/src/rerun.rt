@@ -12,13 +12,13 @@ ghost use Rattle.audit.specs.Again.{IsAgain, again_at};
 ghost use Rattle.audit.specs.Faulty.{NoneFalls, NoneTwice, AllHaveSources, IsFault};
 ghost use Rattle.audit.specs.Interleaved.{IsInterleaving, ids_of};
 ghost use Rattle.audit.specs.Rerun.{HasRun, AreJournals, Names, IsReadBefore, HasNoReadBefore, CheckTells};
-ghost use Rattle.audit.specs.Turns.{logs_of, IsNextBelow, EntryIn};
+ghost use Rattle.audit.specs.Turns.{IsNextBelow, EntryIn};
 ghost use Rattle.audit.specs.declared.auditing.AuditCode.TheVariants.{NoSource, OtherState};
 
 use crate::auditing::{AuditCode, AuditFault};
 use crate::stamps::place_of;
 use crate::turns::{Head, entry_at, next_of, vnode_at};
-use journal::{Entry, Journal, Said};
+use journal::{Entry, Said, Whole};
 use object::{Key, KeyState};
 use std::alloc::{AllocError, Global};
 use std::marker::Model;
@@ -45,7 +45,7 @@ pub(crate) fn happen_again(vnode: &mut Vnode, entry: &Entry) -> Result<Again, Al
             seen,
             content,
             ..
-        } => match vnode.put(stamp, key, seen, content) {
+        } => match vnode.put_lent(stamp, key, seen, content) {
             Ok(_) => Ok(Again::Nothing),
             Err(_) => Err(AllocError),
         },
@@ -55,7 +55,7 @@ pub(crate) fn happen_again(vnode: &mut Vnode, entry: &Entry) -> Result<Again, Al
             from,
             at,
             state,
-        } => match vnode.merge(stamp, key, from, at, state) {
+        } => match vnode.merge_lent(stamp, key, from, at, state) {
             Ok((changed, _)) => Ok(Again::Changed(changed)),
             Err(_) => Err(AllocError),
         },
@@ -113,8 +113,8 @@ impl Answers {
 }
 
 // The journal of the vnode with an identifier.
-fn index_of(journals: &[&Journal], vnode: u32) -> Option<usize>
-    ensures { let logs = logs_of journals.now in MatchOption result ((index : ℕ) → index < length logs → (log_at logs index).vnode ≢ vnode) (λ index. (index < length logs) × ((log_at logs index).vnode ≡ vnode)) }
+fn index_of(journals: &[Whole<'_>], vnode: u32) -> Option<usize>
+    ensures { let logs = journals.now in MatchOption result ((index : ℕ) → index < length logs → (log_at logs index).vnode ≢ vnode) (λ index. (index < length logs) × ((log_at logs index).vnode ≡ vnode)) }
 {
     for index in 0..journals.len() {
         if vnode_at(journals, index) == vnode {
@@ -125,9 +125,9 @@ fn index_of(journals: &[&Journal], vnode: u32) -> Option<usize>
 }
 
 // Whether a journal has a read of a key at a place, with a stamp below another.
-fn is_read_before(journals: &[&Journal], index: usize, place: u32, key: &Key, stamp: u64) -> bool
+fn is_read_before(journals: &[Whole<'_>], index: usize, place: u32, key: &Key, stamp: u64) -> bool
     requires { index < length journals.now }
-    ensures { MatchBool result (IsReadBefore (logs_of journals.now) index place key.now stamp) (IsReadBefore (logs_of journals.now) index place key.now stamp → ⊥) }
+    ensures { MatchBool result (IsReadBefore journals.now index place key.now stamp) (IsReadBefore journals.now index place key.now stamp → ⊥) }
 {
     let Some(entry) = entry_at(journals, index, place as usize) else {
         return false;
@@ -143,7 +143,7 @@ fn is_read_before(journals: &[&Journal], index: usize, place: u32, key: &Key, st
 
 // Whether a merge's state is what the earlier read that it names answered.
 fn check_source(
-    journals: &[&Journal],
+    journals: &[Whole<'_>],
     answers: &[Answers],
     stamp: u64,
     key: &Key,
@@ -151,11 +151,11 @@ fn check_source(
     at: u32,
     state: &KeyState,
 ) -> Result<(), AuditCode>
-    requires distinct { AreDistinct (ids_of (logs_of journals.now)) }
+    requires distinct { AreDistinct (ids_of journals.now) }
     requires size { length answers.now ≡ length journals.now }
-    ensures ok { OnOk result (Names (logs_of journals.now) answers.now stamp key.now from at state.now) }
-    ensures missing { result ≡ Err AuditCode.NoSource → HasNoReadBefore (logs_of journals.now) from at key.now stamp }
-    ensures other { result ≡ Err AuditCode.OtherState → (index : ℕ) × (index < length (logs_of journals.now)) × ((log_at (logs_of journals.now) index).vnode ≡ from) × IsReadBefore (logs_of journals.now) index at key.now stamp × (again_at answers.now index at ≢ Some (Again.State state.now)) }
+    ensures ok { OnOk result (Names journals.now answers.now stamp key.now from at state.now) }
+    ensures missing { result ≡ Err AuditCode.NoSource → HasNoReadBefore journals.now from at key.now stamp }
+    ensures other { result ≡ Err AuditCode.OtherState → (index : ℕ) × (index < length journals.now) × ((log_at journals.now index).vnode ≡ from) × IsReadBefore journals.now index at key.now stamp × (again_at answers.now index at ≢ Some (Again.State state.now)) }
     ensures these { IfErr result (λ code. (code ≡ AuditCode.NoSource) ⊎ (code ≡ AuditCode.OtherState)) }
 {
     let Some(index) = index_of(journals, from) else {
@@ -180,9 +180,9 @@ pub(crate) struct Rerun {
 
 impl Rerun {
     // Nothing has happened.
-    fn open(alloc: Global, journals: &[&Journal]) -> Result<Rerun, AllocError>
-        requires distinct { AreDistinct (ids_of (logs_of journals.now)) }
-        ensures { IfOk result (λ rerun. HasRun (logs_of journals.now) rerun.counts.items rerun.vnodes.items rerun.answers.items) }
+    fn open(alloc: Global, journals: &[Whole<'_>]) -> Result<Rerun, AllocError>
+        requires distinct { AreDistinct (ids_of journals.now) }
+        ensures { IfOk result (λ rerun. HasRun journals.now rerun.counts.items rerun.vnodes.items rerun.answers.items) }
     {
         let mut vnodes = Vec::new(alloc);
         let mut answers = Vec::new(alloc);
@@ -198,10 +198,10 @@ impl Rerun {
     }
 
     // An entry that is a merge has its state from the earlier read that it names.
-    fn check_entry(&self, journals: &[&Journal], entry: &Entry) -> Result<(), AuditCode>
-        requires distinct { AreDistinct (ids_of (logs_of journals.now)) }
+    fn check_entry(&self, journals: &[Whole<'_>], entry: &Entry) -> Result<(), AuditCode>
+        requires distinct { AreDistinct (ids_of journals.now) }
         requires size { length self.now.answers.items ≡ length journals.now }
-        ensures { CheckTells (logs_of journals.now) self.now.answers.items entry.now result }
+        ensures { CheckTells journals.now self.now.answers.items entry.now result }
     {
         match entry.said() {
             Said::Merge {
@@ -216,16 +216,16 @@ impl Rerun {
     }
 
     // The next entry happens again.
-    fn step(&mut self, journals: &[&Journal], head: Head) -> Result<(), AuditFault>
-        requires distinct { AreDistinct (ids_of (logs_of journals.now)) }
-        requires rising { NoneFalls (logs_of journals.now) }
-        requires single { NoneTwice (logs_of journals.now) }
-        requires legal { AreJournals (logs_of journals.now) }
-        requires run { HasRun (logs_of journals.now) self.old.counts.items self.old.vnodes.items self.old.answers.items }
-        requires next { IsNextBelow (logs_of journals.now) self.old.counts.items (length journals.now) head }
-        ensures ok { OnOk result (HasRun (logs_of journals.now) self.new.counts.items self.new.vnodes.items self.new.answers.items) }
+    fn step(&mut self, journals: &[Whole<'_>], head: Head) -> Result<(), AuditFault>
+        requires distinct { AreDistinct (ids_of journals.now) }
+        requires rising { NoneFalls journals.now }
+        requires single { NoneTwice journals.now }
+        requires legal { AreJournals journals.now }
+        requires run { HasRun journals.now self.old.counts.items self.old.vnodes.items self.old.answers.items }
+        requires next { IsNextBelow journals.now self.old.counts.items (length journals.now) head }
+        ensures ok { OnOk result (HasRun journals.now self.new.counts.items self.new.vnodes.items self.new.answers.items) }
         ensures counts { OnOk result (self.new.counts.items ≡ slice_set self.old.counts.items head.index (slice_index_or self.old.counts.items head.index 0 + 1)) }
-        ensures err { IfErr result (IsFault (logs_of journals.now)) }
+        ensures err { IfErr result (IsFault journals.now) }
     {
         let place = self.counts[head.index];
         let Some(entry) = entry_at(journals, head.index, place) else {
@@ -247,14 +247,14 @@ impl Rerun {
 }
 
 /// Tests that each merge has its state from an earlier read, as the entries happen again in the order of their stamps.
-pub(crate) fn check_sources(alloc: Global, journals: &[&Journal]) -> Result<(), AuditFault>
-    requires distinct { AreDistinct (ids_of (logs_of journals.now)) }
-    requires rising { NoneFalls (logs_of journals.now) }
-    requires single { NoneTwice (logs_of journals.now) }
-    requires legal { AreJournals (logs_of journals.now) }
-    ensures ok { OnOk result (IsInterleaving (logs_of journals.now)) }
-    ensures sources { OnOk result (AllHaveSources (logs_of journals.now)) }
-    ensures err { IfErr result (IsFault (logs_of journals.now)) }
+pub(crate) fn check_sources(alloc: Global, journals: &[Whole<'_>]) -> Result<(), AuditFault>
+    requires distinct { AreDistinct (ids_of journals.now) }
+    requires rising { NoneFalls journals.now }
+    requires single { NoneTwice journals.now }
+    requires legal { AreJournals journals.now }
+    ensures ok { OnOk result (IsInterleaving journals.now) }
+    ensures sources { OnOk result (AllHaveSources journals.now) }
+    ensures err { IfErr result (IsFault journals.now) }
 {
     let mut rerun = Rerun::open(alloc, journals)?;
     while let Some(head) = next_of(journals, &rerun.counts) {

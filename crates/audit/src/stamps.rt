@@ -4,7 +4,7 @@ ghost use Rattle.std.specs.Prelude.{◌≡◌, ◌≢◌, ◌⊎◌, ◌<◌, �
 ghost use Rattle.world.specs.Represents.{log_at, AreDistinct};
 ghost use Rattle.journal.specs.Stamps.{stamp_of};
 ghost use Rattle.audit.specs.Interleaved.{ids_of};
-ghost use Rattle.audit.specs.Turns.{logs_of, EntryIn, count_at};
+ghost use Rattle.audit.specs.Turns.{EntryIn, count_at};
 ghost use Rattle.audit.specs.Faulty.{NoneFalls, NoneTwice, IsFault, IsFaultAt};
 ghost use Rattle.audit.specs.Sorting.{NoneFallsIn, IsFallOf, IsFallNotAfter, NoneFallsBelow, IsFirstFallBelow};
 ghost use Rattle.journal.specs.Entry.{Entry as Entered};
@@ -12,7 +12,7 @@ ghost use Rattle.audit.specs.declared.auditing.AuditCode.TheVariants.{Falls};
 
 use crate::auditing::{AuditCode, AuditFault};
 use crate::turns::{entry_at, next_of, vnode_at};
-use journal::Journal;
+use journal::Whole;
 use std::alloc::Global;
 
 /// A place whose stamp isn't above the one before it.
@@ -32,10 +32,10 @@ impl Fall {
 }
 
 // The stamp at a place of the journal with this index.
-fn stamp_at(journals: &[&Journal], index: usize, place: usize) -> u64
+fn stamp_at(journals: &[Whole<'_>], index: usize, place: usize) -> u64
     requires inside { index < length journals.now }
-    requires there { place < length (log_at (logs_of journals.now) index).entries }
-    ensures { (e : Entered) × EntryIn (logs_of journals.now) index place e × (result ≡ stamp_of e) }
+    requires there { place < length (log_at journals.now index).entries }
+    ensures { (e : Entered) × EntryIn journals.now index place e × (result ≡ stamp_of e) }
 {
     match entry_at(journals, index, place) {
         Some(entry) => entry.stamp(),
@@ -44,18 +44,18 @@ fn stamp_at(journals: &[&Journal], index: usize, place: usize) -> u64
 }
 
 // How many entries the journal with this index has.
-fn len_at(journals: &[&Journal], index: usize) -> usize
+fn len_at(journals: &[Whole<'_>], index: usize) -> usize
     requires inside { index < length journals.now }
-    ensures len { result ≡ length (log_at (logs_of journals.now) index).entries }
+    ensures len { result ≡ length (log_at journals.now index).entries }
     ensures limit { result ≤ 2 ^ 32 }
 {
     journals[index].len()
 }
 
 // The first place of a journal whose stamp isn't above the one before it.
-fn fall_of(journals: &[&Journal], index: usize) -> Option<Fall>
+fn fall_of(journals: &[Whole<'_>], index: usize) -> Option<Fall>
     requires inside { index < length journals.now }
-    ensures { let logs = logs_of journals.now in MatchOption result (NoneFallsIn logs index (length (log_at logs index).entries)) (λ fall. IsFallOf logs index fall) }
+    ensures { let logs = journals.now in MatchOption result (NoneFallsIn logs index (length (log_at logs index).entries)) (λ fall. IsFallOf logs index fall) }
 {
     for place in 1..len_at(journals, index) {
         if stamp_at(journals, index, place) <= stamp_at(journals, index, place - 1) {
@@ -81,8 +81,8 @@ fn first_of(a: Option<Fall>, b: Option<Fall>) -> Option<Fall>
 }
 
 // The first place of all, by vnode and then by place.
-fn first_fall(journals: &[&Journal]) -> Option<Fall>
-    ensures { let logs = logs_of journals.now in MatchOption result (NoneFallsBelow logs (length journals.now)) (λ fall. IsFirstFallBelow logs (length journals.now) fall) }
+fn first_fall(journals: &[Whole<'_>]) -> Option<Fall>
+    ensures { let logs = journals.now in MatchOption result (NoneFallsBelow logs (length journals.now)) (λ fall. IsFirstFallBelow logs (length journals.now) fall) }
 {
     let mut first = None;
     for index in 0..journals.len() {
@@ -92,9 +92,9 @@ fn first_fall(journals: &[&Journal]) -> Option<Fall>
 }
 
 /// Tests that the stamps rise in each journal.
-pub(crate) fn check_rising(journals: &[&Journal]) -> Result<(), AuditFault>
-    ensures ok { OnOk result (NoneFalls (logs_of journals.now)) }
-    ensures err { IfErr result (IsFault (logs_of journals.now)) }
+pub(crate) fn check_rising(journals: &[Whole<'_>]) -> Result<(), AuditFault>
+    ensures ok { OnOk result (NoneFalls journals.now) }
+    ensures err { IfErr result (IsFault journals.now) }
 {
     match first_fall(journals) {
         Some(fall) => Err(AuditFault::Found {
@@ -107,9 +107,9 @@ pub(crate) fn check_rising(journals: &[&Journal]) -> Result<(), AuditFault>
 }
 
 // A place of a journal, which has at most 2^32.
-pub(crate) fn place_of(journals: &[&Journal], index: usize, place: usize) -> u32
+pub(crate) fn place_of(journals: &[Whole<'_>], index: usize, place: usize) -> u32
     requires inside { index < length journals.now }
-    requires there { place < length (log_at (logs_of journals.now) index).entries }
+    requires there { place < length (log_at journals.now index).entries }
     ensures { result ≡ place }
 {
     let _len = len_at(journals, index);
@@ -127,11 +127,11 @@ fn is_last(last: Option<u64>, stamp: u64) -> bool
 }
 
 /// Tests that no stamp stands in two journals. The stamps rise in each.
-pub(crate) fn check_single(alloc: Global, journals: &[&Journal]) -> Result<(), AuditFault>
-    requires distinct { AreDistinct (ids_of (logs_of journals.now)) }
-    requires rising { NoneFalls (logs_of journals.now) }
-    ensures ok { OnOk result (NoneTwice (logs_of journals.now)) }
-    ensures err { IfErr result (IsFault (logs_of journals.now)) }
+pub(crate) fn check_single(alloc: Global, journals: &[Whole<'_>]) -> Result<(), AuditFault>
+    requires distinct { AreDistinct (ids_of journals.now) }
+    requires rising { NoneFalls journals.now }
+    ensures ok { OnOk result (NoneTwice journals.now) }
+    ensures err { IfErr result (IsFault journals.now) }
 {
     let mut counts = vec![in alloc; 0; journals.len()]?;
     let mut last = None;

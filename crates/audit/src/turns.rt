@@ -5,9 +5,9 @@ ghost use Rattle.std.specs.Option.{option_copied};
 ghost use Rattle.journal.specs.Entry.{Entry as Entered};
 ghost use Rattle.world.specs.Represents.{log_at};
 ghost use Rattle.journal.specs.Stamps.{stamp_of};
-ghost use Rattle.audit.specs.Turns.{logs_of, count_at, IsHead, IsHeadOf, IsHeadNotAfter, IsNextBelow, NoneBelow};
+ghost use Rattle.audit.specs.Turns.{count_at, IsHead, IsHeadOf, IsHeadNotAfter, IsNextBelow, NoneBelow};
 
-use journal::{Entry, Journal};
+use journal::{Entry, Whole};
 
 /// The first entry of a journal that is to come.
 #[derive(Clone, Copy, Drop)]
@@ -27,23 +27,23 @@ impl Head {
 }
 
 // Whose journal the one with this index is.
-pub(crate) fn vnode_at(journals: &[&Journal], index: usize) -> u32
+pub(crate) fn vnode_at(journals: &[Whole<'_>], index: usize) -> u32
     requires { index < length journals.now }
-    ensures { result ≡ (log_at (logs_of journals.now) index).vnode }
+    ensures { result ≡ (log_at journals.now index).vnode }
 {
     journals[index].vnode()
 }
 
 // The entry at a place of the journal with this index.
-pub(crate) fn entry_at<'a>(
-    journals: &'a [&'a Journal],
+pub(crate) fn entry_at<'a, 'b>(
+    journals: &'a [Whole<'b>],
     index: usize,
     place: usize,
 ) -> Option<&'a Entry>
     requires { index < length journals.now }
-    ensures { option_copied result ≡ slice_get (log_at (logs_of journals.now) index).entries place }
+    ensures { option_copied result ≡ slice_get (log_at journals.now index).entries place }
 {
-    let journal = journals[index];
+    let journal = &journals[index];
     if place < journal.len() {
         journal.get(place as u32)
     } else {
@@ -52,10 +52,10 @@ pub(crate) fn entry_at<'a>(
 }
 
 // The first entry of a journal that is to come, where there is one.
-fn head_of(journals: &[&Journal], counts: &[usize], index: usize) -> Option<Head>
+fn head_of(journals: &[Whole<'_>], counts: &[usize], index: usize) -> Option<Head>
     requires inside { index < length journals.now }
     requires size { length counts.now ≡ length journals.now }
-    ensures { MatchOption result ((e : Entered) → IsHead (logs_of journals.now) counts.now index e → ⊥) (λ head. IsHeadOf (logs_of journals.now) counts.now index head) }
+    ensures { MatchOption result ((e : Entered) → IsHead journals.now counts.now index e → ⊥) (λ head. IsHeadOf journals.now counts.now index head) }
 {
     match entry_at(journals, index, counts[index]) {
         Some(entry) => Some(Head {
@@ -80,9 +80,9 @@ fn first_of(a: Option<Head>, b: Option<Head>) -> Option<Head>
 }
 
 // The next entry of all: the first by stamp and then by vnode, where any is to come.
-pub(crate) fn next_of(journals: &[&Journal], counts: &[usize]) -> Option<Head>
+pub(crate) fn next_of(journals: &[Whole<'_>], counts: &[usize]) -> Option<Head>
     requires size { length counts.now ≡ length journals.now }
-    ensures { MatchOption result (NoneBelow (logs_of journals.now) counts.now (length journals.now)) (λ head. IsNextBelow (logs_of journals.now) counts.now (length journals.now) head) }
+    ensures { MatchOption result (NoneBelow journals.now counts.now (length journals.now)) (λ head. IsNextBelow journals.now counts.now (length journals.now) head) }
 {
     let mut next = None;
     for index in 0..journals.len() {

@@ -3,3 +3,4 @@
 mod faults;
 mod judging;
 mod runs;
+mod settling;

@@ -10,8 +10,17 @@ use Rattle.vnode.specs.Refusals.{RefusesPut, RefusesMerge, RefusesEntry}
 use Rattle.vnode.specs.declared.fault.VnodeFault.{VnodeFault}
 use Rattle.calls.specs.declared.request.Request.{Request}
 use Rattle.calls.specs.declared.request.Request.TheVariants as request
+use Rattle.calls.specs.declared.request.Prepared.{Prepared}
+use Rattle.calls.specs.declared.request.Prepared.TheVariants as prepared
 use Rattle.calls.specs.declared.request.Reply.{Reply}
 use Rattle.calls.specs.declared.request.Reply.TheVariants as reply
+
+-- the request that was prepared
+abbrev pub asked : Prepared → Request
+asked (prepared.Put write) = request.Put write.value.key write.value.seen write.value.content
+asked (prepared.Merge merged) = request.Merge merged.value.key merged.value.from merged.value.at merged.value.state
+asked (prepared.Read key) = request.Read key.now
+asked prepared.Restart = request.Restart
 
 -- the dot that a reply tells, and none else
 abbrev pub dot_of : Reply → dvv.Dot

@@ -1,3 +1,4 @@
 pub mod Trimmed
 pub mod Parts
 pub mod Counting
+mod Telling

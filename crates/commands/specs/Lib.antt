@@ -3,4 +3,5 @@ pub mod Own
 pub mod Run
 pub mod Verdict
 pub mod Words
+pub mod Audited
 pub mod Command

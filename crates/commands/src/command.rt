@@ -1,9 +1,10 @@
 //! The commands of the program.
-ghost use Rattle.std.specs.Prelude.{◌≡◌, ℕ, ◌<◌, ◌≤◌, List, Option, OnOk, IfOk};
+ghost use Rattle.std.specs.Prelude.{◌≡◌, ℕ, ◌<◌, ◌≤◌, List, Option, OnOk, IfOk, IsErr, vec_len};
 ghost use Rattle.std.specs.Borrow.{Bor};
 ghost use Rattle.commands.specs.Words.{request_of};
 ghost use Rattle.commands.specs.Command.{Judged, Ran, Served, SimulatedFile};
 
+use crate::audited::tell;
 use crate::failure::Failure;
 use crate::files::Files;
 use crate::run::run;
@@ -15,9 +16,6 @@ use helpers::Table;
 use std::alloc::Global;
 use std::io::Write;
 
-/// The status where connections were served.
-const DONE: u8 = 0;
-
 /// The status where memory was refused for the store.
 const REFUSED: u8 = 1;
 
@@ -25,32 +23,29 @@ const REFUSED: u8 = 1;
 const FAILED: u8 = 2;
 
 /// Does what the words ask for. Gives the status of the program: 0 where it is done, 1 where it was refused, and 2 after a bad line of a
-/// script, which is told on `out` and why on `err`, or a [`Failure`], whose name is then all that stands on `err`.
+/// script, which is told on `out` and why on `err`, or a [`Failure`], whose name is then all that stands on `err`. Programs that are run may
+/// call the helpers of `table`; where the store is served, `more` are the tables of further workers.
 pub fn command<F: Files, S: Server, O: Write, E: Write>(
     alloc: Global,
     table: Table,
+    more: Vec<Table>,
     words: &[&str],
     files: &mut F,
     server: &mut S,
     out: &mut O,
     err: &mut E,
 ) -> u8
+    requires ready { S.ready }
+    requires few { vec_len more < 16 }
     ensures status { result ≤ 2 }
     ensures ran { (image input : Bor (List ℕ)) → request_of words.now ≡ Some (Request.Run image input) → result < 2 → Ran table.listed (F.held files.old image.now) (F.held files.old input.now) (O.contents out.old) (O.contents out.new) result }
     ensures judged { (image : Bor (List ℕ)) → request_of words.now ≡ Some (Request.Verify image) → result < 2 → Judged table.listed (F.held files.old image.now) (O.contents out.old) (O.contents out.new) result }
     ensures simulated { (script : Bor (List ℕ)) → request_of words.now ≡ Some (Request.Sim script) → result < 2 → SimulatedFile table.listed (F.held files.old script.now) (O.contents out.old) (O.contents out.new) result }
-    ensures served { (addr : Bor (List ℕ)) (count : Option ℕ) → request_of words.now ≡ Some (Request.Serve addr count) → result < 2 → Served (O.contents out.old) (O.contents out.new) result }
+    ensures served { (addr : Bor (List ℕ)) (workers : ℕ) (count : Option ℕ) → request_of words.now ≡ Some (Request.Serve addr workers count) → result < 2 → Served (O.contents out.old) (O.contents out.new) result }
     ensures wrong_words { request_of words.now ≡ None → result ≡ 2 }
     ensures untouched { request_of words.now ≡ None → out.new ≡ out.old }
 {
-    let done = match parse(words) {
-        Some(Request::Run { image, input }) => run(alloc, &table, image, input, files, out),
-        Some(Request::Verify { image }) => verify(alloc, &table, image, files, out),
-        Some(Request::Sim { script }) => simulate(alloc, &table, script, files, out, err),
-        Some(Request::Serve { addr, count }) => serve(alloc, table, addr, count, server, out),
-        None => Err(Failure::Usage),
-    };
-    match done {
+    match done(alloc, table, more, words, files, server, out, err) {
         Ok(status) => status,
         Err(failure) => {
             // A failure that cannot be told leaves the status alone to tell of it.
@@ -60,20 +55,55 @@ pub fn command<F: Files, S: Server, O: Write, E: Write>(
     }
 }
 
-/// Serves the store at an address, and gives the status. Want of memory before that is told on `out`.
+/// Does what the words ask for, and gives the status. The error is not told yet.
+fn done<F: Files, S: Server, O: Write, E: Write>(
+    alloc: Global,
+    table: Table,
+    more: Vec<Table>,
+    words: &[&str],
+    files: &mut F,
+    server: &mut S,
+    out: &mut O,
+    err: &mut E,
+) -> Result<u8, Failure>
+    requires ready { S.ready }
+    requires few { vec_len more < 16 }
+    ensures status { IfOk result (λ status. status ≤ 2) }
+    ensures ran { (image input : Bor (List ℕ)) → request_of words.now ≡ Some (Request.Run image input) → IfOk result (λ status. status < 2 → Ran table.listed (F.held files.old image.now) (F.held files.old input.now) (O.contents out.old) (O.contents out.new) status) }
+    ensures judged { (image : Bor (List ℕ)) → request_of words.now ≡ Some (Request.Verify image) → IfOk result (λ status. status < 2 → Judged table.listed (F.held files.old image.now) (O.contents out.old) (O.contents out.new) status) }
+    ensures simulated { (script : Bor (List ℕ)) → request_of words.now ≡ Some (Request.Sim script) → IfOk result (λ status. status < 2 → SimulatedFile table.listed (F.held files.old script.now) (O.contents out.old) (O.contents out.new) status) }
+    ensures served { (addr : Bor (List ℕ)) (workers : ℕ) (count : Option ℕ) → request_of words.now ≡ Some (Request.Serve addr workers count) → IfOk result (λ status. status < 2 → Served (O.contents out.old) (O.contents out.new) status) }
+    ensures wrong_words { request_of words.now ≡ None → IsErr result × (out.new ≡ out.old) }
+{
+    match parse(words) {
+        Some(Request::Run { image, input }) => run(alloc, &table, image, input, files, out),
+        Some(Request::Verify { image }) => verify(alloc, &table, image, files, out),
+        Some(Request::Sim { script }) => simulate(alloc, &table, script, files, out, err),
+        Some(Request::Serve { addr, count, .. }) => serve(
+            alloc, table, more, addr, count, server, out,
+        ),
+        None => Err(Failure::Usage),
+    }
+}
+
+/// Serves the store at an address, tells what the audit of its journals says, and gives the status. Want of memory before that is told
+/// on `out`.
 fn serve<S: Server, O: Write>(
     alloc: Global,
     table: Table,
+    more: Vec<Table>,
     addr: &str,
     count: Option<u32>,
     server: &mut S,
     out: &mut O,
 ) -> Result<u8, Failure>
+    requires ready { S.ready }
+    requires few { vec_len more < 16 }
     ensures status { IfOk result (λ status. status ≤ 2) }
     ensures served { IfOk result (Served (O.contents out.old) (O.contents out.new)) }
 {
-    match server.serve(alloc, table, addr, count, out) {
-        Ok(()) => Ok(DONE),
+    match server.serve(alloc, table, more, addr, count, out) {
+        Ok(audited) => tell(audited, out),
         Err(Unserved::NoMemory) => {
             out.write_all(b"E1\n")?;
             Ok(REFUSED)

@@ -1,6 +1,7 @@
 //! The commands of the program: what its words ask for, done on files and told on outputs that the caller lends.
 #![tactic(auto)]
 
+pub mod audited;
 pub mod command;
 pub mod failure;
 pub mod files;
@@ -9,5 +10,6 @@ pub mod own;
 pub mod run;
 pub mod server;
 pub mod simulate;
+mod tables;
 pub mod verify;
 pub mod words;

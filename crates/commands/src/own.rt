@@ -1,6 +1,6 @@
 //! The helpers that hooks of this program may call.
 
-ghost use Rattle.std.specs.Prelude.{◌≡◌, ◌≤◌, ◌<◌, ◌^◌, ℕ, List, length, max, IfOk, OnOk, IsSome, ◌++◌, ◌∷◌, [], Option, None, Some};
+ghost use Rattle.std.specs.Prelude.{◌≡◌, ◌≤◌, ◌<◌, ◌+◌, ◌^◌, ℕ, List, length, max, IfOk, OnOk, IsSome, ◌++◌, ◌∷◌, [], Option, None, Some};
 ghost use Rattle.std.specs.Borrow.{Bor};
 ghost use Rattle.helpers.specs.Text.{order_of, place_of, spelled};
 ghost use Rattle.helpers.specs.Layout.{newest_of};
@@ -15,7 +15,8 @@ ghost use Rattle.commands.specs.Words.{request_of};
 use crate::command::command;
 use crate::files::Files;
 use crate::server::Server;
-use crate::words::Request;
+use crate::tables::OwnTables;
+use crate::words::{Request, parse};
 use helpers::{
     ArgRule, Body, Helper, HelperFault, Sig, Table, decimal, find, newest, order, written_sig,
 };
@@ -50,7 +51,7 @@ fn add(table: &mut Table, number: u32, sig: Sig, body: Body) -> Result<(), Alloc
 }
 
 /// Does what the words ask for, as [`command`] does, where hooks may call the written helpers 16 to 19 and two of this program: 64, a number
-/// modulo 8, and 65, modulo 9. Fails only for want of memory for these.
+/// modulo 8, and 65, modulo 9. Where the store is served, each worker has a table of its own. Fails only for want of memory for these.
 pub fn command_with_helpers<F: Files, S: Server, O: Write, E: Write>(
     alloc: Global,
     words: &[&str],
@@ -59,61 +60,78 @@ pub fn command_with_helpers<F: Files, S: Server, O: Write, E: Write>(
     out: &mut O,
     err: &mut E,
 ) -> Result<u8, AllocError>
+    requires ready { S.ready }
     ensures status { IfOk result (λ status. status ≤ 2) }
     ensures ran { (image input : Bor (List ℕ)) → request_of words.now ≡ Some (Request.Run image input) → IfOk result (λ status. status < 2 → (sigs : List Entry) × (shapes_of sigs ≡ own_shapes) × Ran sigs (F.held files.old image.now) (F.held files.old input.now) (O.contents out.old) (O.contents out.new) status) }
     ensures judged { (image : Bor (List ℕ)) → request_of words.now ≡ Some (Request.Verify image) → IfOk result (λ status. status < 2 → (sigs : List Entry) × (shapes_of sigs ≡ own_shapes) × Judged sigs (F.held files.old image.now) (O.contents out.old) (O.contents out.new) status) }
     ensures simulated { (script : Bor (List ℕ)) → request_of words.now ≡ Some (Request.Sim script) → IfOk result (λ status. status < 2 → (sigs : List Entry) × (shapes_of sigs ≡ own_shapes) × SimulatedFile sigs (F.held files.old script.now) (O.contents out.old) (O.contents out.new) status) }
-    ensures served { (addr : Bor (List ℕ)) (count : Option ℕ) → request_of words.now ≡ Some (Request.Serve addr count) → IfOk result (λ status. status < 2 → Served (O.contents out.old) (O.contents out.new) status) }
+    ensures served { (addr : Bor (List ℕ)) (workers : ℕ) (count : Option ℕ) → request_of words.now ≡ Some (Request.Serve addr workers count) → IfOk result (λ status. status < 2 → Served (O.contents out.old) (O.contents out.new) status) }
     ensures wrong_words { request_of words.now ≡ None → IfOk result (λ status. status ≡ 2) }
     ensures untouched { request_of words.now ≡ None → out.new ≡ out.old }
 {
-    let mut table = Table::new(alloc);
-    let body: Body = Box::new(
-        alloc,
-        |_numbers: [u64; 5], first: &[u8], second: &[u8]| -> u64
-            ensures value { result ≡ order_of first.now second.now }
-            ensures range { result ≤ 2 }
-        { order(first, second) },
-    )?;
-    add(&mut table, 16, own_written(16), body)?;
-    let body: Body = Box::new(
-        alloc,
-        |_numbers: [u64; 5], first: &[u8], second: &[u8]| -> u64
-            ensures value { result ≡ place_of first.now second.now }
-            ensures range { result ≤ max 1 (length first.now) }
-        { find(first, second) },
-    )?;
-    add(&mut table, 17, own_written(17), body)?;
-    let body: Body = Box::new(
-        alloc,
-        |_numbers: [u64; 5], first: &[u8], _second: &[u8]| -> u64
-            ensures { result ≡ spelled first.now }
-        { decimal(first) },
-    )?;
-    add(&mut table, 18, own_written(18), body)?;
-    let body: Body = Box::new(
-        alloc,
-        |_numbers: [u64; 5], first: &[u8], _second: &[u8]| -> u64
-            ensures value { result ≡ newest_of first.now }
-            ensures range { result ≤ 64 }
-        { newest(first) },
-    )?;
-    add(&mut table, 19, own_written(19), body)?;
-    let body: Body = Box::new(
-        alloc,
-        |numbers: [u64; 5], _first: &[u8], _second: &[u8]| -> u64
-            ensures { result ≤ 7 }
-        { numbers[0] % 8 },
-    )?;
-    add(&mut table, 64, one_number((0, 7)), body)?;
-    let body: Body = Box::new(
-        alloc,
-        |numbers: [u64; 5], _first: &[u8], _second: &[u8]| -> u64
-            ensures { result ≤ 8 }
-        { numbers[0] % 9 },
-    )?;
-    add(&mut table, 65, one_number((0, 8)), body)?;
-    Ok(command(alloc, table, words, files, server, out, err))
+    let mut own = OwnTables::new(alloc);
+    for _ in 0..tables_for(words) {
+        let mut table = Table::new(alloc);
+        let body: Body = Box::new(
+            alloc,
+            |_numbers: [u64; 5], first: &[u8], second: &[u8]| -> u64
+                ensures value { result ≡ order_of first.now second.now }
+                ensures range { result ≤ 2 }
+            { order(first, second) },
+        )?;
+        add(&mut table, 16, own_written(16), body)?;
+        let body: Body = Box::new(
+            alloc,
+            |_numbers: [u64; 5], first: &[u8], second: &[u8]| -> u64
+                ensures value { result ≡ place_of first.now second.now }
+                ensures range { result ≤ max 1 (length first.now) }
+            { find(first, second) },
+        )?;
+        add(&mut table, 17, own_written(17), body)?;
+        let body: Body = Box::new(
+            alloc,
+            |_numbers: [u64; 5], first: &[u8], _second: &[u8]| -> u64
+                ensures { result ≡ spelled first.now }
+            { decimal(first) },
+        )?;
+        add(&mut table, 18, own_written(18), body)?;
+        let body: Body = Box::new(
+            alloc,
+            |_numbers: [u64; 5], first: &[u8], _second: &[u8]| -> u64
+                ensures value { result ≡ newest_of first.now }
+                ensures range { result ≤ 64 }
+            { newest(first) },
+        )?;
+        add(&mut table, 19, own_written(19), body)?;
+        let body: Body = Box::new(
+            alloc,
+            |numbers: [u64; 5], _first: &[u8], _second: &[u8]| -> u64
+                ensures { result ≤ 7 }
+            { numbers[0] % 8 },
+        )?;
+        add(&mut table, 64, one_number((0, 7)), body)?;
+        let body: Body = Box::new(
+            alloc,
+            |numbers: [u64; 5], _first: &[u8], _second: &[u8]| -> u64
+                ensures { result ≤ 8 }
+            { numbers[0] % 9 },
+        )?;
+        add(&mut table, 65, one_number((0, 8)), body)?;
+        own.keep(table)?;
+    }
+    let (table, more) = own.split();
+    Ok(command(alloc, table, more, words, files, server, out, err))
+}
+
+/// How many tables what the words ask for takes: one for each worker that serves, else one.
+fn tables_for(words: &[&str]) -> u32
+    ensures some { 1 ≤ result }
+    ensures few { result ≤ 16 }
+{
+    match parse(words) {
+        Some(Request::Serve { workers, .. }) => workers.max(1),
+        _ => 1,
+    }
 }
 
 /// The Sig of a helper that reads one number of any size.

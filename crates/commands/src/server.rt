@@ -1,7 +1,8 @@
 //! Who serves the store.
-ghost use Rattle.std.specs.Prelude.{◌≡◌, OnOk, IfErr};
+ghost use Rattle.std.specs.Prelude.{◌≡◌, ◌<◌, OnOk, IfErr, vec_len};
 ghost use Rattle.commands.specs.Command.{Listened};
 
+use closing::Audited;
 use helpers::Table;
 use std::alloc::Global;
 use std::io;
@@ -28,16 +29,23 @@ impl From<io::Error> for Unserved {
 
 /// Serves the store over a network.
 pub trait Server {
+    /// What the types of the server have to meet, as that threads may share its handle.
+    ghost ready: { Type 0 } = { Unit {0} };
+
     /// Binds the address, tells on `out` which one it is, and answers connections, so many or without end, over a store whose hooks
-    /// may call the helpers of the table.
+    /// may call the helpers of the tables: by one worker for each table, `table` and those of `more`. Answers what the audit of the vnodes'
+    /// journals says then.
     fn serve<O: Write>(
         &mut self,
         alloc: Global,
         table: Table,
+        more: Vec<Table>,
         addr: &str,
         count: Option<u32>,
         out: &mut O,
-    ) -> Result<(), Unserved>
+    ) -> Result<Audited, Unserved>
+        requires ready { ready }
+        requires few { vec_len more < 16 }
         ensures told { OnOk result (Listened (O.contents out.old) (O.contents out.new)) }
         ensures untold { IfErr result (λ why. why ≡ Unserved.NoMemory → O.contents out.new ≡ O.contents out.old) };
 }
@@ -51,10 +59,11 @@ impl Server for Offline {
         &mut self,
         _alloc: Global,
         _table: Table,
+        _more: Vec<Table>,
         _addr: &str,
         _count: Option<u32>,
         _out: &mut O,
-    ) -> Result<(), Unserved> {
+    ) -> Result<Audited, Unserved> {
         Err(Unserved::Unreadable)
     }
 }

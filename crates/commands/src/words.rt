@@ -6,14 +6,28 @@ ghost use Rattle.commands.specs.Words.{count_of, request_of, served_by};
 #[derive(Clone, Copy)]
 pub enum Request<'a> {
     /// To run the program in the file `image` on the bytes of the file `input`.
-    Run { image: &'a str, input: &'a str },
+    Run {
+        image: &'a str,
+        input: &'a str,
+    },
     /// To say whether the program in the file is let in.
-    Verify { image: &'a str },
+    Verify {
+        image: &'a str,
+    },
     /// To run the script in the file.
-    Sim { script: &'a str },
-    /// To serve the store at an address, by one worker: so many connections, or without end.
-    Serve { addr: &'a str, count: Option<u32> },
+    Sim {
+        script: &'a str,
+    },
+    /// To serve the store at an address, by 1 to 16 workers: so many connections, or without end.
+    Serve {
+        addr: &'a str,
+        workers: u32,
+        count: Option<u32>,
+    },
 }
+
+/// The most workers.
+const MOST_WORKERS: u32 = 16;
 
 /// What the words ask for, where they are those of a command.
 pub fn parse<'a>(words: &[&'a str]) -> Option<Request<'a>>
@@ -42,15 +56,19 @@ pub fn parse<'a>(words: &[&'a str]) -> Option<Request<'a>>
     }
 }
 
-/// To serve at an address, where one worker is asked for.
+/// To serve at an address, where the word asks for so many workers as there may be.
 fn served<'a>(addr: &'a str, workers: &str, count: Option<u32>) -> Option<Request<'a>>
-    ensures { result ≡ served_by addr.entry workers.now count }
+    ensures { result ≡ served_by addr.entry (count_of workers.now) count }
 {
-    if workers == "1" {
-        Some(Request::Serve { addr, count })
-    } else {
-        None
+    let workers = count_in(workers)?;
+    if workers > MOST_WORKERS {
+        return None;
     }
+    Some(Request::Serve {
+        addr,
+        workers,
+        count,
+    })
 }
 
 /// The number of 1 to `2^32 - 1` that a decimal without sign and leading zeros spells.

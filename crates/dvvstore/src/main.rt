@@ -1,8 +1,10 @@
 //! A store that keeps siblings, with hooks in BPF: the program.
 #![tactic(auto)]
 
+mod crew;
 mod disk;
 mod network;
+mod session;
 
 use crate::disk::Disk;
 use crate::network::Network;

@@ -1,16 +1,19 @@
 //! The network of the system.
 
+use crate::session;
+use closing::Audited;
 use commands::server::{Server, Unserved};
 use helpers::Table;
-use local::Local;
-use serving::one_thread;
+use listener::{Entrance, listen};
 use std::alloc::Global;
 use std::io::Write;
 use std::net::{Net, TcpListener, TcpStream};
 use std::rt::Clock;
+use std::sync::Wait;
+use std::thread::Threads;
 
-/// How many vnodes there are.
-const VNODES: u32 = 3;
+/// How many identifiers of vnodes a start has.
+const IDENTIFIERS: u32 = 65_536;
 
 /// The network of the system.
 #[derive(Drop)]
@@ -29,20 +32,27 @@ impl<R: Clock> Network<'_, R> {
     }
 }
 
-impl<R: Clock + Net<Listener = TcpListener, Stream = TcpStream>> Server for Network<'_, R> {
+impl<R: Clock + Threads + Wait + Net<Listener = TcpListener, Stream = TcpStream> + Sync> Server
+    for Network<'_, R> {
+    ghost use denote.Param.Send.{IsSync};
+
+    ghost ready = { IsSync R.row };
+
     fn serve<O: Write>(
         &mut self,
         alloc: Global,
         table: Table,
+        mut more: Vec<Table>,
         addr: &str,
         count: Option<u32>,
         out: &mut O,
-    ) -> Result<(), Unserved> {
-        let Ok(vnodes) = Local::open(alloc, VNODES, self.incarnation()) else {
+    ) -> Result<Audited, Unserved> {
+        let first = u32::from(self.incarnation()) * IDENTIFIERS;
+        if more.push(table).is_err() {
             return Err(Unserved::NoMemory);
-        };
-        let mut store = one_thread(alloc, vnodes, table);
-        listener::serve(self.rt, alloc, &mut store, addr, count, out)?;
-        Ok(())
+        }
+        let listener = listen(self.rt, addr, out)?;
+        let entrance = Entrance::new(listener, count);
+        Ok(session::serve(alloc, self.rt, first, more, &entrance))
     }
 }

@@ -1,5 +1,6 @@
 //! The bytes of one connection, in the place of a network.
 
+use closing::{Audited, CloseFault};
 use commands::server::{Server, Unserved};
 use helpers::Table;
 use httpfront::answers_to;
@@ -28,10 +29,11 @@ impl Server for Dialogue<'_> {
         &mut self,
         alloc: Global,
         table: Table,
+        _more: Vec<Table>,
         addr: &str,
         _count: Option<u32>,
         out: &mut O,
-    ) -> Result<(), Unserved> {
+    ) -> Result<Audited, Unserved> {
         let Ok(vnodes) = Local::open(alloc, VNODES, INCARNATION) else {
             return Err(Unserved::NoMemory);
         };
@@ -40,7 +42,8 @@ impl Server for Dialogue<'_> {
         match answers_to(alloc, self.requests, &mut store) {
             Ok(answers) => {
                 self.answers = answers;
-                Ok(())
+                // The journals are gone with the store: no audit is made.
+                Ok(Err(CloseFault::HandedOut))
             }
             Err(_) => Err(Unserved::Unreadable),
         }

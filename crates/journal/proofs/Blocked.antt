@@ -4,10 +4,7 @@ use Rattle.std.specs.List.{All, flat_map}
 use Rattle.std.specs.Global.{Vec}
 use Rattle.std.proofs.lemmas.List.Elements.{All-head, All-tail}
 use Rattle.journal.specs.Entry.{Entry}
-use Rattle.journal.specs.Blocks.{in_blocks}
-
-abbrev pub IsFullBlock : Vec Entry → Type 0
-IsFullBlock block = length block.items ≡ 1024
+use Rattle.journal.specs.Blocks.{all_of, in_blocks, IsFullBlock}
 
 module _ {X : Type 0} where
   in_front : (xs ys : List X) (i : ℕ) → i < length xs → slice_get (xs ++ ys) i ≡ slice_get xs i
@@ -56,3 +53,11 @@ module _ (last : List Entry) where
       → slice_get (in_blocks closed last) k ≡ slice_get last (k - length closed * 1024)
   in_last closed full k past =
       behind (flat_map (λ b. b.items) closed) last k (k - length closed * 1024) (let size = long closed full in let whole = length-append (flat_map (λ b. b.items) closed) last in omega arith)
+
+-- where there is a full block there is an entry
+pub has_entry : (blocks : List (Vec Entry)) → All IsFullBlock blocks → 1 ≤ length blocks → 1 ≤ length (all_of blocks)
+has_entry [] full here = absurd (omega (arith, here))
+has_entry (block ∷ blocks) full here =
+    let size = All-head IsFullBlock block blocks full in
+    let whole = length-append block.items (all_of blocks) in
+    omega (arith, size, whole)

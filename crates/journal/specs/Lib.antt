@@ -11,3 +11,4 @@ pub mod Answers
 pub mod Brought
 pub mod Rows
 pub mod Blocks
+pub mod Fronts

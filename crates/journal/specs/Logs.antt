@@ -15,7 +15,8 @@ pub record Log : Type 0 where
 abbrev pub with_entry : Log → Entry → Log
 with_entry log e = record { vnode = log.vnode; entries = log.entries ++ e ∷ [] }
 
--- a log, and how many entries can be added before it has to grow
+-- a log, how many of its entries were handed out, and how many can be added before it has to grow
 pub record RoomyLog : Type 0 where
   pub log : Log
+  pub first : ℕ
   pub room : ℕ

@@ -1,12 +1,14 @@
 //! A list of entries that only grows.
 
-ghost use Rattle.std.specs.Prelude.{◌≡◌, ◌≤◌, ◌<◌, ◌↔◌, OnOk, OnErr, IfOk, [], length, Err, IsTrue, false, slice_get, ◌++◌, ◌∷◌};
+ghost use Rattle.std.specs.Prelude.{◌≡◌, ◌+◌, ◌≤◌, ◌<◌, ◌↔◌, OnOk, OnErr, IfOk, [], length, Err, IsTrue, None, false, slice_get, drop, ◌++◌};
 ghost use Rattle.std.specs.Option.{option_copied};
+ghost use Rattle.journal.specs.Blocks.{all_of, AreHandedOut};
 
+use crate::blocks::Blocks;
 use crate::entry::Entry;
+use crate::front::{Front, Handout, hand_out};
 use std::alloc::{AllocError, Global};
 use std::marker::Model;
-use std::mem;
 use thiserror::Error;
 
 /// The most entries of a journal: a place is a `u32`.
@@ -34,32 +36,26 @@ impl From<AllocError> for JournalFault {
     }
 }
 
-/// How many entries a block holds. A block that is full is never copied again.
-const BLOCK: usize = 1024;
-
-/// The entries of one vnode, oldest first. Their places count from 0.
-///
-/// They lie in blocks, so that a growth copies one block at most.
-#[derive(Debug, Drop)]
+/// The entries of one vnode, oldest first. Their places count from 0. Those before the first that is here were handed out: they
+/// stand in the journal as before, and take no memory there.
+#[derive(Drop)]
 pub struct Journal {
-    alloc: Global,
     vnode: u32,
-    /// Full blocks.
-    closed: Vec<Vec<Entry>>,
-    /// The block that entries are added to.
-    last: Vec<Entry>,
+    front: Front,
+    first: usize,
+    here: Blocks,
 }
 
 impl Model for Journal {
-    ghost use Rattle.std.specs.Prelude.{◌≤◌, length, vec_len, vec_capacity};
+    ghost use Rattle.std.specs.Prelude.{◌≡◌, ◌+◌, ◌≤◌, ◌++◌, length};
     ghost use Rattle.journal.specs.Logs.{RoomyLog, max_entries};
-    ghost use Rattle.journal.specs.Blocks.{in_blocks, room_in, AreBlocks};
+    ghost use Rattle.journal.specs.Fronts.{front_of};
 
     ghost Value = { RoomyLog };
 
-    ghost view = { λ j. record { log = record { vnode = j.vnode; entries = in_blocks j.closed.items j.last.items }; room = room_in (vec_capacity j.last) (vec_len j.last) } };
+    ghost view = { λ j. record { log = record { vnode = j.vnode; entries = front_of j.front ++ j.here.entries }; first = j.first; room = j.here.room } };
 
-    ghost invariant = { λ j. AreBlocks j.closed.items j.last.items × (length (in_blocks j.closed.items j.last.items) ≤ max_entries) };
+    ghost invariant = { λ j. (j.first ≡ length (front_of j.front)) × (j.first + length j.here.entries ≤ max_entries) };
 }
 
 impl Journal {
@@ -68,13 +64,14 @@ impl Journal {
 
     /// No entry.
     pub fn new(alloc: Global, vnode: u32) -> Self
-        ensures { result.log ≡ record { vnode = vnode; entries = [] } }
+        ensures log { result.log ≡ record { vnode = vnode; entries = [] } }
+        ensures first { result.first ≡ 0 }
     {
         Journal {
-            alloc,
             vnode,
-            closed: Vec::new(alloc),
-            last: Vec::new(alloc),
+            front: None,
+            first: 0,
+            here: Blocks::new(alloc),
         }
     }
 
@@ -85,12 +82,20 @@ impl Journal {
         self.vnode
     }
 
-    /// How many entries there are.
+    /// How many entries there are, those that were handed out too.
     pub fn len(&self) -> usize
         ensures len { result ≡ length self.now.log.entries }
         ensures limit { result ≤ max_entries }
     {
-        self.closed.len() * BLOCK + self.last.len()
+        self.first + self.here.len()
+    }
+
+    /// The place of the first entry that is here: so many were handed out.
+    pub fn first(&self) -> usize
+        ensures first { result ≡ self.now.first }
+        ensures within { result ≤ length self.now.log.entries }
+    {
+        self.first
     }
 
     /// Whether there is no entry.
@@ -108,15 +113,35 @@ impl Journal {
         self.len() == MAX_LENGTH
     }
 
-    /// The entry at a place.
+    /// The entry at a place. None where it was handed out, or there is none yet.
     pub fn get(&self, place: u32) -> Option<&Entry>
-        ensures { option_copied result ≡ slice_get self.now.log.entries place }
+        ensures here { self.now.first ≤ place → option_copied result ≡ slice_get self.now.log.entries place }
+        ensures gone { place < self.now.first → result ≡ None }
     {
         let place = place as usize;
-        match self.closed.get(place / BLOCK) {
-            Some(block) => entry_at(block, place % BLOCK),
-            None => entry_at(&self.last, place - self.closed.len() * BLOCK),
+        if place < self.first {
+            return None;
         }
+        self.here.get(place - self.first)
+    }
+
+    /// Hands out the full blocks that are here, and takes room for the next ones. The journal has their entries as before; what is left here
+    /// is at most one block.
+    pub fn settle(&mut self, room: Vec<Vec<Entry>>) -> Handout
+        requires room { room.items ≡ [] }
+        ensures same { self.new.log ≡ self.old.log }
+        ensures first { result.first ≡ self.old.first }
+        ensures next { self.new.first ≡ self.old.first + length (all_of result.blocks.items) }
+        ensures entries { drop self.old.first self.old.log.entries ≡ all_of result.blocks.items ++ drop self.new.first self.old.log.entries }
+        ensures out { AreHandedOut self.old.log.entries result.first result.blocks.items }
+    {
+        let first = self.first;
+        let count = self.here.len();
+        let blocks = self.here.take_closed(room);
+        self.first += count - self.here.len();
+        let (front, blocks) = hand_out(self.front.take(), blocks);
+        self.front = front;
+        Handout { first, blocks }
     }
 
     /// Makes room for one more entry.
@@ -127,15 +152,12 @@ impl Journal {
         ensures memory { result ≡ Err JournalFault.NoMemory → TakesEntry self.old.log.entries }
         ensures grown { result ≡ Err JournalFault.NoMemory → self.old.room ≡ 0 }
         ensures same { self.new.log ≡ self.old.log }
+        ensures first { self.new.first ≡ self.old.first }
     {
         if self.is_full() {
             return Err(JournalFault::Full);
         }
-        if self.last.len() == BLOCK {
-            close_block(self.alloc, &mut self.closed, &mut self.last)?;
-        }
-        self.last.try_reserve(1)?;
-        Ok(())
+        Ok(self.here.reserve()?)
     }
 
     /// Adds an entry for which there is room, and answers its place.
@@ -144,9 +166,10 @@ impl Journal {
         requires below { TakesEntry self.old.log.entries }
         ensures place { result ≡ length self.old.log.entries }
         ensures entry { self.new.log ≡ with_entry self.old.log entry }
+        ensures first { self.new.first ≡ self.old.first }
     {
         let place = self.len() as u32;
-        let _ = self.last.push(entry);
+        self.here.append(entry);
         place
     }
 
@@ -158,32 +181,9 @@ impl Journal {
         ensures memory { result ≡ Err JournalFault.NoMemory → TakesEntry self.old.log.entries }
         ensures grown { result ≡ Err JournalFault.NoMemory → self.old.room ≡ 0 }
         ensures err { OnErr result (self.new.log ≡ self.old.log) }
+        ensures first { self.new.first ≡ self.old.first }
     {
         self.reserve()?;
         Ok(self.append(entry))
     }
-}
-
-// The entry at an index of a block.
-fn entry_at(block: &[Entry], index: usize) -> Option<&Entry>
-    ensures { option_copied result ≡ slice_get block.now index }
-{
-    block.get(index)
-}
-
-// Puts the last block behind the closed ones, and an empty one in its place.
-fn close_block(
-    alloc: Global,
-    closed: &mut Vec<Vec<Entry>>,
-    last: &mut Vec<Entry>,
-) -> Result<(), AllocError>
-    ensures closed { OnOk result (closed.new.items ≡ closed.old.items ++ last.old ∷ []) }
-    ensures empty { OnOk result (last.new.items ≡ []) }
-    ensures err { OnErr result ((closed.new.items ≡ closed.old.items) × (last.new ≡ last.old)) }
-{
-    closed.try_reserve(1)?;
-    let empty = Vec::with_capacity(alloc, BLOCK)?;
-    let full = mem::replace(last, empty);
-    let _ = closed.push(full);
-    Ok(())
 }

@@ -1,11 +1,14 @@
-//! The store behind a TCP socket, on one thread: connections are answered one after the other, over the same vnodes and hooks.
+//! The store behind a TCP socket: connections are answered one after the other, over the same vnodes and hooks, by one worker or by each
+//! of several that share the socket.
 #![tactic(auto)]
 
 mod connection;
 mod door;
+mod shared;
 mod start;
 mod visiting;
 
 pub use door::{Door, NoConnection};
-pub use start::serve;
+pub use shared::Entrance;
+pub use start::{listen, serve};
 pub use visiting::{MOST_FAILURES, Stopped, serve_all};

@@ -10,8 +10,8 @@ use std::io;
 use std::io::Write;
 use std::net::{Net, TcpListener, TcpStream};
 
-/// Binds the address and tells on `out` which one it is.
-fn listen<R: Net<Listener = TcpListener, Stream = TcpStream>, O: Write>(
+/// Binds the address and tells on `out` which one it is. The error: the address can't be bound, or `out` can't be written.
+pub fn listen<R: Net<Listener = TcpListener, Stream = TcpStream>, O: Write>(
     rt: &R,
     addr: &str,
     out: &mut O,

@@ -153,7 +153,7 @@ fn put_at(
 {
     match vnodes.get_mut(i) {
         None => Err(PeerFault::Lost),
-        Some(vnode) => match vnode.put(stamp, key, seen, content) {
+        Some(vnode) => match vnode.put_lent(stamp, key, seen, content) {
             Ok((dot, _)) => Ok(dot),
             Err(fault) => Err(PeerFault::Refused(fault)),
         },
@@ -175,7 +175,7 @@ fn merge_at(
 {
     match vnodes.get_mut(i) {
         None => Err(PeerFault::Lost),
-        Some(vnode) => match vnode.merge(stamp, key, from, at, state) {
+        Some(vnode) => match vnode.merge_lent(stamp, key, from, at, state) {
             Ok((changed, _)) => Ok(changed),
             Err(fault) => Err(PeerFault::Refused(fault)),
         },

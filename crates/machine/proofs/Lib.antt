@@ -13,3 +13,4 @@ pub mod Ended
 pub mod Agreeing
 pub mod Arms
 pub mod Reached
+pub mod LowRows

@@ -2,3 +2,4 @@ pub mod Stepped
 pub mod Running
 pub mod Called
 pub mod Settled
+pub mod LowRuns

@@ -1,5 +1,5 @@
 -- What a gathered cluster shows.
-use Rattle.std.specs.Prelude.{◌≡◌, ℕ, ◌==◌, if◌then◌else◌, List, [], ◌∷◌, ◌++◌, length, map}
+use Rattle.std.specs.Prelude.{◌≡◌, ℕ, ◌<◌, ◌==◌, if◌then◌else◌, List, [], ◌∷◌, ◌++◌, length, map, slice_index_or}
 use Rattle.std.specs.List.{Contains, flat_map}
 use Rattle.std.specs.List.Sorted.{IsStrictlyIncreasing}
 use Rattle.journal.specs.Entry.{Entry}
@@ -48,3 +48,11 @@ AreCounted ts (v ∷ vs) = (length v.entries ≡ receipts_of v.vnode ts) × IsSt
 -- the stamps of all journals
 abbrev pub journal_stamps : List Log → List ℕ
 journal_stamps vs = flat_map (λ v. map stamp_of v.entries) vs
+
+-- the identifiers of vnodes
+abbrev pub numbers_of : List Log → List ℕ
+numbers_of vs = map (λ v. v.vnode) vs
+
+-- no two vnodes have one identifier
+abbrev pub Differ : List Log → Type 0
+Differ vs = (i j : ℕ) → i < length (numbers_of vs) → j < length (numbers_of vs) → slice_index_or (numbers_of vs) i 0 ≡ slice_index_or (numbers_of vs) j 0 → i ≡ j

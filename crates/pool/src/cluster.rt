@@ -1,22 +1,25 @@
 //! The vnodes under their locks, and the word from which stamps are drawn.
-ghost use Rattle.std.specs.Prelude.{◌≡◌, ℕ, ◌+◌, ◌-◌, ◌*◌, ◌<◌, ◌≤◌, ◌^◌, [], ◌∷◌, ◌++◌, length, map, IfOk, IfErr, OnOk, vec_len, vec_capacity};
+ghost use Rattle.journal.specs.Blocks.{AreHandedOut};
+ghost use Rattle.journal.specs.Entry.{Entry as Entered};
+ghost use Rattle.std.specs.Prelude.{◌≡◌, ℕ, List, ◌+◌, ◌-◌, ◌*◌, ◌<◌, ◌≤◌, ◌^◌, [], ◌∷◌, ◌++◌, length, map, IfOk, IfErr, OnOk, vec_len, vec_capacity};
 ghost use Rattle.std.specs.List.{flat_map, All, Contains};
 ghost use Rattle.stamps.specs.declared.view.Told.{Told};
 ghost use Rattle.stamps.specs.Rule.{newcomer, nothing, fresh, times, call_of};
-ghost use Rattle.pool.specs.Gathers.{AreVnodes, IsGathered, AreCounted, Stands, journal_stamps};
+ghost use Rattle.pool.specs.Gathers.{AreVnodes, IsGathered, AreCounted, Stands, Differ, journal_stamps};
 ghost use Rattle.pool.specs.GatherFaults.{IsGatherFault};
 ghost use Rattle.pool.specs.Calls.{pass_view, undealt, IsNews, IsFault, AreKeysOf, outcome_ok};
 
 use crate::fault::{CallFault, GatherFault, Receipt};
 use crate::locked::Locked;
 use crate::pass::{Pass, Room};
-use calls::{Reply, Request};
+use calls::{Prepared, Reply, Request};
+use journal::{Entry, Handout};
 use object::Key;
-use stamps::{Card, Stamps};
+use stamps::{Card, STAMPS_EACH, Stamps};
 use std::alloc::{AllocError, Global};
 use std::marker::{Model, PhantomData};
 use std::sync::{Mutex, Wait};
-use vnode::Vnode;
+use vnode::{Vnode, VnodeFault};
 
 /// Is told of each call.
 pub trait Gate {
@@ -55,7 +58,8 @@ impl<B: Room> Cluster<B> {
     }
 
     /// Makes a call on the vnode of an index, under its lock. The answer is that of one thread at the receipt's place, which is above all
-    /// that the pass was told of there. Refused where the pass has drawn all its stamps; else as the vnode refuses it.
+    /// that the pass was told of there. Refused where the pass has drawn all its stamps; else where there is no memory for copies of the
+    /// request's parts, which are made before the lock is asked for, and no stamp is drawn; else as the vnode refuses it.
     pub fn call<R: Wait, G: Gate>(
         &self,
         rt: &R,
@@ -69,9 +73,16 @@ impl<B: Room> Cluster<B> {
         ensures err { IfErr result (IsFault pass.old pass.new (self.now.first + vnode) request.now) }
         ensures drawn { pass.new.drawn ≤ pass.old.drawn + 1 }
     {
+        if pass.drawn >= STAMPS_EACH {
+            return Err(CallFault::PassSpent);
+        }
+        // What the vnode is to keep is copied before its lock is asked for.
+        let Ok(made) = Prepared::new(self.alloc, request) else {
+            return Err(CallFault::Refused(VnodeFault::NoMemory));
+        };
         let mut guard = self.vnodes[vnode].lock(rt);
         gate.told(vnode);
-        guard.make(&self.stamps, pass, self.first + vnode as u32, request)
+        guard.make(&self.stamps, pass, self.first + vnode as u32, request, made)
     }
 }
 
@@ -90,6 +101,19 @@ impl<B: Room> Cluster<B> {
     {
         let mut guard = self.vnodes[vnode].lock(rt);
         guard.keys(&self.stamps, pass, self.first + vnode as u32)
+    }
+}
+
+impl<B: Room> Cluster<B> {
+    /// Hands out the full blocks of the journal of a vnode, under its lock, and takes room for the next ones. It is no event, and changes
+    /// nothing that a call answers.
+    pub fn settle<R: Wait>(&self, rt: &R, vnode: usize, room: Vec<Vec<Entry>>) -> Handout
+        requires vnode { vnode < self.now.vnodes }
+        requires room { room.items ≡ [] }
+        ensures { (front : List Entered) × AreHandedOut front result.first result.blocks.items }
+    {
+        let mut guard = self.vnodes[vnode].lock(rt);
+        guard.settle(room)
     }
 }
 
@@ -130,7 +154,7 @@ fn join_vnodes<B: Room>(
 
 impl<B: Room> Cluster<B> {
     /// The vnodes, once all passes are back. Whatever a pass was told stands in the journal of its vnode, each entry was told to one pass,
-    /// and no two have one stamp. Where it is refused, all is handed back.
+    /// no two have one stamp, and no two vnodes one identifier. Where it is refused, all is handed back.
     pub fn gather(
         self,
         passes: Vec<Pass<B>>,
@@ -139,6 +163,7 @@ impl<B: Room> Cluster<B> {
         ensures counted { IfOk result (λ vs. AreCounted (flat_map (λ p. p.told) passes.items) vs.items) }
         ensures apart { IfOk result (λ vs. (x : ℕ) → (times x (map (λ t. t.stamp) (flat_map (λ p. p.told) passes.items)) ≤ 1) × (times x (journal_stamps vs.items) ≤ 1)) }
         ensures stands { IfOk result (λ vs. (t : Told) → Contains (flat_map (λ p. p.told) passes.items) t → Stands vs.items t) }
+        ensures differ { IfOk result (λ vs. Differ vs.items) }
         ensures all { OnOk result (self.passes ≤ vec_len passes) }
         ensures err { IfErr result (λ e. (e.0 ≡ self) × (e.1.items ≡ passes.items) × IsGatherFault e.2 (vec_len passes) self.passes) }
     {

@@ -3,17 +3,20 @@
 ghost use Rattle.std.specs.Prelude.{◌≡◌, ◌+◌, ◌*◌, ◌<◌, ◌≤◌, ◌^◌, [], ◌∷◌, ◌++◌, length, IfOk, IfErr, OnOk, IsTrue, ◌↔◌, Err, false};
 ghost use Rattle.stamps.specs.Rule.{together, nothing, without_pass, pass_of, stamps_each, IsWithin, call_of};
 ghost use Rattle.std.specs.Prelude.{List};
-ghost use Rattle.journal.specs.Entry.{Entry};
+ghost use Rattle.journal.specs.Blocks.{AreHandedOut};
+ghost use Rattle.journal.specs.Entry.{Entry as Entered};
 ghost use Rattle.journal.specs.Journals.{IsJournal};
 ghost use Rattle.vnode.specs.Keys.{AreKeys};
+ghost use Rattle.calls.specs.Answered.{asked};
 ghost use Rattle.pool.specs.Answers.{IsVnodes, lacks_memory, log_of};
 ghost use Rattle.pool.specs.Calls.{pass_view, told_then, IsTold, IsNews, IsFault, outcome_ok};
 
 use crate::fault::{CallFault, Receipt};
 use crate::pass::{Pass, Room};
-use calls::{Reply, Request, answer};
+use calls::{Prepared, Reply, Request, answer};
+use journal::{Entry, Handout};
 use object::Key;
-use stamps::{Card, STAMPS_EACH, Stamps};
+use stamps::{Card, Stamps};
 use std::alloc::AllocError;
 use std::marker::{Model, PhantomData};
 use vnode::{Vnode, VnodeFault};
@@ -71,7 +74,9 @@ fn ask(
     card: &mut Card,
     pass: &mut Card,
     request: &Request,
+    prepared: Prepared<'_>,
 ) -> Asked
+    requires prepared { asked prepared ≡ request.now }
     requires table { (card.old.table_id ≡ stamps.now.table.shared.table_id) × (pass.old.table_id ≡ stamps.now.table.shared.table_id) }
     requires vnode { IsVnodes vnode.old card.old.me.0 }
     requires pass { pass.old.me.0 ≡ pass_view pass.old.me.0.drawn pass.old.me.0.told }
@@ -86,7 +91,7 @@ fn ask(
     lend(stamps, card, pass);
     let stamp = stamps.draw(card);
     let at = vnode.journal().len();
-    let outcome = answer(vnode, stamp, request);
+    let outcome = answer(vnode, stamp, prepared);
     if lacks_memory(&outcome) {
         stamps.forget(card);
         give_back(stamps, card, pass);
@@ -118,28 +123,35 @@ impl<B: Room> Model for Locked<B> {
 }
 
 impl<B: Room> Locked<B> {
-    /// Makes a call of the pass on this vnode, which has this identifier.
+    /// Makes a call of the pass, which can draw a stamp, on this vnode, which has this identifier. The request was prepared.
     pub fn make(
         &mut self,
         stamps: &Stamps,
         pass: &mut Pass<B>,
         id: u32,
         request: &Request,
+        prepared: Prepared<'_>,
     ) -> Result<(Reply, Receipt), CallFault>
-        requires { stamps.now.table.shared.table_id ≡ B.table }
+        requires table { stamps.now.table.shared.table_id ≡ B.table }
+        requires room { pass.old.drawn < stamps_each }
+        requires prepared { asked prepared ≡ request.now }
         ensures ok { IfOk result (λ r. (r.1.vnode ≡ id) × IsNews pass.old pass.new (call_of id r.1.place r.1.stamp request.now (outcome_ok r.0))) }
         ensures err { IfErr result (IsFault pass.old pass.new id request.now) }
         ensures drawn { pass.new.drawn ≤ pass.old.drawn + 1 }
     {
-        if pass.drawn >= STAMPS_EACH {
-            return Err(CallFault::PassSpent);
-        }
         let Locked { vnode, card, .. } = self;
         // Each vnode lies under the lock of its place. What is known of a lock doesn't say so: hence the test, which finds it so.
         if vnode.id() != id {
             return Err(CallFault::Refused(VnodeFault::NoMemory));
         }
-        let Asked { at, stamp, outcome } = ask(stamps, vnode, card, &mut pass.card, request);
+        let Asked { at, stamp, outcome } = ask(
+            stamps,
+            vnode,
+            card,
+            &mut pass.card,
+            request,
+            prepared,
+        );
         pass.drawn += 1;
         match outcome {
             Ok(reply) => Ok((
@@ -187,7 +199,7 @@ impl<B: Room> Locked<B> {
     ) -> Result<Vec<Key>, AllocError>
         requires { stamps.now.table.shared.table_id ≡ B.table }
         ensures same { (pass.new.told ≡ pass.old.told) × (pass.new.drawn ≡ pass.old.drawn) }
-        ensures ok { IfOk result (λ keys. (front : List Entry) × IsJournal id front × AreKeys (log_of id front) keys.items × IsWithin id (length front) pass.old.told) }
+        ensures ok { IfOk result (λ keys. (front : List Entered) × IsJournal id front × AreKeys (log_of id front) keys.items × IsWithin id (length front) pass.old.told) }
     {
         let Locked { vnode, card, .. } = self;
         // As in `make`.
@@ -196,6 +208,15 @@ impl<B: Room> Locked<B> {
         }
         let _journal = vnode.journal();
         look(stamps, vnode, card, &mut pass.card)
+    }
+
+    /// Hands out the full blocks of the vnode's journal, and takes room for the next ones. Nothing else changes.
+    pub fn settle(&mut self, room: Vec<Vec<Entry>>) -> Handout
+        requires room { room.items ≡ [] }
+        ensures same { self.new ≡ self.old }
+        ensures out { (front : List Entered) × AreHandedOut front result.first result.blocks.items }
+    {
+        self.vnode.settle(room)
     }
 
     /// A vnode beside the seat that has its history.

@@ -2,8 +2,8 @@
 
 mod building;
 mod gates;
-mod judging;
 mod passes;
 mod refusals;
 mod requests;
+mod settling;
 mod threads;

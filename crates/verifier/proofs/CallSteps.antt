@@ -1,6 +1,6 @@
 -- Calls: what is given to one that breaks no rule fits, and what it answers is admitted.
 use Rattle.std.proofs.Common.{◌≡◌, ◌≢◌, ℕ, zero, suc, pos, ◌-◌, ◌%◌, ◌^◌, ◌<◌, ◌≤◌, true, false, cond, not, leb, List, [], ◌∷◌, length, drop, replicate, Option, Some, None, refl, sym, ap, ◌∙◌, subst, inl, inr, ⊎_elim, arith, length-take, length-drop}
-use Rattle.std.specs.Prelude.{◌⊎◌, ◌+ℤ◌, map}
+use Rattle.std.specs.Prelude.{◌⊎◌, ◌+ℤ◌, map, slice_get}
 use Rattle.std.proofs.Math.Nat.{mod-lt}
 use Rattle.std.proofs.lemmas.Int.{ints}
 use Rattle.std.proofs.lemmas.Bool.{cases_eq, cases_Bool, and_parts, not-true, leb-true}
@@ -25,6 +25,9 @@ use Rattle.helpers.specs.Calls.{argument_registers, Spans, bytes_at, Copies, Fil
 use Rattle.verifier.specs.Program.{Program, HasLimits}
 use Rattle.verifier.specs.Registers.{Row, kind_at, is_inside, is_input_pointer}
 use Rattle.verifier.specs.CallKinds.{has_bytes, reaches, is_number, is_within, are_arguments, argument_kinds, is_read, is_written, is_given, answer_kind}
+use Rattle.verifier.specs.Lowered.{pieces_of, LiesIn, HasPieces, read_kinds, piece_kinds, region_of, region_at}
+use Rattle.lows.specs.Lows.{first_of, second_of}
+use Rattle.lows.specs.declared.pieces.Pieces.{Pieces}
 use Rattle.verifier.proofs.Words.{wrapped_small, bytes_take, bytes_drop, bytes_replicate}
 use Rattle.verifier.proofs.Fits.{FitsRow}
 use Rattle.verifier.proofs.Places.{IsMemory, place_in, covers_less, not_input, window_bytes, written_kept}
@@ -37,7 +40,7 @@ Fitting [] ns = Unit {0}
 Fitting (k ∷ ks) [] = ⊥
 Fitting (k ∷ ks) (n ∷ ns) = Admits k (Some n) × (n < 2 ^ 64) × Fitting ks ns
 
-abbrev FitsAt : Row → State → Register → Type 0
+abbrev pub FitsAt : Row → State → Register → Type 0
 FitsAt row s r = Admits (kind_at row r) (Some (number_in s r)) × (number_in s r < 2 ^ 64)
 
 arguments_fit : (row : Row) (s : State) → ((r : Register) → FitsAt row s r) → Fitting (argument_kinds row) (map (number_in s) argument_registers)
@@ -137,6 +140,66 @@ module _ (p : Program) (row : Row) (s : State) (limits : HasLimits p) (fits : Fi
     where
       never : false ≡ true → ⊥
       never e = cc
+
+  -- the same, of the region to which the pointer's kind leads
+  own_inside : (k : Kind) (a n size : ℕ) → Admits k (Some a) → a < 2 ^ 64 → n ≤ size → is_inside p k (pos 0) size ≡ true → Covers s.memory (region_of k) a n
+  unfolding inside
+  own_inside Unset a n size h w le t = cc
+  own_inside (Num lo hi) a n size h w le t = cc
+  own_inside (Ptr region lo hi) a n size h w le t = (inside (Ptr region lo hi) a n size h w le t).1
+
+  own_place : (limit : ℕ) (k len : Kind) (a n : ℕ) → Admits k (Some a) → a < 2 ^ 64 → Admits len (Some n) → reaches p limit k len ≡ true → Covers s.memory (region_of k) a n
+  own_place limit k Unset a n h w l t = cc
+  own_place limit k (Ptr q lo hi) a n h w l t = cc
+  own_place limit k (Num lo hi) a n h w l t =
+      ⊎_elim
+      (λ yes. own_inside k a n hi h w l.1 (ap (λ b. has_bytes p k (cond b (Some hi) None)) (sym yes) ∙ t))
+      (λ no. absurd (never (ap (λ b. has_bytes p k (cond b (Some hi) None)) (sym no) ∙ t)))
+      (cases_Bool (leb hi limit))
+    where
+      never : false ≡ true → ⊥
+      never e = cc
+
+  own_read : (r : Register) → is_read p row (kind_at row r) ≡ true → Covers s.memory (region_of (kind_at row r)) (number_in s r) (number_in s R3)
+  own_read r t = own_place 65536 (kind_at row r) (kind_at row R3) (number_in s r) (number_in s R3) (at r).0 (at r).1 (at R3).0 t
+
+  own_arguments : (rules : List ArgRule) (ks : List Kind) (ns : List ℕ) → Fitting ks ns → are_arguments p rules ks ≡ true → (j : ℕ) → LiesIn s.memory (region_at (read_kinds rules ks) j) (slice_get (places_of rules ns) j)
+  own_arguments [] ks ns h t j = tt
+  own_arguments (r ∷ rules) [] ns h t j = cc
+  own_arguments (r ∷ rules) (k ∷ ks) [] h t j = absurd h
+  own_arguments (rule.Unused ∷ rules) (k ∷ ks) (n ∷ ns) h t j = own_arguments rules ks ns h.2 (and_parts true (are_arguments p rules ks) t).1 j
+  own_arguments (rule.Num lo hi ∷ rules) (k ∷ ks) (n ∷ ns) h t j = own_arguments rules ks ns h.2 (and_parts (is_within lo hi k) (are_arguments p rules ks) t).1 j
+  own_arguments (rule.Read max ∷ rules) (k ∷ []) (n ∷ ns) h t j = let parts = and_parts (reaches p max k Unset) (are_arguments p rules []) t in absurd (never parts.0)
+    where
+      never : false ≡ true → ⊥
+      never e = cc
+  own_arguments (rule.Read max ∷ rules) (k ∷ l ∷ ks) (n ∷ []) h t j = absurd h.2
+  own_arguments (rule.Read max ∷ rules) (k ∷ l ∷ ks) (n ∷ len ∷ ns) h t zero =
+      own_place max k l n len h.0 h.1 h.2.0 (and_parts (reaches p max k l) (are_arguments p rules (l ∷ ks)) t).0
+  own_arguments (rule.Read max ∷ rules) (k ∷ l ∷ ks) (n ∷ len ∷ ns) h t (suc j) =
+      own_arguments rules (l ∷ ks) (len ∷ ns) h.2 (and_parts (reaches p max k l) (are_arguments p rules (l ∷ ks)) t).1 j
+  own_arguments (rule.Len ∷ rules) (k ∷ ks) (n ∷ ns) h t j = own_arguments rules ks ns h.2 (and_parts true (are_arguments p rules ks) t).1 j
+
+  own_pieces : (callee : Callee) → is_given p callee row ≡ true → (j : ℕ) → LiesIn s.memory (region_at (piece_kinds callee row) j) (slice_get (pieces_of callee s) j)
+  own_pieces Copy t zero =
+      own_read R1 (and_parts (is_read p row (kind_at row R1)) (not (is_input_pointer (kind_at row R1))) (and_parts (is_written p row (kind_at row R1)) (is_read p row (kind_at row R2)) t).0).0
+  own_pieces Copy t (suc zero) = own_read R2 (and_parts (is_written p row (kind_at row R1)) (is_read p row (kind_at row R2)) t).1
+  own_pieces Copy t (suc (suc j)) = tt
+  own_pieces Fill t zero =
+      own_read R1 (and_parts (is_read p row (kind_at row R1)) (not (is_input_pointer (kind_at row R1))) (and_parts (is_written p row (kind_at row R1)) (is_number (kind_at row R2)) t).0).0
+  own_pieces Fill t (suc j) = tt
+  own_pieces Same t zero = own_read R1 (and_parts (is_read p row (kind_at row R1)) (is_read p row (kind_at row R2)) t).0
+  own_pieces Same t (suc zero) = own_read R2 (and_parts (is_read p row (kind_at row R1)) (is_read p row (kind_at row R2)) t).1
+  own_pieces Same t (suc (suc j)) = tt
+  own_pieces (Helper sig) t j = own_arguments sig.args (argument_kinds row) (map (number_in s) argument_registers) (arguments_fit row s at) t j
+  own_pieces Unknown t j = tt
+
+  -- the bytes that a call is given lie where its slot says
+  pub has_pieces : (callee : Callee) (pieces : Pieces) → is_given p callee row ≡ true → first_of pieces ≡ region_at (piece_kinds callee row) 0 → second_of pieces ≡ region_at (piece_kinds callee row) 1 → HasPieces callee pieces s
+  has_pieces callee pieces t e f = (
+    subst (λ q. LiesIn s.memory q (slice_get (pieces_of callee s) 0)) (sym e) (own_pieces callee t 0),
+    subst (λ q. LiesIn s.memory q (slice_get (pieces_of callee s) 1)) (sym f) (own_pieces callee t 1),
+  )
 
   -- ---- the machine's own calls
   read_place : (r : Register) → is_read p row (kind_at row r) ≡ true → (region : Region) × Spans s.memory region (number_in s r) (number_in s R3) × (is_input_pointer (kind_at row r) ≡ false → region ≢ Input)

@@ -139,7 +139,7 @@ module _ (sound : IsSoundTable) (p : Program) (i : ℕ) (row : Row) (s : State) 
   at_operand (operand.Register r) = let h = at_reg r in (admits_number _ _ h.0, number_fits _ h.1)
   at_operand (operand.Immediate n) = ((omega arith, omega arith), wrapped_below 64 n)
 
-  at_number : (r : Register) → Admits (kind_at row r) (Some (number_in s r)) × (number_in s r < 2 ^ 64)
+  pub at_number : (r : Register) → Admits (kind_at row r) (Some (number_in s r)) × (number_in s r < 2 ^ 64)
   at_number r = let h = at_reg r in (admits_number _ _ h.0, number_fits _ h.1)
 
   reads_set : (rs : List Register) → any_unset row rs ≡ false → SomeUnset s rs → ⊥

@@ -5,6 +5,7 @@ mod callee;
 mod candidate;
 mod edges;
 mod kinds;
+mod pieces;
 pub mod rule;
 mod rules;
 mod slots;

@@ -3,9 +3,11 @@
 ghost use Rattle.std.specs.Prelude.{◌≡◌, ◌≢◌, ◌↔◌, Contains, OnOk, OnErr, IfOk, IfErr, [], length, Err};
 
 use crate::fault::VnodeFault;
-use crate::steps::{copies_at, keys_in, merge_at, put_at};
+use crate::steps::{
+    copies_at, keys_in, merge_at, merge_refusal_at, merged_of, put_at, put_refusal_at, write_of,
+};
 use dvv::{Clock, Dot};
-use journal::{Entry, Journal};
+use journal::{Entry, Handout, Journal, Merged, Write};
 use object::{Content, Key, KeyState};
 use std::alloc::{AllocError, Global};
 use std::collections::BTreeMap;
@@ -42,6 +44,7 @@ impl Vnode {
     ghost use Rattle.journal.specs.Journals.{IsJournal};
     ghost use Rattle.journal.specs.Answers.{TellsChange};
     ghost use Rattle.vnode.specs.declared.fault.VnodeFault.{VnodeFault};
+    ghost use Rattle.journal.specs.Blocks.{AreHandedOut};
     ghost use Rattle.vnode.specs.Refusals.{RefusesPut, RefusesMerge, RefusesEntry};
 
     /// A vnode at which nothing has happened.
@@ -79,8 +82,34 @@ impl Vnode {
         keys_in(self.alloc, &self.states)
     }
 
-    /// Writes a content that had seen what the context counts. Answers its dot, and the place of its entry.
-    pub fn put(
+    /// Writes a content that had seen what the context counts. Answers its dot, and the place of its entry, which takes the parts over.
+    /// Memory is asked for nothing but what the vnode itself keeps.
+    pub fn put(&mut self, stamp: u64, write: Box<Write>) -> Result<(Dot, u32), VnodeFault>
+        ensures dot { IfOk result (λ put. IsNextDot self.old.entries write.value.key self.old.vnode put.0) }
+        ensures place { IfOk result (λ put. put.1 ≡ length self.old.entries) }
+        ensures entry { IfOk result (λ put. self.new ≡ with_entry self.old (Put stamp write.value.key write.value.seen write.value.content put.0)) }
+        ensures accepts { OnOk result (AcceptsPut self.old.vnode self.old.entries write.value.key write.value.seen) }
+
+        // Each refusal comes exactly where its limit is the first that is passed; no memory is asked for before.
+        ensures why { IfErr result (RefusesPut self.old write.value.key write.value.seen) }
+        ensures exact { (fault : VnodeFault) → fault ≢ VnodeFault.NoMemory → RefusesPut self.old write.value.key write.value.seen fault → result ≡ Err fault }
+        ensures err { OnErr result (self.new ≡ self.old) }
+        ensures legal { IsJournal self.new.vnode self.new.entries }
+    {
+        let Write { key, seen, content } = &*write;
+        let dot = put_at(
+            self.alloc,
+            &mut self.states,
+            &mut self.journal,
+            key,
+            seen,
+            content,
+        )?;
+        Ok((dot, self.journal.append(Entry::put(stamp, write, dot))))
+    }
+
+    /// As [`put`](Vnode::put), of parts that are lent, and copied.
+    pub fn put_lent(
         &mut self,
         stamp: u64,
         key: &Key,
@@ -92,27 +121,48 @@ impl Vnode {
         ensures entry { IfOk result (λ put. self.new ≡ with_entry self.old (Put stamp key.now seen.now content.now put.0)) }
         ensures accepts { OnOk result (AcceptsPut self.old.vnode self.old.entries key.now seen.now) }
 
-        // Each refusal comes exactly where its limit is the first that is passed; no memory is asked for before.
+        // Want of memory is told only where no limit is passed.
         ensures why { IfErr result (RefusesPut self.old key.now seen.now) }
         ensures exact { (fault : VnodeFault) → fault ≢ VnodeFault.NoMemory → RefusesPut self.old key.now seen.now fault → result ≡ Err fault }
         ensures err { OnErr result (self.new ≡ self.old) }
         ensures legal { IsJournal self.new.vnode self.new.entries }
     {
-        let (dot, entry) = put_at(
-            self.alloc,
-            &mut self.states,
-            &mut self.journal,
-            stamp,
-            key,
-            seen,
-            content,
-        )?;
-        Ok((dot, self.journal.append(entry)))
+        match write_of(self.alloc, key, seen, content) {
+            Ok(write) => self.put(stamp, write),
+            Err(_) => Err(self.put_refusal(key, seen)),
+        }
+    }
+
+    // Why a put is refused that finds no memory.
+    fn put_refusal(&self, key: &Key, seen: &Clock) -> VnodeFault
+        ensures why { RefusesPut self.now key.now seen.now result }
+        ensures exact { (fault : VnodeFault) → RefusesPut self.now key.now seen.now fault → result ≡ fault }
+        ensures legal { IsJournal self.now.vnode self.now.entries }
+    {
+        put_refusal_at(self.alloc, &self.states, &self.journal, key, seen)
     }
 
     /// Merges the state that the vnode `from` answered at place `at` of its journal. Answers whether siblings or clock of
-    /// the key changed, and the place of the entry.
-    pub fn merge(
+    /// the key changed, and the place of the entry, which takes the parts over. Memory is asked for nothing but what the vnode itself
+    /// keeps.
+    pub fn merge(&mut self, stamp: u64, merged: Box<Merged>) -> Result<(bool, u32), VnodeFault>
+        ensures changed { IfOk result (λ merge. TellsChange self.old.entries (Merge stamp merged.value.key merged.value.from merged.value.at merged.value.state) merged.value.key merge.0) }
+        ensures place { IfOk result (λ merge. merge.1 ≡ length self.old.entries) }
+        ensures entry { OnOk result (self.new ≡ with_entry self.old (Merge stamp merged.value.key merged.value.from merged.value.at merged.value.state)) }
+        ensures accepts { OnOk result (AcceptsMerge self.old.entries merged.value.key merged.value.state) }
+
+        ensures why { IfErr result (RefusesMerge self.old merged.value.key merged.value.state) }
+        ensures exact { (fault : VnodeFault) → fault ≢ VnodeFault.NoMemory → RefusesMerge self.old merged.value.key merged.value.state fault → result ≡ Err fault }
+        ensures err { OnErr result (self.new ≡ self.old) }
+        ensures legal { IsJournal self.new.vnode self.new.entries }
+    {
+        let Merged { key, state, .. } = &*merged;
+        let changed = merge_at(self.alloc, &mut self.states, &mut self.journal, key, state)?;
+        Ok((changed, self.journal.append(Entry::merge(stamp, merged))))
+    }
+
+    /// As [`merge`](Vnode::merge), of parts that are lent, and copied.
+    pub fn merge_lent(
         &mut self,
         stamp: u64,
         key: &Key,
@@ -125,22 +175,25 @@ impl Vnode {
         ensures entry { OnOk result (self.new ≡ with_entry self.old (Merge stamp key.now from at state.now)) }
         ensures accepts { OnOk result (AcceptsMerge self.old.entries key.now state.now) }
 
+        // Want of memory is told only where no limit is passed.
         ensures why { IfErr result (RefusesMerge self.old key.now state.now) }
         ensures exact { (fault : VnodeFault) → fault ≢ VnodeFault.NoMemory → RefusesMerge self.old key.now state.now fault → result ≡ Err fault }
         ensures err { OnErr result (self.new ≡ self.old) }
         ensures legal { IsJournal self.new.vnode self.new.entries }
     {
-        let (changed, entry) = merge_at(
-            self.alloc,
-            &mut self.states,
-            &mut self.journal,
-            stamp,
-            key,
-            from,
-            at,
-            state,
-        )?;
-        Ok((changed, self.journal.append(entry)))
+        match merged_of(self.alloc, key, from, at, state) {
+            Ok(merged) => self.merge(stamp, merged),
+            Err(_) => Err(self.merge_refusal(key, state)),
+        }
+    }
+
+    // Why a merge is refused that finds no memory.
+    fn merge_refusal(&self, key: &Key, state: &KeyState) -> VnodeFault
+        ensures why { RefusesMerge self.now key.now state.now result }
+        ensures exact { (fault : VnodeFault) → RefusesMerge self.now key.now state.now fault → result ≡ fault }
+        ensures legal { IsJournal self.now.vnode self.now.entries }
+    {
+        merge_refusal_at(self.alloc, &self.states, &self.journal, key, state)
     }
 
     /// Copies the state of a key. Answers it, and the place of the entry.
@@ -174,5 +227,15 @@ impl Vnode {
     {
         self.journal.reserve()?;
         Ok(self.journal.append(Entry::restart(stamp)))
+    }
+
+    /// Hands out the full blocks of the journal that are still here, and takes room for the next ones. Nothing else changes: the vnode
+    /// answers as before.
+    pub fn settle(&mut self, room: Vec<Vec<Entry>>) -> Handout
+        requires room { room.items ≡ [] }
+        ensures same { self.new ≡ self.old }
+        ensures out { AreHandedOut self.old.entries result.first result.blocks.items }
+    {
+        self.journal.settle(room)
     }
 }

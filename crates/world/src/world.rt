@@ -170,7 +170,7 @@ fn put_at(
     ensures few { made.new ≤ made.old + 1 }
 {
     let vnode = &mut vnodes[at];
-    match vnode.put(*made, key, seen, content) {
+    match vnode.put_lent(*made, key, seen, content) {
         Ok((dot, _)) => {
             *made += 1;
             Ok(dot)
@@ -196,7 +196,7 @@ fn merge_at(
     ensures few { made.new ≤ made.old + 1 }
 {
     let vnode = &mut vnodes[at];
-    match vnode.merge(
+    match vnode.merge_lent(
         *made,
         &message.key,
         message.from,

@@ -1,6 +1,6 @@
 //! What is told of journals that are no run.
 
-use crate::tests::judging::{Told, judge, key_of, restarted, value_of};
+use crate::tests::judging::{Told, is_told, key_of, restarted, value_of};
 use audit::{AuditCode, AuditFault};
 use dvv::Clock;
 use object::{Content, Key, KeyState};
@@ -13,7 +13,7 @@ use vnode::Vnode;
 fn put_at(alloc: Global, id: u32, stamp: u64, key: &Key, value: &[u8]) -> Result<Vnode, Fail> {
     let mut vnode = Vnode::new(alloc, id);
     let content = value_of(alloc, value)?;
-    let _ = vnode.put(stamp, key, &Clock::new(alloc), &content)?;
+    let _ = vnode.put_lent(stamp, key, &Clock::new(alloc), &content)?;
     Ok(vnode)
 }
 
@@ -28,7 +28,7 @@ fn merged(
     state: &KeyState,
 ) -> Result<Vnode, Fail> {
     let mut vnode = Vnode::new(alloc, id);
-    let _ = vnode.merge(stamp, key, from, at, state)?;
+    let _ = vnode.merge_lent(stamp, key, from, at, state)?;
     Ok(vnode)
 }
 
@@ -46,26 +46,29 @@ fn audit_faults(rt: HostRuntime) -> Result<(), Fail> {
     let key = key_of(alloc, b"k")?;
     let first = put_at(alloc, 0, 5, &key, b"a")?;
     let second = put_at(alloc, 1, 5, &key, b"a")?;
-    assert_eq!(rt;
-        judge(alloc, &[&first, &second])?,
-        Some((AuditCode::Twice, 1, 0))
-    );
+    is_told(
+        &rt,
+        alloc,
+        &[&first, &second],
+        Some((AuditCode::Twice, 1, 0)),
+    )?;
     let (sender, _) = put_and_read(alloc, &key, b"a")?;
     let (_, other) = put_and_read(alloc, &key, b"b")?;
     let receiver = merged(alloc, 1, 2, &key, 0, 1, &other)?;
-    assert_eq!(rt;
-        judge(alloc, &[&sender, &receiver])?,
-        Some((AuditCode::OtherState, 1, 0))
-    );
-    Ok(())
+    is_told(
+        &rt,
+        alloc,
+        &[&sender, &receiver],
+        Some((AuditCode::OtherState, 1, 0)),
+    )
 }
 
 /// Vnode 7 takes a put, a read, a put, a read, and a read of another key, with stamps 1 to 5. Answers what the first read
 /// answered.
 fn send(sender: &mut Vnode, key: &Key, another: &Key, none: &Clock) -> Result<KeyState, Fail> {
-    let _ = sender.put(1, key, none, &Content::Tombstone)?;
+    let _ = sender.put_lent(1, key, none, &Content::Tombstone)?;
     let (state, _) = sender.read(2, key)?;
-    let _ = sender.put(3, key, none, &Content::Tombstone)?;
+    let _ = sender.put_lent(3, key, none, &Content::Tombstone)?;
     let _ = sender.read(4, key)?;
     let _ = sender.read(5, another)?;
     Ok(state)
@@ -104,17 +107,8 @@ fn merge_is(
 ) -> Result<(), Fail> {
     let (stamp, _, from, at, want) = merge;
     let receiver = merged(alloc, 5, stamp, key, from, at, state)?;
-    assert_eq!(rt;
-        judge(alloc, &[sender, &receiver])?,
-        want,
-        "{stamp} {from} {at}"
-    );
-    assert_eq!(rt;
-        judge(alloc, &[&receiver, sender])?,
-        want,
-        "{stamp} {from} {at}"
-    );
-    Ok(())
+    is_told(rt, alloc, &[sender, &receiver], want)?;
+    is_told(rt, alloc, &[&receiver, sender], want)
 }
 
 #[test]
@@ -154,8 +148,7 @@ fn merges_are(
     let (of_3, of_2, want) = merges;
     let third = merged(alloc, 3, of_3.0, key, 0, of_3.1, state)?;
     let second = merged(alloc, 2, of_2.0, key, 0, of_2.1, state)?;
-    assert_eq!(rt; judge(alloc, &[&third, sender, &second])?, want);
-    Ok(())
+    is_told(rt, alloc, &[&third, sender, &second], want)
 }
 
 #[test]
@@ -233,9 +226,8 @@ fn stamps_are(rt: &impl Abort, alloc: Global, stamps: &Stamps) -> Result<(), Fai
     let ninth = restarted(alloc, 9, &stamps.0)?;
     let third = restarted(alloc, 3, &stamps.1)?;
     let fifth = restarted(alloc, 5, &stamps.2)?;
-    assert_eq!(rt; judge(alloc, &[&ninth, &third, &fifth])?, stamps.3);
-    assert_eq!(rt; judge(alloc, &[&fifth, &third, &ninth])?, stamps.3);
-    Ok(())
+    is_told(rt, alloc, &[&ninth, &third, &fifth], stamps.3)?;
+    is_told(rt, alloc, &[&fifth, &third, &ninth], stamps.3)
 }
 
 #[test]

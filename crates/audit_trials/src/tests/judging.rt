@@ -3,13 +3,13 @@
 ghost use Rattle.std.specs.Prelude.{◌≡◌, ◌≢◌, ◌<◌, ℕ, true, length};
 ghost use Rattle.audit.specs.Interleaved.{ids_of};
 ghost use Rattle.audit.specs.Rerun.{AreJournals};
-ghost use Rattle.audit.specs.Turns.{logs_of};
 ghost use Rattle.world.specs.Represents.{AreDistinct, log_at};
 
 use audit::{AuditCode, AuditFault, audit};
-use journal::Journal;
+use journal::Whole;
 use object::{Bytes, Content, Key};
 use std::alloc::{AllocError, Global};
+use std::process::Abort;
 use std::test::Fail;
 use vnode::Vnode;
 
@@ -42,16 +42,16 @@ pub(super) fn restarted(alloc: Global, id: u32, stamps: &[u64]) -> Result<Vnode,
 }
 
 /// Whose journal the one with this index is.
-fn id_at(journals: &[&Journal], index: usize) -> u32
+fn id_at(journals: &[Whole<'_>], index: usize) -> u32
     requires { index < length journals.now }
-    ensures { result ≡ (log_at (logs_of journals.now) index).vnode }
+    ensures { result ≡ (log_at journals.now index).vnode }
 {
     journals[index].vnode()
 }
 
 /// Whether none of some journals is this vnode's.
-fn is_new(journals: &[&Journal], vnode: u32) -> bool
-    ensures { result ≡ true → (index : ℕ) → index < length (logs_of journals.now) → (log_at (logs_of journals.now) index).vnode ≢ vnode }
+fn is_new(journals: &[Whole<'_>], vnode: u32) -> bool
+    ensures { result ≡ true → (index : ℕ) → index < length journals.now → (log_at journals.now index).vnode ≢ vnode }
 {
     for index in 0..journals.len() {
         if id_at(journals, index) == vnode {
@@ -62,9 +62,9 @@ fn is_new(journals: &[&Journal], vnode: u32) -> bool
 }
 
 /// What the audit of some journals tells. There is memory for it.
-fn told(alloc: Global, journals: &[&Journal]) -> Result<Told, Fail>
-    requires distinct { AreDistinct (ids_of (logs_of journals.now)) }
-    requires legal { AreJournals (logs_of journals.now) }
+fn told(alloc: Global, journals: &[Whole<'_>]) -> Result<Told, Fail>
+    requires distinct { AreDistinct (ids_of journals.now) }
+    requires legal { AreJournals journals.now }
 {
     match audit(alloc, journals) {
         Ok(()) => Ok(None),
@@ -74,14 +74,27 @@ fn told(alloc: Global, journals: &[&Journal]) -> Result<Told, Fail>
 }
 
 /// What is told of the journals of vnodes with different identifiers.
-pub(super) fn judge(alloc: Global, vnodes: &[&Vnode]) -> Result<Told, Fail> {
+fn judge(alloc: Global, vnodes: &[&Vnode]) -> Result<Told, Fail> {
     let mut journals = Vec::with_capacity(alloc, vnodes.len())?;
     for vnode in vnodes {
-        let journal = vnode.journal();
+        let Some(journal) = vnode.journal().whole() else {
+            return Err(Fail::new("entries were handed out"));
+        };
         if !is_new(&journals, journal.vnode()) {
             return Err(Fail::new("two vnodes with one identifier"));
         }
         journals.push(journal)?;
     }
     told(alloc, &journals)
+}
+
+/// Holds what is told of the journals of vnodes with different identifiers to what is wanted.
+pub(super) fn is_told(
+    rt: &impl Abort,
+    alloc: Global,
+    vnodes: &[&Vnode],
+    want: Told,
+) -> Result<(), Fail> {
+    assert_eq!(rt; judge(alloc, vnodes)?, want);
+    Ok(())
 }

@@ -2,7 +2,7 @@
 
 ghost use Rattle.std.specs.Prelude.{◌<◌, ◌^◌};
 
-use crate::tests::judging::{judge, key_of, restarted, value_of};
+use crate::tests::judging::{is_told, key_of, restarted, value_of};
 use object::{Content, Key};
 use std::alloc::Global;
 use std::test::Fail;
@@ -20,9 +20,9 @@ fn bring(
     requires { first < 2 ^ 63 }
 {
     let (seen, _) = sender.read(first, key)?;
-    let _ = sender.put(first + 1, key, seen.clock(), content)?;
+    let _ = sender.put_lent(first + 1, key, seen.clock(), content)?;
     let (state, place) = sender.read(first + 2, key)?;
-    let _ = receiver.merge(first + 3, key, sender.id(), place, &state)?;
+    let _ = receiver.merge_lent(first + 3, key, sender.id(), place, &state)?;
     Ok(())
 }
 
@@ -30,13 +30,12 @@ fn bring(
 #[test]
 fn little_happened(rt: HostRuntime) -> Result<(), Fail> {
     let alloc = rt.alloc();
-    assert_eq!(rt; judge(alloc, &[])?, None);
+    is_told(&rt, alloc, &[], None)?;
     let first = Vnode::new(alloc, 1);
     let second = restarted(alloc, 0, &[])?;
-    assert_eq!(rt; judge(alloc, &[&first, &second])?, None);
+    is_told(&rt, alloc, &[&first, &second], None)?;
     let third = restarted(alloc, u32::MAX, &[0, u64::MAX])?;
-    assert_eq!(rt; judge(alloc, &[&third, &first, &second])?, None);
-    Ok(())
+    is_told(&rt, alloc, &[&third, &first, &second], None)
 }
 
 /// Puts, reads, merges and restarts at three vnodes, of two keys; and merges of an earlier state, at its own vnode too.
@@ -47,8 +46,8 @@ fn go_round(a: &mut Vnode, b: &mut Vnode, c: &mut Vnode, k: &Key, l: &Key) -> Re
     bring(b, c, 30, l, &Content::Tombstone)?;
     let (state, place) = a.read(40, k)?;
     bring(b, a, 50, k, &Content::Tombstone)?;
-    let _ = a.merge(60, k, a.id(), place, &state)?;
-    let _ = c.merge(u64::MAX, k, a.id(), place, &state)?;
+    let _ = a.merge_lent(60, k, a.id(), place, &state)?;
+    let _ = c.merge_lent(u64::MAX, k, a.id(), place, &state)?;
     Ok(())
 }
 
@@ -61,9 +60,8 @@ fn writes_go_round(rt: HostRuntime) -> Result<(), Fail> {
     let mut b = Vnode::new(alloc, 10);
     let mut c = Vnode::new(alloc, 30);
     go_round(&mut a, &mut b, &mut c, &k, &l)?;
-    assert_eq!(rt; judge(alloc, &[&a, &b, &c])?, None);
-    assert_eq!(rt; judge(alloc, &[&c, &b, &a])?, None);
-    Ok(())
+    is_told(&rt, alloc, &[&a, &b, &c], None)?;
+    is_told(&rt, alloc, &[&c, &b, &a], None)
 }
 
 /// Ten thousand entries, of which each journal has some blocks.
@@ -78,6 +76,5 @@ fn many_entries(rt: HostRuntime) -> Result<(), Fail> {
         bring(&mut b, &mut a, 8 * round + 4, &key, &content)?;
     }
     assert_eq!(rt; (a.journal().len(), b.journal().len()), (5000, 5000));
-    assert_eq!(rt; judge(alloc, &[&a, &b])?, None);
-    Ok(())
+    is_told(&rt, alloc, &[&a, &b], None)
 }

@@ -2,7 +2,7 @@
 use super::{EXIT, Want, expect};
 
 /// Words, and what is told of them.
-const WRONG: [(&[&str], &str); 25] = [
+const WRONG: [(&[&str], &str); 33] = [
     (&[], "usage\n"),
     (&["run"], "usage\n"),
     (&["run", "image"], "usage\n"),
@@ -14,9 +14,15 @@ const WRONG: [(&[&str], &str); 25] = [
     (&["serve"], "usage\n"),
     (&["serve", "1"], "usage\n"),
     (&["serve", "127.0.0.1:0", "0"], "usage\n"),
-    (&["serve", "127.0.0.1:0", "2"], "usage\n"),
     (&["serve", "127.0.0.1:0", "17"], "usage\n"),
     (&["serve", "127.0.0.1:0", "01"], "usage\n"),
+    (&["serve", "127.0.0.1:0", "+2"], "usage\n"),
+    (&["serve", "127.0.0.1:0", "two"], "usage\n"),
+    (&["serve", "127.0.0.1:0", ""], "usage\n"),
+    (&["serve", "127.0.0.1:0", "4294967296"], "usage\n"),
+    (&["serve", "127.0.0.1:0", "0", "1"], "usage\n"),
+    (&["serve", "127.0.0.1:0", "17", "1"], "usage\n"),
+    (&["serve", "127.0.0.1:0", "16", "0"], "usage\n"),
     (&["serve", "127.0.0.1:0", "1", "0"], "usage\n"),
     (&["serve", "127.0.0.1:0", "1", "01"], "usage\n"),
     (&["serve", "127.0.0.1:0", "1", "+1"], "usage\n"),
@@ -28,6 +34,8 @@ const WRONG: [(&[&str], &str); 25] = [
     (&["run", "image", "none"], "unreadable\n"),
     (&["serve", "nowhere", "1"], "unreadable\n"),
     (&["serve", "nowhere", "1", "4294967295"], "unreadable\n"),
+    (&["serve", "nowhere", "2"], "unreadable\n"),
+    (&["serve", "nowhere", "16", "1"], "unreadable\n"),
 ];
 
 #[test]

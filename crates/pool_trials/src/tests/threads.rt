@@ -2,9 +2,10 @@
 
 ghost use Rattle.std.specs.Prelude.{◌≡◌, []};
 ghost use Rattle.stamps.specs.Rule.{newcomer};
+ghost use Rattle.pool.specs.Gathers.{Differ};
 
 use crate::tests::building::{Open, key_of, value_of};
-use crate::tests::judging::judge;
+use closing::audit_vnodes;
 use dvv::Clock;
 use object::{Content, Key};
 use peers::Peers;
@@ -114,10 +115,12 @@ fn are_one_run(
     alloc: Global,
     vnodes: &[Vnode],
     want: [usize; 3],
-) -> Result<(), Fail> {
+) -> Result<(), Fail>
+    requires { Differ vnodes.now }
+{
     let found = lengths(alloc, vnodes)?;
     assert_eq!(rt; found.as_slice(), want.as_slice());
-    assert_eq!(rt; judge(alloc, vnodes)?, None);
+    assert!(rt; audit_vnodes(alloc, vnodes).is_ok());
     Ok(())
 }
 
@@ -137,12 +140,7 @@ fn forty_by_four<B: Room + Send + Sync, R: Threads + Wait + Abort + Sync>(
     let Ok(vnodes) = cluster.gather(back) else {
         return Err(Fail::new("not gathered"));
     };
-    assert_eq!(rt;
-        lengths(alloc, &vnodes)?.as_slice(),
-        [16, 12, 12].as_slice()
-    );
-    assert_eq!(rt; judge(alloc, &vnodes)?, None);
-    Ok(())
+    are_one_run(rt, alloc, &vnodes, [16, 12, 12])
 }
 
 /// Each of the forty puts is answered, and stands once in the journals, which are one run.

@@ -1,7 +1,7 @@
 //! A journal that grows.
 
 use dvv::{Clock, Dot};
-use journal::{Entry, Journal};
+use journal::{Entry, Journal, Merged, Write};
 use object::{Content, KeyState};
 use std::alloc::{AllocError, Global};
 use std::test::Fail;
@@ -13,14 +13,24 @@ fn read(alloc: Global, stamp: u64) -> Result<Entry, AllocError> {
 
 fn put(alloc: Global, stamp: u64) -> Result<Entry, AllocError> {
     let key = key_of(alloc, b"k")?;
-    let seen = Clock::new(alloc);
+    let write = Write {
+        key,
+        seen: Clock::new(alloc),
+        content: Content::Tombstone,
+    };
     let dot = Dot { vnode: 65537, n: 1 };
-    Entry::put(alloc, stamp, key, seen, Content::Tombstone, dot)
+    Ok(Entry::put(stamp, Box::new(alloc, write)?, dot))
 }
 
 fn merge(alloc: Global, stamp: u64) -> Result<Entry, AllocError> {
     let key = key_of(alloc, b"k")?;
-    Entry::merge(alloc, stamp, key, 0, 4, KeyState::new(alloc))
+    let merged = Merged {
+        key,
+        from: 0,
+        at: 4,
+        state: KeyState::new(alloc),
+    };
+    Ok(Entry::merge(stamp, Box::new(alloc, merged)?))
 }
 
 /// The places of four entries that are pushed, and how many entries there are after two of them and once room is made.

@@ -37,7 +37,7 @@ fn put(
     seen: &Clock,
     value: u8,
 ) -> Result<(u64, u32), VnodeFault> {
-    let (dot, place) = vnode.put(0, &key(alloc, byte)?, seen, &content(alloc, value)?)?;
+    let (dot, place) = vnode.put_lent(0, &key(alloc, byte)?, seen, &content(alloc, value)?)?;
     Ok((dot.n, place))
 }
 
@@ -65,5 +65,5 @@ fn merge(
     byte: u8,
     state: &KeyState,
 ) -> Result<(bool, u32), VnodeFault> {
-    vnode.merge(0, &key(alloc, byte)?, 0, 0, state)
+    vnode.merge_lent(0, &key(alloc, byte)?, 0, 0, state)
 }

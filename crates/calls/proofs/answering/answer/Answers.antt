@@ -1,7 +1,7 @@
 use Rattle.std.proofs.Common.{subst}
 use Rattle.std.proofs.lemmas.Result.{err_from_is_err_and}
-use Rattle.calls.specs.declared.request.Request.{Request}
-use Rattle.calls.specs.Answered.{Refuses}
+use Rattle.calls.specs.declared.request.Prepared.{Prepared}
+use Rattle.calls.specs.Answered.{Refuses, asked}
 use Rattle.calls.proofs.answering.answer.Goals as goal
 
 pub returns-in_err-dot-in-Put-clause-outcome : goal.returns-in_err-dot-in-Put-clause-outcome
@@ -12,21 +12,21 @@ returns-in_err-dot-in-Put-clause-outcome c =
 pub returns-in_err-dot-in-Put-clause-exact : goal.returns-in_err-dot-in-Put-clause-exact
 returns-in_err-dot-in-Put-clause-exact c fault other refuses =
     let p = err_from_is_err_and c.from_residual.result c.from_residual.ensures.1 in
-    let e = c.in_err-dot-in-Put.ensures.exact fault other (subst (λ (asked : Request). Refuses c.args.vnode.now asked fault) c.in-Put.is refuses) in
+    let e = c.in_err-dot-in-Put.ensures.exact fault other (subst (λ (p : Prepared). Refuses c.args.vnode.now (asked p) fault) c.in-Put.is refuses) in
     rw (p.1, p.2) (cc)
 
 pub returns-in_err-changed-in-Merge-clause-exact : goal.returns-in_err-changed-in-Merge-clause-exact
 returns-in_err-changed-in-Merge-clause-exact c fault other refuses =
     let p = err_from_is_err_and c.from_residual-in_err-changed-in-Merge.result c.from_residual-in_err-changed-in-Merge.ensures.1 in
-    let e = c.in_err-changed-in-Merge.ensures.exact fault other (subst (λ (asked : Request). Refuses c.args.vnode.now asked fault) c.in-Merge.is refuses) in
+    let e = c.in_err-changed-in-Merge.ensures.exact fault other (subst (λ (p : Prepared). Refuses c.args.vnode.now (asked p) fault) c.in-Merge.is refuses) in
     rw (p.1, p.2) (cc)
 
 pub returns-in_ok-dot-in-Put-clause-exact : goal.returns-in_ok-dot-in-Put-clause-exact
 returns-in_ok-dot-in-Put-clause-exact c fault other refuses =
-    let e = c.in_ok-dot-in-Put.ensures.exact fault other (subst (λ (asked : Request). Refuses c.args.vnode.now asked fault) c.in-Put.is refuses) in
+    let e = c.in_ok-dot-in-Put.ensures.exact fault other (subst (λ (p : Prepared). Refuses c.args.vnode.now (asked p) fault) c.in-Put.is refuses) in
     absurd (cc)
 
 pub returns-in_ok-changed-in-Merge-clause-exact : goal.returns-in_ok-changed-in-Merge-clause-exact
 returns-in_ok-changed-in-Merge-clause-exact c fault other refuses =
-    let e = c.in_ok-changed-in-Merge.ensures.exact fault other (subst (λ (asked : Request). Refuses c.args.vnode.now asked fault) c.in-Merge.is refuses) in
+    let e = c.in_ok-changed-in-Merge.ensures.exact fault other (subst (λ (p : Prepared). Refuses c.args.vnode.now (asked p) fault) c.in-Merge.is refuses) in
     absurd (cc)

@@ -1,11 +1,10 @@
-use Rattle.std.proofs.Common.{rules}
 use Rattle.commands.proofs.own.command_with_helpers.Goals as goal
 
 pub returns-clause-ran : goal.returns-clause-ran
-returns-clause-ran g c image input words done = (c.add-6.new.table.listed, search rules, c.command.ensures.ran image input words done)
+returns-clause-ran g c image input words done = (c.split-table.result.0.listed, c.split-table.ensures.own, c.command.ensures.ran image input words done)
 
 pub returns-clause-judged : goal.returns-clause-judged
-returns-clause-judged g c image words done = (c.add-6.new.table.listed, search rules, c.command.ensures.judged image words done)
+returns-clause-judged g c image words done = (c.split-table.result.0.listed, c.split-table.ensures.own, c.command.ensures.judged image words done)
 
 pub returns-clause-simulated : goal.returns-clause-simulated
-returns-clause-simulated g c script words done = (c.add-6.new.table.listed, search rules, c.command.ensures.simulated script words done)
+returns-clause-simulated g c script words done = (c.split-table.result.0.listed, c.split-table.ensures.own, c.command.ensures.simulated script words done)

@@ -3,6 +3,7 @@ use Rattle.journal.specs.Logs.{Log}
 use Rattle.stamps.specs.declared.view.Told.{Told}
 use Rattle.stamps.specs.declared.view.View.{View}
 use Rattle.stamps.specs.Rule.{drew, pass_of, entries, IsWithin, call_of}
+use Rattle.calls.specs.Answered.{IsOutcome, with_made}
 use Rattle.pool.specs.Answers.{IsVnodes, IsAnswered}
 use Rattle.pool.specs.Calls.{pass_view, told_then}
 use Rattle.pool.proofs.Calls.{lent, back, length_entries, lent_is, back_is, within_is, vnodes_more, told_more}
@@ -29,8 +30,11 @@ place c = c.len-at.ensures.len ∙ ap (λ (l : Log). length l.entries) c.journal
 is : (c : goal.After-give_back-2) → c.tell.new.card.me.0 ≡ back c.args.pass.now.me.0.drawn c.args.pass.now.me.0.told c.requires.vnode.history (call c)
 is c = back_is _ c.tell.new.card.me.0 c.requires.vnode.history c.args.pass.now.me.0.drawn c.args.pass.now.me.0.told c.draw-stamp.result (call c) (was c) c.tell.ensures.told.0
 
+logged : (c : goal.After-give_back-2) → c.answer-outcome.new.vnode ≡ with_made c.args.vnode.now c.draw-stamp.result c.args.request.now c.answer-outcome.result
+logged c = subst (λ r. c.answer-outcome.new.vnode ≡ with_made c.args.vnode.now c.draw-stamp.result r c.answer-outcome.result) c.requires.prepared c.answer-outcome.ensures.log
+
 answered : (c : goal.After-give_back-2) → IsAnswered c.args.vnode.now.entries (call_of c.args.vnode.now.vnode c.len-at.result c.draw-stamp.result c.args.request.now c.answer-outcome.result)
-answered c = c.answer-outcome.ensures.outcome
+answered c = subst (λ r. IsOutcome c.args.vnode.now c.draw-stamp.result r c.answer-outcome.result) c.requires.prepared c.answer-outcome.ensures.outcome
 
 pub tell-requires-clause-vnode : goal.tell-requires-clause-vnode
 tell-requires-clause-vnode c =
@@ -55,7 +59,7 @@ pub returns-clause-vnode : goal.returns-clause-vnode
 returns-clause-vnode c =
     let v = c.requires.vnode in
     let more = vnodes_more c.args.vnode.now c.answer-outcome.new.vnode c.tell.new.card.me.0 v.history c.args.pass.now.me.0.drawn c.args.pass.now.me.0.told (call c)
-    v.number_is (number c) v.journal_is v.answered (is c) (subst (λ n. IsAnswered c.args.vnode.now.entries (call_of n c.len-at.result c.draw-stamp.result c.args.request.now c.answer-outcome.result)) (sym (number c)) (answered c)) c.answer-outcome.ensures.log in
+    v.number_is (number c) v.journal_is v.answered (is c) (subst (λ n. IsAnswered c.args.vnode.now.entries (call_of n c.len-at.result c.draw-stamp.result c.args.request.now c.answer-outcome.result)) (sym (number c)) (answered c)) (logged c) in
     subst (λ (y : View). IsVnodes c.answer-outcome.new.vnode y) (sym (ap (λ m. m.0) c.give_back-2.ensures.card.1)) more
 
 pub returns-clause-pass : goal.returns-clause-pass

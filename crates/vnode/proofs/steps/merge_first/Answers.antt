@@ -6,14 +6,14 @@ use Rattle.vnode.specs.Refusals.{TakesMerge, RefusesMergeAt}
 use Rattle.vnode.proofs.FaultLemmas.{passed_on}
 use Rattle.vnode.proofs.steps.merge_first.Goals as goal
 
-pub returns-in_err-made-clause-why : goal.returns-in_err-made-clause-why
-returns-in_err-made-clause-why c =
-    passed_on (RefusesMergeAt c.args.journal.now.log c.args.other.now.clock empty) c.from_residual.result c.in_err-made.field-0.0 c.from_residual.ensures.1
-    (subst (λ s. RefusesMergeAt c.args.journal.now.log c.args.other.now.clock s c.in_err-made.field-0.0) c.new-state.ensures c.in_err-made.ensures.why)
+pub returns-in_err-changed-clause-why : goal.returns-in_err-changed-clause-why
+returns-in_err-changed-clause-why c =
+    passed_on (RefusesMergeAt c.args.journal.now.log c.args.other.now.clock empty) c.from_residual.result c.in_err-changed.field-0.0 c.from_residual.ensures.1
+    (subst (λ s. RefusesMergeAt c.args.journal.now.log c.args.other.now.clock s c.in_err-changed.field-0.0) c.new-state.ensures c.in_err-changed.ensures.why)
 
 pub returns-in_err-insert-clause-why : goal.returns-in_err-insert-clause-why
 returns-in_err-insert-clause-why c =
     passed_on (RefusesMergeAt c.args.journal.now.log c.args.other.now.clock empty) c.from_residual-in_err-insert.result NoMemory c.from_residual-in_err-insert.ensures.1 (
-      subst (TakesMerge c.args.other.now.clock) c.new-state.ensures c.in_ok-made.ensures.takes,
-      subst (λ log. TakesEntry log.entries) c.in_ok-made.ensures.same c.in_ok-made.ensures.below,
+      subst (TakesMerge c.args.other.now.clock) c.new-state.ensures c.in_ok-changed.ensures.takes,
+      subst (λ log. TakesEntry log.entries) c.in_ok-changed.ensures.same c.in_ok-changed.ensures.below,
     )

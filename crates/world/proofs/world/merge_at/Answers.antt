@@ -18,4 +18,4 @@ returns-in-Err-clause-refused c =
     (get_or_default c.args.vnodes.now c.args.at c.index-vnodes-at.result (record { vnode = 0; entries = [] }) c.requires.inside) c.in-Err.ensures.why
 
 pub returns-in-Ok-clause-stamps : goal.returns-in-Ok-clause-stamps
-returns-in-Ok-clause-stamps c = stamped_at c.args.vnodes.now c.args.made.now c.args.at (Merge c.args.made.now c.args.message.now.key c.args.message.now.from c.args.message.now.at c.args.message.now.state) c.index-vnodes-at.result c.merge.new.self c.requires.inside c.in-Ok.ensures.entry refl
+returns-in-Ok-clause-stamps c = stamped_at c.args.vnodes.now c.args.made.now c.args.at (Merge c.args.made.now c.args.message.now.key c.args.message.now.from c.args.message.now.at c.args.message.now.state) c.index-vnodes-at.result c.merge_lent.new.self c.requires.inside c.in-Ok.ensures.entry refl

@@ -1,6 +1,5 @@
 use Rattle.std.proofs.Common.{◌≡◌, ◌∙◌, arith, ap, ℕ, ◌+◌, ◌<◌, List, [], ◌∷◌, ◌++◌, Some, length, get_or, set, refl, sym, subst}
 use Rattle.std.specs.Prelude.{slice_get}
-use Rattle.std.proofs.lemmas.List.{length-map}
 use Rattle.journal.specs.Logs.{Log, with_entry}
 use Rattle.audit.specs.declared.auditing.AuditFault.TheVariants.{Found}
 use Rattle.world.specs.Represents.{log_at, with_entry_at}
@@ -8,7 +7,7 @@ use Rattle.audit.specs.Again.{IsAgain}
 use Rattle.audit.specs.declared.rerun.Again.{Again}
 use Rattle.audit.specs.Faulty.{IsFault}
 use Rattle.audit.specs.Rerun.{HasRun}
-use Rattle.audit.specs.Turns.{logs_of, EntryIn, count_at}
+use Rattle.audit.specs.Turns.{EntryIn, count_at}
 use Rattle.audit.proofs.Ran.{source_fault}
 use Rattle.audit.proofs.Next.{ran_more}
 use Rattle.audit.proofs.Sorting.{next_told, count_read, with_next, same_default}
@@ -16,10 +15,10 @@ use Rattle.audit.proofs.rerun.Rerun.step.Goals as goal
 
 pub returns-in-Err-clause-err : goal.returns-in-Err-clause-err
 returns-in-Err-clause-err c =
-    let logs = logs_of c.args.journals.now in
+    let logs = c.args.journals.now in
     let counts = c.args.self.now.counts.items in
     let head = c.args.head in
-    let next = next_told logs (length c.args.journals.now) counts counts head (length-map c.args.journals.now _) refl c.requires.next in
+    let next = next_told logs (length c.args.journals.now) counts counts head refl refl c.requires.next in
     let place = count_read logs counts head c.index-place.result.now c.requires.run.split next c.index-place.ensures in
     let there : EntryIn logs head.index (count_at counts head.index) c.in-Some.entry.now = (next.0, subst (λ (p : ℕ). slice_get (log_at logs head.index).entries p ≡ Some c.in-Some.entry.now) place (sym c.in-Some.ensures)) in
     subst (λ (p : ℕ). IsFault logs (Found c.in-Err.code head.vnode p)) (sym (c.place_of-here.ensures ∙ place))
@@ -27,13 +26,13 @@ returns-in-Err-clause-err c =
 
 pub returns-clause-ok : goal.returns-clause-ok
 returns-clause-ok c =
-    let logs = logs_of c.args.journals.now in
+    let logs = c.args.journals.now in
     let counts = c.args.self.now.counts.items in
     let now = c.args.self.now.vnodes.items in
     let answers = c.args.self.now.answers.items in
     let head = c.args.head in
     let e = c.in-Some.entry.now in
-    let next = next_told logs (length c.args.journals.now) counts counts head (length-map c.args.journals.now _) refl c.requires.next in
+    let next = next_told logs (length c.args.journals.now) counts counts head refl refl c.requires.next in
     let place = count_read logs counts head c.index-place.result.now c.requires.run.split next c.index-place.ensures in
     let there : EntryIn logs head.index (count_at counts head.index) e = (next.0, subst (λ (p : ℕ). slice_get (log_at logs head.index).entries p ≡ Some e) place (sym c.in-Some.ensures)) in
     let here : head.index < length now = omega (arith, next.0, c.requires.run.size) in

@@ -1,9 +1,8 @@
 use Rattle.world.specs.Represents.{AreDistinct}
 use Rattle.audit.specs.Interleaved.{ids_of}
 use Rattle.audit.specs.Rerun.{AreJournals}
-use Rattle.audit.specs.Turns.{logs_of}
 use Rattle.audit_trials.proofs.tests.judging.judge.Given as goal
 
 -- the journals so far are those of vnodes with different identifiers
 abbrev pub invariant-loop-vnode : goal.invariant-loop-vnode
-invariant-loop-vnode l = record { distinct : AreDistinct (ids_of (logs_of l.journals.items)); legal : AreJournals (logs_of l.journals.items) }
+invariant-loop-vnode l = record { distinct : AreDistinct (ids_of l.journals.items); legal : AreJournals l.journals.items }

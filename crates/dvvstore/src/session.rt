@@ -1,0 +1,196 @@
+//! The store of several workers, from its opening to the audit of its journals.
+
+ghost use Rattle.std.specs.Prelude.{◌≡◌, ◌+◌, ◌<◌, ◌≤◌, ◌^◌, [], IfOk, vec_len};
+ghost use Rattle.shared_hooks.specs.Lists.{list_of};
+ghost use Rattle.stamps.specs.Rule.{newcomer};
+
+use crate::crew;
+use crate::crew::Seat;
+use audit::AuditFault;
+use closing::{Audited, CloseFault};
+use fronts::Naming;
+use helpers::Table;
+use hooks::{HookChanges, Hooks};
+use listener::Entrance;
+use place::Placement;
+use pool::{Cluster, Pass, Room};
+use quorum::Hooking;
+use shared_hooks::{Ground, HookReader, Installer, Opening, Rack};
+use stamps::{Card, Size, Stamps};
+use std::alloc::{AllocError, Global};
+use std::marker::Brand;
+use std::sync::{Mutex, Wait};
+use std::thread::Threads;
+use worker_hooks::{WorkerHooks, open};
+
+/// How many vnodes there are.
+const VNODES: u32 = 3;
+
+/// What is said where memory is refused for the store.
+const NO_MEMORY: Audited = Err(CloseFault::Audit(AuditFault::NoMemory));
+
+/// Opens vnodes numbered from the first identifier on, and hooks that may call the helpers of the tables, and has a worker for each table
+/// answer connections that come to an entrance. Answers what the audit of the vnodes' journals says then, `NoMemory` where memory was
+/// refused for any of it.
+pub fn serve<R: Threads + Wait + Sync>(
+    alloc: Global,
+    rt: &R,
+    first: u32,
+    tables: Vec<Table>,
+    entrance: &Entrance,
+) -> Audited
+    requires first { first + 3 ≤ 2 ^ 32 }
+    requires some { 0 < vec_len tables }
+    requires few { vec_len tables ≤ 16 }
+{
+    let size = Size {
+        first,
+        vnodes: VNODES as usize,
+        passes: tables.len(),
+    };
+    match Stamps::new(alloc, &size) {
+        Ok((stamps, card)) => over_stamps::<Brand, R>(
+            alloc, rt, first, stamps, card, tables, entrance,
+        ),
+        Err(_) => NO_MEMORY,
+    }
+}
+
+/// The same, over a word that nobody has drawn from.
+fn over_stamps<B: Room + Send + Sync, R: Threads + Wait + Sync>(
+    alloc: Global,
+    rt: &R,
+    first: u32,
+    stamps: Stamps,
+    card: Card,
+    tables: Vec<Table>,
+    entrance: &Entrance,
+) -> Audited
+    requires first { first + 3 ≤ 2 ^ 32 }
+    requires some { 0 < vec_len tables }
+    requires few { vec_len tables ≤ 16 }
+    requires table { (stamps.table.shared.table_id ≡ B.table) × (card.table_id ≡ B.table) }
+    requires size { stamps.table.shared.key ≡ record { first = first; vnodes = 3; passes = vec_len tables } }
+    requires card { card.me ≡ (newcomer stamps.table.shared.key, []) }
+{
+    let vnodes = VNODES as usize;
+    let passes = tables.len();
+    match Cluster::<B>::open(alloc, stamps, card, first, vnodes, passes) {
+        Ok((cluster, passes)) => over_cluster::<B, Brand, R>(
+            alloc,
+            rt,
+            cluster,
+            passes,
+            tables,
+            Opening::new(),
+            entrance,
+        ),
+        Err(_) => NO_MEMORY,
+    }
+}
+
+/// The same, over a cluster and the empty list of changes of hooks.
+fn over_cluster<B: Room + Send + Sync, J: Naming + Send + Sync, R: Threads + Wait + Sync>(
+    alloc: Global,
+    rt: &R,
+    cluster: Cluster<B>,
+    passes: Vec<Pass<B>>,
+    tables: Vec<Table>,
+    opening: Opening,
+    entrance: &Entrance,
+) -> Audited
+    requires list { list_of opening ≡ J.book }
+    requires some { 0 < vec_len tables }
+    requires few { vec_len tables ≤ 16 }
+    requires each { vec_len passes ≡ vec_len tables }
+    requires all { cluster.passes ≡ vec_len passes }
+{
+    let ground = opening.named::<J>(alloc);
+    over_ground(alloc, rt, cluster, passes, tables, ground, entrance)
+}
+
+/// The same, over what an installer of hooks begins with.
+fn over_ground<
+    B: Room + Send + Sync,
+    J: Naming + Send + Sync,
+    T: Rack<J> + Drop + Send + Sync,
+    R: Threads + Wait + Sync,
+>(
+    alloc: Global,
+    rt: &R,
+    cluster: Cluster<B>,
+    passes: Vec<Pass<B>>,
+    tables: Vec<Table>,
+    ground: Ground<J, T>,
+    entrance: &Entrance,
+) -> Audited
+    requires ground { (ground.front ≡ []) × (T.state ground.first ≡ []) × (T.state ground.second ≡ []) }
+    requires some { 0 < vec_len tables }
+    requires few { vec_len tables ≤ 16 }
+    requires each { vec_len passes ≡ vec_len tables }
+    requires all { cluster.passes ≡ vec_len passes }
+{
+    match open(alloc, rt, ground, tables.len()) {
+        Ok((installer, readers)) => over_hooks(
+            alloc, rt, &rt, cluster, passes, tables, &installer, readers, entrance,
+        ),
+        Err(_) => NO_MEMORY,
+    }
+}
+
+/// The same, over an installer of hooks, and a reader of them for each worker.
+fn over_hooks<
+    'a,
+    'r,
+    B: Room + Send + Sync,
+    J: Naming + Send + Sync,
+    T: Rack<J> + Drop + Send + Sync,
+    R: Threads + Wait + Sync,
+>(
+    alloc: Global,
+    rt: &'r R,
+    handle: &'a &'r R,
+    cluster: Cluster<B>,
+    passes: Vec<Pass<B>>,
+    tables: Vec<Table>,
+    installer: &'a Mutex<Installer<J, T, &'r R>>,
+    readers: Vec<HookReader<J, T>>,
+    entrance: &Entrance,
+) -> Audited
+    requires each { vec_len passes ≡ vec_len tables }
+    requires readers { vec_len readers ≡ vec_len tables }
+    requires all { cluster.passes ≡ vec_len passes }
+{
+    match seats_of(alloc, passes, tables, installer, handle, readers) {
+        Ok(seats) => { crew::serve(alloc, rt, cluster, seats, entrance) }
+        Err(_) => NO_MEMORY,
+    }
+}
+
+/// A seat for each pass.
+fn seats_of<'a, B: Room, J: Naming, T: Rack<J> + Drop, R: Wait + Drop>(
+    alloc: Global,
+    passes: Vec<Pass<B>>,
+    mut tables: Vec<Table>,
+    installer: &'a Mutex<Installer<J, T, R>>,
+    handle: &'a R,
+    mut readers: Vec<HookReader<J, T>>,
+) -> Result<Vec<Seat<B, WorkerHooks<'a, J, T, R>>>, AllocError>
+    requires each { vec_len passes ≡ vec_len tables }
+    requires readers { vec_len readers ≡ vec_len tables }
+    ensures { IfOk result (λ seats. vec_len seats ≡ vec_len passes) }
+{
+    let mut seats = Vec::with_capacity(alloc, passes.len())?;
+    for pass in passes {
+        let (Some(table), Some(reader)) = (tables.pop(), readers.pop()) else {
+            unreachable!();
+        };
+        let hooks = WorkerHooks::new(reader, installer, handle);
+        seats.push_reserved(Seat {
+            pass,
+            hooking: Hooking::new(alloc, hooks, table),
+            placement: Placement::by_digest(VNODES),
+        });
+    }
+    Ok(seats)
+}

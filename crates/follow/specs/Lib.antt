@@ -1,0 +1,4 @@
+pub mod Again
+pub mod Kept
+pub mod Followed
+pub mod Waiting

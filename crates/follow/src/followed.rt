@@ -1,0 +1,173 @@
+//! What was followed of some vnodes.
+
+ghost use Rattle.std.specs.Prelude.{◌≡◌, ◌≢◌, ◌<◌, ℕ, IfOk, OnOk, MatchOption, length};
+ghost use Rattle.journal.specs.Stamps.{stamp_of};
+ghost use Rattle.world.specs.Represents.{log_at, with_entry_at};
+ghost use Rattle.follow.specs.Again.{answer_of};
+ghost use Rattle.follow.specs.Followed.{HasFollowed, HasSource, IsAbove, IsSourceKept, kept_of};
+
+use crate::again::{Again, Refusal, happen};
+use crate::fault::{FollowCode, FollowFault};
+use crate::kept::{Answers, Found, Kept};
+use journal::{Entry, Said};
+use object::{Key, KeyState};
+use std::alloc::{AllocError, Global};
+use vnode::Vnode;
+
+/// The vnode with an identifier.
+pub(crate) fn index_of(vnodes: &[Vnode], id: u32) -> Option<usize>
+    ensures { let logs = vnodes.now in MatchOption result ((index : ℕ) → index < length logs → (log_at logs index).vnode ≢ id) (λ index. (index < length logs) × ((log_at logs index).vnode ≡ id)) }
+{
+    for index in 0..vnodes.len() {
+        if vnodes[index].id() == id {
+            return Some(index);
+        }
+    }
+    None
+}
+
+// Whether a merge's state is what the read that it names answered.
+fn check_merge(
+    vnodes: &[Vnode],
+    answers: &[Answers],
+    key: &Key,
+    from: u32,
+    at: u32,
+    state: &KeyState,
+) -> Result<(), FollowCode>
+    requires size { length answers.now ≡ length vnodes.now }
+    ensures { OnOk result (IsSourceKept vnodes.now answers.now key.now from at state.now) }
+{
+    let Some(index) = index_of(vnodes, from) else {
+        return Err(FollowCode::NoSource);
+    };
+    match answers[index].at(at) {
+        Found::Nothing => Err(FollowCode::NoSource),
+        Found::GivenUp => Err(FollowCode::GivenUp),
+        Found::Read(own, answer) => {
+            if own != key {
+                return Err(FollowCode::NoSource);
+            }
+            if !answer.is_same(state) {
+                return Err(FollowCode::OtherState);
+            }
+            Ok(())
+        }
+    }
+}
+
+// What is kept of an entry that answered so.
+fn keep_answer(entry: &Entry, again: Again) -> Result<Kept, AllocError>
+    ensures { IfOk result (λ kept. kept ≡ kept_of entry.now (answer_of again)) }
+{
+    match (entry.said(), again) {
+        (Said::Read { key, .. }, Again::Copied(state)) => Ok(Kept::Read(key.copy()?, state)),
+        _ => Ok(Kept::Other),
+    }
+}
+
+/// What was followed of some vnodes, and what is kept of it.
+#[derive(Drop)]
+pub(crate) struct Followed {
+    pub(crate) vnodes: Vec<Vnode>,
+    pub(crate) answers: Vec<Answers>,
+    /// The highest stamp, and whose it was.
+    pub(crate) last: Option<u64>,
+    pub(crate) last_index: usize,
+    /// Of so many entries of each vnode, the last ones, answers are kept.
+    pub(crate) recent: usize,
+}
+
+impl Followed {
+    // Whether an entry's stamp is above the last one.
+    fn check_stamp(&self, index: usize, stamp: u64) -> Result<(), FollowCode>
+        ensures { OnOk result (IsAbove self.now.last stamp) }
+    {
+        match self.last {
+            Some(last) => {
+                if last < stamp {
+                    Ok(())
+                } else if self.last_index == index {
+                    Err(FollowCode::Falls)
+                } else if last == stamp {
+                    Err(FollowCode::Twice)
+                } else {
+                    Err(FollowCode::Late)
+                }
+            }
+            None => Ok(()),
+        }
+    }
+
+    // Whether an entry is no merge, or has its source.
+    fn check_source(&self, entry: &Entry) -> Result<(), FollowCode>
+        requires size { length self.now.answers.items ≡ length self.now.vnodes.items }
+        ensures { OnOk result (HasSource self.now.vnodes.items self.now.answers.items entry.now) }
+    {
+        match entry.said() {
+            Said::Merge {
+                key,
+                from,
+                at,
+                state,
+                ..
+            } => check_merge(&self.vnodes, &self.answers, key, from, at, state),
+            _ => Ok(()),
+        }
+    }
+
+    // What is wrong with the next entry of a vnode.
+    fn fault_at(&self, index: usize, code: FollowCode) -> FollowFault
+        requires inside { index < length self.now.vnodes.items }
+        ensures { result ≡ FollowFault.Found code (log_at self.now.vnodes.items index).vnode (length (log_at self.now.vnodes.items index).entries) }
+    {
+        FollowFault::Found {
+            code,
+            vnode: self.vnodes[index].id(),
+            place: self.vnodes[index].journal().len(),
+        }
+    }
+
+    // Whether an entry may be the next one of all.
+    fn check(&self, index: usize, entry: &Entry) -> Result<(), FollowFault>
+        requires inside { index < length self.now.vnodes.items }
+        requires size { length self.now.answers.items ≡ length self.now.vnodes.items }
+        ensures above { OnOk result (IsAbove self.now.last (stamp_of entry.now)) }
+        ensures source { OnOk result (HasSource self.now.vnodes.items self.now.answers.items entry.now) }
+    {
+        if let Err(code) = self.check_stamp(index, entry.stamp()) {
+            return Err(self.fault_at(index, code));
+        }
+        if let Err(code) = self.check_source(entry) {
+            return Err(self.fault_at(index, code));
+        }
+        Ok(())
+    }
+
+    /// An entry of a vnode happens again.
+    pub(crate) fn go_on(
+        &mut self,
+        alloc: Global,
+        index: usize,
+        entry: &Entry,
+    ) -> Result<(), FollowFault>
+        requires run { HasFollowed self.old.vnodes.items self.old.last self.old.recent self.old.answers.items }
+        requires inside { index < length self.old.vnodes.items }
+        ensures run { OnOk result (HasFollowed self.new.vnodes.items self.new.last self.new.recent self.new.answers.items) }
+        ensures next { OnOk result (self.new.vnodes.items ≡ with_entry_at self.old.vnodes.items index entry.now) }
+        ensures size { length self.new.vnodes.items ≡ length self.old.vnodes.items }
+    {
+        self.check(index, entry)?;
+        let illegal = self.fault_at(index, FollowCode::Illegal);
+        let again = match happen(alloc, &mut self.vnodes[index], entry) {
+            Ok(again) => again,
+            Err(Refusal::Illegal) => return Err(illegal),
+            Err(Refusal::NoMemory) => return Err(FollowFault::NoMemory),
+        };
+        let kept = keep_answer(entry, again)?;
+        self.answers[index].keep(kept, self.recent)?;
+        self.last = Some(entry.stamp());
+        self.last_index = index;
+        Ok(())
+    }
+}

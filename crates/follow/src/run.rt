@@ -1,0 +1,127 @@
+//! Entries that wait happen again, in the order of their stamps.
+
+ghost use Rattle.std.specs.Prelude.{◌≡◌, ◌≤◌, ◌<◌, ◌+◌, ◌⊎◌, OnOk, MatchOption, None, drop, length, slice_set};
+ghost use Rattle.journal.specs.Entry.{Entry as Entered};
+ghost use Rattle.journal.specs.Stamps.{stamp_of};
+ghost use Rattle.world.specs.Represents.{log_at, with_entry_at};
+ghost use Rattle.follow.specs.Followed.{HasFollowed};
+ghost use Rattle.follow.specs.Waiting.{AreTakenAlike, IsNext, NoneBelow, waiting_at};
+
+use crate::fault::FollowFault;
+use crate::followed::Followed;
+use crate::queue::Queue;
+use std::alloc::Global;
+
+/// The next entry of a vnode.
+#[derive(Clone, Copy, Drop)]
+struct Head {
+    index: usize,
+    vnode: u32,
+    stamp: u64,
+}
+
+impl Head {
+    // Whether it comes before another: by stamp, and then by vnode.
+    fn is_before(self, other: Head) -> bool {
+        self.stamp < other.stamp || (self.stamp == other.stamp && self.vnode <= other.vnode)
+    }
+}
+
+// The first of two.
+fn first_of(a: Option<Head>, b: Option<Head>) -> Option<Head>
+    ensures one { (result ≡ a) ⊎ (result ≡ b) }
+    ensures none { result ≡ None → (a ≡ None) × (b ≡ None) }
+{
+    match (a, b) {
+        (Some(own), Some(other)) => { if own.is_before(other) { a } else { b } }
+        (Some(_), None) => a,
+        (None, _) => b,
+    }
+}
+
+/// What was followed of some vnodes, and what waits of each.
+#[derive(Drop)]
+pub(crate) struct Run {
+    pub(crate) followed: Followed,
+    pub(crate) waiting: Vec<Queue>,
+}
+
+impl Run {
+    /// How many entries of a vnode were taken: those that were followed, and those that wait.
+    pub(crate) fn taken(&self, index: usize) -> usize
+        requires size { length self.now.waiting.items ≡ length self.now.followed.vnodes.items }
+        requires inside { index < length self.now.followed.vnodes.items }
+        ensures { result ≡ length (log_at self.now.followed.vnodes.items index).entries + length (waiting_at self.now.waiting.items index) }
+    {
+        self.followed.vnodes[index].journal().len() + self.waiting[index].len()
+    }
+
+    // The next entry of a vnode, where its stamp is below a bound.
+    fn head_of(&self, index: usize, below: u64) -> Option<Head>
+        requires size { length self.now.waiting.items ≡ length self.now.followed.vnodes.items }
+        requires inside { index < length self.now.waiting.items }
+        ensures { MatchOption result ((e : Entered) → IsNext self.now.waiting.items index e → below ≤ stamp_of e) (λ head. (head.index ≡ index) × ((e : Entered) × IsNext self.now.waiting.items index e)) }
+    {
+        let Some(entry) = self.waiting[index].first() else {
+            return None;
+        };
+        let stamp = entry.stamp();
+        if stamp < below {
+            Some(Head {
+                index,
+                vnode: self.followed.vnodes[index].id(),
+                stamp,
+            })
+        } else {
+            None
+        }
+    }
+
+    // The vnode whose entry is next, of those with stamps below a bound.
+    fn next_below(&self, below: u64) -> Option<usize>
+        requires size { length self.now.waiting.items ≡ length self.now.followed.vnodes.items }
+        ensures { MatchOption result (NoneBelow self.now.waiting.items below) (λ index. (index < length self.now.followed.vnodes.items) × ((e : Entered) × IsNext self.now.waiting.items index e)) }
+    {
+        let mut next = None;
+        for index in 0..self.waiting.len() {
+            next = first_of(next, self.head_of(index, below));
+        }
+        match next {
+            Some(head) => Some(head.index),
+            None => None,
+        }
+    }
+
+    // The next entry of a vnode happens again.
+    fn step(&mut self, alloc: Global, index: usize) -> Result<(), FollowFault>
+        requires size { length self.old.waiting.items ≡ length self.old.followed.vnodes.items }
+        requires run { HasFollowed self.old.followed.vnodes.items self.old.followed.last self.old.followed.recent self.old.followed.answers.items }
+        requires inside { index < length self.old.followed.vnodes.items }
+        requires waits { (e : Entered) × IsNext self.old.waiting.items index e }
+        ensures run { OnOk result (HasFollowed self.new.followed.vnodes.items self.new.followed.last self.new.followed.recent self.new.followed.answers.items) }
+        ensures next { OnOk result ((e : Entered) × IsNext self.old.waiting.items index e × (self.new.followed.vnodes.items ≡ with_entry_at self.old.followed.vnodes.items index e) × (self.new.waiting.items ≡ slice_set self.old.waiting.items index (drop 1 (waiting_at self.old.waiting.items index)))) }
+        ensures size { length self.new.waiting.items ≡ length self.new.followed.vnodes.items }
+    {
+        let Some(entry) = self.waiting[index].first() else {
+            unreachable!()
+        };
+        self.followed.go_on(alloc, index, entry)?;
+        self.waiting[index].drop_first();
+        Ok(())
+    }
+
+    /// All that waits with stamps below a bound happens again, in the order of stamps.
+    pub(crate) fn follow(&mut self, alloc: Global, below: u64) -> Result<(), FollowFault>
+        requires size { length self.old.waiting.items ≡ length self.old.followed.vnodes.items }
+        requires run { HasFollowed self.old.followed.vnodes.items self.old.followed.last self.old.followed.recent self.old.followed.answers.items }
+        ensures run { OnOk result (HasFollowed self.new.followed.vnodes.items self.new.followed.last self.new.followed.recent self.new.followed.answers.items) }
+        ensures alike { OnOk result (AreTakenAlike self.old.followed.vnodes.items self.old.waiting.items self.new.followed.vnodes.items self.new.waiting.items) }
+        ensures below { OnOk result (NoneBelow self.new.waiting.items below) }
+        ensures size { length self.new.waiting.items ≡ length self.new.followed.vnodes.items }
+    {
+        while let Some(index) = self.next_below(below) {
+            self.step(alloc, index)?;
+        }
+        Ok(())
+    }
+}

@@ -1,0 +1,5 @@
+//! The tests of followers.
+
+mod faults;
+mod following;
+mod runs;

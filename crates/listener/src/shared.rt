@@ -1,0 +1,56 @@
+//! One socket for several workers.
+
+ghost use Rattle.std.specs.Prelude.{None};
+
+use crate::connection::converse;
+use crate::door::{Door, NoConnection};
+use httpfront::{Backend, Front};
+use std::net::TcpListener;
+use std::sync::atomic::AtomicU64;
+use std::sync::atomic::Ordering::SeqCst;
+
+/// A socket that workers share, and how many connections may still come to it, to all of them together.
+///
+/// A worker takes one of these before it waits, so no worker waits for a connection that another is answering, and gives it back where
+/// none came.
+#[derive(Drop)]
+pub struct Entrance {
+    listener: TcpListener,
+    left: AtomicU64,
+}
+
+impl Entrance {
+    /// A socket to which so many connections may come, or `2^64 - 1`.
+    pub fn new(listener: TcpListener, count: Option<u32>) -> Entrance {
+        let left = match count {
+            Some(count) => u64::from(count),
+            None => u64::MAX,
+        };
+        Entrance {
+            listener,
+            left: AtomicU64::new(left),
+        }
+    }
+}
+
+impl Door for &Entrance {
+    ghost awaited = { λ _. None };
+
+    fn admit<B: Backend>(
+        &mut self,
+        front: &mut Front,
+        backend: &mut B,
+    ) -> Result<(), NoConnection> {
+        let Entrance { listener, left } = &**self;
+        let taken = left.fetch_update(SeqCst, SeqCst, |left| left.checked_sub(1));
+        if taken.is_err() {
+            return Err(NoConnection);
+        }
+        let Ok((stream, _)) = listener.accept() else {
+            left.fetch_add(1, SeqCst);
+            return Err(NoConnection);
+        };
+        converse(&stream, front, backend);
+        Ok(())
+    }
+}
