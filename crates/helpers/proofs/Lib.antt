@@ -5,6 +5,7 @@ pub mod NewestRows
 pub mod Orders
 pub mod Laid
 pub mod Agreement
+pub mod Index
 pub mod SameSigs
 pub mod LaidRows
 pub mod SameRules

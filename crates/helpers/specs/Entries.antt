@@ -1,5 +1,6 @@
 -- What a list of Sigs says of a number (this store's profile).
-use Rattle.std.specs.Prelude.{ℕ, ◌≡◌, List, [], ◌∷◌, Option, Some, None, true, false, ◌==◌, if◌then◌else◌, IsSome, IsNone, All}
+use Rattle.std.specs.Prelude.{ℕ, ◌≡◌, List, [], ◌∷◌, suc, Option, Some, None, true, false, ◌==◌, if◌then◌else◌, IsSome, IsNone, All}
+use Rattle.std.specs.Option.{option_map}
 use Rattle.helpers.specs.declared.sig.Sig.{Sig}
 use Rattle.helpers.specs.declared.sig.Entry.{Entry}
 use Rattle.helpers.specs.declared.table.HelperFault.{HelperFault}
@@ -11,6 +12,11 @@ use Rattle.helpers.specs.Shapes.{IsAsWritten}
 abbrev pub sig_of : List Entry → ℕ → Option Sig
 sig_of [] number = None
 sig_of (e ∷ entries) number = if e.number == number then Some e.sig else sig_of entries number
+
+-- where the entry of a number stands, if there is one
+unfoldable pub place_of : List Entry → ℕ → Option ℕ
+place_of [] number = None
+place_of (e ∷ entries) number = if e.number == number then Some 0 else option_map suc (place_of entries number)
 
 -- a table's Sigs agree with others: each number of these stands in the table with that same Sig
 abbrev pub AgreesWith : List Entry → List Entry → Type 0

@@ -1,12 +1,12 @@
 //! The table of helpers.
 
 ghost use Rattle.std.specs.List.{Any, Contains};
-ghost use Rattle.std.specs.Prelude.{◌≡◌, ◌↔◌, ℕ, List, [], ◌∷◌, ◌++◌, map, OnOk, OnErr, IfOk, IfErr, IfSome, IfNone, Some, None, Option, IsTrue};
+ghost use Rattle.std.specs.Prelude.{◌≡◌, ◌↔◌, ℕ, List, [], ◌∷◌, ◌++◌, map, length, get_or, count_by, is_some, OnOk, OnErr, IfOk, IfErr, IfSome, IfNone, Some, None, Option, IsTrue};
 ghost use Rattle.helpers.specs.declared.sig.Sig.{Sig};
 ghost use Rattle.helpers.specs.declared.sig.Entry.{Entry};
 ghost use Rattle.helpers.specs.Answers.{Fits, HelperAnswers};
 ghost use Rattle.helpers.specs.Parts.{given};
-ghost use Rattle.helpers.specs.Entries.{sig_of, AgreesWith, IsAdmitted, Refuses};
+ghost use Rattle.helpers.specs.Entries.{sig_of, place_of, AgreesWith, IsAdmitted, Refuses};
 
 use crate::helper::{Body, Call, Helper};
 use crate::sig::{Entry, Sig, is_helper_number};
@@ -32,15 +32,23 @@ pub enum HelperFault {
     NoMemory,
 }
 
+/// One more than the greatest number of a helper.
+const NUMBERS: usize = 128;
+
 /// The helpers that a program may call.
 #[derive(Drop)]
 pub struct Table {
     /// Their numbers and Sigs, in the order in which they were added.
     pub listed: Sigs,
     helpers: Vec<Helper>,
+    // By number, where its helper stands.
+    places: [Option<u8>; NUMBERS],
     // No number stands twice.
     pub ghost whole: { AgreesWith listed listed },
     ghost paired: { map {B = Entry} (λ h. record { number = h.number; sig = h.sig }) helpers.items ≡ listed },
+    ghost indexed: { (number : ℕ) → get_or places number None ≡ place_of listed number },
+    // As many numbers have a place as there are helpers, so a place is below 128.
+    ghost counted: { length listed ≡ count_by is_some places },
 }
 
 impl Table {
@@ -51,6 +59,7 @@ impl Table {
         Table {
             listed: Sigs::new(alloc),
             helpers: Vec::new(alloc),
+            places: [None; NUMBERS],
         }
     }
 
@@ -73,6 +82,7 @@ impl Table {
         if self.helpers.reserve(1).is_err() || self.listed.push(entry).is_err() {
             return Err((helper, HelperFault::NoMemory));
         }
+        self.places[entry.number as usize] = Some(self.helpers.len() as u8);
         self.helpers.push_reserved(helper);
         Ok(())
     }
@@ -81,7 +91,7 @@ impl Table {
     pub fn sig(&self, number: u32) -> Option<Sig>
         ensures { result ≡ sig_of self.now.listed number }
     {
-        self.listed.sig(number)
+        Some(self.helper(number)?.sig)
     }
 
     /// The numbers and Sigs of the helpers.
@@ -110,7 +120,18 @@ impl Table {
         ensures none { IfNone result (sig_of self.now.listed number ≡ None) }
         ensures held { IfSome result (λ helper. Contains self.now.helpers.items helper.now) }
     {
-        find_helper(self.helpers.as_slice(), number)
+        let place = self.place(number)?;
+        Some(&self.helpers[place])
+    }
+
+    /// Where the helper of a number stands, if there is one.
+    fn place(&self, number: u32) -> Option<usize>
+        ensures { result ≡ place_of self.now.listed number }
+    {
+        match self.places.get(number as usize) {
+            Some(Some(place)) => Some(usize::from(*place)),
+            _ => None,
+        }
     }
 
     /// The answer of a helper to a call that fits its Sig.
@@ -144,18 +165,4 @@ impl Sigs {
             Err(HelperFault::Signature)
         }
     }
-}
-
-/// The first helper of a number.
-fn find_helper(helpers: &[Helper], number: u32) -> Option<&Helper>
-    ensures some { IfSome result (λ helper. (helper.now.number ≡ number) × (sig_of (map {B = Entry} (λ h. record { number = h.number; sig = h.sig }) helpers.now) number ≡ Some helper.now.sig)) }
-    ensures none { IfNone result (sig_of (map {B = Entry} (λ h. record { number = h.number; sig = h.sig }) helpers.now) number ≡ None) }
-    ensures held { IfSome result (λ helper. Contains helpers.now helper.now) }
-{
-    for helper in helpers {
-        if helper.number == number {
-            return Some(helper);
-        }
-    }
-    None
 }

@@ -1,8 +1,8 @@
-use Rattle.std.proofs.Common.{◌≡◌, ◌++◌, ◌∷◌, [], List, map, rules, ap, ◌∙◌, subst, sym}
-use Rattle.std.proofs.lemmas.List.{map-append}
+use Rattle.std.proofs.Common.{◌≡◌, ◌++◌, ◌∷◌, [], List, rules, arith, subst, sym}
 use Rattle.helpers.specs.declared.sig.Entry.{Entry}
 use Rattle.helpers.specs.Entries.{AgreesWith}
 use Rattle.helpers.proofs.Agreement.{one_more}
+use Rattle.helpers.proofs.Index.{number_within, same_length, paired_push, indexed_push, counted_push}
 use Rattle.helpers.proofs.table.Table.add.Goals as goal
 
 pub invariant_of-self-2-clause-whole : goal.invariant_of-self-2-clause-whole
@@ -15,6 +15,21 @@ pub invariant_of-self-2-clause-paired : goal.invariant_of-self-2-clause-paired
 invariant_of-self-2-clause-paired g c =
     let entry : Entry = record { number = c.args.helper.number; sig = c.args.helper.sig } in
     let grown : c.push.new.self ≡ c.args.self.now.listed ++ entry ∷ [] = search (rules) in
-    ap (map {B = Entry} (λ h. record { number = h.number; sig = h.sig })) (c.push_reserved.ensures.items ∙ ap (λ hs. hs ++ c.args.helper ∷ []) c.reserve.ensures.items)
-    ∙ map-append {B = Entry} (λ h. record { number = h.number; sig = h.sig }) _ _
-    ∙ ap (λ (es : List Entry). es ++ entry ∷ []) c.args.self.now.paired ∙ sym grown
+    paired_push _ c.args.self.now.helpers.items c.reserve.new.self.items c.push_reserved.new.self.items c.args.helper c.args.self.now.listed c.push.new.self
+    c.reserve.ensures.items c.push_reserved.ensures.items grown c.args.self.now.paired
+
+pub invariant_of-self-2-clause-indexed : goal.invariant_of-self-2-clause-indexed
+invariant_of-self-2-clause-indexed g c =
+    let table = c.args.self.now in
+    let entry : Entry = record { number = c.args.helper.number; sig = c.args.helper.sig } in
+    let grown : c.push.new.self ≡ table.listed ++ entry ∷ [] = search (rules) in
+    let within = number_within entry.number c.in_default.ensures.ok.numbered in
+    indexed_push table.places table.listed c.push.new.self entry c.len.result grown (omega (arith, c.len.ensures, c.reserve.ensures.len, table.helpers.ok.0, same_length _ table.helpers.items table.listed table.paired)) (omega (arith, within)) c.in_default.ensures.ok.free table.indexed
+
+pub invariant_of-self-2-clause-counted : goal.invariant_of-self-2-clause-counted
+invariant_of-self-2-clause-counted g c =
+    let table = c.args.self.now in
+    let entry : Entry = record { number = c.args.helper.number; sig = c.args.helper.sig } in
+    let grown : c.push.new.self ≡ table.listed ++ entry ∷ [] = search (rules) in
+    let within = number_within entry.number c.in_default.ensures.ok.numbered in
+    counted_push table.places table.listed c.push.new.self entry c.len.result grown (omega (arith, within)) c.in_default.ensures.ok.free (table.indexed entry.number) table.counted
