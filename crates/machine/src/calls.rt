@@ -13,8 +13,8 @@ ghost use Rattle.helpers.specs.Calls.{Callee, Gives, Spans, argument_registers, 
 ghost use Rattle.machine.specs.Called.{Called, Lends, answered};
 ghost use Rattle.machine.specs.Stepped.{state_of, loan_of, Applied};
 
-use crate::State;
 use crate::parts::{first_place, numbers, part, second_place};
+use crate::state::State;
 use helpers::{ARGUMENT_REGISTERS, ArgRule, Call, MAX_READ, Table, fits};
 use insn::Register;
 use memory::{Fault, Region};

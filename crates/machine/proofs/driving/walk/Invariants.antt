@@ -2,7 +2,7 @@ use Rattle.std.proofs.Common.{◌≡◌}
 use Rattle.helpers.specs.Calls.{calls_of}
 use Rattle.memory.specs.Step.{Runs}
 use Rattle.machine.specs.Stepped.{state_of, loan_of}
-use Rattle.machine.proofs.walk.Given as goal
+use Rattle.machine.proofs.driving.walk.Given as goal
 
 abbrev pub invariant-loop-taken : goal.invariant-loop-taken
 invariant-loop-taken g l = record {

@@ -2,7 +2,7 @@ use Rattle.std.proofs.Common.{ap, ◌∙◌}
 use Rattle.memory.specs.State.{advanced}
 use Rattle.machine.specs.Stepped.{state_of}
 use Rattle.machine.proofs.Fitting.{call_answered}
-use Rattle.machine.proofs.State.call.Goals as goal
+use Rattle.machine.proofs.state.State.call.Goals as goal
 
 pub returns-clause-applied : goal.returns-clause-applied
 returns-clause-applied g c =

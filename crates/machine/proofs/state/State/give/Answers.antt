@@ -3,7 +3,7 @@ use Rattle.machine.specs.Stepped.{state_of}
 use Rattle.helpers.specs.Answers.{Given}
 use Rattle.helpers.specs.Calls.{Gives}
 use Rattle.machine.proofs.Fitting.{none_first, none_second, all_given}
-use Rattle.machine.proofs.State.give.Goals as goal
+use Rattle.machine.proofs.state.State.give.Goals as goal
 
 pub returns-in_err-first-clause-err : goal.returns-in_err-first-clause-err
 returns-in_err-first-clause-err c =

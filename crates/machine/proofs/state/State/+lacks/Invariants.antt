@@ -1,5 +1,5 @@
 use Rattle.std.proofs.Common.{length}
-use Rattle.machine.proofs.State.+lacks.Given as goal
+use Rattle.machine.proofs.state.State.+lacks.Given as goal
 
 abbrev pub decreases-lacks : goal.decreases-lacks
 decreases-lacks l = length l.rules.now

@@ -2,7 +2,7 @@ use Rattle.memory.proofs.Kept.{row_input}
 use Rattle.helpers.specs.Calls.{calls_of}
 use Rattle.machine.specs.Stepped.{state_of}
 use Rattle.machine.proofs.Keeping.{calls_keep}
-use Rattle.machine.proofs.step.Goals as goal
+use Rattle.machine.proofs.stepping.step.Goals as goal
 
 pub returns-clause-input : goal.returns-clause-input
 returns-clause-input g c =

@@ -3,7 +3,7 @@ use Rattle.helpers.specs.Answers.{Fits, HelperAnswers}
 use Rattle.helpers.specs.Parts.{given}
 use Rattle.machine.specs.Stepped.{state_of}
 use Rattle.machine.proofs.Fitting.{unknown_refused, unset_refused, helper_refused, helper_answered, gives_once, placed}
-use Rattle.machine.proofs.State.help.Goals as goal
+use Rattle.machine.proofs.state.State.help.Goals as goal
 
 wrong : true ≡ false → ⊥
 wrong e = cc

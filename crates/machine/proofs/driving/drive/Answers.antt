@@ -1,7 +1,7 @@
 use Rattle.machine.specs.Stepped.{state_of}
 use Rattle.machine.proofs.Fitting.{placed}
 use Rattle.machine.proofs.Ended.{exit_where, fault_where, fuel_where}
-use Rattle.machine.proofs.drive.Goals as goal
+use Rattle.machine.proofs.driving.drive.Goals as goal
 
 pub returns-clause-exit_where : goal.returns-clause-exit_where
 returns-clause-exit_where g c = λ one.

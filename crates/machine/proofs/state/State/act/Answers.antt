@@ -3,7 +3,7 @@ use Rattle.memory.specs.State.{no_calls}
 use Rattle.helpers.specs.Calls.{calls_of}
 use Rattle.machine.specs.Stepped.{state_of}
 use Rattle.machine.proofs.Lifted.{applied_same}
-use Rattle.machine.proofs.State.act.Goals as goal
+use Rattle.machine.proofs.state.State.act.Goals as goal
 
 pub returns-in_default-clause-applied : goal.returns-in_default-clause-applied
 returns-in_default-clause-applied g c =

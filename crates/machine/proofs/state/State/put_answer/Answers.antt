@@ -2,7 +2,7 @@ use Rattle.std.proofs.Common.{◌∷◌, ap, rules}
 use Rattle.std.specs.Prelude.{None, Some}
 use Rattle.machine.specs.Stepped.{state_of}
 use Rattle.machine.proofs.Fitting.{last_five}
-use Rattle.machine.proofs.State.put_answer.Goals as goal
+use Rattle.machine.proofs.state.State.put_answer.Goals as goal
 
 pub returns-clause-answered : goal.returns-clause-answered
 returns-clause-answered c =
