@@ -5,8 +5,10 @@ ghost use Rattle.std.specs.Option.{option_copied};
 ghost use Rattle.object.specs.State.{State};
 ghost use Rattle.peers.specs.declared.fault.PeerFault.{PeerFault as Failure};
 ghost use Rattle.dvv.specs.declared.Dot.{Dot};
+ghost use Rattle.hooks.specs.declared.fault.NotSeen.{NotSeen};
+ghost use Rattle.verifier.specs.Program.{Program};
 ghost use Rattle.peers.specs.Calls.{Call, PutAt, Made};
-ghost use Rattle.quorum.specs.Resolves.{is_others, others_of, brings, AllTaken, OneFailed, AfterChoice, AfterCommit, Commits, AfterRun, IsResolve, end_of, state_told, cut_of};
+ghost use Rattle.quorum.specs.Resolves.{is_others, others_of, brings, AllTaken, OneFailed, AfterChoice, AfterCommit, Commits, AfterRun, AfterLookUp, IsResolve, end_of, state_told, cut_of};
 ghost use Rattle.quorum.specs.declared.fault.ResolveFault.{ResolveFault as Unmade};
 
 use crate::fault::ResolveFault;
@@ -81,6 +83,23 @@ fn settle<P: Peers, H: Hooks>(
     if got.siblings().len() < 2 {
         return Ok(None);
     }
+    run_resolver(peers, hooking, coordinator, key, got, answers)
+}
+
+// The coordinator's state after what the bucket's resolver chose was put there, where it has one and that chose anything.
+fn run_resolver<P: Peers, H: Hooks>(
+    peers: &mut P,
+    hooking: &mut Hooking<H>,
+    coordinator: usize,
+    key: &Key,
+    got: &KeyState,
+    answers: &[Answer],
+) -> Result<Option<KeyState>, ResolveFault>
+    ensures calls { (calls : List Call) × Made P.happens peers.old calls peers.new × (found : Result (Option Program) NotSeen)
+        × H.finds hooking.old.hooks key.now.bucket ImageKind.Resolver found hooking.new.hooks
+        × AfterLookUp coordinator key.now answers.now got.now.clock hooking.old.table.listed got.now.siblings found calls result }
+    ensures table { hooking.new.table ≡ hooking.old.table }
+{
     match hooking.hooks.hook_of(&key.bucket, ImageKind::Resolver) {
         Ok(Some(hook)) => {
             let ran = hooking.choose(&hook, got.siblings());
