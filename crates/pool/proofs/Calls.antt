@@ -12,24 +12,30 @@ use Rattle.vnode.specs.declared.fault.VnodeFault.{VnodeFault}
 use Rattle.calls.specs.declared.request.Reply.{Reply}
 use Rattle.calls.specs.declared.request.Request.{Request}
 use Rattle.calls.specs.Answered.{made, with_made}
+use Rattle.stamps.specs.declared.view.News.{News}
+use Rattle.stamps.specs.declared.view.News.TheVariants as news
 use Rattle.stamps.specs.declared.view.Told.{Told}
 use Rattle.stamps.specs.declared.view.History.{History}
 use Rattle.stamps.specs.declared.view.View.{View}
-use Rattle.stamps.specs.Rule.{together, drew, dropped, learned, without_pass, entries, entry_count, IsWithin, TellsOf}
-use Rattle.pool.specs.Answers.{IsAnswered, entry_of_call, entries_of, AreAnswered, IsVnodes, log_of, lacks_memory}
+use Rattle.stamps.specs.Rule.{together, drew, dropped, learned, without_pass, entries, entry_count, outcome_count, IsWithin, TellsOf}
+use Rattle.pool.specs.Answers.{IsAnswered, entry_of_call, entries_made, entries_of, AreAnswered, IsVnodes, log_of, lacks, lacks_memory}
 use Rattle.pool.specs.Calls.{pass_view, told_then}
 
 pub entries_of-push : (ts : List Told) (t : Told) → entries_of (ts ++ t ∷ []) ≡ entries_of ts ++ entry_of_call t
 entries_of-push [] t = append-nil _
 entries_of-push (u ∷ us) t = ap (λ es. entry_of_call u ++ es) (entries_of-push us t) ∙ sym (append_assoc _ (entries_of us) _)
 
-pub length_made : (s : ℕ) (q : Request) (o : Result Reply VnodeFault) → length (made s q o) ≡ entry_count o
-length_made s q (Ok a) = refl
-length_made s q (Err f) = refl
+pub length_made : (s : ℕ) (n : News) → length (entries_made s n) ≡ entry_count n
+length_made s (news.Call q o) = by o
+  where
+    by : (o : Result Reply VnodeFault) → length (made s q o) ≡ outcome_count o
+    by (Ok a) = refl
+    by (Err f) = refl
+length_made s (news.HandOut first entries) = refl
 
 pub length_entries : (ts : List Told) → length (entries_of ts) ≡ entries ts
 length_entries [] = refl
-length_entries (t ∷ ts) = omega (arith, length-append (entry_of_call t) (entries_of ts), length_made t.stamp t.request t.outcome, length_entries ts)
+length_entries (t ∷ ts) = omega (arith, length-append (entry_of_call t) (entries_of ts), length_made t.stamp t.news, length_entries ts)
 
 pub answered-push : (front : List Entry) (ts : List Told) (t : Told) → AreAnswered front ts → IsAnswered (front ++ entries_of ts) t → AreAnswered front (ts ++ t ∷ [])
 answered-push front [] t a b = (subst (λ es. IsAnswered es t) (append-nil front) b, tt)
@@ -55,7 +61,7 @@ within_is w x h drawn ts stamp t ew told = subst (λ (y : View). IsWithin h.vnod
 
 -- the vnode's seat is that of the vnode after one call more
 pub vnodes_more : (old new : Log) (x : View) (h : History) (drawn : ℕ) (ts : List Told) (t : Told) → h.vnode ≡ old.vnode → t.vnode ≡ old.vnode → entries_of h.told ≡ old.entries → AreAnswered [] h.told → x ≡ back drawn ts h t
-    → IsAnswered old.entries t → new ≡ with_made old t.stamp t.request t.outcome → IsVnodes new (without_pass x)
+    → IsAnswered old.entries t → new ≡ record { vnode = old.vnode; entries = old.entries ++ entry_of_call t } → IsVnodes new (without_pass x)
 vnodes_more old new x h drawn ts t n tn j a ex answer more = record {
   history = record { vnode = h.vnode; told = h.told ++ t ∷ [] };
   view = ap without_pass ex;
@@ -79,10 +85,10 @@ vnodes_same old new w x h drawn ts stamp s q out n j a ew ex lacks more = record
     none (Ok r) e = absurd (cc)
     none (Err f) e = refl
 
-pub told_more : (ts : List Told) (t : Told) → lacks_memory t.outcome ≡ false → ts ++ t ∷ [] ≡ told_then ts t
+pub told_more : (ts : List Told) (t : Told) → lacks t.news ≡ false → ts ++ t ∷ [] ≡ told_then ts t
 told_more ts t e = ap (λ (b : Bool). if b then ts else (ts ++ t ∷ [])) (sym e)
 
-pub told_same : (ts : List Told) (t : Told) → lacks_memory t.outcome ≡ true → ts ≡ told_then ts t
+pub told_same : (ts : List Told) (t : Told) → lacks t.news ≡ true → ts ≡ told_then ts t
 told_same ts t e = ap (λ (b : Bool). if b then ts else (ts ++ t ∷ [])) (sym e)
 
 -- what was told of the vnode lies within its journal

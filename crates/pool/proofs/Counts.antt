@@ -1,5 +1,5 @@
 -- Each journal has as many entries as there are receipts for it.
-use Rattle.std.proofs.Common.{◌≡◌, ◌≢◌, ℕ, zero, suc, ◌+◌, ◌≤◌, ◌==◌, if◌then◌else◌, true, false, List, [], ◌∷◌, ◌++◌, length, map, ◌<◌, slice_index, Result, Ok, Err, refl, sym, ap, ◌∙◌, subst, arith, eq-eqb}
+use Rattle.std.proofs.Common.{◌≡◌, ◌≢◌, ℕ, zero, suc, ◌+◌, ◌≤◌, ◌==◌, if◌then◌else◌, true, false, List, [], ◌∷◌, ◌++◌, length, map, ◌<◌, slice_index, Ok, Err, refl, sym, ap, ◌∙◌, subst, arith, eq-eqb}
 use Rattle.std.specs.List.{sum_by}
 use Rattle.std.specs.List.Sorted.{IsPermutation, IsStrictlyIncreasing}
 use Rattle.std.proofs.lemmas.List.Sorted.{sum_by-IsPermutation}
@@ -7,6 +7,8 @@ use Rattle.std.proofs.lemmas.List.Sums.{sum_by-cons}
 use mathlib.Core.Option.{some, some-injective, some-ne-none}
 use lib.ListN.{get_elem?}
 use Rattle.std.proofs.lemmas.Bool.Decides.{nat_tests}
+use Rattle.stamps.specs.declared.view.News.{News}
+use Rattle.stamps.specs.declared.view.News.TheVariants as news
 use Rattle.stamps.specs.declared.view.Told.{Told}
 use Rattle.stamps.specs.declared.view.History.{History}
 use Rattle.stamps.specs.Rule.{total, times, entry_count, entries, seen, InOrder, AreInOrder, IsWhole, all_told}
@@ -15,12 +17,11 @@ use Rattle.stamps.proofs.Known.{ordered_at}
 use Rattle.stamps.proofs.Orders.{map_append}
 use Rattle.journal.specs.Entry.{Entry}
 use Rattle.journal.specs.Logs.{Log}
-use Rattle.vnode.specs.declared.fault.VnodeFault.{VnodeFault}
 use Rattle.calls.specs.declared.request.Reply.{Reply}
 use Rattle.calls.specs.declared.request.Request.{Request}
 use Rattle.calls.specs.declared.request.Request.TheVariants as request
-use Rattle.calls.specs.Answered.{entry_of, made}
-use Rattle.pool.specs.Answers.{entries_of}
+use Rattle.calls.specs.Answered.{entry_of}
+use Rattle.pool.specs.Answers.{entries_of, entries_made}
 use Rattle.journal.specs.Stamps.{stamp_of}
 use Rattle.pool.specs.Gathers.{AreVnodes, receipts_of, AreCounted, journal_stamps}
 use Rattle.pool.proofs.Calls.{length_entries}
@@ -33,7 +34,7 @@ total_moved : {A : Type 0} (f : A → ℕ) (xs ys : List A) → IsPermutation xs
 total_moved f xs ys p = total_sum f xs ∙ sym (sum_by-IsPermutation f xs ys p) ∙ sym (total_sum f ys)
 
 abbrev weight : ℕ → Told → ℕ
-weight number t = if t.vnode == number then entry_count t.outcome else 0
+weight number t = if t.vnode == number then entry_count t.news else 0
 
 -- in one vnode's history all are its own
 mine : (number vnode at low : ℕ) (ts : List Told) → InOrder vnode at low ts → vnode ≡ number → total (weight number) ts ≡ entries ts
@@ -67,11 +68,12 @@ increasing low (x ∷ y ∷ es) r (suc k) h =
 
 rises : (vnode at low : ℕ) (ts : List Told) → InOrder vnode at low ts → (bottom : ℕ) → bottom ≤ low → Rise bottom (entries_of ts)
 rises vnode at low [] o bottom le = tt
-rises vnode at low (t ∷ ts) o bottom le = by t.outcome (λ b h. rises vnode (seen t) (suc t.stamp) ts o.3 b h)
+rises vnode at low (t ∷ ts) o bottom le = by t.news (λ b h. rises vnode (seen t) (suc t.stamp) ts o.3 b h)
   where
-    by : (out : Result Reply VnodeFault) → ((b : ℕ) → b ≤ suc t.stamp → Rise b (entries_of ts)) → Rise bottom (made t.stamp t.request out ++ entries_of ts)
-    by (Ok a) rest = subst (λ n. (bottom ≤ n) × Rise (suc n) (entries_of ts)) (sym (stamp_entry t.stamp t.request a)) ((let p = o.2 in omega arith), rest (suc t.stamp) (omega arith))
-    by (Err f) rest = rest bottom (let p = o.2 in omega arith)
+    by : (n : News) → ((b : ℕ) → b ≤ suc t.stamp → Rise b (entries_of ts)) → Rise bottom (entries_made t.stamp n ++ entries_of ts)
+    by (news.Call q (Ok a)) rest = subst (λ n. (bottom ≤ n) × Rise (suc n) (entries_of ts)) (sym (stamp_entry t.stamp q a)) ((let p = o.2 in omega arith), rest (suc t.stamp) (omega arith))
+    by (news.Call q (Err f)) rest = rest bottom (let p = o.2 in omega arith)
+    by (news.HandOut first entries) rest = rest bottom (let p = o.2 in omega arith)
 
 abbrev numbers : List History → List ℕ
 numbers hs = map (λ h. h.vnode) hs
@@ -130,11 +132,12 @@ times_append x xs ys = total-append (λ y. if y == x then 1 else 0) xs ys
 
 fewer : (x : ℕ) (ts : List Told) → times x (map stamp_of (entries_of ts)) ≤ times x (map (λ t. t.stamp) ts)
 fewer x [] = omega arith
-fewer x (t ∷ ts) = by t.outcome (fewer x ts)
+fewer x (t ∷ ts) = by t.news (fewer x ts)
   where
-    by : (out : Result Reply VnodeFault) → times x (map stamp_of (entries_of ts)) ≤ times x (map (λ t. t.stamp) ts) → times x (map stamp_of (made t.stamp t.request out ++ entries_of ts)) ≤ times x (map (λ t. t.stamp) (t ∷ ts))
-    by (Ok a) r = subst (λ n. (if n == x then 1 else 0) + times x (map stamp_of (entries_of ts)) ≤ times x (map (λ u. u.stamp) (t ∷ ts))) (sym (stamp_entry t.stamp t.request a)) (omega arith)
-    by (Err f) r = omega arith
+    by : (n : News) → times x (map stamp_of (entries_of ts)) ≤ times x (map (λ t. t.stamp) ts) → times x (map stamp_of (entries_made t.stamp n ++ entries_of ts)) ≤ times x (map (λ t. t.stamp) (t ∷ ts))
+    by (news.Call q (Ok a)) r = subst (λ n. (if n == x then 1 else 0) + times x (map stamp_of (entries_of ts)) ≤ times x (map (λ u. u.stamp) (t ∷ ts))) (sym (stamp_entry t.stamp q a)) (omega arith)
+    by (news.Call q (Err f)) r = omega arith
+    by (news.HandOut first entries) r = omega arith
 
 -- no stamp stands twice over all journals
 pub stamps_apart : (x : ℕ) (vs : List Log) (hs : List History) → AreVnodes vs hs → times x (journal_stamps vs) ≤ times x (map (λ t. t.stamp) (all_told hs))

@@ -1,5 +1,5 @@
 -- Gathered vnodes have different identifiers.
-use Rattle.std.proofs.Common.{◌≡◌, ℕ, zero, suc, ◌+◌, ◌<◌, ◌≤◌, ◌==◌, if◌then◌else◌, true, List, [], ◌∷◌, length, map, get_or, refl, ap, sym, subst, arith, eq-eqb}
+use Rattle.std.proofs.Common.{◌≡◌, ℕ, zero, suc, ◌+◌, ◌<◌, ◌≤◌, ◌==◌, true, List, [], ◌∷◌, length, map, get_or, refl, ap, sym, subst, arith, eq-eqb}
 use Rattle.stamps.specs.declared.view.History.{History}
 use Rattle.stamps.specs.Rule.{times}
 use Rattle.journal.specs.Logs.{Log}

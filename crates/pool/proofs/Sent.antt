@@ -2,7 +2,7 @@
 use denote.RattleType.{RattleType}
 use denote.Param.Send.{IsSend, IsSync, sendable}
 use Rattle.std.proofs.Crossing.{crosses, Vec-sync}
-use Rattle.std.proofs.MapsCrossing.{crosses as map_crosses, BTreeMap-send}
+use Rattle.std.proofs.MapsCrossing.{BTreeMap-send}
 use Rattle.std.specs.contracts.sync.Mutex as Mutex
 use Rattle.std.specs.contracts.vec.Vec as Vec
 use Rattle.std.specs.contracts.alloc.Global as Heap

@@ -20,7 +20,7 @@ fits front (u ∷ us) vnode at low t l a o c =
     ⊎_elim
     (λ (here : u ≡ t). subst (λ y. FitsIn (front ++ entries_of (u ∷ us)) y) here (front, entries_of us, refl, l ∙ sym o.1, a.0))
     (λ (there : Contains us t). subst (λ es. FitsIn es t) (append_assoc front (entry_of_call u) (entries_of us))
-    (fits (front ++ entry_of_call u) us vnode (seen u) (suc u.stamp) t (let p = o.1 in omega (arith, length-append front (entry_of_call u), length_made u.stamp u.request u.outcome)) a.1 o.3 there))
+    (fits (front ++ entry_of_call u) us vnode (seen u) (suc u.stamp) t (let p = o.1 in omega (arith, length-append front (entry_of_call u), length_made u.stamp u.news)) a.1 o.3 there))
     (has_cases u us t c)
 
 -- the vnode of a history

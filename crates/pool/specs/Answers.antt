@@ -1,11 +1,13 @@
 -- What one thread would have answered, call by call.
-use Rattle.std.specs.Prelude.{◌≡◌, ℕ, Bool, true, false, List, [], ◌∷◌, ◌++◌, Result, Ok, Err}
+use Rattle.std.specs.Prelude.{◌≡◌, ◌≤◌, ℕ, Bool, true, false, List, [], ◌∷◌, ◌++◌, length, drop, Result, Ok, Err}
 use Rattle.journal.specs.Entry.{Entry}
 use Rattle.journal.specs.Logs.{Log}
 use Rattle.vnode.specs.declared.fault.VnodeFault.{VnodeFault}
 use Rattle.vnode.specs.declared.fault.VnodeFault.TheVariants.{ContextAhead, TooManySiblings, ClockFull, MergedClockFull, JournalFull, NoMemory}
 use Rattle.calls.specs.declared.request.Reply.{Reply}
 use Rattle.calls.specs.Answered.{IsOutcome, made}
+use Rattle.stamps.specs.declared.view.News.{News}
+use Rattle.stamps.specs.declared.view.News.TheVariants as news
 use Rattle.stamps.specs.declared.view.Told.{Told}
 use Rattle.stamps.specs.declared.view.History.{History}
 use Rattle.stamps.specs.declared.view.View.{View}
@@ -23,17 +25,36 @@ abbrev pub lacks_memory : Result Reply VnodeFault → Bool
 lacks_memory (Ok reply) = false
 lacks_memory (Err fault) = is_want_of_memory fault
 
+-- what is not told, since there was no memory
+abbrev pub lacks : News → Bool
+lacks (news.Call request outcome) = lacks_memory outcome
+lacks (news.HandOut first entries) = false
+
 -- a journal of this vnode
 abbrev pub log_of : ℕ → List Entry → Log
 log_of vnode entries = record { vnode = vnode; entries = entries }
 
--- what a call came to is what comes to one thread after these entries
+-- these entries stand in the journal, the first of them at this place
+abbrev pub HasFrom : List Entry → ℕ → List Entry → Type 0
+HasFrom journal first entries = (rest : List Entry) × (first ≤ length journal) × (drop first journal ≡ entries ++ rest)
+
+-- what was told is so of this journal: what a call came to is what comes to one thread after these entries, and what was handed out stands there
+abbrev pub IsSaid : Log → ℕ → News → Type 0
+IsSaid log stamp (news.Call request outcome) = IsOutcome log stamp request outcome
+IsSaid log stamp (news.HandOut first entries) = HasFrom log.entries first entries
+
+-- what was told is so after these entries
 abbrev pub IsAnswered : List Entry → Told → Type 0
-IsAnswered front t = IsOutcome (log_of t.vnode front) t.stamp t.request t.outcome
+IsAnswered front t = IsSaid (log_of t.vnode front) t.stamp t.news
+
+-- the entries that were made: one, or by a call that was refused and where a part of the journal was handed out none
+abbrev pub entries_made : ℕ → News → List Entry
+entries_made stamp (news.Call request outcome) = made stamp request outcome
+entries_made stamp (news.HandOut first entries) = []
 
 -- the entries of a call: one, or where it was refused none
 abbrev pub entry_of_call : Told → List Entry
-entry_of_call t = made t.stamp t.request t.outcome
+entry_of_call t = entries_made t.stamp t.news
 
 -- the entries of these calls
 abbrev pub entries_of : List Told → List Entry

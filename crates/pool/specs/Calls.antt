@@ -1,19 +1,22 @@
 -- What a call leaves.
-use Rattle.std.specs.Prelude.{◌≡◌, ◌<◌, ◌+◌, ℕ, MatchBool, if◌then◌else◌, List, [], ◌∷◌, ◌++◌, length, Result, Ok, Err}
+use Rattle.std.specs.Prelude.{◌≡◌, ◌<◌, ◌≤◌, ◌+◌, ℕ, All, MatchBool, if◌then◌else◌, List, [], ◌∷◌, ◌++◌, length, Result, Ok, Err}
 use Rattle.atomic_table.specs.Seated.{TableId}
+use Rattle.journal.specs.Blocks.{all_of, IsFullBlock}
 use Rattle.journal.specs.Entry.{Entry}
+use Rattle.std.specs.Global.{Vec}
 use Rattle.journal.specs.Journals.{IsJournal}
 use Rattle.object.specs.declared.content.Key.{Key}
 use Rattle.vnode.specs.Keys.{AreKeys}
 use Rattle.vnode.specs.declared.fault.VnodeFault.{VnodeFault}
 use Rattle.calls.specs.declared.request.Reply.{Reply}
 use Rattle.calls.specs.declared.request.Request.{Request}
-use Rattle.stamps.specs.Rule.{IsWithin, stamps_each}
+use Rattle.stamps.specs.Rule.{IsWithin, stamps_each, hand_out_of}
+use Rattle.stamps.specs.declared.view.News.TheVariants as news
 use Rattle.stamps.specs.declared.view.Size.{Size}
 use Rattle.stamps.specs.declared.view.Told.{Told}
 use Rattle.stamps.specs.declared.view.History.{History}
 use Rattle.stamps.specs.declared.view.View.{View}
-use Rattle.pool.specs.Answers.{IsAnswered, is_want_of_memory, lacks_memory, log_of}
+use Rattle.pool.specs.Answers.{IsAnswered, is_want_of_memory, lacks, log_of}
 use Rattle.pool.specs.declared.fault.CallFault.{CallFault}
 use Rattle.pool.specs.declared.fault.CallFault.TheVariants.{PassSpent, Refused}
 
@@ -31,7 +34,7 @@ outcome_ok reply = Ok reply
 
 -- what was told after one call more: nothing more, where that was refused for memory
 abbrev pub told_then : List Told → Told → List Told
-told_then ts t = if lacks_memory t.outcome then ts else (ts ++ t ∷ [])
+told_then ts t = if lacks t.news then ts else (ts ++ t ∷ [])
 
 -- this was told, after some front of a journal of the vnode, which has all that was told before of the vnode, as one thread answers there
 abbrev pub IsTold : Told → List Told → Type 0
@@ -43,12 +46,17 @@ IsNews old new t = (new.told ≡ old.told ++ t ∷ []) × IsTold t old.told
 
 -- the pass was told of a refusal by the vnode
 abbrev pub IsRefusal : View → View → ℕ → Request → VnodeFault → Type 0
-IsRefusal old new vnode request fault = (t : Told) × IsNews old new t × (t.vnode ≡ vnode) × (t.request ≡ request) × (t.outcome ≡ Err fault)
+IsRefusal old new vnode request fault = (t : Told) × IsNews old new t × (t.vnode ≡ vnode) × (t.news ≡ news.Call request (Err fault))
 
 -- a refusal: the pass has drawn all its stamps; there was no memory; or the vnode's, as one thread is refused there
 abbrev pub IsFault : View → View → ℕ → Request → CallFault → Type 0
 IsFault old new vnode request PassSpent = (new.told ≡ old.told) × (old.drawn ≡ stamps_each)
 IsFault old new vnode request (Refused fault) = MatchBool (is_want_of_memory fault) (new.told ≡ old.told) (IsRefusal old new vnode request fault)
+
+-- The pass was told of these full blocks, which a vnode's journal has from this place on. When they were handed out it had at most a block more.
+abbrev pub IsHandedOut : View → View → ℕ → ℕ → List (Vec Entry) → Type 0
+IsHandedOut old new vnode first blocks =
+    (at : ℕ) × (stamp : ℕ) × IsNews old new (hand_out_of vnode at stamp first (all_of blocks)) × All IsFullBlock blocks × (at ≤ first + (length (all_of blocks) + 1024))
 
 -- the keys after some front of a journal of the vnode, which has all that the pass was told of it
 abbrev pub AreKeysOf : Size → View → ℕ → List Key → Type 0

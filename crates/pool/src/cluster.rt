@@ -1,13 +1,14 @@
 //! The vnodes under their locks, and the word from which stamps are drawn.
 ghost use Rattle.journal.specs.Blocks.{AreHandedOut};
 ghost use Rattle.journal.specs.Entry.{Entry as Entered};
-ghost use Rattle.std.specs.Prelude.{◌≡◌, ℕ, List, ◌+◌, ◌-◌, ◌*◌, ◌<◌, ◌≤◌, ◌^◌, [], ◌∷◌, ◌++◌, length, map, IfOk, IfErr, OnOk, vec_len, vec_capacity};
+ghost use Rattle.std.specs.Prelude.{◌≡◌, ℕ, List, ◌+◌, ◌-◌, ◌*◌, ◌<◌, ◌≤◌, ◌^◌, [], ◌∷◌, ◌++◌, length, map, IfOk, IfErr, IfSome, IfNone, OnOk, vec_len, vec_capacity};
 ghost use Rattle.std.specs.List.{flat_map, All, Contains};
+ghost use Rattle.calls.specs.Answered.{asked};
 ghost use Rattle.stamps.specs.declared.view.Told.{Told};
 ghost use Rattle.stamps.specs.Rule.{newcomer, nothing, fresh, times, call_of};
 ghost use Rattle.pool.specs.Gathers.{AreVnodes, IsGathered, AreCounted, Stands, Differ, journal_stamps};
 ghost use Rattle.pool.specs.GatherFaults.{IsGatherFault};
-ghost use Rattle.pool.specs.Calls.{pass_view, undealt, IsNews, IsFault, AreKeysOf, outcome_ok};
+ghost use Rattle.pool.specs.Calls.{pass_view, undealt, IsNews, IsFault, IsHandedOut, AreKeysOf, outcome_ok};
 
 use crate::fault::{CallFault, GatherFault, Receipt};
 use crate::locked::Locked;
@@ -76,13 +77,33 @@ impl<B: Room> Cluster<B> {
         if pass.drawn >= STAMPS_EACH {
             return Err(CallFault::PassSpent);
         }
-        // What the vnode is to keep is copied before its lock is asked for.
-        let Ok(made) = Prepared::new(self.alloc, request) else {
-            return Err(CallFault::Refused(VnodeFault::NoMemory));
-        };
+        match Prepared::new(self.alloc, request) {
+            Ok(prepared) => self.call_prepared(rt, pass, vnode, prepared, gate),
+            Err(_) => Err(CallFault::Refused(VnodeFault::NoMemory)),
+        }
+    }
+
+    /// As [`call`](Cluster::call), of a request whose parts the vnode may keep: nothing is copied. Refused where the pass has drawn all its
+    /// stamps, and else as the vnode refuses it.
+    pub fn call_prepared<R: Wait, G: Gate>(
+        &self,
+        rt: &R,
+        pass: &mut Pass<B>,
+        vnode: usize,
+        prepared: Prepared<'_>,
+        gate: &G,
+    ) -> Result<(Reply, Receipt), CallFault>
+        requires { vnode < self.now.vnodes }
+        ensures ok { IfOk result (λ r. (r.1.vnode ≡ self.now.first + vnode) × IsNews pass.old pass.new (call_of (self.now.first + vnode) r.1.place r.1.stamp (asked prepared.entry) (outcome_ok r.0))) }
+        ensures err { IfErr result (IsFault pass.old pass.new (self.now.first + vnode) (asked prepared.entry)) }
+        ensures drawn { pass.new.drawn ≤ pass.old.drawn + 1 }
+    {
+        if pass.drawn >= STAMPS_EACH {
+            return Err(CallFault::PassSpent);
+        }
         let mut guard = self.vnodes[vnode].lock(rt);
         gate.told(vnode);
-        guard.make(&self.stamps, pass, self.first + vnode as u32, request, made)
+        guard.make(&self.stamps, pass, self.first + vnode as u32, prepared)
     }
 }
 
@@ -114,6 +135,28 @@ impl<B: Room> Cluster<B> {
     {
         let mut guard = self.vnodes[vnode].lock(rt);
         guard.settle(room)
+    }
+
+    /// As [`settle`](Cluster::settle), and the pass is told what is handed out: it stands in the journal that [`gather`](Cluster::gather)
+    /// gives, from that place on. None, and nothing is handed out, where the pass has drawn all its stamps or no block is full.
+    pub fn hand_out<R: Wait>(
+        &self,
+        rt: &R,
+        pass: &mut Pass<B>,
+        vnode: usize,
+        room: Vec<Vec<Entry>>,
+    ) -> Option<Handout>
+        requires vnode { vnode < self.now.vnodes }
+        requires room { room.items ≡ [] }
+        ensures some { IfSome result (λ handout. IsHandedOut pass.old pass.new (self.now.first + vnode) handout.first handout.blocks.items) }
+        ensures none { IfNone result (pass.new ≡ pass.old) }
+        ensures drawn { pass.new.drawn ≤ pass.old.drawn + 1 }
+    {
+        if pass.drawn >= STAMPS_EACH {
+            return None;
+        }
+        let mut guard = self.vnodes[vnode].lock(rt);
+        guard.hand_out(&self.stamps, pass, self.first + vnode as u32, room)
     }
 }
 

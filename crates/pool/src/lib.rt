@@ -3,9 +3,11 @@
 
 mod cluster;
 mod fault;
+mod laws;
 mod locked;
 mod pass;
 
 pub use cluster::{Cluster, Gate};
 pub use fault::{CallFault, GatherFault, Receipt};
+pub use laws::hand_outs_are_a_front;
 pub use pass::{Pass, Room};

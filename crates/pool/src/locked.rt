@@ -1,24 +1,24 @@
 //! A vnode under a lock, beside what its seat of the stamp word knows.
 
-ghost use Rattle.std.specs.Prelude.{◌≡◌, ◌+◌, ◌*◌, ◌<◌, ◌≤◌, ◌^◌, [], ◌∷◌, ◌++◌, length, IfOk, IfErr, OnOk, IsTrue, ◌↔◌, Err, false};
-ghost use Rattle.stamps.specs.Rule.{together, nothing, without_pass, pass_of, stamps_each, IsWithin, call_of};
+ghost use Rattle.std.specs.Prelude.{◌≡◌, ◌+◌, ◌*◌, ◌<◌, ◌≤◌, ◌^◌, [], ◌∷◌, ◌++◌, length, IfOk, IfErr, IfSome, IfNone, OnOk, IsTrue, ◌↔◌, Err, false};
+ghost use Rattle.stamps.specs.Rule.{together, nothing, without_pass, pass_of, stamps_each, IsWithin, call_of, hand_out_of};
 ghost use Rattle.std.specs.Prelude.{List};
-ghost use Rattle.journal.specs.Blocks.{AreHandedOut};
+ghost use Rattle.journal.specs.Blocks.{AreHandedOut, all_of};
 ghost use Rattle.journal.specs.Entry.{Entry as Entered};
 ghost use Rattle.journal.specs.Journals.{IsJournal};
 ghost use Rattle.vnode.specs.Keys.{AreKeys};
 ghost use Rattle.calls.specs.Answered.{asked};
 ghost use Rattle.pool.specs.Answers.{IsVnodes, lacks_memory, log_of};
-ghost use Rattle.pool.specs.Calls.{pass_view, told_then, IsTold, IsNews, IsFault, outcome_ok};
+ghost use Rattle.pool.specs.Calls.{pass_view, told_then, IsTold, IsNews, IsFault, IsHandedOut, outcome_ok};
 
 use crate::fault::{CallFault, Receipt};
 use crate::pass::{Pass, Room};
-use calls::{Prepared, Reply, Request, answer};
+use calls::{Prepared, Reply, answer};
 use journal::{Entry, Handout};
 use object::Key;
-use stamps::{Card, Stamps};
+use stamps::{Asking, Card, Stamps};
 use std::alloc::AllocError;
-use std::marker::{Model, PhantomData};
+use std::marker::{Brand, Model, PhantomData};
 use vnode::{Vnode, VnodeFault};
 
 // The vnode's card takes in what the pass knows.
@@ -67,16 +67,16 @@ struct Asked {
     outcome: Result<Reply, VnodeFault>,
 }
 
-// Asks the vnode, and tells the pass. A request that is refused for memory leaves nothing but a gap in the stamps.
-fn ask(
+// Asks the vnode, and tells the pass of the request that `Q` names. A request that is refused for memory leaves nothing but a gap in the
+// stamps.
+fn ask<Q: Asking>(
     stamps: &Stamps,
     vnode: &mut Vnode,
     card: &mut Card,
     pass: &mut Card,
-    request: &Request,
     prepared: Prepared<'_>,
 ) -> Asked
-    requires prepared { asked prepared ≡ request.now }
+    requires prepared { asked prepared ≡ Q.request }
     requires table { (card.old.table_id ≡ stamps.now.table.shared.table_id) × (pass.old.table_id ≡ stamps.now.table.shared.table_id) }
     requires vnode { IsVnodes vnode.old card.old.me.0 }
     requires pass { pass.old.me.0 ≡ pass_view pass.old.me.0.drawn pass.old.me.0.told }
@@ -84,8 +84,8 @@ fn ask(
     ensures table { (card.new.table_id ≡ card.old.table_id) × (pass.new.table_id ≡ pass.old.table_id) × (card.new.me.1 ≡ card.old.me.1) }
     ensures vnode { IsVnodes vnode.new card.new.me.0 }
     ensures id { vnode.new.vnode ≡ vnode.old.vnode }
-    ensures pass { pass.new.me ≡ (pass_view (pass.old.me.0.drawn + 1) (told_then pass.old.me.0.told (call_of vnode.old.vnode result.at result.stamp request.now result.outcome)), pass.old.me.1) }
-    ensures call { lacks_memory result.outcome ≡ false → IsTold (call_of vnode.old.vnode result.at result.stamp request.now result.outcome) pass.old.me.0.told }
+    ensures pass { pass.new.me ≡ (pass_view (pass.old.me.0.drawn + 1) (told_then pass.old.me.0.told (call_of vnode.old.vnode result.at result.stamp Q.request result.outcome)), pass.old.me.1) }
+    ensures call { lacks_memory result.outcome ≡ false → IsTold (call_of vnode.old.vnode result.at result.stamp Q.request result.outcome) pass.old.me.0.told }
     ensures short { OnOk result.outcome (result.at < 2 ^ 32) }
 {
     lend(stamps, card, pass);
@@ -97,7 +97,7 @@ fn ask(
         give_back(stamps, card, pass);
         return Asked { at, stamp, outcome };
     }
-    stamps.tell(card, vnode.id(), at, stamp, request, &outcome);
+    stamps.tell::<Q>(card, vnode.id(), at, stamp, &outcome);
     give_back(stamps, card, pass);
     Asked { at, stamp, outcome }
 }
@@ -123,20 +123,18 @@ impl<B: Room> Model for Locked<B> {
 }
 
 impl<B: Room> Locked<B> {
-    /// Makes a call of the pass, which can draw a stamp, on this vnode, which has this identifier. The request was prepared.
+    /// Makes a call of the pass, which can draw a stamp, on this vnode, which has this identifier.
     pub fn make(
         &mut self,
         stamps: &Stamps,
         pass: &mut Pass<B>,
         id: u32,
-        request: &Request,
         prepared: Prepared<'_>,
     ) -> Result<(Reply, Receipt), CallFault>
         requires table { stamps.now.table.shared.table_id ≡ B.table }
         requires room { pass.old.drawn < stamps_each }
-        requires prepared { asked prepared ≡ request.now }
-        ensures ok { IfOk result (λ r. (r.1.vnode ≡ id) × IsNews pass.old pass.new (call_of id r.1.place r.1.stamp request.now (outcome_ok r.0))) }
-        ensures err { IfErr result (IsFault pass.old pass.new id request.now) }
+        ensures ok { IfOk result (λ r. (r.1.vnode ≡ id) × IsNews pass.old pass.new (call_of id r.1.place r.1.stamp (asked prepared.entry) (outcome_ok r.0))) }
+        ensures err { IfErr result (IsFault pass.old pass.new id (asked prepared.entry)) }
         ensures drawn { pass.new.drawn ≤ pass.old.drawn + 1 }
     {
         let Locked { vnode, card, .. } = self;
@@ -144,12 +142,11 @@ impl<B: Room> Locked<B> {
         if vnode.id() != id {
             return Err(CallFault::Refused(VnodeFault::NoMemory));
         }
-        let Asked { at, stamp, outcome } = ask(
+        let Asked { at, stamp, outcome } = ask::<Brand>(
             stamps,
             vnode,
             card,
             &mut pass.card,
-            request,
             prepared,
         );
         pass.drawn += 1;
@@ -189,6 +186,32 @@ fn look(
     vnode.keys()
 }
 
+// Tells the pass what the vnode's journal has handed out, and answers the stamp of it.
+fn tell_hand_out(
+    stamps: &Stamps,
+    vnode: &Vnode,
+    card: &mut Card,
+    pass: &mut Card,
+    handout: &Handout,
+) -> u64
+    requires table { (card.old.table_id ≡ stamps.now.table.shared.table_id) × (pass.old.table_id ≡ stamps.now.table.shared.table_id) }
+    requires vnode { IsVnodes vnode.now card.old.me.0 }
+    requires pass { pass.old.me.0 ≡ pass_view pass.old.me.0.drawn pass.old.me.0.told }
+    requires room { pass.old.me.0.drawn < stamps_each }
+    requires out { AreHandedOut vnode.now.entries handout.now.first handout.now.blocks.items }
+    ensures table { (card.new.table_id ≡ card.old.table_id) × (pass.new.table_id ≡ pass.old.table_id) × (card.new.me.1 ≡ card.old.me.1) }
+    ensures vnode { IsVnodes vnode.now card.new.me.0 }
+    ensures pass { pass.new.me ≡ (pass_view (pass.old.me.0.drawn + 1) (pass.old.me.0.told ++ hand_out_of vnode.now.vnode (length vnode.now.entries) result handout.now.first (all_of handout.now.blocks.items) ∷ []), pass.old.me.1) }
+    ensures told { IsTold (hand_out_of vnode.now.vnode (length vnode.now.entries) result handout.now.first (all_of handout.now.blocks.items)) pass.old.me.0.told }
+{
+    lend(stamps, card, pass);
+    let stamp = stamps.draw(card);
+    let at = vnode.journal().len();
+    stamps.tell_hand_out(card, vnode.id(), at, stamp, handout);
+    give_back(stamps, card, pass);
+    stamp
+}
+
 impl<B: Room> Locked<B> {
     /// The keys of this vnode, which has this identifier.
     pub fn keys(
@@ -217,6 +240,36 @@ impl<B: Room> Locked<B> {
         ensures out { (front : List Entered) × AreHandedOut front result.first result.blocks.items }
     {
         self.vnode.settle(room)
+    }
+
+    /// As [`settle`](Locked::settle), of this vnode, which has this identifier: the pass, which can draw a stamp, is told what is handed
+    /// out. None, and it is told nothing, where no block is full.
+    pub fn hand_out(
+        &mut self,
+        stamps: &Stamps,
+        pass: &mut Pass<B>,
+        id: u32,
+        room: Vec<Vec<Entry>>,
+    ) -> Option<Handout>
+        requires table { stamps.now.table.shared.table_id ≡ B.table }
+        requires pass { pass.old.drawn < stamps_each }
+        requires room { room.items ≡ [] }
+        ensures some { IfSome result (λ handout. IsHandedOut pass.old pass.new id handout.first handout.blocks.items) }
+        ensures none { IfNone result (pass.new ≡ pass.old) }
+        ensures drawn { pass.new.drawn ≤ pass.old.drawn + 1 }
+    {
+        let Locked { vnode, card, .. } = self;
+        // As in `make`.
+        if vnode.id() != id {
+            return None;
+        }
+        let handout = vnode.settle(room);
+        if handout.blocks.is_empty() {
+            return None;
+        }
+        tell_hand_out(stamps, vnode, card, &mut pass.card, &handout);
+        pass.drawn += 1;
+        Some(handout)
     }
 
     /// A vnode beside the seat that has its history.

@@ -6,5 +6,6 @@ mod law;
 mod view;
 mod word;
 
-pub use view::{History, Size, Told, View};
+pub use law::Asking;
+pub use view::{History, News, Size, Told, View};
 pub use word::{Card, STAMPS_EACH, Stamps};

@@ -1,21 +1,38 @@
 //! What a seat of the stamp word knows. No value of these types is made, but Size.
 
 use calls::{Reply, Request};
+use journal::Entry;
 use std::collections::LinkedList;
 use vnode::VnodeFault;
+
+/// What a vnode tells.
+pub enum News {
+    /// A request, and what came of it.
+    Call {
+        /// What was asked.
+        request: Request,
+        /// What came of it.
+        outcome: Result<Reply, VnodeFault>,
+    },
+    /// A part of the journal was handed out.
+    HandOut {
+        /// The place of the first entry that was handed out.
+        first: u64,
+        /// What was handed out, oldest first.
+        entries: LinkedList<Entry>,
+    },
+}
 
 /// What the caller of a vnode was told.
 pub struct Told {
     /// The vnode's identifier.
     pub vnode: u32,
-    /// The place of the call's entry, or where it was refused how many entries there were.
+    /// The place of the call's entry, or where it made none how many entries there were.
     pub at: u64,
     /// The stamp that was drawn for it.
     pub stamp: u64,
-    /// What was asked.
-    pub request: Request,
-    /// What came of it.
-    pub outcome: Result<Reply, VnodeFault>,
+    /// What was told.
+    pub news: News,
 }
 
 /// All that one vnode has told, in order.

@@ -2,15 +2,17 @@
 
 ghost use Rattle.std.specs.Prelude.{◌≡◌, ℕ, ◌+◌, ◌*◌, ◌^◌, ◌<◌, ◌≤◌, List, [], ◌∷◌, length, IfOk};
 ghost use Rattle.stamps.specs.declared.view.History.{History};
-ghost use Rattle.stamps.specs.Rule.{newcomer, drew, dropped, learned, IsWithin, IsWhole, TellsOf, AppendsOf, Settles, Looks, nothing, together, without_pass, pass_of, less_one, one_part, less_history, first_history, stamps_each, entries, IsSound, call_of};
+ghost use Rattle.stamps.specs.Rule.{newcomer, drew, dropped, learned, IsWithin, IsWhole, TellsOf, AppendsOf, Settles, Looks, nothing, together, without_pass, pass_of, less_one, one_part, less_history, first_history, stamps_each, entries, IsSound, call_of, hand_out_of};
+ghost use Rattle.journal.specs.Blocks.{all_of};
 
 use crate::law::{
-    All, Append, Blank, Both, Draw, FirstHistory, Forget, Law, Look, Naming, Note, OnePart,
+    All, Append, Asking, Blank, Both, Draw, FirstHistory, Forget, Law, Look, Naming, Note, OnePart,
     PassOff, Settle,
 };
 use crate::view::{Size, View};
 use atomic_table::{Seat, Table};
-use calls::{Reply, Request};
+use calls::Reply;
+use journal::Handout;
 use std::alloc::{AllocError, Global};
 use std::marker::Brand;
 use vnode::VnodeFault;
@@ -51,14 +53,14 @@ impl Stamps {
         self.table.shared.fetch_add::<Draw>(card, 0, 1)
     }
 
-    /// The vnode whose history the card has answered a call, and the card's pass is told: an entry is made and settled, or a refusal noted.
-    pub fn tell(
+    /// The vnode whose history the card has answered a call of the request that `Q` names, and the card's pass is told: an entry is made
+    /// and settled, or a refusal noted.
+    pub fn tell<Q: Asking>(
         &self,
         card: &mut Card,
         vnode: u32,
         at: usize,
         stamp: u64,
-        request: &Request,
         outcome: &Result<Reply, VnodeFault>,
     )
         requires table { card.old.table_id ≡ self.now.table.shared.table_id }
@@ -67,13 +69,13 @@ impl Stamps {
         requires settled { card.old.me.0.owed ≡ [] }
         requires vnode { (h : History) × (card.old.me.0.histories ≡ h ∷ []) × (vnode ≡ h.vnode) × (at ≡ entries h.told) }
         ensures table { card.new.table_id ≡ card.old.table_id }
-        ensures told { TellsOf (call_of vnode at stamp request.now outcome.now) card.old.me.0 card.new.me.0 × (card.new.me.1 ≡ card.old.me.1) }
+        ensures told { TellsOf (call_of vnode at stamp Q.request outcome.now) card.old.me.0 card.new.me.0 × (card.new.me.1 ≡ card.old.me.1) }
     {
         if outcome.is_ok() {
-            self.append(card, vnode, at, stamp, request, outcome);
+            self.append::<Q>(card, vnode, at, stamp, outcome);
             self.settle(card);
         } else {
-            self.note(card, vnode, at, stamp, request, outcome);
+            self.note::<Q>(card, vnode, at, stamp, outcome);
         }
     }
 
@@ -86,16 +88,15 @@ impl Stamps {
         self.table.shared.load::<Forget>(card, 0);
     }
 
-    fn note_as<N: Naming>(
+    fn note_as<Q: Asking, N: Naming>(
         &self,
         card: &mut Card,
         vnode: u32,
         at: usize,
         stamp: u64,
-        request: &Request,
         outcome: &Result<Reply, VnodeFault>,
     )
-        requires { (N.call ≡ call_of vnode at stamp request.now outcome.now) × (card.old.table_id ≡ self.now.table.shared.table_id) × (0 < card.old.me.0.parts) × (card.old.me.0.pending ≡ stamp ∷ []) × (card.old.me.0.owed ≡ []) × ((h : History) × (card.old.me.0.histories ≡ h ∷ []) × (vnode ≡ h.vnode) × (at ≡ entries h.told)) }
+        requires { (N.call ≡ call_of vnode at stamp Q.request outcome.now) × (card.old.table_id ≡ self.now.table.shared.table_id) × (0 < card.old.me.0.parts) × (card.old.me.0.pending ≡ stamp ∷ []) × (card.old.me.0.owed ≡ []) × ((h : History) × (card.old.me.0.histories ≡ h ∷ []) × (vnode ≡ h.vnode) × (at ≡ entries h.told)) }
         ensures table { card.new.table_id ≡ card.old.table_id }
         ensures told { TellsOf N.call card.old.me.0 card.new.me.0 × (card.new.me.1 ≡ card.old.me.1) }
     {
@@ -103,13 +104,12 @@ impl Stamps {
     }
 
     /// The vnode whose history the card has refused a call, and the card's pass is told.
-    pub fn note(
+    pub fn note<Q: Asking>(
         &self,
         card: &mut Card,
         vnode: u32,
         at: usize,
         stamp: u64,
-        request: &Request,
         outcome: &Result<Reply, VnodeFault>,
     )
         requires table { card.old.table_id ≡ self.now.table.shared.table_id }
@@ -118,21 +118,55 @@ impl Stamps {
         requires settled { card.old.me.0.owed ≡ [] }
         requires vnode { (h : History) × (card.old.me.0.histories ≡ h ∷ []) × (vnode ≡ h.vnode) × (at ≡ entries h.told) }
         ensures table { card.new.table_id ≡ card.old.table_id }
-        ensures told { TellsOf (call_of vnode at stamp request.now outcome.now) card.old.me.0 card.new.me.0 × (card.new.me.1 ≡ card.old.me.1) }
+        ensures told { TellsOf (call_of vnode at stamp Q.request outcome.now) card.old.me.0 card.new.me.0 × (card.new.me.1 ≡ card.old.me.1) }
     {
-        self.note_as::<Brand>(card, vnode, at, stamp, request, outcome);
+        self.note_as::<Q, Brand>(card, vnode, at, stamp, outcome);
     }
 
-    fn append_as<N: Naming>(
+    fn tell_hand_out_as<N: Naming>(
         &self,
         card: &mut Card,
         vnode: u32,
         at: usize,
         stamp: u64,
-        request: &Request,
+        handout: &Handout,
+    )
+        requires { (N.call ≡ hand_out_of vnode at stamp handout.now.first (all_of handout.now.blocks.items)) × (card.old.table_id ≡ self.now.table.shared.table_id) × (0 < card.old.me.0.parts) × (card.old.me.0.pending ≡ stamp ∷ []) × (card.old.me.0.owed ≡ []) × ((h : History) × (card.old.me.0.histories ≡ h ∷ []) × (vnode ≡ h.vnode) × (at ≡ entries h.told)) }
+        ensures table { card.new.table_id ≡ card.old.table_id }
+        ensures told { TellsOf N.call card.old.me.0 card.new.me.0 × (card.new.me.1 ≡ card.old.me.1) }
+    {
+        self.table.shared.load::<Note<N>>(card, 0);
+    }
+
+    /// The vnode whose history the card has handed out a part of its journal, and the card's pass is told.
+    pub fn tell_hand_out(
+        &self,
+        card: &mut Card,
+        vnode: u32,
+        at: usize,
+        stamp: u64,
+        handout: &Handout,
+    )
+        requires table { card.old.table_id ≡ self.now.table.shared.table_id }
+        requires pass { 0 < card.old.me.0.parts }
+        requires stamp { card.old.me.0.pending ≡ stamp ∷ [] }
+        requires settled { card.old.me.0.owed ≡ [] }
+        requires vnode { (h : History) × (card.old.me.0.histories ≡ h ∷ []) × (vnode ≡ h.vnode) × (at ≡ entries h.told) }
+        ensures table { card.new.table_id ≡ card.old.table_id }
+        ensures told { TellsOf (hand_out_of vnode at stamp handout.now.first (all_of handout.now.blocks.items)) card.old.me.0 card.new.me.0 × (card.new.me.1 ≡ card.old.me.1) }
+    {
+        self.tell_hand_out_as::<Brand>(card, vnode, at, stamp, handout);
+    }
+
+    fn append_as<Q: Asking, N: Naming>(
+        &self,
+        card: &mut Card,
+        vnode: u32,
+        at: usize,
+        stamp: u64,
         outcome: &Result<Reply, VnodeFault>,
     )
-        requires { (N.call ≡ call_of vnode at stamp request.now outcome.now) × (card.old.table_id ≡ self.now.table.shared.table_id) × (0 < card.old.me.0.parts) × (card.old.me.0.pending ≡ stamp ∷ []) × (card.old.me.0.owed ≡ []) × ((h : History) × (card.old.me.0.histories ≡ h ∷ []) × (vnode ≡ h.vnode) × (at ≡ entries h.told)) }
+        requires { (N.call ≡ call_of vnode at stamp Q.request outcome.now) × (card.old.table_id ≡ self.now.table.shared.table_id) × (0 < card.old.me.0.parts) × (card.old.me.0.pending ≡ stamp ∷ []) × (card.old.me.0.owed ≡ []) × ((h : History) × (card.old.me.0.histories ≡ h ∷ []) × (vnode ≡ h.vnode) × (at ≡ entries h.told)) }
         ensures table { card.new.table_id ≡ card.old.table_id }
         ensures told { AppendsOf N.call card.old.me.0 card.new.me.0 × (card.new.me.1 ≡ card.old.me.1) }
     {
@@ -140,13 +174,12 @@ impl Stamps {
     }
 
     /// The vnode whose history the card has made an entry, with the stamp that is pending.
-    pub fn append(
+    pub fn append<Q: Asking>(
         &self,
         card: &mut Card,
         vnode: u32,
         at: usize,
         stamp: u64,
-        request: &Request,
         outcome: &Result<Reply, VnodeFault>,
     )
         requires table { card.old.table_id ≡ self.now.table.shared.table_id }
@@ -155,9 +188,9 @@ impl Stamps {
         requires settled { card.old.me.0.owed ≡ [] }
         requires vnode { (h : History) × (card.old.me.0.histories ≡ h ∷ []) × (vnode ≡ h.vnode) × (at ≡ entries h.told) }
         ensures table { card.new.table_id ≡ card.old.table_id }
-        ensures told { AppendsOf (call_of vnode at stamp request.now outcome.now) card.old.me.0 card.new.me.0 × (card.new.me.1 ≡ card.old.me.1) }
+        ensures told { AppendsOf (call_of vnode at stamp Q.request outcome.now) card.old.me.0 card.new.me.0 × (card.new.me.1 ≡ card.old.me.1) }
     {
-        self.append_as::<Brand>(card, vnode, at, stamp, request, outcome);
+        self.append_as::<Q, Brand>(card, vnode, at, stamp, outcome);
     }
 
     /// The pass is told of the entry that it is owed.

@@ -5,7 +5,7 @@ ghost use Rattle.calls.specs.declared.request.Request.TheVariants as request;
 ghost use Rattle.peers.specs.declared.fault.PeerFault.TheVariants.{Lost, Refused};
 ghost use Rattle.workers.specs.Peering.{IsPut, IsMerge, IsRead, IsKeys, MatchCall};
 
-use calls::{Reply, Request};
+use calls::{Prepared, Reply};
 use dvv::{Clock, Dot};
 use object::{Content, Key, KeyState};
 use peers::{Answer, PeerFault, Peers};
@@ -53,16 +53,10 @@ fn put_through<B: Room, R: Wait, G: Gate>(
     if i >= cluster.count() {
         return Err(PeerFault::Lost);
     }
-    let Ok(key) = key.copy() else {
+    let Ok(put) = Prepared::put(alloc, key, seen, content) else {
         return Err(PeerFault::Refused(VnodeFault::NoMemory));
     };
-    let Ok(seen) = seen.copy(alloc) else {
-        return Err(PeerFault::Refused(VnodeFault::NoMemory));
-    };
-    let Ok(content) = content.copy() else {
-        return Err(PeerFault::Refused(VnodeFault::NoMemory));
-    };
-    match cluster.call(rt, pass, i, &Request::Put { key, seen, content }, gate) {
+    match cluster.call_prepared(rt, pass, i, put, gate) {
         Ok((Reply::Dot(dot), _)) => Ok(dot),
         Ok(_) => unreachable!(),
         Err(fault) => Err(no_reply(fault)),
@@ -87,19 +81,10 @@ fn merge_through<B: Room, R: Wait, G: Gate>(
     if i >= cluster.count() {
         return Err(PeerFault::Lost);
     }
-    let Ok(key) = key.copy() else {
+    let Ok(merge) = Prepared::merge(alloc, key, from, at, state) else {
         return Err(PeerFault::Refused(VnodeFault::NoMemory));
     };
-    let Ok(state) = state.copy(alloc) else {
-        return Err(PeerFault::Refused(VnodeFault::NoMemory));
-    };
-    let request = Request::Merge {
-        key,
-        from,
-        at,
-        state,
-    };
-    match cluster.call(rt, pass, i, &request, gate) {
+    match cluster.call_prepared(rt, pass, i, merge, gate) {
         Ok((Reply::Changed(changed), _)) => Ok(changed),
         Ok(_) => unreachable!(),
         Err(fault) => Err(no_reply(fault)),
@@ -120,10 +105,7 @@ fn read_through<B: Room, R: Wait, G: Gate>(
     if i >= cluster.count() {
         return Err(PeerFault::Lost);
     }
-    let Ok(key) = key.copy() else {
-        return Err(PeerFault::Refused(VnodeFault::NoMemory));
-    };
-    match cluster.call(rt, pass, i, &Request::Read { key }, gate) {
+    match cluster.call_prepared(rt, pass, i, Prepared::Read(key), gate) {
         Ok((reply, receipt)) => match reply {
             Reply::State(state) => Ok(Answer {
                 from: receipt.vnode,
