@@ -32,21 +32,21 @@ use Rattle.audit.proofs.Rising.{one_entry, rises}
 use Rattle.audit.proofs.Sorting.{with_next, one_index, split_more, happened_more, happened_still, next_happened}
 use Rattle.audit.proofs.Steps.{put_goes_on, read_goes_on, restart_goes_on, merge_goes_on}
 
-abbrev step_at : ℕ → ℕ → Entry → Step
+abbrev pub step_at : ℕ → ℕ → Entry → Step
 step_at vnode place e = record { vnode = vnode; place = place; entry = e }
 
 -- one answer more at a journal
 abbrev pub with_answer : List (List Again) → ℕ → Again → List (List Again)
 with_answer answers index what = set answers index (get_or answers index [] ++ what ∷ [])
 
-at_end : {X : Type 0} (xs : List X) (x : X) (n : ℕ) → length xs ≡ n → slice_get (xs ++ x ∷ []) n ≡ Some x
+pub at_end : {X : Type 0} (xs : List X) (x : X) (n : ℕ) → length xs ≡ n → slice_get (xs ++ x ∷ []) n ≡ Some x
 at_end [] x zero same = refl
 at_end [] x (suc n) same = absurd (omega arith)
 at_end (y ∷ xs) x zero same = absurd (omega arith)
 at_end (y ∷ xs) x (suc n) same = at_end xs x n (omega arith)
 
 -- stamps that rise go on with a higher one
-rise_more : (low : ℕ) (order : List Step) (s : Step) → Rise low order → low ≤ stamp_of s.entry → ((t : Step) → Contains order t → stamp_of t.entry < stamp_of s.entry) → Rise low (order ++ s ∷ [])
+pub rise_more : (low : ℕ) (order : List Step) (s : Step) → Rise low order → low ≤ stamp_of s.entry → ((t : Step) → Contains order t → stamp_of t.entry < stamp_of s.entry) → Rise low (order ++ s ∷ [])
 rise_more low [] s rise le below = (le, tt)
 rise_more low (t ∷ ts) s rise le below =
     let less = below t (0, omega arith, refl) in
@@ -58,7 +58,7 @@ steps_push v q u p [] e is at = ap (λ (w : ℕ). step_at w q e ∷ []) (sym is)
 steps_push v q u p (x ∷ es) e is at = ap (λ (ss : List Step). step_at v q x ∷ ss) (steps_push v (q + 1) u p es e is (omega (arith, at)))
 
 -- one entry more at a journal is one more of all
-all_more : (v u p : ℕ) (now : List Log) (i : ℕ) (e : Entry) → i < length now → u ≡ v + i → p ≡ length (log_at now i).entries → IsPermutation (steps_of v (with_entry_at now i e)) (steps_of v now ++ step_at u p e ∷ [])
+pub all_more : (v u p : ℕ) (now : List Log) (i : ℕ) (e : Entry) → i < length now → u ≡ v + i → p ≡ length (log_at now i).entries → IsPermutation (steps_of v (with_entry_at now i e)) (steps_of v now ++ step_at u p e ∷ [])
 all_more v u p [] i e inside is at = absurd (omega arith)
 all_more v u p (log ∷ now) zero e inside is at =
     let a = steps_from v 0 log.entries in
@@ -75,7 +75,7 @@ all_more v u p (log ∷ now) (suc i) e inside is at =
     (IsPermutation-append_right a (steps_of (v + 1) (with_entry_at now i e)) (steps_of (v + 1) now ++ step_at u p e ∷ []) (all_more (v + 1) u p now i e (omega (arith, inside)) (omega (arith, is)) at))
 
 -- each step has its reply
-happened_long : (logs : List Log) (steps : List Step) (replies : List Reply) (known : Knowledge) → Happened logs steps replies known → length steps ≡ length replies
+pub happened_long : (logs : List Log) (steps : List Step) (replies : List Reply) (known : Knowledge) → Happened logs steps replies known → length steps ≡ length replies
 happened_long logs _ _ _ nothing = refl
 happened_long logs _ _ _ (one_more steps replies old step what reply new before is happens) =
     length_push steps step ∙ ap (λ (n : ℕ). n + 1) (happened_long logs steps replies old before) ∙ sym (length_push replies reply)

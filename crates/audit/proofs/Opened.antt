@@ -25,7 +25,7 @@ zeros zero index = refl
 zeros (suc n) zero = refl
 zeros (suc n) (suc index) = zeros n index
 
-empties : {X : Type 0} (n index : ℕ) → get_or (replicate n (let l : List X = [] in l)) index [] ≡ []
+pub empties : {X : Type 0} (n index : ℕ) → get_or (replicate n (let l : List X = [] in l)) index [] ≡ []
 empties zero index = refl
 empties (suc n) zero = refl
 empties {X = X} (suc n) (suc index) = empties {X = X} n index
@@ -57,10 +57,10 @@ vnodes_more logs vnodes new vnode index id inside so_far fresh is pushed =
     ap (λ (vs : List Log). vs ++ vnode ∷ []) so_far ∙ ap (λ (l : Log). take index (empty_logs (ids_of logs)) ++ l ∷ []) one in
     pushed ∙ all ∙ sym (fresh_more logs index inside)
 
--- no answers of one journal more
-pub answers_more : (index : ℕ) (answers new : List (List Again)) (none : List Again) → answers ≡ replicate index [] → none ≡ [] → new ≡ answers ++ none ∷ [] → new ≡ replicate (index + 1) []
-answers_more index answers new none so_far empty pushed =
-    pushed ∙ ap (λ (l : List (List Again)). l ++ none ∷ []) so_far ∙ ap (λ (a : List Again). replicate index (let n : List Again = [] in n) ++ a ∷ []) empty ∙ replicate_more index []
+-- one empty list more
+pub empties_more : {X : Type 0} (index : ℕ) (lists new : List (List X)) (none : List X) → lists ≡ replicate index [] → none ≡ [] → new ≡ lists ++ none ∷ [] → new ≡ replicate (index + 1) []
+empties_more {X = X} index lists new none so_far empty pushed =
+    pushed ∙ ap (λ (l : List (List X)). l ++ none ∷ []) so_far ∙ ap (λ (a : List X). replicate index (let n : List X = [] in n) ++ a ∷ []) empty ∙ replicate_more index []
 
 pub fresh_all : (logs : List Log) (index : ℕ) → index ≡ length logs → take index (empty_logs (ids_of logs)) ≡ empty_logs (ids_of logs)
 fresh_all logs index is = take_all index (empty_logs (ids_of logs)) (omega (arith, is, as_many logs))

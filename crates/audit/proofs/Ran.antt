@@ -34,7 +34,7 @@ use Rattle.audit.proofs.Rising.{one_entry}
 use Rattle.audit.proofs.Sorting.{one_index, next_first, is_next, happened_or_not, all_happened}
 
 -- lists with the same elements
-same_lists : {A : Type 0} (xs ys : List A) (d : A) → length xs ≡ length ys → ((i : ℕ) → i < length xs → get_or xs i d ≡ get_or ys i d) → xs ≡ ys
+pub same_lists : {A : Type 0} (xs ys : List A) (d : A) → length xs ≡ length ys → ((i : ℕ) → i < length xs → get_or xs i d ≡ get_or ys i d) → xs ≡ ys
 same_lists [] [] d size each = refl
 same_lists [] (y ∷ ys) d size each = absurd (omega arith)
 same_lists (x ∷ xs) [] d size each = absurd (omega arith)
@@ -61,7 +61,7 @@ run_more old [] (r ∷ rs) known event reply new run happens = absurd run
 run_more old (e ∷ es) [] known event reply new run happens = absurd run
 
 -- steps that happened are a run
-run_of : (logs : List Log) (steps : List Step) (replies : List Reply) (known : Knowledge) → Happened logs steps replies known → (events : List Event) × Run [] (opened (ids_of logs)) events replies known
+pub run_of : (logs : List Log) (steps : List Step) (replies : List Reply) (known : Knowledge) → Happened logs steps replies known → (events : List Event) × Run [] (opened (ids_of logs)) events replies known
 run_of logs _ _ _ nothing = ([], refl)
 run_of logs _ _ _ (one_more steps replies old step what reply new before is happens) =
     let r = run_of logs steps replies old before in

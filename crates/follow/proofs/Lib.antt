@@ -4,3 +4,4 @@ pub mod Names
 pub mod Going
 pub mod Turns
 pub mod Opening
+mod Telling

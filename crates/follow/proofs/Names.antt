@@ -1,12 +1,11 @@
 -- Logs are named by their identifiers alone, so that what happened stays so while they grow.
-use Rattle.std.proofs.Common.{◌≡◌, ℕ, zero, suc, List, [], ◌∷◌, ◌++◌, refl, sym, ap, subst, ◌∙◌, Option}
+use Rattle.std.proofs.Common.{◌≡◌, ℕ, zero, suc, List, [], ◌∷◌, refl, sym, ap, subst, ◌∙◌, Option}
 use Rattle.object.specs.declared.content.Key.{Key}
 use Rattle.journal.specs.Entry.{Entry, Put, Merge, Read, Restart}
 use Rattle.journal.specs.Logs.{Log}
 use Rattle.world.specs.declared.event.Event.{Event}
 use Rattle.world.specs.declared.event.Message.{Message}
 use Rattle.world.specs.declared.event.Reply.{Reply}
-use Rattle.world.specs.Happening.{Happens, Run}
 use Rattle.world.specs.Knowledge.{Knowledge, opened}
 use Rattle.world.specs.Represents.{log_at, with_entry_at}
 use Rattle.audit.specs.Order.{Step}
@@ -57,16 +56,3 @@ same_list (log ∷ logs) (suc i) e = ap (λ (ids : List ℕ). log.vnode ∷ ids)
 
 pub same_ids : (logs : List Log) (i : ℕ) (e : Entry) → HaveSameIds logs (with_entry_at logs i e)
 same_ids logs i e = (same_list logs i e, same_id logs i e)
-
--- steps that happened are a run
-run_more : (old : Knowledge) (events : List Event) (replies : List Reply) (known : Knowledge) (event : Event) (reply : Reply) (new : Knowledge) → Run [] old events replies known → Happens [] known event reply new → Run [] old (events ++ event ∷ []) (replies ++ reply ∷ []) new
-run_more old [] [] known event reply new run happens = (new, subst (λ (w : Knowledge). Happens [] w event reply new) run happens, refl)
-run_more old (e ∷ es) (r ∷ rs) known event reply new run happens = (run.0, run.1, run_more run.0 es rs known event reply new run.2 happens)
-run_more old [] (r ∷ rs) known event reply new run happens = absurd run
-run_more old (e ∷ es) [] known event reply new run happens = absurd run
-
-pub run_of : (logs : List Log) (steps : List Step) (replies : List Reply) (known : Knowledge) → Happened logs steps replies known → (events : List Event) × Run [] (opened (ids_of logs)) events replies known
-run_of logs _ _ _ nothing = ([], refl)
-run_of logs _ _ _ (one_more steps replies old step what reply new before is happens) =
-    let r = run_of logs steps replies old before in
-    (r.0 ++ what ∷ [], run_more (opened (ids_of logs)) r.0 replies old what reply new r.1 happens)

@@ -1,15 +1,18 @@
 -- Nothing was followed yet.
 use Rattle.std.proofs.Common.{◌≡◌, ℕ, zero, suc, ◌+◌, ◌<◌, List, [], ◌∷◌, ◌++◌, length, get_or, take, replicate, refl, sym, ap, subst, ◌∙◌, arith, Some, None}
-use Rattle.std.specs.Prelude.{slice_get, Result, Ok, Err, OnOk}
+use Rattle.std.specs.Prelude.{slice_get, Result, Ok, Err, OnOk, IfErr}
+use Rattle.std.specs.Result.{IsErrAnd}
 use Rattle.std.specs.List.Sorted.{IsPermutation}
-use Rattle.std.proofs.lemmas.List.{length-map, length-replicate, replicate_more, take_more, take_all}
+use Rattle.std.proofs.lemmas.List.{length-map, length-replicate, take_more, take_all}
 use Rattle.std.proofs.lemmas.List.Sorted.{IsPermutation-refl}
 use Rattle.journal.specs.Logs.{Log}
 use Rattle.world.specs.Represents.{AreDistinct, log_at, empty_logs}
 use Rattle.audit.specs.Interleaved.{ids_of}
 use Rattle.audit.specs.Order.{Step, steps_of}
 use Rattle.audit.specs.Rerun.{IsSoFar}
+use Rattle.audit.proofs.Opened.{empties}
 use Rattle.audit.proofs.Steps.{begins}
+use Rattle.follow.specs.declared.fault.FollowFault.{FollowFault}
 use Rattle.follow.specs.declared.kept.Kept.{Kept}
 use Rattle.follow.specs.Followed.{HasFollowed}
 
@@ -37,11 +40,6 @@ no_steps : (v : ℕ) (ids : List ℕ) → steps_of v (empty_logs ids) ≡ []
 no_steps v [] = refl
 no_steps v (id ∷ ids) = no_steps (v + 1) ids
 
-empties : {X : Type 0} (n index : ℕ) → get_or (replicate n (let l : List X = [] in l)) index [] ≡ []
-empties zero index = refl
-empties (suc n) zero = refl
-empties {X = X} (suc n) (suc index) = empties {X = X} n index
-
 -- one fresh vnode more
 pub vnodes_more : (ids : List ℕ) (vnodes new : List Log) (vnode : Log) (index d : ℕ) → index < length ids → vnodes ≡ take index (empty_logs ids) → vnode ≡ (let l : Log = record { vnode = get_or ids index d; entries = [] } in l) → new ≡ vnodes ++ vnode ∷ []
     → new ≡ take (index + 1) (empty_logs ids)
@@ -52,11 +50,6 @@ vnodes_more ids vnodes new vnode index d inside so_far is pushed =
 
 pub vnodes_all : (ids : List ℕ) (index : ℕ) → index ≡ length ids → take index (empty_logs ids) ≡ empty_logs ids
 vnodes_all ids index is = take_all index (empty_logs ids) (omega (arith, is, as_many ids))
-
--- one empty list more
-pub empties_more : {X : Type 0} (index : ℕ) (lists new : List (List X)) (none : List X) → lists ≡ replicate index [] → none ≡ [] → new ≡ lists ++ none ∷ [] → new ≡ replicate (index + 1) []
-empties_more {X = X} index lists new none so_far empty pushed =
-    pushed ∙ ap (λ (l : List (List X)). l ++ none ∷ []) so_far ∙ ap (λ (a : List X). replicate index (let n : List X = [] in n) ++ a ∷ []) empty ∙ replicate_more index []
 
 -- nothing was followed
 pub opened : (ids : List ℕ) (recent : ℕ) → AreDistinct ids → HasFollowed (empty_logs ids) None recent (replicate (length ids) [])
@@ -78,3 +71,8 @@ opened ids recent distinct = record {
 pub on_ok : {T E : Type 0} (r : Result T E) (P Q : Type 0) → OnOk r P → (P → Q) → OnOk r Q
 on_ok (Ok x) P Q h f = f h
 on_ok (Err e) P Q h f = tt
+
+-- a fault that is passed on is the one that was told
+pub passed : {T : Type 0} (r : Result T FollowFault) (fault : FollowFault) (P : FollowFault → Type 0) → IsErrAnd r (λ e. e ≡ fault) → P fault → IfErr r P
+passed (Ok x) fault P was h = tt
+passed (Err e) fault P was h = subst P (sym was) h

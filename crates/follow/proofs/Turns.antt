@@ -23,22 +23,22 @@ abbrev pub NoneBefore : List (List Entry) → ℕ → ℕ → Type 0
 NoneBefore waiting below end = (index : ℕ) (e : Entry) → index < end → IsNext waiting index e → below ≤ stamp_of e
 
 -- one of the vnodes before this index has a next entry
-abbrev pub IsHeadBefore : List (List Entry) → ℕ → Head → Type 0
-IsHeadBefore waiting end head = (head.index < end) × ((e : Entry) × IsNext waiting head.index e)
+abbrev pub IsHeadBefore : List (List Entry) → ℕ → ℕ → Head → Type 0
+IsHeadBefore waiting below end head = (head.index < end) × ((e : Entry) × IsNext waiting head.index e × (stamp_of e < below))
 
-abbrev pub IsHeadOf : List (List Entry) → ℕ → Head → Type 0
-IsHeadOf waiting index head = (head.index ≡ index) × ((e : Entry) × IsNext waiting index e)
+abbrev pub IsHeadOf : List (List Entry) → ℕ → ℕ → Head → Type 0
+IsHeadOf waiting below index head = (head.index ≡ index) × ((e : Entry) × IsNext waiting index e × (stamp_of e < below))
 
-pub next_more : (waiting : List (List Entry)) (below n : ℕ) (next head r : Option Head) → MatchOption next (NoneBefore waiting below n) (λ g. IsHeadBefore waiting n g)
-    → MatchOption head ((e : Entry) → IsNext waiting n e → below ≤ stamp_of e) (λ g. IsHeadOf waiting n g) → ((r ≡ next) ⊎ (r ≡ head)) → (r ≡ None → (next ≡ None) × (head ≡ None))
-    → MatchOption r (NoneBefore waiting below (n + 1)) (λ g. IsHeadBefore waiting (n + 1) g)
+pub next_more : (waiting : List (List Entry)) (below n : ℕ) (next head r : Option Head) → MatchOption next (NoneBefore waiting below n) (λ g. IsHeadBefore waiting below n g)
+    → MatchOption head ((e : Entry) → IsNext waiting n e → below ≤ stamp_of e) (λ g. IsHeadOf waiting below n g) → ((r ≡ next) ⊎ (r ≡ head)) → (r ≡ None → (next ≡ None) × (head ≡ None))
+    → MatchOption r (NoneBefore waiting below (n + 1)) (λ g. IsHeadBefore waiting below (n + 1) g)
 next_more waiting below n next head None before here one none = λ index e lt is. elim (cases_eq index n) [
   | inl same ↦ MatchOption-at_none _ _ (none refl).1 here e (subst (λ (i : ℕ). IsNext waiting i e) same is)
   | inr other ↦ MatchOption-at_none _ _ (none refl).0 before index e (omega arith) is
 ]
 next_more waiting below n next head (Some h) before here one none = elim one [
-  | inl own ↦ (let b : IsHeadBefore waiting n h = MatchOption-at_some (NoneBefore waiting below n) (λ g. IsHeadBefore waiting n g) h (sym own) before in (omega (arith, b.0), b.1))
-  | inr new ↦ (let b : IsHeadOf waiting n h = MatchOption-at_some ((e : Entry) → IsNext waiting n e → below ≤ stamp_of e) (λ g. IsHeadOf waiting n g) h (sym new) here in (omega (arith, b.0), subst (λ (i : ℕ). (e : Entry) × IsNext waiting i e) (sym b.0) b.1))
+  | inl own ↦ (let b : IsHeadBefore waiting below n h = MatchOption-at_some (NoneBefore waiting below n) (λ g. IsHeadBefore waiting below n g) h (sym own) before in (omega (arith, b.0), b.1))
+  | inr new ↦ (let b : IsHeadOf waiting below n h = MatchOption-at_some ((e : Entry) → IsNext waiting n e → below ≤ stamp_of e) (λ g. IsHeadOf waiting below n g) h (sym new) here in (omega (arith, b.0), subst (λ (i : ℕ). (e : Entry) × IsNext waiting i e × (stamp_of e < below)) (sym b.0) b.1))
 ]
 
 pub none_below : (waiting : List (List Entry)) (below n : ℕ) → length waiting ≤ n → NoneBefore waiting below n → NoneBelow waiting below

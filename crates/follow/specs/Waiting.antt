@@ -10,11 +10,12 @@ use Rattle.follow.specs.declared.fault.FollowFault.{FollowFault}
 abbrev pub waiting_at : List (List Entry) → ℕ → List Entry
 waiting_at waiting index = slice_index_or waiting index []
 
--- what was followed of each vnode, what waits, and the fault that was found, if any
+-- what was followed of each vnode, what waits, the fault that was found, if any, and of how many of the last entries of each vnode answers are kept
 pub record Taken : Type 0 where
   pub followed : List Log
   pub waiting : List (List Entry)
   pub fault : Option FollowFault
+  pub recent : ℕ
 
 -- how many entries were taken of the vnode with this index
 abbrev pub taken_at : Taken → ℕ → ℕ

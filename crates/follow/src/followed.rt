@@ -1,9 +1,10 @@
 //! What was followed of some vnodes.
 
-ghost use Rattle.std.specs.Prelude.{◌≡◌, ◌≢◌, ◌<◌, ℕ, IfOk, OnOk, MatchOption, length};
+ghost use Rattle.std.specs.Prelude.{◌≡◌, ◌≢◌, ◌<◌, ℕ, IfOk, IfErr, OnOk, MatchOption, length};
 ghost use Rattle.journal.specs.Stamps.{stamp_of};
 ghost use Rattle.world.specs.Represents.{log_at, with_entry_at};
 ghost use Rattle.follow.specs.Again.{answer_of};
+ghost use Rattle.follow.specs.Faults.{IsNewest, IsStampFault, IsMergeFault, IsSourceFault, IsCheckFault, IsToldOf};
 ghost use Rattle.follow.specs.Followed.{HasFollowed, HasSource, IsAbove, IsSourceKept, kept_of};
 
 use crate::again::{Again, Refusal, happen};
@@ -36,7 +37,8 @@ fn check_merge(
     state: &KeyState,
 ) -> Result<(), FollowCode>
     requires size { length answers.now ≡ length vnodes.now }
-    ensures { OnOk result (IsSourceKept vnodes.now answers.now key.now from at state.now) }
+    ensures ok { OnOk result (IsSourceKept vnodes.now answers.now key.now from at state.now) }
+    ensures err { IfErr result (λ code. IsMergeFault vnodes.now answers.now key.now from at state.now code) }
 {
     let Some(index) = index_of(vnodes, from) else {
         return Err(FollowCode::NoSource);
@@ -81,7 +83,8 @@ pub(crate) struct Followed {
 impl Followed {
     // Whether an entry's stamp is above the last one.
     fn check_stamp(&self, index: usize, stamp: u64) -> Result<(), FollowCode>
-        ensures { OnOk result (IsAbove self.now.last stamp) }
+        ensures ok { OnOk result (IsAbove self.now.last stamp) }
+        ensures err { IfErr result (λ code. IsStampFault self.now.last self.now.last_index index stamp code) }
     {
         match self.last {
             Some(last) => {
@@ -102,7 +105,8 @@ impl Followed {
     // Whether an entry is no merge, or has its source.
     fn check_source(&self, entry: &Entry) -> Result<(), FollowCode>
         requires size { length self.now.answers.items ≡ length self.now.vnodes.items }
-        ensures { OnOk result (HasSource self.now.vnodes.items self.now.answers.items entry.now) }
+        ensures ok { OnOk result (HasSource self.now.vnodes.items self.now.answers.items entry.now) }
+        ensures err { IfErr result (λ code. IsSourceFault self.now.vnodes.items self.now.answers.items entry.now code) }
     {
         match entry.said() {
             Said::Merge {
@@ -134,6 +138,7 @@ impl Followed {
         requires size { length self.now.answers.items ≡ length self.now.vnodes.items }
         ensures above { OnOk result (IsAbove self.now.last (stamp_of entry.now)) }
         ensures source { OnOk result (HasSource self.now.vnodes.items self.now.answers.items entry.now) }
+        ensures err { IfErr result (λ fault. IsCheckFault self.now.vnodes.items self.now.answers.items self.now.last self.now.last_index index entry.now fault) }
     {
         if let Err(code) = self.check_stamp(index, entry.stamp()) {
             return Err(self.fault_at(index, code));
@@ -152,10 +157,14 @@ impl Followed {
         entry: &Entry,
     ) -> Result<(), FollowFault>
         requires run { HasFollowed self.old.vnodes.items self.old.last self.old.recent self.old.answers.items }
+        requires newest { IsNewest self.old.vnodes.items self.old.last self.old.last_index }
         requires inside { index < length self.old.vnodes.items }
         ensures run { OnOk result (HasFollowed self.new.vnodes.items self.new.last self.new.recent self.new.answers.items) }
         ensures next { OnOk result (self.new.vnodes.items ≡ with_entry_at self.old.vnodes.items index entry.now) }
+        ensures newest { OnOk result (IsNewest self.new.vnodes.items self.new.last self.new.last_index) }
         ensures size { length self.new.vnodes.items ≡ length self.old.vnodes.items }
+        ensures recent { self.new.recent ≡ self.old.recent }
+        ensures told { IfErr result (λ fault. IsToldOf self.old.vnodes.items self.old.recent index entry.now fault) }
     {
         self.check(index, entry)?;
         let illegal = self.fault_at(index, FollowCode::Illegal);

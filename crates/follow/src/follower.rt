@@ -1,6 +1,8 @@
 //! A follower.
 
-ghost use Rattle.std.specs.Prelude.{◌≡◌, ◌≢◌, ◌<◌, ◌+◌, ◌++◌, ℕ, [], IfOk, IfErr, OnOk, OnErr, Err, None, Some, length, replicate, slice_set};
+ghost use Rattle.std.specs.Prelude.{◌≡◌, ◌≢◌, ◌<◌, ◌+◌, ◌++◌, ℕ, [], IfOk, IfErr, IfSome, OnOk, OnErr, Err, None, Some, length, replicate, slice_set};
+ghost use Rattle.follow.specs.declared.fault.FollowFault.{FollowFault as Faulted};
+ghost use Rattle.follow.specs.Faults.{HasStopped, IsNewest, IsStop};
 ghost use Rattle.world.specs.Represents.{AreDistinct, empty_logs, log_at};
 ghost use Rattle.audit.specs.Interleaved.{IsInterleaving};
 ghost use Rattle.follow.specs.Followed.{HasFollowed};
@@ -26,21 +28,25 @@ pub struct Follower {
 }
 
 impl Model for Follower {
-    ghost use Rattle.std.specs.Prelude.{◌≡◌, None, length};
+    ghost use Rattle.std.specs.Prelude.{◌≡◌, None, Some, length};
+    ghost use Rattle.follow.specs.declared.fault.FollowFault.{FollowFault as Faulted};
+    ghost use Rattle.follow.specs.Faults.{HasStopped, IsNewest};
     ghost use Rattle.follow.specs.Followed.{HasFollowed};
     ghost use Rattle.follow.specs.Waiting.{Taken};
 
     ghost Value = { Taken };
 
-    ghost view = { λ f. record { followed = f.run.followed.vnodes.items; waiting = f.run.waiting.items; fault = f.fault } };
+    ghost view = { λ f. record { followed = f.run.followed.vnodes.items; waiting = f.run.waiting.items; fault = f.fault; recent = f.run.followed.recent } };
 
-    ghost invariant = { λ f. (length f.run.waiting.items ≡ length f.run.followed.vnodes.items) × (f.fault ≡ None → HasFollowed f.run.followed.vnodes.items f.run.followed.last f.run.followed.recent f.run.followed.answers.items) };
+    ghost invariant = { λ f. (length f.run.waiting.items ≡ length f.run.followed.vnodes.items) × (f.fault ≡ None → HasFollowed f.run.followed.vnodes.items f.run.followed.last f.run.followed.recent f.run.followed.answers.items × IsNewest f.run.followed.vnodes.items f.run.followed.last f.run.followed.last_index) × ((fault : Faulted) → f.fault ≡ Some fault → HasStopped f.run.followed.recent fault) };
 }
 
 // Nothing was followed of vnodes with these identifiers, and nothing waits.
 fn open(alloc: Global, ids: &[u32], recent: usize) -> Result<Run, AllocError>
     requires distinct { AreDistinct ids.now }
     ensures run { IfOk result (λ run. HasFollowed run.followed.vnodes.items run.followed.last run.followed.recent run.followed.answers.items) }
+    ensures newest { IfOk result (λ run. IsNewest run.followed.vnodes.items run.followed.last run.followed.last_index) }
+    ensures recent { IfOk result (λ run. run.followed.recent ≡ recent) }
     ensures followed { IfOk result (λ run. run.followed.vnodes.items ≡ empty_logs ids.now) }
     ensures waiting { IfOk result (λ run. run.waiting.items ≡ replicate (length ids.now) []) }
 {
@@ -72,6 +78,7 @@ impl Follower {
         ensures followed { IfOk result (λ follower. follower.followed ≡ empty_logs ids.now) }
         ensures waiting { IfOk result (λ follower. follower.waiting ≡ replicate (length ids.now) []) }
         ensures fault { IfOk result (λ follower. follower.fault ≡ None) }
+        ensures recent { IfOk result (λ follower. follower.recent ≡ recent) }
     {
         Ok(Follower {
             alloc,
@@ -88,6 +95,7 @@ impl Follower {
         ensures taken { OnOk result ((index : ℕ) × (index < length self.old.followed) × ((log_at self.old.followed index).vnode ≡ vnode) × (first ≡ taken_at self.old index) × (self.new.waiting ≡ slice_set self.old.waiting index (waiting_at self.old.waiting index ++ entries.items))) }
         ensures followed { self.new.followed ≡ self.old.followed }
         ensures fault { self.new.fault ≡ self.old.fault }
+        ensures recent { self.new.recent ≡ self.old.recent }
         ensures unknown { result ≡ Err TakeFault.Unknown → (index : ℕ) → index < length self.old.followed → (log_at self.old.followed index).vnode ≢ vnode }
         ensures gap { result ≡ Err TakeFault.Gap → (index : ℕ) × (index < length self.old.followed) × ((log_at self.old.followed index).vnode ≡ vnode) × (first ≢ taken_at self.old index) }
         ensures err { OnErr result (self.new.waiting ≡ self.old.waiting) }
@@ -95,6 +103,46 @@ impl Follower {
         let Some(index) = index_of(&self.run.followed.vnodes, vnode) else {
             return Err(TakeFault::Unknown);
         };
+        self.take_at(index, first, entries)
+    }
+
+    /// How many vnodes are followed.
+    pub fn count(&self) -> usize
+        ensures count { result ≡ length self.now.followed }
+        ensures waiting { result ≡ length self.now.waiting }
+    {
+        self.run.followed.vnodes.len()
+    }
+
+    /// The identifier of the vnode with this index.
+    pub fn id(&self, index: usize) -> u32
+        requires inside { index < length self.now.followed }
+        ensures { result ≡ (log_at self.now.followed index).vnode }
+    {
+        self.run.followed.vnodes[index].id()
+    }
+
+    /// How many entries of the vnode with this index were followed.
+    pub fn followed(&self, index: usize) -> usize
+        requires inside { index < length self.now.followed }
+        ensures { result ≡ length (log_at self.now.followed index).entries }
+    {
+        self.run.followed.vnodes[index].journal().len()
+    }
+
+    /// Takes the next entries of the vnode with this index, as [`Follower::take`] does.
+    pub fn take_at(
+        &mut self,
+        index: usize,
+        first: usize,
+        entries: Vec<Entry>,
+    ) -> Result<(), TakeFault>
+        requires inside { index < length self.old.followed }
+        ensures taken { OnOk result ((first ≡ taken_at self.old index) × (self.new ≡ record self.old { waiting = slice_set self.old.waiting index (waiting_at self.old.waiting index ++ entries.items) })) }
+        ensures gap { result ≡ Err TakeFault.Gap → first ≢ taken_at self.old index }
+        ensures known { result ≢ Err TakeFault.Unknown }
+        ensures err { OnErr result (self.new ≡ self.old) }
+    {
         if first != self.run.taken(index) {
             return Err(TakeFault::Gap);
         }
@@ -114,6 +162,9 @@ impl Follower {
         ensures below { OnOk result (NoneBelow self.new.waiting below) }
         ensures none { OnOk result (self.new.fault ≡ None) }
         ensures fault { IfErr result (λ fault. self.new.fault ≡ Some fault) }
+        ensures stop { self.old.fault ≡ None → IfErr result (λ fault. IsStop self.old.followed self.old.waiting below self.old.recent fault) }
+        ensures again { (fault : Faulted) → self.old.fault ≡ Some fault → (result ≡ Err fault) × (self.new ≡ self.old) }
+        ensures recent { self.new.recent ≡ self.old.recent }
     {
         if let Some(fault) = self.fault {
             return Err(fault);
@@ -129,6 +180,7 @@ impl Follower {
     pub fn fault(&self) -> Option<FollowFault>
         ensures fault { result ≡ self.now.fault }
         ensures run { result ≡ None → IsInterleaving self.now.followed }
+        ensures stopped { IfSome result (λ fault. HasStopped self.now.recent fault) }
     {
         self.fault
     }

@@ -1,9 +1,10 @@
 //! Entries that wait happen again, in the order of their stamps.
 
-ghost use Rattle.std.specs.Prelude.{◌≡◌, ◌≤◌, ◌<◌, ◌+◌, ◌⊎◌, OnOk, MatchOption, None, drop, length, slice_set};
+ghost use Rattle.std.specs.Prelude.{◌≡◌, ◌≤◌, ◌<◌, ◌+◌, ◌⊎◌, OnOk, IfErr, MatchOption, None, drop, length, slice_set};
 ghost use Rattle.journal.specs.Entry.{Entry as Entered};
 ghost use Rattle.journal.specs.Stamps.{stamp_of};
 ghost use Rattle.world.specs.Represents.{log_at, with_entry_at};
+ghost use Rattle.follow.specs.Faults.{IsNewest, IsStop, IsToldOf};
 ghost use Rattle.follow.specs.Followed.{HasFollowed};
 ghost use Rattle.follow.specs.Waiting.{AreTakenAlike, IsNext, NoneBelow, waiting_at};
 
@@ -60,7 +61,7 @@ impl Run {
     fn head_of(&self, index: usize, below: u64) -> Option<Head>
         requires size { length self.now.waiting.items ≡ length self.now.followed.vnodes.items }
         requires inside { index < length self.now.waiting.items }
-        ensures { MatchOption result ((e : Entered) → IsNext self.now.waiting.items index e → below ≤ stamp_of e) (λ head. (head.index ≡ index) × ((e : Entered) × IsNext self.now.waiting.items index e)) }
+        ensures { MatchOption result ((e : Entered) → IsNext self.now.waiting.items index e → below ≤ stamp_of e) (λ head. (head.index ≡ index) × ((e : Entered) × IsNext self.now.waiting.items index e × (stamp_of e < below))) }
     {
         let Some(entry) = self.waiting[index].first() else {
             return None;
@@ -80,7 +81,7 @@ impl Run {
     // The vnode whose entry is next, of those with stamps below a bound.
     fn next_below(&self, below: u64) -> Option<usize>
         requires size { length self.now.waiting.items ≡ length self.now.followed.vnodes.items }
-        ensures { MatchOption result (NoneBelow self.now.waiting.items below) (λ index. (index < length self.now.followed.vnodes.items) × ((e : Entered) × IsNext self.now.waiting.items index e)) }
+        ensures { MatchOption result (NoneBelow self.now.waiting.items below) (λ index. (index < length self.now.followed.vnodes.items) × ((e : Entered) × IsNext self.now.waiting.items index e × (stamp_of e < below))) }
     {
         let mut next = None;
         for index in 0..self.waiting.len() {
@@ -96,11 +97,15 @@ impl Run {
     fn step(&mut self, alloc: Global, index: usize) -> Result<(), FollowFault>
         requires size { length self.old.waiting.items ≡ length self.old.followed.vnodes.items }
         requires run { HasFollowed self.old.followed.vnodes.items self.old.followed.last self.old.followed.recent self.old.followed.answers.items }
+        requires newest { IsNewest self.old.followed.vnodes.items self.old.followed.last self.old.followed.last_index }
         requires inside { index < length self.old.followed.vnodes.items }
         requires waits { (e : Entered) × IsNext self.old.waiting.items index e }
         ensures run { OnOk result (HasFollowed self.new.followed.vnodes.items self.new.followed.last self.new.followed.recent self.new.followed.answers.items) }
         ensures next { OnOk result ((e : Entered) × IsNext self.old.waiting.items index e × (self.new.followed.vnodes.items ≡ with_entry_at self.old.followed.vnodes.items index e) × (self.new.waiting.items ≡ slice_set self.old.waiting.items index (drop 1 (waiting_at self.old.waiting.items index)))) }
+        ensures newest { OnOk result (IsNewest self.new.followed.vnodes.items self.new.followed.last self.new.followed.last_index) }
         ensures size { length self.new.waiting.items ≡ length self.new.followed.vnodes.items }
+        ensures recent { self.new.followed.recent ≡ self.old.followed.recent }
+        ensures told { IfErr result (λ fault. (e : Entered) × IsNext self.old.waiting.items index e × IsToldOf self.old.followed.vnodes.items self.old.followed.recent index e fault) }
     {
         let Some(entry) = self.waiting[index].first() else {
             unreachable!()
@@ -114,10 +119,14 @@ impl Run {
     pub(crate) fn follow(&mut self, alloc: Global, below: u64) -> Result<(), FollowFault>
         requires size { length self.old.waiting.items ≡ length self.old.followed.vnodes.items }
         requires run { HasFollowed self.old.followed.vnodes.items self.old.followed.last self.old.followed.recent self.old.followed.answers.items }
+        requires newest { IsNewest self.old.followed.vnodes.items self.old.followed.last self.old.followed.last_index }
         ensures run { OnOk result (HasFollowed self.new.followed.vnodes.items self.new.followed.last self.new.followed.recent self.new.followed.answers.items) }
+        ensures newest { OnOk result (IsNewest self.new.followed.vnodes.items self.new.followed.last self.new.followed.last_index) }
         ensures alike { OnOk result (AreTakenAlike self.old.followed.vnodes.items self.old.waiting.items self.new.followed.vnodes.items self.new.waiting.items) }
         ensures below { OnOk result (NoneBelow self.new.waiting.items below) }
         ensures size { length self.new.waiting.items ≡ length self.new.followed.vnodes.items }
+        ensures recent { self.new.followed.recent ≡ self.old.followed.recent }
+        ensures stop { IfErr result (λ fault. IsStop self.old.followed.vnodes.items self.old.waiting.items below self.old.followed.recent fault) }
     {
         while let Some(index) = self.next_below(below) {
             self.step(alloc, index)?;

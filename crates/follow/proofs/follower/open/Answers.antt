@@ -3,7 +3,8 @@ use Rattle.journal.specs.Entry.{Entry}
 use Rattle.journal.specs.Logs.{Log}
 use Rattle.follow.specs.Followed.{HasFollowed}
 use Rattle.follow.specs.declared.kept.Kept.{Kept}
-use Rattle.follow.proofs.Opening.{vnodes_more, vnodes_all, empties_more, opened}
+use Rattle.audit.proofs.Opened.{empties_more}
+use Rattle.follow.proofs.Opening.{vnodes_more, vnodes_all, opened}
 use Rattle.std.proofs.Common.{None}
 use Rattle.follow.proofs.follower.open.Goals as goal
 

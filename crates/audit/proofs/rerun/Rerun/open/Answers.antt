@@ -4,7 +4,7 @@ use Rattle.world.specs.Represents.{empty_logs}
 use Rattle.audit.specs.Interleaved.{ids_of}
 use Rattle.audit.specs.Rerun.{HasRun}
 use Rattle.audit.specs.declared.rerun.Again.{Again}
-use Rattle.audit.proofs.Opened.{vnodes_more, answers_more, fresh_all, opened, no_counts, no_answers}
+use Rattle.audit.proofs.Opened.{vnodes_more, empties_more, fresh_all, opened, no_counts, no_answers}
 use Rattle.audit.proofs.rerun.Rerun.open.Goals as goal
 
 pub loop-index-preserved : goal.loop-index-preserved
@@ -15,7 +15,7 @@ loop-index-preserved c =
     let inside : i < length logs = within in
     record {
       vnodes = vnodes_more logs c.loop-index.vnodes.items c.push.new.self.items c.new.result i c.vnode_at.result inside c.loop-index.invariant.vnodes c.new.ensures c.vnode_at.ensures c.in_ok-push.ensures.items;
-      answers = answers_more i c.loop-index.answers.items c.push-in-loop-index.new.self.items c.new-in-loop-index.result c.loop-index.invariant.answers c.new-in-loop-index.ensures c.in_ok-push-2.ensures.items;
+      answers = empties_more i c.loop-index.answers.items c.push-in-loop-index.new.self.items c.new-in-loop-index.result c.loop-index.invariant.answers c.new-in-loop-index.ensures c.in_ok-push-2.ensures.items;
     }
 
 pub returns : goal.returns

@@ -8,7 +8,12 @@ use Rattle.follow.specs.Again.{answer_of}
 use Rattle.follow.specs.declared.kept.Kept.{Kept}
 use Rattle.follow.specs.Followed.{HasFollowed, kept_of}
 use Rattle.follow.specs.Kept.{MayLack}
+use Rattle.follow.specs.Faults.{IsNewest, IsToldOf}
+use Rattle.follow.specs.declared.fault.FollowFault.{FollowFault}
+use Rattle.follow.specs.declared.fault.FollowFault.TheVariants.{NoMemory}
 use Rattle.follow.proofs.Going.{followed_more}
+use Rattle.follow.proofs.Opening.{passed}
+use Rattle.follow.proofs.Telling.{checked, lacked, newest_more}
 use Rattle.follow.proofs.followed.Followed.go_on.Goals as goal
 
 pub returns-clause-run : goal.returns-clause-run
@@ -34,3 +39,36 @@ returns-clause-run c =
     subst (λ (l : Log). HasFollowed (set logs i l) (Some c.stamp.result) recent (set answers i c.keep.new.self)) (sym vnodes)
     (subst (λ (s : ℕ). HasFollowed (with_entry_at logs i e) (Some s) recent (set answers i c.keep.new.self)) (sym c.stamp.ensures)
     (followed_more logs last recent answers i e a c.keep.new.self run inside follows answer c.in_ok-check.ensures.above c.in_ok-check.ensures.source lack))
+
+pub returns-clause-newest : goal.returns-clause-newest
+returns-clause-newest c =
+    let logs = c.args.self.now.vnodes.items in
+    let i = c.args.index in
+    let e = c.args.entry.now in
+    let inside : i < length logs = c.requires.inside in
+    let vnode : c.index_mut.result.now ≡ log_at logs i = c.index_mut.ensures.value ∙ same_default logs i c.index_mut.result.now (record { vnode = 0; entries = [] }) inside in
+    let vnodes : c.happen.new.vnode ≡ with_entry (log_at logs i) e = c.in-Ok.ensures.entry ∙ ap (λ (l : Log). with_entry l e) vnode in
+    subst (λ (l : Log). IsNewest (set logs i l) (Some c.stamp.result) i) (sym vnodes) (subst (λ (s : ℕ). IsNewest (with_entry_at logs i e) (Some s) i) (sym c.stamp.ensures) (newest_more logs i e inside))
+
+pub returns-in_err-check-clause-told : goal.returns-in_err-check-clause-told
+returns-in_err-check-clause-told c =
+    let own = c.args.self.now in
+    passed c.from_residual.result _ (λ (fault : FollowFault). IsToldOf own.vnodes.items own.recent c.args.index c.args.entry.now fault) c.from_residual.ensures.1
+    (checked own.vnodes.items own.last own.recent own.answers.items own.last_index c.args.index c.args.entry.now c.in_err-check.field-0.0 c.requires.run c.requires.newest c.in_err-check.ensures.err)
+
+pub returns-in-Err-NoMemory-clause-told : goal.returns-in-Err-NoMemory-clause-told
+returns-in-Err-NoMemory-clause-told c =
+    let own = c.args.self.now in
+    lacked own.vnodes.items own.last own.recent own.answers.items c.args.index c.args.entry.now c.requires.run c.in_ok-check.ensures.above c.in_ok-check.ensures.source
+
+pub returns-in_err-kept-clause-told : goal.returns-in_err-kept-clause-told
+returns-in_err-kept-clause-told c =
+    let own = c.args.self.now in
+    passed c.from_residual-in_err-kept.result NoMemory (λ (fault : FollowFault). IsToldOf own.vnodes.items own.recent c.args.index c.args.entry.now fault) c.from_residual-in_err-kept.ensures.1
+    (lacked own.vnodes.items own.last own.recent own.answers.items c.args.index c.args.entry.now c.requires.run c.in_ok-check.ensures.above c.in_ok-check.ensures.source)
+
+pub returns-in_err-keep-clause-told : goal.returns-in_err-keep-clause-told
+returns-in_err-keep-clause-told c =
+    let own = c.args.self.now in
+    passed c.from_residual-in_err-keep.result NoMemory (λ (fault : FollowFault). IsToldOf own.vnodes.items own.recent c.args.index c.args.entry.now fault) c.from_residual-in_err-keep.ensures.1
+    (lacked own.vnodes.items own.last own.recent own.answers.items c.args.index c.args.entry.now c.requires.run c.in_ok-check.ensures.above c.in_ok-check.ensures.source)

@@ -1,8 +1,14 @@
-use Rattle.std.proofs.Common.{◌<◌, List, sym, subst}
+use Rattle.std.proofs.Common.{◌≡◌, ◌∙◌, ◌<◌, ℕ, List, sym, subst}
+use Rattle.std.proofs.lemmas.Option.{same_Some}
 use Rattle.journal.specs.Entry.{Entry}
 use Rattle.journal.specs.Logs.{Log}
 use Rattle.world.specs.Represents.{with_entry_at}
 use Rattle.follow.specs.Waiting.{AreTakenAlike, count_waiting}
+use Rattle.journal.specs.Stamps.{stamp_of}
+use Rattle.follow.specs.declared.fault.FollowFault.{FollowFault}
+use Rattle.follow.specs.Faults.{IsStop, IsToldOf}
+use Rattle.follow.proofs.Going.{interleaved}
+use Rattle.follow.proofs.Opening.{passed}
 use Rattle.follow.proofs.Turns.{waits_less, alike_more}
 use Rattle.follow.proofs.run.Run.follow.Goals as goal
 
@@ -23,7 +29,29 @@ loop-index-preserved c =
     record {
       size = c.in_ok-step.ensures.size;
       run = c.in_ok-step.ensures.run;
+      newest = c.in_ok-step.ensures.newest;
+      recent = c.in_ok-step.ensures.recent ∙ c.loop-index.invariant.recent;
       alike = subst (λ (l : List Log). AreTakenAlike first waited l c.step.new.self.waiting.items) (sym next.2)
           (subst (λ (w : List (List Entry)). AreTakenAlike first waited (with_entry_at logs i next.0) w) (sym next.3)
           (alike_more first waited logs waiting i next.0 c.loop-index.invariant.alike c.in-Some.ensures.0 next.1));
     }
+
+pub returns-in_err-step-clause-stop : goal.returns-in_err-step-clause-stop
+returns-in_err-step-clause-stop c =
+    let own = c.args.self.now in
+    let now = c.loop-index.self in
+    let head = c.in-Some.ensures.1 in
+    let told = c.in_err-step.ensures.told in
+    let same : head.0 ≡ told.0 = same_Some head.0 told.0 (sym head.1 ∙ told.1) in
+    passed c.from_residual.result _ (λ (fault : FollowFault). IsStop own.followed.vnodes.items own.waiting.items c.args.below own.followed.recent fault) c.from_residual.ensures.1 (record {
+      logs = now.followed.vnodes.items;
+      waiting = now.waiting.items;
+      alike = c.loop-index.invariant.alike;
+      run = interleaved now.followed.vnodes.items now.followed.last now.followed.recent now.followed.answers.items c.loop-index.invariant.run;
+      index = c.in-Some.index;
+      entry = told.0;
+      inside = c.in-Some.ensures.0;
+      next = told.1;
+      bound = subst (λ (e : Entry). stamp_of e < c.args.below) same head.2;
+      told = subst (λ (n : ℕ). IsToldOf now.followed.vnodes.items n c.in-Some.index told.0 c.in_err-step.field-0.0) c.loop-index.invariant.recent told.2;
+    })
