@@ -1,5 +1,6 @@
 #!/usr/bin/env python3
-"""Writes the images that the program `bench` times: straight.img, branchy.img, memory.img and calls.img, each of some thousand instructions."""
+"""Writes the images that the program `bench` times: straight.img, branchy.img, memory.img and calls.img, each of some thousand instructions in rounds of
+a few, and mixed.img and accesses.img, of a thousand in no order."""
 import struct
 from pathlib import Path
 
@@ -93,7 +94,62 @@ def calls():
     return image(64, 64, code + [EXIT])
 
 
+def draws(seed):
+    """Numbers below what is asked for: the high half of a linear congruential generator's state, by the multiplier of Knuth's MMIX."""
+    state = seed
+    def draw(below):
+        nonlocal state
+        state = (state * 6364136223846793005 + 1442695040888963407) % 2**64
+        return (state >> 32) % below
+    return draw
+
+
+def mixed():
+    """Arithmetic of every kind on five registers, drawn anew for each instruction: 1,000 slots."""
+    draw, registers = draws(7), (0, 6, 7, 8, 9)
+    code = [(0xB7, r, 0, 0, 3 * r + 1) for r in registers]
+    while len(code) < 999:
+        operation, dst, src = draw(13) << 4, registers[draw(5)], registers[draw(5)]
+        is_narrow = draw(4) == 0 and operation != 0xC0  # DPDK has no signed shift of 32 bits
+        width = 0x04 if is_narrow else 0x07
+        if operation == 0x80:
+            code.append((operation | width, dst))  # negation
+        elif operation in (0x30, 0x90) or draw(2):
+            shifts = operation in (0x60, 0x70, 0xC0)
+            code.append((operation | width, dst, 0, 0, 1 + draw(31 if shifts else 1000)))
+        elif operation in (0x60, 0x70, 0xC0):
+            code.append((operation | width, dst, 0, 0, 1 + draw(31)))
+        else:
+            code.append((operation | width | 0x08, dst, src))
+    return image(64, 64, code + [EXIT])
+
+
+def accesses():
+    """Loads of input, stack and output and stores to stack and output of every size, drawn anew for each instruction: 1,000 slots."""
+    draw, registers = draws(2), (0, 5, 6, 7, 8, 9)
+    code = [(0xB7, r, 0, 0, r) for r in registers] + [(0x7B, 10, 0, -8 * (k + 1)) for k in range(8)]
+    while len(code) < 999:
+        base, k = (1, 3, 10)[draw(3)], draw(8)
+        # A place has one size, since DPDK lets no load of the stack be wider than the store before it.
+        size, bytes_ = ((0x10, 1), (0x08, 2), (0x00, 4), (0x18, 8))[k % 4]
+        offset = 8 * k + bytes_ * draw(8 // bytes_) - (64 if base == 10 else 0)
+        if base == 1 or draw(2):
+            code.append((0x61 | size, registers[draw(6)], base, offset))
+        else:
+            code.append((0x63 | size, base, registers[draw(6)], offset))
+    return image(64, 64, code + [EXIT])
+
+
+MAKERS = {
+    "straight": straight,
+    "branchy": branchy,
+    "memory": memory,
+    "calls": calls,
+    "mixed": mixed,
+    "accesses": accesses,
+}
+
 if __name__ == "__main__":
     here = Path(__file__).parent
-    for name, make in (("straight", straight), ("branchy", branchy), ("memory", memory), ("calls", calls)):
+    for name, make in MAKERS.items():
         (here / f"{name}.img").write_bytes(make())

@@ -1,8 +1,9 @@
 //! The examples in data/, tried one after another by the commands of dvvstore: whether a program is let in, whether a script
 //! prints what stands beside it, whether the requests of connections are answered by what stands beside them, and whether the
-//! programs of rows are told so.
+//! programs of rows and functions in C are told so. Each program that is let in is run and driven, which has to come to the same.
 #![tactic(auto)]
 
+mod both;
 mod dialogue;
 mod folder;
 mod rows;

@@ -1,5 +1,6 @@
 //! Programs in rows of a file, tried one after another.
 
+use crate::both::Counts;
 use crate::folder::Folder;
 use crate::trying::tell_difference;
 use commands::files::{Files, Part};
@@ -11,19 +12,19 @@ use std::{io, rt};
 
 /// The files of one row: a program, and its input.
 #[derive(Drop)]
-struct Row {
-    program: Vec<u8>,
-    input: Vec<u8>,
+struct Row<'a> {
+    program: &'a [u8],
+    input: &'a [u8],
 }
 
-impl Files for Row {
+impl Files for Row<'_> {
     fn read(&self, alloc: Global, name: &str) -> io::Result<Vec<u8>> {
         let bytes = if name == "program" {
-            &self.program
+            self.program
         } else {
-            &self.input
+            self.input
         };
-        Ok(bytes.as_slice().to_vec(alloc)?)
+        Ok(bytes.to_vec(alloc)?)
     }
 
     fn read_part(&self, alloc: Global, name: &str, most: usize) -> io::Result<Part> {
@@ -43,6 +44,7 @@ pub fn try_rows<R: rt::Files + AllocGlobal>(
     rt: &R,
     words: &[&str],
     name: &str,
+    counts: &mut Counts,
     told: &mut Vec<u8>,
 ) -> io::Result<()> {
     let alloc = rt.alloc();
@@ -52,7 +54,7 @@ pub fn try_rows<R: rt::Files + AllocGlobal>(
     let mut got = Vec::new(alloc);
     for line in rows.split(|byte| *byte == b'\n') {
         if !line.is_empty() {
-            try_row(alloc, words, line, &mut got)?;
+            try_row(alloc, words, line, counts, &mut got)?;
         }
     }
     write!(told, "rows/{name}.rows ")?;
@@ -61,14 +63,23 @@ pub fn try_rows<R: rt::Files + AllocGlobal>(
 
 /// Tells the name of a row, what the command says of its program, and its status. The parts of a row are its name, the program and its input,
 /// these two in hexadecimal, and a comment.
-fn try_row(alloc: Global, words: &[&str], line: &[u8], got: &mut Vec<u8>) -> io::Result<()> {
+fn try_row(
+    alloc: Global,
+    words: &[&str],
+    line: &[u8],
+    counts: &mut Counts,
+    got: &mut Vec<u8>,
+) -> io::Result<()> {
     let mut parts = line.split(|byte| *byte == b'|');
     got.write_all(parts.next().unwrap_or(&[]))?;
     got.write_all(b"\n")?;
+    let program = bytes_of(alloc, parts.next())?;
+    let input = bytes_of(alloc, parts.next())?;
     let mut row = Row {
-        program: bytes_of(alloc, parts.next())?,
-        input: bytes_of(alloc, parts.next())?,
+        program: &program,
+        input: &input,
     };
+    counts.count(alloc, &mut row, &program, &input)?;
     let mut err = Vec::new(alloc);
     let status = command_with_helpers(alloc, words, &mut row, &mut Offline, got, &mut err)?;
     got.write_all(&err)?;

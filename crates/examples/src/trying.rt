@@ -1,5 +1,6 @@
 //! What each example comes to.
 
+use crate::both::Counts;
 use crate::dialogue::Dialogue;
 use crate::folder::Folder;
 use crate::rows::try_rows;
@@ -12,11 +13,13 @@ use std::io::Write;
 use std::rt::Files;
 
 /// Programs of data/, images and raw code.
-const PROGRAMS: [&str; 13] = [
+const PROGRAMS: [&str; 15] = [
+    "accesses.img",
     "branchy.img",
     "calls.img",
     "exit_zero.bin",
     "memory.img",
+    "mixed.img",
     "straight.img",
     "hooks/at_most_32.img",
     "hooks/delete_wins.img",
@@ -26,6 +29,11 @@ const PROGRAMS: [&str; 13] = [
     "hooks/last_writer.img",
     "hooks/like_a_row.img",
     "hooks/union_of_records.img",
+];
+
+/// Functions of data/c/: images, each with its input, and beside them what the function answers where it is compiled for the machine itself.
+const FUNCTIONS: [&str; 7] = [
+    "bits", "branches", "buffers", "checksum", "division", "hash", "number",
 ];
 
 /// Scripts of data/hooks/, each with what it prints in a file beside it.
@@ -63,8 +71,12 @@ const RUNS: [&str; 6] = [
 
 /// Tells of each example what it comes to.
 pub fn try_all<R: Files + AllocGlobal>(rt: &R, told: &mut Vec<u8>) -> io::Result<()> {
+    let mut counts = Counts::NONE;
     for name in PROGRAMS {
-        try_program(rt, name, told)?;
+        try_program(rt, name, &mut counts, told)?;
+    }
+    for name in FUNCTIONS {
+        try_function(rt, name, &mut counts, told)?;
     }
     for name in SCRIPTS {
         try_script(rt, name, told)?;
@@ -73,18 +85,26 @@ pub fn try_all<R: Files + AllocGlobal>(rt: &R, told: &mut Vec<u8>) -> io::Result
         try_dialogue(rt, name, told)?;
     }
     for name in VERDICTS {
-        try_rows(rt, &["verify", "program"], name, told)?;
+        try_rows(rt, &["verify", "program"], name, &mut counts, told)?;
     }
     for name in RUNS {
-        try_rows(rt, &["run", "program", "input"], name, told)?;
+        try_rows(rt, &["run", "program", "input"], name, &mut counts, told)?;
     }
-    Ok(())
+    let Counts { alike, apart } = counts;
+    writeln!(told, "run as driven {alike}, otherwise {apart}")
 }
 
 /// Tells whether a program is let in, and of how many slots it is.
-fn try_program<R: Files + AllocGlobal>(rt: &R, name: &str, told: &mut Vec<u8>) -> io::Result<()> {
+fn try_program<R: Files + AllocGlobal>(
+    rt: &R,
+    name: &str,
+    counts: &mut Counts,
+    told: &mut Vec<u8>,
+) -> io::Result<()> {
     let alloc = rt.alloc();
     let mut data = Folder { rt, path: "" };
+    let program = data.read(alloc, name)?;
+    counts.count(alloc, &mut data, &program, &[])?;
     let mut err = Vec::new(alloc);
     write!(told, "{name} ")?;
     command_with_helpers(
@@ -96,6 +116,40 @@ fn try_program<R: Files + AllocGlobal>(rt: &R, name: &str, told: &mut Vec<u8>) -
         &mut err,
     )?;
     told.write_all(&err)
+}
+
+/// Tells whether a function's image answers to its input what stands beside it.
+fn try_function<R: Files + AllocGlobal>(
+    rt: &R,
+    name: &str,
+    counts: &mut Counts,
+    told: &mut Vec<u8>,
+) -> io::Result<()> {
+    let alloc = rt.alloc();
+    let mut functions = Folder { rt, path: "c/" };
+    let image = format!(in alloc; "{name}.img")?;
+    let input = format!(in alloc; "{name}.input")?;
+    let answer = functions.read(alloc, format!(in alloc; "{name}.answer")?.as_str())?;
+    let program = functions.read(alloc, image.as_str())?;
+    let bytes = functions.read(alloc, input.as_str())?;
+    counts.count(alloc, &mut functions, &program, &bytes)?;
+    let mut out = Vec::new(alloc);
+    let mut err = Vec::new(alloc);
+    let words = ["run", image.as_str(), input.as_str()];
+    command_with_helpers(
+        alloc,
+        &words,
+        &mut functions,
+        &mut Offline,
+        &mut out,
+        &mut err,
+    )?;
+    let comes_to = if out.starts_with(&answer) {
+        "answers as written"
+    } else {
+        "answers something else"
+    };
+    writeln!(told, "c/{image} {comes_to}")
 }
 
 /// Tells whether a script prints what stands beside it, and its status.
