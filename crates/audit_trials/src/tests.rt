@@ -4,3 +4,5 @@ mod faults;
 mod judging;
 mod runs;
 mod settling;
+mod steps;
+mod telling;

@@ -1,4 +1,4 @@
-//! Vnodes by hand, and the audit of their journals.
+//! The audit of vnodes' journals.
 
 ghost use Rattle.std.specs.Prelude.{◌≡◌, ◌≢◌, ◌<◌, ℕ, true, length};
 ghost use Rattle.audit.specs.Interleaved.{ids_of};
@@ -7,39 +7,12 @@ ghost use Rattle.world.specs.Represents.{AreDistinct, log_at};
 
 use audit::{AuditCode, AuditFault, audit};
 use journal::Whole;
-use object::{Bytes, Content, Key};
-use std::alloc::{AllocError, Global};
-use std::process::Abort;
+use std::alloc::Global;
 use std::test::Fail;
 use vnode::Vnode;
 
-/// A key of bucket `b`.
-pub(super) fn key_of(alloc: Global, key: &[u8]) -> Result<Key, AllocError> {
-    Ok(Key {
-        bucket: Bytes::from_slice(alloc, b"b")?,
-        key: Bytes::from_slice(alloc, key)?,
-    })
-}
-
-/// A value of media type `text/plain`.
-pub(super) fn value_of(alloc: Global, value: &[u8]) -> Result<Content, AllocError> {
-    Ok(Content::Value {
-        media: Bytes::from_slice(alloc, b"text/plain")?,
-        bytes: Bytes::from_slice(alloc, value)?,
-    })
-}
-
 /// What is told of journals: nothing, or a fault at a vnode and a place.
 pub(super) type Told = Option<(AuditCode, u32, u32)>;
-
-/// A vnode that started again with each of these stamps.
-pub(super) fn restarted(alloc: Global, id: u32, stamps: &[u64]) -> Result<Vnode, Fail> {
-    let mut vnode = Vnode::new(alloc, id);
-    for stamp in stamps {
-        let _ = vnode.restart(*stamp)?;
-    }
-    Ok(vnode)
-}
 
 /// Whose journal the one with this index is.
 fn id_at(journals: &[Whole<'_>], index: usize) -> u32
@@ -74,7 +47,7 @@ fn told(alloc: Global, journals: &[Whole<'_>]) -> Result<Told, Fail>
 }
 
 /// What is told of the journals of vnodes with different identifiers.
-fn judge(alloc: Global, vnodes: &[&Vnode]) -> Result<Told, Fail> {
+pub(super) fn judge(alloc: Global, vnodes: &[Vnode]) -> Result<Told, Fail> {
     let mut journals = Vec::with_capacity(alloc, vnodes.len())?;
     for vnode in vnodes {
         let Some(journal) = vnode.journal().whole() else {
@@ -86,15 +59,4 @@ fn judge(alloc: Global, vnodes: &[&Vnode]) -> Result<Told, Fail> {
         journals.push(journal)?;
     }
     told(alloc, &journals)
-}
-
-/// Holds what is told of the journals of vnodes with different identifiers to what is wanted.
-pub(super) fn is_told(
-    rt: &impl Abort,
-    alloc: Global,
-    vnodes: &[&Vnode],
-    want: Told,
-) -> Result<(), Fail> {
-    assert_eq!(rt; judge(alloc, vnodes)?, want);
-    Ok(())
 }

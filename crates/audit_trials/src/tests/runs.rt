@@ -2,79 +2,101 @@
 
 ghost use Rattle.std.specs.Prelude.{◌<◌, ◌^◌};
 
-use crate::tests::judging::{is_told, key_of, restarted, value_of};
-use object::{Content, Key};
+use crate::tests::judging::{Told, judge};
+use crate::tests::steps::Step::{Deliver, Put, Read, Restart};
+use crate::tests::steps::{At, open, play_alone};
+use crate::tests::telling::tell;
 use std::alloc::Global;
 use std::test::Fail;
 use vnode::Vnode;
 
-/// A vnode reads a key, puts a content that had seen what it read, and reads again; another merges that. Four stamps from the
-/// first on.
-fn bring(
-    sender: &mut Vnode,
-    receiver: &mut Vnode,
-    first: u64,
-    key: &Key,
-    content: &Content,
-) -> Result<(), Fail>
-    requires { first < 2 ^ 63 }
-{
-    let (seen, _) = sender.read(first, key)?;
-    let _ = sender.put_lent(first + 1, key, seen.clock(), content)?;
-    let (state, place) = sender.read(first + 2, key)?;
-    let _ = receiver.merge_lent(first + 3, key, sender.id(), place, &state)?;
-    Ok(())
+/// Puts, reads, merges and restarts at three vnodes, of two keys; and merges of an earlier state, at its own vnode too.
+const ROUND: &[At] = &[
+    (20, Read(0, b'k')),
+    (20, Put(1, b'k', Some(0), b'!')),
+    (20, Read(2, b'k')),
+    (10, Deliver(3, b'k', 1)),
+    (30, Read(10, b'k')),
+    (30, Put(11, b'k', Some(2), b'!')),
+    (30, Read(12, b'k')),
+    (20, Deliver(13, b'k', 3)),
+    (10, Restart(20)),
+    (10, Read(30, b'l')),
+    (10, Put(31, b'l', Some(4), b'!')),
+    (10, Read(32, b'l')),
+    (30, Deliver(33, b'l', 5)),
+    (20, Read(40, b'k')),
+    (10, Read(50, b'k')),
+    (10, Put(51, b'k', Some(7), b'!')),
+    (10, Read(52, b'k')),
+    (20, Deliver(53, b'k', 8)),
+    (20, Deliver(60, b'k', 6)),
+    (30, Deliver(u64::MAX, b'k', 6)),
+];
+
+/// What is told of vnodes with these identifiers, in this order, at which these steps happen.
+fn tell_run(alloc: Global, ids: &[u32], steps: &[At]) -> Result<Told, Fail> {
+    tell(alloc, ids, &[], &[], steps)
 }
 
 /// No vnode, vnodes at which nothing happened, and restarts alone.
 #[test]
 fn little_happened(rt: HostRuntime) -> Result<(), Fail> {
-    let alloc = rt.alloc();
-    is_told(&rt, alloc, &[], None)?;
-    let first = Vnode::new(alloc, 1);
-    let second = restarted(alloc, 0, &[])?;
-    is_told(&rt, alloc, &[&first, &second], None)?;
-    let third = restarted(alloc, u32::MAX, &[0, u64::MAX])?;
-    is_told(&rt, alloc, &[&third, &first, &second], None)
-}
-
-/// Puts, reads, merges and restarts at three vnodes, of two keys; and merges of an earlier state, at its own vnode too.
-fn go_round(a: &mut Vnode, b: &mut Vnode, c: &mut Vnode, k: &Key, l: &Key) -> Result<(), Fail> {
-    bring(a, b, 0, k, &Content::Tombstone)?;
-    bring(c, a, 10, k, &Content::Tombstone)?;
-    let _ = b.restart(20)?;
-    bring(b, c, 30, l, &Content::Tombstone)?;
-    let (state, place) = a.read(40, k)?;
-    bring(b, a, 50, k, &Content::Tombstone)?;
-    let _ = a.merge_lent(60, k, a.id(), place, &state)?;
-    let _ = c.merge_lent(u64::MAX, k, a.id(), place, &state)?;
+    let last = u32::MAX;
+    let restarts = [(last, Restart(0)), (last, Restart(u64::MAX))];
+    assert_eq!(rt; tell_run(rt.alloc(), &[], &[])?, None);
+    assert_eq!(rt; tell_run(rt.alloc(), &[1, 0], &[])?, None);
+    assert_eq!(rt; tell_run(rt.alloc(), &[last, 1, 0], &restarts)?, None);
     Ok(())
 }
 
 /// The journals come in any order.
 #[test]
 fn writes_go_round(rt: HostRuntime) -> Result<(), Fail> {
-    let alloc = rt.alloc();
-    let (k, l) = (key_of(alloc, b"k")?, key_of(alloc, b"l")?);
-    let mut a = Vnode::new(alloc, 20);
-    let mut b = Vnode::new(alloc, 10);
-    let mut c = Vnode::new(alloc, 30);
-    go_round(&mut a, &mut b, &mut c, &k, &l)?;
-    is_told(&rt, alloc, &[&a, &b, &c], None)?;
-    is_told(&rt, alloc, &[&c, &b, &a], None)
+    assert_eq!(rt; tell_run(rt.alloc(), &[20, 10, 30], ROUND)?, None);
+    assert_eq!(rt; tell_run(rt.alloc(), &[30, 10, 20], ROUND)?, None);
+    Ok(())
+}
+
+/// A vnode reads a key, puts an `a` that had seen what it read, and reads again; another merges that. Four stamps from the first on.
+fn bring(sender: u32, receiver: u32, first: u64) -> [At; 4]
+    requires { first < 2 ^ 63 }
+{
+    [
+        (sender, Read(first, b'k')),
+        (sender, Put(first + 1, b'k', Some(0), b'a')),
+        (sender, Read(first + 2, b'k')),
+        (receiver, Deliver(first + 3, b'k', 1)),
+    ]
+}
+
+/// So many rounds of two vnodes.
+fn go_on(alloc: Global, vnodes: &mut [Vnode], rounds: u64) -> Result<(), Fail>
+    requires { rounds < 2 ^ 32 }
+{
+    for round in 0..rounds {
+        play_alone(alloc, vnodes, &bring(1, 0, 8 * round))?;
+        play_alone(alloc, vnodes, &bring(0, 1, 8 * round + 4))?;
+    }
+    Ok(())
+}
+
+/// Whether each of some vnodes has so many entries, and what is told of them.
+fn judged(alloc: Global, vnodes: &[Vnode], entries: usize) -> Result<(bool, Told), Fail> {
+    let same = vnodes.iter().all(|vnode| vnode.journal().len() == entries);
+    Ok((same, judge(alloc, vnodes)?))
+}
+
+/// Whether each of two vnodes has 5,000 entries after 1,250 rounds, and what is told then.
+fn many(alloc: Global) -> Result<(bool, Told), Fail> {
+    let mut vnodes = open(alloc, &[1, 0])?;
+    go_on(alloc, &mut vnodes, 1250)?;
+    judged(alloc, &vnodes, 5000)
 }
 
 /// Ten thousand entries, of which each journal has some blocks.
 #[test]
 fn many_entries(rt: HostRuntime) -> Result<(), Fail> {
-    let alloc = rt.alloc();
-    let key = key_of(alloc, b"k")?;
-    let content = value_of(alloc, b"a")?;
-    let (mut a, mut b) = (Vnode::new(alloc, 1), Vnode::new(alloc, 0));
-    for round in 0..1250 {
-        bring(&mut a, &mut b, 8 * round, &key, &content)?;
-        bring(&mut b, &mut a, 8 * round + 4, &key, &content)?;
-    }
-    assert_eq!(rt; (a.journal().len(), b.journal().len()), (5000, 5000));
-    is_told(&rt, alloc, &[&a, &b], None)
+    assert_eq!(rt; many(rt.alloc())?, (true, None));
+    Ok(())
 }

@@ -2,7 +2,8 @@
 
 ghost use Rattle.std.specs.Prelude.{◌≤◌, ◌^◌};
 
-use crate::tests::judging::{key_of, value_of};
+use crate::tests::steps::{content_of, key_of};
+use dvv::Clock;
 use journal::Handout;
 use object::Key;
 use std::alloc::Global;
@@ -20,8 +21,10 @@ fn read_often(vnode: &mut Vnode, first: u64, count: u64, key: &Key) -> Result<()
     Ok(())
 }
 
-/// Where handed-out blocks begin, and the stamps of their entries, first and last.
-fn shape(handout: &Handout) -> (usize, usize, Option<u64>, Option<u64>) {
+/// Where handed-out blocks begin, how many they are, and the stamps of their entries, first and last.
+type Shape = (usize, usize, Option<u64>, Option<u64>);
+
+fn shape(handout: &Handout) -> Shape {
     let first = handout.blocks.first().and_then(|block| block.first());
     let last = handout.blocks.last().and_then(|block| block.last());
     (
@@ -32,44 +35,70 @@ fn shape(handout: &Handout) -> (usize, usize, Option<u64>, Option<u64>) {
     )
 }
 
+/// What a vnode hands out.
+fn settle(alloc: Global, vnode: &mut Vnode) -> Shape {
+    shape(&vnode.settle(Vec::new(alloc)))
+}
+
+/// Puts an `a` with stamp 0.
+fn put(alloc: Global, vnode: &mut Vnode, key: &Key) -> Result<(), Fail> {
+    let _ = vnode.put_lent(0, key, &Clock::new(alloc), &content_of(alloc, b'a')?)?;
+    Ok(())
+}
+
+/// What a vnode hands out after a put, whether its journal is whole then, and what it hands out after 2,999 reads and after 1,100
+/// more.
+fn settlings(
+    alloc: Global,
+    vnode: &mut Vnode,
+    key: &Key,
+) -> Result<(Shape, bool, Shape, Shape), Fail> {
+    put(alloc, vnode, key)?;
+    let nothing = settle(alloc, vnode);
+    let whole = vnode.journal().whole().is_some();
+    read_often(vnode, 1, 2_999, key)?;
+    let first = settle(alloc, vnode);
+    read_often(vnode, 3_000, 1_100, key)?;
+    Ok((nothing, whole, first, settle(alloc, vnode)))
+}
+
 /// The stamp at a place, where its entry is here.
 fn stamp_at(vnode: &Vnode, place: u32) -> Option<u64> {
     vnode.journal().get(place).map(|entry| entry.stamp())
+}
+
+/// Where what is left of a journal begins, how many entries there are in all, whether it is whole, and the stamps at four places.
+fn left(vnode: &Vnode) -> (usize, usize, bool, [Option<u64>; 4]) {
+    let journal = vnode.journal();
+    (
+        journal.first(),
+        journal.len(),
+        journal.whole().is_some(),
+        [0, 4_095, 4_096, 4_100].map(|place| stamp_at(vnode, place)),
+    )
+}
+
+/// How many siblings a read finds, and its place.
+fn found(vnode: &mut Vnode, key: &Key) -> Result<(usize, u32), Fail> {
+    let (state, place) = vnode.read(4_100, key)?;
+    Ok((state.siblings().len(), place))
 }
 
 /// What two settlings hand out follows one another; places and answers stay as they were.
 #[test]
 fn settled_vnodes_answer_as_before(rt: HostRuntime) -> Result<(), Fail> {
     let alloc = rt.alloc();
-    let key = key_of(alloc, b"k")?;
+    let key = key_of(alloc, b'k')?;
     let mut vnode = Vnode::new(alloc, 7);
-    let _ = vnode.put_lent(0, &key, &dvv::Clock::new(alloc), &value_of(alloc, b"a")?)?;
-    assert_eq!(rt; shape(&vnode.settle(Vec::new(alloc))), (0, 0, None, None));
-    assert!(rt; vnode.journal().whole().is_some());
-    read_often(&mut vnode, 1, 2_999, &key)?;
-    assert_eq!(rt;
-        shape(&vnode.settle(Vec::new(alloc))),
-        (0, 2, Some(0), Some(2_047))
+    let want = (
+        (0, 0, None, None),
+        true,
+        (0, 2, Some(0), Some(2_047)),
+        (2_048, 2, Some(2_048), Some(4_095)),
     );
-    read_often(&mut vnode, 3_000, 1_100, &key)?;
-    assert_eq!(rt;
-        shape(&vnode.settle(Vec::new(alloc))),
-        (2_048, 2, Some(2_048), Some(4_095))
-    );
-    assert_eq!(rt;
-        (vnode.journal().first(), vnode.journal().len()),
-        (4_096, 4_100)
-    );
-    assert_eq!(rt;
-        (stamp_at(&vnode, 0), stamp_at(&vnode, 4_095)),
-        (None, None)
-    );
-    assert_eq!(rt;
-        (stamp_at(&vnode, 4_096), stamp_at(&vnode, 4_100)),
-        (Some(4_096), None)
-    );
-    assert!(rt; vnode.journal().whole().is_none());
-    let (state, place) = vnode.read(4_100, &key)?;
-    assert_eq!(rt; (state.siblings().len(), place), (1, 4_100));
+    assert_eq!(rt; settlings(alloc, &mut vnode, &key)?, want);
+    let want = (4_096, 4_100, false, [None, None, Some(4_096), None]);
+    assert_eq!(rt; left(&vnode), want);
+    assert_eq!(rt; found(&mut vnode, &key)?, (1, 4_100));
     Ok(())
 }

@@ -29,6 +29,18 @@ fn content(alloc: Global, byte: u8) -> Result<Content, AllocError> {
     })
 }
 
+/// Puts a content after a clock. Answers its number and its place.
+fn put_content(
+    alloc: Global,
+    vnode: &mut Vnode,
+    byte: u8,
+    seen: &Clock,
+    content: &Content,
+) -> Result<(u64, u32), VnodeFault> {
+    let (dot, place) = vnode.put_lent(0, &key(alloc, byte)?, seen, content)?;
+    Ok((dot.n, place))
+}
+
 /// Puts a value after a clock. Answers its number and its place.
 fn put(
     alloc: Global,
@@ -37,8 +49,7 @@ fn put(
     seen: &Clock,
     value: u8,
 ) -> Result<(u64, u32), VnodeFault> {
-    let (dot, place) = vnode.put_lent(0, &key(alloc, byte)?, seen, &content(alloc, value)?)?;
-    Ok((dot.n, place))
+    put_content(alloc, vnode, byte, seen, &content(alloc, value)?)
 }
 
 /// Puts a value after a state that was read, or after nothing.

@@ -26,12 +26,15 @@ fn is_found(alloc: Global, key: &Key, other: &Key) -> Result<bool, Fail> {
     Ok(states.contains_key(key) && !states.contains_key(other))
 }
 
+/// Whether a key is before another one, and told apart in a map.
+fn is_before(alloc: Global, key: &Key, later: &Key) -> Result<bool, Fail> {
+    Ok(is_found(alloc, key, later)? && may_be_sent(key) && key < later)
+}
+
 /// Whether two keys are in order, and told apart in a map.
 fn keys_in_order(alloc: Global) -> Result<bool, Fail> {
     let key = key_of(alloc, b"b", &[1, 2])?;
-    let later = key_of(alloc, b"b", &[1, 2, 0])?;
-    let found = is_found(alloc, &key, &later)?;
-    Ok(found && may_be_sent(&key) && key < later)
+    is_before(alloc, &key, &key_of(alloc, b"b", &[1, 2, 0])?)
 }
 
 /// Whether a content is the `a` of a plain text, and so its copied bytes.
@@ -45,15 +48,19 @@ fn is_plain_a(content: &Content) -> Result<bool, AllocError> {
     }
 }
 
-/// The dot of a copied sibling, and whether its content is what it was.
-fn copied(alloc: Global) -> Result<(Dot, bool), Fail> {
+/// The dot of a copied sibling, and whether its content is that `a`.
+fn copy_of(sibling: &Sibling) -> Result<(Dot, bool), AllocError> {
+    let copy = sibling.copy()?;
+    Ok((copy.dot, is_plain_a(&copy.content)?))
+}
+
+/// The same of one whose content is it.
+fn copied(alloc: Global) -> Result<(Dot, bool), AllocError> {
     let sibling = Sibling {
         dot: Dot { vnode: 3, n: 7 },
         content: value(alloc, b'a')?,
     };
-    let copy = sibling.copy()?;
-    let same = is_plain_a(&copy.content)?;
-    Ok((copy.dot, same))
+    copy_of(&sibling)
 }
 
 #[test]

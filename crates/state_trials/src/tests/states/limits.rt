@@ -25,8 +25,7 @@ fn taken(alloc: Global, state: &mut KeyState) -> Result<u64, Fail> {
 fn refuses_one_more(alloc: Global, state: &mut KeyState) -> Result<bool, Fail> {
     let before = shown(alloc, state)?;
     let refused = put_without_context(alloc, state)? == Err(PutFault::TooManySiblings);
-    let after = shown(alloc, state)?;
-    Ok(refused && after.as_str() == before.as_str())
+    Ok(refused && shown(alloc, state)? == before)
 }
 
 /// How many puts a state takes, whether it refuses one more, and how many siblings it then has.
@@ -79,35 +78,35 @@ fn merge(state: &mut KeyState, other: &KeyState) -> Merge {
     (can, state.merge(other))
 }
 
-/// What comes of a merge with one more vnode and of one with vnodes that are counted, and what a delete at one more vnode
-/// answers.
-fn past_the_entries(
-    alloc: Global,
-    full: &mut KeyState,
-) -> Result<(Merge, Merge, Result<Dot, PutFault>), Fail> {
-    let more = merge(full, &knowing(alloc, 1023, 1025)?);
-    let within = merge(full, &knowing(alloc, 1000, 1024)?);
-    Ok((more, within, delete(alloc, full, 1024)))
+/// What comes of a merge with a state that knows one event of each vnode from one to below another.
+fn merge_known(alloc: Global, state: &mut KeyState, from: u32, to: u32) -> Result<Merge, Fail> {
+    let other = knowing(alloc, from, to)?;
+    Ok(merge(state, &other))
+}
+
+/// What comes of a merge with one more vnode than a full clock counts, and of one with vnodes that it counts; what a delete at one
+/// more vnode answers; and how many vnodes are counted then.
+type Full = (Merge, Merge, Result<Dot, PutFault>, usize);
+
+fn past_the_entries(alloc: Global) -> Result<Full, Fail> {
+    let mut full = knowing(alloc, 0, 1024)?;
+    let more = merge_known(alloc, &mut full, 1023, 1025)?;
+    let within = merge_known(alloc, &mut full, 1000, 1024)?;
+    let deleted = delete(alloc, &mut full, 1024);
+    Ok((more, within, deleted, full.clock().entries().len()))
+}
+
+#[test]
+fn full_counters(rt: HostRuntime) -> Result<(), Fail> {
+    let counted = [Err(PutFault::ClockFull), Ok(Dot { vnode: 1, n: 1 })];
+    assert_eq!(rt; past_the_counter(rt.alloc())?, counted);
+    Ok(())
 }
 
 #[test]
 fn full_clocks(rt: HostRuntime) -> Result<(), Fail> {
-    let counted = [Err(PutFault::ClockFull), Ok(Dot { vnode: 1, n: 1 })];
-    assert_eq!(rt; past_the_counter(rt.alloc())?, counted);
-    let mut full = knowing(rt.alloc(), 0, 1024)?;
-    assert_eq!(rt;
-        (
-            past_the_entries(rt.alloc(), &mut full)?,
-            full.clock().entries().len()
-        ),
-        (
-            (
-                (false, Err(MergeFault::ClockFull)),
-                (true, Ok(false)),
-                Err(PutFault::ClockFull)
-            ),
-            1024
-        )
-    );
+    let more = (false, Err(MergeFault::ClockFull));
+    let want = (more, (true, Ok(false)), Err(PutFault::ClockFull), 1024);
+    assert_eq!(rt; past_the_entries(rt.alloc())?, want);
     Ok(())
 }

@@ -1,9 +1,10 @@
 //! Puts, reads, merges and restarts, each with its answer.
 
 use super::steps::Step::{self, Merge, Put, Read, Restart};
-use super::steps::plays;
+use super::steps::played;
+use std::alloc::Global;
 use std::test::Fail;
-use vnode::Vnode;
+use vnode::VnodeFault;
 
 const CONTEXT_SUPERSEDES: [Step; 12] = [
     Put(b'k', None, b'a', 1),
@@ -20,13 +21,15 @@ const CONTEXT_SUPERSEDES: [Step; 12] = [
     Read(b'k', &[(0, 3, b'c')]),
 ];
 
+/// What calls of vnode 0 come to.
+fn alone(alloc: Global, steps: &[Step]) -> Result<(u32, usize), VnodeFault> {
+    let mut states = Vec::new(alloc);
+    played(alloc, 0, &mut states, steps)
+}
+
 #[test]
 fn context_supersedes(rt: HostRuntime) -> Result<(), Fail> {
-    let alloc = rt.alloc();
-    let mut vnode = Vnode::new(alloc, 0);
-    let mut states = Vec::new(alloc);
-    plays(&rt, alloc, &mut vnode, &mut states, &CONTEXT_SUPERSEDES)?;
-    assert_eq!(rt; vnode.journal().len(), 12);
+    assert_eq!(rt; alone(rt.alloc(), &CONTEXT_SUPERSEDES)?, (12, 12));
     Ok(())
 }
 
@@ -43,13 +46,17 @@ const TOMBSTONE_BESIDE_VALUE: [Step; 6] = [
     Read(b'k', &[(0, 2, b'!'), (1, 1, b'b')]),
 ];
 
+/// What calls of vnode 1 come to, and then calls of vnode 0.
+fn after_another(alloc: Global, other: &[Step], own: &[Step]) -> Result<[u32; 2], VnodeFault> {
+    let mut states = Vec::new(alloc);
+    let (there, _) = played(alloc, 1, &mut states, other)?;
+    let (here, _) = played(alloc, 0, &mut states, own)?;
+    Ok([there, here])
+}
+
 #[test]
 fn tombstone_beside_value(rt: HostRuntime) -> Result<(), Fail> {
-    let alloc = rt.alloc();
-    let mut states = Vec::new(alloc);
-    let mut other = Vnode::new(alloc, 1);
-    plays(&rt, alloc, &mut other, &mut states, &VALUE)?;
-    let mut vnode = Vnode::new(alloc, 0);
-    plays(&rt, alloc, &mut vnode, &mut states, &TOMBSTONE_BESIDE_VALUE)?;
+    let right = after_another(rt.alloc(), &VALUE, &TOMBSTONE_BESIDE_VALUE)?;
+    assert_eq!(rt; right, [2, 6]);
     Ok(())
 }

@@ -3,7 +3,6 @@
 use super::{merge, put_after, read};
 use object::{Content, KeyState};
 use std::alloc::Global;
-use std::process::Abort;
 use vnode::{Vnode, VnodeFault};
 
 /// A call and its answer. The state of each read is kept; puts and merges name it by its number, from 0.
@@ -65,17 +64,32 @@ fn place_of(
     }
 }
 
-/// Makes the calls in turn, the first calls of a vnode, and asserts their answers. Each stands one place behind the call
-/// before it.
+/// Makes the calls in turn, the first calls of a vnode. Answers how many of them, from the first on, are answered as they must be, each
+/// one place behind the call before it.
 pub fn plays(
-    rt: &impl Abort,
     alloc: Global,
     vnode: &mut Vnode,
     states: &mut Vec<KeyState>,
     steps: &[Step],
-) -> Result<(), VnodeFault> {
-    for (place, step) in (0u32..).zip(steps) {
-        assert_eq!(rt; place_of(alloc, vnode, states, *step)?, Some(place));
+) -> Result<u32, VnodeFault> {
+    let mut place = 0u32;
+    for step in steps {
+        if place_of(alloc, vnode, states, *step)? != Some(place) {
+            return Ok(place);
+        }
+        place = place.saturating_add(1);
     }
-    Ok(())
+    Ok(place)
+}
+
+/// How many calls of a vnode with this identifier are answered as they must be, and how many entries it then has.
+pub fn played(
+    alloc: Global,
+    id: u32,
+    states: &mut Vec<KeyState>,
+    steps: &[Step],
+) -> Result<(u32, usize), VnodeFault> {
+    let mut vnode = Vnode::new(alloc, id);
+    let right = plays(alloc, &mut vnode, states, steps)?;
+    Ok((right, vnode.journal().len()))
 }
