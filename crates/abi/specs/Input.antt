@@ -8,10 +8,6 @@ use Rattle.object.specs.declared.content.Sibling.{Sibling}
 use Rattle.bpfimage.specs.declared.image.ImageKind.{ImageKind}
 use Rattle.bpfimage.specs.Image.{kind_number}
 
--- how many siblings an input shows at most
-abbrev pub most_siblings : ℕ
-most_siblings = 64
-
 -- the bytes that a content shows: a tombstone none. Media types aren't shown.
 abbrev pub shown : Content → List ℕ
 shown (Value media bytes) = bytes

@@ -3,16 +3,14 @@
 ghost use Rattle.std.specs.Prelude.{◌≡◌, ◌≤◌, ◌<◌, ◌+◌, ◌-◌, ◌*◌, ◌^◌, ◌⊎◌, ◌↔◌, ◌++◌, [], length, take, replicate, IsErr, IfOk, OnOk, OnErr};
 ghost use Rattle.std.specs.Option.{SomeIff, option_copied};
 ghost use Rattle.abi.specs.Writing.{Writes};
-ghost use Rattle.abi.specs.Input.{contents_shown, flag_of, head, layout, most_siblings, new_shown, row, rows, shown, used_by, values, window_of};
+ghost use Rattle.abi.specs.Input.{contents_shown, flag_of, head, layout, new_shown, row, rows, shown, used_by, values, window_of};
+ghost use Rattle.object.specs.Limits.{most_siblings};
 
 use crate::writer::Writer;
 use bpfimage::ImageKind;
 use dvv::Dot;
-use object::{Content, Sibling};
+use object::{Content, MAX_SIBLINGS, Sibling};
 use thiserror::Error;
-
-/// The most siblings that an input shows.
-pub const MAX_SIBLINGS: usize = 64;
 
 /// The bytes of an input's head: kind, number of rows, used length and a zero, 4 bytes each.
 const HEAD_LEN: usize = 16;

@@ -11,5 +11,5 @@ mod writer;
 mod written;
 
 pub use answer::{BadAnswer, Verdict, read_answer};
-pub use input::{MAX_SIBLINGS, TooLarge, fill_input};
+pub use input::{TooLarge, fill_input};
 pub use written::octet_stream;
