@@ -129,22 +129,42 @@ fn behind(alloc: Global, line: &str) -> Result<String, AllocError> {
     Ok(script)
 }
 
-/// Line 4 of a script is bad, for this reason.
-fn check_reason(rt: &impl Abort, alloc: Global, line: &str, why: &str) -> Result<(), Fail> {
-    let script = behind(alloc, line)?;
+/// Whole scripts, what they print, and why their last line is bad.
+const WHOLE: [(&[u8], &str, &str); 3] = [
+    (b"vnodes 0\n", "bad line 1\n", "vnodes are 1 to 64\n"),
+    (b"vnodes 65\n", "bad line 1\n", "vnodes are 1 to 64\n"),
+    (
+        b"vnodes 1\nget 0 k g\nresolve g \xff.img\n",
+        "none AQAA\nbad line 3\n",
+        "a file name that is no text\n",
+    ),
+];
+
+/// A script prints so much, its last line is bad, and for this reason.
+fn check_reason(
+    rt: &impl Abort,
+    alloc: Global,
+    script: &[u8],
+    want: &str,
+    why: &str,
+) -> Result<(), Fail> {
     let mut out = Vec::new(alloc);
     let mut err = Vec::new(alloc);
-    let got = run(alloc, script.as_bytes(), &mut out, &mut err)?;
-    let printed = b"none AQAA\nok\nbad line 4\n".as_slice();
-    assert_eq!(rt; (out.as_slice(), got), (printed, 2), "{line}");
-    assert_eq!(rt; err.as_slice(), why.as_bytes(), "{line}");
+    let got = run(alloc, script, &mut out, &mut err)?;
+    assert_eq!(rt; (out.as_slice(), got), (want.as_bytes(), 2), "{why}");
+    assert_eq!(rt; err.as_slice(), why.as_bytes(), "{want}");
     Ok(())
 }
 
 #[test]
 fn reasons(rt: HostRuntime) -> Result<(), Fail> {
     for (line, why) in &REASONS {
-        check_reason(&rt, rt.alloc(), line, why)?;
+        let script = behind(rt.alloc(), line)?;
+        let want = "none AQAA\nok\nbad line 4\n";
+        check_reason(&rt, rt.alloc(), script.as_bytes(), want, why)?;
+    }
+    for (script, want, why) in &WHOLE {
+        check_reason(&rt, rt.alloc(), script, want, why)?;
     }
     Ok(())
 }
