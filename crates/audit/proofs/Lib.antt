@@ -1,8 +1,13 @@
 pub mod Heads
 pub mod Rising
 pub mod Sorting
-pub mod Sources
 pub mod Ran
 pub mod Steps
 pub mod Next
-pub mod Opened
+mod Legal
+mod Keeping
+pub mod Names
+pub mod Opening
+mod Going
+mod Telling
+mod Fronts

@@ -6,7 +6,7 @@ ghost use Rattle.audit.specs.Faulty.{IsFault, IsFaultless};
 ghost use Rattle.audit.specs.Interleaved.{IsInterleaving, ids_of};
 ghost use Rattle.audit.specs.Rerun.{AreJournals};
 
-use crate::rerun::check_sources;
+use crate::sources::check_sources;
 use crate::stamps::{check_rising, check_single};
 use journal::Whole;
 use std::alloc::{AllocError, Global};

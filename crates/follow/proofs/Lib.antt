@@ -1,7 +1,1 @@
-pub mod Legal
-pub mod Keeping
-pub mod Names
-pub mod Going
 pub mod Turns
-pub mod Opening
-mod Telling

@@ -1,5 +1,2 @@
-pub mod Again
-pub mod Kept
-pub mod Followed
 pub mod Waiting
-pub mod Faults
+pub mod Stops

@@ -1,73 +1,49 @@
 //! A follower.
 
 ghost use Rattle.std.specs.Prelude.{◌≡◌, ◌≢◌, ◌<◌, ◌+◌, ◌++◌, ℕ, [], IfOk, IfErr, IfSome, OnOk, OnErr, Err, None, Some, length, replicate, slice_set};
-ghost use Rattle.follow.specs.declared.fault.FollowFault.{FollowFault as Faulted};
-ghost use Rattle.follow.specs.Faults.{HasStopped, IsNewest, IsStop};
 ghost use Rattle.world.specs.Represents.{AreDistinct, empty_logs, log_at};
+ghost use Rattle.audit.specs.declared.fault.FollowFault.{FollowFault as Faulted};
 ghost use Rattle.audit.specs.Interleaved.{IsInterleaving};
-ghost use Rattle.follow.specs.Followed.{HasFollowed};
+ghost use Rattle.follow.specs.Stops.{HasStopped, IsStop};
 ghost use Rattle.follow.specs.Waiting.{AreTakenAlike, NoneBelow, taken_at, waiting_at};
 
-use crate::fault::{FollowFault, TakeFault};
-use crate::followed::{Followed, index_of};
-use crate::kept::Answers;
+use crate::fault::TakeFault;
 use crate::queue::Queue;
 use crate::run::Run;
+use audit::{FollowFault, Rerun};
 use journal::Entry;
 use std::alloc::{AllocError, Global};
 use std::marker::Model;
-use vnode::Vnode;
 
 /// An auditor that goes along with vnodes: their journals are handed over in blocks, and happen again in the order of stamps, at
 /// vnodes of its own that settle. What it has followed of all vnodes is one run of the world, as long as it has found no fault.
 #[derive(Drop)]
 pub struct Follower {
-    alloc: Global,
     run: Run,
-    fault: Option<FollowFault>,
 }
 
 impl Model for Follower {
-    ghost use Rattle.std.specs.Prelude.{◌≡◌, None, Some, length};
-    ghost use Rattle.follow.specs.declared.fault.FollowFault.{FollowFault as Faulted};
-    ghost use Rattle.follow.specs.Faults.{HasStopped, IsNewest};
-    ghost use Rattle.follow.specs.Followed.{HasFollowed};
+    ghost use Rattle.std.specs.Prelude.{◌≡◌, Some, length};
+    ghost use Rattle.audit.specs.declared.fault.FollowFault.{FollowFault as Faulted};
+    ghost use Rattle.follow.specs.Stops.{HasStopped};
     ghost use Rattle.follow.specs.Waiting.{Taken};
 
     ghost Value = { Taken };
 
-    ghost view = { λ f. record { followed = f.run.followed.vnodes.items; waiting = f.run.waiting.items; fault = f.fault; recent = f.run.followed.recent } };
+    ghost view = { λ f. record { followed = f.run.rerun.logs; waiting = f.run.waiting.items; fault = f.run.rerun.fault; recent = f.run.rerun.recent } };
 
-    ghost invariant = { λ f. (length f.run.waiting.items ≡ length f.run.followed.vnodes.items) × (f.fault ≡ None → HasFollowed f.run.followed.vnodes.items f.run.followed.last f.run.followed.recent f.run.followed.answers.items × IsNewest f.run.followed.vnodes.items f.run.followed.last f.run.followed.last_index) × ((fault : Faulted) → f.fault ≡ Some fault → HasStopped f.run.followed.recent fault) };
+    ghost invariant = { λ f. (length f.run.waiting.items ≡ length f.run.rerun.logs) × ((fault : Faulted) → f.run.rerun.fault ≡ Some fault → HasStopped f.run.rerun.recent fault) };
 }
 
-// Nothing was followed of vnodes with these identifiers, and nothing waits.
-fn open(alloc: Global, ids: &[u32], recent: usize) -> Result<Run, AllocError>
-    requires distinct { AreDistinct ids.now }
-    ensures run { IfOk result (λ run. HasFollowed run.followed.vnodes.items run.followed.last run.followed.recent run.followed.answers.items) }
-    ensures newest { IfOk result (λ run. IsNewest run.followed.vnodes.items run.followed.last run.followed.last_index) }
-    ensures recent { IfOk result (λ run. run.followed.recent ≡ recent) }
-    ensures followed { IfOk result (λ run. run.followed.vnodes.items ≡ empty_logs ids.now) }
-    ensures waiting { IfOk result (λ run. run.waiting.items ≡ replicate (length ids.now) []) }
+// Nothing waits of so many vnodes.
+fn queues(alloc: Global, count: usize) -> Result<Vec<Queue>, AllocError>
+    ensures { IfOk result (λ queues. queues.items ≡ replicate count []) }
 {
-    let mut vnodes = Vec::new(alloc);
-    let mut answers = Vec::new(alloc);
-    let mut waiting = Vec::new(alloc);
-    for index in 0..ids.len() {
-        vnodes.push(Vnode::new(alloc, ids[index]))?;
-        answers.push(Answers::new(alloc))?;
-        waiting.push(Queue::new(alloc))?;
+    let mut queues = Vec::new(alloc);
+    for index in 0..count {
+        queues.push(Queue::new(alloc))?;
     }
-    Ok(Run {
-        followed: Followed {
-            vnodes,
-            answers,
-            last: None,
-            last_index: 0,
-            recent,
-        },
-        waiting,
-    })
+    Ok(queues)
 }
 
 impl Follower {
@@ -80,10 +56,12 @@ impl Follower {
         ensures fault { IfOk result (λ follower. follower.fault ≡ None) }
         ensures recent { IfOk result (λ follower. follower.recent ≡ recent) }
     {
+        let waiting = queues(alloc, ids.len())?;
         Ok(Follower {
-            alloc,
-            run: open(alloc, ids, recent)?,
-            fault: None,
+            run: Run {
+                rerun: Rerun::new(alloc, ids, recent)?,
+                waiting,
+            },
         })
     }
 
@@ -100,7 +78,7 @@ impl Follower {
         ensures gap { result ≡ Err TakeFault.Gap → (index : ℕ) × (index < length self.old.followed) × ((log_at self.old.followed index).vnode ≡ vnode) × (first ≢ taken_at self.old index) }
         ensures err { OnErr result (self.new.waiting ≡ self.old.waiting) }
     {
-        let Some(index) = index_of(&self.run.followed.vnodes, vnode) else {
+        let Some(index) = self.run.rerun.index_of(vnode) else {
             return Err(TakeFault::Unknown);
         };
         self.take_at(index, first, entries)
@@ -111,7 +89,7 @@ impl Follower {
         ensures count { result ≡ length self.now.followed }
         ensures waiting { result ≡ length self.now.waiting }
     {
-        self.run.followed.vnodes.len()
+        self.run.rerun.count()
     }
 
     /// The identifier of the vnode with this index.
@@ -119,7 +97,7 @@ impl Follower {
         requires inside { index < length self.now.followed }
         ensures { result ≡ (log_at self.now.followed index).vnode }
     {
-        self.run.followed.vnodes[index].id()
+        self.run.rerun.id(index)
     }
 
     /// How many entries of the vnode with this index were followed.
@@ -127,7 +105,7 @@ impl Follower {
         requires inside { index < length self.now.followed }
         ensures { result ≡ length (log_at self.now.followed index).entries }
     {
-        self.run.followed.vnodes[index].journal().len()
+        self.run.rerun.happened(index)
     }
 
     /// Takes the next entries of the vnode with this index, as [`Follower::take`] does.
@@ -166,14 +144,10 @@ impl Follower {
         ensures again { (fault : Faulted) → self.old.fault ≡ Some fault → (result ≡ Err fault) × (self.new ≡ self.old) }
         ensures recent { self.new.recent ≡ self.old.recent }
     {
-        if let Some(fault) = self.fault {
+        if let Some(fault) = self.run.rerun.fault() {
             return Err(fault);
         }
-        let followed = self.run.follow(self.alloc, below);
-        if let Err(fault) = followed {
-            self.fault = Some(fault);
-        }
-        followed
+        self.run.follow(below)
     }
 
     /// The fault that was found, if any. Where there is none, what was followed is one run of the world.
@@ -182,6 +156,6 @@ impl Follower {
         ensures run { result ≡ None → IsInterleaving self.now.followed }
         ensures stopped { IfSome result (λ fault. HasStopped self.now.recent fault) }
     {
-        self.fault
+        self.run.rerun.fault()
     }
 }

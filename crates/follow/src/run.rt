@@ -1,17 +1,16 @@
 //! Entries that wait happen again, in the order of their stamps.
 
-ghost use Rattle.std.specs.Prelude.{◌≡◌, ◌≤◌, ◌<◌, ◌+◌, ◌⊎◌, OnOk, IfErr, MatchOption, None, drop, length, slice_set};
+ghost use Rattle.std.specs.Prelude.{◌≡◌, ◌≤◌, ◌<◌, ◌+◌, ◌⊎◌, OnOk, IfErr, MatchOption, None, Some, drop, length, slice_set};
 ghost use Rattle.journal.specs.Entry.{Entry as Entered};
 ghost use Rattle.journal.specs.Stamps.{stamp_of};
 ghost use Rattle.world.specs.Represents.{log_at, with_entry_at};
-ghost use Rattle.follow.specs.Faults.{IsNewest, IsStop, IsToldOf};
-ghost use Rattle.follow.specs.Followed.{HasFollowed};
+ghost use Rattle.audit.specs.Interleaved.{IsInterleaving};
+ghost use Rattle.audit.specs.Wrong.{IsToldOf};
+ghost use Rattle.follow.specs.Stops.{IsStop};
 ghost use Rattle.follow.specs.Waiting.{AreTakenAlike, IsNext, NoneBelow, waiting_at};
 
-use crate::fault::FollowFault;
-use crate::followed::Followed;
 use crate::queue::Queue;
-use std::alloc::Global;
+use audit::{FollowFault, Rerun};
 
 /// The next entry of a vnode.
 #[derive(Clone, Copy, Drop)]
@@ -43,23 +42,23 @@ fn first_of(a: Option<Head>, b: Option<Head>) -> Option<Head>
 /// What was followed of some vnodes, and what waits of each.
 #[derive(Drop)]
 pub(crate) struct Run {
-    pub(crate) followed: Followed,
+    pub(crate) rerun: Rerun,
     pub(crate) waiting: Vec<Queue>,
 }
 
 impl Run {
     /// How many entries of a vnode were taken: those that were followed, and those that wait.
     pub(crate) fn taken(&self, index: usize) -> usize
-        requires size { length self.now.waiting.items ≡ length self.now.followed.vnodes.items }
-        requires inside { index < length self.now.followed.vnodes.items }
-        ensures { result ≡ length (log_at self.now.followed.vnodes.items index).entries + length (waiting_at self.now.waiting.items index) }
+        requires size { length self.now.waiting.items ≡ length self.now.rerun.logs }
+        requires inside { index < length self.now.rerun.logs }
+        ensures { result ≡ length (log_at self.now.rerun.logs index).entries + length (waiting_at self.now.waiting.items index) }
     {
-        self.followed.vnodes[index].journal().len() + self.waiting[index].len()
+        self.rerun.happened(index) + self.waiting[index].len()
     }
 
     // The next entry of a vnode, where its stamp is below a bound.
     fn head_of(&self, index: usize, below: u64) -> Option<Head>
-        requires size { length self.now.waiting.items ≡ length self.now.followed.vnodes.items }
+        requires size { length self.now.waiting.items ≡ length self.now.rerun.logs }
         requires inside { index < length self.now.waiting.items }
         ensures { MatchOption result ((e : Entered) → IsNext self.now.waiting.items index e → below ≤ stamp_of e) (λ head. (head.index ≡ index) × ((e : Entered) × IsNext self.now.waiting.items index e × (stamp_of e < below))) }
     {
@@ -70,7 +69,7 @@ impl Run {
         if stamp < below {
             Some(Head {
                 index,
-                vnode: self.followed.vnodes[index].id(),
+                vnode: self.rerun.id(index),
                 stamp,
             })
         } else {
@@ -80,8 +79,8 @@ impl Run {
 
     // The vnode whose entry is next, of those with stamps below a bound.
     fn next_below(&self, below: u64) -> Option<usize>
-        requires size { length self.now.waiting.items ≡ length self.now.followed.vnodes.items }
-        ensures { MatchOption result (NoneBelow self.now.waiting.items below) (λ index. (index < length self.now.followed.vnodes.items) × ((e : Entered) × IsNext self.now.waiting.items index e × (stamp_of e < below))) }
+        requires size { length self.now.waiting.items ≡ length self.now.rerun.logs }
+        ensures { MatchOption result (NoneBelow self.now.waiting.items below) (λ index. (index < length self.now.rerun.logs) × ((e : Entered) × IsNext self.now.waiting.items index e × (stamp_of e < below))) }
     {
         let mut next = None;
         for index in 0..self.waiting.len() {
@@ -94,42 +93,43 @@ impl Run {
     }
 
     // The next entry of a vnode happens again.
-    fn step(&mut self, alloc: Global, index: usize) -> Result<(), FollowFault>
-        requires size { length self.old.waiting.items ≡ length self.old.followed.vnodes.items }
-        requires run { HasFollowed self.old.followed.vnodes.items self.old.followed.last self.old.followed.recent self.old.followed.answers.items }
-        requires newest { IsNewest self.old.followed.vnodes.items self.old.followed.last self.old.followed.last_index }
-        requires inside { index < length self.old.followed.vnodes.items }
+    fn step(&mut self, index: usize) -> Result<(), FollowFault>
+        requires size { length self.old.waiting.items ≡ length self.old.rerun.logs }
+        requires going { self.old.rerun.fault ≡ None }
+        requires inside { index < length self.old.rerun.logs }
         requires waits { (e : Entered) × IsNext self.old.waiting.items index e }
-        ensures run { OnOk result (HasFollowed self.new.followed.vnodes.items self.new.followed.last self.new.followed.recent self.new.followed.answers.items) }
-        ensures next { OnOk result ((e : Entered) × IsNext self.old.waiting.items index e × (self.new.followed.vnodes.items ≡ with_entry_at self.old.followed.vnodes.items index e) × (self.new.waiting.items ≡ slice_set self.old.waiting.items index (drop 1 (waiting_at self.old.waiting.items index)))) }
-        ensures newest { OnOk result (IsNewest self.new.followed.vnodes.items self.new.followed.last self.new.followed.last_index) }
-        ensures size { length self.new.waiting.items ≡ length self.new.followed.vnodes.items }
-        ensures recent { self.new.followed.recent ≡ self.old.followed.recent }
-        ensures told { IfErr result (λ fault. (e : Entered) × IsNext self.old.waiting.items index e × IsToldOf self.old.followed.vnodes.items self.old.followed.recent index e fault) }
+        ensures run { OnOk result (IsInterleaving self.new.rerun.logs) }
+        ensures next { OnOk result ((e : Entered) × IsNext self.old.waiting.items index e × (self.new.rerun.logs ≡ with_entry_at self.old.rerun.logs index e) × (self.new.waiting.items ≡ slice_set self.old.waiting.items index (drop 1 (waiting_at self.old.waiting.items index)))) }
+        ensures going { OnOk result (self.new.rerun.fault ≡ None) }
+        ensures fault { IfErr result (λ fault. self.new.rerun.fault ≡ Some fault) }
+        ensures size { length self.new.waiting.items ≡ length self.new.rerun.logs }
+        ensures recent { self.new.rerun.recent ≡ self.old.rerun.recent }
+        ensures told { IfErr result (λ fault. (e : Entered) × IsNext self.old.waiting.items index e × IsToldOf self.old.rerun.logs self.old.rerun.recent index e fault) }
     {
         let Some(entry) = self.waiting[index].first() else {
             unreachable!()
         };
-        self.followed.go_on(alloc, index, entry)?;
+        self.rerun.go_on(index, entry)?;
         self.waiting[index].drop_first();
         Ok(())
     }
 
     /// All that waits with stamps below a bound happens again, in the order of stamps.
-    pub(crate) fn follow(&mut self, alloc: Global, below: u64) -> Result<(), FollowFault>
-        requires size { length self.old.waiting.items ≡ length self.old.followed.vnodes.items }
-        requires run { HasFollowed self.old.followed.vnodes.items self.old.followed.last self.old.followed.recent self.old.followed.answers.items }
-        requires newest { IsNewest self.old.followed.vnodes.items self.old.followed.last self.old.followed.last_index }
-        ensures run { OnOk result (HasFollowed self.new.followed.vnodes.items self.new.followed.last self.new.followed.recent self.new.followed.answers.items) }
-        ensures newest { OnOk result (IsNewest self.new.followed.vnodes.items self.new.followed.last self.new.followed.last_index) }
-        ensures alike { OnOk result (AreTakenAlike self.old.followed.vnodes.items self.old.waiting.items self.new.followed.vnodes.items self.new.waiting.items) }
+    pub(crate) fn follow(&mut self, below: u64) -> Result<(), FollowFault>
+        requires size { length self.old.waiting.items ≡ length self.old.rerun.logs }
+        requires going { self.old.rerun.fault ≡ None }
+        requires run { IsInterleaving self.old.rerun.logs }
+        ensures run { OnOk result (IsInterleaving self.new.rerun.logs) }
+        ensures alike { OnOk result (AreTakenAlike self.old.rerun.logs self.old.waiting.items self.new.rerun.logs self.new.waiting.items) }
         ensures below { OnOk result (NoneBelow self.new.waiting.items below) }
-        ensures size { length self.new.waiting.items ≡ length self.new.followed.vnodes.items }
-        ensures recent { self.new.followed.recent ≡ self.old.followed.recent }
-        ensures stop { IfErr result (λ fault. IsStop self.old.followed.vnodes.items self.old.waiting.items below self.old.followed.recent fault) }
+        ensures going { OnOk result (self.new.rerun.fault ≡ None) }
+        ensures fault { IfErr result (λ fault. self.new.rerun.fault ≡ Some fault) }
+        ensures size { length self.new.waiting.items ≡ length self.new.rerun.logs }
+        ensures recent { self.new.rerun.recent ≡ self.old.rerun.recent }
+        ensures stop { IfErr result (λ fault. IsStop self.old.rerun.logs self.old.waiting.items below self.old.rerun.recent fault) }
     {
         while let Some(index) = self.next_below(below) {
-            self.step(alloc, index)?;
+            self.step(index)?;
         }
         Ok(())
     }

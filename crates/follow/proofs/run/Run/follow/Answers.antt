@@ -5,10 +5,10 @@ use Rattle.journal.specs.Logs.{Log}
 use Rattle.world.specs.Represents.{with_entry_at}
 use Rattle.follow.specs.Waiting.{AreTakenAlike, count_waiting}
 use Rattle.journal.specs.Stamps.{stamp_of}
-use Rattle.follow.specs.declared.fault.FollowFault.{FollowFault}
-use Rattle.follow.specs.Faults.{IsStop, IsToldOf}
-use Rattle.follow.proofs.Going.{interleaved}
-use Rattle.follow.proofs.Opening.{passed}
+use Rattle.audit.specs.declared.fault.FollowFault.{FollowFault}
+use Rattle.audit.specs.Wrong.{IsToldOf}
+use Rattle.follow.specs.Stops.{IsStop}
+use Rattle.audit.proofs.Opening.{passed}
 use Rattle.follow.proofs.Turns.{waits_less, alike_more}
 use Rattle.follow.proofs.run.Run.follow.Goals as goal
 
@@ -20,16 +20,16 @@ loop-index-smaller c =
 
 pub loop-index-preserved : goal.loop-index-preserved
 loop-index-preserved c =
-    let first = c.args.self.now.followed.vnodes.items in
+    let first = c.args.self.now.rerun.logs in
     let waited = c.args.self.now.waiting.items in
-    let logs = c.loop-index.self.followed.vnodes.items in
+    let logs = c.loop-index.self.rerun.logs in
     let waiting = c.loop-index.self.waiting.items in
     let i = c.in-Some.index in
     let next = c.in_ok-step.ensures.next in
     record {
       size = c.in_ok-step.ensures.size;
+      going = c.in_ok-step.ensures.going;
       run = c.in_ok-step.ensures.run;
-      newest = c.in_ok-step.ensures.newest;
       recent = c.in_ok-step.ensures.recent ∙ c.loop-index.invariant.recent;
       alike = subst (λ (l : List Log). AreTakenAlike first waited l c.step.new.self.waiting.items) (sym next.2)
           (subst (λ (w : List (List Entry)). AreTakenAlike first waited (with_entry_at logs i next.0) w) (sym next.3)
@@ -43,15 +43,15 @@ returns-in_err-step-clause-stop c =
     let head = c.in-Some.ensures.1 in
     let told = c.in_err-step.ensures.told in
     let same : head.0 ≡ told.0 = same_Some head.0 told.0 (sym head.1 ∙ told.1) in
-    passed c.from_residual.result _ (λ (fault : FollowFault). IsStop own.followed.vnodes.items own.waiting.items c.args.below own.followed.recent fault) c.from_residual.ensures.1 (record {
-      logs = now.followed.vnodes.items;
+    passed c.from_residual.result _ (λ (fault : FollowFault). IsStop own.rerun.logs own.waiting.items c.args.below own.rerun.recent fault) c.from_residual.ensures.1 (record {
+      logs = now.rerun.logs;
       waiting = now.waiting.items;
       alike = c.loop-index.invariant.alike;
-      run = interleaved now.followed.vnodes.items now.followed.last now.followed.recent now.followed.answers.items c.loop-index.invariant.run;
+      run = c.loop-index.invariant.run;
       index = c.in-Some.index;
       entry = told.0;
       inside = c.in-Some.ensures.0;
       next = told.1;
       bound = subst (λ (e : Entry). stamp_of e < c.args.below) same head.2;
-      told = subst (λ (n : ℕ). IsToldOf now.followed.vnodes.items n c.in-Some.index told.0 c.in_err-step.field-0.0) c.loop-index.invariant.recent told.2;
+      told = subst (λ (n : ℕ). IsToldOf now.rerun.logs n c.in-Some.index told.0 c.in_err-step.field-0.0) c.loop-index.invariant.recent told.2;
     })

@@ -1,16 +1,15 @@
-use Rattle.std.specs.Prelude.{◌≡◌, length}
-use Rattle.follow.specs.Faults.{IsNewest}
-use Rattle.follow.specs.Followed.{HasFollowed}
+use Rattle.std.specs.Prelude.{◌≡◌, None, length}
+use Rattle.audit.specs.Interleaved.{IsInterleaving}
 use Rattle.follow.specs.Waiting.{AreTakenAlike, count_waiting}
 use Rattle.follow.proofs.run.Run.follow.Given as goal
 
 abbrev pub invariant-loop-index : goal.invariant-loop-index
 invariant-loop-index l = record {
-  size : length l.self.waiting.items ≡ length l.self.followed.vnodes.items;
-  run : HasFollowed l.self.followed.vnodes.items l.self.followed.last l.self.followed.recent l.self.followed.answers.items;
-  newest : IsNewest l.self.followed.vnodes.items l.self.followed.last l.self.followed.last_index;
-  recent : l.self.followed.recent ≡ l.initial.self.followed.recent;
-  alike : AreTakenAlike l.initial.self.followed.vnodes.items l.initial.self.waiting.items l.self.followed.vnodes.items l.self.waiting.items;
+  size : length l.self.waiting.items ≡ length l.self.rerun.logs;
+  going : l.self.rerun.fault ≡ None;
+  run : IsInterleaving l.self.rerun.logs;
+  recent : l.self.rerun.recent ≡ l.initial.self.rerun.recent;
+  alike : AreTakenAlike l.initial.self.rerun.logs l.initial.self.waiting.items l.self.rerun.logs l.self.waiting.items;
 }
 
 abbrev pub decreases-loop-index : goal.decreases-loop-index
