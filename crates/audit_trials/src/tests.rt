@@ -1,7 +1,6 @@
 //! The tests of audits.
 
 mod faults;
-mod judging;
 mod runs;
 mod settling;
 mod steps;

@@ -1,11 +1,12 @@
 -- One vnode more, and what calls keep.
-use Rattle.std.proofs.Common.{◌≡◌, ℕ, zero, suc, ◌+◌, List, [], ◌∷◌, ◌++◌, ap, ◌∙◌, arith, length, refl, Option, Some, None, Bool, true, false, MatchBool, Err, slice_get, ◌==◌}
-use Rattle.std.specs.List.{list_any}
+use Rattle.std.proofs.Common.{◌≡◌, ℕ, zero, suc, ◌+◌, List, [], ◌∷◌, ◌++◌, ap, ◌∙◌, sym, subst, arith, length, refl, Option, Some, None, Bool, true, false, MatchBool, if◌then◌else◌, Result, Err, is_ok, slice_get}
 use Rattle.std.proofs.lemmas.List.{length-set}
 use Rattle.journal.specs.Logs.{Log}
+use Rattle.peers.specs.declared.fault.PeerFault.{PeerFault}
 use Rattle.peers.specs.declared.fault.PeerFault.TheVariants.{Lost}
 use Rattle.peers.specs.Calls.{Call, PutAt, MergeAt, StateOf, KeysOf, Made}
-use Rattle.local.specs.Locals.{fresh_from, PutsIn, MergesIn, ReadsIn, AtVnode, Does, IsLost, LocalView, LocalStep}
+use Rattle.peers.specs.Counts.{has_failed}
+use Rattle.local.specs.Locals.{fresh_from, PutsIn, MergesIn, ReadsIn, AtVnode, Does, IsLost, has_added, counted, LocalView, LocalStep, IsUnmade, IsMade, IsUnheard, is_next, unanswered}
 
 pub fresh_end : (id n : ℕ) → fresh_from id (suc n) ≡ fresh_from id n ++ (record { vnode = id + n; entries = [] }) ∷ []
 fresh_end id zero = ap (λ (v : ℕ). let l : Log = record { vnode = v; entries = [] } in l ∷ []) (omega arith)
@@ -21,12 +22,19 @@ does_keeps stamp old (MergeAt i key from at state back) new h = at_keeps (λ log
 does_keeps stamp old (StateOf i key back) new h = at_keeps (λ log after. ReadsIn stamp key log back after) (back ≡ Err Lost) (slice_get old i) old i new h
 does_keeps stamp old (KeysOf i back) new h = ap length h.1
 
+made_keeps : (old : LocalView) (call : Call) (new : LocalView) → IsMade old call new → length new.logs ≡ length old.logs
+made_keeps old call new h = does_keeps old.stamp old.logs call new.logs h.0
+
 step_keeps : (old : LocalView) (call : Call) (new : LocalView) → LocalStep old call new → length new.logs ≡ length old.logs
-step_keeps old call new step = by_loss (list_any (λ n. n == old.calls) old.lost) step.vnodes
+step_keeps old call new step = by_loss (is_next old old.lost) step.happens
   where
-    by_loss : (lost : Bool) → MatchBool lost (IsLost call × (new.logs ≡ old.logs)) (Does old.stamp old.logs call new.logs) → length new.logs ≡ length old.logs
+    by_hearing : (unheard : Bool) → MatchBool unheard (IsUnheard old call new) (IsMade old call new) → length new.logs ≡ length old.logs
+    by_hearing true h = made_keeps old h.0 new h.1
+    by_hearing false h = made_keeps old call new h
+
+    by_loss : (lost : Bool) → MatchBool lost (IsUnmade old call new) (MatchBool (is_next old old.unheard) (IsUnheard old call new) (IsMade old call new)) → length new.logs ≡ length old.logs
     by_loss true h = ap length h.1
-    by_loss false h = does_keeps old.stamp old.logs call new.logs h
+    by_loss false h = by_hearing (is_next old old.unheard) h
 
 pub vnodes_kept : (old new : LocalView) (calls : List Call) → Made LocalStep old calls new → length new.logs ≡ length old.logs
 vnodes_kept old new [] made = ap (λ (l : LocalView). length l.logs) made
@@ -39,3 +47,78 @@ first_kept old new (call ∷ calls) made = first_kept made.0 new calls made.2 �
 pub fresh_length : (id n : ℕ) → length (fresh_from id n) ≡ n
 fresh_length id zero = refl
 fresh_length id (suc n) = ap suc (fresh_length (id + 1) n)
+
+-- a call that came back as lost is lost, and adds nothing
+lost_again : (call : Call) → IsLost (unanswered call)
+lost_again (PutAt i key seen content back) = refl
+lost_again (MergeAt i key from at state back) = refl
+lost_again (StateOf i key back) = refl
+lost_again (KeysOf i back) = refl
+
+lost_adds_nothing : (call : Call) → IsLost call → has_added call ≡ false
+lost_adds_nothing (PutAt i key seen content back) h = ap is_ok h
+lost_adds_nothing (MergeAt i key from at state back) h = ap is_ok h
+lost_adds_nothing (StateOf i key back) h = ap is_ok h
+lost_adds_nothing (KeysOf i back) h = refl
+
+still_lost : (unheard : Bool) (made : Call) → IsLost made → IsLost (if unheard then unanswered made else made)
+still_lost true made h = lost_again made
+still_lost false made h = h
+
+-- a call came back from what it came to, or as lost
+pub heard : {X : Type 0} (f : Result X PeerFault → Call) → ((back : Result X PeerFault) → unanswered (f back) ≡ f (Err Lost))
+    → (unheard : Bool) (back result : Result X PeerFault) → result ≡ (if unheard then Err Lost else back) → f result ≡ (if unheard then unanswered (f back) else f back)
+heard f lost true back result is = ap f is ∙ sym (lost back)
+heard f lost false back result is = ap f is
+
+-- a call was not made, or made and left these journals
+abbrev pub CameTo : LocalView → Call → List Log → Type 0
+CameTo old made logs = MatchBool (is_next old old.lost) (IsLost made × (logs ≡ old.logs)) (Does old.stamp old.logs made logs)
+
+pub not_made : (old : LocalView) (made : Call) → is_next old old.lost ≡ true → IsLost made → CameTo old made old.logs
+not_made old made next lost = subst (λ (b : Bool). MatchBool b (IsLost made × (old.logs ≡ old.logs)) (Does old.stamp old.logs made old.logs)) (sym next) (lost, refl)
+
+pub was_made : (old : LocalView) (made : Call) (logs : List Log) → is_next old old.lost ≡ false → Does old.stamp old.logs made logs → CameTo old made logs
+was_made old made logs next does = subst (λ (b : Bool). MatchBool b (IsLost made × (logs ≡ old.logs)) (Does old.stamp old.logs made logs)) (sym next) does
+
+module _ (made call : Call) (added : Bool) where
+  -- what is left once a call was counted
+  abbrev pub after : LocalView → LocalView
+  after mid = record mid { calls = counted mid.calls; stamp = if added then counted mid.stamp else mid.stamp; failures = if has_failed call then counted mid.failures else mid.failures }
+
+  -- a call that was not made, or came to this, was heard or not and counted
+  pub step_of : (old mid new : LocalView) (logs : List Log) → mid ≡ record old { logs = logs } → CameTo old made logs → added ≡ has_added made
+      → call ≡ (if is_next mid mid.unheard then unanswered made else made) → new ≡ after mid → LocalStep old call new
+  step_of old mid new logs mid_is came adds heard counts = record {
+    happens = by_loss (is_next old old.lost) came;
+    calls = ap (λ (l : LocalView). l.calls) is;
+    lost = ap (λ (l : LocalView). l.lost) is;
+    unheard = ap (λ (l : LocalView). l.unheard) is;
+    first = ap (λ (l : LocalView). l.first) is;
+    count = ap (λ (l : LocalView). l.failures) is;
+  }
+    where
+      is : new ≡ after (record old { logs = logs })
+      is = counts ∙ ap after mid_is
+
+      heard_there : call ≡ (if is_next old old.unheard then unanswered made else made)
+      heard_there = subst (λ (l : LocalView). call ≡ (if is_next l l.unheard then unanswered made else made)) mid_is heard
+
+      logs_are : new.logs ≡ logs
+      logs_are = ap (λ (l : LocalView). l.logs) is
+
+      stamp_is : new.stamp ≡ (if has_added made then counted old.stamp else old.stamp)
+      stamp_is = ap (λ (l : LocalView). l.stamp) is ∙ ap (λ (b : Bool). if b then counted old.stamp else old.stamp) adds
+
+      by_hearing : (unheard : Bool) → call ≡ (if unheard then unanswered made else made) → IsMade old made new → MatchBool unheard (IsUnheard old call new) (IsMade old call new)
+      by_hearing true heard h = (made, h, heard)
+      by_hearing false heard h = subst (λ (c : Call). IsMade old c new) (sym heard) h
+
+      by_loss : (lost : Bool) → MatchBool lost (IsLost made × (logs ≡ old.logs)) (Does old.stamp old.logs made logs)
+          → MatchBool lost (IsUnmade old call new) (MatchBool (is_next old old.unheard) (IsUnheard old call new) (IsMade old call new))
+      by_loss true h = (
+        subst IsLost (sym heard_there) (still_lost (is_next old old.unheard) made h.0),
+        logs_are ∙ h.1,
+        stamp_is ∙ ap (λ (b : Bool). if b then counted old.stamp else old.stamp) (lost_adds_nothing made h.0),
+      )
+      by_loss false h = by_hearing (is_next old old.unheard) heard_there (subst (λ (l : List Log). Does old.stamp old.logs made l) (sym logs_are) h, stamp_is)

@@ -1,4 +1,4 @@
--- Vnodes of one thread: what a call that isn't lost does.
+-- Vnodes of one thread: what a call does that is made, and what comes back where it or its answer is lost.
 use Rattle.std.specs.Prelude.{◌≡◌, ℕ, zero, suc, ◌+◌, ◌*◌, ◌-◌, ◌^◌, List, [], ◌∷◌, length, Option, Some, None, Result, Ok, Err, slice_get, slice_set, MatchBool, MatchOption, ◌==◌, Bool, false, is_ok, if◌then◌else◌, min}
 use Rattle.std.specs.List.{list_any}
 use Rattle.std.specs.Global.{Vec}
@@ -20,12 +20,13 @@ use Rattle.peers.specs.declared.fault.PeerFault.TheVariants.{Lost, Refused}
 use Rattle.peers.specs.Calls.{Call, PutAt, MergeAt, StateOf, KeysOf}
 use Rattle.peers.specs.Counts.{Counts}
 
--- the vnodes' journals, where every key's place is set to one, the numbers of the calls that are lost, how many calls there
--- were since these were named, how many entries were added, and how many calls failed
+-- the vnodes' journals, where every key's place is set to one, the numbers of the calls that are lost and of those whose answers
+-- are, how many calls there were since either of these were named, how many entries were added, and how many calls failed
 pub record LocalView : Type 0 where
   pub logs : List Log
   pub first : Option ℕ
   pub lost : List ℕ
+  pub unheard : List ℕ
   pub calls : ℕ
   pub stamp : ℕ
   pub failures : ℕ
@@ -85,12 +86,36 @@ has_added (MergeAt i key from at state back) = is_ok back
 has_added (StateOf i key back) = is_ok back
 has_added (KeysOf i back) = false
 
--- one call: where its number is among the lost ones it isn't made; the stamp of an entry is the number of those before it
+-- the same call, come back as lost
+abbrev pub unanswered : Call → Call
+unanswered (PutAt i key seen content back) = PutAt i key seen content (Err Lost)
+unanswered (MergeAt i key from at state back) = MergeAt i key from at state (Err Lost)
+unanswered (StateOf i key back) = StateOf i key (Err Lost)
+unanswered (KeysOf i back) = KeysOf i (Err Lost)
+
+-- whether the next call has one of these numbers
+abbrev pub is_next : LocalView → List ℕ → Bool
+is_next l numbers = list_any (λ n. n == l.calls) numbers
+
+-- a call that isn't made, and comes back as lost
+abbrev pub IsUnmade : LocalView → Call → LocalView → Type 0
+IsUnmade old call new = IsLost call × (new.logs ≡ old.logs) × (new.stamp ≡ old.stamp)
+
+-- a call that is made; the stamp of an entry is the number of those before it
+abbrev pub IsMade : LocalView → Call → LocalView → Type 0
+IsMade old call new = Does old.stamp old.logs call new.logs × (new.stamp ≡ (if has_added call then counted old.stamp else old.stamp))
+
+-- a call that is made, and comes back as lost, whatever it came to
+abbrev pub IsUnheard : LocalView → Call → LocalView → Type 0
+IsUnheard old call new = (made : Call) × IsMade old made new × (call ≡ unanswered made)
+
+-- one call: where its number is among the lost ones it isn't made; else it is, and comes back as lost where its number is among
+-- those whose answers are
 pub record LocalStep (old : LocalView) (call : Call) (new : LocalView) : Type 0 where
-  pub vnodes : MatchBool (list_any (λ n. n == old.calls) old.lost) (IsLost call × (new.logs ≡ old.logs)) (Does old.stamp old.logs call new.logs)
+  pub happens : MatchBool (is_next old old.lost) (IsUnmade old call new) (MatchBool (is_next old old.unheard) (IsUnheard old call new) (IsMade old call new))
   pub calls : new.calls ≡ counted old.calls
-  pub stamp : new.stamp ≡ (if has_added call then counted old.stamp else old.stamp)
   pub lost : new.lost ≡ old.lost
+  pub unheard : new.unheard ≡ old.unheard
   pub first : new.first ≡ old.first
   pub count : Counts call old.failures new.failures
 

@@ -1,6 +1,6 @@
 //! The vnodes of one thread, some of whose calls may be lost.
 
-ghost use Rattle.std.specs.Prelude.{◌≡◌, ◌<◌, ◌≤◌, ◌^◌, ◌==◌, [], length, slice_get, IfOk, MatchOption, Some, None, if◌then◌else◌};
+ghost use Rattle.std.specs.Prelude.{◌≡◌, ◌<◌, ◌≤◌, ◌^◌, ◌==◌, [], length, slice_get, IfOk, MatchOption, Some, None, if◌then◌else◌, is_err};
 ghost use Rattle.std.specs.List.{list_any};
 ghost use Rattle.peers.specs.Calls.{PutAt, MergeAt, StateOf};
 ghost use Rattle.local.specs.Locals.{Does, KeysIn, fresh, counted};
@@ -13,13 +13,15 @@ use std::alloc::{AllocError, Global};
 use std::marker::Model;
 use vnode::{Vnode, VnodeFault};
 
-/// Vnodes that one thread owns, and the numbers of the calls that are lost and not made.
+/// Vnodes that one thread owns, the numbers of the calls that are lost and not made, and of those that are made and whose answers
+/// are lost.
 #[derive(Drop)]
 pub struct Local {
     alloc: Global,
     vnodes: Vec<Vnode>,
     first: Option<u32>,
     lost: Vec<u64>,
+    unheard: Vec<u64>,
     calls: u64,
     stamp: u64,
     failures: u64,
@@ -32,7 +34,7 @@ impl Model for Local {
 
     ghost Value = { LocalView };
 
-    ghost view = { λ l. record { logs = l.vnodes.items; first = l.first; lost = l.lost.items; calls = l.calls; stamp = l.stamp; failures = l.failures } };
+    ghost view = { λ l. record { logs = l.vnodes.items; first = l.first; lost = l.lost.items; unheard = l.unheard.items; calls = l.calls; stamp = l.stamp; failures = l.failures } };
 
     ghost invariant = { λ l. IsPlaced l.first (length l.vnodes.items) };
 }
@@ -41,13 +43,14 @@ impl Local {
     /// So many vnodes of an incarnation, with nothing written. A key's place is by its digest.
     pub fn open(alloc: Global, n: u32, incarnation: u16) -> Result<Local, AllocError>
         requires { n ≤ 255 }
-        ensures { IfOk result (λ local. local ≡ record { logs = fresh incarnation n; first = None; lost = []; calls = 0; stamp = 0; failures = 0 }) }
+        ensures { IfOk result (λ local. local ≡ record { logs = fresh incarnation n; first = None; lost = []; unheard = []; calls = 0; stamp = 0; failures = 0 }) }
     {
         Ok(Local {
             alloc,
             vnodes: fresh_vnodes(alloc, n, incarnation)?,
             first: None,
             lost: Vec::new(alloc),
+            unheard: Vec::new(alloc),
             calls: 0,
             stamp: 0,
             failures: 0,
@@ -63,24 +66,35 @@ impl Local {
     ) -> Result<Local, AllocError>
         requires few { n ≤ 255 }
         requires first { first < n }
-        ensures { IfOk result (λ local. local ≡ record { logs = fresh incarnation n; first = Some first; lost = []; calls = 0; stamp = 0; failures = 0 }) }
+        ensures { IfOk result (λ local. local ≡ record { logs = fresh incarnation n; first = Some first; lost = []; unheard = []; calls = 0; stamp = 0; failures = 0 }) }
     {
         Ok(Local {
             alloc,
             vnodes: fresh_vnodes(alloc, n, incarnation)?,
             first: Some(first),
             lost: Vec::new(alloc),
+            unheard: Vec::new(alloc),
             calls: 0,
             stamp: 0,
             failures: 0,
         })
     }
 
-    /// From now on the calls of these numbers, counted from 0, are lost: they are not made.
+    /// From now on the calls of these numbers, counted from 0, are lost: they are not made. Of the others, those that
+    /// [`lose_answers`](Local::lose_answers) named are still made and come back as lost, by their numbers from now on.
     pub fn lose(&mut self, lost: Vec<u64>)
         ensures { self.new ≡ record self.old { lost = lost.items; calls = 0 } }
     {
         self.lost = lost;
+        self.calls = 0;
+    }
+
+    /// From now on the answers of the calls of these numbers, counted from 0, are lost: they are made, and come back as lost. Those
+    /// that [`lose`](Local::lose) named are still not made, by their numbers from now on.
+    pub fn lose_answers(&mut self, unheard: Vec<u64>)
+        ensures { self.new ≡ record self.old { unheard = unheard.items; calls = 0 } }
+    {
+        self.unheard = unheard;
         self.calls = 0;
     }
 
@@ -110,6 +124,33 @@ impl Local {
     {
         let now = self.calls;
         self.lost.iter().any(|n| *n == now)
+    }
+
+    // Whether the answer of the next call is to be lost.
+    fn loses_answer(&self) -> bool
+        ensures { result ≡ list_any (λ n. n == self.now.calls) self.now.unheard }
+    {
+        let now = self.calls;
+        self.unheard.iter().any(|n| *n == now)
+    }
+
+    // What comes back of a call that came to this, or was not made and is lost: this, or that it is lost. Counts the call, and the
+    // entry that it added.
+    fn hand_back<T: Drop>(
+        &mut self,
+        added: bool,
+        back: Result<T, PeerFault>,
+    ) -> Result<T, PeerFault>
+        ensures heard { result ≡ (if list_any (λ n. n == self.old.calls) self.old.unheard then Err PeerFault.Lost else back) }
+        ensures counted { self.new ≡ record self.old { calls = counted self.old.calls; stamp = if added then counted self.old.stamp else self.old.stamp; failures = if is_err result then counted self.old.failures else self.old.failures } }
+    {
+        let heard = if self.loses_answer() {
+            Err(PeerFault::Lost)
+        } else {
+            back
+        };
+        self.count(added, heard.is_err());
+        heard
     }
 
     // Counts a call that was made, or was lost.
@@ -238,8 +279,7 @@ impl Peers for Local {
         } else {
             put_at(&mut self.vnodes, self.stamp, i, key, seen, content)
         };
-        self.count(back.is_ok(), back.is_err());
-        back
+        self.hand_back(back.is_ok(), back)
     }
 
     fn merge_at(
@@ -255,8 +295,7 @@ impl Peers for Local {
         } else {
             merge_at(&mut self.vnodes, self.stamp, i, key, from, at, state)
         };
-        self.count(back.is_ok(), back.is_err());
-        back
+        self.hand_back(back.is_ok(), back)
     }
 
     fn state_of(&mut self, i: usize, key: &Key) -> Result<Answer, PeerFault> {
@@ -265,8 +304,7 @@ impl Peers for Local {
         } else {
             read_at(&mut self.vnodes, self.stamp, i, key)
         };
-        self.count(back.is_ok(), back.is_err());
-        back
+        self.hand_back(back.is_ok(), back)
     }
 
     fn keys_of(&mut self, i: usize) -> Result<Vec<Key>, PeerFault> {
@@ -275,8 +313,7 @@ impl Peers for Local {
         } else {
             keys_at(&self.vnodes, i)
         };
-        self.count(false, back.is_err());
-        back
+        self.hand_back(false, back)
     }
 
     fn failures(&self) -> u64 {

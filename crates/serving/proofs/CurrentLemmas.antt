@@ -1,5 +1,5 @@
 -- What is read is what the journals leave.
-use Rattle.std.proofs.Common.{◌≡◌, ℕ, suc, List, [], ◌∷◌, ◌++◌, ap, ◌∙◌, sym, subst, refl, Option, Some, None, Result, Ok, Err, Bool, true, false, cond, ◌||◌, MatchBool, length, slice_get, ◌==◌}
+use Rattle.std.proofs.Common.{◌≡◌, ℕ, suc, List, [], ◌∷◌, ◌++◌, ap, ◌∙◌, sym, subst, refl, Option, Some, None, Result, Ok, Err, Bool, true, false, cond, ◌||◌, MatchBool, length, slice_get}
 use Rattle.std.specs.List.{list_any, AllZip}
 use Rattle.std.specs.Option.{option_or}
 use Rattle.dvv.specs.declared.Dot.{Dot}
@@ -15,8 +15,8 @@ use Rattle.journal.specs.Replay.{first_held, sibling_in, known_in, IsReplay, IsM
 use Rattle.peers.specs.declared.peers.Answer.{Answer}
 use Rattle.peers.specs.declared.fault.PeerFault.{PeerFault}
 use Rattle.peers.specs.declared.fault.PeerFault.TheVariants.{Lost, Refused}
-use Rattle.peers.specs.Calls.{StateOf, Made}
-use Rattle.local.specs.Locals.{ReadsIn, AtVnode, Does, IsLost, LocalView, LocalStep}
+use Rattle.peers.specs.Calls.{Call, PutAt, MergeAt, StateOf, KeysOf, Made}
+use Rattle.local.specs.Locals.{ReadsIn, AtVnode, unanswered, is_next, IsUnmade, IsMade, IsUnheard, LocalView, LocalStep}
 use Rattle.quorum.specs.Gets.{reads, answers, states_of}
 use Rattle.serving.specs.Journals.{AreJournals}
 use Rattle.serving.specs.Reads.{OfSome, all_asked, answered, silent, ShowsCurrent}
@@ -70,11 +70,21 @@ module _ (k : Key) where
 
   -- a read leaves what was there
   read_leaves : (old new : LocalView) (i : ℕ) (key : Key) (back : Result Answer PeerFault) → LocalStep old (StateOf i key back) new → AllZip Alike old.logs new.logs
-  read_leaves old new i key back step = by_loss (list_any (λ n. n == old.calls) old.lost) step.vnodes
+  read_leaves old new i key back step = by_loss (is_next old old.lost) step.happens
     where
-      by_loss : (lost : Bool) → MatchBool lost (IsLost (StateOf i key back) × (new.logs ≡ old.logs)) (Does old.stamp old.logs (StateOf i key back) new.logs) → AllZip Alike old.logs new.logs
+      by_call : (made : Call) → StateOf i key back ≡ unanswered made → IsMade old made new → AllZip Alike old.logs new.logs
+      by_call (StateOf j k' came) is h = read_at_one old.stamp k' came (slice_get old.logs j) old.logs j new.logs refl h.0
+      by_call (PutAt j k' seen content came) is h = absurd cc
+      by_call (MergeAt j k' from at state came) is h = absurd cc
+      by_call (KeysOf j came) is h = absurd cc
+
+      by_hearing : (unheard : Bool) → MatchBool unheard (IsUnheard old (StateOf i key back) new) (IsMade old (StateOf i key back) new) → AllZip Alike old.logs new.logs
+      by_hearing true h = by_call h.0 h.2 h.1
+      by_hearing false h = read_at_one old.stamp key back (slice_get old.logs i) old.logs i new.logs refl h.0
+
+      by_loss : (lost : Bool) → MatchBool lost (IsUnmade old (StateOf i key back) new) (MatchBool (is_next old old.unheard) (IsUnheard old (StateOf i key back) new) (IsMade old (StateOf i key back) new)) → AllZip Alike old.logs new.logs
       by_loss true h = unchanged old.logs new.logs h.1
-      by_loss false h = read_at_one old.stamp key back (slice_get old.logs i) old.logs i new.logs refl h
+      by_loss false h = by_hearing (is_next old old.unheard) h
 
   -- and answers what the journal leaves
   pub read_answers : (old new : LocalView) (i : ℕ) (answer : Answer) → LocalStep old (StateOf i k (Ok answer)) new

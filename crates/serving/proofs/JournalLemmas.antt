@@ -1,6 +1,5 @@
 -- What a call leaves of the journals.
-use Rattle.std.proofs.Common.{◌≡◌, ℕ, zero, suc, ◌+◌, List, [], ◌∷◌, ◌++◌, ap, ◌∙◌, sym, subst, refl, Option, Some, None, Result, Ok, Err, Bool, true, false, MatchBool, slice_get, slice_set, ◌==◌, append_assoc, append-nil, ◌↔◌}
-use Rattle.std.specs.List.{list_any}
+use Rattle.std.proofs.Common.{◌≡◌, ℕ, zero, suc, ◌+◌, List, [], ◌∷◌, ◌++◌, ap, ◌∙◌, sym, subst, refl, Option, Some, None, Result, Ok, Err, Bool, true, false, MatchBool, slice_get, slice_set, append_assoc, append-nil, ◌↔◌}
 use Rattle.dvv.specs.declared.Dot.{Dot}
 use Rattle.object.specs.declared.content.Content.{Content}
 use Rattle.object.specs.declared.content.Key.{Key}
@@ -12,7 +11,7 @@ use Rattle.peers.specs.declared.peers.Answer.{Answer}
 use Rattle.peers.specs.declared.fault.PeerFault.{PeerFault}
 use Rattle.peers.specs.declared.fault.PeerFault.TheVariants.{Lost, Refused}
 use Rattle.peers.specs.Calls.{Call, PutAt, MergeAt, StateOf, KeysOf, Made}
-use Rattle.local.specs.Locals.{fresh_from, PutsIn, MergesIn, ReadsIn, AtVnode, Does, IsLost, LocalView, LocalStep}
+use Rattle.local.specs.Locals.{fresh_from, PutsIn, MergesIn, ReadsIn, AtVnode, Does, IsLost, unanswered, is_next, IsUnmade, IsMade, IsUnheard, LocalView, LocalStep}
 use Rattle.serving.specs.Journals.{AreJournals, GoesOn, GoOn}
 use Rattle.serving.proofs.Zips.{one_is, set_there, zip_same, zip_far, zip_set}
 
@@ -87,11 +86,15 @@ module _ (more : (vnode : ℕ) (journal : List Entry) (e : Entry) → IsJournal 
   does_one stamp old (KeysOf i back) new are h = unchanged old new are h.1
 
   pub step_goes : (old : LocalView) (call : Call) (new : LocalView) → AreJournals old.logs → LocalStep old call new → AreJournals new.logs × GoOn old.logs new.logs
-  step_goes old call new are step = by_loss (list_any (λ n. n == old.calls) old.lost) step.vnodes
+  step_goes old call new are step = by_loss (is_next old old.lost) step.happens
     where
-      by_loss : (lost : Bool) → MatchBool lost (IsLost call × (new.logs ≡ old.logs)) (Does old.stamp old.logs call new.logs) → AreJournals new.logs × GoOn old.logs new.logs
+      by_hearing : (unheard : Bool) → MatchBool unheard (IsUnheard old call new) (IsMade old call new) → AreJournals new.logs × GoOn old.logs new.logs
+      by_hearing true h = does_one old.stamp old.logs h.0 new.logs are h.1.0
+      by_hearing false h = does_one old.stamp old.logs call new.logs are h.0
+
+      by_loss : (lost : Bool) → MatchBool lost (IsUnmade old call new) (MatchBool (is_next old old.unheard) (IsUnheard old call new) (IsMade old call new)) → AreJournals new.logs × GoOn old.logs new.logs
       by_loss true h = unchanged old.logs new.logs are h.1
-      by_loss false h = does_one old.stamp old.logs call new.logs are h
+      by_loss false h = by_hearing (is_next old old.unheard) h
 
   pub made_goes : (old new : LocalView) (calls : List Call) → AreJournals old.logs → Made LocalStep old calls new → AreJournals new.logs × GoOn old.logs new.logs
   made_goes old new [] are made = unchanged old.logs new.logs are (ap (λ (l : LocalView). l.logs) made)
@@ -100,18 +103,33 @@ module _ (more : (vnode : ℕ) (journal : List Entry) (e : Entry) → IsJournal 
       let rest = made_goes made.0 new calls first.0 made.2 in
       (rest.0, go_far old.logs made.0.logs new.logs first.1 rest.1)
 
+-- a call that comes back as lost is lost
+unanswered_is_lost : (call made : Call) → call ≡ unanswered made → IsLost call
+unanswered_is_lost call made is = subst IsLost (sym is) (is_lost made)
+  where
+    is_lost : (made : Call) → IsLost (unanswered made)
+    is_lost (PutAt i key seen content back) = refl
+    is_lost (MergeAt i key from at state back) = refl
+    is_lost (StateOf i key back) = refl
+    is_lost (KeysOf i back) = refl
+
 -- a call on one vnode that wasn't lost was made there
 pub was_made : (does : Log → Log → Type 0) (old new : LocalView) (i : ℕ) (call : Call) → (IsLost call → ⊥)
     → (Does old.stamp old.logs call new.logs → AtVnode does (IsLost call) (slice_get old.logs i) old.logs i new.logs) → LocalStep old call new
     → (log : Log) × (after : Log) × (slice_get old.logs i ≡ Some log) × does log after × (slice_get new.logs i ≡ Some after)
-was_made does old new i call came at step = by_loss (list_any (λ n. n == old.calls) old.lost) step.vnodes
+was_made does old new i call came at step = by_loss (is_next old old.lost) step.happens
   where
     by_log : (found : Option Log) → slice_get old.logs i ≡ found → AtVnode does (IsLost call) found old.logs i new.logs
         → (log : Log) × (after : Log) × (slice_get old.logs i ≡ Some log) × does log after × (slice_get new.logs i ≡ Some after)
     by_log None is h = absurd (came h.0)
     by_log (Some log) is h = (log, h.0, is, h.1, ap (λ l. slice_get l i) h.2 ∙ set_there old.logs i log h.0 is)
 
-    by_loss : (lost : Bool) → MatchBool lost (IsLost call × (new.logs ≡ old.logs)) (Does old.stamp old.logs call new.logs)
+    by_hearing : (unheard : Bool) → MatchBool unheard (IsUnheard old call new) (IsMade old call new)
+        → (log : Log) × (after : Log) × (slice_get old.logs i ≡ Some log) × does log after × (slice_get new.logs i ≡ Some after)
+    by_hearing true h = absurd (came (unanswered_is_lost call h.0 h.2))
+    by_hearing false h = by_log (slice_get old.logs i) refl (at h.0)
+
+    by_loss : (lost : Bool) → MatchBool lost (IsUnmade old call new) (MatchBool (is_next old old.unheard) (IsUnheard old call new) (IsMade old call new))
         → (log : Log) × (after : Log) × (slice_get old.logs i ≡ Some log) × does log after × (slice_get new.logs i ≡ Some after)
     by_loss true h = absurd (came h.0)
-    by_loss false h = by_log (slice_get old.logs i) refl (at h)
+    by_loss false h = by_hearing (is_next old old.unheard) h

@@ -1,10 +1,10 @@
 //! What is told of journals that are no run.
 
-use crate::tests::judging::{Told, judge};
 use crate::tests::steps::Step::{Merge, Put, Read, Restart};
 use crate::tests::steps::{At, open, play_alone};
 use crate::tests::telling::tell;
 use audit::{AuditCode, AuditFault};
+use audit_parts::{Told, judge};
 use std::alloc::Global;
 use std::test::Fail;
 use vnode::Vnode;

@@ -2,10 +2,10 @@
 
 ghost use Rattle.std.specs.Prelude.{◌<◌, ◌^◌};
 
-use crate::tests::judging::{Told, judge};
 use crate::tests::steps::Step::{Deliver, Put, Read, Restart};
 use crate::tests::steps::{At, open, play_alone};
 use crate::tests::telling::tell;
+use audit_parts::{Told, judge};
 use std::alloc::Global;
 use std::test::Fail;
 use vnode::Vnode;

@@ -1,7 +1,7 @@
 //! What is told of journals, by the steps at their vnodes.
 
-use crate::tests::judging::{Told, judge};
 use crate::tests::steps::{Answer, At, open, play};
+use audit_parts::{Told, judge};
 use std::alloc::Global;
 use std::test::Fail;
 

@@ -28,10 +28,11 @@ fn is_the_put(state: &KeyState) -> bool {
     shows(state, &[(0, 1)]) && is_value(state, b"text/plain", b"a")
 }
 
-/// A put at vnode 0: which of its calls are lost, what it answers, whether the get after it finds it and how many vnodes the repair
-/// after that reaches, and the journals' lengths after the put and after the repair.
+/// A put at vnode 0: which of its calls are lost and of which the answers are, what it answers, whether the get after it finds it and how
+/// many vnodes the repair after that reaches, and the journals' lengths after the put and after the repair.
 struct Row {
     lost: &'static [u64],
+    unheard: &'static [u64],
     put: Result<Dot, QuorumFault>,
     found: (bool, u64),
     lengths: [[usize; 3]; 2],
@@ -41,30 +42,63 @@ const STORED: Result<Dot, QuorumFault> = Ok(Dot { vnode: 0, n: 1 });
 
 const FEW: Result<Dot, QuorumFault> = Err(QuorumFault::TooFew);
 
-const ROWS: [Row; 4] = [
+/// A call whose answer is lost is made: what it stored stays, and what it should have told is missing.
+const ROWS: [Row; 8] = [
     Row {
         lost: &[],
+        unheard: &[],
         put: STORED,
         found: (true, 0),
         lengths: [[2, 1, 1], [3, 2, 2]],
     },
     Row {
         lost: &[3],
+        unheard: &[],
         put: STORED,
         found: (true, 2),
         lengths: [[2, 1, 0], [3, 2, 3]],
     },
     Row {
         lost: &[2, 3],
+        unheard: &[],
         put: FEW,
         found: (true, 2),
         lengths: [[2, 0, 0], [3, 2, 2]],
     },
     Row {
         lost: &[0],
+        unheard: &[],
         put: FEW,
         found: (false, 0),
         lengths: [[0, 0, 0], [1, 1, 1]],
+    },
+    Row {
+        lost: &[],
+        unheard: &[0],
+        put: FEW,
+        found: (true, 2),
+        lengths: [[1, 0, 0], [2, 2, 2]],
+    },
+    Row {
+        lost: &[],
+        unheard: &[1],
+        put: FEW,
+        found: (true, 2),
+        lengths: [[2, 0, 0], [3, 2, 2]],
+    },
+    Row {
+        lost: &[],
+        unheard: &[2],
+        put: STORED,
+        found: (true, 0),
+        lengths: [[2, 1, 1], [3, 2, 2]],
+    },
+    Row {
+        lost: &[],
+        unheard: &[2, 3],
+        put: FEW,
+        found: (true, 0),
+        lengths: [[2, 1, 1], [3, 2, 2]],
     },
 ];
 
@@ -95,16 +129,17 @@ fn put_and_repair(alloc: Global, local: &mut Local) -> Result<Outcome, Fail> {
     Ok((back, found, [after_put, lengths(local)]))
 }
 
-/// What they come to after some calls of the put were lost.
-fn losing(alloc: Global, lost: &[u64]) -> Result<Outcome, Fail> {
+/// What they come to after some calls of the put were lost, and answers of others.
+fn losing(alloc: Global, lost: &[u64], unheard: &[u64]) -> Result<Outcome, Fail> {
     let mut local = three_losing(alloc, lost)?;
+    local.lose_answers(Vec::from_slice(alloc, unheard)?);
     put_and_repair(alloc, &mut local)
 }
 
 #[test]
 fn lost_calls(rt: HostRuntime) -> Result<(), Fail> {
     for row in &ROWS {
-        let outcome = losing(rt.alloc(), row.lost)?;
+        let outcome = losing(rt.alloc(), row.lost, row.unheard)?;
         let lengths = row.lengths;
         assert_eq!(rt; outcome, (row.put, row.found, lengths));
     }

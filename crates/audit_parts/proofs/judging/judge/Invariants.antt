@@ -1,7 +1,7 @@
 use Rattle.world.specs.Represents.{AreDistinct}
 use Rattle.audit.specs.Interleaved.{ids_of}
 use Rattle.audit.specs.Rerun.{AreJournals}
-use Rattle.audit_trials.proofs.tests.judging.judge.Given as goal
+use Rattle.audit_parts.proofs.judging.judge.Given as goal
 
 -- the journals so far are those of vnodes with different identifiers
 abbrev pub invariant-loop-vnode : goal.invariant-loop-vnode

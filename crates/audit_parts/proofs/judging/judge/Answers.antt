@@ -1,11 +1,11 @@
-use Rattle.std.proofs.Common.{rules, ◌≡◌, ◌≢◌, ◌∙◌, ℕ, ◌<◌, List, [], ◌∷◌, ◌++◌, length, ap, sym, subst}
+use Rattle.std.proofs.Common.{rules, ◌≡◌, ◌≢◌, ◌∙◌, ℕ, ◌<◌, List, [], ◌∷◌, ◌++◌, length, sym, subst}
 use Rattle.journal.specs.Journals.{IsJournal}
 use Rattle.journal.specs.Logs.{Log}
 use Rattle.world.specs.Represents.{AreDistinct, log_at}
 use Rattle.audit.specs.Interleaved.{ids_of}
 use Rattle.audit.specs.Rerun.{AreJournals}
-use Rattle.audit_trials.proofs.Judged.{distinct_more, legal_more}
-use Rattle.audit_trials.proofs.tests.judging.judge.Goals as goal
+use Rattle.audit_parts.proofs.Judged.{distinct_more, legal_more}
+use Rattle.audit_parts.proofs.judging.judge.Goals as goal
 
 pub loop-vnode-preserved : goal.loop-vnode-preserved
 loop-vnode-preserved c =

@@ -1,0 +1,7 @@
+//! The tests, and what they are made of.
+
+mod alterations;
+mod late;
+mod losses;
+mod operations;
+mod shown;

@@ -1,0 +1,167 @@
+//! Each call and each answer of an operation is lost in turn.
+
+use crate::tests::late::deliver_late;
+use crate::tests::operations::{Loss, Operation, Stored, lose, operate, prepare, stored_by};
+use crate::tests::shown::all_are_kept;
+use audit_parts::{Told, judge};
+use local::Local;
+use peers::Peers;
+use quorum::QuorumFault;
+use std::alloc::Global;
+use std::test::Fail;
+use trial_parts::building::three_losing;
+use vnode::VnodeFault;
+
+/// What an operation comes to of which something was lost: why it was refused, whether at its end and once late copies came each put
+/// that was acknowledged has its copies and no vnode shows what a write that it knows had seen, and what the audit tells at last.
+type Outcome = (Option<QuorumFault>, [bool; 2], Told);
+
+/// Makes an operation of which this is lost. Answers why it was refused, if it was.
+fn operate_losing(
+    alloc: Global,
+    local: &mut Local,
+    operation: Operation,
+    loss: Loss,
+) -> Result<Option<QuorumFault>, Fail> {
+    prepare(alloc, local, operation)?;
+    lose(alloc, local, loss)?;
+    let refused = operate(alloc, local, operation)?;
+    lose(alloc, local, Loss::Nothing)?;
+    Ok(refused)
+}
+
+/// What is kept of the puts before late copies come and after them, and what the audit tells then.
+fn come_late(
+    alloc: Global,
+    local: &mut Local,
+    stored: &[Stored],
+) -> Result<([bool; 2], Told), Fail> {
+    let before = all_are_kept(alloc, local, stored)?;
+    deliver_late(alloc, local)?;
+    let after = all_are_kept(alloc, local, stored)?;
+    Ok(([before, after], judge(alloc, local.vnodes())?))
+}
+
+fn outcome_at(
+    alloc: Global,
+    local: &mut Local,
+    operation: Operation,
+    loss: Loss,
+) -> Result<Outcome, Fail> {
+    let refused = operate_losing(alloc, local, operation, loss)?;
+    let (kept, told) = come_late(alloc, local, stored_by(operation, refused))?;
+    Ok((refused, kept, told))
+}
+
+/// What an operation comes to over three vnodes.
+fn outcome(alloc: Global, operation: Operation, loss: Loss) -> Result<Outcome, Fail> {
+    let mut local = three_losing(alloc, &[])?;
+    outcome_at(alloc, &mut local, operation, loss)
+}
+
+/// What it comes to where the call with this number is lost, where its answer is, and where it and all calls after it are.
+fn outcomes(alloc: Global, operation: Operation, number: u64) -> Result<[Outcome; 3], Fail> {
+    Ok([
+        outcome(alloc, operation, Loss::Call(number))?,
+        outcome(alloc, operation, Loss::Answer(number))?,
+        outcome(alloc, operation, Loss::CallsFrom(number))?,
+    ])
+}
+
+/// Why an operation is refused, in the three cases.
+type Refusals = [Option<QuorumFault>; 3];
+
+/// The outcomes where nothing that was acknowledged is lost.
+fn sound(refusals: &Refusals) -> [Outcome; 3] {
+    refusals.map(|refused| (refused, [true, true], None))
+}
+
+const FEW: Option<QuorumFault> = Some(QuorumFault::TooFew);
+
+const AHEAD: Option<QuorumFault> = Some(QuorumFault::Refused(VnodeFault::ContextAhead));
+
+/// Call 0 is the first put, 1 and 2 bring vnode 1's state, 3 and 4 that of vnode 2, 5 is the second put, 6 the read of what it left, and 7
+/// and 8 are the copies. There is no call 9.
+const PUTS: [(u64, Refusals); 10] = [
+    (0, [FEW, FEW, FEW]),
+    (1, [AHEAD, AHEAD, FEW]),
+    (2, [AHEAD, None, FEW]),
+    (3, [None, None, FEW]),
+    (4, [None, None, FEW]),
+    (5, [FEW, FEW, FEW]),
+    (6, [FEW, FEW, FEW]),
+    (7, [None, None, FEW]),
+    (8, [None, None, None]),
+    (9, [None, None, None]),
+];
+
+#[test]
+fn calls_of_a_put(rt: HostRuntime) -> Result<(), Fail> {
+    for (number, refusals) in &PUTS {
+        assert_eq!(rt;
+            outcomes(rt.alloc(), Operation::Put, *number)?,
+            sound(refusals)
+        );
+    }
+    Ok(())
+}
+
+/// Calls 0 to 2 are the reads, and 3 to 6 the repair. There is no call 7.
+const GETS: [(u64, Refusals); 8] = [
+    (0, [None, None, FEW]),
+    (1, [None, None, None]),
+    (2, [None, None, None]),
+    (3, [None, None, None]),
+    (4, [None, None, None]),
+    (5, [None, None, None]),
+    (6, [None, None, None]),
+    (7, [None, None, None]),
+];
+
+#[test]
+fn calls_of_a_get_and_its_repair(rt: HostRuntime) -> Result<(), Fail> {
+    for (number, refusals) in &GETS {
+        assert_eq!(rt;
+            outcomes(rt.alloc(), Operation::GetAndRepair, *number)?,
+            sound(refusals)
+        );
+    }
+    Ok(())
+}
+
+/// Call 0 names the keys of vnode 0, 1 to 6 bring them to vnode 1, call 7 names those of vnode 1, and 8 to 14 bring them to vnode 0. There
+/// is no call 15.
+#[test]
+fn calls_of_an_exchange(rt: HostRuntime) -> Result<(), Fail> {
+    for number in 0..16 {
+        assert_eq!(rt;
+            outcomes(rt.alloc(), Operation::Exchange, number)?,
+            sound(&[None, None, None])
+        );
+    }
+    Ok(())
+}
+
+/// How many calls have failed by the end of an operation of which the answer with this number is lost.
+fn failures(alloc: Global, operation: Operation, number: u64) -> Result<u64, Fail> {
+    let mut local = three_losing(alloc, &[])?;
+    operate_losing(alloc, &mut local, operation, Loss::Answer(number))?;
+    Ok(local.failures())
+}
+
+/// Operations, each with the number of its last call and the next number.
+const LAST: [(Operation, u64, u64); 3] = [
+    (Operation::Put, 8, 9),
+    (Operation::GetAndRepair, 6, 7),
+    (Operation::Exchange, 14, 15),
+];
+
+/// One call fails anyhow: the put whose context is ahead, or a copy that was lost before.
+#[test]
+fn no_call_is_left_out(rt: HostRuntime) -> Result<(), Fail> {
+    for (operation, last, next) in &LAST {
+        assert_eq!(rt; failures(rt.alloc(), *operation, *last)?, 2);
+        assert_eq!(rt; failures(rt.alloc(), *operation, *next)?, 1);
+    }
+    Ok(())
+}
