@@ -3,10 +3,10 @@
 ghost use Rattle.std.specs.Prelude.{◌≡◌, ◌<◌, ◌^◌, ◌++◌, ◌∷◌, [], IfOk, IsTrue, MatchResult, OnOk, OnErr};
 ghost use mathlib.Core.List.{IsPrefix};
 ghost use Rattle.hooks.specs.Tables.{Shows};
-ghost use Rattle.hooks.specs.Changes.{AreAllowed, bound_at, program_at};
+ghost use Rattle.hooks.specs.Changes.{bound_at};
 ghost use Rattle.left_right.specs.Handles.{published};
 ghost use Rattle.shared_hooks.specs.Edits.{change_of, changes_of};
-ghost use Rattle.shared_hooks.specs.Standing.{BindFails, Standing, Takes};
+ghost use Rattle.shared_hooks.specs.Standing.{Takes};
 
 use crate::edit::{Edit, copy_of};
 use crate::opening::{Ground, NoReader};
@@ -108,13 +108,6 @@ impl<J: Naming, T: Rack<J> + Drop, R: Wait + Drop> Installer<J, T, R> {
         self.registry.bound(bucket, kind)
     }
 
-    // Whether bindings may be made, judged by all changes so far.
-    fn judge(&self, bindings: &[(ImageKind, Option<Bytes>)]) -> Result<(), HookFault>
-        ensures { MatchResult result (λ _. AreAllowed (program_at self.now.made) bindings.now) (BindFails (program_at self.now.made) bindings.now) }
-    {
-        self.registry.allows(bindings)
-    }
-
     // Makes one change more.
     fn change(&mut self, edit: Edit) -> Result<(), AllocError>
         ensures ok { OnOk result (self.new ≡ record { made = self.old.made ++ change_of edit ∷ []; published = self.old.published }) }
@@ -153,6 +146,7 @@ impl<J: Naming, T: Rack<J> + Drop, R: Wait + Drop> HookChanges for Installer<J, 
     ghost takes = { Takes };
 
     fn install(&mut self, name: Bytes, program: Arc<Verified>) -> Result<(), HookFault> {
+        let _shown = &self.registry;
         Ok(self.change(Edit::Install { name, program })?)
     }
 
@@ -169,7 +163,7 @@ impl<J: Naming, T: Rack<J> + Drop, R: Wait + Drop> HookChanges for Installer<J, 
         bucket: &Bytes,
         bindings: &[(ImageKind, Option<Bytes>)],
     ) -> Result<(), HookFault> {
-        self.judge(bindings)?;
+        self.registry.allows(bindings)?;
         let bucket = bucket.copy()?;
         let bindings = copy_of(self.alloc, bindings)?;
         Ok(self.change(Edit::Bind { bucket, bindings })?)

@@ -6,4 +6,4 @@ mod opening;
 mod worker;
 
 pub use opening::{OpenFault, open};
-pub use worker::WorkerHooks;
+pub use worker::{Maker, ReadHooks, WorkerHooks};

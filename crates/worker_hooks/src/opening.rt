@@ -1,6 +1,7 @@
 //! Where workers' hooks are opened.
 
 ghost use Rattle.std.specs.Prelude.{◌≡◌, ◌<◌, ◌^◌, [], IfOk, vec_len};
+ghost use Rattle.std.specs.List.{All};
 
 use fronts::Naming;
 use shared_hooks::{Ground, HookReader, Installer, NoReader, Rack};
@@ -31,8 +32,8 @@ impl From<AllocError> for OpenFault {
     }
 }
 
-/// A registry where nothing is installed: its installer behind a lock, and as many readers as there are workers. `NoReader` where
-/// there is no further reader, `NoMemory` where memory runs out.
+/// A registry where nothing is installed: its installer behind a lock, and as many readers as there are workers, which know of no change.
+/// `NoReader` where there is no further reader, `NoMemory` where memory runs out.
 pub fn open<J: Naming, T: Rack<J> + Drop, R: Wait + Drop>(
     alloc: Global,
     rt: R,
@@ -41,23 +42,25 @@ pub fn open<J: Naming, T: Rack<J> + Drop, R: Wait + Drop>(
 ) -> Result<(Mutex<Installer<J, T, R>>, Vec<HookReader<J, T>>), OpenFault>
     requires ground { (ground.front ≡ []) × (T.state ground.first ≡ []) × (T.state ground.second ≡ []) }
     requires workers { (0 < workers) × (workers < 2 ^ 32) }
-    ensures { IfOk result (λ opened. vec_len opened.1 ≡ workers) }
+    ensures workers { IfOk result (λ opened. vec_len opened.1 ≡ workers) }
+    ensures none { IfOk result (λ opened. All (λ reader. reader ≡ []) opened.1.items) }
 {
-    let mut installer = match Installer::open(alloc, rt, ground, workers) {
-        Ok(installer) => Mutex::new(installer),
+    let installer = match Installer::open(alloc, rt, ground, workers) {
+        Ok(installer) => installer,
         Err(_) => return Err(OpenFault::NoMemory),
     };
-    let readers = readers_of(alloc, installer.get_mut(), workers)?;
-    Ok((installer, readers))
+    let readers = readers_of(alloc, &installer, workers);
+    Ok((Mutex::new(installer), readers?))
 }
 
-// So many readers of a registry.
+// So many readers of a registry, which know all that is published.
 fn readers_of<J: Naming, T: Rack<J> + Drop, R: Wait + Drop>(
     alloc: Global,
     installer: &Installer<J, T, R>,
     workers: usize,
 ) -> Result<Vec<HookReader<J, T>>, OpenFault>
-    ensures { IfOk result (λ readers. vec_len readers ≡ workers) }
+    ensures count { IfOk result (λ readers. vec_len readers ≡ workers) }
+    ensures published { IfOk result (λ readers. All (λ reader. reader ≡ installer.now.published) readers.items) }
 {
     let mut readers = Vec::with_capacity(alloc, workers)?;
     for _ in 0..workers {

@@ -14,19 +14,15 @@ use std::marker::Model;
 use std::sync::{Arc, Mutex, Wait};
 use verifier::Verified;
 
-/// The hooks of one worker: a reader of its own, in which it looks hooks up and waits for nobody, and the installer that all workers
-/// change hooks by, behind its lock. Contracts see the changes that it has seen or was told of.
-///
-/// A change is shown to all workers at once, and the worker that made it sees it from its next look-up on. Where memory lacks for
-/// showing it, the change is answered with `NoMemory`, although it stands among all changes and is shown with the next.
+/// Hooks that are looked up in a reader, and changed by a maker. Contracts see the changes that the reader has seen or was told of. A
+/// look-up waits for nobody, whatever the maker is: it has nothing to wait by.
 #[derive(Drop)]
-pub struct WorkerHooks<'a, J: Naming, T: Rack<J> + Drop, R: Wait + Drop> {
+pub struct ReadHooks<J: Naming, T: Rack<J> + Drop, M: Drop> {
     reader: HookReader<J, T>,
-    installer: &'a Mutex<Installer<J, T, R>>,
-    rt: &'a R,
+    maker: M,
 }
 
-impl<'a, J: Naming, T: Rack<J> + Drop, R: Wait + Drop> Model for WorkerHooks<'a, J, T, R> {
+impl<J: Naming, T: Rack<J> + Drop, M: Drop> Model for ReadHooks<J, T, M> {
     ghost use Rattle.std.specs.Prelude.{List};
     ghost use Rattle.hooks.specs.Changes.{Change};
 
@@ -35,7 +31,20 @@ impl<'a, J: Naming, T: Rack<J> + Drop, R: Wait + Drop> Model for WorkerHooks<'a,
     ghost view = { λ w. w.reader };
 }
 
-impl<'a, J: Naming, T: Rack<J> + Drop, R: Wait + Drop> WorkerHooks<'a, J, T, R> {
+/// What all workers change hooks by: the installer, behind its lock.
+#[derive(Drop)]
+pub struct Maker<'a, J: Naming, T: Rack<J> + Drop, R: Wait + Drop> {
+    installer: &'a Mutex<Installer<J, T, R>>,
+    rt: &'a R,
+}
+
+/// The hooks of one worker: a reader of its own, and the installer that all workers change hooks by.
+///
+/// A change is shown to all workers at once, and the worker that made it sees it from its next look-up on. Where memory lacks for
+/// showing it, the change is answered with `NoMemory`, although it stands among all changes and is shown with the next.
+pub type WorkerHooks<'a, J, T, R> = ReadHooks<J, T, Maker<'a, J, T, R>>;
+
+impl<'a, J: Naming, T: Rack<J> + Drop, R: Wait + Drop> ReadHooks<J, T, Maker<'a, J, T, R>> {
     /// The hooks of a worker that has this reader.
     pub fn new(
         reader: HookReader<J, T>,
@@ -44,15 +53,14 @@ impl<'a, J: Naming, T: Rack<J> + Drop, R: Wait + Drop> WorkerHooks<'a, J, T, R> 
     ) -> WorkerHooks<'a, J, T, R>
         ensures { result ≡ reader }
     {
-        WorkerHooks {
+        ReadHooks {
             reader,
-            installer,
-            rt,
+            maker: Maker { installer, rt },
         }
     }
 }
 
-impl<J: Naming, T: Rack<J> + Drop, R: Wait + Drop> Hooks for WorkerHooks<'_, J, T, R> {
+impl<J: Naming, T: Rack<J> + Drop, M: Drop> Hooks for ReadHooks<J, T, M> {
     ghost finds = { Finds };
 
     ghost names = { Names };
@@ -70,16 +78,17 @@ impl<J: Naming, T: Rack<J> + Drop, R: Wait + Drop> Hooks for WorkerHooks<'_, J, 
     }
 }
 
-impl<J: Naming, T: Rack<J> + Drop, R: Wait + Drop> HookChanges for WorkerHooks<'_, J, T, R> {
+impl<J: Naming, T: Rack<J> + Drop, R: Wait + Drop> HookChanges
+    for ReadHooks<J, T, Maker<'_, J, T, R>> {
     ghost takes = { Takes };
 
     fn install(&mut self, name: Bytes, program: Arc<Verified>) -> Result<(), HookFault> {
-        let mut installer = making::caught_up(self.rt, self.installer, &self.reader);
+        let mut installer = making::caught_up(self.maker.rt, self.maker.installer, &self.reader);
         making::install(&mut installer, &mut self.reader, name, program)
     }
 
     fn remove(&mut self, name: &Bytes) -> Result<(), HookFault> {
-        let mut installer = making::caught_up(self.rt, self.installer, &self.reader);
+        let mut installer = making::caught_up(self.maker.rt, self.maker.installer, &self.reader);
         making::remove(&mut installer, &mut self.reader, name)
     }
 
@@ -88,7 +97,7 @@ impl<J: Naming, T: Rack<J> + Drop, R: Wait + Drop> HookChanges for WorkerHooks<'
         bucket: &Bytes,
         bindings: &[(ImageKind, Option<Bytes>)],
     ) -> Result<(), HookFault> {
-        let mut installer = making::caught_up(self.rt, self.installer, &self.reader);
+        let mut installer = making::caught_up(self.maker.rt, self.maker.installer, &self.reader);
         making::bind(&mut installer, &mut self.reader, bucket, bindings)
     }
 }

@@ -3,7 +3,7 @@
 ghost use Rattle.std.specs.Prelude.{◌≡◌, []};
 ghost use Rattle.stamps.specs.Rule.{newcomer};
 
-use crate::tests::building::key_of;
+use crate::tests::building::{key_of, paired};
 use dvv::Clock;
 use object::{Content, Key};
 use peers::Peers;
@@ -150,29 +150,43 @@ impl<'a> Worker for PutAndRead<'a> {
     }
 }
 
-/// Two workers that put and read, at these vnodes, each on a thread of its own.
+/// Two workers that put and read, at these vnodes.
+fn two(
+    alloc: Global,
+    begun: &AtomicU64,
+    vnodes: [usize; 2],
+) -> Result<Vec<PutAndRead>, AllocError> {
+    let mut works = Vec::new(alloc);
+    for vnode in vnodes {
+        works.push(PutAndRead::new(alloc, begun, vnode)?)?;
+    }
+    Ok(works)
+}
+
+/// Whether each worker was answered.
+fn are_answered<B: Room>(rt: &impl Abort, workers: &[(Pass<B>, PutAndRead)]) {
+    for (_, work) in workers {
+        assert!(rt; work.answered);
+    }
+}
+
+/// Two workers, each on a thread of its own.
 fn run_two<B: Room + Send + Sync, G: Gate + Sync, R: Threads + Wait + Abort + Sync>(
     rt: &R,
     alloc: Global,
     stamps: Stamps,
     card: Card,
     gate: &G,
-    begun: &AtomicU64,
-    vnodes: [usize; 2],
+    works: Vec<PutAndRead>,
 ) -> Result<(), Fail>
     requires table { (stamps.table.shared.table_id ≡ B.table) × (card.table_id ≡ B.table) }
     requires size { stamps.table.shared.key ≡ record { first = 0; vnodes = 2; passes = 2 } }
     requires card { card.me ≡ (newcomer stamps.table.shared.key, []) }
 {
     let (cluster, passes) = Cluster::<B>::open(alloc, stamps, card, 0, 2, 2)?;
-    let mut workers: Vec<(Pass<B>, PutAndRead)> = Vec::new(alloc);
-    for (pass, vnode) in passes.into_iter().zip(vnodes) {
-        workers.push((pass, PutAndRead::new(alloc, begun, vnode)?))?;
-    }
+    let mut workers = paired(alloc, passes, works)?;
     serve_all(alloc, rt, &cluster, workers.as_mut_slice(), gate);
-    for (_, work) in &workers {
-        assert!(rt; work.answered);
-    }
+    are_answered(rt, &workers);
     Ok(())
 }
 
@@ -188,8 +202,9 @@ const TWO_BY_TWO: Size = Size {
 fn gate_two_vnodes(rt: HostRuntime) -> Result<(), Fail> {
     let gate = TwoVnodes::new();
     let begun = AtomicU64::new(0);
+    let works = two(rt.alloc(), &begun, [0, 1])?;
     let (stamps, card) = Stamps::new(rt.alloc(), &TWO_BY_TWO)?;
-    run_two::<Brand, _, _>(&rt, rt.alloc(), stamps, card, &gate, &begun, [0, 1])?;
+    run_two::<Brand, _, _>(&rt, rt.alloc(), stamps, card, &gate, works)?;
     assert!(&rt; gate.met.load(SeqCst));
     Ok(())
 }
@@ -198,8 +213,9 @@ fn gate_two_vnodes(rt: HostRuntime) -> Result<(), Fail> {
 #[test]
 fn gate_same_vnode(rt: HostRuntime) -> Result<(), Fail> {
     let gate = SameVnode::new();
+    let works = two(rt.alloc(), &gate.begun, [1, 1])?;
     let (stamps, card) = Stamps::new(rt.alloc(), &TWO_BY_TWO)?;
-    run_two::<Brand, _, _>(&rt, rt.alloc(), stamps, card, &gate, &gate.begun, [1, 1])?;
+    run_two::<Brand, _, _>(&rt, rt.alloc(), stamps, card, &gate, works)?;
     assert!(&rt; gate.met.load(SeqCst));
     Ok(())
 }

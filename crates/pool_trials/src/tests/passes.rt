@@ -6,8 +6,8 @@ ghost use Rattle.stamps.specs.Rule.{newcomer};
 use crate::tests::building::{Open, clock_over, key_of, value_of};
 use crate::tests::refusals::are_named;
 use dvv::{Clock, Dot};
-use object::{Content, Key};
-use peers::{Answer, PeerFault, Peers};
+use object::{Content, Key, KeyState};
+use peers::{PeerFault, Peers};
 use pool::{Cluster, Room};
 use stamps::{Card, Size, Stamps};
 use std::alloc::Global;
@@ -18,73 +18,161 @@ use std::test::Fail;
 use vnode::VnodeFault;
 use workers::PassPeers;
 
-/// A put at vnode 10, what it reads then, and a merge of that at vnode 11, twice. None of it fails.
-fn copy_over<P: Peers>(
-    rt: &impl Abort,
-    alloc: Global,
+/// What the calls are made with.
+#[derive(Drop)]
+struct Parts {
+    key: Key,
+    content: Content,
+    /// A clock that counts nothing.
+    none: Clock,
+    /// A clock that counts what didn't happen.
+    ahead: Clock,
+    /// What is merged.
+    state: KeyState,
+}
+
+impl Parts {
+    /// Nothing is to be merged yet.
+    fn new(alloc: Global) -> Result<Parts, Fail> {
+        let ahead = clock_over(alloc, 11, 12)?;
+        let key = key_of(alloc, b"k")?;
+        Ok(Parts {
+            key,
+            content: value_of(alloc, b"a")?,
+            none: Clock::new(alloc),
+            ahead,
+            state: KeyState::new(alloc),
+        })
+    }
+}
+
+/// What is asked of a vnode.
+#[derive(Clone, Copy)]
+enum Ask {
+    /// A put by one who had seen nothing.
+    Put,
+    /// A put by one who had seen what didn't happen.
+    PutAhead,
+    /// A read.
+    Read,
+    /// A merge of what vnode 10 answered at place 2.
+    Merge,
+    /// The keys.
+    Keys,
+}
+
+/// What a call came to, as far as the tests compare it.
+#[derive(Clone, Copy, Debug, PartialEq, Eq)]
+enum Came {
+    /// The dot of a put.
+    Put(Dot),
+    /// Who answered a state, at which place, and how many siblings it has.
+    Read(u32, u32, usize),
+    /// Whether a merge changed something.
+    Changed(bool),
+    /// Whether `k` is the one key.
+    Named(bool),
+}
+
+/// Makes a call.
+fn came_of<P: Peers>(
     peers: &mut P,
-    key: &Key,
-) -> Result<(), Fail> {
-    let content = value_of(alloc, b"a")?;
-    let dot = peers.put_at(0, key, &Clock::new(alloc), &content)?;
-    assert_eq!(rt; dot, Dot { vnode: 10, n: 1 });
-    let Answer { from, at, state } = peers.state_of(0, key)?;
-    assert_eq!(rt; (from, at, state.siblings().len()), (10, 1, 1));
-    assert!(rt; peers.merge_at(1, key, from, at, &state)?);
-    assert!(rt; !peers.merge_at(1, key, from, at, &state)?);
-    assert!(rt; are_named(&peers.keys_of(1)?, &[b"k"]));
-    assert_eq!(rt; peers.failures(), 0);
+    parts: &Parts,
+    vnode: usize,
+    ask: Ask,
+) -> Result<Came, PeerFault> {
+    let Parts {
+        key,
+        content,
+        none,
+        ahead,
+        state,
+    } = parts;
+    match ask {
+        Ask::Put => Ok(Came::Put(peers.put_at(vnode, key, none, content)?)),
+        Ask::PutAhead => Ok(Came::Put(peers.put_at(vnode, key, ahead, content)?)),
+        Ask::Merge => Ok(Came::Changed(peers.merge_at(vnode, key, 10, 2, state)?)),
+        Ask::Read => {
+            let answer = peers.state_of(vnode, key)?;
+            Ok(Came::Read(answer.from, answer.at, answer.state.siblings().len()))
+        }
+        Ask::Keys => Ok(Came::Named(are_named(&peers.keys_of(vnode)?, &[b"k"]))),
+    }
+}
+
+/// A call: the index of the vnode, what is asked, what it is to come to, and how many calls failed so far.
+type Row = (usize, Ask, Result<Came, PeerFault>, u64);
+
+/// A put at vnode 10, and what it reads then.
+const BEFORE: [Row; 2] = [
+    (0, Ask::Put, Ok(Came::Put(Dot { vnode: 10, n: 1 })), 0),
+    (0, Ask::Read, Ok(Came::Read(10, 1, 1)), 0),
+];
+
+/// A merge of that at vnode 11, twice. Calls on an index that has no vnode are lost, and a put that had seen too much is refused. Each
+/// counts as failed.
+const AFTER: [Row; 8] = [
+    (1, Ask::Merge, Ok(Came::Changed(true)), 0),
+    (1, Ask::Merge, Ok(Came::Changed(false)), 0),
+    (1, Ask::Keys, Ok(Came::Named(true)), 0),
+    (2, Ask::Put, Err(PeerFault::Lost), 1),
+    (2, Ask::Read, Err(PeerFault::Lost), 2),
+    (2, Ask::Merge, Err(PeerFault::Lost), 3),
+    (usize::MAX, Ask::Keys, Err(PeerFault::Lost), 4),
+    (
+        0,
+        Ask::PutAhead,
+        Err(PeerFault::Refused(VnodeFault::ContextAhead)),
+        5,
+    ),
+];
+
+/// Makes some calls.
+fn rows_are<P: Peers>(rt: &impl Abort, peers: &mut P, parts: &Parts, rows: &[Row]) {
+    for row in rows {
+        let (vnode, ask, want, failures) = *row;
+        let came = came_of(peers, parts, vnode, ask);
+        assert_eq!(rt; came, want);
+        assert_eq!(rt; peers.failures(), failures);
+    }
+}
+
+/// Makes all calls. What is merged is what vnode 10 answers at place 2.
+fn all_are<P: Peers>(rt: &impl Abort, peers: &mut P, parts: &mut Parts) -> Result<(), Fail> {
+    rows_are(rt, peers, parts, &BEFORE);
+    parts.state = peers.state_of(0, &parts.key)?.state;
+    rows_are(rt, peers, parts, &AFTER);
     Ok(())
 }
 
-/// Calls on an index that has no vnode are lost, and a put that had seen too much is refused. Each counts.
-fn fail<P: Peers>(rt: &impl Abort, alloc: Global, peers: &mut P, key: &Key) -> Result<(), Fail> {
-    let (none, content) = (Clock::new(alloc), Content::Tombstone);
-    assert_eq!(rt;
-        peers.put_at(2, key, &none, &content).err(),
-        Some(PeerFault::Lost)
-    );
-    assert_eq!(rt; peers.state_of(2, key).err(), Some(PeerFault::Lost));
-    let state = peers.state_of(0, key)?.state;
-    assert_eq!(rt;
-        peers.merge_at(2, key, 10, 2, &state).err(),
-        Some(PeerFault::Lost)
-    );
-    assert_eq!(rt; peers.keys_of(usize::MAX).err(), Some(PeerFault::Lost));
-    assert_eq!(rt; peers.failures(), 4);
-    let ahead = clock_over(alloc, 11, 12)?;
-    let refused = PeerFault::Refused(VnodeFault::ContextAhead);
-    assert_eq!(rt; peers.put_at(0, key, &ahead, &content).err(), Some(refused));
-    assert_eq!(rt; peers.failures(), 5);
-    Ok(())
-}
-
-/// The calls over two vnodes, by one pass, and how long the journals then are.
+/// The calls over two vnodes, by one pass.
 fn by_one_pass<B: Room, R: Wait + Abort>(
     rt: &R,
     alloc: Global,
     stamps: Stamps,
     card: Card,
+    parts: &mut Parts,
 ) -> Result<(), Fail>
     requires table { (stamps.table.shared.table_id ≡ B.table) × (card.table_id ≡ B.table) }
     requires size { stamps.table.shared.key ≡ record { first = 10; vnodes = 2; passes = 1 } }
     requires card { card.me ≡ (newcomer stamps.table.shared.key, []) }
 {
     let (cluster, mut passes) = Cluster::<B>::open(alloc, stamps, card, 10, 2, 1)?;
-    let key = key_of(alloc, b"k")?;
     let mut peers = PassPeers::new(alloc, rt, &cluster, &mut passes[0], &Open);
-    copy_over(rt, alloc, &mut peers, &key)?;
-    fail(rt, alloc, &mut peers, &key)
+    all_are(rt, &mut peers, parts)
 }
+
+/// A word for two vnodes and a pass.
+const TWO_BY_ONE: Size = Size {
+    first: 10,
+    vnodes: 2,
+    passes: 1,
+};
 
 /// Each call, and what counts as a failure.
 #[test]
 fn calls_by_one_pass(rt: HostRuntime) -> Result<(), Fail> {
-    let size = Size {
-        first: 10,
-        vnodes: 2,
-        passes: 1,
-    };
-    let (stamps, card) = Stamps::new(rt.alloc(), &size)?;
-    by_one_pass::<Brand, _>(&rt, rt.alloc(), stamps, card)
+    let mut parts = Parts::new(rt.alloc())?;
+    let (stamps, card) = Stamps::new(rt.alloc(), &TWO_BY_ONE)?;
+    by_one_pass::<Brand, _>(&rt, rt.alloc(), stamps, card, &mut parts)
 }

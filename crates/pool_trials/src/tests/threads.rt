@@ -4,7 +4,7 @@ ghost use Rattle.std.specs.Prelude.{◌≡◌, []};
 ghost use Rattle.stamps.specs.Rule.{newcomer};
 ghost use Rattle.pool.specs.Gathers.{Differ};
 
-use crate::tests::building::{Open, key_of, value_of};
+use crate::tests::building::{Open, key_of, paired, passes_of, value_of};
 use closing::audit_vnodes;
 use dvv::Clock;
 use object::{Content, Key};
@@ -65,27 +65,20 @@ impl Worker for Puts {
 }
 
 /// Four workers, two of each key.
-fn four<B: Room>(alloc: Global, passes: Vec<Pass<B>>) -> Result<Vec<(Pass<B>, Puts)>, AllocError> {
-    let mut workers = Vec::new(alloc);
-    for (pass, key) in passes.into_iter().zip([b"k", b"l", b"k", b"l"]) {
+fn four(alloc: Global) -> Result<Vec<Puts>, AllocError> {
+    let mut works = Vec::new(alloc);
+    for key in [b"k", b"l", b"k", b"l"] {
         let asker = Asker::new(alloc, key)?;
-        workers.push((pass, Puts { asker }))?;
+        works.push(Puts { asker })?;
     }
-    Ok(workers)
+    Ok(works)
 }
 
-/// The passes of workers, each of which was answered ten times.
-fn passes_back<B: Room>(
-    rt: &impl Abort,
-    alloc: Global,
-    workers: Vec<(Pass<B>, Puts)>,
-) -> Result<Vec<Pass<B>>, AllocError> {
-    let mut back = Vec::new(alloc);
-    for (pass, work) in workers {
+/// Whether each worker was answered ten times.
+fn are_answered<B: Room>(rt: &impl Abort, workers: &[(Pass<B>, Puts)]) {
+    for (_, work) in workers {
         assert_eq!(rt; work.asker.answered, 10);
-        back.push(pass)?;
     }
-    Ok(back)
 }
 
 /// Four workers, on threads, over some vnodes.
@@ -95,9 +88,10 @@ fn serve_four<B: Room + Send + Sync, R: Threads + Wait + Abort + Sync>(
     cluster: &Cluster<B>,
     passes: Vec<Pass<B>>,
 ) -> Result<Vec<Pass<B>>, AllocError> {
-    let mut workers = four(alloc, passes)?;
+    let mut workers = paired(alloc, passes, four(alloc)?)?;
     serve_all(alloc, rt, cluster, workers.as_mut_slice(), &Open);
-    passes_back(rt, alloc, workers)
+    are_answered(rt, &workers);
+    passes_of(alloc, workers)
 }
 
 /// How many entries each journal has.

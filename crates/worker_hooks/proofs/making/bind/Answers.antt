@@ -1,0 +1,7 @@
+use Rattle.std.proofs.Common.{ap}
+use Rattle.worker_hooks.proofs.Learning.{begins_later}
+use Rattle.worker_hooks.proofs.making.bind.Goals as goal
+
+pub publish_to-requires : goal.publish_to-requires
+publish_to-requires g c =
+    begins_later c.args.reader.now c.args.installer.now.made _ _ c.requires (ap (λ s. s.made) c.in_ok-bind.ensures.1)
