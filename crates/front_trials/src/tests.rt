@@ -2,4 +2,5 @@
 
 mod connections;
 mod opening;
+mod refusals;
 mod rows;

@@ -7,7 +7,7 @@ use std::alloc::{AllocError, Global};
 use std::test::Fail;
 
 /// The bytes of the requests, and those of the answers to them.
-fn bytes_of(alloc: Global, rows: &[Row]) -> Result<(Vec<u8>, Vec<u8>), AllocError> {
+pub(super) fn bytes_of(alloc: Global, rows: &[Row]) -> Result<(Vec<u8>, Vec<u8>), AllocError> {
     let mut asked = Vec::new(alloc);
     let mut told = Vec::new(alloc);
     for (request, answer) in rows {
@@ -118,52 +118,84 @@ fn closed_early(rt: HostRuntime) -> Result<(), Fail> {
     Ok(())
 }
 
-/// A connection whose devices fail at these calls, if any: how it ends is told by the count of the writes that failed, and a front
-/// of the answers was written.
-fn is_front(
+/// A device of a connection.
+#[derive(Clone, Copy)]
+enum Device {
+    Source,
+    Sink,
+}
+
+/// How a connection ended whose device fails at a call.
+#[derive(Clone, Copy)]
+enum End {
+    /// The device failed, which was told, and a front of the answers was written.
+    Failed,
+    /// It had ended before that call. Each request was answered.
+    Whole,
+    /// Anything else.
+    Other,
+}
+
+/// How a connection ended, by what it came to and by how often its source and its sink failed.
+fn end_of(
+    back: Result<u64, FrontFault>,
+    failures: (u64, u64),
+    is_front: bool,
+    is_all: bool,
+) -> End {
+    match (back, failures) {
+        (Err(FrontFault::Read), (1, 0)) | (Err(FrontFault::Write), (0, 1)) if is_front =>
+            End::Failed,
+        (Ok(9), (0, 0)) if is_all => End::Whole,
+        _ => End::Other,
+    }
+}
+
+/// How a connection ends whose device fails at this call, by one front.
+fn failing(
     alloc: Global,
     front: &mut Front,
     asked: &[u8],
     told: &[u8],
-    read: Option<u64>,
-    write: Option<u64>,
-) -> Result<bool, Fail> {
-    let mut source = FailSource::new(asked, 61, read);
-    let mut sink = FailSink::new(alloc, 61, write);
+    device: Device,
+    call: u64,
+) -> Result<End, AllocError> {
+    let (read, write) = match device {
+        Device::Source => (Some(call), None),
+        Device::Sink => (None, Some(call)),
+    };
+    let mut source = FailSource::new(asked, 7, read);
+    let mut sink = FailSink::new(alloc, 7, write);
     let back = connect(alloc, front, &mut source, &mut sink)?;
-    Ok(has_ended(back, read, sink.failures) && told.starts_with(sink.bytes.as_slice()))
+    let written = sink.bytes.as_slice();
+    let failures = (source.failures, sink.failures);
+    Ok(end_of(back, failures, told.starts_with(written), told == written))
 }
 
-/// Whether a connection ended as its devices did.
-fn has_ended(back: Result<u64, FrontFault>, read: Option<u64>, failures: u64) -> bool {
-    match back {
-        Ok(count) => count == 9 && failures == 0,
-        Err(FrontFault::Read) => read.is_some() && failures == 0,
-        Err(FrontFault::Write) => failures == 1,
-        Err(FrontFault::NoMemory) => false,
-    }
-}
-
-/// How many of the first 40 reads and of the first 40 writes may fail, each by one front.
-fn failing(alloc: Global, rows: &[Row]) -> Result<[u64; 2], Fail> {
+/// At how many calls a device may fail until the connection has ended before; none where one of them ends otherwise.
+fn calls_that_fail(
+    alloc: Global,
+    rows: &[Row],
+    device: Device,
+) -> Result<Option<usize>, AllocError> {
     let (asked, told) = bytes_of(alloc, rows)?;
     let mut front = Front::new(alloc)?;
-    let mut reads = 0u64;
-    let mut writes = 0u64;
-    for number in 0..40u64 {
-        if is_front(alloc, &mut front, &asked, &told, Some(number), None)? {
-            reads = reads.saturating_add(1);
-        }
-        if is_front(alloc, &mut front, &asked, &told, None, Some(number))? {
-            writes = writes.saturating_add(1);
+    for call in 0..told.len() {
+        match failing(alloc, &mut front, &asked, &told, device, call as u64)? {
+            End::Failed => {}
+            End::Whole => return Ok(Some(call)),
+            End::Other => return Ok(None),
         }
     }
-    Ok([reads, writes])
+    Ok(None)
 }
 
-/// Whichever read or write fails, a front of the answers was written.
+/// Whichever read or write fails, that is told, and a front of the answers was written. 625 bytes that come seven at a time are 90 reads and one
+/// that finds the end; nine answers, each of which goes out before the next request has come, are 145 writes of at most seven bytes.
 #[test]
 fn devices_that_fail(rt: HostRuntime) -> Result<(), Fail> {
-    assert_eq!(rt; failing(rt.alloc(), &HTTP_SIBLINGS)?, [40, 40]);
+    let reads = calls_that_fail(rt.alloc(), &HTTP_SIBLINGS, Device::Source)?;
+    let writes = calls_that_fail(rt.alloc(), &HTTP_SIBLINGS, Device::Sink)?;
+    assert_eq!(rt; (reads, writes), (Some(91), Some(145)));
     Ok(())
 }
