@@ -1,1 +1,7 @@
 mod Lists
+mod Taken
+mod Ends
+mod Leads
+mod Orders
+mod Faultless
+pub mod Sent

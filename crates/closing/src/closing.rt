@@ -1,19 +1,17 @@
-//! Gathering a cluster, and the audit of what its vnodes hold.
+//! The audit of what gathered vnodes hold.
 
-ghost use Rattle.std.specs.Prelude.{◌≡◌, ◌≤◌, vec_len, Err, IfErr, IfOk};
-ghost use Rattle.std.specs.List.{flat_map};
+ghost use Rattle.std.specs.Prelude.{◌≡◌, Err, IfErr, IfOk};
 ghost use Rattle.audit.specs.Rerun.{AreJournals};
-ghost use Rattle.closing.specs.Audits.{IsAudited, IsAuditOf};
+ghost use Rattle.closing.specs.Audits.{IsAuditOf};
 ghost use Rattle.pool.specs.Gathers.{Differ};
 
 use audit::{AuditFault, audit};
 use journal::Whole;
-use pool::{Cluster, Pass, Room};
 use std::alloc::{AllocError, Global};
 use thiserror::Error;
 use vnode::Vnode;
 
-/// Why the journals of a cluster aren't found to be one run. A fault of the audit is shown as the audit shows it.
+/// Why the journals of gathered vnodes aren't found to be one run. A fault of the audit is shown as the audit shows it.
 #[derive(Clone, Copy, Debug, PartialEq, Eq, Drop, Error)]
 pub enum CloseFault {
     /// The audit says so, or memory ran out.
@@ -47,22 +45,8 @@ impl From<AllocError> for CloseFault {
     }
 }
 
-/// What is said of the journals of a cluster: that they are one run, or the first fault.
+/// What an audit says of the journals of gathered vnodes: that they are one run, or the first fault.
 pub type Audited = Result<(), CloseFault>;
-
-/// Gathers a cluster, all of whose passes are back, and audits the journals of its vnodes.
-///
-/// The fault is that of [`audit`] on the journals as they were gathered. `HandedOut` where entries of one of them were handed out.
-/// `NoMemory` where a growth was refused, of the list of vnodes, of the list of their journals, or of the audit.
-pub fn close<B: Room>(alloc: Global, cluster: Cluster<B>, passes: Vec<Pass<B>>) -> Audited
-    requires back { cluster.passes ≤ vec_len passes }
-    ensures audited { IsAudited (flat_map (λ p. p.told) passes.items) cluster.vnodes result }
-{
-    match cluster.gather(passes) {
-        Ok(vnodes) => audit_vnodes(alloc, &vnodes),
-        Err(_) => Err(CloseFault::Audit(AuditFault::NoMemory)),
-    }
-}
 
 /// Audits the journals of vnodes, no two of which have one identifier.
 ///

@@ -1,6 +1,12 @@
-//! How a cluster ends: its passes are gathered, and the journals of its vnodes are audited.
+//! How a cluster ends: its passes are gathered, and what a follower has not followed yet while it served is followed. Journals that are whole
+//! may be audited.
 #![tactic(auto)]
 
 mod closing;
+mod copying;
+mod ending;
+mod watch;
 
-pub use closing::{Audited, CloseFault, audit_vnodes, close};
+pub use closing::{Audited, CloseFault, audit_vnodes};
+pub use ending::{Followed, close_watched};
+pub use watch::{Alarm, Notice, RECENT, Spot, Watch, WatchFault};

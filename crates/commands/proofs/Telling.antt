@@ -2,7 +2,7 @@
 use Rattle.std.proofs.Common.{◌≡◌, ◌<◌, ℕ, List, ◌++◌, ap, ◌∙◌, append_assoc, Option, Some, None}
 use Rattle.std.specs.Prelude.{codes, Result, Ok, Err, OnOk, IfOk}
 use Rattle.std.specs.Io.KnownBytes.{Appends}
-use Rattle.closing.specs.declared.closing.CloseFault.{CloseFault}
+use Rattle.closing.specs.declared.watch.WatchFault.{WatchFault}
 use Rattle.commands.specs.declared.failure.Failure.{Failure}
 use Rattle.commands.specs.Outcome.{line}
 use Rattle.commands.specs.Audited.{audit_text, audit_status}
@@ -14,11 +14,11 @@ appends_then (Some xs) None after s t first then = absurd first
 appends_then (Some xs) (Some ms) None s t first then = absurd then
 appends_then (Some xs) (Some ms) (Some zs) s t first then = then ∙ ap (λ (l : List ℕ). l ++ t) first ∙ append_assoc xs s t
 
--- the address, and then what the audit says
-pub served_then : (before mid after : Option (List ℕ)) (status : ℕ) (audited : Result (Unit {0}) CloseFault) → Listened before mid → Appends mid after (audit_text audited) → status ≡ audit_status audited → Served before after status
+-- the address, and then what is said of the journals
+pub served_then : (before mid after : Option (List ℕ)) (status : ℕ) (audited : Result (Unit {0}) WatchFault) → Listened before mid → Appends mid after (audit_text audited) → status ≡ audit_status audited → Served before after status
 served_then before mid after status audited told then is = listened told.0 audited is (appends_then before mid after (line (codes "listening " ++ told.0)) (audit_text audited) told.1 then)
 
-pub served_told : (before mid after : Option (List ℕ)) (audited : Result (Unit {0}) CloseFault) (told : Result ℕ Failure) → Listened before mid → OnOk told (Appends mid after (audit_text audited)) → IfOk told (λ status. status ≡ audit_status audited) → IfOk told (Served before after)
+pub served_told : (before mid after : Option (List ℕ)) (audited : Result (Unit {0}) WatchFault) (told : Result ℕ Failure) → Listened before mid → OnOk told (Appends mid after (audit_text audited)) → IfOk told (λ status. status ≡ audit_status audited) → IfOk told (Served before after)
 served_told before mid after audited (Ok status) listen then is = served_then before mid after status audited listen then is
 served_told before mid after audited (Err why) listen then is = is
 

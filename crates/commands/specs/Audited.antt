@@ -1,27 +1,31 @@
--- How the audit of the journals is told (this store's profile).
+-- How what is said of the journals at the end is told (this store's profile).
 use Rattle.std.specs.Prelude.{ℕ, List, ◌++◌, codes, decimal, Result, Ok, Err}
-use Rattle.audit.specs.declared.auditing.AuditCode.{AuditCode}
-use Rattle.audit.specs.declared.auditing.AuditCode.TheVariants.{Twice, Falls, NoSource, OtherState}
-use Rattle.audit.specs.declared.auditing.AuditFault.TheVariants.{Found, NoMemory}
-use Rattle.closing.specs.declared.closing.CloseFault.{CloseFault}
-use Rattle.closing.specs.declared.closing.CloseFault.TheVariants.{Audit, HandedOut}
+use Rattle.audit.specs.declared.fault.FollowCode.{FollowCode}
+use Rattle.audit.specs.declared.fault.FollowCode.TheVariants.{Twice, Falls, NoSource, OtherState, GivenUp, Late, Illegal}
+use Rattle.audit.specs.declared.fault.FollowFault.TheVariants as follow
+use Rattle.closing.specs.declared.watch.WatchFault.{WatchFault}
+use Rattle.closing.specs.declared.watch.WatchFault.TheVariants.{Found, Lost, NoMemory}
 use Rattle.commands.specs.Outcome.{line}
 
 -- the names of the faults
-abbrev pub code_text : AuditCode → List ℕ
+abbrev pub code_text : FollowCode → List ℕ
 code_text Twice = codes "A1"
 code_text Falls = codes "A2"
 code_text NoSource = codes "A3"
 code_text OtherState = codes "A4"
+code_text GivenUp = codes "A5"
+code_text Late = codes "A6"
+code_text Illegal = codes "A7"
 
--- the line that tells what an audit says
-abbrev pub audit_text : Result (Unit {0}) CloseFault → List ℕ
+-- the line that tells what is said of the journals
+abbrev pub audit_text : Result (Unit {0}) WatchFault → List ℕ
 audit_text (Ok all) = line (codes "audit ok")
-audit_text (Err (Audit (Found code vnode place))) = line (codes "audit " ++ code_text code ++ codes " " ++ decimal vnode ++ codes " " ++ decimal place)
-audit_text (Err (Audit NoMemory)) = line (codes "audit E1")
-audit_text (Err HandedOut) = line (codes "audit handed out")
+audit_text (Err (Found (follow.Found code vnode place))) = line (codes "audit " ++ code_text code ++ codes " " ++ decimal vnode ++ codes " " ++ decimal place)
+audit_text (Err (Found follow.NoMemory)) = line (codes "audit E1")
+audit_text (Err NoMemory) = line (codes "audit E1")
+audit_text (Err Lost) = line (codes "audit handed out")
 
 -- the status that goes with it
-abbrev pub audit_status : Result (Unit {0}) CloseFault → ℕ
+abbrev pub audit_status : Result (Unit {0}) WatchFault → ℕ
 audit_status (Ok all) = 0
 audit_status (Err fault) = 1

@@ -1,7 +1,7 @@
 -- What a command leaves on its output (this store's profile).
 use Rattle.std.specs.Prelude.{◌≡◌, ℕ, List, ◌++◌, codes, Option, IfSome, Result}
 use Rattle.std.specs.Io.KnownBytes.{Appends}
-use Rattle.closing.specs.declared.closing.CloseFault.{CloseFault}
+use Rattle.closing.specs.declared.watch.WatchFault.{WatchFault}
 use Rattle.helpers.specs.declared.sig.Entry.{Entry}
 use Rattle.script.specs.Printing.{Simulated}
 use Rattle.commands.specs.Audited.{audit_text, audit_status}
@@ -42,8 +42,8 @@ pub record SimulatedFile (sigs : List Entry) (held_script before after : Option 
 abbrev pub Listened : Option (List ℕ) → Option (List ℕ) → Type 0
 Listened before after = (bound : List ℕ) × Appends before after (line (codes "listening " ++ bound))
 
--- connections were answered at an address that was told, and then what the audit of the journals says; or memory was refused for the store,
+-- connections were answered at an address that was told, and then what is said of the journals; or memory was refused for the store,
 -- and that alone was told
 pub data Served (before after : Option (List ℕ)) (status : ℕ) : Type 0 where
-  listened : (bound : List ℕ) (audited : Result (Unit {0}) CloseFault) → status ≡ audit_status audited → Appends before after (line (codes "listening " ++ bound) ++ audit_text audited) → Served before after status
+  listened : (bound : List ℕ) (audited : Result (Unit {0}) WatchFault) → status ≡ audit_status audited → Appends before after (line (codes "listening " ++ bound) ++ audit_text audited) → Served before after status
   no_memory : status ≡ 1 → Appends before after (line (codes "E1")) → Served before after status

@@ -1,27 +1,30 @@
-//! What the audit of the journals says, and how it is told.
+//! What is said of the journals at the end, and how it is told.
 ghost use Rattle.std.specs.Prelude.{◌≡◌, IfOk, OnOk};
 ghost use Rattle.std.specs.Io.KnownBytes.{Appends};
 ghost use Rattle.commands.specs.Audited.{audit_text, audit_status, code_text};
 
 use crate::failure::Failure;
-use audit::{AuditCode, AuditFault};
-use closing::{Audited, CloseFault};
+use closing::{Followed, WatchFault};
+use follow::{FollowCode, FollowFault};
 use std::fmt;
 use std::io::Write;
 
-/// The line that tells what an audit says.
+/// The line that tells what is said of the journals.
 #[derive(Clone, Copy, Drop)]
-pub struct AuditLine(pub Audited);
+pub struct AuditLine(pub Followed);
 
 /// The name of a fault.
-fn name_of(code: AuditCode) -> &'static str
+fn name_of(code: FollowCode) -> &'static str
     ensures { result.now ≡ code_text code }
 {
     match code {
-        AuditCode::Twice => "A1",
-        AuditCode::Falls => "A2",
-        AuditCode::NoSource => "A3",
-        AuditCode::OtherState => "A4",
+        FollowCode::Twice => "A1",
+        FollowCode::Falls => "A2",
+        FollowCode::NoSource => "A3",
+        FollowCode::OtherState => "A4",
+        FollowCode::GivenUp => "A5",
+        FollowCode::Late => "A6",
+        FollowCode::Illegal => "A7",
     }
 }
 
@@ -34,9 +37,11 @@ impl fmt::Display for AuditLine {
     fn fmt<W: fmt::Write>(&self, f: &mut fmt::Formatter<W>) -> fmt::Result {
         match self.0 {
             Ok(()) => f.write_str("audit ok\n"),
-            Err(CloseFault::HandedOut) => f.write_str("audit handed out\n"),
-            Err(CloseFault::Audit(AuditFault::NoMemory)) => f.write_str("audit E1\n"),
-            Err(CloseFault::Audit(AuditFault::Found { code, vnode, place })) => {
+            Err(WatchFault::Lost) => f.write_str("audit handed out\n"),
+            Err(WatchFault::NoMemory | WatchFault::Found(FollowFault::NoMemory)) => f.write_str(
+                "audit E1\n",
+            ),
+            Err(WatchFault::Found(FollowFault::Found { code, vnode, place })) => {
                 let name = name_of(code);
                 write!(f, "audit {name} {vnode} {place}\n")
             }
@@ -44,8 +49,8 @@ impl fmt::Display for AuditLine {
     }
 }
 
-/// Tells what the audit says, and gives the status of the program: 0 where it says yes, else 1.
-pub fn tell<O: Write>(audited: Audited, out: &mut O) -> Result<u8, Failure>
+/// Tells what is said of the journals, and gives the status of the program: 0 where it is a yes, else 1.
+pub fn tell<O: Write>(audited: Followed, out: &mut O) -> Result<u8, Failure>
     ensures told { OnOk result (Appends (O.contents out.old) (O.contents out.new) (audit_text audited)) }
     ensures status { IfOk result (λ status. status ≡ audit_status audited) }
 {

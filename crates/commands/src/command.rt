@@ -86,7 +86,7 @@ fn done<F: Files, S: Server, O: Write, E: Write>(
     }
 }
 
-/// Serves the store at an address, tells what the audit of its journals says, and gives the status. Want of memory before that is told
+/// Serves the store at an address, tells what is said of its journals then, and gives the status. Want of memory before that is told
 /// on `out`.
 fn serve<S: Server, O: Write>(
     alloc: Global,

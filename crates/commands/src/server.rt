@@ -2,7 +2,7 @@
 ghost use Rattle.std.specs.Prelude.{◌≡◌, ◌<◌, OnOk, IfErr, vec_len};
 ghost use Rattle.commands.specs.Command.{Listened};
 
-use closing::Audited;
+use closing::Followed;
 use helpers::Table;
 use std::alloc::Global;
 use std::io;
@@ -33,8 +33,8 @@ pub trait Server {
     ghost ready: { Type 0 } = { Unit {0} };
 
     /// Binds the address, tells on `out` which one it is, and answers connections, so many or without end, over a store whose hooks
-    /// may call the helpers of the tables: by one worker for each table, `table` and those of `more`. Answers what the audit of the vnodes'
-    /// journals says then.
+    /// may call the helpers of the tables: by one worker for each table, `table` and those of `more`. Answers what is said of the vnodes'
+    /// journals then, which were followed meanwhile.
     fn serve<O: Write>(
         &mut self,
         alloc: Global,
@@ -43,7 +43,7 @@ pub trait Server {
         addr: &str,
         count: Option<u32>,
         out: &mut O,
-    ) -> Result<Audited, Unserved>
+    ) -> Result<Followed, Unserved>
         requires ready { ready }
         requires few { vec_len more < 16 }
         ensures told { OnOk result (Listened (O.contents out.old) (O.contents out.new)) }
@@ -63,7 +63,7 @@ impl Server for Offline {
         _addr: &str,
         _count: Option<u32>,
         _out: &mut O,
-    ) -> Result<Audited, Unserved> {
+    ) -> Result<Followed, Unserved> {
         Err(Unserved::Unreadable)
     }
 }

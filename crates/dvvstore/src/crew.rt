@@ -1,25 +1,29 @@
-//! Workers on threads.
+//! Workers on threads, and a thread that follows what they do.
 
-ghost use Rattle.std.specs.Prelude.{◌≤◌, List, vec_len};
+ghost use Rattle.std.specs.Prelude.{◌≡◌, ◌+◌, ◌≤◌, List, IfOk, vec_len};
 ghost use Rattle.stamps.specs.declared.view.Told.{Told};
-ghost use Rattle.closing.specs.Audits.{IsAudited};
+ghost use Rattle.closing.specs.Following.{IsFollowedTo};
 
-use audit::AuditFault;
-use closing::{Audited, CloseFault, close};
+use closing::{Alarm, Followed, Notice, Spot, Watch, WatchFault, close_watched};
 use hooks::{HookChanges, Hooks};
-use httpfront::Front;
+use httpfront::{Backend, Front};
 use listener::{Entrance, serve_all};
 use place::Placement;
 use pool::{Cluster, Gate, Pass, Room};
 use quorum::Hooking;
-use std::alloc::Global;
-use std::sync::Wait;
+use std::alloc::{AllocError, Global};
+use std::io::{Eprint, Stderr};
 use std::sync::atomic::AtomicBool;
 use std::sync::atomic::Ordering::SeqCst;
+use std::sync::{Mutex, Wait};
 use std::thread;
-use std::thread::Threads;
+use std::thread::{Parker, Threads};
+use std::time::Duration;
 use store::Store;
 use workers::PassPeers;
+
+/// How long the thread that follows rests between its turns, in milliseconds.
+const REST: u64 = 20;
 
 /// A gate that lets every call through.
 #[derive(Clone, Copy, Debug)]
@@ -40,66 +44,213 @@ pub struct Seat<B: Room, H> {
     pub placement: Placement,
 }
 
-/// Whether a worker lacked memory to read requests with.
+/// A follower, and where it tells what can't wait.
 #[derive(Drop)]
-struct Lack {
-    met: AtomicBool,
+pub struct Lookout<B: Room + Spot> {
+    /// The follower.
+    pub watch: Watch<B>,
+    /// Where it tells.
+    pub err: Stderr,
+}
+
+/// What the workers share.
+#[derive(Drop)]
+struct Shared<B: Room + Spot> {
+    /// The follower of what they do.
+    watch: Mutex<Watch<B>>,
+    /// Where is told what can't wait.
+    err: Stderr,
+    /// What the thread that follows rests on.
+    rest: Parker,
+    /// Whether a thread has begun that follows, so that no worker has to.
+    is_followed: AtomicBool,
+    /// Whether all workers have ended.
+    over: AtomicBool,
+    /// Whether a worker lacked memory to read requests with.
+    lack: AtomicBool,
+}
+
+impl<B: Room + Spot> Shared<B> {
+    fn new(lookout: Lookout<B>) -> Shared<B> {
+        let Lookout { watch, err } = lookout;
+        Shared {
+            watch: Mutex::new(watch),
+            err,
+            rest: Parker::new(),
+            is_followed: AtomicBool::new(false),
+            over: AtomicBool::new(false),
+            lack: AtomicBool::new(false),
+        }
+    }
+}
+
+/// Tells notices on standard error.
+#[derive(Clone, Copy)]
+struct Aloud(Stderr);
+
+impl Alarm for Aloud {
+    fn raise(&self, notice: Notice) {
+        // A notice that can't be told is lost; a fault is told again at the end.
+        let _ = self.0.eprintln(notice);
+    }
+}
+
+/// Follows once what the vnodes of a cluster have handed out.
+fn take_turn<B: Room + Spot, R: Wait>(
+    alloc: Global,
+    rt: &R,
+    cluster: &Cluster<B>,
+    shared: &Shared<B>,
+)
+    requires first { cluster.now.first ≡ B.first }
+{
+    let mut watch = shared.watch.lock(rt);
+    watch.turn(alloc, rt, cluster, &Aloud(shared.err));
+}
+
+/// Follows, turn by turn, until all workers have ended.
+fn follow_along<B: Room + Spot, R: Wait>(
+    alloc: Global,
+    rt: &R,
+    cluster: &Cluster<B>,
+    shared: &Shared<B>,
+)
+    requires first { cluster.now.first ≡ B.first }
+{
+    shared.is_followed.store(true, SeqCst);
+    for _ in rt.forever() {
+        if shared.over.load(SeqCst) {
+            break;
+        }
+        take_turn(alloc, rt, cluster, shared);
+        shared.rest.park_timeout(rt, Duration::from_millis(REST));
+    }
+}
+
+/// Answers connections at an entrance, until none come any more. After each it takes a turn to follow, where no thread does.
+fn answer_all<B: Room + Spot, K: Backend, R: Wait>(
+    alloc: Global,
+    rt: &R,
+    cluster: &Cluster<B>,
+    entrance: &Entrance,
+    front: &mut Front,
+    store: &mut K,
+    shared: &Shared<B>,
+)
+    requires first { cluster.now.first ≡ B.first }
+{
+    let mut door = entrance;
+    for _ in rt.forever() {
+        // An entrance to which no connection comes any more is closed.
+        if serve_all(&mut door, front, store, Some(1)).is_err() {
+            break;
+        }
+        if !shared.is_followed.load(SeqCst) {
+            take_turn(alloc, rt, cluster, shared);
+        }
+    }
 }
 
 /// Answers connections at an entrance, until none come any more, over the vnodes of a cluster, which are called by the seat's pass.
 /// The pass is handed back. Without memory to read requests with none is answered, and that is noted.
-fn work<B: Room, H: Hooks + HookChanges + Drop, R: Wait>(
+fn work<B: Room + Spot, H: Hooks + HookChanges + Drop, R: Wait>(
     alloc: Global,
     rt: &R,
     cluster: &Cluster<B>,
     seat: Seat<B, H>,
     entrance: &Entrance,
-    lack: &Lack,
-) -> Pass<B> {
+    shared: &Shared<B>,
+) -> Pass<B>
+    requires first { cluster.now.first ≡ B.first }
+{
     let Seat {
         mut pass,
         hooking,
         placement,
     } = seat;
     let Ok(mut front) = Front::new(alloc) else {
-        lack.met.store(true, SeqCst);
+        shared.lack.store(true, SeqCst);
         return pass;
     };
-    let mut door = entrance;
     let peers = PassPeers::new(alloc, rt, cluster, &mut pass, &Open);
     let mut store = Store::new(alloc, peers, hooking, placement);
-    // An entrance to which no connection comes any more is closed.
-    let _ = serve_all(&mut door, &mut front, &mut store, None);
+    answer_all(alloc, rt, cluster, entrance, &mut front, &mut store, shared);
     drop(store);
     pass
 }
 
 /// Has a worker for each seat answer connections at an entrance that all share, each on a thread of its own, or on the caller's where
-/// no thread can be made. Once all have, the cluster is gathered and the journals of its vnodes are audited.
+/// no thread can be made. That all have ended is noted.
+fn work_all<
+    B: Room + Spot + Send + Sync,
+    H: Hooks + HookChanges + Send + Drop,
+    R: Threads + Wait + Sync,
+>(
+    alloc: Global,
+    rt: &R,
+    cluster: &Cluster<B>,
+    seats: Vec<Seat<B, H>>,
+    entrance: &Entrance,
+    shared: &Shared<B>,
+) -> Result<Vec<Pass<B>>, AllocError>
+    requires first { cluster.now.first ≡ B.first }
+    ensures { IfOk result (λ passes. vec_len passes ≡ vec_len seats) }
+{
+    let back = thread::map_vec(
+        rt,
+        seats,
+        &|seat: Seat<B, H>| -> Pass<B>
+            requires { cluster.now.first ≡ B.first }
+        { work(alloc, rt, cluster, seat, entrance, shared) },
+    );
+    shared.over.store(true, SeqCst);
+    shared.rest.unpark();
+    back
+}
+
+/// Has a worker for each seat answer connections at an entrance that all share, and a thread of its own follow meanwhile what they do to
+/// the vnodes, whose journals are handed out for that; where no thread can be made for it, a worker follows after each of its connections.
+/// What can't wait is told on standard error, and the workers go on. Once all have ended, the cluster is gathered, and what is left of the journals
+/// is followed.
 ///
-/// The fault is that of [`close`]. `NoMemory` also where a growth was refused for the threads, or for what a worker reads requests with;
+/// The fault is that of [`close_watched`]. `NoMemory` also where a growth was refused for the threads, or for what a worker reads requests with;
 /// some workers may have answered no connection then.
-pub fn serve<B: Room + Send + Sync, H: Hooks + HookChanges + Send + Drop, R: Threads + Wait + Sync>(
+pub fn serve<
+    B: Room + Spot + Send + Sync,
+    H: Hooks + HookChanges + Send + Drop,
+    R: Threads + Wait + Sync,
+>(
     alloc: Global,
     rt: &R,
     cluster: Cluster<B>,
     seats: Vec<Seat<B, H>>,
     entrance: &Entrance,
-) -> Audited
-    requires all { cluster.passes ≤ vec_len seats }
-    ensures audited { (told : List Told) × IsAudited told cluster.vnodes result }
+    lookout: Lookout<B>,
+) -> Followed
+    requires first { cluster.first ≡ B.first }
+    requires all { cluster.passes ≤ vec_len seats + 1 }
+    ensures followed { (told : List Told) × IsFollowedTo told cluster.vnodes result }
 {
-    let lent = &cluster;
-    let lack = Lack {
-        met: AtomicBool::new(false),
-    };
-    let back = thread::map_vec(
+    let shared = Shared::new(lookout);
+    let (lent, both) = (&cluster, &shared);
+    let (_, back) = thread::join(
         rt,
-        seats,
-        &|seat: Seat<B, H>| -> Pass<B> { work(alloc, rt, lent, seat, entrance, &lack) },
+        ||
+            requires { lent.now.first ≡ B.first }
+        { follow_along(alloc, rt, lent, both) },
+        || -> Result<Vec<Pass<B>>, AllocError>
+            requires { lent.now.first ≡ B.first }
+            ensures { IfOk result (λ passes. vec_len passes ≡ vec_len seats) }
+        { work_all(alloc, rt, lent, seats, entrance, both) },
     );
+    let Shared { watch, lack, .. } = shared;
     match back {
-        Ok(passes) if !lack.met.load(SeqCst) => close(alloc, cluster, passes),
-        _ => Err(CloseFault::Audit(AuditFault::NoMemory)),
+        Ok(passes) if !lack.load(SeqCst) => close_watched(
+            alloc,
+            cluster,
+            passes,
+            watch.into_inner(),
+        ),
+        _ => Err(WatchFault::NoMemory),
     }
 }

@@ -30,7 +30,10 @@ fn main(rt: HostRuntime) -> io::Result<ExitCode> {
         words.push(argument.as_str())?;
     }
     let mut disk = Disk { rt: &rt };
-    let mut network = Network { rt: &rt };
+    let mut network = Network {
+        rt: &rt,
+        err: rt.stderr(),
+    };
     let status = command_with_helpers(
         alloc,
         &words,

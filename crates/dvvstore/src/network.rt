@@ -1,12 +1,12 @@
 //! The network of the system.
 
 use crate::session;
-use closing::Audited;
+use closing::Followed;
 use commands::server::{Server, Unserved};
 use helpers::Table;
 use listener::{Entrance, listen};
 use std::alloc::Global;
-use std::io::Write;
+use std::io::{Stderr, Write};
 use std::net::{Net, TcpListener, TcpStream};
 use std::rt::Clock;
 use std::sync::Wait;
@@ -19,6 +19,8 @@ const IDENTIFIERS: u32 = 65_536;
 #[derive(Drop)]
 pub struct Network<'a, R> {
     pub rt: &'a R,
+    /// Where is told what can't wait.
+    pub err: Stderr,
 }
 
 impl<R: Clock> Network<'_, R> {
@@ -46,13 +48,13 @@ impl<R: Clock + Threads + Wait + Net<Listener = TcpListener, Stream = TcpStream>
         addr: &str,
         count: Option<u32>,
         out: &mut O,
-    ) -> Result<Audited, Unserved> {
+    ) -> Result<Followed, Unserved> {
         let first = u32::from(self.incarnation()) * IDENTIFIERS;
         if more.push(table).is_err() {
             return Err(Unserved::NoMemory);
         }
         let listener = listen(self.rt, addr, out)?;
         let entrance = Entrance::new(listener, count);
-        Ok(session::serve(alloc, self.rt, first, more, &entrance))
+        Ok(session::serve(alloc, self.rt, first, more, &entrance, self.err))
     }
 }

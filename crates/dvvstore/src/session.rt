@@ -1,13 +1,12 @@
-//! The store of several workers, from its opening to the audit of its journals.
+//! The store of several workers, from its opening to what is said of its journals.
 
 ghost use Rattle.std.specs.Prelude.{◌≡◌, ◌+◌, ◌<◌, ◌≤◌, ◌^◌, [], IfOk, vec_len};
 ghost use Rattle.shared_hooks.specs.Lists.{list_of};
 ghost use Rattle.stamps.specs.Rule.{newcomer};
 
 use crate::crew;
-use crate::crew::Seat;
-use audit::AuditFault;
-use closing::{Audited, CloseFault};
+use crate::crew::{Lookout, Seat};
+use closing::{Followed, Spot, Watch, WatchFault};
 use fronts::Naming;
 use helpers::Table;
 use hooks::{HookChanges, Hooks};
@@ -18,6 +17,7 @@ use quorum::Hooking;
 use shared_hooks::{Ground, HookReader, Installer, Opening, Rack};
 use stamps::{Card, Size, Stamps};
 use std::alloc::{AllocError, Global};
+use std::io::Stderr;
 use std::marker::Brand;
 use std::sync::{Mutex, Wait};
 use std::thread::Threads;
@@ -27,18 +27,19 @@ use worker_hooks::{WorkerHooks, open};
 const VNODES: u32 = 3;
 
 /// What is said where memory is refused for the store.
-const NO_MEMORY: Audited = Err(CloseFault::Audit(AuditFault::NoMemory));
+const NO_MEMORY: Followed = Err(WatchFault::NoMemory);
 
 /// Opens vnodes numbered from the first identifier on, and hooks that may call the helpers of the tables, and has a worker for each table
-/// answer connections that come to an entrance. Answers what the audit of the vnodes' journals says then, `NoMemory` where memory was
-/// refused for any of it.
+/// answer connections that come to an entrance, while what they do is followed; what can't wait is told on standard error. Answers what is said of the vnodes' journals then,
+/// `NoMemory` where memory was refused for any of it.
 pub fn serve<R: Threads + Wait + Sync>(
     alloc: Global,
     rt: &R,
     first: u32,
     tables: Vec<Table>,
     entrance: &Entrance,
-) -> Audited
+    err: Stderr,
+) -> Followed
     requires first { first + 3 ≤ 2 ^ 32 }
     requires some { 0 < vec_len tables }
     requires few { vec_len tables ≤ 16 }
@@ -46,18 +47,18 @@ pub fn serve<R: Threads + Wait + Sync>(
     let size = Size {
         first,
         vnodes: VNODES as usize,
-        passes: tables.len(),
+        passes: tables.len() + 1,
     };
     match Stamps::new(alloc, &size) {
         Ok((stamps, card)) => over_stamps::<Brand, R>(
-            alloc, rt, first, stamps, card, tables, entrance,
+            alloc, rt, first, stamps, card, tables, entrance, err,
         ),
         Err(_) => NO_MEMORY,
     }
 }
 
 /// The same, over a word that nobody has drawn from.
-fn over_stamps<B: Room + Send + Sync, R: Threads + Wait + Sync>(
+fn over_stamps<B: Room + Spot + Send + Sync, R: Threads + Wait + Sync>(
     alloc: Global,
     rt: &R,
     first: u32,
@@ -65,32 +66,39 @@ fn over_stamps<B: Room + Send + Sync, R: Threads + Wait + Sync>(
     card: Card,
     tables: Vec<Table>,
     entrance: &Entrance,
-) -> Audited
+    err: Stderr,
+) -> Followed
     requires first { first + 3 ≤ 2 ^ 32 }
     requires some { 0 < vec_len tables }
     requires few { vec_len tables ≤ 16 }
     requires table { (stamps.table.shared.table_id ≡ B.table) × (card.table_id ≡ B.table) }
-    requires size { stamps.table.shared.key ≡ record { first = first; vnodes = 3; passes = vec_len tables } }
+    requires size { stamps.table.shared.key ≡ record { first = first; vnodes = 3; passes = vec_len tables + 1 } }
+    requires spot { first ≡ B.first }
     requires card { card.me ≡ (newcomer stamps.table.shared.key, []) }
 {
     let vnodes = VNODES as usize;
-    let passes = tables.len();
-    match Cluster::<B>::open(alloc, stamps, card, first, vnodes, passes) {
-        Ok((cluster, passes)) => over_cluster::<B, Brand, R>(
-            alloc,
-            rt,
-            cluster,
-            passes,
-            tables,
-            Opening::new(),
-            entrance,
-        ),
-        Err(_) => NO_MEMORY,
-    }
+    let passes = tables.len() + 1;
+    let Ok((cluster, mut passes)) = Cluster::<B>::open(alloc, stamps, card, first, vnodes, passes)
+    else {
+        return NO_MEMORY;
+    };
+    let Ok(watch) = Watch::new(alloc, &mut passes, first, vnodes) else {
+        return NO_MEMORY;
+    };
+    over_cluster::<B, Brand, R>(
+        alloc,
+        rt,
+        cluster,
+        passes,
+        tables,
+        Opening::new(),
+        entrance,
+        Lookout { watch, err },
+    )
 }
 
 /// The same, over a cluster and the empty list of changes of hooks.
-fn over_cluster<B: Room + Send + Sync, J: Naming + Send + Sync, R: Threads + Wait + Sync>(
+fn over_cluster<B: Room + Spot + Send + Sync, J: Naming + Send + Sync, R: Threads + Wait + Sync>(
     alloc: Global,
     rt: &R,
     cluster: Cluster<B>,
@@ -98,20 +106,24 @@ fn over_cluster<B: Room + Send + Sync, J: Naming + Send + Sync, R: Threads + Wai
     tables: Vec<Table>,
     opening: Opening,
     entrance: &Entrance,
-) -> Audited
+    lookout: Lookout<B>,
+) -> Followed
     requires list { list_of opening ≡ J.book }
     requires some { 0 < vec_len tables }
     requires few { vec_len tables ≤ 16 }
     requires each { vec_len passes ≡ vec_len tables }
-    requires all { cluster.passes ≡ vec_len passes }
+    requires all { cluster.passes ≡ vec_len passes + 1 }
+    requires spot { cluster.first ≡ B.first }
 {
     let ground = opening.named::<J>(alloc);
-    over_ground(alloc, rt, cluster, passes, tables, ground, entrance)
+    over_ground(
+        alloc, rt, cluster, passes, tables, ground, entrance, lookout,
+    )
 }
 
 /// The same, over what an installer of hooks begins with.
 fn over_ground<
-    B: Room + Send + Sync,
+    B: Room + Spot + Send + Sync,
     J: Naming + Send + Sync,
     T: Rack<J> + Drop + Send + Sync,
     R: Threads + Wait + Sync,
@@ -123,16 +135,18 @@ fn over_ground<
     tables: Vec<Table>,
     ground: Ground<J, T>,
     entrance: &Entrance,
-) -> Audited
+    lookout: Lookout<B>,
+) -> Followed
     requires ground { (ground.front ≡ []) × (T.state ground.first ≡ []) × (T.state ground.second ≡ []) }
     requires some { 0 < vec_len tables }
     requires few { vec_len tables ≤ 16 }
     requires each { vec_len passes ≡ vec_len tables }
-    requires all { cluster.passes ≡ vec_len passes }
+    requires all { cluster.passes ≡ vec_len passes + 1 }
+    requires spot { cluster.first ≡ B.first }
 {
     match open(alloc, rt, ground, tables.len()) {
         Ok((installer, readers)) => over_hooks(
-            alloc, rt, &rt, cluster, passes, tables, &installer, readers, entrance,
+            alloc, rt, &rt, cluster, passes, tables, &installer, readers, entrance, lookout,
         ),
         Err(_) => NO_MEMORY,
     }
@@ -142,7 +156,7 @@ fn over_ground<
 fn over_hooks<
     'a,
     'r,
-    B: Room + Send + Sync,
+    B: Room + Spot + Send + Sync,
     J: Naming + Send + Sync,
     T: Rack<J> + Drop + Send + Sync,
     R: Threads + Wait + Sync,
@@ -156,13 +170,15 @@ fn over_hooks<
     installer: &'a Mutex<Installer<J, T, &'r R>>,
     readers: Vec<HookReader<J, T>>,
     entrance: &Entrance,
-) -> Audited
+    lookout: Lookout<B>,
+) -> Followed
     requires each { vec_len passes ≡ vec_len tables }
     requires readers { vec_len readers ≡ vec_len tables }
-    requires all { cluster.passes ≡ vec_len passes }
+    requires all { cluster.passes ≡ vec_len passes + 1 }
+    requires spot { cluster.first ≡ B.first }
 {
     match seats_of(alloc, passes, tables, installer, handle, readers) {
-        Ok(seats) => { crew::serve(alloc, rt, cluster, seats, entrance) }
+        Ok(seats) => { crew::serve(alloc, rt, cluster, seats, entrance, lookout) }
         Err(_) => NO_MEMORY,
     }
 }

@@ -4,7 +4,7 @@ ghost use Rattle.std.specs.Prelude.{◌≤◌, length};
 ghost use Rattle.helpers.specs.Entries.{AgreesWith};
 
 use admission::admit_program;
-use closing::Audited;
+use closing::Followed;
 use commands::files::Files;
 use commands::own::command_with_helpers;
 use commands::server::{Server, Unserved};
@@ -75,7 +75,7 @@ impl Server for Both<'_> {
         _addr: &str,
         _count: Option<u32>,
         _out: &mut O,
-    ) -> Result<Audited, Unserved> {
+    ) -> Result<Followed, Unserved> {
         match is_alike(alloc, &table, self.program, self.input) {
             Ok(is_alike) => {
                 self.is_alike = is_alike;

@@ -1,6 +1,6 @@
 //! The bytes of one connection, in the place of a network.
 
-use closing::{Audited, CloseFault};
+use closing::{Followed, WatchFault};
 use commands::server::{Server, Unserved};
 use helpers::Table;
 use httpfront::answers_to;
@@ -33,7 +33,7 @@ impl Server for Dialogue<'_> {
         addr: &str,
         _count: Option<u32>,
         out: &mut O,
-    ) -> Result<Audited, Unserved> {
+    ) -> Result<Followed, Unserved> {
         let Ok(vnodes) = Local::open(alloc, VNODES, INCARNATION) else {
             return Err(Unserved::NoMemory);
         };
@@ -42,8 +42,8 @@ impl Server for Dialogue<'_> {
         match answers_to(alloc, self.requests, &mut store) {
             Ok(answers) => {
                 self.answers = answers;
-                // The journals are gone with the store: no audit is made.
-                Ok(Err(CloseFault::HandedOut))
+                // The journals are gone with the store: nothing is said of them.
+                Ok(Err(WatchFault::Lost))
             }
             Err(_) => Err(Unserved::Unreadable),
         }

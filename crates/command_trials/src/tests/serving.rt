@@ -1,9 +1,9 @@
-//! What serving comes to: a store that there is no memory for, and what the audit at the end says.
+//! What serving comes to: a store that there is no memory for, and what is said of the journals at the end.
 use super::Shelf;
-use audit::{AuditCode, AuditFault};
-use closing::{Audited, CloseFault};
+use closing::{Followed, WatchFault};
 use commands::own::command_with_helpers;
 use commands::server::{Server, Unserved};
+use follow::{FollowCode, FollowFault};
 use helpers::Table;
 use std::alloc::Global;
 use std::io::Write;
@@ -22,7 +22,7 @@ impl Server for Cramped {
         _addr: &str,
         _count: Option<u32>,
         _out: &mut O,
-    ) -> Result<Audited, Unserved> {
+    ) -> Result<Followed, Unserved> {
         Err(Unserved::NoMemory)
     }
 }
@@ -43,7 +43,7 @@ fn no_memory_for_the_store(rt: HostRuntime) {
 /// asked to serve.
 #[derive(Drop)]
 struct Deserted {
-    says: Audited,
+    says: Followed,
     asked: Option<(usize, Option<u32>)>,
 }
 
@@ -56,7 +56,7 @@ impl Server for Deserted {
         addr: &str,
         count: Option<u32>,
         out: &mut O,
-    ) -> Result<Audited, Unserved> {
+    ) -> Result<Followed, Unserved> {
         writeln!(out, "listening {addr}")?;
         self.asked = Some((1 + more.len(), count));
         Ok(self.says)
@@ -95,31 +95,44 @@ fn so_many_workers(rt: HostRuntime) {
     }
 }
 
-/// Faults that an audit finds, with what is printed.
-const FOUND: [(AuditCode, u32, u32, &str); 4] = [
-    (AuditCode::Twice, 1, 0, "listening here\naudit A1 1 0\n"),
+/// Faults that a follower finds, with what is printed.
+const FOUND: [(FollowCode, u32, usize, &str); 7] = [
+    (FollowCode::Twice, 1, 0, "listening here\naudit A1 1 0\n"),
     (
-        AuditCode::Falls,
+        FollowCode::Falls,
         0,
         4_294_967_295,
         "listening here\naudit A2 0 4294967295\n",
     ),
     (
-        AuditCode::NoSource,
+        FollowCode::NoSource,
         458_752,
         10,
         "listening here\naudit A3 458752 10\n",
     ),
     (
-        AuditCode::OtherState,
+        FollowCode::OtherState,
         4_294_967_295,
         7,
         "listening here\naudit A4 4294967295 7\n",
     ),
+    (
+        FollowCode::GivenUp,
+        458_752,
+        16_384,
+        "listening here\naudit A5 458752 16384\n",
+    ),
+    (FollowCode::Late, 3, 4, "listening here\naudit A6 3 4\n"),
+    (
+        FollowCode::Illegal,
+        1,
+        4_294_967_296,
+        "listening here\naudit A7 1 4294967296\n",
+    ),
 ];
 
-/// What is printed, and the status, where the audit says so.
-fn expect_said(rt: &impl Abort, alloc: Global, says: Audited, told: &str, status: u8) {
+/// What is printed, and the status, where that is said of the journals.
+fn expect_said(rt: &impl Abort, alloc: Global, says: Followed, told: &str, status: u8) {
     let words = ["serve", "here", "4", "3"];
     let mut shelf = Shelf { files: &[] };
     let mut server = Deserted { says, asked: None };
@@ -130,26 +143,35 @@ fn expect_said(rt: &impl Abort, alloc: Global, says: Audited, told: &str, status
     assert!(rt; err.is_empty());
 }
 
-/// What the audit says is told after the address, and is the status.
-#[test]
-fn the_audit_is_told(rt: HostRuntime) {
-    let alloc = rt.alloc();
-    expect_said(&rt, alloc, Ok(()), "listening here\naudit ok\n", 0);
-    let no_memory = Err(CloseFault::Audit(AuditFault::NoMemory));
-    expect_said(&rt, alloc, no_memory, "listening here\naudit E1\n", 1);
-    expect_said(
-        &rt,
-        alloc,
-        Err(CloseFault::HandedOut),
+/// What is said but for what was found, with what is printed and the status.
+const SAID: [(Followed, &str, u8); 4] = [
+    (Ok(()), "listening here\naudit ok\n", 0),
+    (Err(WatchFault::NoMemory), "listening here\naudit E1\n", 1),
+    (
+        Err(WatchFault::Found(FollowFault::NoMemory)),
+        "listening here\naudit E1\n",
+        1,
+    ),
+    (
+        Err(WatchFault::Lost),
         "listening here\naudit handed out\n",
         1,
-    );
+    ),
+];
+
+/// What is said of the journals is told after the address, and is the status.
+#[test]
+fn the_end_is_told(rt: HostRuntime) {
+    let alloc = rt.alloc();
+    for (says, told, status) in &SAID {
+        expect_said(&rt, alloc, *says, told, *status);
+    }
     for (code, vnode, place, told) in &FOUND {
-        let found = AuditFault::Found {
+        let found = FollowFault::Found {
             code: *code,
             vnode: *vnode,
             place: *place,
         };
-        expect_said(&rt, alloc, Err(CloseFault::Audit(found)), told, 1);
+        expect_said(&rt, alloc, Err(WatchFault::Found(found)), told, 1);
     }
 }

@@ -1,20 +1,21 @@
 use denote.RattleType.{RattleType}
-use denote.Param.Send.{IsSync, sendable, shr_sync}
+use denote.Param.Send.{IsSend, sendable, shr_send, param_send}
 use denote.Param.{param}
 use denote.Struct.Tuple.{TupleAt}
 use mir.Syntax.{Sym, erased}
 use mathlib.Core.List.{[], ◌∷◌}
 use Rattle.std.proofs.alloc.Global.TheSendSync as heap
-use Rattle.listener.proofs.shared.Entrance.TheSendSync as entrance
-use Rattle.dvvstore.proofs.crew.Lack.TheSendSync as lack
 use Rattle.pool.proofs.Sent.{cluster_sync}
+use Rattle.dvvstore.proofs.Sent.{shared_sync}
 use Rattle.dvvstore.proofs.crew.serve.Goals as goal
 
--- five captures
-captures_sync : (ν : Sym) (A B C D E : RattleType) → IsSync A → IsSync B → IsSync C → IsSync D → IsSync E → IsSync (TupleAt ν (A ∷ B ∷ C ∷ D ∷ E ∷ []))
-captures_sync ν A B C D E a b c d e = search (sendable) depth 30
+-- four captures
+captures_send : (ν : Sym) (A B C D : RattleType) → IsSend A → IsSend B → IsSend C → IsSend D → IsSend (TupleAt ν (A ∷ B ∷ C ∷ D ∷ []))
+captures_send ν A B C D a b c d = search (sendable) depth 30
 
-pub map_vec-back-requires-sync-F : goal.map_vec-back-requires-sync-F
-map_vec-back-requires-sync-F g c κs within =
+pub join-back-requires-send-F : goal.join-back-requires-send-F
+join-back-requires-send-F g c κs within =
     let cluster = cluster_sync (param 0 g.row.B) g.B.Room c.type_bounds.send-B c.type_bounds.sync-B in
-    record { shared = (captures_sync [] _ _ _ _ _ (shr_sync erased [] _ heap.the_sync) (shr_sync erased _ _ c.type_bounds.sync-R) (shr_sync erased _ _ cluster) (shr_sync erased _ _ entrance.the_sync) (shr_sync erased _ _ lack.the_sync)).shared }
+    let shared = shared_sync (param 0 g.row.B) g.B.Room g.B.Spot c.type_bounds.send-B in
+    let captured = captures_send [] _ _ _ _ (shr_send erased [] _ heap.the_sync) (shr_send erased _ _ c.type_bounds.sync-R) (shr_send erased _ _ cluster) (shr_send erased _ _ shared) in
+    record { owned = captured.owned; leaving = (param_send 1 _ captured).leaving }

@@ -1,5 +1,9 @@
 use Rattle.dvvstore.proofs.session.serve.Given as goal
 
 -- the word's own table
-abbrev pub ghosts-over_stamps : goal.ghosts-over_stamps
-ghosts-over_stamps g a = record { table = a.stamps.table.shared.table_id }
+abbrev pub ghosts-over_stamps-B-Room : goal.ghosts-over_stamps-B-Room
+ghosts-over_stamps-B-Room g a = record { table = a.stamps.table.shared.table_id }
+
+-- the first identifier
+abbrev pub ghosts-over_stamps-B-Spot : goal.ghosts-over_stamps-B-Spot
+ghosts-over_stamps-B-Spot g a = record { first = a.first }

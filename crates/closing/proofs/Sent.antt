@@ -1,0 +1,32 @@
+-- A watch may be handed to another thread. The front of a journal holds itself, so rattle gives no such fact of the types above it.
+use denote.RattleType.{RattleType}
+use denote.Param.Send.{IsSend, sendable}
+use Rattle.std.proofs.Crossing.{crosses}
+use Rattle.std.proofs.MapsCrossing.{BTreeMap-send}
+use Rattle.journal.proofs.blocks.Blocks.TheSendSync as blocks
+use Rattle.journal.proofs.entry.Entry.TheSendSync as entry
+use Rattle.journal.specs.contracts.journal.Journal as Journal
+use Rattle.object.proofs.content.Key.TheSendSync as key
+use Rattle.object.proofs.state.KeyState.TheSendSync as state
+use Rattle.atomic_table.proofs.shared.Seat.TheSendSync as seat
+use Rattle.vnode.specs.contracts.vnode.Vnode as Vnode
+use Rattle.audit.specs.contracts.rerun.Rerun as Rerun
+use Rattle.follow.specs.contracts.follower.Follower as Follower
+use Rattle.closing.specs.contracts.watch.Watch as Watch
+use Rattle.pool.specs.declared.pass.Room as room
+use Rattle.closing.specs.declared.watch.Spot as spot
+
+journal_send : IsSend Journal.the_row
+journal_send = search (sendable, crosses, blocks.the_send) depth 40
+
+vnode_send : IsSend Vnode.the_row
+vnode_send = search (key.the_send, state.the_send, journal_send, BTreeMap-send, sendable) depth 40
+
+rerun_send : IsSend Rerun.the_row
+rerun_send = search (vnode_send, key.the_send, state.the_send, sendable, crosses) depth 60
+
+pub follower_send : IsSend Follower.the_row
+follower_send = search (rerun_send, entry.the_send, sendable, crosses) depth 60
+
+pub watch_send : (B : RattleType) (g : room.Ghosts B.Denot) (h : spot.Ghosts B.Denot) → IsSend B → IsSend (Watch.the_row B g h)
+watch_send B g h s = search (follower_send, seat.the_send, sendable, crosses) depth 60

@@ -1,0 +1,196 @@
+-- What a watch has taken is what its pass was told.
+use Rattle.std.proofs.Common.{◌≡◌, ◌≢◌, ℕ, zero, suc, ◌+◌, ◌<◌, ◌==◌, Bool, false, cond, List, [], ◌∷◌, ◌++◌, length, get_or, replicate, refl, sym, ap, subst, ◌∙◌, inl, inr, arith, append_assoc, length-append, length-set, eq-eqb, Option, Some, None}
+use Rattle.std.specs.Prelude.{All, Contains, Result, Ok, Err, OnOk, IfErr, slice_set}
+use Rattle.std.specs.Global.{Vec}
+use Rattle.std.proofs.lemmas.Bool.{cases_eq}
+use Rattle.std.proofs.lemmas.Bool.Decides.{nat_tests}
+use Rattle.std.proofs.lemmas.Grind.{flat_map-append}
+use Rattle.std.proofs.lemmas.List.{append-nil, get_or-set_same, get_or-set_other}
+use Rattle.std.proofs.lemmas.List.Elements.{filter-append, All-contains, Contains-append_right}
+use Rattle.journal.specs.Blocks.{all_of}
+use Rattle.journal.specs.Entry.{Entry}
+use Rattle.journal.specs.Logs.{Log}
+use Rattle.stamps.specs.Rule.{hand_out_of}
+use Rattle.stamps.specs.declared.view.Told.{Told}
+use Rattle.stamps.specs.declared.view.View.{View}
+use Rattle.pool.specs.Calls.{IsHandedOut, pass_view}
+use Rattle.pool.specs.Gathers.{handed, BeginsAt, AreInTurn, all_handed}
+use Rattle.world.specs.Represents.{AreDistinct, log_at, empty_logs}
+use Rattle.audit.specs.declared.fault.FollowFault.{FollowFault}
+use Rattle.follow.specs.Waiting.{Taken, AreTakenAlike, taken_at, waiting_at}
+use Rattle.closing.specs.Following.{told_of, all_taken, IsHandedTo, HasTaken, IsTakenMore, IsToldMore}
+
+-- ---- one hand-out more
+
+turn-push : (vnode place : ℕ) (ts : List Told) (t : Told) → AreInTurn vnode place ts → t.vnode ≡ vnode → BeginsAt (place + length (all_handed ts)) t.news → AreInTurn vnode place (ts ++ t ∷ [])
+turn-push vnode place [] t turn of begins = (of, subst (λ (n : ℕ). BeginsAt n t.news) (omega arith) begins, tt)
+turn-push vnode place (u ∷ us) t turn of begins = (
+  turn.0,
+  turn.1,
+  turn-push vnode (place + length (handed u.news)) us t turn.2 of (subst (λ (n : ℕ). BeginsAt n t.news) (omega (arith, length-append (handed u.news) (all_handed us))) begins),
+)
+
+-- what was told of one vnode, one more
+told_own : (vnode : ℕ) (ts : List Told) (t : Told) → t.vnode ≡ vnode → told_of vnode (ts ++ t ∷ []) ≡ told_of vnode ts ++ t ∷ []
+told_own vnode ts t of = filter-append (λ (u : Told). u.vnode == vnode) ts (t ∷ []) ∙ ap (λ (b : Bool). told_of vnode ts ++ cond b (t ∷ []) []) (eq-eqb t.vnode vnode of)
+
+told_other : (vnode : ℕ) (ts : List Told) (t : Told) → t.vnode ≢ vnode → told_of vnode (ts ++ t ∷ []) ≡ told_of vnode ts
+told_other vnode ts t other =
+    let no : (t.vnode == vnode) ≡ false = grind (arith, nat_tests) in
+    filter-append (λ (u : Told). u.vnode == vnode) ts (t ∷ []) ∙ ap (λ (b : Bool). told_of vnode ts ++ cond b (t ∷ []) []) no ∙ append-nil (told_of vnode ts)
+
+own_more : (vnode : ℕ) (told new : List Told) (entries : List Entry) (at stamp first : ℕ) (more : List Entry) → IsHandedTo told vnode entries → first ≡ length entries → new ≡ told ++ hand_out_of vnode at stamp first more ∷ [] → IsHandedTo new vnode (entries ++ more)
+own_more vnode told new entries at stamp first more was place told_more =
+    let t : Told = hand_out_of vnode at stamp first more in
+    let here : told_of vnode new ≡ told_of vnode told ++ t ∷ [] = ap (told_of vnode) told_more ∙ told_own vnode told t refl in
+    let begins : BeginsAt (0 + length (all_handed (told_of vnode told))) t.news = (let e : first ≡ length (all_handed (told_of vnode told)) = place ∙ ap length (sym was.1) in omega (arith, e)) in (
+      subst (λ (ts : List Told). AreInTurn vnode 0 ts) (sym here) (turn-push vnode 0 (told_of vnode told) t was.0 refl begins),
+      ap all_handed here ∙ flat_map-append (λ (u : Told). handed u.news) (told_of vnode told) (t ∷ []) ∙ ap (λ (es : List Entry). es ++ (more ++ [])) was.1 ∙ ap (λ (es : List Entry). entries ++ es) (append-nil more),
+    )
+
+-- what was handed out was told and taken
+pub taken_more : (first : ℕ) (told new : List Told) (old taken : Taken) (index at stamp place : ℕ) (more : List Entry) → HasTaken first told old → IsTakenMore old taken index place more → new ≡ told ++ hand_out_of (first + index) at stamp place more ∷ [] → HasTaken first new taken
+taken_more first told new old taken index at stamp place more was m told_more i inside = elim (cases_eq i index) [
+  | inl same ↦ (
+    id,
+    (let now : all_taken taken i ≡ all_taken old i ++ more =
+        ap (λ (ls : List Log). (log_at ls i).entries ++ waiting_at taken.waiting i) m.followed ∙ ap (λ (es : List Entry). (log_at old.followed i).entries ++ es) (ap (waiting_at taken.waiting) same ∙ m.here ∙ ap (λ (j : ℕ). waiting_at old.waiting j ++ more) (sym same))
+        ∙ sym (append_assoc (log_at old.followed i).entries (waiting_at old.waiting i) more) in
+        let long : place ≡ length (all_taken old i) = m.place ∙ ap (taken_at old) (sym same) ∙ sym (length-append (log_at old.followed i).entries (waiting_at old.waiting i)) in
+        let told_here : new ≡ told ++ hand_out_of (first + i) at stamp place more ∷ [] = told_more ∙ ap (λ (j : ℕ). told ++ hand_out_of (first + j) at stamp place more ∷ []) (sym same) in
+        subst (λ (es : List Entry). IsHandedTo new (first + i) es) (sym now) (own_more (first + i) told new (all_taken old i) at stamp place more (was i within).1 long told_here)),
+  )
+  | inr other ↦ (
+    id,
+    (let now : all_taken taken i ≡ all_taken old i = ap (λ (ls : List Log). (log_at ls i).entries ++ waiting_at taken.waiting i) m.followed ∙ ap (λ (es : List Entry). (log_at old.followed i).entries ++ es) (m.others i other) in
+        let apart : first + index ≢ first + i = λ e. other (omega (arith, e)) in
+        let same_told : told_of (first + i) new ≡ told_of (first + i) told = ap (told_of (first + i)) told_more ∙ told_other (first + i) told (hand_out_of (first + index) at stamp place more) apart in
+        let h = (was i within).1 in
+        (subst (λ (ts : List Told). AreInTurn (first + i) 0 ts) (sym same_told) h.0, ap all_handed same_told ∙ h.1 ∙ sym now)),
+  )
+]
+  where
+    within : i < length old.followed
+    within = subst (λ (ls : List Log). i < length ls) m.followed inside
+
+    id : (log_at taken.followed i).vnode ≡ first + i
+    id = ap (λ (ls : List Log). (log_at ls i).vnode) m.followed ∙ (was i within).0
+
+-- the same, as the pass was told
+pub handed_more : (first : ℕ) (old_pass new_pass : View) (old taken : Taken) (index id place : ℕ) (blocks : List (Vec Entry)) → HasTaken first old_pass.told old → IsTakenMore old taken index place (all_of blocks) → id ≡ first + index → IsHandedOut old_pass new_pass id place blocks
+    → HasTaken first new_pass.told taken
+handed_more first old_pass new_pass old taken index id place blocks was m is (at, stamp, news, full, few) =
+    taken_more first old_pass.told new_pass.told old taken index at stamp place (all_of blocks) was m (subst (λ (v : ℕ). new_pass.told ≡ old_pass.told ++ hand_out_of v at stamp place (all_of blocks) ∷ []) is news.0)
+
+-- ---- entries that were taken
+
+-- none were taken yet
+pub none_more : (old new : Taken) (index first : ℕ) → index < length old.followed → index < length old.waiting → first ≡ taken_at old index → new ≡ (record old { waiting = slice_set old.waiting index (waiting_at old.waiting index ++ []) }) → IsTakenMore old new index first []
+none_more old new index first inside waits place is = record {
+  inside = (inside, waits);
+  place = place;
+  followed = ap (λ (t : Taken). t.followed) is;
+  size = ap (λ (t : Taken). length t.waiting) is ∙ length-set old.waiting index (waiting_at old.waiting index ++ []);
+  here = ap (λ (t : Taken). waiting_at t.waiting index) is ∙ get_or-set_same old.waiting index (waiting_at old.waiting index ++ []) [] waits;
+  others = λ other apart. ap (λ (t : Taken). waiting_at t.waiting other) is ∙ get_or-set_other old.waiting index other (waiting_at old.waiting index ++ []) [] apart;
+}
+
+-- and so many more
+pub more_taken : (old mid new : Taken) (index first : ℕ) (so_far more all : List Entry) → IsTakenMore old mid index first so_far → new ≡ (record mid { waiting = slice_set mid.waiting index (waiting_at mid.waiting index ++ more) }) → all ≡ so_far ++ more → IsTakenMore old new index first all
+more_taken old mid new index first so_far more all m is both = record {
+  inside = m.inside;
+  place = m.place;
+  followed = ap (λ (t : Taken). t.followed) is ∙ m.followed;
+  size = ap (λ (t : Taken). length t.waiting) is ∙ length-set mid.waiting index (waiting_at mid.waiting index ++ more) ∙ m.size;
+  here = ap (λ (t : Taken). waiting_at t.waiting index) is ∙ get_or-set_same mid.waiting index (waiting_at mid.waiting index ++ more) [] (let n = m.size in let i = m.inside.1 in omega (arith, n, i)) ∙ ap (λ (es : List Entry). es ++ more) m.here ∙ append_assoc (waiting_at old.waiting index) so_far more
+      ∙ ap (λ (es : List Entry). waiting_at old.waiting index ++ es) (sym both);
+  others = λ other apart. ap (λ (t : Taken). waiting_at t.waiting other) is ∙ get_or-set_other mid.waiting index other (waiting_at mid.waiting index ++ more) [] apart ∙ m.others other apart;
+}
+
+-- the entries of one block more
+pub all_of-push : (blocks : List (Vec Entry)) (block : Vec Entry) → all_of (blocks ++ block ∷ []) ≡ all_of blocks ++ block.items
+all_of-push blocks block = flat_map-append (λ (b : Vec Entry). b.items) blocks (block ∷ []) ∙ ap (λ (es : List Entry). all_of blocks ++ es) (append-nil block.items)
+
+-- ---- following leaves what was taken
+
+pub taken_alike : (first : ℕ) (told : List Told) (old new : Taken) → HasTaken first told old → AreTakenAlike old.followed old.waiting new.followed new.waiting → HasTaken first told new
+taken_alike first told old new was alike i inside =
+    let h = was i (omega (arith, alike.size, inside)) in
+    (alike.vnodes i ∙ h.0, subst (λ (es : List Entry). IsHandedTo told (first + i) es) (sym (alike.entries i)) h.1)
+
+-- where no fault was found, what was taken is as before
+pub followed_alike : (first : ℕ) (told : List Told) (old new : Taken) (r : Result (Unit {0}) FollowFault) → (old.fault ≡ None → HasTaken first told old) → OnOk r (AreTakenAlike old.followed old.waiting new.followed new.waiting) → IfErr r (λ fault. new.fault ≡ Some fault)
+    → ((fault : FollowFault) → old.fault ≡ Some fault → (r ≡ Err fault) × (new ≡ old)) → new.fault ≡ None → HasTaken first told new
+followed_alike first told old new (Err why) was alike found again none = absurd (let clash : Some why ≡ None = sym found ∙ none in cc)
+followed_alike first told old new (Ok done) was alike found again none = go old.fault refl
+  where
+    go : (f : Option FollowFault) → old.fault ≡ f → HasTaken first told new
+    go None is = taken_alike first told old new (was is) alike
+    go (Some why) is = absurd (let r : Ok done ≡ Err why = (again why is).0 in cc)
+
+-- ---- nothing was taken yet
+
+fresh_at : (ids : List ℕ) (index : ℕ) → index < length ids → log_at (empty_logs ids) index ≡ (let l : Log = record { vnode = get_or ids index 0; entries = [] } in l)
+fresh_at [] index inside = absurd (omega (arith, inside))
+fresh_at (id ∷ ids) zero inside = refl
+fresh_at (id ∷ ids) (suc index) inside = fresh_at ids index (omega (arith, inside))
+
+as_many : (ids : List ℕ) → length (empty_logs ids) ≡ length ids
+as_many [] = refl
+as_many (id ∷ ids) = ap suc (as_many ids)
+
+none_waits : (n index : ℕ) → waiting_at (replicate n []) index ≡ []
+none_waits zero index = refl
+none_waits (suc n) zero = refl
+none_waits (suc n) (suc index) = none_waits n index
+
+-- these are numbered from the first on
+abbrev pub AreNumbered : ℕ → List ℕ → Type 0
+AreNumbered first ids = (index : ℕ) → index < length ids → get_or ids index 0 ≡ first + index
+
+pub numbered_push : (first : ℕ) (ids new : List ℕ) (id : ℕ) → AreNumbered first ids → id ≡ first + length ids → new ≡ ids ++ id ∷ [] → AreNumbered first new
+numbered_push first ids new id were is pushed = subst (λ (xs : List ℕ). AreNumbered first xs) (sym pushed) (go ids first were is)
+  where
+    go : (xs : List ℕ) (low : ℕ) → AreNumbered low xs → id ≡ low + length xs → AreNumbered low (xs ++ id ∷ [])
+    go [] low all at zero inside = omega (arith, at)
+    go [] low all at (suc index) inside = absurd (omega (arith, inside))
+    go (x ∷ xs) low all at zero inside = all 0 (omega arith)
+    go (x ∷ xs) low all at (suc index) inside =
+        let rest = go xs (suc low) (λ i lt. (let h = all (suc i) (omega (arith, lt)) in omega (arith, h))) (omega (arith, at)) index (omega (arith, inside)) in
+        omega (arith, rest)
+
+pub numbers_differ : (first : ℕ) (ids : List ℕ) → AreNumbered first ids → AreDistinct ids
+numbers_differ first ids are u v lu lv same = let a = are u lu in let b = are v lv in omega (arith, a, b, same)
+
+pub nothing_taken : (first : ℕ) (told : List Told) (ids : List ℕ) (taken : Taken) → AreNumbered first ids → told ≡ [] → taken.followed ≡ empty_logs ids → taken.waiting ≡ replicate (length ids) [] → HasTaken first told taken
+nothing_taken first told ids taken are untold followed waiting index inside =
+    let within : index < length ids = (let n : length taken.followed ≡ length ids = ap length followed ∙ as_many ids in omega (arith, inside, n)) in
+    let log : log_at taken.followed index ≡ (let l : Log = record { vnode = get_or ids index 0; entries = [] } in l) = ap (λ (ls : List Log). log_at ls index) followed ∙ fresh_at ids index within in
+    let none : all_taken taken index ≡ [] = ap (λ (l : Log). l.entries ++ waiting_at taken.waiting index) log ∙ ap (λ (qs : List (List Entry)). waiting_at qs index) waiting ∙ none_waits (length ids) index in (
+      ap (λ (l : Log). l.vnode) log ∙ are index within,
+      (
+        subst (λ (ts : List Told). AreInTurn (first + index) 0 (told_of (first + index) ts)) (sym untold) tt,
+        ap (λ (ts : List Told). all_handed (told_of (first + index) ts)) untold ∙ sym none,
+      ),
+    )
+
+pub followed_long : (ids : List ℕ) (taken : Taken) → taken.followed ≡ empty_logs ids → length taken.followed ≡ length ids
+followed_long ids taken is = ap length is ∙ as_many ids
+
+-- ---- what the pass is told
+
+pub told_same : (old new : List Told) → new ≡ old → IsToldMore old new
+told_same old new is = ([], is ∙ sym (append-nil old))
+
+pub told_on : (first old new : List Told) → IsToldMore first old → IsToldMore old new → IsToldMore first new
+told_on first old new a b = (a.0 ++ b.0, b.1 ∙ ap (λ (ts : List Told). ts ++ b.0) a.1 ∙ append_assoc first a.0 b.0)
+
+-- what was handed out was told
+pub told_handed : (old new : View) (was : List Told) (id first : ℕ) (blocks : List (Vec Entry)) → IsHandedOut old new id first blocks → old.told ≡ was → IsToldMore was new.told
+told_handed old new was id first blocks (at, stamp, news, full, few) is = (hand_out_of id at stamp first (all_of blocks) ∷ [], news.0 ∙ ap (λ (ts : List Told). ts ++ hand_out_of id at stamp first (all_of blocks) ∷ []) is)
+
+-- the last of some passes that were told nothing
+pub last_untold : (passes rest : List View) (pass : View) → All (λ (p : View). p ≡ pass_view 0 []) passes → passes ≡ rest ++ pass ∷ [] → pass.told ≡ []
+last_untold passes rest pass fresh is =
+    let there : Contains passes pass = subst (λ (ps : List View). Contains ps pass) (sym is) (Contains-append_right rest (pass ∷ []) pass (0, omega arith, refl)) in
+    ap (λ (v : View). v.told) (All-contains (λ (p : View). p ≡ pass_view 0 []) passes pass fresh there)

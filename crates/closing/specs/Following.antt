@@ -1,0 +1,95 @@
+-- What is said of the journals of a gathered cluster that was followed while it served (this store's profile).
+use Rattle.std.specs.Prelude.{◌≡◌, ◌<◌, ◌≤◌, ◌+◌, ◌==◌, ℕ, List, ◌++◌, drop, filter, length, Result, Ok, Err}
+use Rattle.journal.specs.Entry.{Entry}
+use Rattle.journal.specs.Logs.{Log}
+use Rattle.stamps.specs.declared.view.Told.{Told}
+use Rattle.pool.specs.Gathers.{IsGathered, AreInTurn, all_handed}
+use Rattle.audit.specs.Faulty.{IsFaultless}
+use Rattle.audit.specs.Interleaved.{IsInterleaving}
+use Rattle.audit.specs.Rerun.{AreJournals}
+use Rattle.world.specs.Represents.{log_at}
+use Rattle.follow.specs.Stops.{HasStopped}
+use Rattle.follow.specs.Waiting.{Taken, taken_at, waiting_at}
+use Rattle.closing.specs.declared.watch.WatchFault.{WatchFault}
+use Rattle.closing.specs.declared.watch.WatchFault.TheVariants.{Found, Lost, NoMemory}
+
+-- of so many of the last entries of each vnode answers are kept
+abbrev pub answers_kept : ℕ
+answers_kept = 16384
+
+-- Where it is said that the journals are one run, it is said of so many journals that hold what was told, each of it once: they are one run of the world, and
+-- no fault stands anywhere. A fault that was found is so of what was taken. Entries that weren't taken and want of memory say nothing of them.
+abbrev pub IsFollowedTo : List Told → ℕ → Result (Unit {0}) WatchFault → Type 0
+IsFollowedTo told vnodes (Ok all) = (logs : List Log) × IsGathered told logs × (length logs ≡ vnodes) × IsInterleaving logs × IsFaultless logs
+IsFollowedTo told vnodes (Err (Found fault)) = HasStopped answers_kept fault
+IsFollowedTo told vnodes (Err Lost) = Unit {0}
+IsFollowedTo told vnodes (Err NoMemory) = Unit {0}
+
+-- ---- what a watch has taken
+
+-- what was told of one vnode
+abbrev pub told_of : ℕ → List Told → List Told
+told_of vnode told = filter (λ t. t.vnode == vnode) told
+
+-- all that was taken of the vnode with this index: what was followed, and what waits
+abbrev pub all_taken : Taken → ℕ → List Entry
+all_taken taken index = (log_at taken.followed index).entries ++ waiting_at taken.waiting index
+
+-- these entries are what a vnode has handed out, from its first entry on and in turn, as it was told
+abbrev pub IsHandedTo : List Told → ℕ → List Entry → Type 0
+IsHandedTo told vnode entries = AreInTurn vnode 0 (told_of vnode told) × (all_handed (told_of vnode told) ≡ entries)
+
+-- Vnodes are followed that are numbered from the first on, and of each of them was taken what it has handed out.
+abbrev pub HasTaken : ℕ → List Told → Taken → Type 0
+HasTaken first told taken = (index : ℕ) → index < length taken.followed → ((log_at taken.followed index).vnode ≡ first + index) × IsHandedTo told (first + index) (all_taken taken index)
+
+-- what a watch was told, and what was taken
+pub record Watched : Type 0 where
+  pub told : List Told
+  pub taken : Taken
+
+-- a pass was told this, and maybe more
+abbrev pub IsToldMore : List Told → List Told → Type 0
+IsToldMore old new = (more : List Told) × (new ≡ old ++ more)
+
+-- more entries of the vnode with this index were taken, from this place of its journal on, where those before them ended
+pub record IsTakenMore (old new : Taken) (index first : ℕ) (more : List Entry) : Type 0 where
+  pub inside : (index < length old.followed) × (index < length old.waiting)
+  pub place : first ≡ taken_at old index
+  pub followed : new.followed ≡ old.followed
+  pub size : length new.waiting ≡ length old.waiting
+  pub here : waiting_at new.waiting index ≡ waiting_at old.waiting index ++ more
+  pub others : (other : ℕ) → (other ≡ index → ⊥) → waiting_at new.waiting other ≡ waiting_at old.waiting other
+
+-- ---- how the end is followed
+
+-- where an identifier that is followed is that of a journal, what was taken of it is a front of the journal
+abbrev pub AreFronts : Taken → List Log → Type 0
+AreFronts taken logs =
+    (index : ℕ) → index < length taken.followed → index < length logs → (log_at taken.followed index).vnode ≡ (log_at logs index).vnode
+    → (rest : List Entry) × ((log_at logs index).entries ≡ all_taken taken index ++ rest)
+
+-- what was left of the first n of these journals was taken by a follower, too
+pub record IsTakenTo (old new : Taken) (logs : List Log) (n : ℕ) : Type 0 where
+  pub followed : new.followed ≡ old.followed
+  pub inside : n ≤ length old.followed
+  pub ids : (index : ℕ) → index < n → (log_at old.followed index).vnode ≡ (log_at logs index).vnode
+  pub waits : (index : ℕ) → index < n → waiting_at new.waiting index ≡ waiting_at old.waiting index ++ drop (taken_at old index) (log_at logs index).entries
+  pub others : (index : ℕ) → n ≤ index → waiting_at new.waiting index ≡ waiting_at old.waiting index
+
+-- as many entries were followed of each vnode as its journal has, which is that of a vnode
+abbrev pub IsLong : Taken → List Log → Type 0
+IsLong taken logs = (length taken.followed ≡ length logs) × ((index : ℕ) → index < length logs → length (log_at taken.followed index).entries ≡ length (log_at logs index).entries) × AreJournals logs
+
+-- a fault that says nothing of the journals
+abbrev pub IsNoYes : WatchFault → Type 0
+IsNoYes (Found fault) = ⊥
+IsNoYes Lost = Unit {0}
+IsNoYes NoMemory = Unit {0}
+
+-- of these journals it is said that they are one run of the world, and each that of a vnode; or a fault that was found
+abbrev pub IsEndOf : List Log → Result (Unit {0}) WatchFault → Type 0
+IsEndOf logs (Ok all) = IsInterleaving logs × AreJournals logs
+IsEndOf logs (Err (Found fault)) = HasStopped answers_kept fault
+IsEndOf logs (Err Lost) = Unit {0}
+IsEndOf logs (Err NoMemory) = Unit {0}

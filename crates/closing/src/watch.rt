@@ -1,0 +1,308 @@
+//! A follower beside a cluster that serves.
+
+ghost use Rattle.std.specs.Prelude.{◌≡◌, ◌+◌, ◌<◌, ◌≤◌, ◌^◌, ℕ, [], All, IfOk, OnOk, length, vec_len};
+ghost use Rattle.pool.specs.Calls.{pass_view};
+ghost use Rattle.journal.specs.Blocks.{all_of};
+ghost use Rattle.closing.specs.Following.{IsTakenMore, IsToldMore};
+
+use follow::{FollowFault, Follower, TakeFault};
+use journal::Handout;
+use pool::{Cluster, Pass, Room};
+use std::alloc::{AllocError, Global};
+use std::marker::{Brand, Model};
+use std::sync::Wait;
+use thiserror::Error;
+
+/// Of so many of the last entries of each vnode the answers are kept: a merge may name any of these.
+pub const RECENT: usize = 16_384;
+
+/// Nine tenths of the entries that a vnode can have.
+const NEARLY_FULL: usize = 3_865_470_566;
+
+/// Says from which identifier on the vnodes of a cluster are numbered. Each call of a program that opens a cluster picks it.
+pub trait Spot {
+    ghost first: { ℕ };
+}
+
+impl Spot for Brand {
+    ghost first = { 0 };
+}
+
+/// Why journals that were followed aren't found to be one run. What a follower found is shown as it shows it.
+#[derive(Clone, Copy, Debug, PartialEq, Eq, Drop, Error)]
+pub enum WatchFault {
+    /// The follower found it.
+    #[error("{0}")]
+    Found(FollowFault),
+    /// Entries of a journal were handed out, and not all of them were taken.
+    #[error("handed out")]
+    Lost,
+    /// A growth was refused.
+    #[error("E1")]
+    NoMemory,
+}
+
+impl From<AllocError> for WatchFault {
+    ghost use Rattle.std.specs.Prelude.{◌≡◌};
+    ghost use Rattle.closing.specs.declared.watch.WatchFault.TheVariants.{NoMemory};
+
+    ghost from_gives = { λ _ fault. fault ≡ NoMemory };
+
+    fn from(_error: AllocError) -> Self {
+        WatchFault::NoMemory
+    }
+}
+
+impl From<FollowFault> for WatchFault {
+    ghost use Rattle.std.specs.Prelude.{◌≡◌};
+    ghost use Rattle.closing.specs.declared.watch.WatchFault.TheVariants.{Found};
+
+    ghost from_gives = { λ given fault. fault ≡ Found given };
+
+    fn from(fault: FollowFault) -> Self {
+        WatchFault::Found(fault)
+    }
+}
+
+impl From<TakeFault> for WatchFault {
+    ghost use Rattle.closing.specs.Following.{IsNoYes};
+
+    ghost from_gives = { λ given fault. IsNoYes fault };
+
+    fn from(fault: TakeFault) -> Self {
+        match fault {
+            TakeFault::Unknown | TakeFault::Gap => WatchFault::Lost,
+            TakeFault::NoMemory => WatchFault::NoMemory,
+        }
+    }
+}
+
+/// What is told at once while a cluster serves.
+#[derive(Clone, Copy, Debug, PartialEq, Eq, Drop, Error)]
+pub enum Notice {
+    /// The journals aren't found to be one run. Nothing is followed any more.
+    #[error("followed {0}")]
+    Stopped(WatchFault),
+    /// A vnode has so many entries: nine tenths of those that it can have, or more.
+    #[error("vnode {vnode} has {entries} of 4294967296 entries")]
+    NearlyFull { vnode: u32, entries: usize },
+}
+
+/// Is told what can't wait.
+pub trait Alarm {
+    /// Tells it.
+    fn raise(&self, notice: Notice);
+}
+
+/// What was handed out by one vnode.
+#[derive(Clone, Copy, Drop)]
+struct Seen {
+    id: u32,
+    /// The number after the last stamp that was handed out: what is still to come has no lower one.
+    below: u64,
+    /// Whether it was told that it is nearly full.
+    warned: bool,
+}
+
+impl Seen {
+    // So many entries were taken in all, the last of them with the stamp before this number.
+    fn note<A: Alarm>(&mut self, entries: usize, below: u64, alarm: &A) {
+        self.below = below;
+        if entries >= NEARLY_FULL && !self.warned {
+            self.warned = true;
+            alarm.raise(Notice::NearlyFull {
+                vnode: self.id,
+                entries,
+            });
+        }
+    }
+}
+
+/// A follower beside a cluster that serves: it has the vnodes hand out their full blocks, which its pass is told, and follows them.
+///
+/// An entry is followed once all that comes before it was handed out, so a vnode at which nothing happens holds the others up.
+#[derive(Drop)]
+pub struct Watch<B: Room + Spot> {
+    pub(crate) pass: Pass<B>,
+    pub(crate) follower: Follower,
+    seen: Vec<Seen>,
+    /// Why a block wasn't taken.
+    pub(crate) lost: Option<TakeFault>,
+    /// Whether it was told that nothing is followed any more.
+    told: bool,
+}
+
+impl<B: Room + Spot> Model for Watch<B> {
+    ghost use Rattle.std.specs.Prelude.{◌≡◌, None};
+    ghost use Rattle.closing.specs.Following.{Watched, HasTaken, answers_kept};
+
+    ghost Value = { Watched };
+
+    ghost view = { λ w. record { told = w.pass.told; taken = w.follower } };
+
+    ghost invariant = { λ w. (w.follower.recent ≡ answers_kept) × (w.lost ≡ None → w.follower.fault ≡ None → HasTaken B.first w.pass.told w.follower) };
+}
+
+// The number after the stamp of the last entry that was handed out.
+fn end_of(handout: &Handout) -> u64 {
+    match handout.blocks.last() {
+        Some(block) => match block.last() {
+            Some(entry) => entry.stamp().saturating_add(1),
+            None => 0,
+        },
+        None => 0,
+    }
+}
+
+// Takes what the vnode with an index handed out. Answers how many entries it has handed out in all.
+fn take_blocks(
+    alloc: Global,
+    follower: &mut Follower,
+    index: usize,
+    handout: Handout,
+) -> Result<usize, TakeFault>
+    ensures taken { OnOk result (IsTakenMore follower.old follower.new index handout.first (all_of handout.blocks.items)) }
+    ensures fault { follower.new.fault ≡ follower.old.fault }
+    ensures recent { follower.new.recent ≡ follower.old.recent }
+{
+    if index >= follower.count() {
+        return Err(TakeFault::Unknown);
+    }
+    let Handout { first, blocks } = handout;
+    // The place is tested, even if there were no block.
+    follower.take_at(index, first, Vec::new(alloc))?;
+    let mut next = first;
+    for block in blocks {
+        let count = block.len();
+        follower.take_at(index, next, block)?;
+        next = next.saturating_add(count);
+    }
+    Ok(next)
+}
+
+impl<B: Room + Spot> Watch<B> {
+    /// A follower of so many vnodes, numbered from the first identifier on, of which nothing was handed out. The last of the passes, which were
+    /// told nothing, is told what they hand out.
+    pub fn new(
+        alloc: Global,
+        passes: &mut Vec<Pass<B>>,
+        first: u32,
+        vnodes: usize,
+    ) -> Result<Watch<B>, AllocError>
+        requires first { first ≡ B.first }
+        requires few { first + vnodes ≤ 2 ^ 32 }
+        requires some { 0 < vec_len passes.old }
+        requires fresh { All (λ p. p ≡ pass_view 0 []) passes.old.items }
+        ensures passes { vec_len passes.new + 1 ≡ vec_len passes.old }
+        ensures told { IfOk result (λ watch. watch.told ≡ []) }
+        ensures vnodes { IfOk result (λ watch. length watch.taken.followed ≡ vnodes) }
+    {
+        let Some(pass) = passes.pop() else {
+            unreachable!();
+        };
+        let mut ids = Vec::new(alloc);
+        let mut seen = Vec::new(alloc);
+        for index in 0..vnodes {
+            let id = first + index as u32;
+            ids.push(id)?;
+            seen.push(Seen {
+                id,
+                below: 0,
+                warned: false,
+            })?;
+        }
+        Ok(Watch {
+            pass,
+            follower: Follower::new(alloc, &ids, RECENT)?,
+            seen,
+            lost: None,
+            told: false,
+        })
+    }
+
+    // Why nothing is followed any more.
+    fn stopped(&self) -> Option<WatchFault> {
+        if let Some(fault) = self.follower.fault() {
+            return Some(WatchFault::Found(fault));
+        }
+        match self.lost {
+            Some(why) => Some(WatchFault::from(why)),
+            None => None,
+        }
+    }
+
+    /// Has the vnode with an index hand out its full blocks, under its lock, and takes them. Where nothing is followed any more they are let go.
+    /// That a vnode is nearly full is told, once.
+    pub fn hear<R: Wait, A: Alarm>(
+        &mut self,
+        alloc: Global,
+        rt: &R,
+        cluster: &Cluster<B>,
+        index: usize,
+        alarm: &A,
+    )
+        requires first { cluster.now.first ≡ B.first }
+        requires inside { index < cluster.now.vnodes }
+        ensures told { IsToldMore self.old.told self.new.told }
+    {
+        let Some(handout) = cluster.hand_out(rt, &mut self.pass, index, Vec::new(alloc)) else {
+            return;
+        };
+        if self.lost.is_some() || self.follower.fault().is_some() {
+            return;
+        }
+        let below = end_of(&handout);
+        match take_blocks(alloc, &mut self.follower, index, handout) {
+            Ok(entries) => {
+                if let Some(seen) = self.seen.get_mut(index) {
+                    seen.note(entries, below, alarm);
+                }
+            }
+            Err(why) => self.lost = Some(why),
+        }
+    }
+
+    // The number below which all stamps were handed out.
+    fn below(&self) -> u64 {
+        let mut below = u64::MAX;
+        for seen in &self.seen {
+            below = below.min(seen.below);
+        }
+        below
+    }
+
+    /// Follows what was taken, as far as all that comes before it was handed out, too. That nothing is followed any more is told, once.
+    pub fn follow<A: Alarm>(&mut self, alarm: &A)
+        ensures told { self.new.told ≡ self.old.told }
+    {
+        if self.told {
+            return;
+        }
+        if self.lost.is_none() {
+            let below = self.below();
+            // What it answers is its fault, which it keeps.
+            let _ = self.follower.follow(below);
+        }
+        if let Some(fault) = self.stopped() {
+            self.told = true;
+            alarm.raise(Notice::Stopped(fault));
+        }
+    }
+
+    /// Has each vnode of a cluster hand out its full blocks, and follows them: [`Watch::hear`] of each, and [`Watch::follow`].
+    pub fn turn<R: Wait, A: Alarm>(
+        &mut self,
+        alloc: Global,
+        rt: &R,
+        cluster: &Cluster<B>,
+        alarm: &A,
+    )
+        requires first { cluster.now.first ≡ B.first }
+        ensures told { IsToldMore self.old.told self.new.told }
+    {
+        for index in 0..cluster.count() {
+            self.hear(alloc, rt, cluster, index, alarm);
+        }
+        self.follow(alarm);
+    }
+}
