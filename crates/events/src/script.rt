@@ -601,10 +601,7 @@ fn clock_of(alloc: Global, bytes: &[u8]) -> Result<Clock, TokenFault> {
 
 // A key in the bucket of scripts.
 fn key_of(alloc: Global, key: &[u8]) -> Result<Key, AllocError> {
-    Ok(Key {
-        bucket: Bytes::from_slice(alloc, b"sim")?,
-        key: Bytes::from_slice(alloc, key)?,
-    })
+    Key::new(alloc, b"sim", key)
 }
 
 // A value as text, or a tombstone.

@@ -1,22 +1,25 @@
 -- What the two maps show after a write.
-use Rattle.std.proofs.Common.{◌≡◌, ℕ, Bool, true, false, cond, List, Option, Some, None, Result, Ok, Err, refl, ap, ◌∙◌}
+use Rattle.std.proofs.Common.{◌≡◌, ℕ, Bool, true, false, cond, List, [], ◌∷◌, Option, Some, None, Result, Ok, Err, refl, sym, ap, ◌∙◌}
 use Rattle.std.specs.List.{fold}
 use Rattle.std.specs.Option.{option_map}
-use Rattle.std.specs.Map.{lookup}
+use Rattle.std.specs.Map.{lookup, IsKeyTest, AreApart, KeepsOthers}
+use Rattle.std.specs.BTreeMap.{BTreeMap, Updates, is_at}
+use Rattle.std.specs.declared.vec.Vec.{Vec}
 use Rattle.std.specs.Global.{Global}
 use Rattle.std.specs.declared.cmp.Ordering.{Ordering}
 use Rattle.std.specs.declared.cmp.Ordering.TheVariants.{Less, Equal, Greater}
-use Rattle.std.specs.Ordering.{is_eq, nat_cmp}
+use Rattle.std.specs.Ordering.{is_eq, nat_cmp, eq_by_cmp}
 use Rattle.std.specs.Cmp.Lexicographic.{slice_cmp}
 use Rattle.std.specs.declared.sync.Arc.{Arc}
 use Rattle.std.specs.Arc.{arc_value}
+use Rattle.std.proofs.lemmas.Cmp.{eq_by_cmp_equiv, nat_list_cmp_total}
 use Rattle.std.proofs.lemmas.Map.Lookups.{exact_bytes}
 use Rattle.bpfimage.specs.declared.image.ImageKind.{ImageKind}
 use Rattle.verifier.specs.Program.{Program}
 use Rattle.hooks.specs.declared.bindings.Bindings.{Bindings}
 use Rattle.hooks.specs.Bindings.{bound_by, bound_if}
 use Rattle.hooks.specs.Changes.{Binding, binding_after, is_name}
-use Rattle.hooks.specs.Tables.{bound_in}
+use Rattle.hooks.specs.Tables.{bound_in, by_bucket}
 
 is_equal : (o : Ordering) → is_eq o ≡ true → o ≡ Equal
 is_equal Equal h = refl
@@ -26,6 +29,31 @@ is_equal Greater h = cc
 -- names that are one byte by byte are equal
 pub one_name : (a b : List ℕ) → is_name a b ≡ true → a ≡ b
 one_name a b h = exact_bytes a b (is_equal (slice_cmp nat_cmp a b) h)
+
+-- buckets in the order of bytes
+abbrev pub bucket_cmp : Vec ℕ Global → Vec ℕ Global → Ordering
+bucket_cmp a b = slice_cmp nat_cmp a.items b.items
+
+-- what is bound to a bucket is found by its bytes
+pub found_in : (entries : List (Vec ℕ Global × Bindings)) (bucket : List ℕ) → lookup (λ k. is_name bucket k.items) entries ≡ lookup (is_name bucket) (by_bucket entries)
+found_in [] bucket = refl
+found_in (e ∷ entries) bucket = ap (cond (is_name bucket e.0.items) (Some e.1)) (found_in entries bucket)
+
+module _ (old new : BTreeMap (Vec ℕ Global) Bindings) (k : Vec ℕ Global) (bound : Bindings) (h : Updates bucket_cmp old new k (Some bound)) (bucket : List ℕ) where
+  found_by_vector : (same : Bool) → is_name k.items bucket ≡ same → lookup (λ q. is_name bucket q.items) new.entries ≡ cond same (Some bound) (lookup (λ q. is_name bucket q.items) old.entries)
+  unfolding KeepsOthers
+  found_by_vector true is = ap (λ b. lookup (λ q. is_name b q.items) new.entries) (sym (one_name k.items bucket is)) ∙ h.1.0
+  found_by_vector false is = h.1.1.1 (λ q. is_name bucket q.items) keyed apart
+    where
+      keyed : IsKeyTest (eq_by_cmp bucket_cmp) (λ q. is_name bucket q.items)
+      keyed x y at = ap (λ b. is_name b y.items) (one_name bucket x.items at)
+
+      apart : AreApart (is_at (bucket_cmp k)) (λ q. is_name bucket q.items)
+      apart q at = (eq_by_cmp_equiv nat_list_cmp_total).symm bucket q.items ∙ ap (λ b. is_name b bucket) (sym (one_name k.items q.items at)) ∙ is
+
+  -- and so are the bindings that were written, and those of other buckets
+  pub found_of_written : (same : Bool) → is_name k.items bucket ≡ same → lookup (is_name bucket) (by_bucket new.entries) ≡ cond same (Some bound) (lookup (is_name bucket) (by_bucket old.entries))
+  found_of_written same is = sym (found_in new.entries bucket) ∙ found_by_vector same is ∙ ap (cond same (Some bound)) (found_in old.entries bucket)
 
 -- a program that is written, and those that were there
 pub program_of_written : (written : Bool) (program : Arc Program Global) (before : Option (Arc Program Global)) → option_map arc_value (cond written (Some program) before) ≡ cond written (Some (arc_value program)) (option_map arc_value before)

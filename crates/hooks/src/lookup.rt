@@ -25,7 +25,7 @@ pub trait Hooks {
     ghost names: { Self → List ℕ → Kind → Result (Option (List ℕ)) Fault → Self → Type 0 };
 
     /// The program that is bound to a bucket and a kind.
-    fn hook_of(&mut self, bucket: &Bytes, kind: ImageKind) -> Result<Option<Arc<Verified>>, NotSeen>
+    fn hook_of(&mut self, bucket: &[u8], kind: ImageKind) -> Result<Option<Arc<Verified>>, NotSeen>
         ensures { finds self.old bucket.now kind (programs_of result) self.new };
 
     /// The name that is bound to a bucket and a kind.
@@ -40,7 +40,7 @@ impl Hooks for Registry {
 
     fn hook_of(
         &mut self,
-        bucket: &Bytes,
+        bucket: &[u8],
         kind: ImageKind,
     ) -> Result<Option<Arc<Verified>>, NotSeen> {
         Registry::hook_of(self, bucket, kind)

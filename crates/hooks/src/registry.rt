@@ -5,9 +5,10 @@ ghost use Rattle.std.specs.List.{fold};
 ghost use Rattle.std.specs.Option.{option_copied, option_map};
 ghost use Rattle.std.specs.Arc.{arc_value};
 ghost use Rattle.bpfimage.specs.declared.image.ImageKind.{ImageKind as Kind};
-ghost use Rattle.hooks.specs.Changes.{AreAllowed, AreRefused, Bind, Install, Remove, are_fitting, are_known, binding_after, is_fitting, is_kind, is_known, of_kind};
+ghost use Rattle.std.specs.Map.{lookup};
+ghost use Rattle.hooks.specs.Changes.{AreAllowed, AreRefused, Bind, Install, Remove, are_fitting, are_known, binding_after, is_fitting, is_kind, is_known, is_name, of_kind};
 ghost use Rattle.hooks.specs.Bindings.{bound_by, bound_if};
-ghost use Rattle.hooks.specs.Tables.{ChangesBy, Shows, bound_in, hook_in, program_in};
+ghost use Rattle.hooks.specs.Tables.{ChangesBy, Shows, bound_in, by_bucket, hook_in, program_in};
 
 use crate::bindings::{Bindings, copy_of};
 use crate::fault::{HookFault, NotSeen};
@@ -23,16 +24,16 @@ use verifier::Verified;
 #[derive(Drop)]
 pub struct Registry {
     programs: BTreeMap<Bytes, Arc<Verified>>,
-    bindings: BTreeMap<Bytes, Bindings>,
+    bindings: BTreeMap<Vec<u8>, Bindings>,
     alloc: Global,
 }
 
 impl Model for Registry {
-    ghost use Rattle.hooks.specs.Tables.{Shown};
+    ghost use Rattle.hooks.specs.Tables.{Shown, by_bucket};
 
     ghost Value = { Shown };
 
-    ghost view = { λ r. record { programs = r.programs.entries; bindings = r.bindings.entries } };
+    ghost view = { λ r. record { programs = r.programs.entries; bindings = by_bucket r.bindings.entries } };
 }
 
 impl Registry {
@@ -84,8 +85,9 @@ impl Registry {
         ensures err { OnErr result (self.new ≡ self.old) }
     {
         self.allows(bindings)?;
-        let bound = bound_anew(self.bindings.get(bucket), bindings)?;
-        self.bindings.insert(bucket.copy()?, bound)?;
+        let bound = bound_anew(bindings_of(&self.bindings, bucket.as_slice()), bindings)?;
+        let bucket = Vec::from_slice(self.alloc, bucket.as_slice())?;
+        self.bindings.insert(bucket, bound)?;
         Ok(())
     }
 
@@ -112,10 +114,10 @@ impl Registry {
 
     /// The program that is bound to a bucket and a kind: none where none is bound, its name is gone, or its program is
     /// now of another kind. It takes no memory; `NotSeen` where the program can have no further owner.
-    pub fn hook_of(&self, bucket: &Bytes, kind: ImageKind) -> Result<Option<Arc<Verified>>, NotSeen>
+    pub fn hook_of(&self, bucket: &[u8], kind: ImageKind) -> Result<Option<Arc<Verified>>, NotSeen>
         ensures { IfOk result (λ hook. option_map arc_value hook ≡ hook_in self.now bucket.now kind) }
     {
-        let Some(bindings) = self.bindings.get(bucket) else {
+        let Some(bindings) = bindings_of(&self.bindings, bucket) else {
             return Ok(None);
         };
         match bindings.bound(kind) {
@@ -128,11 +130,18 @@ impl Registry {
     pub fn bound(&self, bucket: &Bytes, kind: ImageKind) -> Result<Option<Bytes>, AllocError>
         ensures { IfOk result (λ name. name ≡ bound_in self.now.bindings bucket.now kind) }
     {
-        match self.bindings.get(bucket) {
+        match bindings_of(&self.bindings, bucket.as_slice()) {
             Some(bindings) => copy_of(bindings.bound(kind)),
             None => Ok(None),
         }
     }
+}
+
+/// What is bound to a bucket.
+fn bindings_of<'a>(bindings: &'a BTreeMap<Vec<u8>, Bindings>, bucket: &[u8]) -> Option<&'a Bindings>
+    ensures { option_copied result ≡ lookup (is_name bucket.now) (by_bucket bindings.now.entries) }
+{
+    bindings.get(bucket)
 }
 
 /// One more owner of a program, if it is of this kind.

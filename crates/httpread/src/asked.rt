@@ -18,7 +18,7 @@ ghost use Rattle.object.specs.Limits.{IsKey};
 ghost use Rattle.token.specs.Token.{Gives};
 
 use crate::fields::has_element;
-use crate::names::{has_names, is_hook_name, is_name, name_at};
+use crate::names::{decoded_at, has_names, is_hook_name, is_name, name_at};
 use crate::query::{Asked, quorums_of, text_of, words_of};
 use crate::routes::Routes;
 use crate::whole::Request;
@@ -101,9 +101,9 @@ impl Request<'_> {
     fn key(self, alloc: Global) -> Result<Key, AllocError>
         ensures { IfOk result (λ key. key ≡ key_at self.entry.path.now) }
     {
-        let bucket = name_at(alloc, self.path, 2)?;
-        let key = name_at(alloc, self.path, 4)?;
-        Ok(Key { bucket, key })
+        let bucket = decoded_at(alloc, self.path, 2)?;
+        let key = decoded_at(alloc, self.path, 4)?;
+        Key::new(alloc, bucket.as_slice(), key.as_slice())
     }
 
     // A read of the key.

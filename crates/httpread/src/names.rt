@@ -4,6 +4,7 @@ ghost use Rattle.std.specs.Prelude.{◌≡◌, ◌==◌, ◌&&◌, ◌||◌, tru
 ghost use Rattle.std.specs.List.{slice_split, list_all};
 ghost use Rattle.std.specs.Char.{is_ascii_alphanumeric};
 ghost use Rattle.std.specs.Option.{option_copied};
+ghost use Rattle.std.specs.Cow.{cow_slice_items};
 ghost use Rattle.object.specs.Limits.{IsKey, longest_bucket, longest_key};
 ghost use Rattle.httpask.specs.Target as spec;
 
@@ -11,6 +12,7 @@ use httpask::MAX_HOOK_NAME;
 use object::{Bytes, Key, MAX_BUCKET, MAX_KEY};
 use percent_encoding::percent_decode;
 use std::alloc::{AllocError, Global};
+use std::borrow::CowSlice;
 
 /// Whether the name has 1 to `most` bytes.
 pub(crate) fn is_name(most: usize, name: &[u8]) -> bool
@@ -24,7 +26,7 @@ pub(crate) fn has_names(key: &Key) -> bool
     ensures names { result ≡ spec.is_name longest_bucket key.now.bucket && spec.is_name longest_key key.now.key }
     ensures fits { result ≡ true → IsKey key.now }
 {
-    is_name(MAX_BUCKET, key.bucket.as_slice()) && is_name(MAX_KEY, key.key.as_slice())
+    is_name(MAX_BUCKET, key.bucket()) && is_name(MAX_KEY, key.key())
 }
 
 /// Whether the name is a hook's: 1 to 64 letters, digits, `_` and `-`.
@@ -50,9 +52,19 @@ fn is_hook_letter(b: u8) -> bool
 pub(crate) fn name_at(alloc: Global, path: &str, i: usize) -> Result<Bytes, AllocError>
     ensures { IfOk result (λ name. name ≡ spec.name_at i path.now) }
 {
-    let piece = piece_at(path, i).unwrap_or("");
-    let name = percent_decode(piece.as_bytes()).into_cow(alloc)?;
+    let name = decoded_at(alloc, path, i)?;
     Bytes::from_slice(alloc, name.as_slice())
+}
+
+/// The same, lent where it has no escapes.
+pub(crate) fn decoded_at(
+    alloc: Global,
+    path: &str,
+    i: usize,
+) -> Result<CowSlice<'_, u8>, AllocError>
+    ensures { IfOk result (λ name. cow_slice_items name ≡ spec.name_at i path.now) }
+{
+    percent_decode(piece_at(path, i).unwrap_or("").as_bytes()).into_cow(alloc)
 }
 
 // The i-th piece of a path between its slashes.

@@ -1,4 +1,5 @@
 pub mod State
+pub mod Keys
 pub mod Limits
 pub mod Faults
 pub mod Placing

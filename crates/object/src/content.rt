@@ -4,7 +4,9 @@ ghost use Rattle.std.specs.Prelude.{◌≡◌, ◌↔◌, IfOk, IsTrue};
 
 use crate::bytes::Bytes;
 use dvv::Dot;
-use std::alloc::AllocError;
+use std::alloc::{AllocError, Global};
+use std::cmp::Ordering;
+use std::marker::Model;
 
 /// What a write stores: a value of 0 to 65,536 bytes with its media type of 1 to 127 bytes, or the mark of a delete.
 #[derive(Debug, Drop)]
@@ -73,20 +75,122 @@ impl Sibling {
 
 /// What a value is stored under: a bucket of 1 to 64 bytes and a key in it of 1 to 255 bytes, any bytes. In the order of
 /// bytes, the bucket first.
-#[derive(Debug, PartialEq, Eq, PartialOrd, Ord, Drop)]
+///
+/// Both lie in one shared slice, the bucket's bytes before those of the key in it. Contracts see the two.
+#[derive(Debug, Drop)]
 pub struct Key {
-    pub bucket: Bytes,
-    pub key: Bytes,
+    names: Bytes,
+    // How many of these bytes are the bucket's.
+    split: usize,
+}
+
+impl Model for Key {
+    ghost use Rattle.std.specs.Prelude.{◌≤◌, take, drop, length};
+    ghost use Rattle.object.specs.Keys.{KeyParts};
+
+    ghost Value = { KeyParts };
+
+    ghost view = { λ k. record { bucket = take k.split k.names; key = drop k.split k.names } };
+
+    ghost invariant = { λ k. k.split ≤ length k.names };
 }
 
 impl Key {
+    /// The key of this name in a bucket, both copied: it takes memory once for their bytes, and once for the count of their owners.
+    pub fn new(alloc: Global, bucket: &[u8], key: &[u8]) -> Result<Key, AllocError>
+        ensures { IfOk result (λ made. made ≡ record { bucket = bucket.now; key = key.now }) }
+    {
+        let mut names = Vec::with_capacity(alloc, bucket.len() + key.len())?;
+        names.extend_from_slice(bucket)?;
+        names.extend_from_slice(key)?;
+        Ok(Key {
+            names: Bytes::new(names)?,
+            split: bucket.len(),
+        })
+    }
+
+    /// The bucket's bytes.
+    pub fn bucket(&self) -> &[u8]
+        ensures { result.now ≡ self.now.bucket }
+    {
+        &self.names.as_slice()[..self.split]
+    }
+
+    /// The bytes of the key in its bucket.
+    pub fn key(&self) -> &[u8]
+        ensures { result.now ≡ self.now.key }
+    {
+        &self.names.as_slice()[self.split..]
+    }
+
     /// The same key, its bytes shared with this one.
     pub fn copy(&self) -> Result<Key, AllocError>
         ensures { IfOk result (λ copy. copy ≡ self.now) }
     {
         Ok(Key {
-            bucket: self.bucket.copy()?,
-            key: self.key.copy()?,
+            names: self.names.copy()?,
+            split: self.split,
         })
+    }
+}
+
+impl PartialEq for Key {
+    ghost use Rattle.std.specs.Prelude.{nat_eq};
+    ghost use Rattle.std.specs.Ordering.{on, eq_of_both};
+    ghost use Rattle.std.specs.Cmp.Lexicographic.{pointwise};
+    ghost use Rattle.std.specs.Cmp.Rules.{comparing};
+    ghost use Rattle.std.proofs.Common.{rules};
+
+    ghost eq = { eq_of_both (on (λ k. k.bucket) (pointwise nat_eq)) (on (λ k. k.key) (pointwise nat_eq)) };
+
+    ghost laws = { Prim.search (comparing, rules) };
+
+    fn eq(&self, other: &Self) -> bool {
+        self.bucket() == other.bucket() && self.key() == other.key()
+    }
+}
+
+impl Eq for Key {
+    ghost use Rattle.std.specs.Cmp.Rules.{comparing};
+    ghost use Rattle.std.proofs.Common.{rules};
+
+    ghost laws = { Prim.search (comparing, rules) };
+}
+
+impl PartialOrd for Key {
+    ghost use Rattle.std.proofs.Common.{rules};
+    ghost use Rattle.std.specs.Cmp.{partial_order_from_own_ties};
+    ghost use Rattle.std.specs.Cmp.Rules.{comparing};
+    ghost use Rattle.std.specs.Cmp.Lexicographic.{slice_cmp};
+    ghost use Rattle.std.specs.Ordering.{nat_cmp, on, then_cmp, as_partial_cmp};
+
+    ghost partial_cmp = { as_partial_cmp (then_cmp (on (λ k. k.bucket) (slice_cmp nat_cmp)) (on (λ k. k.key) (slice_cmp nat_cmp))) };
+
+    ghost laws = { partial_order_from_own_ties (Prim.search (comparing, rules)) (Prim.search (comparing, rules)) };
+
+    fn partial_cmp(&self, other: &Self) -> Option<Ordering> {
+        Some(self.cmp(other))
+    }
+}
+
+impl Ord for Key {
+    ghost use Rattle.std.proofs.Common.{rules};
+    ghost use Rattle.std.specs.Cmp.Rules.{comparing};
+    ghost use Rattle.std.specs.Cmp.Lexicographic.{slice_cmp};
+    ghost use Rattle.std.specs.Ordering.{nat_cmp, on, then_cmp};
+
+    ghost cmp = { then_cmp (on (λ k. k.bucket) (slice_cmp nat_cmp)) (on (λ k. k.key) (slice_cmp nat_cmp)) };
+
+    ghost total = { Prim.search (comparing, rules) };
+
+    ghost matches_partial_cmp = { Prim.search (comparing, rules) };
+
+    ghost matches_eq = { Prim.search (comparing, rules) };
+
+    fn cmp(&self, other: &Self) -> Ordering {
+        match self.bucket().cmp(&other.bucket()) {
+            Ordering::Equal => self.key().cmp(&other.key()),
+            decided => decided,
+        }
     }
 }

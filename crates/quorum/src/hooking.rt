@@ -5,14 +5,18 @@ ghost use Rattle.abi.specs.Verdicts.{Meaning, meaning_of};
 ghost use Rattle.hookrun.specs.declared.deciding.RunFault.{RunFault as Failure};
 ghost use Rattle.hookrun.specs.Decisions.{IsDecision};
 ghost use Rattle.hookrun.specs.Resolving.{IsResolution, IsUnresolved};
+ghost use Rattle.hooks.specs.Tables.{programs_of};
 ghost use Rattle.quorum.specs.Judged.{Judges, or_same, rewritten};
 
 use crate::fault::QuorumFault;
 use abi::{BadAnswer, Verdict, octet_stream};
+use bpfimage::ImageKind;
 use helpers::Table;
 use hookrun::{Resolution, Room, Unresolved, decide};
-use object::{Bytes, Content, Sibling};
+use hooks::{Hooks, NotSeen};
+use object::{Bytes, Content, Key, Sibling};
 use std::alloc::{AllocError, Global};
+use std::sync::Arc;
 use verifier::Verified;
 
 /// What the hooks of buckets are found and run with.
@@ -24,6 +28,17 @@ pub struct Hooking<H> {
     pub table: Table,
     room: Room,
     alloc: Global,
+}
+
+/// The program that is bound to the bucket of a key and a kind.
+pub(crate) fn hook_of<H: Hooks>(
+    hooks: &mut H,
+    key: &Key,
+    kind: ImageKind,
+) -> Result<Option<Arc<Verified>>, NotSeen>
+    ensures { H.finds hooks.old key.now.bucket kind (programs_of result) hooks.new }
+{
+    hooks.hook_of(key.bucket(), kind)
 }
 
 impl<H> Hooking<H> {

@@ -13,7 +13,7 @@ ghost use Rattle.quorum.specs.Judged.{AfterJudged, IsJudgedPut, or_same};
 ghost use Rattle.quorum.specs.Puts.{Brought, gathers, merges, copies, AfterPut, IsPut, StoresCopies, is_ahead};
 
 use crate::fault::QuorumFault;
-use crate::hooking::Hooking;
+use crate::hooking::{Hooking, hook_of};
 use bpfimage::ImageKind;
 use dvv::{Clock, Dot};
 use hooks::Hooks;
@@ -57,7 +57,7 @@ pub fn put<P: Peers, H: Hooks>(
     ensures table { hooking.new.table ≡ hooking.old.table }
     ensures origin { P.origin peers.new ≡ P.origin peers.old }
 {
-    match hooking.hooks.hook_of(&key.bucket, ImageKind::PreCommit) {
+    match hook_of(&mut hooking.hooks, key, ImageKind::PreCommit) {
         Ok(Some(hook)) => {
             put_judged(
                 peers,

@@ -12,7 +12,7 @@ ghost use Rattle.quorum.specs.Resolves.{is_others, others_of, brings, AllTaken, 
 ghost use Rattle.quorum.specs.declared.fault.ResolveFault.{ResolveFault as Unmade};
 
 use crate::fault::ResolveFault;
-use crate::hooking::Hooking;
+use crate::hooking::{Hooking, hook_of};
 use bpfimage::ImageKind;
 use dvv::Clock;
 use hookrun::{Resolution, Unresolved};
@@ -100,7 +100,7 @@ fn run_resolver<P: Peers, H: Hooks>(
         × AfterLookUp coordinator key.now answers.now got.now.clock hooking.old.table.listed got.now.siblings found calls result }
     ensures table { hooking.new.table ≡ hooking.old.table }
 {
-    match hooking.hooks.hook_of(&key.bucket, ImageKind::Resolver) {
+    match hook_of(&mut hooking.hooks, key, ImageKind::Resolver) {
         Ok(Some(hook)) => {
             let ran = hooking.choose(&hook, got.siblings());
             commit_choice(peers, coordinator, key, got, answers, ran)

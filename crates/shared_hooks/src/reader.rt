@@ -93,7 +93,7 @@ impl<J: Naming, T: Rack<J> + Drop> HookReader<J, T> {
     /// further owner.
     pub fn hook_of(
         &mut self,
-        bucket: &Bytes,
+        bucket: &[u8],
         kind: ImageKind,
     ) -> Result<Option<Arc<Verified>>, NotSeen>
         ensures later { IsPrefix self.old self.new }
@@ -148,7 +148,7 @@ impl<J: Naming, T: Rack<J> + Drop> Hooks for HookReader<J, T> {
 
     fn hook_of(
         &mut self,
-        bucket: &Bytes,
+        bucket: &[u8],
         kind: ImageKind,
     ) -> Result<Option<Arc<Verified>>, NotSeen> {
         HookReader::hook_of(self, bucket, kind)

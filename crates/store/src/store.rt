@@ -57,8 +57,7 @@ impl<P, H> Store<P, H> {
         ensures place { result ≡ place_in self.now.placement key.now.bucket key.now.key }
         ensures within { result < self.now.placement.vnodes }
     {
-        self.placement
-            .place_of(key.bucket.as_slice(), key.key.as_slice())
+        self.placement.place_of(key.bucket(), key.key())
     }
 }
 

@@ -64,7 +64,7 @@ impl Hooks for Hidden {
 
     fn hook_of(
         &mut self,
-        _bucket: &Bytes,
+        _bucket: &[u8],
         _kind: ImageKind,
     ) -> Result<Option<Arc<Verified>>, NotSeen> {
         Err(NotSeen)

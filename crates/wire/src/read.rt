@@ -5,6 +5,7 @@ ghost use Rattle.sha1.specs.Sha1.{sha1};
 ghost use Rattle.std.specs.Int.{w16, w32, w64};
 ghost use Rattle.wire.specs.Reading.{Gives, chain_at, clock_at, content_at, dot_at, key_at, next_entry, next_sibling, no_dot, number_at, record_in, sent_at, sibling_at, siblings_at, state_at, taken_at, text_at, value_at};
 ghost use Rattle.wire.specs.Records.{Begins, HasFault, IsOfFrame, IsWhole, body_in, body_length, digest_in};
+ghost use Rattle.object.specs.declared.content.Content.TheVariants.{Value};
 ghost use Rattle.wire.specs.declared.fault.WireFault.{WireFault as OneFault};
 ghost use Rattle.wire.specs.declared.record.Record.{Record as OneRecord};
 
@@ -14,7 +15,7 @@ use crate::write::{DIGEST_LEN, HEAD_LEN, MARK, TOMBSTONE, VALUE};
 use dvv::{Clock, Dot, MAX_COUNTER, MAX_ENTRIES};
 use object::{Bytes, Content, Key, KeyState, MAX_BUCKET, MAX_KEY, MAX_MEDIA, MAX_VALUE, Sibling};
 use sha1::Sha1;
-use std::alloc::Global;
+use std::alloc::{AllocError, Global};
 
 /// No event: before each that there is.
 const NO_DOT: Dot = Dot { vnode: 0, n: 0 };
@@ -48,44 +49,42 @@ fn u64_at(bytes: &[u8]) -> Result<(u64, &[u8]), WireFault>
 
 /// So many bytes, where that number lies within its limits.
 fn taken_at(
-    alloc: Global,
     bytes: &[u8],
     len: usize,
     least: usize,
     most: usize,
-) -> Result<(Bytes, &[u8]), WireFault>
-    ensures { Gives (λ x. (x.0, x.1.now)) result (taken_at least most len bytes.now) }
+) -> Result<(&[u8], &[u8]), WireFault>
+    ensures { Gives (λ x. (x.0.now, x.1.now)) result (taken_at least most len bytes.now) }
 {
     if len < least || len > most || len > bytes.len() {
         return Err(WireFault::NotCanonical);
     }
-    let (front, rest) = bytes.split_at(len);
-    Ok((Bytes::from_slice(alloc, front)?, rest))
+    Ok(bytes.split_at(len))
 }
 
 /// Bytes behind their length in two bytes, which is from 1 to a greatest number.
-fn short_text_at(alloc: Global, bytes: &[u8], most: usize) -> Result<(Bytes, &[u8]), WireFault>
-    ensures { Gives (λ x. (x.0, x.1.now)) result (text_at w16 1 most bytes.now) }
+fn short_text_at(bytes: &[u8], most: usize) -> Result<(&[u8], &[u8]), WireFault>
+    ensures { Gives (λ x. (x.0.now, x.1.now)) result (text_at w16 1 most bytes.now) }
 {
     let (len, rest) = u16_at(bytes)?;
-    taken_at(alloc, rest, len as usize, 1, most)
+    taken_at(rest, len as usize, 1, most)
 }
 
 /// Bytes behind their length in four bytes, which is at most so great.
-fn long_text_at(alloc: Global, bytes: &[u8], most: usize) -> Result<(Bytes, &[u8]), WireFault>
-    ensures { Gives (λ x. (x.0, x.1.now)) result (text_at w32 0 most bytes.now) }
+fn long_text_at(bytes: &[u8], most: usize) -> Result<(&[u8], &[u8]), WireFault>
+    ensures { Gives (λ x. (x.0.now, x.1.now)) result (text_at w32 0 most bytes.now) }
 {
     let (len, rest) = u32_at(bytes)?;
-    taken_at(alloc, rest, len as usize, 0, most)
+    taken_at(rest, len as usize, 0, most)
 }
 
 #[tactic(auto, unfolding(crate::specs::Reading::key_at))]
 fn key_at(alloc: Global, bytes: &[u8]) -> Result<(Key, &[u8]), WireFault>
     ensures { Gives (λ x. (x.0, x.1.now)) result (key_at bytes.now) }
 {
-    let (bucket, rest) = short_text_at(alloc, bytes, MAX_BUCKET)?;
-    let (key, rest) = short_text_at(alloc, rest, MAX_KEY)?;
-    Ok((Key { bucket, key }, rest))
+    let (bucket, rest) = short_text_at(bytes, MAX_BUCKET)?;
+    let (key, rest) = short_text_at(rest, MAX_KEY)?;
+    Ok((Key::new(alloc, bucket, key)?, rest))
 }
 
 #[tactic(auto, unfolding(crate::specs::Reading::dot_at))]
@@ -101,9 +100,19 @@ fn dot_at(bytes: &[u8]) -> Result<(Dot, &[u8]), WireFault>
 fn value_at(alloc: Global, bytes: &[u8]) -> Result<(Content, &[u8]), WireFault>
     ensures { Gives (λ x. (x.0, x.1.now)) result (value_at bytes.now) }
 {
-    let (media, rest) = short_text_at(alloc, bytes, MAX_MEDIA)?;
-    let (bytes, rest) = long_text_at(alloc, rest, MAX_VALUE)?;
-    Ok((Content::Value { media, bytes }, rest))
+    let (media, rest) = short_text_at(bytes, MAX_MEDIA)?;
+    let (bytes, rest) = long_text_at(rest, MAX_VALUE)?;
+    Ok((value_of(alloc, media, bytes)?, rest))
+}
+
+/// The content that is a value of these bytes.
+fn value_of(alloc: Global, media: &[u8], bytes: &[u8]) -> Result<Content, AllocError>
+    ensures { IfOk result (λ content. content ≡ Value media.now bytes.now) }
+{
+    Ok(Content::Value {
+        media: Bytes::from_slice(alloc, media)?,
+        bytes: Bytes::from_slice(alloc, bytes)?,
+    })
 }
 
 #[tactic(auto, unfolding(crate::specs::Reading::content_at))]

@@ -105,8 +105,8 @@ fn body_len(key: &Key, state: &KeyState) -> Option<usize>
 {
     let fixed = 4 * 2 + 2 + 4 + 4;
     let mut room = BODY_LIMIT - 1 - fixed;
-    room = room.checked_sub(key.bucket.as_slice().len())?;
-    room = room.checked_sub(key.key.as_slice().len())?;
+    room = room.checked_sub(key.bucket().len())?;
+    room = room.checked_sub(key.key().len())?;
     room = room.checked_sub(DOT_LEN * state.clock().entries().len())?;
     room = room_after(state.siblings(), room)?;
     Some(BODY_LIMIT - 1 - room)
@@ -143,8 +143,8 @@ fn put_key(out: &mut Vec<u8>, whole: &Key) -> Result<(), AllocError>
     requires { IsKey whole.now }
     ensures { OnOk result (out.new.items ≡ out.old.items ++ key whole.now) }
 {
-    put_short_text(out, whole.bucket.as_slice())?;
-    put_short_text(out, whole.key.as_slice())
+    put_short_text(out, whole.bucket())?;
+    put_short_text(out, whole.key())
 }
 
 /// Adds the entries of a clock behind their number.

@@ -67,7 +67,7 @@ impl<J: Naming, T: Rack<J> + Drop, M: Drop> Hooks for ReadHooks<J, T, M> {
 
     fn hook_of(
         &mut self,
-        bucket: &Bytes,
+        bucket: &[u8],
         kind: ImageKind,
     ) -> Result<Option<Arc<Verified>>, NotSeen> {
         self.reader.hook_of(bucket, kind)

@@ -34,10 +34,7 @@ pub(super) struct Answer {
 
 /// A key of one byte, of bucket `b`.
 pub(super) fn key_of(alloc: Global, key: u8) -> Result<Key, AllocError> {
-    Ok(Key {
-        bucket: Bytes::from_slice(alloc, b"b")?,
-        key: Bytes::from_slice(alloc, &[key])?,
-    })
+    Key::new(alloc, b"b", &[key])
 }
 
 /// A value of one byte, of media type `text/plain`; `!` is the mark of a delete.

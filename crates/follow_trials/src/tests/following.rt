@@ -10,10 +10,7 @@ use std::test::Fail;
 
 /// A key of bucket `b`.
 pub(super) fn key_of(alloc: Global, key: &[u8]) -> Result<Key, AllocError> {
-    Ok(Key {
-        bucket: Bytes::from_slice(alloc, b"b")?,
-        key: Bytes::from_slice(alloc, key)?,
-    })
+    Key::new(alloc, b"b", key)
 }
 
 /// A value of media type `text/plain`.

@@ -83,7 +83,7 @@ fn kind_of(
     bucket: &Bytes,
     kind: ImageKind,
 ) -> Result<Option<ImageKind>, NotSeen> {
-    match Hooks::hook_of(registry, bucket, kind)? {
+    match Hooks::hook_of(registry, bucket.as_slice(), kind)? {
         Some(program) => Ok(Some(program.image().kind)),
         None => Ok(None),
     }

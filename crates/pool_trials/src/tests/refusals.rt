@@ -82,8 +82,8 @@ fn put_sixty_four<B: Room, R: Wait + Abort>(
 /// Whether some keys of bucket `b` have these names.
 pub(super) fn are_named(keys: &[Key], names: &[&[u8]]) -> bool {
     keys.len() == names.len()
-        && keys.iter().zip(names).all(|(key, name)| key.bucket.as_slice() == b"b".as_slice()
-            && key.key.as_slice() == *name)
+        && keys.iter().zip(names).all(|(key, name)| key.bucket() == b"b".as_slice()
+            && key.key() == *name)
 }
 
 /// The keys that were written, in the order of bytes. What was only read isn't among them.

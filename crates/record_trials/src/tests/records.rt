@@ -58,7 +58,7 @@ fn one_value(rt: HostRuntime) -> Result<(), Fail> {
         at,
         state,
     } = &record;
-    let names = (key.bucket.as_slice(), key.key.as_slice());
+    let names = (key.bucket(), key.key());
     assert_eq!(rt;
         (len, *from, *at, names, has_one_value(state)),
         (92, 0, 1, (b"sim".as_slice(), b"k".as_slice()), true)

@@ -14,8 +14,8 @@ fn text(alloc: Global, bytes: &Bytes) -> Result<String, AllocError> {
 
 /// A key as `bucket key`.
 fn key_text(alloc: Global, key: &Key) -> Result<String, Fail> {
-    let bucket = text(alloc, &key.bucket)?;
-    let name = text(alloc, &key.key)?;
+    let bucket = String::from_utf8_lossy(alloc, key.bucket())?;
+    let name = String::from_utf8_lossy(alloc, key.key())?;
     Ok(format!(in alloc; "{bucket} {name}")?)
 }
 

@@ -18,10 +18,7 @@ pub fn text_of(alloc: Global, ask: &Ask, reply: &Reply) -> Result<String, AllocE
 
 /// The key `k` of bucket `b`.
 fn key(alloc: Global) -> Result<Key, AllocError> {
-    Ok(Key {
-        bucket: Bytes::from_slice(alloc, b"b")?,
-        key: Bytes::from_slice(alloc, b"k")?,
-    })
+    Key::new(alloc, b"b", b"k")
 }
 
 /// A read of the key, shown in parts.

@@ -105,7 +105,7 @@ pub fn kind_of<H: Hooks>(
     hooks: &mut H,
     kind: ImageKind,
 ) -> Result<Option<ImageKind>, Trouble> {
-    match hooks.hook_of(&name(alloc, b"b")?, kind) {
+    match hooks.hook_of(b"b", kind) {
         Ok(Some(program)) => Ok(Some(program.image().kind)),
         Ok(None) => Ok(None),
         Err(_) => Err(Trouble::NotSeen),

@@ -12,10 +12,7 @@ use vnode::{Vnode, VnodeFault};
 
 /// A key of one byte.
 fn key(alloc: Global, byte: u8) -> Result<Key, AllocError> {
-    Ok(Key {
-        bucket: Bytes::from_slice(alloc, b"b")?,
-        key: Bytes::from_slice(alloc, &[byte])?,
-    })
+    Key::new(alloc, b"b", &[byte])
 }
 
 /// A value of one byte; `!` is the mark of a delete.

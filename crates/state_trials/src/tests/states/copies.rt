@@ -2,7 +2,7 @@
 
 use super::value;
 use dvv::Dot;
-use object::{Bytes, Content, Key, KeyState, Sibling};
+use object::{Content, Key, KeyState, Sibling};
 use std::alloc::{AllocError, Global};
 use std::collections::BTreeMap;
 use std::test::Fail;
@@ -13,10 +13,7 @@ fn may_be_sent<T: Send>(_value: &T) -> bool {
 }
 
 fn key_of(alloc: Global, bucket: &[u8], key: &[u8]) -> Result<Key, AllocError> {
-    Ok(Key {
-        bucket: Bytes::from_slice(alloc, bucket)?,
-        key: Bytes::from_slice(alloc, key)?,
-    })
+    Key::new(alloc, bucket, key)
 }
 
 /// Whether a map with a copy of the first key has it, and not the second.

@@ -20,7 +20,7 @@ const STEPS: [Step; 6] = [
 /// Whether some keys are these, each of one byte.
 fn are_keys(keys: &[Key], want: &[u8]) -> bool {
     let mut both = keys.iter().zip(want);
-    keys.len() == want.len() && both.all(|(key, byte)| key.key.as_slice() == [*byte].as_slice())
+    keys.len() == want.len() && both.all(|(key, byte)| key.key() == [*byte].as_slice())
 }
 
 /// Whether a vnode has these keys.

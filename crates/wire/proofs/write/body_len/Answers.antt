@@ -7,23 +7,23 @@ use Rattle.wire.proofs.write.body_len.Goals as goal
 
 pub returns-in_err-room-3 : goal.returns-in_err-room-3
 returns-in_err-room-3 c = λ from at.
-    let bucket = ap length c.as_slice.ensures in
-    let name = ap length c.as_slice-2.ensures in
+    let bucket = ap length c.bucket.ensures in
+    let name = ap length c.key.ensures in
     let entries = ap length (c.entries.ensures.all ∙ c.clock.ensures) in
     rw length-body (grind (arith, common_steps))
 
 pub returns-in_err-room-4 : goal.returns-in_err-room-4
 returns-in_err-room-4 c = λ from at.
-    let bucket = ap length c.as_slice.ensures in
-    let name = ap length c.as_slice-2.ensures in
+    let bucket = ap length c.bucket.ensures in
+    let name = ap length c.key.ensures in
     let entries = ap length (c.entries.ensures.all ∙ c.clock.ensures) in
     let rest = ap (λ ss. length (flat_map sibling ss)) c.siblings.ensures.all in
     rw length-body (grind (arith, common_steps))
 
 pub returns : goal.returns
 returns c = λ from at.
-    let bucket = ap length c.as_slice.ensures in
-    let name = ap length c.as_slice-2.ensures in
+    let bucket = ap length c.bucket.ensures in
+    let name = ap length c.key.ensures in
     let entries = ap length (c.entries.ensures.all ∙ c.clock.ensures) in
     let rest = ap (λ ss. length (flat_map sibling ss)) c.siblings.ensures.all in
     rw length-body (omega arith, omega arith)
