@@ -3,7 +3,7 @@ use Rattle.std.proofs.Common.{◌≡◌, ℕ, Bool, true, false, cond, List, [],
 use Rattle.std.specs.List.{fold}
 use Rattle.std.specs.Option.{option_map}
 use Rattle.std.specs.Map.{lookup, IsKeyTest, AreApart, KeepsOthers}
-use Rattle.std.specs.BTreeMap.{BTreeMap, Updates, is_at}
+use Rattle.std.specs.BTreeMap.{is_at}
 use Rattle.std.specs.declared.vec.Vec.{Vec}
 use Rattle.std.specs.Global.{Global}
 use Rattle.std.specs.declared.cmp.Ordering.{Ordering}
@@ -39,11 +39,11 @@ pub found_in : (entries : List (Vec ℕ Global × Bindings)) (bucket : List ℕ)
 found_in [] bucket = refl
 found_in (e ∷ entries) bucket = ap (cond (is_name bucket e.0.items) (Some e.1)) (found_in entries bucket)
 
-module _ (old new : BTreeMap (Vec ℕ Global) Bindings) (k : Vec ℕ Global) (bound : Bindings) (h : Updates bucket_cmp old new k (Some bound)) (bucket : List ℕ) where
-  found_by_vector : (same : Bool) → is_name k.items bucket ≡ same → lookup (λ q. is_name bucket q.items) new.entries ≡ cond same (Some bound) (lookup (λ q. is_name bucket q.items) old.entries)
+module _ (old new : List (Vec ℕ Global × Bindings)) (k : Vec ℕ Global) (bound : Bindings) (at : lookup (is_at (bucket_cmp k)) new ≡ Some bound) (others : KeepsOthers (eq_by_cmp bucket_cmp) (is_at (bucket_cmp k)) old new) (bucket : List ℕ) where
+  found_by_vector : (same : Bool) → is_name k.items bucket ≡ same → lookup (λ q. is_name bucket q.items) new ≡ cond same (Some bound) (lookup (λ q. is_name bucket q.items) old)
   unfolding KeepsOthers
-  found_by_vector true is = ap (λ b. lookup (λ q. is_name b q.items) new.entries) (sym (one_name k.items bucket is)) ∙ h.1.0
-  found_by_vector false is = h.1.1.1 (λ q. is_name bucket q.items) keyed apart
+  found_by_vector true is = ap (λ b. lookup (λ q. is_name b q.items) new) (sym (one_name k.items bucket is)) ∙ at
+  found_by_vector false is = others (λ q. is_name bucket q.items) keyed apart
     where
       keyed : IsKeyTest (eq_by_cmp bucket_cmp) (λ q. is_name bucket q.items)
       keyed x y at = ap (λ b. is_name b y.items) (one_name bucket x.items at)
@@ -52,8 +52,8 @@ module _ (old new : BTreeMap (Vec ℕ Global) Bindings) (k : Vec ℕ Global) (bo
       apart q at = (eq_by_cmp_equiv nat_list_cmp_total).symm bucket q.items ∙ ap (λ b. is_name b bucket) (sym (one_name k.items q.items at)) ∙ is
 
   -- and so are the bindings that were written, and those of other buckets
-  pub found_of_written : (same : Bool) → is_name k.items bucket ≡ same → lookup (is_name bucket) (by_bucket new.entries) ≡ cond same (Some bound) (lookup (is_name bucket) (by_bucket old.entries))
-  found_of_written same is = sym (found_in new.entries bucket) ∙ found_by_vector same is ∙ ap (cond same (Some bound)) (found_in old.entries bucket)
+  pub found_of_written : (same : Bool) → is_name k.items bucket ≡ same → lookup (is_name bucket) (by_bucket new) ≡ cond same (Some bound) (lookup (is_name bucket) (by_bucket old))
+  found_of_written same is = sym (found_in new bucket) ∙ found_by_vector same is ∙ ap (cond same (Some bound)) (found_in old bucket)
 
 -- a program that is written, and those that were there
 pub program_of_written : (written : Bool) (program : Arc Program Global) (before : Option (Arc Program Global)) → option_map arc_value (cond written (Some program) before) ≡ cond written (Some (arc_value program)) (option_map arc_value before)

@@ -17,7 +17,7 @@ returns-clause-ok c =
     record {
       programs = λ name. ap (λ (s : Shown). program_in s.programs name) c.self.view_is;
       names = λ bucket kind.
-          ap (λ o. bound_if o kind) (found_of_written _ _ written bound c.in_ok-insert.ensures.updates bucket (is_name written.items bucket) refl
+          ap (λ o. bound_if o kind) (found_of_written _ _ written bound c.in_ok-insert.ensures.updates.1 c.in_ok-insert.ensures.updates.3 bucket (is_name written.items bucket) refl
           ∙ ap (λ k. cond (is_name k bucket) (Some bound) (lookup (is_name bucket) held)) (c.in_ok-bucket.ensures.items ∙ c.as_slice-2.ensures)
           ∙ ap (λ (s : Shown). cond (is_name before bucket) (Some bound) (lookup (is_name bucket) s.bindings)) c.self.view_is)
           ∙ bound_of_written c.args.self.now.bindings before bucket kind bound more (is_name before bucket) refl
