@@ -2,18 +2,24 @@
 
 use super::value;
 use dvv::Dot;
-use object::{Content, Key, KeyState, Sibling};
+use object::{Content, Key, KeyState, MAX_BUCKET, MAX_KEY, Sibling};
 use std::alloc::{AllocError, Global};
 use std::collections::BTreeMap;
 use std::test::Fail;
 
+/// A bucket and a key in it.
+type Names = (&'static [u8], &'static [u8]);
+
+/// Keys, each with a later one. The names of the second pair are the same bytes in a row.
+const PAIRS: [[Names; 2]; 3] = [
+    [(b"b", b"\x01\x02"), (b"b", b"\x01\x02\x00")],
+    [(b"a", b"bc"), (b"ab", b"c")],
+    [(b"a", b"z"), (b"b", b"a")],
+];
+
 /// Whether a value may go to another thread.
 fn may_be_sent<T: Send>(_value: &T) -> bool {
     true
-}
-
-fn key_of(alloc: Global, bucket: &[u8], key: &[u8]) -> Result<Key, AllocError> {
-    Key::new(alloc, bucket, key)
 }
 
 /// Whether a map with a copy of the first key has it, and not the second.
@@ -28,10 +34,21 @@ fn is_before(alloc: Global, key: &Key, later: &Key) -> Result<bool, Fail> {
     Ok(is_found(alloc, key, later)? && may_be_sent(key) && key < later)
 }
 
-/// Whether two keys are in order, and told apart in a map.
-fn keys_in_order(alloc: Global) -> Result<bool, Fail> {
-    let key = key_of(alloc, b"b", &[1, 2])?;
-    is_before(alloc, &key, &key_of(alloc, b"b", &[1, 2, 0])?)
+/// Whether these pairs of keys are in order, and told apart in a map.
+fn pairs_in_order(alloc: Global, pairs: &[[Names; 2]]) -> Result<bool, Fail> {
+    for [first, later] in pairs {
+        let key = Key::new(alloc, first.0, first.1)?;
+        if !is_before(alloc, &key, &Key::new(alloc, later.0, later.1)?)? {
+            return Ok(false);
+        }
+    }
+    Ok(true)
+}
+
+/// Whether the copy of a key whose names are as long as they may be has them.
+fn longest_key(alloc: Global) -> Result<bool, AllocError> {
+    let copy = Key::new(alloc, &[1; MAX_BUCKET], &[2; MAX_KEY])?.copy()?;
+    Ok(copy.bucket() == [1; MAX_BUCKET].as_slice() && copy.key() == [2; MAX_KEY].as_slice())
 }
 
 /// Whether a content is the `a` of a plain text, and so its copied bytes.
@@ -63,9 +80,7 @@ fn copied(alloc: Global) -> Result<(Dot, bool), AllocError> {
 #[test]
 fn keys_and_copies(rt: HostRuntime) -> Result<(), Fail> {
     let alloc = rt.alloc();
-    assert_eq!(rt;
-        (keys_in_order(alloc)?, copied(alloc)?),
-        (true, (Dot { vnode: 3, n: 7 }, true))
-    );
+    assert!(rt; pairs_in_order(alloc, &PAIRS)? && longest_key(alloc)?);
+    assert_eq!(rt; copied(alloc)?, (Dot { vnode: 3, n: 7 }, true));
     Ok(())
 }
