@@ -1,4 +1,5 @@
 //! What is let in, and why bytes are not.
+use super::expect;
 use admission::{MOST, Refusal, admit_hook, admit_image, admit_program, enough};
 use bpfimage::ImageKind;
 use helpers::Sigs;
@@ -17,12 +18,6 @@ const EXIT: [u8; 8] = [0x95, 0, 0, 0, 0, 0, 0, 0];
 
 /// Code that answers 0.
 const ZERO: [u8; 16] = [0xb7, 0, 0, 0, 0, 0, 0, 0, 0x95, 0, 0, 0, 0, 0, 0, 0];
-
-/// Whether a refusal is told so.
-fn is_told(alloc: Global, refusal: Refusal, want: &str) -> Result<bool, Fail> {
-    let text = format!(in alloc; "{refusal}")?;
-    Ok(text.as_str() == want)
-}
 
 /// The kind of what was let in, and the length of its input.
 fn shape(outcome: Result<Verified, Refusal>) -> Option<(ImageKind, u32)> {
@@ -47,55 +42,59 @@ fn hooks_and_programs(rt: HostRuntime) {
     assert_eq!(rt; shapes, [resolver, resolver, resolver, raw]);
 }
 
-/// Bytes that are no image that is let in, and what is told of them.
-const REFUSED_IMAGES: [(&[u8], &str); 2] = [(&EXIT, "I1"), (&ZERO, "I2")];
+/// As what bytes are let in.
+#[derive(Clone, Copy)]
+enum Wanted {
+    PreCommit,
+    Image,
+    Program,
+}
 
-/// Bytes that are no program that is let in, and what is told of them: code that answers nothing, code cut within a slot, and
-/// no code.
-const REFUSED_PROGRAMS: [(&[u8], &str); 3] = [
-    (&EXIT, "V20 0"),
-    (&[0x95, 0, 0, 0, 0, 0, 0], "D1 0"),
-    (&[], "D2 0"),
+/// Bytes that are not let in, and what is told of them: a hook of another kind, no images, code that answers nothing, code cut
+/// within a slot, and no code.
+const REFUSED: &[(Wanted, &[u8], &str)] = &[
+    (Wanted::PreCommit, &TAKES_FIRST, "G2"),
+    (Wanted::Image, &EXIT, "I1"),
+    (Wanted::Image, &ZERO, "I2"),
+    (Wanted::Program, &EXIT, "V20 0"),
+    (Wanted::Program, &[0x95, 0, 0, 0, 0, 0, 0], "D1 0"),
+    (Wanted::Program, &[], "D2 0"),
 ];
 
-/// Whether a pre-commit hook that is none is told so.
-fn hook_is_told(alloc: Global, bytes: &[u8], want: &str) -> Result<bool, Fail> {
-    match admit_hook(alloc, bytes, ImageKind::PreCommit, &Sigs::new(alloc)) {
-        Ok(_) => Ok(false),
-        Err(refusal) => is_told(alloc, refusal, want),
+/// What is let in of bytes.
+fn admit(alloc: Global, wanted: Wanted, bytes: &[u8]) -> Result<Verified, Refusal> {
+    let sigs = Sigs::new(alloc);
+    match wanted {
+        Wanted::PreCommit => admit_hook(alloc, bytes, ImageKind::PreCommit, &sigs),
+        Wanted::Image => admit_image(alloc, bytes, &sigs),
+        Wanted::Program => admit_program(alloc, bytes, &sigs),
     }
 }
 
-/// Whether an image that is none is told so.
-fn image_is_told(alloc: Global, bytes: &[u8], want: &str) -> Result<bool, Fail> {
-    match admit_image(alloc, bytes, &Sigs::new(alloc)) {
-        Ok(_) => Ok(false),
-        Err(refusal) => is_told(alloc, refusal, want),
-    }
+/// The text of a refusal.
+fn text_of(alloc: Global, refusal: &Refusal) -> Result<String, Fail> {
+    Ok(format!(in alloc; "{refusal}")?)
 }
 
-/// Whether a program that is none is told so.
-fn program_is_told(alloc: Global, bytes: &[u8], want: &str) -> Result<bool, Fail> {
-    match admit_program(alloc, bytes, &Sigs::new(alloc)) {
+/// Whether nothing was let in, and that is told so.
+fn is_told(alloc: Global, outcome: &Result<Verified, Refusal>, want: &str) -> Result<bool, Fail> {
+    match outcome {
         Ok(_) => Ok(false),
-        Err(refusal) => is_told(alloc, refusal, want),
+        Err(refusal) => Ok(text_of(alloc, refusal)?.as_str() == want),
     }
 }
 
 #[test]
 fn refusals(rt: HostRuntime) -> Result<(), Fail> {
-    assert!(rt; hook_is_told(rt.alloc(), &TAKES_FIRST, "G2")?);
-    for (bytes, want) in &REFUSED_IMAGES {
-        assert!(rt; image_is_told(rt.alloc(), bytes, want)?, "{want}");
-    }
-    for (bytes, want) in &REFUSED_PROGRAMS {
-        assert!(rt; program_is_told(rt.alloc(), bytes, want)?, "{want}");
+    for (wanted, bytes, want) in REFUSED {
+        let outcome = admit(rt.alloc(), *wanted, bytes);
+        expect(&rt, is_told(rt.alloc(), &outcome, want)?, want);
     }
     Ok(())
 }
 
 /// How many bytes a file has, and how many of them tell what it is.
-const LENGTHS: [(u64, usize); 10] = [
+const LENGTHS: &[(u64, usize)] = &[
     (0, 0),
     (1, 1),
     (32_784, 32_784),
@@ -110,7 +109,8 @@ const LENGTHS: [(u64, usize); 10] = [
 
 #[test]
 fn lengths(rt: HostRuntime) {
-    for &(len, want) in &LENGTHS {
-        assert_eq!(rt; (enough(len), want <= MOST), (want, true), "{len}");
+    for row in LENGTHS {
+        let (len, want) = *row;
+        expect(&rt, enough(len) == want && want <= MOST, row);
     }
 }

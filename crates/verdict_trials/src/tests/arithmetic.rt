@@ -2,6 +2,8 @@
 
 use alu::{Cond, Op, SwapBits, SwapKind, Width, eval, holds, swap};
 
+const VALUES: [u64; 8] = [0, 7, 7, 1 << 63, u64::MAX, 0xffff_ffff, 0xffff_ff80, 13330];
+
 #[test]
 fn worked_rows(rt: HostRuntime) {
     let minus_7 = 0u64.wrapping_sub(7);
@@ -15,11 +17,12 @@ fn worked_rows(rt: HostRuntime) {
         eval(Op::Movsx8, Width::W32, 0, 0x80),
         swap(SwapKind::ToBig, SwapBits::B16, 0x1234),
     ];
-    let want = [0, 7, 7, 1 << 63, u64::MAX, 0xffff_ffff, 0xffff_ff80, 13330];
-    assert_eq!(rt; values, want);
-    let less = [
-        holds(Cond::SignedLess, Width::W32, 0xffff_ffff, 0),
-        holds(Cond::SignedLess, Width::W64, 0xffff_ffff, 0),
-    ];
-    assert_eq!(rt; less, [true, false]);
+    assert_eq!(rt; values, VALUES);
+}
+
+#[test]
+fn signed_order(rt: HostRuntime) {
+    let less = holds(Cond::SignedLess, Width::W32, 0xffff_ffff, 0)
+        && !holds(Cond::SignedLess, Width::W64, 0xffff_ffff, 0);
+    assert!(rt; less);
 }

@@ -1,11 +1,12 @@
 //! Lengths that are refused, and why.
 
+use crate::tests::expect;
 use insn::decode::{Refusal, decode};
 use std::alloc::{AllocError, Global};
 use std::test::Fail;
 
 /// Some lengths, and why they are refused, if they are.
-const LENGTHS: [(usize, Option<Refusal>); 6] = [
+const LENGTHS: &[(usize, Option<Refusal>)] = &[
     (0, Some(Refusal::Empty)),
     (7, Some(Refusal::UnevenLength)),
     (8, None),
@@ -23,21 +24,24 @@ fn exits(alloc: Global, count: usize) -> Result<Vec<u8>, AllocError> {
     Ok(bytes)
 }
 
-/// Why exits of so many bytes are refused, if they are.
-fn refusal_of_length(alloc: Global, length: usize) -> Result<Option<Refusal>, Fail> {
-    let bytes = exits(alloc, 4097)?;
-    let part = bytes.get(..length).ok_or("length")?;
-    Ok(match decode(alloc, part) {
-        Ok(_) => None,
-        Err(fault) => Some(fault.why),
-    })
+/// Whether so much of some bytes is refused so.
+fn is_refused(alloc: Global, bytes: &[u8], length: usize, want: Option<Refusal>) -> bool {
+    match bytes.get(..length) {
+        Some(part) => match decode(alloc, part) {
+            Ok(_) => want.is_none(),
+            Err(fault) => want == Some(fault.why),
+        },
+        None => false,
+    }
 }
 
 /// The lengths that are refused, and those beside them.
 #[test]
 fn lengths(rt: HostRuntime) -> Result<(), Fail> {
-    for &(length, want) in &LENGTHS {
-        assert_eq!(rt; refusal_of_length(rt.alloc(), length)?, want, "{length}");
+    let bytes = exits(rt.alloc(), 4097)?;
+    for row in LENGTHS {
+        let (length, want) = *row;
+        expect(&rt, is_refused(rt.alloc(), &bytes, length, want), row);
     }
     Ok(())
 }

@@ -1,5 +1,6 @@
 //! Each opcode: whether an instruction has it, and if so, that its bytes are written again.
 
+use crate::tests::expect;
 use insn::decode::{DecodeFault, Refusal, decode};
 use insn::encode::encode;
 use std::alloc::{AllocError, Global};
@@ -55,25 +56,20 @@ fn bytes_of(alloc: Global, opcode: u8) -> Result<Vec<u8>, AllocError> {
     Ok(bytes)
 }
 
+/// Whether the instruction of an opcode is read and written again, or refused as it should be.
+fn is_read(alloc: Global, opcode: u8, bytes: &[u8]) -> Result<bool, AllocError> {
+    match (decode(alloc, bytes), refusal_of(opcode)) {
+        (Ok(code), None) => Ok(encode(alloc, &code)?.as_slice() == bytes),
+        (Err(DecodeFault { slot: 0, why }), Some(want)) => Ok(why == want),
+        _ => Ok(false),
+    }
+}
+
 #[test]
 fn opcodes(rt: HostRuntime) -> Result<(), Fail> {
-    let alloc = rt.alloc();
     for opcode in 0..=255 {
-        let bytes = bytes_of(alloc, opcode)?;
-        let want = refusal_of(opcode);
-        match decode(alloc, &bytes) {
-            Ok(code) => {
-                assert_eq!(rt; want, None, "{opcode}");
-                assert_eq!(rt;
-                    encode(alloc, &code)?.as_slice(),
-                    bytes.as_slice(),
-                    "{opcode}"
-                );
-            }
-            Err(DecodeFault { slot, why }) => {
-                assert_eq!(rt; (slot, Some(why)), (0, want), "{opcode}");
-            }
-        }
+        let bytes = bytes_of(rt.alloc(), opcode)?;
+        expect(&rt, is_read(rt.alloc(), opcode, &bytes)?, &opcode);
     }
     Ok(())
 }

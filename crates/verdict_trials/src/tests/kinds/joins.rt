@@ -3,10 +3,11 @@
 use super::MAX;
 use super::known::Known::{Input, Num, One, Stack, Unset};
 use super::known::{FULL, Known};
+use crate::tests::expect;
 use ranges::{Kind, Range, join};
 
 /// What is known on two ways, and where they meet.
-const JOINS: [(Known, Known, Known); 10] = [
+const JOINS: &[(Known, Known, Known)] = &[
     (Num(0, 5), Num(3, 9), Num(0, 9)),
     (One(1), One(7), Num(1, 7)),
     (One(MAX), One(0), FULL),
@@ -21,20 +22,22 @@ const JOINS: [(Known, Known, Known); 10] = [
 
 #[test]
 fn joins(rt: HostRuntime) {
-    for (a, b, want) in &JOINS {
-        let (a, b) = (a.kind(), b.kind());
-        assert_eq!(rt; join(a, b), want.kind(), "{a:?} {b:?}");
+    for row in JOINS {
+        let (a, b, want) = *row;
+        expect(&rt, join(a.kind(), b.kind()) == want.kind(), row);
     }
+}
+
+/// Whether a range has these ends, and whether it is of one number.
+fn is_range(range: Range, lo: u64, hi: u64, single: bool) -> bool {
+    range == Range { lo, hi } && range.is_single() == single
 }
 
 #[test]
 fn ranges(rt: HostRuntime) {
-    let single = Range::single(7);
     let up_to = Range::up_to(7);
-    assert_eq!(rt;
-        (single, up_to),
-        (Range { lo: 7, hi: 7 }, Range { lo: 0, hi: 7 })
-    );
-    assert_eq!(rt; (single.is_single(), up_to.is_single()), (true, false));
-    assert_eq!(rt; Kind::number(up_to), Num(0, 7).kind());
+    let told = is_range(Range::single(7), 7, 7, true)
+        && is_range(up_to, 0, 7, false)
+        && Kind::number(up_to) == Num(0, 7).kind();
+    assert!(rt; told);
 }

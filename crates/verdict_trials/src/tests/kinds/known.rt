@@ -5,10 +5,9 @@ ghost use Rattle.ranges.specs.Kinds.{IsKind};
 
 use memory::Region;
 use ranges::Kind;
-use std::process::Abort;
 
 /// What is known of a register.
-#[derive(Clone, Copy)]
+#[derive(Clone, Copy, Debug)]
 pub enum Known {
     Unset,
     Num(u64, u64),
@@ -43,7 +42,7 @@ impl Known {
 }
 
 /// Whether a kind may be known of a register.
-fn is_kind(kind: Kind) -> bool
+pub fn is_kind(kind: Kind) -> bool
     ensures { IsTrue result ↔ IsKind kind }
 {
     match kind {
@@ -51,13 +50,4 @@ fn is_kind(kind: Kind) -> bool
         Kind::Num { lo, hi } => lo <= hi,
         Kind::Ptr { lo, hi, .. } => -(1 << 20) <= lo && lo <= hi && hi <= 1 << 20,
     }
-}
-
-/// The kind that says what is known, one that may be known of a register.
-pub fn kind_of(rt: &impl Abort, known: Known) -> Kind
-    ensures { IsKind result }
-{
-    let kind = known.kind();
-    assert!(rt; is_kind(kind));
-    kind
 }

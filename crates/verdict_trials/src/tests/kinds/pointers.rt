@@ -1,7 +1,7 @@
 //! Sums and differences of pointers, and the operations that take none.
 
 use super::known::Known::{Input, Num, One, Stack};
-use super::operations::{Row, leaves};
+use super::operations::{Row, leave};
 use super::{HALF, MAX};
 use alu::Op::*;
 use alu::Width::*;
@@ -12,7 +12,7 @@ const FAR_OFFSET: i64 = 1 << 20;
 
 const FAR: u64 = 1 << 20;
 
-const SUMS: [Row; 13] = [
+const SUMS: &[Row] = &[
     (W64, Stack(-8, 0), Num(1, 2), Ok(Stack(-7, 2))),
     (W64, Num(1, 2), Stack(-8, 0), Ok(Stack(-7, 2))),
     (W64, Stack(-8, 0), One(MAX), Ok(Stack(-9, -1))),
@@ -33,7 +33,7 @@ const SUMS: [Row; 13] = [
     (W32, Input(0, 0), One(1), Err(Bad::V22)),
 ];
 
-const DIFFERENCES: [Row; 7] = [
+const DIFFERENCES: &[Row] = &[
     (W64, Stack(-8, 0), Num(1, 2), Ok(Stack(-10, -1))),
     (W64, Stack(-8, 0), One(MAX), Ok(Stack(-7, 1))),
     (W64, Input(0, 0), Num(0, FAR), Ok(Input(-FAR_OFFSET, 0))),
@@ -43,14 +43,14 @@ const DIFFERENCES: [Row; 7] = [
     (W32, Input(0, 0), One(1), Err(Bad::V22)),
 ];
 
-const MASKED: [Row; 1] = [(W64, Input(0, 0), One(1), Err(Bad::V22))];
+const MASKED: &[Row] = &[(W64, Input(0, 0), One(1), Err(Bad::V22))];
 
-const FACTOR: [Row; 1] = [(W64, One(1), Input(0, 0), Err(Bad::V22))];
+const FACTOR: &[Row] = &[(W64, One(1), Input(0, 0), Err(Bad::V22))];
 
 #[test]
 fn pointers(rt: HostRuntime) {
-    leaves(&rt, Add, &SUMS);
-    leaves(&rt, Sub, &DIFFERENCES);
-    leaves(&rt, And, &MASKED);
-    leaves(&rt, Mul, &FACTOR);
+    leave(&rt, Add, SUMS);
+    leave(&rt, Sub, DIFFERENCES);
+    leave(&rt, And, MASKED);
+    leave(&rt, Mul, FACTOR);
 }

@@ -55,24 +55,24 @@ const SHORTER: ArgRule = ArgRule::Read { max: 15 };
 const LEN: ArgRule = ArgRule::Len;
 
 /// The number of a helper, what its arguments are, and the range of its answers.
-type Rules = (u32, [ArgRule; 5], (u64, u64));
+type Rules = (u32, &'static [ArgRule; 5], (u64, u64));
 
 /// Helpers of a host.
-const HOST: [Rules; 8] = [
-    (64, [ANY, UNUSED, UNUSED, UNUSED, UNUSED], (0, 7)),
-    (65, [ANY, UNUSED, UNUSED, UNUSED, UNUSED], (0, 8)),
-    (66, [UNUSED, NUMBER, UNUSED, UNUSED, UNUSED], (0, 7)),
-    (67, [UNUSED, SMALLER, UNUSED, UNUSED, UNUSED], (0, 7)),
-    (68, [TEXT, LEN, UNUSED, UNUSED, UNUSED], (0, 7)),
-    (69, [SHORTER, LEN, UNUSED, UNUSED, UNUSED], (0, 7)),
-    (70, [UNUSED, UNUSED, UNUSED, UNUSED, ANY], (0, 7)),
-    (71, [UNUSED, UNUSED, UNUSED, UNUSED, UNUSED], (2, 5)),
+const HOST: &[Rules] = &[
+    (64, &[ANY, UNUSED, UNUSED, UNUSED, UNUSED], (0, 7)),
+    (65, &[ANY, UNUSED, UNUSED, UNUSED, UNUSED], (0, 8)),
+    (66, &[UNUSED, NUMBER, UNUSED, UNUSED, UNUSED], (0, 7)),
+    (67, &[UNUSED, SMALLER, UNUSED, UNUSED, UNUSED], (0, 7)),
+    (68, &[TEXT, LEN, UNUSED, UNUSED, UNUSED], (0, 7)),
+    (69, &[SHORTER, LEN, UNUSED, UNUSED, UNUSED], (0, 7)),
+    (70, &[UNUSED, UNUSED, UNUSED, UNUSED, ANY], (0, 7)),
+    (71, &[UNUSED, UNUSED, UNUSED, UNUSED, UNUSED], (2, 5)),
 ];
 
 /// Adds the helpers of a host; tells whether all of them were taken up.
 fn add_host(alloc: Global, table: &mut Table) -> Result<bool, Fail> {
-    for &(number, args, range) in &HOST {
-        let sig = Sig::new(args, range).ok_or("a Sig")?;
+    for &(number, args, range) in HOST {
+        let sig = Sig::new(*args, range).ok_or("a Sig")?;
         if !add_two(alloc, table, number, sig)? {
             return Ok(false);
         }
@@ -107,7 +107,7 @@ const USED: Slot = Copied(1, 2);
 const NEXT: Slot = Raised(1, 1);
 
 /// Programs that call helpers, and what is told of them.
-const HELPER_CALLS: [(&str, &[Slot], Told); 22] = [
+const HELPER_CALLS: &[(&str, &[Slot], Told)] = &[
     (
         "a number's helper",
         &[KEEP, USED, Call(64), ADD, StoreByte(6, 0, 1), Exit],
@@ -223,7 +223,7 @@ const HELPER_CALLS: [(&str, &[Slot], Told); 22] = [
 #[test]
 fn helper_calls(rt: HostRuntime) -> Result<(), Fail> {
     let sigs = sigs(rt.alloc())?;
-    tell_all(&rt, rt.alloc(), &sigs, SMALL, &HELPER_CALLS)
+    tell_all(&rt, rt.alloc(), &sigs, SMALL, HELPER_CALLS)
 }
 
 /// How many helpers an accepted program keeps, whether 65 is as it was, and how many slots it has.

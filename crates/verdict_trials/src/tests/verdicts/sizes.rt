@@ -1,6 +1,7 @@
 //! Programs and windows of the greatest size: with memory enough for them they are told as small ones are.
 
-use super::{CLEAR, Lengths, Told, tells};
+use super::{CLEAR, Lengths, Told, is_told};
+use crate::tests::expect;
 use code_parts::Slot;
 use code_parts::Slot::{Call, Copied, Exit, Fields, LoadByte, Put, Raised, StoreByte};
 use helpers::Sigs;
@@ -42,42 +43,46 @@ fn branchy(alloc: Global, first: Slot) -> Result<Vec<Slot>, AllocError> {
 }
 
 /// A program's first slot, the one that is repeated and the last, and what is told of it.
-const STRAIGHT: [(&str, [Slot; 3], Told); 9] = [
-    ("moves", [CLEAR, Put(6, 7), Exit], Told::Accepted(4096)),
+const STRAIGHT: &[(&str, &[Slot; 3], Told)] = &[
+    ("moves", &[CLEAR, Put(6, 7), Exit], Told::Accepted(4096)),
     (
         "no answer",
-        [Put(7, 1), Put(6, 7), Exit],
+        &[Put(7, 1), Put(6, 7), Exit],
         Told::Refused(20, 4095),
     ),
     (
         "a pointer as the answer",
-        [Copied(0, 1), Put(6, 7), Exit],
+        &[Copied(0, 1), Put(6, 7), Exit],
         Told::Refused(29, 4095),
     ),
-    ("no end", [CLEAR, Put(6, 7), CLEAR], Told::Refused(13, 4095)),
+    (
+        "no end",
+        &[CLEAR, Put(6, 7), CLEAR],
+        Told::Refused(13, 4095),
+    ),
     (
         "sums up to a far offset",
-        [CLEAR, Raised(1, 257), Exit],
+        &[CLEAR, Raised(1, 257), Exit],
         Told::Refused(23, 4081),
     ),
     (
         "loads of the last byte",
-        [Raised(1, 65_535), LoadByte(0, 1, 0), Exit],
+        &[Raised(1, 65_535), LoadByte(0, 1, 0), Exit],
         Told::Accepted(4096),
     ),
     (
         "loads past the last byte",
-        [Raised(1, 65_536), LoadByte(0, 1, 0), Exit],
+        &[Raised(1, 65_536), LoadByte(0, 1, 0), Exit],
         Told::Refused(24, 1),
     ),
     (
         "stores of the last byte, no answer",
-        [Raised(3, 65_535), StoreByte(3, 0, 1), Exit],
+        &[Raised(3, 65_535), StoreByte(3, 0, 1), Exit],
         Told::Refused(20, 4095),
     ),
     (
         "stores past the last byte",
-        [Raised(3, 65_536), StoreByte(3, 0, 1), Exit],
+        &[Raised(3, 65_536), StoreByte(3, 0, 1), Exit],
         Told::Refused(24, 1),
     ),
 ];
@@ -86,15 +91,15 @@ const STRAIGHT: [(&str, [Slot; 3], Told); 9] = [
 fn straight_programs(rt: HostRuntime) -> Result<(), Fail> {
     let alloc = rt.alloc();
     let sigs = Sigs::new(alloc);
-    for (name, slots, want) in &STRAIGHT {
+    for (name, slots, want) in STRAIGHT {
         let code = straight(alloc, slots)?;
-        tells(&rt, alloc, &sigs, GREATEST, name, &code, *want)?;
+        expect(&rt, is_told(alloc, &sigs, GREATEST, &code, *want)?, name);
     }
     Ok(())
 }
 
 /// A program's first slot, and what is told of it.
-const BRANCHY: [(&str, Slot, Told); 3] = [
+const BRANCHY: &[(&str, Slot, Told)] = &[
     ("branches", CLEAR, Told::Accepted(4096)),
     (
         "branches without an answer",
@@ -112,15 +117,15 @@ const BRANCHY: [(&str, Slot, Told); 3] = [
 fn branchy_programs(rt: HostRuntime) -> Result<(), Fail> {
     let alloc = rt.alloc();
     let sigs = Sigs::new(alloc);
-    for (name, first, want) in &BRANCHY {
+    for (name, first, want) in BRANCHY {
         let code = branchy(alloc, *first)?;
-        tells(&rt, alloc, &sigs, GREATEST, name, &code, *want)?;
+        expect(&rt, is_told(alloc, &sigs, GREATEST, &code, *want)?, name);
     }
     Ok(())
 }
 
 /// How many bytes a program copies, and what is told of it.
-const WHOLE_WINDOWS: [(&str, i32, Told); 2] = [
+const WHOLE_WINDOWS: &[(&str, i32, Told)] = &[
     ("a copy of a whole window", 65_536, Told::Accepted(6)),
     ("a copy of one byte more", 65_537, Told::Refused(28, 3)),
 ];
@@ -128,7 +133,7 @@ const WHOLE_WINDOWS: [(&str, i32, Told); 2] = [
 #[test]
 fn calls_on_whole_windows(rt: HostRuntime) -> Result<(), Fail> {
     let sigs = Sigs::new(rt.alloc());
-    for &(name, len, want) in &WHOLE_WINDOWS {
+    for &(name, len, want) in WHOLE_WINDOWS {
         let code = [
             Copied(2, 1),
             Copied(1, 3),
@@ -137,7 +142,11 @@ fn calls_on_whole_windows(rt: HostRuntime) -> Result<(), Fail> {
             CLEAR,
             Exit,
         ];
-        tells(&rt, rt.alloc(), &sigs, GREATEST, name, &code, want)?;
+        expect(
+            &rt,
+            is_told(rt.alloc(), &sigs, GREATEST, &code, want)?,
+            &name,
+        );
     }
     Ok(())
 }
