@@ -6,7 +6,7 @@ mod pre_commits;
 mod resolvers;
 mod windows;
 
-use crate::tests::{sibling, tombstones, value};
+use crate::tests::{expect, sibling, tombstones, value};
 use abi::Verdict;
 use admission::admit_image;
 use code_parts::{Slot, hook_image_of};
@@ -154,8 +154,7 @@ fn decide_so(
 ) -> Result<(), Fail> {
     let mut room = Room::new(alloc);
     for row in rows {
-        let decided = decides(alloc, &mut room, kind, shown, row)?;
-        assert!(rt; decided, "{} {} {:?}", row.0, row.1, row.3);
+        expect(rt, decides(alloc, &mut room, kind, shown, row)?, &row.3);
     }
     Ok(())
 }

@@ -63,7 +63,7 @@ fn add_newest(alloc: Global, table: &mut Table) -> Result<bool, Fail> {
 /// The length of an input window, and what a hook decides of no sibling with the helper that it calls.
 type Agreed = (u32, Result<Verdict<'static>, RunFault>);
 
-const AGREED: [Agreed; 2] = [(16, Ok(Verdict::Reject(5))), (15, Err(RunFault::TooLarge))];
+const AGREED: &[Agreed] = &[(16, Ok(Verdict::Reject(5))), (15, Err(RunFault::TooLarge))];
 
 /// Whether a hook decides so with a table, and tells that an empty one disagrees.
 fn needs_its_helper(
@@ -86,21 +86,29 @@ fn agrees_so(alloc: Global, table: &Table, agreed: &Agreed) -> Result<bool, Fail
     Ok(needs_its_helper(alloc, table, &calls, want))
 }
 
+/// Whether all hooks do.
+fn all_agree(alloc: Global, table: &Table) -> Result<bool, Fail> {
+    for agreed in AGREED {
+        if !agrees_so(alloc, table, agreed)? {
+            return Ok(false);
+        }
+    }
+    Ok(true)
+}
+
 /// A table that lacks the helper is told, and before a window that is too short.
 #[test]
 fn disagreeing_tables(rt: HostRuntime) -> Result<(), Fail> {
     let mut table = Table::new(rt.alloc());
-    assert!(rt; add_modulo_8(rt.alloc(), &mut table)?);
-    for agreed in &AGREED {
-        assert!(rt; agrees_so(rt.alloc(), &table, agreed)?, "{}", agreed.0);
-    }
+    let told = add_modulo_8(rt.alloc(), &mut table)? && all_agree(rt.alloc(), &table)?;
+    assert!(rt; told);
     Ok(())
 }
 
 /// The dots of siblings, and what a hook decides that takes the newest.
 type Newest = (&'static [Dot], Result<Verdict<'static>, Undecided>);
 
-const NEWEST_OF: [Newest; 5] = [
+const NEWEST_OF: &[Newest] = &[
     (
         &[],
         Err(Undecided::Fault(RunFault::Bad(BadAnswer::NoSuchSibling))),
@@ -138,7 +146,7 @@ fn takes(
 /// Whether a resolver takes the newest sibling, in a room that is kept.
 fn take_newest(alloc: Global, table: &Table, room: &mut Room) -> Result<bool, Fail> {
     let bytes = hook_image_of(alloc, RESOLVER, 128, 0, NEWEST)?;
-    for newest in &NEWEST_OF {
+    for newest in NEWEST_OF {
         if !takes(alloc, room, table, &bytes, newest)? {
             return Ok(false);
         }

@@ -1,6 +1,7 @@
 //! Images of the kind that is asked for, and of another.
 
 use super::{PRE_COMMIT, RESOLVER};
+use crate::tests::expect;
 use abi::Verdict;
 use admission::Refusal;
 use bpfimage::ImageKind;
@@ -16,7 +17,7 @@ type Kinds = (u8, ImageKind, Result<Verdict<'static>, Undecided>);
 
 const OTHER_KIND: Undecided = Undecided::Refused(Refusal::OtherKind);
 
-const KINDS: [Kinds; 5] = [
+const KINDS: &[Kinds] = &[
     (PRE_COMMIT, ImageKind::PreCommit, Ok(Verdict::Pass)),
     (PRE_COMMIT, ImageKind::Resolver, Err(OTHER_KIND)),
     (RESOLVER, ImageKind::Resolver, Ok(Verdict::Keep)),
@@ -35,13 +36,8 @@ fn decides_as(alloc: Global, room: &mut Room, kinds: &Kinds) -> Result<bool, Fai
 #[test]
 fn kinds_of_images(rt: HostRuntime) -> Result<(), Fail> {
     let mut room = Room::new(rt.alloc());
-    for kinds in &KINDS {
-        assert!(rt;
-            decides_as(rt.alloc(), &mut room, kinds)?,
-            "{} {:?}",
-            kinds.0,
-            kinds.1
-        );
+    for kinds in KINDS {
+        expect(&rt, decides_as(rt.alloc(), &mut room, kinds)?, kinds);
     }
     Ok(())
 }

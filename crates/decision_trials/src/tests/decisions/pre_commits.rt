@@ -3,6 +3,7 @@
 use super::{
     ADD_256, NEW_BESIDE_TWO, New, PRE_COMMIT, Row, Shown, Siblings, TWO, decide_so, decides,
 };
+use crate::tests::expect;
 use abi::{BadAnswer, Verdict};
 use code_parts::Slot;
 use code_parts::Slot::{Copied, Exit, Fields, LoadByte, Put, StoreWord};
@@ -15,7 +16,7 @@ const NO_CODE: RunFault = RunFault::Bad(BadAnswer::UnknownCode);
 const CUT: RunFault = RunFault::Bad(BadAnswer::LengthPastWindow);
 
 /// On a new `n` beside the siblings 0-1 `a` and 1-1 `b`.
-const PRE_COMMITS: [Row; 12] = [
+const PRE_COMMITS: &[Row] = &[
     (128, 0, &[Put(0, 0), Exit], Ok(Verdict::Pass)),
     (91, 0, &[Put(0, 0), Exit], Ok(Verdict::Pass)),
     (128, 0, &[Put(0, 0x100), Exit], Ok(Verdict::Reject(0))),
@@ -32,12 +33,12 @@ const PRE_COMMITS: [Row; 12] = [
 
 #[test]
 fn answers(rt: HostRuntime) -> Result<(), Fail> {
-    decide_so(&rt, rt.alloc(), PRE_COMMIT, NEW_BESIDE_TWO, &PRE_COMMITS)
+    decide_so(&rt, rt.alloc(), PRE_COMMIT, NEW_BESIDE_TWO, PRE_COMMITS)
 }
 
 /// Bytes of that input by their places: of the head, of the rows of the new content and the siblings, of the values, and behind
 /// them.
-const BYTES: [(i16, u8); 18] = [
+const BYTES: &[(i16, u8)] = &[
     (0, 1),
     (4, 3),
     (8, 91),
@@ -62,11 +63,11 @@ const BYTES: [(i16, u8); 18] = [
 #[test]
 fn bytes_of_the_input(rt: HostRuntime) -> Result<(), Fail> {
     let mut room = Room::new(rt.alloc());
-    for (place, byte) in &BYTES {
+    for (place, byte) in BYTES {
         let code = [LoadByte(0, 1, *place), ADD_256, Exit];
         let row = (128, 0, code.as_slice(), Ok(Verdict::Reject(*byte)));
         let decided = decides(rt.alloc(), &mut room, PRE_COMMIT, NEW_BESIDE_TWO, &row)?;
-        assert!(rt; decided, "{place}");
+        expect(&rt, decided, place);
     }
     Ok(())
 }
@@ -78,7 +79,7 @@ const STORE: Slot = Fields(0x73, 3, 5, 4, 0);
 const ONE_BYTE: Slot = StoreWord(3, 0, 1);
 
 /// Hooks write a byte of the input as value; then values of zeros, one too long, and an empty one.
-const WRITTEN: [Row; 6] = [
+const WRITTEN: &[Row] = &[
     (
         128,
         8,
@@ -110,14 +111,14 @@ const WRITTEN: [Row; 6] = [
 /// Nothing is left of earlier runs.
 #[test]
 fn written_values(rt: HostRuntime) -> Result<(), Fail> {
-    decide_so(&rt, rt.alloc(), PRE_COMMIT, NEW_BESIDE_TWO, &WRITTEN)
+    decide_so(&rt, rt.alloc(), PRE_COMMIT, NEW_BESIDE_TWO, WRITTEN)
 }
 
 /// Refuses with the used length of the input as code.
 const USED: &[Slot] = &[Copied(0, 2), ADD_256, Exit];
 
 /// A new content, the dots of siblings, and the length that they use.
-const USED_LENGTHS: [(New, &[Dot], u8); 4] = [
+const USED_LENGTHS: &[(New, &[Dot], u8)] = &[
     (New::Value, &TWO, 91),
     (New::Tombstone, &TWO, 90),
     (New::Value, &[], 41),
@@ -127,14 +128,14 @@ const USED_LENGTHS: [(New, &[Dot], u8); 4] = [
 #[test]
 fn used_lengths(rt: HostRuntime) -> Result<(), Fail> {
     let mut room = Room::new(rt.alloc());
-    for (new, dots, used) in &USED_LENGTHS {
+    for (new, dots, used) in USED_LENGTHS {
         let shown = Shown {
             new: *new,
             siblings: Siblings::Values(dots),
         };
         let row = (128, 0, USED, Ok(Verdict::Reject(*used)));
         let decided = decides(rt.alloc(), &mut room, PRE_COMMIT, shown, &row)?;
-        assert!(rt; decided, "{used}");
+        expect(&rt, decided, used);
     }
     Ok(())
 }

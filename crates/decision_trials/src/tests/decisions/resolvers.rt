@@ -13,7 +13,7 @@ const NO_CODE: RunFault = RunFault::Bad(BadAnswer::UnknownCode);
 const CUT: RunFault = RunFault::Bad(BadAnswer::LengthPastWindow);
 
 /// On the siblings 0-1 `a` and 1-1 `b`.
-const RESOLVERS: [Row; 11] = [
+const RESOLVERS: &[Row] = &[
     (128, 0, &[Put(0, 0x100), Exit], Ok(Verdict::Take(0))),
     (66, 0, &[Put(0, 0x101), Exit], Ok(Verdict::Take(1))),
     (128, 0, &[Put(0, 0), Exit], Ok(Verdict::Keep)),
@@ -35,5 +35,5 @@ const TWO_SIBLINGS: Shown = Shown {
 
 #[test]
 fn resolvers(rt: HostRuntime) -> Result<(), Fail> {
-    decide_so(&rt, rt.alloc(), RESOLVER, TWO_SIBLINGS, &RESOLVERS)
+    decide_so(&rt, rt.alloc(), RESOLVER, TWO_SIBLINGS, RESOLVERS)
 }

@@ -9,17 +9,17 @@ use std::process::Abort;
 use std::test::Fail;
 
 /// Tombstones take no bytes beside their rows.
-const RESOLVERS_OF_64: [Row; 2] = [
+const RESOLVERS_OF_64: &[Row] = &[
     (1552, 0, &[Put(0, 0), Exit], Ok(Verdict::Keep)),
     (1551, 0, &[Put(0, 0), Exit], Err(RunFault::TooLarge)),
 ];
 
-const PRE_COMMITS_BESIDE_64: [Row; 2] = [
+const PRE_COMMITS_BESIDE_64: &[Row] = &[
     (1576, 0, &[Put(0, 0), Exit], Ok(Verdict::Pass)),
     (1575, 0, &[Put(0, 0), Exit], Err(RunFault::TooLarge)),
 ];
 
-const LONGEST: [Row; 1] = [(65535, 0, &[Put(0, 0), Exit], Err(RunFault::TooLarge))];
+const LONGEST: &[Row] = &[(65535, 0, &[Put(0, 0), Exit], Err(RunFault::TooLarge))];
 
 /// Hooks decide so beside so many tombstones.
 fn beside(
@@ -37,8 +37,8 @@ fn beside(
 #[test]
 fn of_resolvers(rt: HostRuntime) -> Result<(), Fail> {
     let alloc = rt.alloc();
-    beside(&rt, alloc, RESOLVER, New::Absent, 64, &RESOLVERS_OF_64)?;
-    beside(&rt, alloc, RESOLVER, New::Absent, 65, &LONGEST)
+    beside(&rt, alloc, RESOLVER, New::Absent, 64, RESOLVERS_OF_64)?;
+    beside(&rt, alloc, RESOLVER, New::Absent, 65, LONGEST)
 }
 
 #[test]
@@ -50,7 +50,7 @@ fn of_pre_commit_hooks(rt: HostRuntime) -> Result<(), Fail> {
         PRE_COMMIT,
         New::Tombstone,
         64,
-        &PRE_COMMITS_BESIDE_64,
+        PRE_COMMITS_BESIDE_64,
     )?;
-    beside(&rt, alloc, PRE_COMMIT, New::Tombstone, 65, &LONGEST)
+    beside(&rt, alloc, PRE_COMMIT, New::Tombstone, 65, LONGEST)
 }

@@ -1,5 +1,6 @@
 //! The table of answers.
 
+use crate::tests::expect;
 use abi::{BadAnswer, TooLarge, Verdict, read_answer};
 use bpfimage::ImageKind;
 use std::alloc::Global;
@@ -33,7 +34,7 @@ const CUT: &[u8] = &[0, 0, 0];
 
 const EMPTY: &[u8] = &[0, 0, 0, 0];
 
-const ANSWERS: [Answer; 31] = [
+const ANSWERS: &[Answer] = &[
     (PLAIN, 0, NONE, Ok(Verdict::Pass)),
     (PLAIN, 1, NONE, Ok(Verdict::Pass)),
     (PLAIN, u64::MAX, NONE, Ok(Verdict::Pass)),
@@ -69,13 +70,14 @@ const ANSWERS: [Answer; 31] = [
 
 #[test]
 fn answers(rt: HostRuntime) {
-    for (kind, r0, output, want) in &ANSWERS {
-        assert_eq!(rt; read_answer(*kind, *r0, 2, output), *want, "{kind:?} {r0}");
+    for row in ANSWERS {
+        let (kind, r0, output, want) = row;
+        expect(&rt, read_answer(*kind, *r0, 2, output) == *want, row);
     }
 }
 
 /// The faults of answers, by the numbers as which they are shown.
-const BAD: [(BadAnswer, &str); 3] = [
+const BAD: &[(BadAnswer, &str)] = &[
     (BadAnswer::UnknownCode, "B1"),
     (BadAnswer::LengthPastWindow, "B2"),
     (BadAnswer::NoSuchSibling, "B3"),
@@ -95,9 +97,14 @@ fn is_large(alloc: Global) -> Result<bool, Fail> {
 
 #[test]
 fn shown_as_numbers(rt: HostRuntime) -> Result<(), Fail> {
-    for (bad, want) in &BAD {
-        assert!(rt; is_shown_as(rt.alloc(), *bad, want)?, "{want}");
+    for (bad, want) in BAD {
+        expect(&rt, is_shown_as(rt.alloc(), *bad, want)?, want);
     }
+    Ok(())
+}
+
+#[test]
+fn too_large(rt: HostRuntime) -> Result<(), Fail> {
     assert!(rt; is_large(rt.alloc())?);
     Ok(())
 }
