@@ -5,8 +5,11 @@ mod calls;
 mod faults;
 mod helping;
 
+ghost use Rattle.std.specs.Prelude.{◌≤◌, length};
+
 use code_parts::{Slot, code_of};
 use helpers::Table;
+use insn::Insn;
 use insn::decode::decode;
 use machine::{State, Stop, drive};
 use memory::{Fault, Windows};
@@ -35,21 +38,10 @@ impl Ending {
     }
 }
 
-/// How slots end on an input with the helpers of a table and so much fuel, and what they leave in an output of eight
-/// bytes.
-fn end_with(
-    alloc: Global,
-    table: &Table,
-    slots: &[Slot],
-    input: &[u8],
-    fuel: u64,
-) -> Result<(Stop, [u8; 8]), Fail> {
-    let Ok(code) = decode(alloc, &code_of(alloc, slots)?) else {
-        return Err(Fail::from("refused"));
-    };
-    if input.len() > 65_536 {
-        return Err(Fail::from("input"));
-    }
+/// How code ends on an input with the helpers of a table and so much fuel, and what it leaves in an output of eight bytes.
+fn end_of(code: &[Insn], table: &Table, input: &[u8], fuel: u64) -> (Stop, [u8; 8])
+    requires { length input.now ≤ 65536 }
+{
     let mut output = NONE;
     let windows = Windows {
         stack: [0; 512],
@@ -57,11 +49,47 @@ fn end_with(
         output: &mut output,
     };
     let mut state = State::start(windows, input.len() as u32);
-    let stop = drive(&mut state, &code, fuel, table);
-    Ok((stop, output))
+    let stop = drive(&mut state, code, fuel, table);
+    (stop, output)
 }
 
-/// How slots end on an input where no helper is, and what they leave in the output.
-fn end_of(alloc: Global, slots: &[Slot], input: &[u8]) -> Result<(Stop, [u8; 8]), Fail> {
-    end_with(alloc, &Table::new(alloc), slots, input, 100)
+/// The same of slots.
+fn end_with(
+    alloc: Global,
+    table: &Table,
+    slots: &[Slot],
+    input: &[u8],
+    fuel: u64,
+) -> Result<(Stop, [u8; 8]), Fail> {
+    if input.len() > 65_536 {
+        return Err(Fail::from("input"));
+    }
+    match decode(alloc, &code_of(alloc, slots)?) {
+        Ok(code) => Ok(end_of(&code, table, input, fuel)),
+        Err(_) => Err(Fail::from("refused")),
+    }
+}
+
+/// Whether slots end so, and leave that in the output.
+fn ends_so(
+    alloc: Global,
+    table: &Table,
+    slots: &[Slot],
+    input: &[u8],
+    fuel: u64,
+    want: &(Stop, [u8; 8]),
+) -> Result<bool, Fail> {
+    Ok(end_with(alloc, table, slots, input, fuel)? == *want)
+}
+
+/// Whether slots stop so where no helper is.
+fn stops_so(
+    alloc: Global,
+    slots: &[Slot],
+    input: &[u8],
+    fuel: u64,
+    want: Stop,
+) -> Result<bool, Fail> {
+    let (stop, _) = end_with(alloc, &Table::new(alloc), slots, input, fuel)?;
+    Ok(stop == want)
 }

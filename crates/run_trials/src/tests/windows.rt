@@ -1,7 +1,17 @@
 //! Reads and changes of windows, by hand.
 
+use super::expect;
 use insn::Size;
 use memory::{Region, Windows};
+
+/// What is read, in the order of the reads.
+const READ: [u64; 5] = [
+    0x8807_0605_0403_0201,
+    0x88,
+    0x0d0c_0b0a_0000,
+    0x0d0c_0b0a_0b0a_0000,
+    0xabab_0b0a,
+];
 
 #[test]
 fn windows(rt: HostRuntime) {
@@ -25,20 +35,27 @@ fn windows(rt: HostRuntime) {
     let same_behind = windows.same(Region::Stack, 505, Region::Output, 1, 7);
     windows.fill(Region::Stack, 510, 2, 0xab);
     let filled = windows.load(Region::Stack, 508, Size::Word);
-    assert_eq!(rt;
-        [first, last, stored, copied, filled],
-        [
-            0x8807_0605_0403_0201,
-            0x88,
-            0x0d0c_0b0a_0000,
-            0x0d0c_0b0a_0b0a_0000,
-            0xabab_0b0a,
-        ]
-    );
-    assert_eq!(rt; [same, differs, same_behind], [true; 3]);
+    assert!(rt; same && differs && same_behind);
+    assert_eq!(rt; [first, last, stored, copied, filled], READ);
 }
 
-/// The addresses at the ends of the windows, for places of eight bytes and of none.
+/// Addresses at the ends of the windows, places of eight bytes and of none, and where these are.
+const ADDRESSES: &[(u64, usize, Option<(Region, usize)>)] = &[
+    ((1 << 40) - 512, 8, Some((Region::Stack, 0))),
+    ((1 << 40) - 8, 8, Some((Region::Stack, 504))),
+    ((1 << 40) - 7, 8, None),
+    ((1 << 40) - 513, 8, None),
+    (1 << 40, 0, Some((Region::Stack, 512))),
+    (1 << 41, 8, Some((Region::Input, 0))),
+    ((1 << 41) + 8, 8, Some((Region::Input, 8))),
+    ((1 << 41) + 9, 8, None),
+    (1 << 42, 8, Some((Region::Output, 0))),
+    ((1 << 42) + 1, 8, None),
+    ((1 << 42) + 8, 0, Some((Region::Output, 8))),
+    (0, 1, None),
+    (u64::MAX, 8, None),
+];
+
 #[test]
 fn addresses(rt: HostRuntime) {
     let mut output = [0u8; 8];
@@ -47,21 +64,8 @@ fn addresses(rt: HostRuntime) {
         input: &[0; 16],
         output: &mut output,
     };
-    for (address, n, want) in [
-        ((1 << 40) - 512, 8, Some((Region::Stack, 0))),
-        ((1 << 40) - 8, 8, Some((Region::Stack, 504))),
-        ((1 << 40) - 7, 8, None),
-        ((1 << 40) - 513, 8, None),
-        (1 << 40, 0, Some((Region::Stack, 512))),
-        (1 << 41, 8, Some((Region::Input, 0))),
-        ((1 << 41) + 8, 8, Some((Region::Input, 8))),
-        ((1 << 41) + 9, 8, None),
-        (1 << 42, 8, Some((Region::Output, 0))),
-        ((1 << 42) + 1, 8, None),
-        ((1 << 42) + 8, 0, Some((Region::Output, 8))),
-        (0, 1, None),
-        (u64::MAX, 8, None),
-    ] {
-        assert_eq!(rt; windows.locate(address, n), want, "{address} {n}");
+    for row in ADDRESSES {
+        let (address, n, want) = *row;
+        expect(&rt, windows.locate(address, n) == want, row);
     }
 }

@@ -1,12 +1,13 @@
 //! The newest sibling of layouts.
 
 use super::layout;
+use crate::tests::expect;
 use helpers::newest;
-use std::alloc::Global;
+use std::alloc::{AllocError, Global};
 use std::test::Fail;
 
 /// The rows of a layout, and the place of its newest sibling, 64 if there is none.
-const NEWEST: [(&[(u32, u64)], u64); 12] = [
+const NEWEST: &[(&[(u32, u64)], u64)] = &[
     (&[], 64),
     (&[(1, 5)], 0),
     (&[(0, 1), (1, 1)], 1),
@@ -21,38 +22,57 @@ const NEWEST: [(&[(u32, u64)], u64); 12] = [
     (&[(u32::MAX, 1), (0, u64::MAX)], 1),
 ];
 
-/// The newest sibling of a layout that has these rows.
-fn newest_among(alloc: Global, rows: &[(u32, u64)]) -> Result<u64, Fail> {
-    if rows.len() > 64 {
-        return Err(Fail::from("rows"));
-    }
-    let bytes = layout(alloc, rows.len() as u32, rows)?;
-    Ok(newest(&bytes))
+/// Whether a layout that says it has so many rows, and has these, has its newest sibling there.
+fn is_newest(
+    alloc: Global,
+    count: u32,
+    rows: &[(u32, u64)],
+    want: u64,
+) -> Result<bool, AllocError> {
+    Ok(newest(&layout(alloc, count, rows)?) == want)
 }
 
 #[test]
 fn newest_siblings(rt: HostRuntime) -> Result<(), Fail> {
-    for &(rows, want) in &NEWEST {
-        let newest = newest_among(rt.alloc(), rows)?;
-        assert_eq!(rt; newest, want, "{rows:?}");
+    for (rows, want) in NEWEST {
+        let count = u32::try_from(rows.len())?;
+        expect(&rt, is_newest(rt.alloc(), count, rows, *want)?, rows);
     }
     Ok(())
 }
 
+const TWO: &[(u32, u64)] = &[(0, 1), (0, 2)];
+
+/// How many rows a layout says that it has, the rows that it has, and the place of its newest sibling.
+const COUNTS: &[(u32, &[(u32, u64)], u64)] = &[
+    (2, TWO, 1),
+    (3, TWO, 64),
+    (1, TWO, 0),
+    (64, &[(0, 7); 64], 0),
+    (65, &[(0, 7); 65], 64),
+];
+
 #[test]
-fn no_layouts(rt: HostRuntime) -> Result<(), Fail> {
-    let bytes = layout(rt.alloc(), 2, &[(0, 1), (0, 2)])?;
-    assert_eq!(rt; newest(&bytes), 1);
-    for len in 0..bytes.len() {
-        assert_eq!(rt; newest(&bytes[..len]), 64, "{len} bytes");
+fn counts(rt: HostRuntime) -> Result<(), Fail> {
+    for (count, rows, want) in COUNTS {
+        expect(&rt, is_newest(rt.alloc(), *count, rows, *want)?, count);
     }
-    let short = layout(rt.alloc(), 3, &[(0, 1), (0, 2)])?;
-    assert_eq!(rt; newest(&short), 64);
-    let longer = layout(rt.alloc(), 1, &[(0, 1), (0, 2)])?;
-    assert_eq!(rt; newest(&longer), 0);
-    let most = layout(rt.alloc(), 64, &[(0, 7); 64])?;
-    assert_eq!(rt; newest(&most), 0);
-    let over = layout(rt.alloc(), 65, &[(0, 7); 65])?;
-    assert_eq!(rt; newest(&over), 64);
+    Ok(())
+}
+
+/// Whether no cut layout has a newest sibling.
+fn cut_has_none(bytes: &[u8]) -> bool {
+    for len in 0..bytes.len() {
+        if newest(&bytes[..len]) != 64 {
+            return false;
+        }
+    }
+    true
+}
+
+#[test]
+fn cut_layouts(rt: HostRuntime) -> Result<(), Fail> {
+    let bytes = layout(rt.alloc(), 2, TWO)?;
+    assert!(rt; cut_has_none(&bytes));
     Ok(())
 }

@@ -1,7 +1,8 @@
 //! Calls of the step machine: what each gives and where it faults.
 
 use super::Ending::{Answers, Faults};
-use super::{Ending, MAX, NONE, end_with};
+use super::{Ending, MAX, NONE, ends_so};
+use crate::tests::expect;
 use code_parts::Slot;
 use code_parts::Slot::{Call, Copied, Exit, Put, Raised, StoreWord};
 use helpers::Table;
@@ -11,13 +12,13 @@ use std::process::Abort;
 use std::test::Fail;
 
 /// The slots of a program that calls 1 to 3, its input, how it ends, and its output.
-const OWN: [(&str, &[Slot], &[u8], Ending, [u8; 8]); 25] = [
+const OWN: &[(&str, &[Slot], &[u8], Ending, &[u8; 8])] = &[
     (
         "copy",
         &[Copied(2, 1), Copied(1, 3), Put(3, 4), Call(1), Exit],
         &[1, 2, 3, 4],
         Answers(0, 5),
-        [1, 2, 3, 4, 0, 0, 0, 0],
+        &[1, 2, 3, 4, 0, 0, 0, 0],
     ),
     (
         "copy upwards over itself",
@@ -33,7 +34,7 @@ const OWN: [(&str, &[Slot], &[u8], Ending, [u8; 8]); 25] = [
         ],
         &[],
         Answers(0, 8),
-        [1, 1, 2, 3, 4, 5, 6, 8],
+        &[1, 1, 2, 3, 4, 5, 6, 8],
     ),
     (
         "copy downwards over itself",
@@ -49,7 +50,7 @@ const OWN: [(&str, &[Slot], &[u8], Ending, [u8; 8]); 25] = [
         ],
         &[],
         Answers(0, 8),
-        [3, 4, 5, 6, 7, 8, 7, 8],
+        &[3, 4, 5, 6, 7, 8, 7, 8],
     ),
     (
         "copy of nothing at the ends",
@@ -64,14 +65,14 @@ const OWN: [(&str, &[Slot], &[u8], Ending, [u8; 8]); 25] = [
         ],
         &[1, 2],
         Answers(0, 7),
-        NONE,
+        &NONE,
     ),
     (
         "copy of nothing to the end of the stack",
         &[Copied(2, 1), Copied(1, 10), Put(3, 0), Call(1), Exit],
         &[],
         Answers(0, 5),
-        NONE,
+        &NONE,
     ),
     (
         "copy of nothing past the end",
@@ -85,42 +86,42 @@ const OWN: [(&str, &[Slot], &[u8], Ending, [u8; 8]); 25] = [
         ],
         &[],
         Faults(Fault::Helper, 4),
-        NONE,
+        &NONE,
     ),
     (
         "copy past the end",
         &[Copied(2, 1), Copied(1, 3), Put(3, 9), Call(1), Exit],
         &[0; 9],
         Faults(Fault::Helper, 3),
-        NONE,
+        &NONE,
     ),
     (
         "copy from past the end",
         &[Copied(2, 1), Copied(1, 3), Put(3, 4), Call(1), Exit],
         &[1, 2, 3],
         Faults(Fault::Helper, 3),
-        NONE,
+        &NONE,
     ),
     (
         "copy to the input",
         &[Copied(2, 3), Put(3, 1), Call(1), Exit],
         &[1],
         Faults(Fault::Helper, 2),
-        NONE,
+        &NONE,
     ),
     (
         "copy of nothing to the input",
         &[Copied(2, 3), Put(3, 0), Call(1), Exit],
         &[1],
         Faults(Fault::Helper, 2),
-        NONE,
+        &NONE,
     ),
     (
         "fill of nothing in the input",
         &[Put(3, 0), Call(2), Exit],
         &[],
         Faults(Fault::Helper, 1),
-        NONE,
+        &NONE,
     ),
     (
         "unset is told first",
@@ -135,7 +136,7 @@ const OWN: [(&str, &[Slot], &[u8], Ending, [u8; 8]); 25] = [
         ],
         &[],
         Faults(Fault::Unset, 5),
-        NONE,
+        &NONE,
     ),
     (
         "fill",
@@ -149,77 +150,77 @@ const OWN: [(&str, &[Slot], &[u8], Ending, [u8; 8]); 25] = [
         ],
         &[],
         Answers(0, 6),
-        [0, 0, 255, 255, 255, 0, 0, 0],
+        &[0, 0, 255, 255, 255, 0, 0, 0],
     ),
     (
         "fill of nothing at the end",
         &[Copied(1, 3), Raised(1, 8), Put(3, 0), Call(2), Exit],
         &[],
         Answers(0, 5),
-        NONE,
+        &NONE,
     ),
     (
         "fill of the input",
         &[Put(3, 1), Call(2), Exit],
         &[7],
         Faults(Fault::Helper, 1),
-        NONE,
+        &NONE,
     ),
     (
         "fill past the end",
         &[Copied(1, 3), Raised(1, 7), Put(3, 2), Call(2), Exit],
         &[],
         Faults(Fault::Helper, 3),
-        NONE,
+        &NONE,
     ),
     (
         "fill of more than a window",
         &[Copied(1, 3), Put(3, 65_537), Call(2), Exit],
         &[],
         Faults(Fault::Helper, 2),
-        NONE,
+        &NONE,
     ),
     (
         "same bytes",
         &[Copied(2, 1), Raised(2, 2), Put(3, 2), Call(3), Exit],
         b"abab",
         Answers(1, 5),
-        NONE,
+        &NONE,
     ),
     (
         "other bytes",
         &[Copied(2, 1), Raised(2, 1), Put(3, 2), Call(3), Exit],
         b"abab",
         Answers(0, 5),
-        NONE,
+        &NONE,
     ),
     (
         "no bytes are the same",
         &[Copied(2, 1), Raised(2, 4), Put(3, 0), Call(3), Exit],
         b"abab",
         Answers(1, 5),
-        NONE,
+        &NONE,
     ),
     (
         "bytes of two windows",
         &[Copied(2, 3), Put(3, 2), Call(3), Exit],
         &[0, 0],
         Answers(1, 4),
-        NONE,
+        &NONE,
     ),
     (
         "same past the end",
         &[Copied(2, 3), Put(3, 3), Call(3), Exit],
         &[0, 0],
         Faults(Fault::Helper, 2),
-        NONE,
+        &NONE,
     ),
     (
         "an argument after a call",
         &[Copied(1, 3), Put(3, 0), Call(2), Copied(0, 1), Exit],
         &[],
         Faults(Fault::Unset, 3),
-        NONE,
+        &NONE,
     ),
     (
         "R5 after a call",
@@ -233,7 +234,7 @@ const OWN: [(&str, &[Slot], &[u8], Ending, [u8; 8]); 25] = [
         ],
         &[],
         Faults(Fault::Unset, 4),
-        NONE,
+        &NONE,
     ),
     (
         "R6 after a call",
@@ -247,22 +248,26 @@ const OWN: [(&str, &[Slot], &[u8], Ending, [u8; 8]); 25] = [
         ],
         &[],
         Answers(9, 6),
-        NONE,
+        &NONE,
     ),
 ];
 
 #[test]
 fn own_calls(rt: HostRuntime) -> Result<(), Fail> {
     let table = Table::new(rt.alloc());
-    for &(name, slots, input, want, output) in &OWN {
-        let got = end_with(rt.alloc(), &table, slots, input, 100)?;
-        assert_eq!(rt; got, (want.stop(), output), "{name}");
+    for (name, slots, input, want, output) in OWN {
+        let want = (want.stop(), **output);
+        expect(
+            &rt,
+            ends_so(rt.alloc(), &table, slots, input, 100, &want)?,
+            name,
+        );
     }
     Ok(())
 }
 
 /// The slots of a program that calls helpers, its input, and how it ends.
-const HELPERS: [(&str, &[Slot], &[u8], Ending); 20] = [
+const HELPERS: &[(&str, &[Slot], &[u8], Ending)] = &[
     ("decimal", &[Call(18), Exit], b"123", Answers(123, 2)),
     (
         "decimal of nothing",
@@ -455,9 +460,9 @@ const HELPERS: [(&str, &[Slot], &[u8], Ending); 20] = [
 
 /// Tells how the programs that call helpers end.
 pub fn with_helpers(rt: &impl Abort, alloc: Global, table: &Table) -> Result<(), Fail> {
-    for &(name, slots, input, want) in &HELPERS {
-        let got = end_with(alloc, table, slots, input, 100)?;
-        assert_eq!(rt; got, (want.stop(), NONE), "{name}");
+    for (name, slots, input, want) in HELPERS {
+        let want = (want.stop(), NONE);
+        expect(rt, ends_so(alloc, table, slots, input, 100, &want)?, name);
     }
     Ok(())
 }

@@ -1,17 +1,17 @@
 //! Programs that go wrong, each in its way, and programs that want fuel.
 
-use super::{Ending, end_of, end_with};
+use super::stops_so;
+use crate::tests::expect;
 use code_parts::Slot;
 use code_parts::Slot::{
     Added, Call, Copied, Exit, Fields, Jump, LoadByte, Put, StoreByte, StoreWord, Wide,
 };
-use helpers::Table;
 use machine::Stop;
 use memory::Fault;
 use std::test::Fail;
 
 /// The slots of a program that faults on an input of nine bytes, why, and at which slot.
-const FAULTS: [(&[Slot], Fault, i64); 24] = [
+const FAULTS: &[(&[Slot], Fault, i64)] = &[
     // A register that is read holds nothing.
     (&[Exit], Fault::Unset, 0),
     (&[Added(1, 5)], Fault::Unset, 0),
@@ -48,14 +48,21 @@ const FAULTS: [(&[Slot], Fault, i64); 24] = [
 #[test]
 fn faults(rt: HostRuntime) -> Result<(), Fail> {
     for (slots, why, slot) in FAULTS {
-        let (stop, _) = end_of(rt.alloc(), slots, &[0x01; 9])?;
-        assert_eq!(rt; stop, Stop::Fault { why, slot }, "{why:?} at {slot}");
+        let want = Stop::Fault {
+            why: *why,
+            slot: *slot,
+        };
+        expect(
+            &rt,
+            stops_so(rt.alloc(), slots, &[0x01; 9], 100, want)?,
+            &want,
+        );
     }
     Ok(())
 }
 
 /// The slots of a program, the fuel of a drive, and how it ends.
-const FUEL: [(&[Slot], u64, Stop); 8] = [
+const FUEL: &[(&[Slot], u64, Stop)] = &[
     (&[Put(0, 0), Exit], 0, Stop::Fuel),
     (&[Put(0, 0), Exit], 1, Stop::Fuel),
     (&[Put(0, 0), Exit], 2, EXIT),
@@ -88,10 +95,8 @@ const PAST_END: Stop = Stop::Fault {
 
 #[test]
 fn fuel(rt: HostRuntime) -> Result<(), Fail> {
-    let table = Table::new(rt.alloc());
     for (slots, fuel, want) in FUEL {
-        let (stop, _) = end_with(rt.alloc(), &table, slots, &[], fuel)?;
-        assert_eq!(rt; stop, want, "{fuel}");
+        expect(&rt, stops_so(rt.alloc(), slots, &[], *fuel, *want)?, fuel);
     }
     Ok(())
 }
