@@ -2,10 +2,11 @@
 
 ghost use Rattle.std.specs.Prelude.{◌<◌, ◌^◌};
 
+use crate::tests::expect;
 use crate::tests::steps::Step::{Deliver, Put, Read, Restart};
 use crate::tests::steps::{At, open, play_alone};
 use crate::tests::telling::tell;
-use audit_parts::{Told, judge};
+use audit_parts::judge;
 use std::alloc::Global;
 use std::test::Fail;
 use vnode::Vnode;
@@ -34,27 +35,38 @@ const ROUND: &[At] = &[
     (30, Deliver(u64::MAX, b'k', 6)),
 ];
 
-/// What is told of vnodes with these identifiers, in this order, at which these steps happen.
-fn tell_run(alloc: Global, ids: &[u32], steps: &[At]) -> Result<Told, Fail> {
-    tell(alloc, ids, &[], &[], steps)
+/// Whether nothing is told of vnodes with these identifiers, in this order, at which these steps happen.
+fn is_run(alloc: Global, ids: &[u32], steps: &[At]) -> Result<bool, Fail> {
+    Ok(tell(alloc, ids, &[], &[], steps)?.is_none())
 }
 
+/// The greatest identifier.
+const LAST: u32 = u32::MAX;
+
 /// No vnode, vnodes at which nothing happened, and restarts alone.
+const LITTLE: &[(&[u32], &[At])] = &[
+    (&[], &[]),
+    (&[1, 0], &[]),
+    (
+        &[LAST, 1, 0],
+        &[(LAST, Restart(0)), (LAST, Restart(u64::MAX))],
+    ),
+];
+
 #[test]
 fn little_happened(rt: HostRuntime) -> Result<(), Fail> {
-    let last = u32::MAX;
-    let restarts = [(last, Restart(0)), (last, Restart(u64::MAX))];
-    assert_eq!(rt; tell_run(rt.alloc(), &[], &[])?, None);
-    assert_eq!(rt; tell_run(rt.alloc(), &[1, 0], &[])?, None);
-    assert_eq!(rt; tell_run(rt.alloc(), &[last, 1, 0], &restarts)?, None);
+    for (ids, steps) in LITTLE {
+        expect(&rt, is_run(rt.alloc(), ids, steps)?, ids);
+    }
     Ok(())
 }
 
 /// The journals come in any order.
 #[test]
 fn writes_go_round(rt: HostRuntime) -> Result<(), Fail> {
-    assert_eq!(rt; tell_run(rt.alloc(), &[20, 10, 30], ROUND)?, None);
-    assert_eq!(rt; tell_run(rt.alloc(), &[30, 10, 20], ROUND)?, None);
+    for ids in &[[20, 10, 30], [30, 10, 20]] {
+        expect(&rt, is_run(rt.alloc(), ids, ROUND)?, ids);
+    }
     Ok(())
 }
 
@@ -81,14 +93,14 @@ fn go_on(alloc: Global, vnodes: &mut [Vnode], rounds: u64) -> Result<(), Fail>
     Ok(())
 }
 
-/// Whether each of some vnodes has so many entries, and what is told of them.
-fn judged(alloc: Global, vnodes: &[Vnode], entries: usize) -> Result<(bool, Told), Fail> {
+/// Whether each of some vnodes has so many entries, and nothing is told of them.
+fn judged(alloc: Global, vnodes: &[Vnode], entries: usize) -> Result<bool, Fail> {
     let same = vnodes.iter().all(|vnode| vnode.journal().len() == entries);
-    Ok((same, judge(alloc, vnodes)?))
+    Ok(same && judge(alloc, vnodes)?.is_none())
 }
 
-/// Whether each of two vnodes has 5,000 entries after 1,250 rounds, and what is told then.
-fn many(alloc: Global) -> Result<(bool, Told), Fail> {
+/// Whether each of two vnodes has 5,000 entries after 1,250 rounds, and nothing is told then.
+fn many(alloc: Global) -> Result<bool, Fail> {
     let mut vnodes = open(alloc, &[1, 0])?;
     go_on(alloc, &mut vnodes, 1250)?;
     judged(alloc, &vnodes, 5000)
@@ -97,6 +109,6 @@ fn many(alloc: Global) -> Result<(bool, Told), Fail> {
 /// Ten thousand entries, of which each journal has some blocks.
 #[test]
 fn many_entries(rt: HostRuntime) -> Result<(), Fail> {
-    assert_eq!(rt; many(rt.alloc())?, (true, None));
+    assert!(rt; many(rt.alloc())?);
     Ok(())
 }

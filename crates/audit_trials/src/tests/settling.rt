@@ -48,11 +48,9 @@ fn put(alloc: Global, vnode: &mut Vnode, key: &Key) -> Result<(), Fail> {
 
 /// What a vnode hands out after a put, whether its journal is whole then, and what it hands out after 2,999 reads and after 1,100
 /// more.
-fn settlings(
-    alloc: Global,
-    vnode: &mut Vnode,
-    key: &Key,
-) -> Result<(Shape, bool, Shape, Shape), Fail> {
+type Settlings = (Shape, bool, Shape, Shape);
+
+fn settlings(alloc: Global, vnode: &mut Vnode, key: &Key) -> Result<Settlings, Fail> {
     put(alloc, vnode, key)?;
     let nothing = settle(alloc, vnode);
     let whole = vnode.journal().whole().is_some();
@@ -84,21 +82,31 @@ fn found(vnode: &mut Vnode, key: &Key) -> Result<(usize, u32), Fail> {
     Ok((state.siblings().len(), place))
 }
 
+/// Two settlings hand out two full blocks each.
+const SETTLED: Settlings = (
+    (0, 0, None, None),
+    true,
+    (0, 2, Some(0), Some(2_047)),
+    (2_048, 2, Some(2_048), Some(4_095)),
+);
+
+/// Whether a vnode hands that out.
+fn settles(alloc: Global, vnode: &mut Vnode, key: &Key) -> Result<bool, Fail> {
+    Ok(settlings(alloc, vnode, key)? == SETTLED)
+}
+
+/// Whether a vnode then has the last four entries, and answers a read as before.
+fn is_as_before(vnode: &mut Vnode, key: &Key) -> Result<bool, Fail> {
+    let stamps = [None, None, Some(4_096), None];
+    Ok(left(vnode) == (4_096, 4_100, false, stamps) && found(vnode, key)? == (1, 4_100))
+}
+
 /// What two settlings hand out follows one another; places and answers stay as they were.
 #[test]
 fn settled_vnodes_answer_as_before(rt: HostRuntime) -> Result<(), Fail> {
-    let alloc = rt.alloc();
-    let key = key_of(alloc, b'k')?;
-    let mut vnode = Vnode::new(alloc, 7);
-    let want = (
-        (0, 0, None, None),
-        true,
-        (0, 2, Some(0), Some(2_047)),
-        (2_048, 2, Some(2_048), Some(4_095)),
-    );
-    assert_eq!(rt; settlings(alloc, &mut vnode, &key)?, want);
-    let want = (4_096, 4_100, false, [None, None, Some(4_096), None]);
-    assert_eq!(rt; left(&vnode), want);
-    assert_eq!(rt; found(&mut vnode, &key)?, (1, 4_100));
+    let key = key_of(rt.alloc(), b'k')?;
+    let mut vnode = Vnode::new(rt.alloc(), 7);
+    let told = settles(rt.alloc(), &mut vnode, &key)? && is_as_before(&mut vnode, &key)?;
+    assert!(rt; told);
     Ok(())
 }
