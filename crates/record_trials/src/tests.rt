@@ -8,12 +8,19 @@ mod siblings;
 
 use sha1::Sha1;
 use std::alloc::{AllocError, Global};
+use std::fmt::Debug;
+use std::process::Abort;
 use wire::{WireFault, read_record};
 
 const NOT_CANONICAL: Option<WireFault> = Some(WireFault::NotCanonical);
 
 /// The bytes of bucket `sim`, key `k`, from vnode 0 at place 1.
-const KEY: [u8; 16] = [0, 3, b's', b'i', b'm', 0, 1, b'k', 0, 0, 0, 0, 0, 0, 0, 1];
+const KEY: &[u8] = &[0, 3, b's', b'i', b'm', 0, 1, b'k', 0, 0, 0, 0, 0, 0, 0, 1];
+
+/// Ends the test where a row does not hold, and names the row.
+fn expect(rt: &impl Abort, holds: bool, row: &impl Debug) {
+    assert!(rt; holds, "{row:?}");
+}
 
 /// The entries of a clock, or the dots of siblings, each a vnode and a number.
 type Dots = &'static [(u32, u64)];
@@ -48,15 +55,32 @@ fn push_siblings(
     Ok(())
 }
 
-/// Of a record with this body, under the right digest: why it isn't read, if it isn't.
-fn told(alloc: Global, body: &[u8]) -> Result<Option<WireFault>, AllocError> {
+/// Adds a record with this body, under the right digest.
+fn push_record(bytes: &mut Vec<u8>, body: &[u8]) -> Result<(), AllocError> {
     let len = (body.len() % (1 << 32)) as u32;
-    let mut bytes = Vec::new(alloc);
     bytes.extend_from_slice(b"DVR1")?;
     bytes.extend_from_slice(&len.to_be_bytes())?;
     bytes.extend_from_slice(body)?;
-    bytes.extend_from_slice(&Sha1::digest(body))?;
+    bytes.extend_from_slice(&Sha1::digest(body))
+}
+
+/// Of a record with this body, under the right digest: why it isn't read, if it isn't.
+fn told(alloc: Global, body: &[u8]) -> Result<Option<WireFault>, AllocError> {
+    let mut bytes = Vec::new(alloc);
+    push_record(&mut bytes, body)?;
     Ok(read_record(alloc, &bytes).err())
+}
+
+/// Adds the body of a record of the key with this clock and these siblings.
+fn push_body(
+    body: &mut Vec<u8>,
+    clock: &[(u32, u64)],
+    count: u32,
+    siblings: &[(u32, u64, &[u8])],
+) -> Result<(), AllocError> {
+    body.extend_from_slice(KEY)?;
+    push_clock(body, clock)?;
+    push_siblings(body, count, siblings)
 }
 
 /// Of a record of the key with this clock and these siblings, under the right digest: why it isn't read, if it isn't.
@@ -67,8 +91,6 @@ fn told_of(
     siblings: &[(u32, u64, &[u8])],
 ) -> Result<Option<WireFault>, AllocError> {
     let mut body = Vec::new(alloc);
-    body.extend_from_slice(&KEY)?;
-    push_clock(&mut body, clock)?;
-    push_siblings(&mut body, count, siblings)?;
+    push_body(&mut body, clock, count, siblings)?;
     told(alloc, &body)
 }

@@ -1,10 +1,12 @@
 //! Faults as numbers.
 
+use super::expect;
+use std::alloc::Global;
 use std::test::Fail;
 use wire::WireFault;
 
 /// Each fault and its number.
-const NUMBERS: [(WireFault, &str); 5] = [
+const NUMBERS: &[(WireFault, &str)] = &[
     (WireFault::Cut, "W1"),
     (WireFault::Mark, "W2"),
     (WireFault::Digest, "W3"),
@@ -12,11 +14,15 @@ const NUMBERS: [(WireFault, &str); 5] = [
     (WireFault::NoMemory, "E1"),
 ];
 
+/// Whether a fault is shown so.
+fn is_shown(alloc: Global, fault: WireFault, want: &str) -> Result<bool, Fail> {
+    Ok(format!(in alloc; "{fault}")?.as_str() == want)
+}
+
 #[test]
 fn shown_as_numbers(rt: HostRuntime) -> Result<(), Fail> {
-    let alloc = rt.alloc();
-    for (fault, want) in &NUMBERS {
-        assert_eq!(rt; format!(in alloc; "{fault}")?.as_str(), *want);
+    for (fault, want) in NUMBERS {
+        expect(&rt, is_shown(rt.alloc(), *fault, want)?, want);
     }
     Ok(())
 }

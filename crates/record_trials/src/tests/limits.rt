@@ -1,12 +1,12 @@
 //! How long names, media types and values may be.
 
-use super::{KEY, NOT_CANONICAL, push_clock, push_siblings, told, told_of};
+use super::{KEY, NOT_CANONICAL, expect, push_clock, push_siblings, told, told_of};
 use std::alloc::{AllocError, Global};
 use std::test::Fail;
 use wire::WireFault;
 
 /// The lengths of a bucket, a key and a media type, and why the record isn't read, if it isn't.
-const NAMES: [(u16, u16, u16, Option<WireFault>); 11] = [
+const NAMES: &[(u16, u16, u16, Option<WireFault>)] = &[
     (1, 1, 1, None),
     (0, 1, 1, NOT_CANONICAL),
     (64, 1, 1, None),
@@ -35,15 +35,13 @@ fn content_of(alloc: Global, media: u16) -> Result<Vec<u8>, AllocError> {
     Ok(content)
 }
 
-/// The body of a record with names of these lengths over a content.
-fn body_of(alloc: Global, bucket: u16, key: u16, content: &[u8]) -> Result<Vec<u8>, AllocError> {
-    let mut body = Vec::new(alloc);
-    push_name(&mut body, bucket)?;
-    push_name(&mut body, key)?;
+/// Adds the body of a record with names of these lengths over a content.
+fn push_body(body: &mut Vec<u8>, bucket: u16, key: u16, content: &[u8]) -> Result<(), AllocError> {
+    push_name(body, bucket)?;
+    push_name(body, key)?;
     body.extend_from_slice(&KEY[8..])?;
-    push_clock(&mut body, &[(0, 1)])?;
-    push_siblings(&mut body, 1, &[(0, 1, content)])?;
-    Ok(body)
+    push_clock(body, &[(0, 1)])?;
+    push_siblings(body, 1, &[(0, 1, content)])
 }
 
 /// Of a record with names of these lengths: why it isn't read, if it isn't.
@@ -54,15 +52,17 @@ fn told_of_names(
     media: u16,
 ) -> Result<Option<WireFault>, AllocError> {
     let content = content_of(alloc, media)?;
-    told(alloc, &body_of(alloc, bucket, key, &content)?)
+    let mut body = Vec::new(alloc);
+    push_body(&mut body, bucket, key, &content)?;
+    told(alloc, &body)
 }
 
 #[test]
 fn longest_names(rt: HostRuntime) -> Result<(), Fail> {
-    let alloc = rt.alloc();
-    for (bucket, key, media, want) in &NAMES {
-        let got = told_of_names(alloc, *bucket, *key, *media)?;
-        assert_eq!(rt; got, *want, "{bucket} {key} {media}");
+    for row in NAMES {
+        let (bucket, key, media, want) = *row;
+        let got = told_of_names(rt.alloc(), bucket, key, media)?;
+        expect(&rt, got == want, row);
     }
     Ok(())
 }
@@ -78,13 +78,16 @@ fn long_value(alloc: Global, len: u32) -> Result<Vec<u8>, AllocError> {
     Ok(content)
 }
 
+/// How many bytes a value has, and why the record isn't read, if it isn't.
+const VALUES: &[(u32, Option<WireFault>)] = &[(65_536, None), (65_537, NOT_CANONICAL)];
+
 /// 65,536 bytes of a value are read, one more isn't.
 #[test]
 fn longest_value(rt: HostRuntime) -> Result<(), Fail> {
-    let alloc = rt.alloc();
-    for (len, want) in &[(65_536, None), (65_537, NOT_CANONICAL)] {
-        let got = told_of(alloc, &[(0, 1)], 1, &[(0, 1, &long_value(alloc, *len)?)])?;
-        assert_eq!(rt; got, *want, "{len}");
+    for (len, want) in VALUES {
+        let content = long_value(rt.alloc(), *len)?;
+        let got = told_of(rt.alloc(), &[(0, 1)], 1, &[(0, 1, &content)])?;
+        expect(&rt, got == *want, len);
     }
     Ok(())
 }

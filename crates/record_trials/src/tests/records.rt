@@ -1,14 +1,14 @@
 //! Whole records: read, written again, cut and changed.
 
+use super::expect;
 use dvv::Dot;
 use object::{Content, KeyState};
 use std::alloc::{AllocError, Global};
-use std::process::Abort;
 use std::test::Fail;
 use wire::{Record, WireFault, has_record, read_record, write_record};
 
 /// Bucket `sim`, key `k`, from vnode 0 at place 1: clock 0:1, and sibling 0-1, `a` of `text/plain`.
-const ONE_VALUE: [u8; 92] = [
+const ONE_VALUE: &[u8; 92] = &[
     0x44, 0x56, 0x52, 0x31, 0x00, 0x00, 0x00, 0x40, 0x00, 0x03, 0x73, 0x69, 0x6d, 0x00, 0x01, 0x6b, //
     0x00, 0x00, 0x00, 0x00, 0x00, 0x00, 0x00, 0x01, 0x00, 0x01, 0x00, 0x00, 0x00, 0x00, 0x00, 0x00, //
     0x00, 0x00, 0x00, 0x00, 0x00, 0x01, 0x00, 0x00, 0x00, 0x01, 0x00, 0x00, 0x00, 0x00, 0x00, 0x00, //
@@ -19,7 +19,7 @@ const ONE_VALUE: [u8; 92] = [
 
 /// Bucket `b`, key `k2`, from vnode 65537 at place 7: clock 0:2 and 65537:2^62, a tombstone 0-2, and sibling 65537-5,
 /// no bytes of `t`.
-const TOMBSTONE_BESIDE_VALUE: [u8; 106] = [
+const TOMBSTONE_BESIDE_VALUE: &[u8] = &[
     0x44, 0x56, 0x52, 0x31, 0x00, 0x00, 0x00, 0x4e, 0x00, 0x01, 0x62, 0x00, 0x02, 0x6b, 0x32, 0x00, //
     0x01, 0x00, 0x01, 0x00, 0x00, 0x00, 0x07, 0x00, 0x02, 0x00, 0x00, 0x00, 0x00, 0x00, 0x00, 0x00, //
     0x00, 0x00, 0x00, 0x00, 0x02, 0x00, 0x01, 0x00, 0x01, 0x40, 0x00, 0x00, 0x00, 0x00, 0x00, 0x00, //
@@ -49,25 +49,23 @@ fn is_plain_a(content: &Content) -> bool {
     }
 }
 
+/// Whether a record is the one of one value.
+fn is_one_value(record: &Record) -> bool {
+    record.key.bucket() == b"sim".as_slice()
+        && record.key.key() == b"k".as_slice()
+        && (record.from, record.at) == (0, 1)
+        && has_one_value(&record.state)
+}
+
 #[test]
 fn one_value(rt: HostRuntime) -> Result<(), Fail> {
-    let (record, len) = read_record(rt.alloc(), &ONE_VALUE)?;
-    let Record {
-        key,
-        from,
-        at,
-        state,
-    } = &record;
-    let names = (key.bucket(), key.key());
-    assert_eq!(rt;
-        (len, *from, *at, names, has_one_value(state)),
-        (92, 0, 1, (b"sim".as_slice(), b"k".as_slice()), true)
-    );
+    let (record, len) = read_record(rt.alloc(), ONE_VALUE)?;
+    assert!(rt; len == 92 && is_one_value(&record));
     Ok(())
 }
 
-/// What is read at the front, written again: the length that was read, whether there is a record, and its bytes.
-fn rewritten(alloc: Global, bytes: &[u8]) -> Result<(usize, bool, Vec<u8>), Fail> {
+/// Whether these bytes are read as one record, and written as they were.
+fn is_written_again(alloc: Global, bytes: &[u8]) -> Result<bool, WireFault> {
     let (record, len) = read_record(alloc, bytes)?;
     let Record {
         key,
@@ -75,36 +73,32 @@ fn rewritten(alloc: Global, bytes: &[u8]) -> Result<(usize, bool, Vec<u8>), Fail
         at,
         state,
     } = &record;
-    let has_record = has_record(key, state);
-    Ok((
-        len,
-        has_record,
-        write_record(alloc, key, *from, *at, state)?,
-    ))
-}
-
-/// What was read is written as it was.
-fn is_written_again(rt: &impl Abort, alloc: Global, bytes: &[u8]) -> Result<(), Fail> {
-    let (len, has_record, again) = rewritten(alloc, bytes)?;
-    assert_eq!(rt;
-        (len, has_record, again.as_slice()),
-        (bytes.len(), true, bytes)
-    );
-    Ok(())
+    Ok(
+        len == bytes.len()
+            && has_record(key, state)
+            && write_record(alloc, key, *from, *at, state)?.as_slice() == bytes,
+    )
 }
 
 #[test]
 fn written_again(rt: HostRuntime) -> Result<(), Fail> {
-    is_written_again(&rt, rt.alloc(), &ONE_VALUE)?;
-    is_written_again(&rt, rt.alloc(), &TOMBSTONE_BESIDE_VALUE)
+    for bytes in &[ONE_VALUE.as_slice(), TOMBSTONE_BESIDE_VALUE] {
+        assert!(rt; is_written_again(rt.alloc(), bytes)?);
+    }
+    Ok(())
+}
+
+/// Why no record is read, if none is.
+fn fault_of(alloc: Global, bytes: &[u8]) -> Option<WireFault> {
+    read_record(alloc, bytes).err()
 }
 
 /// Each front of a record is cut.
 #[test]
 fn fronts(rt: HostRuntime) -> Result<(), Fail> {
     for n in 0..ONE_VALUE.len() {
-        let read = read_record(rt.alloc(), &ONE_VALUE[..n]);
-        assert_eq!(rt; read.err(), Some(WireFault::Cut), "at {n}");
+        let fault = fault_of(rt.alloc(), &ONE_VALUE[..n]);
+        expect(&rt, fault == Some(WireFault::Cut), &n);
     }
     Ok(())
 }
@@ -112,7 +106,7 @@ fn fronts(rt: HostRuntime) -> Result<(), Fail> {
 /// A record twice.
 fn two_records(alloc: Global) -> Result<Vec<u8>, AllocError> {
     let mut bytes = ONE_VALUE.to_vec(alloc)?;
-    bytes.extend_from_slice(&ONE_VALUE)?;
+    bytes.extend_from_slice(ONE_VALUE)?;
     Ok(bytes)
 }
 
@@ -125,15 +119,15 @@ fn len_of_front(alloc: Global, bytes: &[u8]) -> Result<usize, WireFault> {
 /// What follows a record doesn't count.
 #[test]
 fn record_before_others(rt: HostRuntime) -> Result<(), Fail> {
-    let alloc = rt.alloc();
-    let len = len_of_front(alloc, &two_records(alloc)?)?;
-    assert_eq!(rt; len, 92);
+    let bytes = two_records(rt.alloc())?;
+    let len = len_of_front(rt.alloc(), &bytes)?;
+    assert!(rt; len == 92);
     Ok(())
 }
 
 /// A byte that is changed, the length of the record's front that is read, and what is told: the faults are told in
 /// their order.
-const CHANGES: [(usize, usize, WireFault); 11] = [
+const CHANGES: &[(usize, usize, WireFault)] = &[
     (0, 92, WireFault::Mark),
     (3, 92, WireFault::Mark),
     (0, 8, WireFault::Mark),
@@ -147,15 +141,25 @@ const CHANGES: [(usize, usize, WireFault); 11] = [
     (91, 92, WireFault::Digest),
 ];
 
+/// The bytes of one value, with one of them changed.
+fn changed(place: usize) -> [u8; 92] {
+    let mut bytes = *ONE_VALUE;
+    if let Some(byte) = bytes.get_mut(place) {
+        *byte ^= 1;
+    }
+    bytes
+}
+
 #[test]
 fn changed_bytes(rt: HostRuntime) -> Result<(), Fail> {
-    for (place, len, want) in &CHANGES {
-        let mut bytes = ONE_VALUE;
-        if let Some(byte) = bytes.get_mut(*place) {
-            *byte ^= 1;
-        }
-        let read = read_record(rt.alloc(), &bytes[..(*len).min(92)]);
-        assert_eq!(rt; read.err(), Some(*want), "at {place} of {len}");
+    for row in CHANGES {
+        let (place, len, want) = *row;
+        let bytes = changed(place);
+        expect(
+            &rt,
+            fault_of(rt.alloc(), &bytes[..len.min(92)]) == Some(want),
+            row,
+        );
     }
     Ok(())
 }

@@ -1,8 +1,7 @@
-//! Siblings under right digests.
+//! Clocks and siblings under right digests.
 
-use super::{NOT_CANONICAL, told_of};
-use std::alloc::Global;
-use std::process::Abort;
+use super::{NOT_CANONICAL, expect, told_of};
+use std::alloc::{AllocError, Global};
 use std::test::Fail;
 use wire::WireFault;
 
@@ -11,85 +10,140 @@ const TOMBSTONE: &[u8] = &[0];
 
 const VALUE: &[u8] = &[1, 0, 1, b'm', 0, 0, 0, 1, b'v'];
 
-/// The number before some siblings, these, each a dot and its content, and why the record isn't read, if it isn't.
+/// The entries of a clock, the number before some siblings, these, each a dot and its content, and why the record isn't read, if it
+/// isn't.
 type Row = (
     &'static str,
+    &'static [(u32, u64)],
     u32,
     &'static [(u32, u64, &'static [u8])],
     Option<WireFault>,
 );
 
-/// Siblings' dots under the clock 0:2, 1:9.
-const DOTS: [Row; 10] = [
-    ("none", 0, &[], None),
-    ("0-1", 1, &[(0, 1, TOMBSTONE)], None),
-    ("0-1 0-2", 2, &[(0, 1, TOMBSTONE), (0, 2, TOMBSTONE)], None),
+/// The clock 0:2, 1:9.
+const SEEN: &[(u32, u64)] = &[(0, 2), (1, 9)];
+
+const ROWS: &[Row] = &[
+    // clocks over one sibling
+    ("0:1", &[(0, 1)], 1, &[(0, 1, TOMBSTONE)], None),
+    ("0:2 1:9", &[(0, 2), (1, 9)], 1, &[(0, 1, TOMBSTONE)], None),
+    ("0:0", &[(0, 0)], 1, &[(0, 1, TOMBSTONE)], NOT_CANONICAL),
+    ("0:2^62", &[(0, 1 << 62)], 1, &[(0, 1, TOMBSTONE)], None),
+    (
+        "0:2^62+1",
+        &[(0, (1 << 62) + 1)],
+        1,
+        &[(0, 1, TOMBSTONE)],
+        NOT_CANONICAL,
+    ),
+    (
+        "0:1 0:2",
+        &[(0, 1), (0, 2)],
+        1,
+        &[(0, 1, TOMBSTONE)],
+        NOT_CANONICAL,
+    ),
+    (
+        "1:1 0:1",
+        &[(1, 1), (0, 1)],
+        1,
+        &[(0, 1, TOMBSTONE)],
+        NOT_CANONICAL,
+    ),
+    ("1:1", &[(1, 1)], 1, &[(0, 1, TOMBSTONE)], NOT_CANONICAL),
+    ("no entries", &[], 1, &[(0, 1, TOMBSTONE)], NOT_CANONICAL),
+    // the dots of siblings
+    ("none", SEEN, 0, &[], None),
+    ("0-1", SEEN, 1, &[(0, 1, TOMBSTONE)], None),
+    (
+        "0-1 0-2",
+        SEEN,
+        2,
+        &[(0, 1, TOMBSTONE), (0, 2, TOMBSTONE)],
+        None,
+    ),
     (
         "0-2 0-1",
+        SEEN,
         2,
         &[(0, 2, TOMBSTONE), (0, 1, TOMBSTONE)],
         NOT_CANONICAL,
     ),
     (
         "0-1 0-1",
+        SEEN,
         2,
         &[(0, 1, TOMBSTONE), (0, 1, TOMBSTONE)],
         NOT_CANONICAL,
     ),
-    ("0-2 1-1", 2, &[(0, 2, TOMBSTONE), (1, 1, TOMBSTONE)], None),
+    (
+        "0-2 1-1",
+        SEEN,
+        2,
+        &[(0, 2, TOMBSTONE), (1, 1, TOMBSTONE)],
+        None,
+    ),
     (
         "1-1 0-2",
+        SEEN,
         2,
         &[(1, 1, TOMBSTONE), (0, 2, TOMBSTONE)],
         NOT_CANONICAL,
     ),
-    ("0-3", 1, &[(0, 3, TOMBSTONE)], NOT_CANONICAL),
-    ("2-1", 1, &[(2, 1, TOMBSTONE)], NOT_CANONICAL),
-    ("0-0", 1, &[(0, 0, TOMBSTONE)], NOT_CANONICAL),
-];
-
-/// Contents, and numbers of siblings, under that clock.
-const CONTENTS: [Row; 8] = [
-    ("one byte follows", 1, &[(0, 1, &[0, 0])], NOT_CANONICAL),
+    ("0-3", SEEN, 1, &[(0, 3, TOMBSTONE)], NOT_CANONICAL),
+    ("2-1", SEEN, 1, &[(2, 1, TOMBSTONE)], NOT_CANONICAL),
+    ("0-0", SEEN, 1, &[(0, 0, TOMBSTONE)], NOT_CANONICAL),
+    // contents, and numbers of siblings
+    (
+        "one byte follows",
+        SEEN,
+        1,
+        &[(0, 1, &[0, 0])],
+        NOT_CANONICAL,
+    ),
     (
         "many bytes follow",
+        SEEN,
         1,
         &[(0, 1, TOMBSTONE), (0, 1, TOMBSTONE)],
         NOT_CANONICAL,
     ),
-    ("one is missing", 2, &[(0, 1, TOMBSTONE)], NOT_CANONICAL),
-    ("no content", 1, &[(0, 1, &[])], NOT_CANONICAL),
-    ("unknown content", 1, &[(0, 1, &[2])], NOT_CANONICAL),
+    (
+        "one is missing",
+        SEEN,
+        2,
+        &[(0, 1, TOMBSTONE)],
+        NOT_CANONICAL,
+    ),
+    ("no content", SEEN, 1, &[(0, 1, &[])], NOT_CANONICAL),
+    ("unknown content", SEEN, 1, &[(0, 1, &[2])], NOT_CANONICAL),
     (
         "unknown content",
+        SEEN,
         1,
         &[(0, 1, &[255, 0, 1, b'm', 0, 0, 0, 0])],
         NOT_CANONICAL,
     ),
-    ("a value", 1, &[(0, 1, VALUE)], None),
+    ("a value", SEEN, 1, &[(0, 1, VALUE)], None),
     (
         "a value past the end",
+        SEEN,
         1,
         &[(0, 1, &[1, 0, 1, b'm', 0, 0, 0, 2, b'v'])],
         NOT_CANONICAL,
     ),
 ];
 
-/// Of these rows it is told why they aren't read.
-fn are_told(rt: &impl Abort, alloc: Global, rows: &[Row]) -> Result<(), Fail> {
-    for (name, count, siblings, want) in rows {
-        let got = told_of(alloc, &[(0, 2), (1, 9)], *count, siblings)?;
-        assert_eq!(rt; got, *want, "{name}");
+/// Whether it is told so why a record isn't read.
+fn is_told(alloc: Global, row: &Row) -> Result<bool, AllocError> {
+    let (_, clock, count, siblings, want) = *row;
+    Ok(told_of(alloc, clock, count, siblings)? == want)
+}
+
+#[test]
+fn under_right_digests(rt: HostRuntime) -> Result<(), Fail> {
+    for row in ROWS {
+        expect(&rt, is_told(rt.alloc(), row)?, &row.0);
     }
     Ok(())
-}
-
-#[test]
-fn dots_under_right_digests(rt: HostRuntime) -> Result<(), Fail> {
-    are_told(&rt, rt.alloc(), &DOTS)
-}
-
-#[test]
-fn contents_under_right_digests(rt: HostRuntime) -> Result<(), Fail> {
-    are_told(&rt, rt.alloc(), &CONTENTS)
 }
