@@ -108,6 +108,14 @@ impl Follower {
         self.run.rerun.happened(index)
     }
 
+    /// How many entries of the vnode with this index wait for their turn.
+    pub fn waiting(&self, index: usize) -> usize
+        requires inside { index < length self.now.followed }
+        ensures { result ≡ length (waiting_at self.now.waiting index) }
+    {
+        self.run.waiting[index].len()
+    }
+
     /// Takes the next entries of the vnode with this index, as [`Follower::take`] does.
     pub fn take_at(
         &mut self,
