@@ -1,9 +1,9 @@
 //! A follower beside a cluster that serves.
 
-ghost use Rattle.std.specs.Prelude.{◌≡◌, ◌+◌, ◌<◌, ◌≤◌, ◌^◌, ℕ, [], All, IfOk, OnOk, length, vec_len};
+ghost use Rattle.std.specs.Prelude.{◌≡◌, ◌+◌, ◌<◌, ◌≤◌, ◌^◌, ℕ, [], All, IfOk, MatchBool, OnOk, length, vec_len};
 ghost use Rattle.pool.specs.Calls.{pass_view};
 ghost use Rattle.journal.specs.Blocks.{all_of};
-ghost use Rattle.closing.specs.Following.{IsTakenMore, IsToldMore};
+ghost use Rattle.closing.specs.Following.{IsBehind, IsTakenMore, IsToldMore};
 
 use follow::{FollowFault, Follower, TakeFault};
 use journal::Handout;
@@ -289,8 +289,8 @@ impl<B: Room + Spot> Watch<B> {
         }
     }
 
-    /// Has each vnode of a cluster hand out its full blocks, and follows them: [`Watch::hear`] of each, and [`Watch::follow`].
-    pub fn turn<R: Wait, A: Alarm>(
+    /// Has each vnode of a cluster hand out its full blocks: [`Watch::hear`] of each.
+    pub fn hear_all<R: Wait, A: Alarm>(
         &mut self,
         alloc: Global,
         rt: &R,
@@ -303,6 +303,32 @@ impl<B: Room + Spot> Watch<B> {
         for index in 0..cluster.count() {
             self.hear(alloc, rt, cluster, index, alarm);
         }
+    }
+
+    /// Whether of some vnode more entries wait to be followed than this.
+    pub fn is_behind(&self, most: usize) -> bool
+        ensures { MatchBool result (IsBehind self.now.taken.waiting most) (IsBehind self.now.taken.waiting most → ⊥) }
+    {
+        for index in 0..self.follower.count() {
+            if self.follower.waiting(index) > most {
+                return true;
+            }
+        }
+        false
+    }
+
+    /// Has each vnode of a cluster hand out its full blocks, and follows them: [`Watch::hear_all`] and [`Watch::follow`].
+    pub fn turn<R: Wait, A: Alarm>(
+        &mut self,
+        alloc: Global,
+        rt: &R,
+        cluster: &Cluster<B>,
+        alarm: &A,
+    )
+        requires first { cluster.now.first ≡ B.first }
+        ensures told { IsToldMore self.old.told self.new.told }
+    {
+        self.hear_all(alloc, rt, cluster, alarm);
         self.follow(alarm);
     }
 }
