@@ -1,8 +1,9 @@
 //! The tests of followers.
 
-mod audited;
-mod faults;
 mod following;
+mod merges;
+mod pieces;
 mod runs;
+mod stamps;
 mod threads;
 mod working;

@@ -2,11 +2,12 @@
 
 ghost use Rattle.std.specs.Prelude.{◌<◌, ◌^◌};
 
-use crate::tests::following::{follower_of_two, key_of, take_all, told, value_of};
+use crate::tests::following::{Told, follower_of_two, key_of, take_all, told, value_of};
 use follow::{Follower, TakeFault};
 use journal::Entry;
 use object::{Content, Key};
 use std::alloc::Global;
+use std::process::Abort;
 use std::test::Fail;
 use vnode::Vnode;
 
@@ -28,16 +29,50 @@ fn bring(
     Ok(())
 }
 
-/// What two vnodes hand out.
-fn hand_over(
-    alloc: Global,
-    follower: &mut Follower,
-    a: &mut Vnode,
-    b: &mut Vnode,
-) -> Result<(), Fail> {
-    take_all(follower, 0, a.settle(Vec::new(alloc)))?;
-    take_all(follower, 1, b.settle(Vec::new(alloc)))
+/// Two vnodes, and their follower.
+#[derive(Drop)]
+struct Pair {
+    a: Vnode,
+    b: Vnode,
+    follower: Follower,
 }
+
+impl Pair {
+    /// Brings a content to the second vnode and back.
+    fn round(&mut self, round: u64, key: &Key, content: &Content) -> Result<(), Fail>
+        requires { round < 2 ^ 32 }
+    {
+        bring(&mut self.a, &mut self.b, 8 * round, key, content)?;
+        bring(&mut self.b, &mut self.a, 8 * round + 4, key, content)
+    }
+
+    /// Takes what the vnodes hand out, and follows it up to a bound.
+    fn follow(&mut self, alloc: Global, below: u64) -> Result<Told, Fail> {
+        take_all(&mut self.follower, 0, self.a.settle(Vec::new(alloc)))?;
+        take_all(&mut self.follower, 1, self.b.settle(Vec::new(alloc)))?;
+        told(&mut self.follower, below)
+    }
+
+    /// As many rounds, of which all but the last 300 are followed every 300.
+    fn rounds(
+        &mut self,
+        rt: &impl Abort,
+        alloc: Global,
+        key: &Key,
+        content: &Content,
+    ) -> Result<(), Fail> {
+        for round in 0..ROUNDS {
+            self.round(round, key, content)?;
+            if round % 300 == 299 {
+                assert_eq!(rt; self.follow(alloc, 8 * (round - 299))?, None);
+            }
+        }
+        Ok(())
+    }
+}
+
+/// How many rounds there are.
+const ROUNDS: u64 = 1_050;
 
 /// Vnodes that settle as they go, and a follower that goes along: each journal has 4,200 entries, of which 4,096 are handed out.
 #[test]
@@ -45,38 +80,49 @@ fn blocks_are_followed(rt: HostRuntime) -> Result<(), Fail> {
     let alloc = rt.alloc();
     let key = key_of(alloc, b"k")?;
     let content = value_of(alloc, b"a")?;
-    let (mut a, mut b) = (Vnode::new(alloc, 0), Vnode::new(alloc, 1));
-    let mut follower = follower_of_two(alloc, 16)?;
-    for round in 0..1050 {
-        bring(&mut a, &mut b, 8 * round, &key, &content)?;
-        bring(&mut b, &mut a, 8 * round + 4, &key, &content)?;
-        if round % 300 == 299 {
-            hand_over(alloc, &mut follower, &mut a, &mut b)?;
-            assert_eq!(rt; told(&mut follower, 8 * (round - 299))?, None);
-        }
-    }
-    hand_over(alloc, &mut follower, &mut a, &mut b)?;
-    assert_eq!(rt; told(&mut follower, 8 * 1024)?, None);
-    assert_eq!(rt; follower.fault(), None);
+    let mut pair = Pair {
+        a: Vnode::new(alloc, 0),
+        b: Vnode::new(alloc, 1),
+        follower: follower_of_two(alloc, 16)?,
+    };
+    pair.rounds(&rt, alloc, &key, &content)?;
+    assert_eq!(rt; pair.follow(alloc, 8 * 1024)?, None);
+    assert_eq!(rt; pair.follower.fault(), None);
     Ok(())
+}
+
+/// A vnode, a place, the stamps of restarts that are taken of it from there on, what taking them answers, and up to which bound is followed then.
+type Taking = (u32, usize, &'static [u64], Result<(), TakeFault>, u64);
+
+const TAKINGS: [Taking; 6] = [
+    (2, 0, &[], Err(TakeFault::Unknown), 0),
+    (1, 1, &[], Err(TakeFault::Gap), 0),
+    (1, 0, &[3], Ok(()), 0),
+    (1, 0, &[], Err(TakeFault::Gap), 4),
+    (1, 0, &[], Err(TakeFault::Gap), 0),
+    (1, 1, &[], Ok(()), 0),
+];
+
+/// What taking them answers.
+fn taken(
+    alloc: Global,
+    follower: &mut Follower,
+    taking: &Taking,
+) -> Result<Result<(), TakeFault>, Fail> {
+    let mut block = Vec::new(alloc);
+    for stamp in taking.2 {
+        block.push(Entry::restart(*stamp))?;
+    }
+    Ok(follower.take(taking.0, taking.1, block))
 }
 
 /// Entries are taken of a vnode that is followed, and where the last ones ended.
 #[test]
 fn entries_follow_on(rt: HostRuntime) -> Result<(), Fail> {
-    let alloc = rt.alloc();
-    let mut follower = follower_of_two(alloc, 1)?;
-    assert_eq!(rt;
-        follower.take(2, 0, Vec::new(alloc)),
-        Err(TakeFault::Unknown)
-    );
-    assert_eq!(rt; follower.take(1, 1, Vec::new(alloc)), Err(TakeFault::Gap));
-    let mut block = Vec::new(alloc);
-    block.push(Entry::restart(3))?;
-    assert_eq!(rt; follower.take(1, 0, block), Ok(()));
-    assert_eq!(rt; follower.take(1, 0, Vec::new(alloc)), Err(TakeFault::Gap));
-    assert_eq!(rt; told(&mut follower, 4)?, None);
-    assert_eq!(rt; follower.take(1, 0, Vec::new(alloc)), Err(TakeFault::Gap));
-    assert_eq!(rt; follower.take(1, 1, Vec::new(alloc)), Ok(()));
+    let mut follower = follower_of_two(rt.alloc(), 1)?;
+    for taking in &TAKINGS {
+        assert_eq!(rt; taken(rt.alloc(), &mut follower, taking)?, taking.3);
+        assert_eq!(rt; told(&mut follower, taking.4)?, None);
+    }
     Ok(())
 }
