@@ -145,6 +145,7 @@ impl<'a, B: Room, R: Wait, G: Gate> PassPeers<'a, B, R, G> {
         pass: &'a mut Pass<B>,
         gate: &'a G,
     ) -> Self
+        ensures cluster { result.cluster.now ≡ cluster.now }
         ensures lent { result.pass.ghost_name ≡ pass.entry.ghost_name }
         ensures none { result.failures ≡ 0 }
     {
