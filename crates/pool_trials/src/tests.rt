@@ -3,7 +3,9 @@
 mod building;
 mod gates;
 mod passes;
+mod quorums;
 mod refusals;
 mod requests;
+mod running;
 mod settling;
 mod threads;

@@ -2,7 +2,7 @@
 
 use dvv::{Clock, ClockFault, Dot};
 use object::{Bytes, Content, Key, KeyState};
-use pool::{Gate, Pass, Room};
+use pool::Gate;
 use std::alloc::{AllocError, Global};
 
 /// A key of bucket `b`.
@@ -31,31 +31,6 @@ pub(super) fn clock_over(alloc: Global, first: u32, past: u32) -> Result<Clock, 
 /// A state with that clock, and no sibling.
 pub(super) fn state_over(alloc: Global, first: u32, past: u32) -> Result<KeyState, ClockFault> {
     Ok(KeyState::from_parts(clock_over(alloc, first, past)?, Vec::new(alloc)))
-}
-
-/// Each pass beside its work.
-pub(super) fn paired<B: Room, W: Drop>(
-    alloc: Global,
-    passes: Vec<Pass<B>>,
-    works: Vec<W>,
-) -> Result<Vec<(Pass<B>, W)>, AllocError> {
-    let mut workers = Vec::new(alloc);
-    for worker in passes.into_iter().zip(works) {
-        workers.push(worker)?;
-    }
-    Ok(workers)
-}
-
-/// The passes alone.
-pub(super) fn passes_of<B: Room, W: Drop>(
-    alloc: Global,
-    workers: Vec<(Pass<B>, W)>,
-) -> Result<Vec<Pass<B>>, AllocError> {
-    let mut passes = Vec::new(alloc);
-    for (pass, _) in workers {
-        passes.push(pass)?;
-    }
-    Ok(passes)
 }
 
 /// A gate that holds no call.

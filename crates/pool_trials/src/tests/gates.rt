@@ -1,23 +1,17 @@
 //! Which calls are made at the same time: calls at two vnodes are, and two calls at one vnode are not.
 
-ghost use Rattle.std.specs.Prelude.{◌≡◌, []};
-ghost use Rattle.stamps.specs.Rule.{newcomer};
-
-use crate::tests::building::{key_of, paired};
+use crate::tests::building::key_of;
+use crate::tests::running::{Answered, Staff, served};
 use dvv::Clock;
 use object::{Content, Key};
 use peers::Peers;
-use pool::{Cluster, Gate, Pass, Room};
-use stamps::{Card, Size, Stamps};
+use pool::Gate;
+use stamps::Size;
 use std::alloc::{AllocError, Global};
-use std::marker::Brand;
-use std::process::Abort;
-use std::sync::Wait;
 use std::sync::atomic::Ordering::SeqCst;
 use std::sync::atomic::{AtomicBool, AtomicU64, AtomicUsize};
 use std::test::Fail;
-use std::thread::Threads;
-use workers::{Worker, serve_all};
+use workers::Worker;
 
 /// How often a gate looks before it gives up.
 const TURNS: u64 = 1 << 32;
@@ -150,47 +144,28 @@ impl<'a> Worker for PutAndRead<'a> {
     }
 }
 
-/// Two workers that put and read, at these vnodes.
-fn two(
-    alloc: Global,
-    begun: &AtomicU64,
+impl<'a> Answered for PutAndRead<'a> {
+    fn is_answered(&self) -> bool {
+        self.answered
+    }
+}
+
+/// Two workers who put and read, at these vnodes.
+#[derive(Drop)]
+struct Two<'a> {
+    begun: &'a AtomicU64,
     vnodes: [usize; 2],
-) -> Result<Vec<PutAndRead>, AllocError> {
-    let mut works = Vec::new(alloc);
-    for vnode in vnodes {
-        works.push(PutAndRead::new(alloc, begun, vnode)?)?;
-    }
-    Ok(works)
 }
 
-/// Whether each worker was answered.
-fn are_answered<B: Room>(rt: &impl Abort, workers: &[(Pass<B>, PutAndRead)]) {
-    for (_, work) in workers {
-        assert!(rt; work.answered);
+impl<'a> Staff for Two<'a> {
+    type Work = PutAndRead<'a>;
+
+    fn work(&self, alloc: Global, number: usize) -> Result<PutAndRead<'a>, AllocError> {
+        PutAndRead::new(alloc, self.begun, self.vnodes[number % 2])
     }
 }
 
-/// Two workers, each on a thread of its own.
-fn run_two<B: Room + Send + Sync, G: Gate + Sync, R: Threads + Wait + Abort + Sync>(
-    rt: &R,
-    alloc: Global,
-    stamps: Stamps,
-    card: Card,
-    gate: &G,
-    works: Vec<PutAndRead>,
-) -> Result<(), Fail>
-    requires table { (stamps.table.shared.table_id ≡ B.table) × (card.table_id ≡ B.table) }
-    requires size { stamps.table.shared.key ≡ record { first = 0; vnodes = 2; passes = 2 } }
-    requires card { card.me ≡ (newcomer stamps.table.shared.key, []) }
-{
-    let (cluster, passes) = Cluster::<B>::open(alloc, stamps, card, 0, 2, 2)?;
-    let mut workers = paired(alloc, passes, works)?;
-    serve_all(alloc, rt, &cluster, workers.as_mut_slice(), gate);
-    are_answered(rt, &workers);
-    Ok(())
-}
-
-/// A word for two vnodes and two passes.
+/// Two vnodes and two passes.
 const TWO_BY_TWO: Size = Size {
     first: 0,
     vnodes: 2,
@@ -201,10 +176,11 @@ const TWO_BY_TWO: Size = Size {
 #[test]
 fn gate_two_vnodes(rt: HostRuntime) -> Result<(), Fail> {
     let gate = TwoVnodes::new();
-    let begun = AtomicU64::new(0);
-    let works = two(rt.alloc(), &begun, [0, 1])?;
-    let (stamps, card) = Stamps::new(rt.alloc(), &TWO_BY_TWO)?;
-    run_two::<Brand, _, _>(&rt, rt.alloc(), stamps, card, &gate, works)?;
+    let two = Two {
+        begun: &AtomicU64::new(0),
+        vnodes: [0, 1],
+    };
+    served(&rt, rt.alloc(), &TWO_BY_TWO, &two, &gate)?;
     assert!(&rt; gate.met.load(SeqCst));
     Ok(())
 }
@@ -213,9 +189,11 @@ fn gate_two_vnodes(rt: HostRuntime) -> Result<(), Fail> {
 #[test]
 fn gate_same_vnode(rt: HostRuntime) -> Result<(), Fail> {
     let gate = SameVnode::new();
-    let works = two(rt.alloc(), &gate.begun, [1, 1])?;
-    let (stamps, card) = Stamps::new(rt.alloc(), &TWO_BY_TWO)?;
-    run_two::<Brand, _, _>(&rt, rt.alloc(), stamps, card, &gate, works)?;
+    let two = Two {
+        begun: &gate.begun,
+        vnodes: [1, 1],
+    };
+    served(&rt, rt.alloc(), &TWO_BY_TWO, &two, &gate)?;
     assert!(&rt; gate.met.load(SeqCst));
     Ok(())
 }

@@ -1,17 +1,13 @@
 //! The calls of quorums, through one pass.
 
-ghost use Rattle.std.specs.Prelude.{◌≡◌, []};
-ghost use Rattle.stamps.specs.Rule.{newcomer};
-
 use crate::tests::building::{Open, clock_over, key_of, value_of};
 use crate::tests::refusals::are_named;
+use crate::tests::running::{Trial, tried};
 use dvv::{Clock, Dot};
 use object::{Content, Key, KeyState};
 use peers::{PeerFault, Peers};
-use pool::{Cluster, Room};
-use stamps::{Card, Size, Stamps};
+use pool::{Cluster, Pass, Room};
 use std::alloc::Global;
-use std::marker::Brand;
 use std::process::Abort;
 use std::sync::Wait;
 use std::test::Fail;
@@ -62,7 +58,7 @@ enum Ask {
 }
 
 /// What a call came to, as far as the tests compare it.
-#[derive(Clone, Copy, Debug, PartialEq, Eq)]
+#[derive(Clone, Copy, PartialEq, Eq)]
 enum Came {
     /// The dot of a put.
     Put(Dot),
@@ -131,9 +127,8 @@ const AFTER: [Row; 8] = [
 fn rows_are<P: Peers>(rt: &impl Abort, peers: &mut P, parts: &Parts, rows: &[Row]) {
     for row in rows {
         let (vnode, ask, want, failures) = *row;
-        let came = came_of(peers, parts, vnode, ask);
-        assert_eq!(rt; came, want);
-        assert_eq!(rt; peers.failures(), failures);
+        assert!(rt; came_of(peers, parts, vnode, ask) == want);
+        assert!(rt; peers.failures() == failures);
     }
 }
 
@@ -145,34 +140,25 @@ fn all_are<P: Peers>(rt: &impl Abort, peers: &mut P, parts: &mut Parts) -> Resul
     Ok(())
 }
 
-/// The calls over two vnodes, by one pass.
-fn by_one_pass<B: Room, R: Wait + Abort>(
-    rt: &R,
-    alloc: Global,
-    stamps: Stamps,
-    card: Card,
-    parts: &mut Parts,
-) -> Result<(), Fail>
-    requires table { (stamps.table.shared.table_id ≡ B.table) × (card.table_id ≡ B.table) }
-    requires size { stamps.table.shared.key ≡ record { first = 10; vnodes = 2; passes = 1 } }
-    requires card { card.me ≡ (newcomer stamps.table.shared.key, []) }
-{
-    let (cluster, mut passes) = Cluster::<B>::open(alloc, stamps, card, 10, 2, 1)?;
-    let mut peers = PassPeers::new(alloc, rt, &cluster, &mut passes[0], &Open);
-    all_are(rt, &mut peers, parts)
-}
+/// The calls, by one pass.
+struct Calls;
 
-/// A word for two vnodes and a pass.
-const TWO_BY_ONE: Size = Size {
-    first: 10,
-    vnodes: 2,
-    passes: 1,
-};
+impl Trial for Calls {
+    fn run<B: Room, R: Wait + Abort>(
+        &self,
+        rt: &R,
+        alloc: Global,
+        cluster: &Cluster<B>,
+        pass: &mut Pass<B>,
+    ) -> Result<(), Fail> {
+        let mut parts = Parts::new(alloc)?;
+        let mut peers = PassPeers::new(alloc, rt, cluster, pass, &Open);
+        all_are(rt, &mut peers, &mut parts)
+    }
+}
 
 /// Each call, and what counts as a failure.
 #[test]
 fn calls_by_one_pass(rt: HostRuntime) -> Result<(), Fail> {
-    let mut parts = Parts::new(rt.alloc())?;
-    let (stamps, card) = Stamps::new(rt.alloc(), &TWO_BY_ONE)?;
-    by_one_pass::<Brand, _>(&rt, rt.alloc(), stamps, card, &mut parts)
+    tried(&rt, rt.alloc(), 10, 2, &Calls)
 }

@@ -1,14 +1,12 @@
 //! What vnodes refuse, and the keys that they name.
 
-ghost use Rattle.std.specs.Prelude.{◌≡◌, []};
-ghost use Rattle.stamps.specs.Rule.{newcomer};
+ghost use Rattle.std.specs.Prelude.{◌≡◌};
 
 use crate::tests::requests::{Ask, Came, Row, row_is, rows_are};
+use crate::tests::running::{Trial, tried};
 use object::Key;
 use pool::{Cluster, Pass, Room};
-use stamps::{Card, Size, Stamps};
 use std::alloc::Global;
-use std::marker::Brand;
 use std::process::Abort;
 use std::sync::Wait;
 use std::test::Fail;
@@ -99,46 +97,37 @@ fn keys_rise<B: Room, R: Wait + Abort>(
     Ok(())
 }
 
-/// Each refusal by a limit, and then the keys.
+/// Each refusal by a limit, and then the keys, at one vnode whose number is 7.
 fn limits<B: Room, R: Wait + Abort>(
     rt: &R,
     alloc: Global,
     cluster: &Cluster<B>,
     pass: &mut Pass<B>,
-) -> Result<(), Fail>
-    requires { cluster.now.vnodes ≡ 1 }
-{
+) -> Result<(), Fail> {
+    assert!(rt; cluster.count() == 1);
     put_sixty_four(rt, alloc, cluster, pass)?;
     rows_are(rt, alloc, cluster, pass, &ROWS)?;
     keys_rise(rt, cluster, pass)?;
     row_is(rt, alloc, cluster, pass, &LAST)
 }
 
-/// The tests of one vnode, whose number is 7.
-fn over_one<B: Room, R: Wait + Abort>(
-    rt: &R,
-    alloc: Global,
-    stamps: Stamps,
-    card: Card,
-) -> Result<(), Fail>
-    requires table { (stamps.table.shared.table_id ≡ B.table) × (card.table_id ≡ B.table) }
-    requires size { stamps.table.shared.key ≡ record { first = 7; vnodes = 1; passes = 1 } }
-    requires card { card.me ≡ (newcomer stamps.table.shared.key, []) }
-{
-    let (cluster, mut passes) = Cluster::<B>::open(alloc, stamps, card, 7, 1, 1)?;
-    limits(rt, alloc, &cluster, &mut passes[0])
-}
+/// The limits, by one pass.
+struct Refusals;
 
-/// A word for a vnode and a pass.
-const ONE_BY_ONE: Size = Size {
-    first: 7,
-    vnodes: 1,
-    passes: 1,
-};
+impl Trial for Refusals {
+    fn run<B: Room, R: Wait + Abort>(
+        &self,
+        rt: &R,
+        alloc: Global,
+        cluster: &Cluster<B>,
+        pass: &mut Pass<B>,
+    ) -> Result<(), Fail> {
+        limits(rt, alloc, cluster, pass)
+    }
+}
 
 /// Each refusal by a limit, and then the keys.
 #[test]
 fn limits_and_keys(rt: HostRuntime) -> Result<(), Fail> {
-    let (stamps, card) = Stamps::new(rt.alloc(), &ONE_BY_ONE)?;
-    over_one::<Brand, _>(&rt, rt.alloc(), stamps, card)
+    tried(&rt, rt.alloc(), 7, 1, &Refusals)
 }

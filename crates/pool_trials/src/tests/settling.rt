@@ -1,12 +1,13 @@
 //! A thread that settles a vnode, while workers call it.
 
-ghost use Rattle.std.specs.Prelude.{◌≡◌, ◌<◌, []};
+ghost use Rattle.std.specs.Prelude.{◌≡◌, ◌<◌, [], IfOk};
 ghost use Rattle.stamps.specs.Rule.{newcomer};
 ghost use Rattle.pool.specs.Gathers.{Differ};
 
 use crate::tests::building::{Open, key_of};
+use crate::tests::running::{Answered, Staff, gathered, passes_of, workers_of};
 use closing::{CloseFault, audit_vnodes};
-use journal::Handout;
+use journal::{Handout, Journal};
 use object::Key;
 use peers::Peers;
 use pool::{Cluster, Pass, Room};
@@ -44,31 +45,24 @@ impl Worker for Reads {
     }
 }
 
-/// A worker for each pass.
-fn readers<B: Room>(
-    alloc: Global,
-    passes: Vec<Pass<B>>,
-) -> Result<Vec<(Pass<B>, Reads)>, AllocError> {
-    let mut workers = Vec::new(alloc);
-    for pass in passes {
-        let key = key_of(alloc, b"k")?;
-        workers.push((pass, Reads { key, answered: 0 }))?;
+impl Answered for Reads {
+    fn is_answered(&self) -> bool {
+        self.answered == READS
     }
-    Ok(workers)
 }
 
-/// The passes of the workers, of whom each was answered each time.
-fn passes_back<B: Room>(
-    rt: &impl Abort,
-    alloc: Global,
-    workers: Vec<(Pass<B>, Reads)>,
-) -> Result<Vec<Pass<B>>, AllocError> {
-    let mut back = Vec::new(alloc);
-    for (pass, work) in workers {
-        assert_eq!(rt; work.answered, READS);
-        back.push(pass)?;
+/// Workers of one key.
+struct Readers;
+
+impl Staff for Readers {
+    type Work = Reads;
+
+    fn work(&self, alloc: Global, _number: usize) -> Result<Reads, AllocError> {
+        Ok(Reads {
+            key: key_of(alloc, b"k")?,
+            answered: 0,
+        })
     }
-    Ok(back)
 }
 
 /// How many entries were handed out.
@@ -90,7 +84,7 @@ fn settle_once<B: Room, R: Wait + Abort>(
     requires { 0 < cluster.now.vnodes }
 {
     let handout = cluster.settle(rt, 0, Vec::new(alloc));
-    assert_eq!(rt; handout.first, before);
+    assert!(rt; handout.first == before);
     before.saturating_add(entries_in(&handout))
 }
 
@@ -113,68 +107,86 @@ fn settle_until<B: Room, R: Wait + Abort>(
     out
 }
 
-/// Two workers read, while another thread settles.
+/// Whether the first vnode was settled while it was read, and all full blocks are handed out after one time more.
+fn settle_the_rest<B: Room, R: Wait + Abort>(
+    rt: &R,
+    alloc: Global,
+    cluster: &Cluster<B>,
+    meanwhile: usize,
+)
+    requires { 0 < cluster.now.vnodes }
+{
+    assert!(rt; meanwhile >= 2_048);
+    assert!(rt; settle_once(rt, alloc, cluster, meanwhile) == 5_120);
+}
+
+/// Workers read at the first vnode, which is settled meanwhile and once more at the end.
 fn read_and_settle<B: Room + Send + Sync, R: Threads + Wait + Abort + Sync>(
     rt: &R,
     alloc: Global,
     cluster: &Cluster<B>,
     passes: Vec<Pass<B>>,
-) -> Result<(Vec<Pass<B>>, usize), AllocError>
+) -> Result<Vec<Pass<B>>, AllocError>
     requires { 0 < cluster.now.vnodes }
 {
-    let mut workers = readers(alloc, passes)?;
+    let mut workers = workers_of(alloc, passes, &Readers)?;
     let work = workers.as_mut_slice();
     let (out, _) = thread::join(
         rt,
         || settle_until(rt, alloc, cluster, 2_048),
         || serve_all(alloc, rt, cluster, work, &Open),
     );
-    Ok((passes_back(rt, alloc, workers)?, out))
+    settle_the_rest(rt, alloc, cluster, out);
+    passes_of(rt, alloc, workers)
 }
 
-/// Two workers read 3,000 times each at one vnode, which is settled meanwhile and once more at the end.
+/// Workers read at a vnode of a cluster over the word, which is settled meanwhile. The vnode afterwards.
 fn settled_meanwhile<B: Room + Send + Sync, R: Threads + Wait + Abort + Sync>(
     rt: &R,
     alloc: Global,
     stamps: Stamps,
     card: Card,
-) -> Result<(), Fail>
+) -> Result<Vec<Vnode>, Fail>
     requires table { (stamps.table.shared.table_id ≡ B.table) × (card.table_id ≡ B.table) }
     requires size { stamps.table.shared.key ≡ record { first = 0; vnodes = 1; passes = 2 } }
     requires card { card.me ≡ (newcomer stamps.table.shared.key, []) }
+    ensures { IfOk result (λ vnodes. Differ vnodes.items) }
 {
     let (cluster, passes) = Cluster::<B>::open(alloc, stamps, card, 0, 1, 2)?;
-    let (back, meanwhile) = read_and_settle(rt, alloc, &cluster, passes)?;
-    assert!(rt; meanwhile >= 2_048);
-    assert_eq!(rt; settle_once(rt, alloc, &cluster, meanwhile), 5_120);
-    let Ok(vnodes) = cluster.gather(back) else {
-        return Err(Fail::new("not gathered"));
-    };
-    is_settled(rt, alloc, &vnodes)
+    let back = read_and_settle(rt, alloc, &cluster, passes)?;
+    gathered(cluster, back)
 }
 
-/// Whether the first of some vnodes has 6,000 entries, of which the last 880 are here, so that no audit says anything of them.
-fn is_settled(rt: &impl Abort, alloc: Global, vnodes: &[Vnode]) -> Result<(), Fail>
+/// Whether a journal has 6,000 entries, of which the last 880 are here.
+fn is_settled(journal: &Journal) -> bool {
+    journal.first() == 5_120
+        && journal.len() == 6_000
+        && journal.get(5_119).is_none()
+        && journal.get(5_120).is_some()
+}
+
+/// Whether each of some vnodes is settled, so that no audit says anything of them.
+fn are_settled(rt: &impl Abort, alloc: Global, vnodes: &[Vnode])
     requires { Differ vnodes.now }
 {
-    let Some(vnode) = vnodes.first() else {
-        return Err(Fail::new("no vnode"));
-    };
-    let journal = vnode.journal();
-    assert_eq!(rt; (journal.first(), journal.len()), (5_120, 6_000));
-    assert!(rt; journal.get(5_119).is_none() && journal.get(5_120).is_some());
-    assert_eq!(rt; audit_vnodes(alloc, vnodes), Err(CloseFault::HandedOut));
-    Ok(())
+    assert!(rt; vnodes.len() == 1);
+    assert!(rt; is_settled(vnodes[0].journal()));
+    assert!(rt; matches!(audit_vnodes(alloc, vnodes), Err(CloseFault::HandedOut)));
 }
 
-/// What is handed out follows what was handed out before, each call is answered meanwhile, and a journal with a part handed out isn't whole.
+/// A vnode and two passes.
+const ONE_BY_TWO: Size = Size {
+    first: 0,
+    vnodes: 1,
+    passes: 2,
+};
+
+/// Two workers read 3,000 times each. What is handed out follows what was handed out before, each call is answered meanwhile, and a
+/// journal with a part handed out isn't whole.
 #[test]
 fn calls_beside_a_settling(rt: HostRuntime) -> Result<(), Fail> {
-    let size = Size {
-        first: 0,
-        vnodes: 1,
-        passes: 2,
-    };
-    let (stamps, card) = Stamps::new(rt.alloc(), &size)?;
-    settled_meanwhile::<Brand, _>(&rt, rt.alloc(), stamps, card)
+    let (stamps, card) = Stamps::new(rt.alloc(), &ONE_BY_TWO)?;
+    let vnodes = settled_meanwhile::<Brand, _>(&rt, rt.alloc(), stamps, card)?;
+    are_settled(&rt, rt.alloc(), &vnodes);
+    Ok(())
 }

@@ -1,4 +1,4 @@
-use Rattle.pool_trials.proofs.tests.passes.calls_by_one_pass.Given as goal
+use Rattle.pool_trials.proofs.tests.running.tried.Given as goal
 
 -- the word's own table
 abbrev pub ghosts-by_one_pass : goal.ghosts-by_one_pass
