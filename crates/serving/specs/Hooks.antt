@@ -1,5 +1,5 @@
 -- The hooks of a store as the list of the changes that were made to them (this store's profile; Riak KV documentation, bucket properties).
-use Rattle.std.specs.Prelude.{◌≡◌, ℕ, List, [], ◌∷◌, ◌++◌, Option, None, Result, Ok, Err, IfOk, MatchResult, true, false}
+use Rattle.std.specs.Prelude.{◌≡◌, ℕ, List, [], ◌∷◌, ◌++◌, Option, None, Result, Ok, Err, IfOk, MatchResult}
 use Rattle.bpfimage.specs.declared.image.ImageKind.{ImageKind}
 use Rattle.verifier.specs.Program.{Program}
 use Rattle.hooks.specs.declared.fault.NotSeen.{NotSeen}
@@ -7,7 +7,7 @@ use Rattle.hooks.specs.declared.fault.NameFault.{NameFault}
 use Rattle.hooks.specs.declared.fault.NameFault.TheVariants as name_fault
 use Rattle.hooks.specs.declared.fault.HookFault.{HookFault}
 use Rattle.hooks.specs.declared.fault.HookFault.TheVariants.{NameUnknown, KindDiffers, NoMemory}
-use Rattle.hooks.specs.Changes.{Change, Install, Remove, Bind, are_fitting, are_known, bound_at, hook_at, program_at}
+use Rattle.hooks.specs.Changes.{Change, Install, Remove, Bind, AreAllowed, AreRefused, bound_at, hook_at, program_at}
 
 -- a look-up finds the hook of the changes so far, or it can't be shared now
 abbrev pub FindsAt : List Change → List ℕ → ImageKind → Result (Option Program) NotSeen → List Change → Type 0
@@ -22,13 +22,13 @@ NamesAt changes bucket kind named after = (after ≡ changes) × MatchResult nam
 abbrev pub Allows : List Change → Change → Type 0
 Allows changes (Install name program) = Unit {0}
 Allows changes (Remove name) = ¬ (program_at changes name ≡ None)
-Allows changes (Bind bucket bindings) = (are_known (program_at changes) bindings ≡ true) × (are_fitting (program_at changes) bindings ≡ true)
+Allows changes (Bind bucket bindings) = AreAllowed (program_at changes) bindings
 
 -- why one more change is refused after those so far
 abbrev pub Refuses : List Change → Change → HookFault → Type 0
 Refuses changes (Remove name) NameUnknown = program_at changes name ≡ None
-Refuses changes (Bind bucket bindings) NameUnknown = are_known (program_at changes) bindings ≡ false
-Refuses changes (Bind bucket bindings) KindDiffers = (are_known (program_at changes) bindings ≡ true) × (are_fitting (program_at changes) bindings ≡ false)
+Refuses changes (Bind bucket bindings) NameUnknown = AreRefused (program_at changes) bindings NameUnknown
+Refuses changes (Bind bucket bindings) KindDiffers = AreRefused (program_at changes) bindings KindDiffers
 Refuses changes (Remove name) NoMemory = ⊥
 Refuses changes change NoMemory = Allows changes change
 Refuses changes change fault = ⊥
