@@ -3,7 +3,7 @@ use super::expect;
 use admission::{MOST, Refusal, admit_hook, admit_image, admit_program, enough};
 use bpfimage::ImageKind;
 use helpers::Sigs;
-use std::alloc::Global;
+use std::alloc::{AllocError, Global};
 use std::test::Fail;
 use verifier::Verified;
 
@@ -17,78 +17,107 @@ const TAKES_FIRST: [u8; 32] = [
 const EXIT: [u8; 8] = [0x95, 0, 0, 0, 0, 0, 0, 0];
 
 /// Code that answers 0.
-const ZERO: [u8; 16] = [0xb7, 0, 0, 0, 0, 0, 0, 0, 0x95, 0, 0, 0, 0, 0, 0, 0];
-
-/// The kind of what was let in, and the length of its input.
-fn shape(outcome: Result<Verified, Refusal>) -> Option<(ImageKind, u32)> {
-    match outcome {
-        Ok(verified) => Some((verified.image().kind, verified.image().in_len)),
-        Err(_) => None,
-    }
-}
-
-#[test]
-fn hooks_and_programs(rt: HostRuntime) {
-    let alloc = rt.alloc();
-    let sigs = Sigs::new(alloc);
-    let shapes = [
-        shape(admit_hook(alloc, &TAKES_FIRST, ImageKind::Resolver, &sigs)),
-        shape(admit_image(alloc, &TAKES_FIRST, &sigs)),
-        shape(admit_program(alloc, &TAKES_FIRST, &sigs)),
-        shape(admit_program(alloc, &ZERO, &sigs)),
-    ];
-    let resolver = Some((ImageKind::Resolver, 128));
-    let raw = Some((ImageKind::Plain, 4096));
-    assert_eq!(rt; shapes, [resolver, resolver, resolver, raw]);
-}
+pub const ZERO: [u8; 16] = [0xb7, 0, 0, 0, 0, 0, 0, 0, 0x95, 0, 0, 0, 0, 0, 0, 0];
 
 /// As what bytes are let in.
 #[derive(Clone, Copy)]
 enum Wanted {
-    PreCommit,
+    Hook(ImageKind),
     Image,
     Program,
 }
 
-/// Bytes that are not let in, and what is told of them: a hook of another kind, no images, code that answers nothing, code cut
-/// within a slot, and no code.
-const REFUSED: &[(Wanted, &[u8], &str)] = &[
-    (Wanted::PreCommit, &TAKES_FIRST, "G2"),
-    (Wanted::Image, &EXIT, "I1"),
-    (Wanted::Image, &ZERO, "I2"),
-    (Wanted::Program, &EXIT, "V20 0"),
-    (Wanted::Program, &[0x95, 0, 0, 0, 0, 0, 0], "D1 0"),
-    (Wanted::Program, &[], "D2 0"),
+/// What is let in, by its kind and the length of its input, or what is told of bytes that are not.
+#[derive(Clone, Copy)]
+enum Outcome {
+    LetIn(ImageKind, u32),
+    Refused(&'static str),
+}
+
+/// A resolver as such, as an image and as a program, and raw code; then a hook of another kind, no images, code that answers nothing,
+/// code cut within a slot, and no code.
+const ADMISSIONS: &[(Wanted, &[u8], Outcome)] = &[
+    (
+        Wanted::Hook(ImageKind::Resolver),
+        &TAKES_FIRST,
+        Outcome::LetIn(ImageKind::Resolver, 128),
+    ),
+    (
+        Wanted::Image,
+        &TAKES_FIRST,
+        Outcome::LetIn(ImageKind::Resolver, 128),
+    ),
+    (
+        Wanted::Program,
+        &TAKES_FIRST,
+        Outcome::LetIn(ImageKind::Resolver, 128),
+    ),
+    (
+        Wanted::Program,
+        &ZERO,
+        Outcome::LetIn(ImageKind::Plain, 4096),
+    ),
+    (
+        Wanted::Hook(ImageKind::PreCommit),
+        &TAKES_FIRST,
+        Outcome::Refused("G2"),
+    ),
+    (Wanted::Image, &EXIT, Outcome::Refused("I1")),
+    (Wanted::Image, &ZERO, Outcome::Refused("I2")),
+    (Wanted::Program, &EXIT, Outcome::Refused("V20 0")),
+    (
+        Wanted::Program,
+        &[0x95, 0, 0, 0, 0, 0, 0],
+        Outcome::Refused("D1 0"),
+    ),
+    (Wanted::Program, &[], Outcome::Refused("D2 0")),
 ];
 
 /// What is let in of bytes.
 fn admit(alloc: Global, wanted: Wanted, bytes: &[u8]) -> Result<Verified, Refusal> {
     let sigs = Sigs::new(alloc);
     match wanted {
-        Wanted::PreCommit => admit_hook(alloc, bytes, ImageKind::PreCommit, &sigs),
+        Wanted::Hook(kind) => admit_hook(alloc, bytes, kind, &sigs),
         Wanted::Image => admit_image(alloc, bytes, &sigs),
         Wanted::Program => admit_program(alloc, bytes, &sigs),
     }
 }
 
 /// The text of a refusal.
-fn text_of(alloc: Global, refusal: &Refusal) -> Result<String, Fail> {
-    Ok(format!(in alloc; "{refusal}")?)
+fn text_of(alloc: Global, refusal: &Refusal) -> Result<String, AllocError> {
+    format!(in alloc; "{refusal}")
 }
 
-/// Whether nothing was let in, and that is told so.
-fn is_told(alloc: Global, outcome: &Result<Verified, Refusal>, want: &str) -> Result<bool, Fail> {
-    match outcome {
-        Ok(_) => Ok(false),
-        Err(refusal) => Ok(text_of(alloc, refusal)?.as_str() == want),
+/// Whether something was let in, or refused, so.
+fn is_so(
+    alloc: Global,
+    outcome: &Result<Verified, Refusal>,
+    want: Outcome,
+) -> Result<bool, AllocError> {
+    match (outcome, want) {
+        (Ok(verified), Outcome::LetIn(kind, in_len)) => {
+            let image = verified.image();
+            Ok(image.kind == kind && image.in_len == in_len)
+        }
+        (Err(refusal), Outcome::Refused(text)) => Ok(text_of(alloc, refusal)?.as_str() == text),
+        _ => Ok(false),
     }
 }
 
+/// Whether bytes are let in, or refused, so.
+fn is_admitted(
+    alloc: Global,
+    wanted: Wanted,
+    bytes: &[u8],
+    want: Outcome,
+) -> Result<bool, AllocError> {
+    is_so(alloc, &admit(alloc, wanted, bytes), want)
+}
+
 #[test]
-fn refusals(rt: HostRuntime) -> Result<(), Fail> {
-    for (wanted, bytes, want) in REFUSED {
-        let outcome = admit(rt.alloc(), *wanted, bytes);
-        expect(&rt, is_told(rt.alloc(), &outcome, want)?, want);
+fn admissions(rt: HostRuntime) -> Result<(), Fail> {
+    for (wanted, bytes, want) in ADMISSIONS {
+        expect(&rt, is_admitted(rt.alloc(), *wanted, bytes, *want)?, bytes);
     }
     Ok(())
 }

@@ -57,19 +57,18 @@ fn bytes_of(alloc: Global, opcode: u8) -> Result<Vec<u8>, AllocError> {
 }
 
 /// Whether the instruction of an opcode is read and written again, or refused as it should be.
-fn is_read(alloc: Global, opcode: u8, bytes: &[u8]) -> Result<bool, AllocError> {
-    match (decode(alloc, bytes), refusal_of(opcode)) {
-        (Ok(code), None) => Ok(encode(alloc, &code)?.as_slice() == bytes),
-        (Err(DecodeFault { slot: 0, why }), Some(want)) => Ok(why == want),
-        _ => Ok(false),
+fn is_read(alloc: Global, opcode: u8) -> Result<bool, AllocError> {
+    let bytes = bytes_of(alloc, opcode)?;
+    match decode(alloc, &bytes) {
+        Ok(code) => Ok(encode(alloc, &code)? == bytes && refusal_of(opcode).is_none()),
+        Err(DecodeFault { slot, why }) => Ok(slot == 0 && refusal_of(opcode) == Some(why)),
     }
 }
 
 #[test]
 fn opcodes(rt: HostRuntime) -> Result<(), Fail> {
     for opcode in 0..=255 {
-        let bytes = bytes_of(rt.alloc(), opcode)?;
-        expect(&rt, is_read(rt.alloc(), opcode, &bytes)?, &opcode);
+        expect(&rt, is_read(rt.alloc(), opcode)?, &opcode);
     }
     Ok(())
 }

@@ -3,7 +3,6 @@
 use super::MAX;
 use super::known::Known::{Input, Num, One, Stack, Unset};
 use super::known::{FULL, Known};
-use crate::tests::expect;
 use ranges::{Kind, Range, join};
 
 /// What is known on two ways, and where they meet.
@@ -20,11 +19,15 @@ const JOINS: &[(Known, Known, Known)] = &[
     (Unset, Unset, Unset),
 ];
 
+/// Whether two ways meet so.
+fn are_joined(row: &(Known, Known, Known)) -> bool {
+    join(row.0.kind(), row.1.kind()) == row.2.kind()
+}
+
 #[test]
 fn joins(rt: HostRuntime) {
     for row in JOINS {
-        let (a, b, want) = *row;
-        expect(&rt, join(a.kind(), b.kind()) == want.kind(), row);
+        assert!(rt; are_joined(row));
     }
 }
 

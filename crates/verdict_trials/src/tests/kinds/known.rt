@@ -7,7 +7,7 @@ use memory::Region;
 use ranges::Kind;
 
 /// What is known of a register.
-#[derive(Clone, Copy, Debug)]
+#[derive(Clone, Copy)]
 pub enum Known {
     Unset,
     Num(u64, u64),

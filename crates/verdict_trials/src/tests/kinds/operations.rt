@@ -2,6 +2,7 @@
 
 use super::known::Known::{Input, Num, One, Stack, Unset};
 use super::known::{FULL, FULL_32, Known, is_kind};
+use super::pointers::{MASKED_POINTER, POINTER_DIFFERENCES, POINTER_FACTOR, POINTER_SUMS};
 use super::{HALF, HALF_32, MAX, MAX_32, PAST_32};
 use crate::tests::expect;
 use alu::Op::*;
@@ -32,9 +33,9 @@ fn leaves(op: Op, row: &Row) -> bool {
 }
 
 /// Tells what an operation leaves.
-pub fn leave(rt: &impl Abort, op: Op, rows: &[Row]) {
+fn leave(rt: &impl Abort, op: Op, rows: &[Row]) {
     for row in rows {
-        expect(rt, leaves(op, row), row);
+        expect(rt, leaves(op, row), &(op, row.0));
     }
 }
 
@@ -228,28 +229,39 @@ const WORDS_EXTENDED: &[Row] = &[
     (W64, Unset, Num(0, 1), Ok(FULL)),
 ];
 
+/// Operations, and what they leave.
+const OPERATIONS: &[(Op, &[Row])] = &[
+    (Mov, MOVES),
+    (Add, SUMS),
+    (Sub, DIFFERENCES),
+    (Mul, PRODUCTS),
+    (Div, QUOTIENTS),
+    (SignedDiv, SIGNED_QUOTIENTS),
+    (Mod, REMAINDERS),
+    (SignedMod, SIGNED_REMAINDERS),
+    (And, COMMON_BITS),
+    (Or, UNITED_BITS),
+    (Xor, UNITED_BITS),
+    (Or, TWELVE_OR_TEN),
+    (Xor, TWELVE_XOR_TEN),
+    (Lsh, LEFT_SHIFTS),
+    (Rsh, RIGHT_SHIFTS),
+    (Arsh, SIGNED_SHIFTS),
+    (Neg, NEGATIONS),
+    (Movsx8, BYTES_EXTENDED),
+    (Movsx16, HALVES_EXTENDED),
+    (Movsx32, WORDS_EXTENDED),
+    (Add, POINTER_SUMS),
+    (Sub, POINTER_DIFFERENCES),
+    (And, MASKED_POINTER),
+    (Mul, POINTER_FACTOR),
+];
+
 #[test]
 fn operations(rt: HostRuntime) {
-    leave(&rt, Mov, MOVES);
-    leave(&rt, Add, SUMS);
-    leave(&rt, Sub, DIFFERENCES);
-    leave(&rt, Mul, PRODUCTS);
-    leave(&rt, Div, QUOTIENTS);
-    leave(&rt, SignedDiv, SIGNED_QUOTIENTS);
-    leave(&rt, Mod, REMAINDERS);
-    leave(&rt, SignedMod, SIGNED_REMAINDERS);
-    leave(&rt, And, COMMON_BITS);
-    leave(&rt, Or, UNITED_BITS);
-    leave(&rt, Xor, UNITED_BITS);
-    leave(&rt, Or, TWELVE_OR_TEN);
-    leave(&rt, Xor, TWELVE_XOR_TEN);
-    leave(&rt, Lsh, LEFT_SHIFTS);
-    leave(&rt, Rsh, RIGHT_SHIFTS);
-    leave(&rt, Arsh, SIGNED_SHIFTS);
-    leave(&rt, Neg, NEGATIONS);
-    leave(&rt, Movsx8, BYTES_EXTENDED);
-    leave(&rt, Movsx16, HALVES_EXTENDED);
-    leave(&rt, Movsx32, WORDS_EXTENDED);
+    for (op, rows) in OPERATIONS {
+        leave(&rt, *op, rows);
+    }
 }
 
 /// A byte swap, what is known before it, and what after it.
@@ -277,6 +289,6 @@ fn is_swapped(row: &Swapped) -> bool {
 #[test]
 fn swaps(rt: HostRuntime) {
     for row in SWAPS {
-        expect(&rt, is_swapped(row), row);
+        expect(&rt, is_swapped(row), &(row.0, row.1));
     }
 }

@@ -4,12 +4,14 @@ ghost use Rattle.std.specs.Prelude.{◌≡◌};
 ghost use Rattle.helpers.specs.Text.{spelled};
 
 use super::{CLEAR, Lengths, Told, tell_all};
+use crate::tests::admissions::ZERO;
+use admission::admit_program;
+use code_parts::Slot;
 use code_parts::Slot::{Added, Call, Copied, Exit, Put, Raised, StoreByte};
-use code_parts::{Slot, code_of};
 use helpers::{ArgRule, Body, Helper, Sig, Sigs, Table, decimal, written_sig};
 use std::alloc::Global;
 use std::test::Fail;
-use verifier::{raw_image, verify};
+use verifier::Verified;
 
 const ANY: ArgRule = ArgRule::Num {
     lo: 0,
@@ -220,27 +222,23 @@ const HELPER_CALLS: &[(&str, &[Slot], Told)] = &[
     ),
 ];
 
+/// Whether an accepted program keeps these Sigs, nine of them.
+fn keeps(verified: &Verified, sigs: &Sigs) -> bool {
+    let kept = verified.sigs();
+    kept.entries().len() == 9 && kept.sig(65) == sigs.sig(65) && verified.image().code.len() == 2
+}
+
+/// Whether code that answers 0 keeps these Sigs.
+fn are_kept(alloc: Global, sigs: &Sigs) -> bool {
+    match admit_program(alloc, &ZERO, sigs) {
+        Ok(verified) => keeps(&verified, sigs),
+        Err(_) => false,
+    }
+}
+
 #[test]
 fn helper_calls(rt: HostRuntime) -> Result<(), Fail> {
     let sigs = sigs(rt.alloc())?;
+    assert!(rt; are_kept(rt.alloc(), &sigs));
     tell_all(&rt, rt.alloc(), &sigs, SMALL, HELPER_CALLS)
-}
-
-/// How many helpers an accepted program keeps, whether 65 is as it was, and how many slots it has.
-fn kept(alloc: Global, sigs: &Sigs) -> Result<(usize, bool, usize), Fail> {
-    let code = code_of(alloc, &[CLEAR, Exit])?;
-    let verified = verify(alloc, raw_image(alloc, &code)?, sigs)?;
-    let kept = verified.sigs();
-    Ok((
-        kept.entries().len(),
-        kept.sig(65) == sigs.sig(65),
-        verified.image().code.len(),
-    ))
-}
-
-#[test]
-fn sigs_are_kept(rt: HostRuntime) -> Result<(), Fail> {
-    let sigs = sigs(rt.alloc())?;
-    assert_eq!(rt; kept(rt.alloc(), &sigs)?, (9, true, 2));
-    Ok(())
 }

@@ -16,6 +16,16 @@ const GREATEST: Lengths = Lengths {
     output: 65_536,
 };
 
+/// A program, told in few words.
+enum Program {
+    /// Of 4,096 slots: a first one, the same slot over and over, and a last one.
+    Straight(&'static [Slot; 3]),
+    /// Of 4,096 slots, branches behind this one.
+    Branchy(Slot),
+    /// Copies so many bytes of the input to the output.
+    Copies(i32),
+}
+
 /// A program of 4,096 slots: a first one, the same slot over and over, and a last one.
 fn straight(alloc: Global, slots: &[Slot; 3]) -> Result<Vec<Slot>, AllocError> {
     let [first, next, last] = *slots;
@@ -42,111 +52,109 @@ fn branchy(alloc: Global, first: Slot) -> Result<Vec<Slot>, AllocError> {
     Ok(code)
 }
 
-/// A program's first slot, the one that is repeated and the last, and what is told of it.
-const STRAIGHT: &[(&str, &[Slot; 3], Told)] = &[
-    ("moves", &[CLEAR, Put(6, 7), Exit], Told::Accepted(4096)),
+/// A program that copies so many bytes of the input to the output.
+fn copies(alloc: Global, len: i32) -> Result<Vec<Slot>, AllocError> {
+    [
+        Copied(2, 1),
+        Copied(1, 3),
+        Put(3, len),
+        Call(1),
+        CLEAR,
+        Exit,
+    ]
+    .to_vec(alloc)
+}
+
+/// The slots of a program.
+fn slots_of(alloc: Global, program: &Program) -> Result<Vec<Slot>, AllocError> {
+    match program {
+        Program::Straight(slots) => straight(alloc, slots),
+        Program::Branchy(first) => branchy(alloc, *first),
+        Program::Copies(len) => copies(alloc, *len),
+    }
+}
+
+/// Programs, and what is told of them.
+const PROGRAMS: &[(&str, Program, Told)] = &[
+    (
+        "moves",
+        Program::Straight(&[CLEAR, Put(6, 7), Exit]),
+        Told::Accepted(4096),
+    ),
     (
         "no answer",
-        &[Put(7, 1), Put(6, 7), Exit],
+        Program::Straight(&[Put(7, 1), Put(6, 7), Exit]),
         Told::Refused(20, 4095),
     ),
     (
         "a pointer as the answer",
-        &[Copied(0, 1), Put(6, 7), Exit],
+        Program::Straight(&[Copied(0, 1), Put(6, 7), Exit]),
         Told::Refused(29, 4095),
     ),
     (
         "no end",
-        &[CLEAR, Put(6, 7), CLEAR],
+        Program::Straight(&[CLEAR, Put(6, 7), CLEAR]),
         Told::Refused(13, 4095),
     ),
     (
         "sums up to a far offset",
-        &[CLEAR, Raised(1, 257), Exit],
+        Program::Straight(&[CLEAR, Raised(1, 257), Exit]),
         Told::Refused(23, 4081),
     ),
     (
         "loads of the last byte",
-        &[Raised(1, 65_535), LoadByte(0, 1, 0), Exit],
+        Program::Straight(&[Raised(1, 65_535), LoadByte(0, 1, 0), Exit]),
         Told::Accepted(4096),
     ),
     (
         "loads past the last byte",
-        &[Raised(1, 65_536), LoadByte(0, 1, 0), Exit],
+        Program::Straight(&[Raised(1, 65_536), LoadByte(0, 1, 0), Exit]),
         Told::Refused(24, 1),
     ),
     (
         "stores of the last byte, no answer",
-        &[Raised(3, 65_535), StoreByte(3, 0, 1), Exit],
+        Program::Straight(&[Raised(3, 65_535), StoreByte(3, 0, 1), Exit]),
         Told::Refused(20, 4095),
     ),
     (
         "stores past the last byte",
-        &[Raised(3, 65_536), StoreByte(3, 0, 1), Exit],
+        Program::Straight(&[Raised(3, 65_536), StoreByte(3, 0, 1), Exit]),
         Told::Refused(24, 1),
     ),
-];
-
-#[test]
-fn straight_programs(rt: HostRuntime) -> Result<(), Fail> {
-    let alloc = rt.alloc();
-    let sigs = Sigs::new(alloc);
-    for (name, slots, want) in STRAIGHT {
-        let code = straight(alloc, slots)?;
-        expect(&rt, is_told(alloc, &sigs, GREATEST, &code, *want)?, name);
-    }
-    Ok(())
-}
-
-/// A program's first slot, and what is told of it.
-const BRANCHY: &[(&str, Slot, Told)] = &[
-    ("branches", CLEAR, Told::Accepted(4096)),
+    ("branches", Program::Branchy(CLEAR), Told::Accepted(4096)),
     (
         "branches without an answer",
-        Put(6, 0),
+        Program::Branchy(Put(6, 0)),
         Told::Refused(20, 4095),
     ),
     (
         "branches with a pointer as the answer",
-        Copied(0, 1),
+        Program::Branchy(Copied(0, 1)),
         Told::Refused(29, 4095),
+    ),
+    (
+        "a copy of a whole window",
+        Program::Copies(65_536),
+        Told::Accepted(6),
+    ),
+    (
+        "a copy of one byte more",
+        Program::Copies(65_537),
+        Told::Refused(28, 3),
     ),
 ];
 
-#[test]
-fn branchy_programs(rt: HostRuntime) -> Result<(), Fail> {
-    let alloc = rt.alloc();
-    let sigs = Sigs::new(alloc);
-    for (name, first, want) in BRANCHY {
-        let code = branchy(alloc, *first)?;
-        expect(&rt, is_told(alloc, &sigs, GREATEST, &code, *want)?, name);
-    }
-    Ok(())
+/// Whether a program is told so.
+fn is_told_so(alloc: Global, sigs: &Sigs, program: &Program, want: Told) -> Result<bool, Fail> {
+    let slots = slots_of(alloc, program)?;
+    is_told(alloc, sigs, GREATEST, &slots, want)
 }
 
-/// How many bytes a program copies, and what is told of it.
-const WHOLE_WINDOWS: &[(&str, i32, Told)] = &[
-    ("a copy of a whole window", 65_536, Told::Accepted(6)),
-    ("a copy of one byte more", 65_537, Told::Refused(28, 3)),
-];
-
 #[test]
-fn calls_on_whole_windows(rt: HostRuntime) -> Result<(), Fail> {
+fn greatest_sizes(rt: HostRuntime) -> Result<(), Fail> {
     let sigs = Sigs::new(rt.alloc());
-    for &(name, len, want) in WHOLE_WINDOWS {
-        let code = [
-            Copied(2, 1),
-            Copied(1, 3),
-            Put(3, len),
-            Call(1),
-            CLEAR,
-            Exit,
-        ];
-        expect(
-            &rt,
-            is_told(rt.alloc(), &sigs, GREATEST, &code, want)?,
-            &name,
-        );
+    for (name, program, want) in PROGRAMS {
+        expect(&rt, is_told_so(rt.alloc(), &sigs, program, *want)?, name);
     }
     Ok(())
 }
