@@ -9,6 +9,13 @@ mod replies;
 
 use httpread::{Asking, KnownHead, Routes, first_request};
 use std::alloc::{AllocError, Global};
+use std::fmt::Debug;
+use std::process::Abort;
+
+/// Ends the test where a row does not hold, and names the row.
+fn expect(rt: &impl Abort, holds: bool, row: &impl Debug) {
+    assert!(rt; holds, "{row:?}");
+}
 
 /// What the bytes come to, where nothing is known of their head and each key has three copies.
 fn first(alloc: Global, routes: &Routes, bytes: &[u8]) -> Result<Asking, AllocError> {

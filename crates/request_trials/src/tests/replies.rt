@@ -5,8 +5,6 @@ use httpask::{Ask, Call, Form};
 use httpreply::{Reply, push_answer};
 use object::{Bytes, Content, Key};
 use std::alloc::{AllocError, Global};
-use std::process::Abort;
-use std::test::Fail;
 
 /// The answer to a request as text, where each key has three copies and the connection goes on.
 pub fn text_of(alloc: Global, ask: &Ask, reply: &Reply) -> Result<String, AllocError> {
@@ -47,19 +45,16 @@ pub fn value(alloc: Global, bytes: &[u8]) -> Result<Content, AllocError> {
     })
 }
 
-/// Checks that the answer to a request is a status and a line of text, where the connection goes on.
-pub fn expect_plain(
-    rt: &impl Abort,
+/// Whether the answer to a request is a status and a line of text, where the connection goes on.
+pub fn is_plain(
     alloc: Global,
     ask: &Ask,
     reply: &Reply,
     status: &str,
     line: &str,
-) -> Result<(), Fail> {
+) -> Result<bool, AllocError> {
     let text = text_of(alloc, ask, reply)?;
-    let want = plain(alloc, status, line)?;
-    assert_eq!(rt; text.as_str(), want.as_str());
-    Ok(())
+    Ok(text.as_str() == plain(alloc, status, line)?.as_str())
 }
 
 /// An answer of a status and a line of text.
