@@ -67,10 +67,7 @@ fn push_put(
     w: u32,
     at: u32,
 ) -> Result<(), Fail> {
-    push_words(
-        out,
-        &[b"put", key.bucket(), key.key(), b""],
-    )?;
+    push_words(out, &[b"put", key.bucket(), key.key(), b""])?;
     token::write_to(seen, out)?;
     push_content(out, content)?;
     push_numbers(out, w, at)
