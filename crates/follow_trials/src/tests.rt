@@ -4,6 +4,6 @@ mod following;
 mod merges;
 mod pieces;
 mod runs;
-mod stamps;
+mod stamped;
 mod threads;
 mod working;
