@@ -1,7 +1,5 @@
 //! Workers on threads, whose journals are one run.
 
-ghost use Rattle.std.specs.Prelude.{◌≡◌};
-
 use crate::tests::building::{Open, key_of, value_of};
 use crate::tests::running::{Answered, Staff, are_one_run, served};
 use dvv::Clock;
