@@ -22,7 +22,7 @@ STORE, ETCD, ETCD_PEERS, REDIS = 8170, 23790, 23800, 6399
 
 # A write without a context is a sibling of what stands there, so this store's writes go to a further bucket after each 1,000.
 REQUESTS = """
-local n, body = 0, string.rep("x", 100)
+local n, body = -1, string.rep("x", 100) -- wrk asks for one request more, before the first that it sends
 function request()
   local turn, key = math.floor(n / 1000), n % 1000
   n = n + 1
