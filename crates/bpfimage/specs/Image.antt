@@ -2,6 +2,7 @@
 use Rattle.std.specs.Prelude.{◌≡◌, ◌≢◌, ℕ, ◌+◌, ◌<◌, ◌⊎◌, List, [], ◌∷◌, ◌++◌, length, take, drop, slice_index, Bool, MatchBool, nat_eq, codes, decimal}
 use Rattle.std.specs.Int.{w32, from_le_bytes}
 use Rattle.std.specs.List.{starts_with}
+use Rattle.memory.specs.Windows.{longest_window}
 use Rattle.insn.specs.Refusal.{Spells, IsRefused, name_of}
 use Rattle.insn.specs.declared.Insn.{Insn}
 use Rattle.insn.specs.declared.decode.Refusal.{Refusal}
@@ -63,7 +64,7 @@ Breaks Short bytes = length bytes < 16
 Breaks Mark bytes = take 4 bytes ≢ 82 ∷ 66 ∷ 80 ∷ 70 ∷ []
 Breaks Version bytes = slice_index bytes 4 ≢ 1
 Breaks Kind bytes = (2 < slice_index bytes 5) ⊎ (slice_index bytes 6 ≢ 0) ⊎ (slice_index bytes 7 ≢ 0)
-Breaks Window bytes = (65536 < number_at bytes 8) ⊎ (65536 < number_at bytes 12)
+Breaks Window bytes = (longest_window < number_at bytes 8) ⊎ (longest_window < number_at bytes 12)
 Breaks other bytes = IsCodeFault (drop 16 bytes) other
 
 -- the fault that is told: none before it stands

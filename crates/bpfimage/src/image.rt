@@ -2,6 +2,7 @@
 
 ghost use Rattle.std.specs.Prelude.{◌≤◌, length};
 ghost use Rattle.insn.specs.Encoding.{IsCode};
+ghost use Rattle.memory.specs.Windows.{longest_window};
 
 use insn::{DecodeFault, Insn};
 use std::fmt;
@@ -24,8 +25,8 @@ pub struct Image {
     pub in_len: u32,
     pub out_len: u32,
     pub code: Vec<Insn>,
-    ghost in_small: { in_len ≤ 65536 },
-    ghost out_small: { out_len ≤ 65536 },
+    ghost in_small: { in_len ≤ longest_window },
+    ghost out_small: { out_len ≤ longest_window },
     ghost is_code: { ∥ IsCode code.items ∥₁ },
     ghost some_slots: { 1 ≤ length code.items },
     ghost few_slots: { length code.items ≤ 4096 },
@@ -69,9 +70,6 @@ impl fmt::Display for ImageFault {
         }
     }
 }
-
-/// How many bytes a window may have.
-pub const MAX_WINDOW: u32 = 65536;
 
 impl ImageKind {
     ghost use Rattle.std.specs.Prelude.{◌≡◌, ◌<◌, ◌↔◌, IfSome, IsNone};

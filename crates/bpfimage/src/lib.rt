@@ -6,5 +6,5 @@ pub mod image;
 pub mod read;
 
 pub use form::{FormFault, FormRule, form_fault};
-pub use image::{Image, ImageFault, ImageKind, MAX_WINDOW};
+pub use image::{Image, ImageFault, ImageKind};
 pub use read::{raw_image, read_image, read_program};

@@ -3,11 +3,13 @@
 ghost use Rattle.std.specs.Prelude.{◌≡◌, ◌+◌, ◌<◌, ◌≤◌, length, drop, slice_index, List, IfOk, IfErr, MatchResult};
 ghost use Rattle.insn.specs.declared.Insn.{Insn};
 ghost use Rattle.insn.specs.Refusal.{Spells, IsRefused};
+ghost use Rattle.memory.specs.Windows.{longest_window};
 ghost use Rattle.bpfimage.specs.Image.{kind_number, number_at, rank, fault_of, HasHead, IsFirstFault, IsCodeFault, IsImage, IsProgram, IsNoProgram};
 
-use crate::image::{Image, ImageFault, ImageKind, MAX_WINDOW};
+use crate::image::{Image, ImageFault, ImageKind};
 use insn::decode::decode;
 use insn::{DecodeFault, Refusal};
+use memory::MAX_WINDOW;
 use std::alloc::Global;
 
 /// How many bytes stand before the code.
@@ -41,7 +43,7 @@ fn read_number(bytes: &[u8], at: usize) -> u32
 /// The head of an image.
 fn read_head(bytes: &[u8]) -> Result<Head, ImageFault>
     ensures found { IfOk result (λ head. HasHead bytes.now × (slice_index bytes.now 5 ≡ kind_number head.kind) × (head.in_len ≡ number_at bytes.now 8) × (head.out_len ≡ number_at bytes.now 12)) }
-    ensures small { IfOk result (λ head. (16 ≤ length bytes.now) × (head.in_len ≤ 65536) × (head.out_len ≤ 65536)) }
+    ensures small { IfOk result (λ head. (16 ≤ length bytes.now) × (head.in_len ≤ longest_window) × (head.out_len ≤ longest_window)) }
     ensures refused { IfErr result (λ fault. IsFirstFault bytes.now fault × (rank fault < 5)) }
 {
     if bytes.len() < HEAD {

@@ -4,7 +4,8 @@ use Rattle.std.specs.Prelude.{nat_le, ◌&&◌}
 use Rattle.std.proofs.lemmas.Bool.{and_parts, leb-true, le-leb}
 use Rattle.helpers.specs.declared.sig.ArgRule.{ArgRule}
 use Rattle.helpers.specs.declared.sig.ArgRule.TheVariants as rule
-use Rattle.helpers.specs.Rules.{are_laid_out, max_read, reads_of, is_signature}
+use Rattle.memory.specs.Windows.{longest_window}
+use Rattle.helpers.specs.Rules.{are_laid_out, reads_of, is_signature}
 
 pub signature_parts : (args : List ArgRule) (lo hi : ℕ) → is_signature args lo hi ≡ true → (are_laid_out args ≡ true) × (lo ≤ hi)
 signature_parts args lo hi t =
@@ -17,7 +18,7 @@ few_reads [] t = omega arith
 few_reads (rule.Unused ∷ rest) t = omega (arith, few_reads rest t)
 few_reads (rule.Num lo hi ∷ rest) t = omega (arith, few_reads rest (and_parts (nat_le lo hi) (are_laid_out rest) t).1)
 few_reads (rule.Read max ∷ []) t = absurd (cc)
-few_reads (rule.Read max ∷ rule.Len ∷ rest) t = omega (arith, few_reads rest (and_parts (nat_le max max_read) (are_laid_out rest) t).1)
+few_reads (rule.Read max ∷ rule.Len ∷ rest) t = omega (arith, few_reads rest (and_parts (nat_le max longest_window) (are_laid_out rest) t).1)
 few_reads (rule.Read max ∷ rule.Unused ∷ rest) t = absurd (cc)
 few_reads (rule.Read max ∷ rule.Num lo hi ∷ rest) t = absurd (cc)
 few_reads (rule.Read max ∷ rule.Read more ∷ rest) t = absurd (cc)

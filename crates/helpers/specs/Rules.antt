@@ -1,18 +1,15 @@
 -- What a helper may be said to read (this store's profile).
 use Rattle.std.specs.Prelude.{ℕ, Bool, true, false, ◌&&◌, ◌||◌, nat_le, List, [], ◌∷◌, length}
+use Rattle.memory.specs.Windows.{longest_window}
 use Rattle.helpers.specs.declared.sig.ArgRule.{ArgRule}
 use Rattle.helpers.specs.declared.sig.ArgRule.TheVariants as rule
-
--- the most bytes of one range that a call reads or writes
-abbrev pub max_read : ℕ
-max_read = 65536
 
 -- each Read is followed by its Len and allows no more, a Len stands nowhere else, and no range is empty
 abbrev pub are_laid_out : List ArgRule → Bool
 are_laid_out [] = true
 are_laid_out (rule.Unused ∷ rest) = are_laid_out rest
 are_laid_out (rule.Num lo hi ∷ rest) = nat_le lo hi && are_laid_out rest
-are_laid_out (rule.Read max ∷ rule.Len ∷ rest) = nat_le max max_read && are_laid_out rest
+are_laid_out (rule.Read max ∷ rule.Len ∷ rest) = nat_le max longest_window && are_laid_out rest
 are_laid_out (rule.Read max ∷ rest) = false
 are_laid_out (rule.Len ∷ rest) = false
 

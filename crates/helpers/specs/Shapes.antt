@@ -3,7 +3,7 @@ use Rattle.std.specs.Prelude.{ℕ, ◌≡◌, ◌-◌, ◌^◌, ◌==◌, List, 
 use Rattle.helpers.specs.declared.sig.ArgRule.{ArgRule}
 use Rattle.helpers.specs.declared.sig.ArgRule.TheVariants as rule
 use Rattle.helpers.specs.declared.sig.Sig.{Sig}
-use Rattle.helpers.specs.Rules.{max_read}
+use Rattle.memory.specs.Windows.{longest_window}
 
 -- what a Sig says: the rules of the arguments, and the range of the answers
 pub record Shape : Type 0 where
@@ -16,10 +16,10 @@ shape_of sig = record { args = sig.args; lo = sig.lo; hi = sig.hi }
 
 -- one text, or two, of as many bytes as a Read may allow
 abbrev pub one_text : List ArgRule
-one_text = rule.Read max_read ∷ rule.Len ∷ rule.Unused ∷ rule.Unused ∷ rule.Unused ∷ []
+one_text = rule.Read longest_window ∷ rule.Len ∷ rule.Unused ∷ rule.Unused ∷ rule.Unused ∷ []
 
 abbrev pub two_texts : List ArgRule
-two_texts = rule.Read max_read ∷ rule.Len ∷ rule.Read max_read ∷ rule.Len ∷ rule.Unused ∷ []
+two_texts = rule.Read longest_window ∷ rule.Len ∷ rule.Read longest_window ∷ rule.Len ∷ rule.Unused ∷ []
 
 abbrev pub shape : List ArgRule → ℕ → Shape
 shape args hi = record { args = args; lo = 0; hi = hi }
@@ -28,7 +28,7 @@ shape args hi = record { args = args; lo = 0; hi = hi }
 abbrev pub written_shape : ℕ → Option Shape
 written_shape n =
     if n == 16 then Some (shape two_texts 2)
-    else (if n == 17 then Some (shape two_texts max_read)
+    else (if n == 17 then Some (shape two_texts longest_window)
     else (if n == 18 then Some (shape one_text (2 ^ 64 - 1))
     else (if n == 19 then Some (shape one_text 64)
     else None)))

@@ -14,7 +14,7 @@ mod written;
 pub use fit::fits;
 pub use helper::{Body, Call, Helper};
 pub use layout::{Row, newest};
-pub use sig::{ARGUMENT_REGISTERS, ArgRule, Entry, MAX_READ, Sig, is_helper_number};
+pub use sig::{ARGUMENT_REGISTERS, ArgRule, Entry, Sig, is_helper_number};
 pub use sigs::Sigs;
 pub use table::{HelperFault, Table};
 pub use text::{decimal, find, order};

@@ -4,9 +4,7 @@ ghost use Rattle.std.specs.Prelude.{◌≡◌, ◌<◌, ◌≤◌, ◌^◌, ◌�
 ghost use Rattle.helpers.specs.Rules.{are_laid_out, is_signature, is_helper_number};
 
 use insn::Register;
-
-/// The most bytes of one range that a call reads or writes: no Read allows more.
-pub const MAX_READ: u32 = 65_536;
+use memory::MAX_WINDOW;
 
 /// The registers of the arguments of a call, in order.
 pub const ARGUMENT_REGISTERS: [Register; 5] = [
@@ -49,14 +47,14 @@ pub struct Entry {
     pub sig: Sig,
 }
 
-/// Whether each Read is followed by a Len and each Len stands after a Read, no Read allows more than [`MAX_READ`] bytes
+/// Whether each Read is followed by a Len and each Len stands after a Read, no Read allows more than [`MAX_WINDOW`] bytes
 /// and no range of a number is empty.
 fn has_layout(args: &[ArgRule]) -> bool
     ensures { result ≡ are_laid_out args.now }
 {
     match args {
         [] => true,
-        [ArgRule::Read { max }, ArgRule::Len, rest @ ..] => *max <= MAX_READ && has_layout(rest),
+        [ArgRule::Read { max }, ArgRule::Len, rest @ ..] => *max <= MAX_WINDOW && has_layout(rest),
         [ArgRule::Num { lo, hi }, rest @ ..] => *lo <= *hi && has_layout(rest),
         [ArgRule::Unused, rest @ ..] => has_layout(rest),
         _ => false,
@@ -67,7 +65,7 @@ impl Sig {
     ghost use Rattle.helpers.specs.Shapes.{shape_of};
 
     /// The Sig of these rules and this range of answers. None where a Read is not followed by a Len, a Len stands after
-    /// no Read, there are more than two Reads, a Read allows more than [`MAX_READ`] bytes, or a range is empty.
+    /// no Read, there are more than two Reads, a Read allows more than [`MAX_WINDOW`] bytes, or a range is empty.
     pub fn new(args: [ArgRule; 5], ret: (u64, u64)) -> Option<Sig>
         ensures some { IsSome result ↔ IsTrue (is_signature args ret.0 ret.1) }
         ensures value { IfSome result (λ sig. (sig.args ≡ args) × (sig.lo ≡ ret.0) × (sig.hi ≡ ret.1)) }

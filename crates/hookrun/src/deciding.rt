@@ -4,6 +4,7 @@ ghost use Rattle.std.specs.Prelude.{◌≡◌, ◌≢◌, ◌≤◌, ◌<◌, �
 ghost use Rattle.std.specs.Borrow.{sem};
 ghost use Rattle.std.specs.Option.{option_copied};
 ghost use Rattle.memory.specs.Step.{IsInput};
+ghost use Rattle.memory.specs.Windows.{longest_window};
 ghost use Rattle.abi.specs.Input.{contents_shown, used_by, window_of};
 ghost use Rattle.helpers.specs.Entries.{AgreesWith};
 ghost use Rattle.abi.specs.Verdicts.{meaning_of, verdict_of};
@@ -174,7 +175,7 @@ fn show(
     siblings: &[Sibling],
     window: &mut [u8],
 ) -> Result<u32, TooLarge>
-    requires { length window.old ≤ 65536 }
+    requires { length window.old ≤ longest_window }
     ensures used { IfOk result (λ used. used ≡ used_by (contents_shown (option_copied new.entry) siblings.now)) }
     ensures shown { OnOk result (window.new ≡ window_of (length window.old) kind (contents_shown (option_copied new.entry) siblings.now)) }
     ensures room { OnOk result ((length siblings.now ≤ 64) × (used_by (contents_shown (option_copied new.entry) siblings.now) ≤ length window.old)) }

@@ -15,9 +15,9 @@ ghost use Rattle.machine.specs.Stepped.{state_of, loan_of, Applied};
 
 use crate::parts::{first_place, numbers, part, second_place};
 use crate::state::State;
-use helpers::{ARGUMENT_REGISTERS, ArgRule, Call, MAX_READ, Table, fits};
+use helpers::{ARGUMENT_REGISTERS, ArgRule, Call, Table, fits};
 use insn::Register;
-use memory::{Fault, Region};
+use memory::{Fault, MAX_WINDOW, Region};
 
 impl<'a> State<'a> {
     /// The number in a register, 0 where it is unset.
@@ -46,7 +46,7 @@ impl<'a> State<'a> {
         ensures ok { IfOk result (λ place. Spans (memory_of self.now.windows) place.0 address n × (place.1 ≡ address - base place.0)) }
         ensures err { IfErr result (λ f. (f ≡ Fault.Helper) × ((region : Region) → ¬ Spans (memory_of self.now.windows) region address n)) }
     {
-        if n > u64::from(MAX_READ) {
+        if n > u64::from(MAX_WINDOW) {
             return Err(Fault::Helper);
         }
         self.windows

@@ -9,12 +9,17 @@ ghost use Rattle.insn.specs.declared.Operand.{Operand};
 ghost use Rattle.insn.specs.declared.Register.{Register};
 ghost use Rattle.memory.specs.State.{State, no_calls, Does, register, number_in, operand_in};
 ghost use Rattle.memory.specs.Step.{Step, Runs};
-ghost use Rattle.memory.specs.Windows.{Memory, IsPlaced, Covers, base, read, written, byte_at};
+ghost use Rattle.memory.specs.Windows.{Memory, IsPlaced, Covers, base, longest_window, read, written, byte_at};
 ghost use Rattle.memory.specs.declared.Region.{Region};
 
-use crate::Region;
+use crate::{MAX_WINDOW, Region};
 use alu::{Op, Width};
 use insn::{Insn, Operand, Register};
+
+/// The greatest window, as a number.
+pub fn limits()
+    ensures { MAX_WINDOW ≡ longest_window }
+{}
 
 /// Memory is a partial map from addresses to bytes, defined on three intervals that lie apart. What `read` gives of a place are
 /// the map's bytes there, and `written` changes the map there and nowhere else.

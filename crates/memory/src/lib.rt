@@ -3,15 +3,19 @@
 
 ghost use Rattle.std.specs.Prelude.{◌≡◌, ◌+◌, ◌*◌, ◌^◌, ◌<◌, ◌≤◌, replicate, length};
 ghost use Rattle.insn.specs.Encoding.{size_bytes};
-ghost use Rattle.memory.specs.Windows.{base, window, little_endian, low_bytes, range, overwritten, read, written};
+ghost use Rattle.memory.specs.Windows.{base, window, longest_window, little_endian, low_bytes, range, overwritten, read, written};
 
 mod laws;
 
 use insn::Size;
 pub use laws::{
-    division_by_zero, memory_is_a_map, narrow_operations_clear_the_high_half, steps_keep_the_input,
+    division_by_zero, limits, memory_is_a_map, narrow_operations_clear_the_high_half,
+    steps_keep_the_input,
 };
 use std::fmt;
+
+/// The most bytes of a window that a program is given, and of a range that a call of its reads or writes.
+pub const MAX_WINDOW: u32 = 65_536;
 
 /// A window of memory.
 #[derive(Clone, Copy, Debug, PartialEq, Eq)]
@@ -63,8 +67,8 @@ pub struct Windows<'a> {
     pub input: &'a [u8],
     pub output: &'a mut [u8],
     ghost stack_whole: { length stack ≡ 512 },
-    ghost input_small: { length input.now ≤ 65536 },
-    ghost output_small: { length output.now ≤ 65536 },
+    ghost input_small: { length input.now ≤ longest_window },
+    ghost output_small: { length output.now ≤ longest_window },
 }
 
 impl Region {

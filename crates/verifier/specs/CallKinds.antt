@@ -3,6 +3,7 @@ use Rattle.std.specs.Prelude.{ℕ, pos, nat_le, Bool, true, false, not, ◌&&◌
 use Rattle.insn.specs.declared.Register.TheVariants.{R1, R2, R3}
 use Rattle.ranges.specs.declared.kind.Kind.{Kind}
 use Rattle.ranges.specs.declared.kind.Kind.TheVariants.{Unset, Num}
+use Rattle.memory.specs.Windows.{longest_window}
 use Rattle.helpers.specs.declared.sig.ArgRule.{ArgRule}
 use Rattle.helpers.specs.declared.sig.ArgRule.TheVariants as rule
 use Rattle.helpers.specs.Calls.{Callee, Copy, Fill, Same, Helper, Unknown}
@@ -65,7 +66,7 @@ argument_kinds row = take 5 (drop 1 row)
 
 -- bytes of up to 65,536, which R3 has the number of, that the machine's own calls read or write
 abbrev pub is_read : Program → Row → Kind → Bool
-is_read p row k = reaches p 65536 k (kind_at row R3)
+is_read p row k = reaches p longest_window k (kind_at row R3)
 
 abbrev pub is_written : Program → Row → Kind → Bool
 is_written p row k = is_read p row k && not (is_input_pointer k)

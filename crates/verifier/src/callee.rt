@@ -12,9 +12,9 @@ ghost use Rattle.verifier.specs.Table.{AreKinds};
 use crate::candidate::Candidate;
 use crate::kinds::{Row, kind_of};
 use crate::windows::is_inside;
-use helpers::{ARGUMENT_REGISTERS, ArgRule, MAX_READ, Sig, Sigs};
+use helpers::{ARGUMENT_REGISTERS, ArgRule, Sig, Sigs};
 use insn::{Insn, Register};
-use memory::Region;
+use memory::{MAX_WINDOW, Region};
 use ranges::Kind;
 
 /// What a call's number stands for.
@@ -153,7 +153,7 @@ fn is_read(program: &Candidate, row: &Row, address: Kind) -> bool
     requires { IsKind address }
     ensures { result ≡ is_read (program_in program.now) row.now address }
 {
-    reaches(program, MAX_READ, address, kind_of(row, Register::R3))
+    reaches(program, MAX_WINDOW, address, kind_of(row, Register::R3))
 }
 
 /// Whether a call of the machine's own may write there.
