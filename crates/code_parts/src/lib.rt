@@ -1,8 +1,18 @@
-//! Code and images for tests, from slots by what they do. No function here tells by a clause what it answers: a test knows of an
-//! answer what it compares, and no more.
+//! Code and images for tests, from slots by what they do, and how a test tells of a row. No function here tells by a clause what it
+//! answers: a test knows of an answer what it compares, and no more.
 #![tactic(auto)]
 
 use std::alloc::{AllocError, Global};
+use std::fmt::Debug;
+use std::test::Fail;
+
+/// Fails the test where a row does not hold, and names the row.
+pub fn expect(holds: bool, row: &impl Debug) -> Result<(), Fail> {
+    if holds {
+        return Ok(());
+    }
+    Err(Fail::new(format_args!("{row:?}")))
+}
 
 /// An instruction, or a slot by its fields.
 #[derive(Clone, Copy)]

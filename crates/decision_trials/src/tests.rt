@@ -6,13 +6,6 @@ mod layouts;
 use dvv::Dot;
 use object::{Bytes, Content, Sibling};
 use std::alloc::{AllocError, Global};
-use std::fmt::Debug;
-use std::process::Abort;
-
-/// Ends the test where a row does not hold, and names the row.
-fn expect(rt: &impl Abort, holds: bool, row: &impl Debug) {
-    assert!(rt; holds, "{row:?}");
-}
 
 /// A value with these bytes.
 fn value(alloc: Global, bytes: &[u8]) -> Result<Content, AllocError> {

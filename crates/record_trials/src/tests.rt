@@ -8,19 +8,12 @@ mod siblings;
 
 use sha1::Sha1;
 use std::alloc::{AllocError, Global};
-use std::fmt::Debug;
-use std::process::Abort;
 use wire::{WireFault, read_record};
 
 const NOT_CANONICAL: Option<WireFault> = Some(WireFault::NotCanonical);
 
 /// The bytes of bucket `sim`, key `k`, from vnode 0 at place 1.
 const KEY: &[u8] = &[0, 3, b's', b'i', b'm', 0, 1, b'k', 0, 0, 0, 0, 0, 0, 0, 1];
-
-/// Ends the test where a row does not hold, and names the row.
-fn expect(rt: &impl Abort, holds: bool, row: &impl Debug) {
-    assert!(rt; holds, "{row:?}");
-}
 
 /// The entries of a clock, or the dots of siblings, each a vnode and a number.
 type Dots = &'static [(u32, u64)];

@@ -6,16 +6,15 @@ mod pre_commits;
 mod resolvers;
 mod windows;
 
-use crate::tests::{expect, sibling, tombstones, value};
+use crate::tests::{sibling, tombstones, value};
 use abi::Verdict;
 use admission::admit_image;
-use code_parts::{Slot, hook_image_of};
+use code_parts::{Slot, expect, hook_image_of};
 use dvv::Dot;
 use helpers::{Sigs, Table};
 use hookrun::{Room, RunFault, decide};
 use object::{Content, Sibling};
 use std::alloc::{AllocError, Global};
-use std::process::Abort;
 use std::test::Fail;
 use verifier::Verified;
 
@@ -145,16 +144,10 @@ fn decides(
 }
 
 /// Hooks of a kind decide what their rows say, in a room that is kept from hook to hook.
-fn decide_so(
-    rt: &impl Abort,
-    alloc: Global,
-    kind: u8,
-    shown: Shown,
-    rows: &[Row],
-) -> Result<(), Fail> {
+fn decide_so(alloc: Global, kind: u8, shown: Shown, rows: &[Row]) -> Result<(), Fail> {
     let mut room = Room::new(alloc);
     for row in rows {
-        expect(rt, decides(alloc, &mut room, kind, shown, row)?, &row.3);
+        expect(decides(alloc, &mut room, kind, shown, row)?, &row.3)?;
     }
     Ok(())
 }

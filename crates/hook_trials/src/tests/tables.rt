@@ -1,9 +1,8 @@
 //! Hooks that call a helper, with a table that lacks it and with one that has it.
 
-ghost use Rattle.std.specs.Prelude.{◌≡◌};
-
 use bpfimage::ImageKind;
 use dvv::{Clock, Dot};
+use helper_parts::first_sibling;
 use helpers::{ArgRule, Body, Helper, Sig, Table};
 use hookrun::Unresolved;
 use hooks::Registry;
@@ -22,12 +21,7 @@ use trial_parts::programs::{CALLS_64, PRE_COMMIT, RESOLVER, hook};
 /// A table with the helper 64, which answers 256: a resolver takes the first sibling.
 fn table_of_64(alloc: Global) -> Result<Table, Fail> {
     let sig = Sig::new([ArgRule::Unused; 5], (256, 256)).ok_or("a Sig")?;
-    let body: Body = Box::new(
-        alloc,
-        |_numbers: [u64; 5], _first: &[u8], _second: &[u8]| -> u64
-            ensures { result ≡ 256 }
-        { 256 },
-    )?;
+    let body: Body = Box::new(alloc, first_sibling)?;
     let mut table = Table::new(alloc);
     table
         .add(Helper::new(64, sig, body))

@@ -1,6 +1,7 @@
 //! Clocks that are cut, and clocks of the most entries.
 
-use super::{KEY, NOT_CANONICAL, expect, push_siblings, told, told_of};
+use super::{KEY, NOT_CANONICAL, push_siblings, told, told_of};
+use code_parts::expect;
 use std::alloc::{AllocError, Global};
 use std::test::Fail;
 use wire::WireFault;
@@ -42,7 +43,7 @@ fn most_entries(rt: HostRuntime) -> Result<(), Fail> {
     for (count, want) in ENTRIES {
         let clock = first_events(rt.alloc(), *count)?;
         let got = told_of(rt.alloc(), &clock, 1, TOMBSTONE)?;
-        expect(&rt, got == *want, count);
+        expect(got == *want, count)?;
     }
     Ok(())
 }

@@ -1,6 +1,6 @@
 //! Faults as numbers.
 
-use super::expect;
+use code_parts::expect;
 use std::alloc::Global;
 use std::test::Fail;
 use wire::WireFault;
@@ -22,7 +22,7 @@ fn is_shown(alloc: Global, fault: WireFault, want: &str) -> Result<bool, Fail> {
 #[test]
 fn shown_as_numbers(rt: HostRuntime) -> Result<(), Fail> {
     for (fault, want) in NUMBERS {
-        expect(&rt, is_shown(rt.alloc(), *fault, want)?, want);
+        expect(is_shown(rt.alloc(), *fault, want)?, want)?;
     }
     Ok(())
 }

@@ -1,6 +1,7 @@
 //! How long names, media types and values may be.
 
-use super::{KEY, NOT_CANONICAL, expect, push_clock, push_siblings, told, told_of};
+use super::{KEY, NOT_CANONICAL, push_clock, push_siblings, told, told_of};
+use code_parts::expect;
 use std::alloc::{AllocError, Global};
 use std::test::Fail;
 use wire::WireFault;
@@ -62,7 +63,7 @@ fn longest_names(rt: HostRuntime) -> Result<(), Fail> {
     for row in NAMES {
         let (bucket, key, media, want) = *row;
         let got = told_of_names(rt.alloc(), bucket, key, media)?;
-        expect(&rt, got == want, row);
+        expect(got == want, row)?;
     }
     Ok(())
 }
@@ -87,7 +88,7 @@ fn longest_value(rt: HostRuntime) -> Result<(), Fail> {
     for (len, want) in VALUES {
         let content = long_value(rt.alloc(), *len)?;
         let got = told_of(rt.alloc(), &[(0, 1)], 1, &[(0, 1, &content)])?;
-        expect(&rt, got == *want, len);
+        expect(got == *want, len)?;
     }
     Ok(())
 }

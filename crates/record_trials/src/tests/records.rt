@@ -1,6 +1,6 @@
 //! Whole records: read, written again, cut and changed.
 
-use super::expect;
+use code_parts::expect;
 use dvv::Dot;
 use object::{Content, KeyState};
 use std::alloc::{AllocError, Global};
@@ -98,7 +98,7 @@ fn fault_of(alloc: Global, bytes: &[u8]) -> Option<WireFault> {
 fn fronts(rt: HostRuntime) -> Result<(), Fail> {
     for n in 0..ONE_VALUE.len() {
         let fault = fault_of(rt.alloc(), &ONE_VALUE[..n]);
-        expect(&rt, fault == Some(WireFault::Cut), &n);
+        expect(fault == Some(WireFault::Cut), &n)?;
     }
     Ok(())
 }
@@ -156,10 +156,9 @@ fn changed_bytes(rt: HostRuntime) -> Result<(), Fail> {
         let (place, len, want) = *row;
         let bytes = changed(place);
         expect(
-            &rt,
             fault_of(rt.alloc(), &bytes[..len.min(92)]) == Some(want),
             row,
-        );
+        )?;
     }
     Ok(())
 }

@@ -1,6 +1,7 @@
 //! Clocks and siblings under right digests.
 
-use super::{NOT_CANONICAL, expect, told_of};
+use super::{NOT_CANONICAL, told_of};
+use code_parts::expect;
 use std::alloc::{AllocError, Global};
 use std::test::Fail;
 use wire::WireFault;
@@ -143,7 +144,7 @@ fn is_told(alloc: Global, row: &Row) -> Result<bool, AllocError> {
 #[test]
 fn under_right_digests(rt: HostRuntime) -> Result<(), Fail> {
     for row in ROWS {
-        expect(&rt, is_told(rt.alloc(), row)?, &row.0);
+        expect(is_told(rt.alloc(), row)?, &row.0)?;
     }
     Ok(())
 }

@@ -1,24 +1,11 @@
 //! Adds helpers to tables: the written ones, 16 to 19, and those of a host.
 
-ghost use Rattle.std.specs.Prelude.{◌≡◌, ◌≤◌, length, max};
-ghost use Rattle.helpers.specs.Layout.{newest_of};
-ghost use Rattle.helpers.specs.Text.{order_of, place_of, spelled};
-
-use helpers::{
-    ArgRule, Body, Helper, HelperFault, Sig, Table, decimal, find, newest, order, written_sig,
+use helper_parts::{
+    ONE_NUMBER, decimal_told, modulo_8, modulo_9, newest_told, order_told, place_told, zero,
 };
+use helpers::{Body, Helper, HelperFault, Sig, Table, written_sig};
 use std::alloc::Global;
 use std::test::Fail;
-
-pub const ANY: ArgRule = ArgRule::Num {
-    lo: 0,
-    hi: u64::MAX,
-};
-
-pub const UNUSED: ArgRule = ArgRule::Unused;
-
-/// The rules of a helper that takes one number.
-pub const ONE_NUMBER: [ArgRule; 5] = [ANY, UNUSED, UNUSED, UNUSED, UNUSED];
 
 /// The number of a helper that a table handed back, and why, if it did.
 pub type Refused = Option<(u32, HelperFault)>;
@@ -36,51 +23,28 @@ pub fn add_order(alloc: Global, table: &mut Table, sig: Sig) -> Result<Refused, 
     if sig.lo != 0 || sig.hi < 2 {
         return Err(Fail::from("the range"));
     }
-    let body: Body = Box::new(
-        alloc,
-        |_numbers: [u64; 5], first: &[u8], second: &[u8]| -> u64
-            ensures value { result ≡ order_of first.now second.now }
-            ensures range { result ≤ 2 }
-        { order(first, second) },
-    )?;
+    let body: Body = Box::new(alloc, order_told)?;
     Ok(add(table, Helper::new(16, sig, body)))
 }
 
 /// Adds the place of a text in another as 17.
 fn add_find(alloc: Global, table: &mut Table) -> Result<Refused, Fail> {
     let sig = written_sig(17).ok_or("a Sig")?;
-    let body: Body = Box::new(
-        alloc,
-        |_numbers: [u64; 5], first: &[u8], second: &[u8]| -> u64
-            ensures value { result ≡ place_of first.now second.now }
-            ensures range { result ≤ max 1 (length first.now) }
-        { find(first, second) },
-    )?;
+    let body: Body = Box::new(alloc, place_told)?;
     Ok(add(table, Helper::new(17, sig, body)))
 }
 
 /// Adds the number that a text spells as 18.
 fn add_decimal(alloc: Global, table: &mut Table) -> Result<Refused, Fail> {
     let sig = written_sig(18).ok_or("a Sig")?;
-    let body: Body = Box::new(
-        alloc,
-        |_numbers: [u64; 5], first: &[u8], _second: &[u8]| -> u64
-            ensures { result ≡ spelled first.now }
-        { decimal(first) },
-    )?;
+    let body: Body = Box::new(alloc, decimal_told)?;
     Ok(add(table, Helper::new(18, sig, body)))
 }
 
 /// Adds the newest sibling of a layout as 19.
 fn add_newest(alloc: Global, table: &mut Table) -> Result<Refused, Fail> {
     let sig = written_sig(19).ok_or("a Sig")?;
-    let body: Body = Box::new(
-        alloc,
-        |_numbers: [u64; 5], first: &[u8], _second: &[u8]| -> u64
-            ensures value { result ≡ newest_of first.now }
-            ensures range { result ≤ 64 }
-        { newest(first) },
-    )?;
+    let body: Body = Box::new(alloc, newest_told)?;
     Ok(add(table, Helper::new(19, sig, body)))
 }
 
@@ -97,24 +61,14 @@ pub fn add_written(alloc: Global, table: &mut Table) -> Result<bool, Fail> {
 /// Adds the remainder by 8 as 64.
 pub fn add_modulo_8(alloc: Global, table: &mut Table) -> Result<Refused, Fail> {
     let sig = Sig::new(ONE_NUMBER, (0, 7)).ok_or("a Sig")?;
-    let body: Body = Box::new(
-        alloc,
-        |numbers: [u64; 5], _first: &[u8], _second: &[u8]| -> u64
-            ensures { result ≤ 7 }
-        { numbers[0] % 8 },
-    )?;
+    let body: Body = Box::new(alloc, modulo_8)?;
     Ok(add(table, Helper::new(64, sig, body)))
 }
 
 /// Adds the remainder by 9 as 65.
 pub fn add_modulo_9(alloc: Global, table: &mut Table) -> Result<Refused, Fail> {
     let sig = Sig::new(ONE_NUMBER, (0, 8)).ok_or("a Sig")?;
-    let body: Body = Box::new(
-        alloc,
-        |numbers: [u64; 5], _first: &[u8], _second: &[u8]| -> u64
-            ensures { result ≤ 8 }
-        { numbers[0] % 9 },
-    )?;
+    let body: Body = Box::new(alloc, modulo_9)?;
     Ok(add(table, Helper::new(65, sig, body)))
 }
 
@@ -123,11 +77,6 @@ pub fn add_zero(alloc: Global, table: &mut Table, number: u32, sig: Sig) -> Resu
     if sig.lo != 0 || number == 16 || number == 17 || number == 18 || number == 19 {
         return Err(Fail::from("the range, or the number"));
     }
-    let body: Body = Box::new(
-        alloc,
-        |_numbers: [u64; 5], _first: &[u8], _second: &[u8]| -> u64
-            ensures { result ≡ 0 }
-        { 0 },
-    )?;
+    let body: Body = Box::new(alloc, zero)?;
     Ok(add(table, Helper::new(number, sig, body)))
 }

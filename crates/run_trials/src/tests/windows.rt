@@ -1,8 +1,9 @@
 //! Reads and changes of windows, by hand.
 
-use super::expect;
+use code_parts::expect;
 use insn::Size;
 use memory::{Region, Windows};
+use std::test::Fail;
 
 /// What is read, in the order of the reads.
 const READ: [u64; 5] = [
@@ -57,7 +58,7 @@ const ADDRESSES: &[(u64, usize, Option<(Region, usize)>)] = &[
 ];
 
 #[test]
-fn addresses(rt: HostRuntime) {
+fn addresses(_rt: HostRuntime) -> Result<(), Fail> {
     let mut output = [0u8; 8];
     let windows = Windows {
         stack: [0; 512],
@@ -66,6 +67,7 @@ fn addresses(rt: HostRuntime) {
     };
     for row in ADDRESSES {
         let (address, n, want) = *row;
-        expect(&rt, windows.locate(address, n) == want, row);
+        expect(windows.locate(address, n) == want, row)?;
     }
+    Ok(())
 }

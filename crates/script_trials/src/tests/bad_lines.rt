@@ -1,12 +1,13 @@
 //! Bad lines, and why they are.
 
-use crate::tests::shelf::{check, run};
+use crate::tests::shelf::{prints, run};
+use code_parts::expect;
 use std::alloc::{AllocError, Global};
-use std::process::Abort;
+use std::io;
 use std::test::Fail;
 
 /// Scripts with a bad line, and what they print.
-const BAD_LINES: [(&str, &str); 49] = [
+const BAD_LINES: &[(&str, &str)] = &[
     ("vnodes 1", "bad line 1\n"),
     ("vnodes 0\n", "bad line 1\n"),
     ("vnodes 65\n", "bad line 1\n"),
@@ -87,14 +88,15 @@ const BAD_LINES: [(&str, &str); 49] = [
 
 #[test]
 fn bad_lines(rt: HostRuntime) -> Result<(), Fail> {
-    for (script, want) in &BAD_LINES {
-        check(&rt, rt.alloc(), script, script.as_bytes(), want, 2)?;
+    for (script, want) in BAD_LINES {
+        let told = prints(rt.alloc(), script.as_bytes(), want.as_bytes(), 2)?;
+        expect(told, script)?;
     }
     Ok(())
 }
 
 /// Lines that are bad behind a get and a send, and why.
-const REASONS: [(&str, &str); 19] = [
+const REASONS: &[(&str, &str)] = &[
     ("restart 0", "no line feed at the end\n"),
     ("frobnicate\n", "no such line\n"),
     (" restart 0\n", "no such line\n"),
@@ -130,7 +132,7 @@ fn behind(alloc: Global, line: &str) -> Result<String, AllocError> {
 }
 
 /// Whole scripts, what they print, and why their last line is bad.
-const WHOLE: [(&[u8], &str, &str); 3] = [
+const WHOLE: &[(&[u8], &str, &str)] = &[
     (b"vnodes 0\n", "bad line 1\n", "vnodes are 1 to 64\n"),
     (b"vnodes 65\n", "bad line 1\n", "vnodes are 1 to 64\n"),
     (
@@ -140,31 +142,28 @@ const WHOLE: [(&[u8], &str, &str); 3] = [
     ),
 ];
 
-/// A script prints so much, its last line is bad, and for this reason.
-fn check_reason(
-    rt: &impl Abort,
-    alloc: Global,
-    script: &[u8],
-    want: &str,
-    why: &str,
-) -> Result<(), Fail> {
+/// Whether a script prints so much, its last line is bad, and for this reason.
+fn ends_for(alloc: Global, script: &[u8], want: &str, why: &str) -> io::Result<bool> {
     let mut out = Vec::new(alloc);
     let mut err = Vec::new(alloc);
     let got = run(alloc, script, &mut out, &mut err)?;
-    assert_eq!(rt; (out.as_slice(), got), (want.as_bytes(), 2), "{why}");
-    assert_eq!(rt; err.as_slice(), why.as_bytes(), "{want}");
-    Ok(())
+    Ok(out.as_slice() == want.as_bytes() && got == 2 && err.as_slice() == why.as_bytes())
 }
 
 #[test]
 fn reasons(rt: HostRuntime) -> Result<(), Fail> {
-    for (line, why) in &REASONS {
+    for (line, why) in REASONS {
         let script = behind(rt.alloc(), line)?;
         let want = "none AQAA\nok\nbad line 4\n";
-        check_reason(&rt, rt.alloc(), script.as_bytes(), want, why)?;
+        expect(ends_for(rt.alloc(), script.as_bytes(), want, why)?, why)?;
     }
-    for (script, want, why) in &WHOLE {
-        check_reason(&rt, rt.alloc(), script, want, why)?;
+    Ok(())
+}
+
+#[test]
+fn reasons_of_whole_scripts(rt: HostRuntime) -> Result<(), Fail> {
+    for (script, want, why) in WHOLE {
+        expect(ends_for(rt.alloc(), script, want, why)?, why)?;
     }
     Ok(())
 }

@@ -1,12 +1,13 @@
 //! What scripts print whose lines are all read.
 
-use crate::tests::shelf::check;
+use crate::tests::shelf::prints;
+use code_parts::expect;
 use std::alloc::{AllocError, Global};
 use std::fmt::Write;
 use std::test::Fail;
 
 /// A name, a script, and what it prints.
-static SCRIPTS: [(&str, &str, &str); 20] = [
+const SCRIPTS: &[(&str, &str, &str)] = &[
     (
         "two_siblings",
         "vnodes 1\nput 0 k a -\nput 0 k b -\nget 0 k g\n",
@@ -103,8 +104,9 @@ static SCRIPTS: [(&str, &str, &str); 20] = [
 
 #[test]
 fn worked_rows(rt: HostRuntime) -> Result<(), Fail> {
-    for (name, script, want) in &SCRIPTS {
-        check(&rt, rt.alloc(), name, script.as_bytes(), want, 0)?;
+    for (name, script, want) in SCRIPTS {
+        let told = prints(rt.alloc(), script.as_bytes(), want.as_bytes(), 0)?;
+        expect(told, name)?;
     }
     Ok(())
 }
@@ -135,36 +137,24 @@ fn many_siblings(alloc: Global) -> Result<String, Fail> {
 
 #[test]
 fn sixty_fifth_sibling(rt: HostRuntime) -> Result<(), Fail> {
-    let alloc = rt.alloc();
-    let script = many_puts(alloc)?;
-    let want = many_siblings(alloc)?;
-    check(
-        &rt,
-        alloc,
-        "65 siblings",
-        script.as_bytes(),
-        want.as_str(),
-        0,
-    )
+    let script = many_puts(rt.alloc())?;
+    let want = many_siblings(rt.alloc())?;
+    let told = prints(rt.alloc(), script.as_bytes(), want.as_bytes(), 0)?;
+    assert!(rt; told);
+    Ok(())
 }
+
+/// What has bytes that are no text, a script, what it prints, and its status.
+const NO_TEXT: &[(&str, &[u8], &[u8], u8)] = &[
+    ("line", b"vnodes 1\n\xff\xfe\n", b"bad line 2\n", 2),
+    ("comment", b"vnodes 1\n#\xff\xfe\n", b"", 0),
+    ("token", b"vnodes 1\nput 0 k a =\xff\n", b"K1\n", 0),
+];
 
 #[test]
 fn bytes_that_are_no_text(rt: HostRuntime) -> Result<(), Fail> {
-    check(
-        &rt,
-        rt.alloc(),
-        "line",
-        b"vnodes 1\n\xff\xfe\n",
-        "bad line 2\n",
-        2,
-    )?;
-    check(&rt, rt.alloc(), "comment", b"vnodes 1\n#\xff\xfe\n", "", 0)?;
-    check(
-        &rt,
-        rt.alloc(),
-        "token",
-        b"vnodes 1\nput 0 k a =\xff\n",
-        "K1\n",
-        0,
-    )
+    for (name, script, want, status) in NO_TEXT {
+        expect(prints(rt.alloc(), script, want, *status)?, name)?;
+    }
+    Ok(())
 }

@@ -1,7 +1,7 @@
 //! What is let in, and why bytes are not.
-use super::expect;
 use admission::{MOST, Refusal, admit_hook, admit_image, admit_program, enough};
 use bpfimage::ImageKind;
+use code_parts::expect;
 use helpers::Sigs;
 use std::alloc::{AllocError, Global};
 use std::test::Fail;
@@ -117,7 +117,7 @@ fn is_admitted(
 #[test]
 fn admissions(rt: HostRuntime) -> Result<(), Fail> {
     for (wanted, bytes, want) in ADMISSIONS {
-        expect(&rt, is_admitted(rt.alloc(), *wanted, bytes, *want)?, bytes);
+        expect(is_admitted(rt.alloc(), *wanted, bytes, *want)?, bytes)?;
     }
     Ok(())
 }
@@ -137,9 +137,10 @@ const LENGTHS: &[(u64, usize)] = &[
 ];
 
 #[test]
-fn lengths(rt: HostRuntime) {
+fn lengths(_rt: HostRuntime) -> Result<(), Fail> {
     for row in LENGTHS {
         let (len, want) = *row;
-        expect(&rt, enough(len) == want && want <= MOST, row);
+        expect(enough(len) == want && want <= MOST, row)?;
     }
+    Ok(())
 }

@@ -4,12 +4,10 @@
 mod calls;
 mod sizes;
 
-use super::expect;
 use code_parts::Slot::Put;
-use code_parts::{Slot, image_of};
+use code_parts::{Slot, expect, image_of};
 use helpers::Sigs;
 use std::alloc::Global;
-use std::process::Abort;
 use std::test::Fail;
 use verifier::{ImageFault, read_image, verify};
 
@@ -56,14 +54,13 @@ fn is_told(
 
 /// Tells of images with these windows.
 fn tell_all(
-    rt: &impl Abort,
     alloc: Global,
     sigs: &Sigs,
     lengths: Lengths,
     rows: &[(&str, &[Slot], Told)],
 ) -> Result<(), Fail> {
     for (name, code, want) in rows {
-        expect(rt, is_told(alloc, sigs, lengths, code, *want)?, name);
+        expect(is_told(alloc, sigs, lengths, code, *want)?, name)?;
     }
     Ok(())
 }

@@ -1,19 +1,16 @@
 //! Hooks that call helpers, and tables that lack one.
 
-ghost use Rattle.std.specs.Prelude.{◌≡◌, ◌≤◌};
-ghost use Rattle.helpers.specs.Layout.{newest_of};
-
 use super::{ADD_256, PRE_COMMIT, RESOLVER, TWO, decides_with, hook, values};
 use abi::{BadAnswer, Verdict};
 use bpfimage::ImageKind;
 use code_parts::Slot::{Call, Exit, Put};
 use code_parts::{Slot, hook_image_of};
 use dvv::Dot;
-use helpers::{ArgRule, Body, Helper, Sig, Table, newest, written_sig};
+use helper_parts::{ONE_NUMBER, modulo_8, newest_told};
+use helpers::{Body, Helper, Sig, Table, written_sig};
 use hookrun::{Room, RunFault, Undecided, decide_image};
 use object::Content;
 use std::alloc::Global;
-use std::process::Abort;
 use std::test::Fail;
 use verifier::Verified;
 
@@ -23,40 +20,17 @@ const NEWEST: &[Slot] = &[Call(19), ADD_256, Exit];
 /// Refuses with what helper 64 answers to 13.
 const OF_13: &[Slot] = &[Put(1, 13), Call(64), ADD_256, Exit];
 
-/// The rules of a helper that takes one number.
-const ONE_NUMBER: [ArgRule; 5] = [
-    ArgRule::Num {
-        lo: 0,
-        hi: u64::MAX,
-    },
-    ArgRule::Unused,
-    ArgRule::Unused,
-    ArgRule::Unused,
-    ArgRule::Unused,
-];
-
 /// Adds the remainder by 8 as 64; tells whether it was taken up.
 fn add_modulo_8(alloc: Global, table: &mut Table) -> Result<bool, Fail> {
     let sig = Sig::new(ONE_NUMBER, (0, 7)).ok_or("a Sig")?;
-    let body: Body = Box::new(
-        alloc,
-        |numbers: [u64; 5], _first: &[u8], _second: &[u8]| -> u64
-            ensures { result ≤ 7 }
-        { numbers[0] % 8 },
-    )?;
+    let body: Body = Box::new(alloc, modulo_8)?;
     Ok(table.add(Helper::new(64, sig, body)).is_ok())
 }
 
 /// Adds the newest sibling as 19; tells whether it was taken up.
 fn add_newest(alloc: Global, table: &mut Table) -> Result<bool, Fail> {
     let sig = written_sig(19).ok_or("a Sig")?;
-    let body: Body = Box::new(
-        alloc,
-        |_numbers: [u64; 5], first: &[u8], _second: &[u8]| -> u64
-            ensures value { result ≡ newest_of first.now }
-            ensures range { result ≤ 64 }
-        { newest(first) },
-    )?;
+    let body: Body = Box::new(alloc, newest_told)?;
     Ok(table.add(Helper::new(19, sig, body)).is_ok())
 }
 

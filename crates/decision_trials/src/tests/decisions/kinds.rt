@@ -1,12 +1,11 @@
 //! Images of the kind that is asked for, and of another.
 
 use super::{PRE_COMMIT, RESOLVER};
-use crate::tests::expect;
 use abi::Verdict;
 use admission::Refusal;
 use bpfimage::ImageKind;
 use code_parts::Slot::{Exit, Put};
-use code_parts::hook_image_of;
+use code_parts::{expect, hook_image_of};
 use helpers::Table;
 use hookrun::{Room, Undecided, decide_image};
 use std::alloc::Global;
@@ -37,7 +36,7 @@ fn decides_as(alloc: Global, room: &mut Room, kinds: &Kinds) -> Result<bool, Fai
 fn kinds_of_images(rt: HostRuntime) -> Result<(), Fail> {
     let mut room = Room::new(rt.alloc());
     for kinds in KINDS {
-        expect(&rt, decides_as(rt.alloc(), &mut room, kinds)?, kinds);
+        expect(decides_as(rt.alloc(), &mut room, kinds)?, kinds)?;
     }
     Ok(())
 }

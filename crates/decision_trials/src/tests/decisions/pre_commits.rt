@@ -3,10 +3,9 @@
 use super::{
     ADD_256, NEW_BESIDE_TWO, New, PRE_COMMIT, Row, Shown, Siblings, TWO, decide_so, decides,
 };
-use crate::tests::expect;
 use abi::{BadAnswer, Verdict};
-use code_parts::Slot;
 use code_parts::Slot::{Copied, Exit, Fields, LoadByte, Put, StoreWord};
+use code_parts::{Slot, expect};
 use dvv::Dot;
 use hookrun::{Room, RunFault};
 use std::test::Fail;
@@ -33,7 +32,7 @@ const PRE_COMMITS: &[Row] = &[
 
 #[test]
 fn answers(rt: HostRuntime) -> Result<(), Fail> {
-    decide_so(&rt, rt.alloc(), PRE_COMMIT, NEW_BESIDE_TWO, PRE_COMMITS)
+    decide_so(rt.alloc(), PRE_COMMIT, NEW_BESIDE_TWO, PRE_COMMITS)
 }
 
 /// Bytes of that input by their places: of the head, of the rows of the new content and the siblings, of the values, and behind
@@ -67,7 +66,7 @@ fn bytes_of_the_input(rt: HostRuntime) -> Result<(), Fail> {
         let code = [LoadByte(0, 1, *place), ADD_256, Exit];
         let row = (128, 0, code.as_slice(), Ok(Verdict::Reject(*byte)));
         let decided = decides(rt.alloc(), &mut room, PRE_COMMIT, NEW_BESIDE_TWO, &row)?;
-        expect(&rt, decided, place);
+        expect(decided, place)?;
     }
     Ok(())
 }
@@ -111,7 +110,7 @@ const WRITTEN: &[Row] = &[
 /// Nothing is left of earlier runs.
 #[test]
 fn written_values(rt: HostRuntime) -> Result<(), Fail> {
-    decide_so(&rt, rt.alloc(), PRE_COMMIT, NEW_BESIDE_TWO, WRITTEN)
+    decide_so(rt.alloc(), PRE_COMMIT, NEW_BESIDE_TWO, WRITTEN)
 }
 
 /// Refuses with the used length of the input as code.
@@ -135,7 +134,7 @@ fn used_lengths(rt: HostRuntime) -> Result<(), Fail> {
         };
         let row = (128, 0, USED, Ok(Verdict::Reject(*used)));
         let decided = decides(rt.alloc(), &mut room, PRE_COMMIT, shown, &row)?;
-        expect(&rt, decided, used);
+        expect(decided, used)?;
     }
     Ok(())
 }

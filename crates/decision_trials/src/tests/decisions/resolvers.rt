@@ -35,5 +35,5 @@ const TWO_SIBLINGS: Shown = Shown {
 
 #[test]
 fn resolvers(rt: HostRuntime) -> Result<(), Fail> {
-    decide_so(&rt, rt.alloc(), RESOLVER, TWO_SIBLINGS, RESOLVERS)
+    decide_so(rt.alloc(), RESOLVER, TWO_SIBLINGS, RESOLVERS)
 }

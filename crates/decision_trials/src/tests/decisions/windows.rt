@@ -5,7 +5,6 @@ use abi::Verdict;
 use code_parts::Slot::{Exit, Put};
 use hookrun::RunFault;
 use std::alloc::Global;
-use std::process::Abort;
 use std::test::Fail;
 
 /// Tombstones take no bytes beside their rows.
@@ -22,35 +21,21 @@ const PRE_COMMITS_BESIDE_64: &[Row] = &[
 const LONGEST: &[Row] = &[(65535, 0, &[Put(0, 0), Exit], Err(RunFault::TooLarge))];
 
 /// Hooks decide so beside so many tombstones.
-fn beside(
-    rt: &impl Abort,
-    alloc: Global,
-    kind: u8,
-    new: New,
-    count: u64,
-    rows: &[Row],
-) -> Result<(), Fail> {
+fn beside(alloc: Global, kind: u8, new: New, count: u64, rows: &[Row]) -> Result<(), Fail> {
     let siblings = Siblings::Tombstones(count);
-    decide_so(rt, alloc, kind, Shown { new, siblings }, rows)
+    decide_so(alloc, kind, Shown { new, siblings }, rows)
 }
 
 #[test]
 fn of_resolvers(rt: HostRuntime) -> Result<(), Fail> {
     let alloc = rt.alloc();
-    beside(&rt, alloc, RESOLVER, New::Absent, 64, RESOLVERS_OF_64)?;
-    beside(&rt, alloc, RESOLVER, New::Absent, 65, LONGEST)
+    beside(alloc, RESOLVER, New::Absent, 64, RESOLVERS_OF_64)?;
+    beside(alloc, RESOLVER, New::Absent, 65, LONGEST)
 }
 
 #[test]
 fn of_pre_commit_hooks(rt: HostRuntime) -> Result<(), Fail> {
     let alloc = rt.alloc();
-    beside(
-        &rt,
-        alloc,
-        PRE_COMMIT,
-        New::Tombstone,
-        64,
-        PRE_COMMITS_BESIDE_64,
-    )?;
-    beside(&rt, alloc, PRE_COMMIT, New::Tombstone, 65, LONGEST)
+    beside(alloc, PRE_COMMIT, New::Tombstone, 64, PRE_COMMITS_BESIDE_64)?;
+    beside(alloc, PRE_COMMIT, New::Tombstone, 65, LONGEST)
 }

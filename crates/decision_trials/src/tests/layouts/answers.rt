@@ -1,8 +1,8 @@
 //! The table of answers.
 
-use crate::tests::expect;
 use abi::{BadAnswer, TooLarge, Verdict, read_answer};
 use bpfimage::ImageKind;
+use code_parts::expect;
 use std::alloc::Global;
 use std::test::Fail;
 
@@ -69,11 +69,12 @@ const ANSWERS: &[Answer] = &[
 ];
 
 #[test]
-fn answers(rt: HostRuntime) {
+fn answers(_rt: HostRuntime) -> Result<(), Fail> {
     for row in ANSWERS {
         let (kind, r0, output, want) = row;
-        expect(&rt, read_answer(*kind, *r0, 2, output) == *want, row);
+        expect(read_answer(*kind, *r0, 2, output) == *want, row)?;
     }
+    Ok(())
 }
 
 /// The faults of answers, by the numbers as which they are shown.
@@ -98,7 +99,7 @@ fn is_large(alloc: Global) -> Result<bool, Fail> {
 #[test]
 fn shown_as_numbers(rt: HostRuntime) -> Result<(), Fail> {
     for (bad, want) in BAD {
-        expect(&rt, is_shown_as(rt.alloc(), *bad, want)?, want);
+        expect(is_shown_as(rt.alloc(), *bad, want)?, want)?;
     }
     Ok(())
 }

@@ -1,7 +1,7 @@
 //! The newest sibling of layouts.
 
 use super::layout;
-use crate::tests::expect;
+use code_parts::expect;
 use helpers::newest;
 use std::alloc::{AllocError, Global};
 use std::test::Fail;
@@ -36,7 +36,7 @@ fn is_newest(
 fn newest_siblings(rt: HostRuntime) -> Result<(), Fail> {
     for (rows, want) in NEWEST {
         let count = u32::try_from(rows.len())?;
-        expect(&rt, is_newest(rt.alloc(), count, rows, *want)?, rows);
+        expect(is_newest(rt.alloc(), count, rows, *want)?, rows)?;
     }
     Ok(())
 }
@@ -55,7 +55,7 @@ const COUNTS: &[(u32, &[(u32, u64)], u64)] = &[
 #[test]
 fn counts(rt: HostRuntime) -> Result<(), Fail> {
     for (count, rows, want) in COUNTS {
-        expect(&rt, is_newest(rt.alloc(), *count, rows, *want)?, count);
+        expect(is_newest(rt.alloc(), *count, rows, *want)?, count)?;
     }
     Ok(())
 }

@@ -1,9 +1,10 @@
 //! Sigs that may be made, and the written ones.
 
-use crate::tests::adding::ANY;
-use crate::tests::expect;
+use code_parts::expect;
+use helper_parts::ANY;
 use helpers::ArgRule::{Len, Num, Read, Unused};
 use helpers::{ArgRule, Sig, written_sig};
+use std::test::Fail;
 
 const READ: ArgRule = Read { max: 65_536 };
 
@@ -33,17 +34,19 @@ const SIGS: &[(&[ArgRule; 5], (u64, u64), bool)] = &[
 ];
 
 #[test]
-fn allowed_sigs(rt: HostRuntime) {
+fn allowed_sigs(_rt: HostRuntime) -> Result<(), Fail> {
     for (args, ret, want) in SIGS {
-        expect(&rt, Sig::new(**args, *ret).is_some() == *want, args);
+        expect(Sig::new(**args, *ret).is_some() == *want, args)?;
     }
+    Ok(())
 }
 
 #[test]
-fn numbers_without_a_written_sig(rt: HostRuntime) {
+fn numbers_without_a_written_sig(_rt: HostRuntime) -> Result<(), Fail> {
     for number in &[0, 3, 15, 20, 64, 127] {
-        expect(&rt, written_sig(*number).is_none(), number);
+        expect(written_sig(*number).is_none(), number)?;
     }
+    Ok(())
 }
 
 #[test]

@@ -1,12 +1,9 @@
 //! Tables of boxed closures: what they answer, refuse and agree with.
 
-ghost use Rattle.std.specs.Prelude.{◌≤◌};
-
 use super::layout;
-use crate::tests::adding::{
-    ONE_NUMBER, Refused, add_modulo_8, add_modulo_9, add_order, add_written, add_zero,
-};
-use crate::tests::expect;
+use crate::tests::adding::{Refused, add_modulo_8, add_modulo_9, add_order, add_written, add_zero};
+use code_parts::expect;
+use helper_parts::{ONE_NUMBER, one};
 use helpers::{ArgRule, Body, Call, Helper, HelperFault, Sig, Sigs, Table, fits, written_sig};
 use std::alloc::Global;
 use std::test::Fail;
@@ -135,13 +132,8 @@ fn refusals(rt: HostRuntime) -> Result<(), Fail> {
 /// Adds a helper that answers 1 as 64; tells whether it is handed back since the number is taken, and still answers so.
 fn one_is_refused(alloc: Global, table: &mut Table) -> Result<bool, Fail> {
     let sig = Sig::new([ArgRule::Unused; 5], (0, 1)).ok_or("a Sig")?;
-    let one: Body = Box::new(
-        alloc,
-        |_numbers: [u64; 5], _first: &[u8], _second: &[u8]| -> u64
-            ensures { result ≤ 1 }
-        { 1 },
-    )?;
-    match table.add(Helper::new(64, sig, one)) {
+    let body: Body = Box::new(alloc, one)?;
+    match table.add(Helper::new(64, sig, body)) {
         Ok(()) => Ok(false),
         Err((helper, fault)) => Ok(fault == HelperFault::Taken && is_one(&helper)),
     }
@@ -250,7 +242,7 @@ fn is_shown(alloc: Global) -> Result<bool, Fail> {
 fn agreement(rt: HostRuntime) -> Result<(), Fail> {
     for row in AGREEMENT {
         let (table, other, want) = *row;
-        expect(&rt, agrees(rt.alloc(), table, other)? == want, row);
+        expect(agrees(rt.alloc(), table, other)? == want, row)?;
     }
     Ok(())
 }

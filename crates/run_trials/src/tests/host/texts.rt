@@ -1,7 +1,8 @@
 //! The written helpers of texts, by cases worked out by hand.
 
-use crate::tests::expect;
+use code_parts::expect;
 use helpers::{decimal, find, order};
+use std::test::Fail;
 
 /// Two texts, and what a helper answers of them.
 type Pair = (&'static [u8], &'static [u8], u64);
@@ -20,11 +21,12 @@ const ORDERS: &[Pair] = &[
 ];
 
 #[test]
-fn orders(rt: HostRuntime) {
+fn orders(_rt: HostRuntime) -> Result<(), Fail> {
     for row in ORDERS {
         let (first, second, want) = *row;
-        expect(&rt, order(first, second) == want, row);
+        expect(order(first, second) == want, row)?;
     }
+    Ok(())
 }
 
 const PLACES: &[Pair] = &[
@@ -42,11 +44,12 @@ const PLACES: &[Pair] = &[
 ];
 
 #[test]
-fn places(rt: HostRuntime) {
+fn places(_rt: HostRuntime) -> Result<(), Fail> {
     for row in PLACES {
         let (text, needle, want) = *row;
-        expect(&rt, find(text, needle) == want, row);
+        expect(find(text, needle) == want, row)?;
     }
+    Ok(())
 }
 
 const NUMBERS: &[(&[u8], u64)] = &[
@@ -67,9 +70,10 @@ const NUMBERS: &[(&[u8], u64)] = &[
 ];
 
 #[test]
-fn numbers(rt: HostRuntime) {
+fn numbers(_rt: HostRuntime) -> Result<(), Fail> {
     for row in NUMBERS {
         let (text, want) = *row;
-        expect(&rt, decimal(text) == want, row);
+        expect(decimal(text) == want, row)?;
     }
+    Ok(())
 }

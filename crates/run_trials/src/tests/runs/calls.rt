@@ -2,13 +2,11 @@
 
 use super::Ending::{Answers, Faults};
 use super::{Ending, MAX, NONE, ends_so};
-use crate::tests::expect;
-use code_parts::Slot;
 use code_parts::Slot::{Call, Copied, Exit, Put, Raised, StoreWord};
+use code_parts::{Slot, expect};
 use helpers::Table;
 use memory::Fault;
 use std::alloc::Global;
-use std::process::Abort;
 use std::test::Fail;
 
 /// The slots of a program that calls 1 to 3, its input, how it ends, and its output.
@@ -257,11 +255,7 @@ fn own_calls(rt: HostRuntime) -> Result<(), Fail> {
     let table = Table::new(rt.alloc());
     for (name, slots, input, want, output) in OWN {
         let want = (want.stop(), **output);
-        expect(
-            &rt,
-            ends_so(rt.alloc(), &table, slots, input, 100, &want)?,
-            name,
-        );
+        expect(ends_so(rt.alloc(), &table, slots, input, 100, &want)?, name)?;
     }
     Ok(())
 }
@@ -459,10 +453,10 @@ const HELPERS: &[(&str, &[Slot], &[u8], Ending)] = &[
 ];
 
 /// Tells how the programs that call helpers end.
-pub fn with_helpers(rt: &impl Abort, alloc: Global, table: &Table) -> Result<(), Fail> {
+pub fn with_helpers(alloc: Global, table: &Table) -> Result<(), Fail> {
     for (name, slots, input, want) in HELPERS {
         let want = (want.stop(), NONE);
-        expect(rt, ends_so(alloc, table, slots, input, 100, &want)?, name);
+        expect(ends_so(alloc, table, slots, input, 100, &want)?, name)?;
     }
     Ok(())
 }

@@ -1,11 +1,10 @@
 //! Programs that go wrong, each in its way, and programs that want fuel.
 
 use super::stops_so;
-use crate::tests::expect;
-use code_parts::Slot;
 use code_parts::Slot::{
     Added, Call, Copied, Exit, Fields, Jump, LoadByte, Put, StoreByte, StoreWord, Wide,
 };
+use code_parts::{Slot, expect};
 use machine::Stop;
 use memory::Fault;
 use std::test::Fail;
@@ -52,11 +51,7 @@ fn faults(rt: HostRuntime) -> Result<(), Fail> {
             why: *why,
             slot: *slot,
         };
-        expect(
-            &rt,
-            stops_so(rt.alloc(), slots, &[0x01; 9], 100, want)?,
-            &want,
-        );
+        expect(stops_so(rt.alloc(), slots, &[0x01; 9], 100, want)?, &want)?;
     }
     Ok(())
 }
@@ -96,7 +91,7 @@ const PAST_END: Stop = Stop::Fault {
 #[test]
 fn fuel(rt: HostRuntime) -> Result<(), Fail> {
     for (slots, fuel, want) in FUEL {
-        expect(&rt, stops_so(rt.alloc(), slots, &[], *fuel, *want)?, fuel);
+        expect(stops_so(rt.alloc(), slots, &[], *fuel, *want)?, fuel)?;
     }
     Ok(())
 }

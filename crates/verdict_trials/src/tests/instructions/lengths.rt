@@ -1,6 +1,6 @@
 //! Lengths that are refused, and why.
 
-use crate::tests::expect;
+use code_parts::expect;
 use insn::decode::{Refusal, decode};
 use std::alloc::{AllocError, Global};
 use std::test::Fail;
@@ -41,7 +41,7 @@ fn lengths(rt: HostRuntime) -> Result<(), Fail> {
     let bytes = exits(rt.alloc(), 4097)?;
     for row in LENGTHS {
         let (length, want) = *row;
-        expect(&rt, is_refused(rt.alloc(), &bytes, length, want), row);
+        expect(is_refused(rt.alloc(), &bytes, length, want), row)?;
     }
     Ok(())
 }

@@ -1,6 +1,6 @@
 //! Each opcode: whether an instruction has it, and if so, that its bytes are written again.
 
-use crate::tests::expect;
+use code_parts::expect;
 use insn::decode::{DecodeFault, Refusal, decode};
 use insn::encode::encode;
 use std::alloc::{AllocError, Global};
@@ -68,7 +68,7 @@ fn is_read(alloc: Global, opcode: u8) -> Result<bool, AllocError> {
 #[test]
 fn opcodes(rt: HostRuntime) -> Result<(), Fail> {
     for opcode in 0..=255 {
-        expect(&rt, is_read(rt.alloc(), opcode)?, &opcode);
+        expect(is_read(rt.alloc(), opcode)?, &opcode)?;
     }
     Ok(())
 }

@@ -3,12 +3,12 @@
 use super::known::Known::{Input, Num, One, Stack, Unset};
 use super::known::{FULL, FULL_32, Known, is_kind};
 use super::{HALF, HALF_32, MAX, MAX_32, PAST_32};
-use crate::tests::expect;
 use alu::Cond::*;
 use alu::Width::*;
 use alu::{Cond, Width};
+use code_parts::expect;
 use ranges::{Kind, refine};
-use std::process::Abort;
+use std::test::Fail;
 
 /// What is known of two operands.
 type Pair = (Known, Known);
@@ -32,10 +32,11 @@ fn narrows(row: &Row) -> bool {
 }
 
 /// Tells what conditions leave of what is known.
-fn narrow(rt: &impl Abort, rows: &[Row]) {
+fn narrow(rows: &[Row]) -> Result<(), Fail> {
     for row in rows {
-        expect(rt, narrows(row), &(row.0, row.1));
+        expect(narrows(row), &(row.0, row.1))?;
     }
+    Ok(())
 }
 
 const PAIR: Pair = (Num(0, 10), Num(5, 20));
@@ -90,11 +91,12 @@ const UNSIGNED_ORDER: &[Row] = &[
 type Kept = (Cond, Width, Pair);
 
 /// Tells that conditions leave what is known as it is.
-fn keeps(rt: &impl Abort, rows: &[Kept]) {
+fn keeps(rows: &[Kept]) -> Result<(), Fail> {
     for &(cond, width, pair) in rows {
         let row = (cond, width, pair, (pair, pair));
-        expect(rt, narrows(&row), &(cond, width));
+        expect(narrows(&row), &(cond, width))?;
     }
+    Ok(())
 }
 
 const NOTHING_LEFT: &[Kept] = &[
@@ -151,18 +153,20 @@ const PAST_HALF: &[(Width, Pair)] = &[
 ];
 
 /// Tells that a condition narrows nothing that reaches half of the width.
-fn keeps_past_half(rt: &impl Abort, cond: Cond) {
+fn keeps_past_half(cond: Cond) -> Result<(), Fail> {
     for &(width, pair) in PAST_HALF {
-        keeps(rt, &[(cond, width, pair)]);
+        keeps(&[(cond, width, pair)])?;
     }
+    Ok(())
 }
 
 /// Signed orders narrow nothing that reaches half of the width.
 #[test]
-fn signed_order_past_half(rt: HostRuntime) {
+fn signed_order_past_half(_rt: HostRuntime) -> Result<(), Fail> {
     for cond in &SIGNED {
-        keeps_past_half(&rt, *cond);
+        keeps_past_half(*cond)?;
     }
+    Ok(())
 }
 
 const NO_NUMBERS: &[Kept] = &[
@@ -173,14 +177,16 @@ const NO_NUMBERS: &[Kept] = &[
 ];
 
 #[test]
-fn conditions_that_narrow(rt: HostRuntime) {
-    narrow(&rt, EQUALITY);
-    narrow(&rt, UNSIGNED_ORDER);
-    narrow(&rt, SIGNED_ORDER);
+fn conditions_that_narrow(_rt: HostRuntime) -> Result<(), Fail> {
+    narrow(EQUALITY)?;
+    narrow(UNSIGNED_ORDER)?;
+    narrow(SIGNED_ORDER)?;
+    Ok(())
 }
 
 #[test]
-fn conditions_that_keep(rt: HostRuntime) {
-    keeps(&rt, NOTHING_LEFT);
-    keeps(&rt, NO_NUMBERS);
+fn conditions_that_keep(_rt: HostRuntime) -> Result<(), Fail> {
+    keeps(NOTHING_LEFT)?;
+    keeps(NO_NUMBERS)?;
+    Ok(())
 }

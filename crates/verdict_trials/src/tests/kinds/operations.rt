@@ -4,14 +4,14 @@ use super::known::Known::{Input, Num, One, Stack, Unset};
 use super::known::{FULL, FULL_32, Known, is_kind};
 use super::pointers::{MASKED_POINTER, POINTER_DIFFERENCES, POINTER_FACTOR, POINTER_SUMS};
 use super::{HALF, HALF_32, MAX, MAX_32, PAST_32};
-use crate::tests::expect;
 use alu::Op::*;
 use alu::SwapBits::*;
 use alu::SwapKind::*;
 use alu::Width::*;
 use alu::{Op, SwapBits, SwapKind, Width};
+use code_parts::expect;
 use ranges::{Bad, Kind, transfer, transfer_swap};
-use std::process::Abort;
+use std::test::Fail;
 
 /// A width, what is known of the destination and of the source, and what is known of the destination after it.
 pub type Row = (Width, Known, Known, Result<Known, Bad>);
@@ -33,10 +33,11 @@ fn leaves(op: Op, row: &Row) -> bool {
 }
 
 /// Tells what an operation leaves.
-fn leave(rt: &impl Abort, op: Op, rows: &[Row]) {
+fn leave(op: Op, rows: &[Row]) -> Result<(), Fail> {
     for row in rows {
-        expect(rt, leaves(op, row), &(op, row.0));
+        expect(leaves(op, row), &(op, row.0))?;
     }
+    Ok(())
 }
 
 const MOVES: &[Row] = &[
@@ -258,10 +259,11 @@ const OPERATIONS: &[(Op, &[Row])] = &[
 ];
 
 #[test]
-fn operations(rt: HostRuntime) {
+fn operations(_rt: HostRuntime) -> Result<(), Fail> {
     for (op, rows) in OPERATIONS {
-        leave(&rt, *op, rows);
+        leave(*op, rows)?;
     }
+    Ok(())
 }
 
 /// A byte swap, what is known before it, and what after it.
@@ -287,8 +289,9 @@ fn is_swapped(row: &Swapped) -> bool {
 }
 
 #[test]
-fn swaps(rt: HostRuntime) {
+fn swaps(_rt: HostRuntime) -> Result<(), Fail> {
     for row in SWAPS {
-        expect(&rt, is_swapped(row), &(row.0, row.1));
+        expect(is_swapped(row), &(row.0, row.1))?;
     }
+    Ok(())
 }

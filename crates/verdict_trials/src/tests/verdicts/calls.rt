@@ -1,34 +1,20 @@
 //! Programs that call the helpers of a host, and what the verifier tells of them.
 
-ghost use Rattle.std.specs.Prelude.{◌≡◌};
-ghost use Rattle.helpers.specs.Text.{spelled};
-
 use super::{CLEAR, Lengths, Told, tell_all};
 use crate::tests::admissions::ZERO;
 use admission::admit_program;
 use code_parts::Slot;
 use code_parts::Slot::{Added, Call, Copied, Exit, Put, Raised, StoreByte};
-use helpers::{ArgRule, Body, Helper, Sig, Sigs, Table, decimal, written_sig};
+use helper_parts::{ANY, ONE_NUMBER, UNUSED, decimal_told, two};
+use helpers::{ArgRule, Body, Helper, Sig, Sigs, Table, written_sig};
 use std::alloc::Global;
 use std::test::Fail;
 use verifier::Verified;
 
-const ANY: ArgRule = ArgRule::Num {
-    lo: 0,
-    hi: u64::MAX,
-};
-
-const UNUSED: ArgRule = ArgRule::Unused;
-
 /// Adds the number that a text spells as 18; tells whether it was taken up.
 fn add_decimal(alloc: Global, table: &mut Table) -> Result<bool, Fail> {
     let sig = written_sig(18).ok_or("a Sig")?;
-    let body: Body = Box::new(
-        alloc,
-        |_numbers: [u64; 5], first: &[u8], _second: &[u8]| -> u64
-            ensures { result ≡ spelled first.now }
-        { decimal(first) },
-    )?;
+    let body: Body = Box::new(alloc, decimal_told)?;
     Ok(table.add(Helper::new(18, sig, body)).is_ok())
 }
 
@@ -37,12 +23,7 @@ fn add_two(alloc: Global, table: &mut Table, number: u32, sig: Sig) -> Result<bo
     if sig.lo > 2 || sig.hi < 2 || number < 64 {
         return Err(Fail::from("the range, or the number"));
     }
-    let body: Body = Box::new(
-        alloc,
-        |_numbers: [u64; 5], _first: &[u8], _second: &[u8]| -> u64
-            ensures { result ≡ 2 }
-        { 2 },
-    )?;
+    let body: Body = Box::new(alloc, two)?;
     Ok(table.add(Helper::new(number, sig, body)).is_ok())
 }
 
@@ -61,8 +42,8 @@ type Rules = (u32, &'static [ArgRule; 5], (u64, u64));
 
 /// Helpers of a host.
 const HOST: &[Rules] = &[
-    (64, &[ANY, UNUSED, UNUSED, UNUSED, UNUSED], (0, 7)),
-    (65, &[ANY, UNUSED, UNUSED, UNUSED, UNUSED], (0, 8)),
+    (64, &ONE_NUMBER, (0, 7)),
+    (65, &ONE_NUMBER, (0, 8)),
     (66, &[UNUSED, NUMBER, UNUSED, UNUSED, UNUSED], (0, 7)),
     (67, &[UNUSED, SMALLER, UNUSED, UNUSED, UNUSED], (0, 7)),
     (68, &[TEXT, LEN, UNUSED, UNUSED, UNUSED], (0, 7)),
@@ -240,5 +221,5 @@ fn are_kept(alloc: Global, sigs: &Sigs) -> bool {
 fn helper_calls(rt: HostRuntime) -> Result<(), Fail> {
     let sigs = sigs(rt.alloc())?;
     assert!(rt; are_kept(rt.alloc(), &sigs));
-    tell_all(&rt, rt.alloc(), &sigs, SMALL, HELPER_CALLS)
+    tell_all(rt.alloc(), &sigs, SMALL, HELPER_CALLS)
 }

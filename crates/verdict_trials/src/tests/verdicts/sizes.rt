@@ -1,9 +1,8 @@
 //! Programs and windows of the greatest size: with memory enough for them they are told as small ones are.
 
 use super::{CLEAR, Lengths, Told, is_told};
-use crate::tests::expect;
-use code_parts::Slot;
 use code_parts::Slot::{Call, Copied, Exit, Fields, LoadByte, Put, Raised, StoreByte};
+use code_parts::{Slot, expect};
 use helpers::Sigs;
 use std::alloc::{AllocError, Global};
 use std::test::Fail;
@@ -154,7 +153,7 @@ fn is_told_so(alloc: Global, sigs: &Sigs, program: &Program, want: Told) -> Resu
 fn greatest_sizes(rt: HostRuntime) -> Result<(), Fail> {
     let sigs = Sigs::new(rt.alloc());
     for (name, program, want) in PROGRAMS {
-        expect(&rt, is_told_so(rt.alloc(), &sigs, program, *want)?, name);
+        expect(is_told_so(rt.alloc(), &sigs, program, *want)?, name)?;
     }
     Ok(())
 }
