@@ -1,6 +1,4 @@
 //! The vnodes under their locks, and the word from which stamps are drawn.
-ghost use Rattle.journal.specs.Blocks.{AreHandedOut};
-ghost use Rattle.journal.specs.Entry.{Entry as Entered};
 ghost use Rattle.std.specs.Prelude.{◌≡◌, ℕ, List, ◌+◌, ◌-◌, ◌*◌, ◌<◌, ◌≤◌, ◌^◌, [], ◌∷◌, ◌++◌, length, map, IfOk, IfErr, IfSome, IfNone, OnOk, vec_len, vec_capacity};
 ghost use Rattle.std.specs.List.{flat_map, All, Contains};
 ghost use Rattle.calls.specs.Answered.{asked};
@@ -127,18 +125,8 @@ impl<B: Room> Cluster<B> {
 
 impl<B: Room> Cluster<B> {
     /// Hands out the full blocks of the journal of a vnode, under its lock, and takes room for the next ones. It is no event, and changes
-    /// nothing that a call answers.
-    pub fn settle<R: Wait>(&self, rt: &R, vnode: usize, room: Vec<Vec<Entry>>) -> Handout
-        requires vnode { vnode < self.now.vnodes }
-        requires room { room.items ≡ [] }
-        ensures { (front : List Entered) × AreHandedOut front result.first result.blocks.items }
-    {
-        let mut guard = self.vnodes[vnode].lock(rt);
-        guard.settle(room)
-    }
-
-    /// As [`settle`](Cluster::settle), and the pass is told what is handed out: it stands in the journal that [`gather`](Cluster::gather)
-    /// gives, from that place on. None, and nothing is handed out, where the pass has drawn all its stamps or no block is full.
+    /// nothing that a call answers. The pass is told what is handed out: it stands in the journal that [`gather`](Cluster::gather) gives,
+    /// from that place on. None, and nothing is handed out, where the pass has drawn all its stamps or no block is full.
     pub fn hand_out<R: Wait>(
         &self,
         rt: &R,
@@ -149,6 +137,7 @@ impl<B: Room> Cluster<B> {
         requires vnode { vnode < self.now.vnodes }
         requires room { room.items ≡ [] }
         ensures some { IfSome result (λ handout. IsHandedOut pass.old pass.new (self.now.first + vnode) handout.first handout.blocks.items) }
+        ensures block { IfSome result (λ handout. (0 < vec_len handout.blocks) × (pass.new.drawn ≡ pass.old.drawn + 1)) }
         ensures none { IfNone result (pass.new ≡ pass.old) }
         ensures drawn { pass.new.drawn ≤ pass.old.drawn + 1 }
     {

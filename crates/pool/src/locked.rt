@@ -1,6 +1,6 @@
 //! A vnode under a lock, beside what its seat of the stamp word knows.
 
-ghost use Rattle.std.specs.Prelude.{◌≡◌, ◌+◌, ◌*◌, ◌<◌, ◌≤◌, ◌^◌, [], ◌∷◌, ◌++◌, length, IfOk, IfErr, IfSome, IfNone, OnOk, IsTrue, ◌↔◌, Err, false};
+ghost use Rattle.std.specs.Prelude.{◌≡◌, ◌+◌, ◌*◌, ◌<◌, ◌≤◌, ◌^◌, [], ◌∷◌, ◌++◌, length, IfOk, IfErr, IfSome, IfNone, OnOk, IsTrue, ◌↔◌, Err, false, vec_len};
 ghost use Rattle.stamps.specs.Rule.{together, nothing, without_pass, pass_of, stamps_each, IsWithin, call_of, hand_out_of};
 ghost use Rattle.std.specs.Prelude.{List};
 ghost use Rattle.journal.specs.Blocks.{AreHandedOut, all_of};
@@ -233,17 +233,8 @@ impl<B: Room> Locked<B> {
         look(stamps, vnode, card, &mut pass.card)
     }
 
-    /// Hands out the full blocks of the vnode's journal, and takes room for the next ones. Nothing else changes.
-    pub fn settle(&mut self, room: Vec<Vec<Entry>>) -> Handout
-        requires room { room.items ≡ [] }
-        ensures same { self.new ≡ self.old }
-        ensures out { (front : List Entered) × AreHandedOut front result.first result.blocks.items }
-    {
-        self.vnode.settle(room)
-    }
-
-    /// As [`settle`](Locked::settle), of this vnode, which has this identifier: the pass, which can draw a stamp, is told what is handed
-    /// out. None, and it is told nothing, where no block is full.
+    /// Hands out the full blocks of the journal of this vnode, which has this identifier, and takes room for the next ones. The pass, which
+    /// can draw a stamp, is told what is handed out. None, and it is told nothing, where no block is full.
     pub fn hand_out(
         &mut self,
         stamps: &Stamps,
@@ -255,6 +246,7 @@ impl<B: Room> Locked<B> {
         requires pass { pass.old.drawn < stamps_each }
         requires room { room.items ≡ [] }
         ensures some { IfSome result (λ handout. IsHandedOut pass.old pass.new id handout.first handout.blocks.items) }
+        ensures block { IfSome result (λ handout. (0 < vec_len handout.blocks) × (pass.new.drawn ≡ pass.old.drawn + 1)) }
         ensures none { IfNone result (pass.new ≡ pass.old) }
         ensures drawn { pass.new.drawn ≤ pass.old.drawn + 1 }
     {

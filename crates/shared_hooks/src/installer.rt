@@ -1,6 +1,6 @@
 //! Where the registry is changed.
 
-ghost use Rattle.std.specs.Prelude.{◌≡◌, ◌<◌, ◌^◌, ◌++◌, ◌∷◌, [], IfOk, IsTrue, MatchResult, OnOk, OnErr};
+ghost use Rattle.std.specs.Prelude.{◌≡◌, ◌↔◌, ◌<◌, ◌^◌, ◌++◌, ◌∷◌, [], IfOk, IsTrue, MatchResult, OnOk, OnErr};
 ghost use mathlib.Core.List.{IsPrefix};
 ghost use Rattle.hooks.specs.Tables.{Shows};
 ghost use Rattle.hooks.specs.Changes.{bound_at};
@@ -84,11 +84,13 @@ impl<J: Naming, T: Rack<J> + Drop, R: Wait + Drop> Installer<J, T, R> {
         Note::new(self.outlet.shown().front().again())
     }
 
-    /// Whether all that a reader knows is among the changes so far, at their head. Of a reader of this registry it always is.
+    /// Whether all that a reader knows is published, at the head of what is; it is then among all changes, at their head. Of a reader of
+    /// this registry it always is.
     pub fn has_all(&self, reader: &HookReader<J, T>) -> bool
-        ensures { IsTrue result → IsPrefix reader.now self.now.made }
+        ensures published { IsTrue result ↔ IsPrefix reader.now self.now.published }
+        ensures made { IsTrue result → IsPrefix reader.now self.now.made }
     {
-        self.outlet.begins_with(reader.known())
+        self.outlet.shows_all(reader.known())
     }
 
     /// Shows readers all changes so far, and answers a note of them. It waits for those that still look into what was shown

@@ -3,12 +3,14 @@
 
 mod edit;
 mod installer;
+mod laws;
 mod opening;
 mod outlet;
 mod published;
 mod reader;
 
 pub use installer::Installer;
+pub use laws::{published_agrees, readers_agree};
 pub use opening::{Ground, NoReader, Opening};
 pub use published::{Published, Rack};
 pub use reader::{HookReader, Note};

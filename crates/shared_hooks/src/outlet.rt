@@ -1,6 +1,6 @@
 //! Where changes go out to readers.
 
-ghost use Rattle.std.specs.Prelude.{◌≡◌, ◌-◌, ◌<◌, ◌^◌, ◌++◌, ◌∷◌, [], None, IsTrue, MatchResult, IfOk, OnOk, OnErr};
+ghost use Rattle.std.specs.Prelude.{◌≡◌, ◌↔◌, ◌-◌, ◌<◌, ◌^◌, ◌++◌, ◌∷◌, [], length, take, None, IsTrue, MatchResult, IfOk, OnOk, OnErr};
 ghost use Rattle.std.specs.Option.{option_to_list};
 ghost use Rattle.std.specs.VecDeque.{deque_capacity, deque_len};
 ghost use mathlib.Core.List.{IsPrefix};
@@ -28,6 +28,7 @@ pub(crate) struct Outlet<J: Naming, T: Rack<J> + Drop, R: Wait + Drop> {
     pub(crate) held_back: Option<Op<J>>,
     pub(crate) waiting: VecDeque<Edit>,
     pub(crate) ghost agreed: { last_of (T.state (published writer)) (pending writer ++ option_to_list held_back) ≡ front },
+    pub(crate) ghost begun: { take (length (T.state (published writer))) front ≡ T.state (published writer) },
 }
 
 impl<J: Naming, T: Rack<J> + Drop, R: Wait + Drop> Outlet<J, T, R> {
@@ -70,11 +71,13 @@ impl<J: Naming, T: Rack<J> + Drop, R: Wait + Drop> Outlet<J, T, R> {
         self.writer.published()
     }
 
-    /// Whether all changes of a front are among those that are taken in, at their head.
-    pub(crate) fn begins_with(&self, known: &Front<Edit, J>) -> bool
-        ensures { IsTrue result → IsPrefix (changes_of known.now) (changes_of (self.now.front ++ self.now.waiting.items)) }
+    /// Whether all changes of a front are among those that readers see, at their head; they are then among all changes, at their head.
+    pub(crate) fn shows_all(&self, known: &Front<Edit, J>) -> bool
+        ensures published { IsTrue result ↔ IsPrefix (changes_of known.now) (changes_of (T.state (published self.now.writer))) }
+        ensures made { IsTrue result → IsPrefix (changes_of known.now) (changes_of (self.now.front ++ self.now.waiting.items)) }
     {
-        self.front.longer(known).len() == self.front.len()
+        let shown = self.shown().front();
+        shown.longer(known).len() == shown.len()
     }
 
     /// Room for one change more.

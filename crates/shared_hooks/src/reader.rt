@@ -40,6 +40,13 @@ impl<J: Naming> Note<J> {
     {
         Note { front }
     }
+
+    /// What is told.
+    pub(crate) fn front(&self) -> &Front<Edit, J>
+        ensures { changes_of result.now ≡ self.now }
+    {
+        &self.front
+    }
 }
 
 /// A reader of the registry. Contracts see the changes that it has seen or was told of.

@@ -31,6 +31,15 @@ impl<J: Naming, T: Rack<J> + Drop, M: Drop> Model for ReadHooks<J, T, M> {
     ghost view = { λ w. w.reader };
 }
 
+impl<J: Naming, T: Rack<J> + Drop, M: Drop> ReadHooks<J, T, M> {
+    /// Where hooks are looked up.
+    pub(crate) fn reader(&self) -> &HookReader<J, T>
+        ensures { result.now ≡ self.now }
+    {
+        &self.reader
+    }
+}
+
 /// What all workers change hooks by: the installer, behind its lock.
 #[derive(Drop)]
 pub struct Maker<'a, J: Naming, T: Rack<J> + Drop, R: Wait + Drop> {

@@ -1,5 +1,5 @@
 -- What a call on the vnodes of a cluster, through a pass, leaves.
-use Rattle.std.specs.Prelude.{◌≡◌, ◌<◌, ◌≤◌, ◌+◌, ◌⊎◌, ℕ, Bool, List, length, Result, Ok, Err}
+use Rattle.std.specs.Prelude.{◌≡◌, ◌<◌, ◌≤◌, ◌+◌, ◌⊎◌, ℕ, Bool, Result, Ok, Err}
 use Rattle.std.specs.Global.{Vec}
 use Rattle.dvv.specs.declared.Dot as dvv
 use Rattle.object.specs.declared.content.Key.{Key}
@@ -16,7 +16,6 @@ use Rattle.peers.specs.Calls.{Call, PutAt, MergeAt, StateOf, KeysOf}
 use Rattle.peers.specs.Counts.{Counts}
 use Rattle.stamps.specs.Rule.{stamps_each, call_of}
 use Rattle.stamps.specs.declared.view.Size.{Size}
-use Rattle.stamps.specs.declared.view.Told.{Told}
 use Rattle.stamps.specs.declared.view.View.{View}
 use Rattle.pool.specs.Calls.{IsNews, IsFault, AreKeysOf, outcome_ok}
 use Rattle.pool.specs.declared.fault.CallFault.{CallFault}

@@ -15,7 +15,7 @@ use stamps::{Card, Size, Stamps};
 use std::alloc::{AllocError, Global};
 use std::marker::Brand;
 use std::process::Abort;
-use std::sync::Wait;
+use std::sync::{Mutex, Wait};
 use std::test::Fail;
 use std::thread;
 use std::thread::Threads;
@@ -74,16 +74,20 @@ fn entries_in(handout: &Handout) -> usize {
     count
 }
 
-/// Settles the first vnode once, which goes on where so many entries were handed out. So many were, then.
+/// Settles the first vnode once, by the pass under a lock. It goes on where so many entries were handed out. So many were, then.
 fn settle_once<B: Room, R: Wait + Abort>(
     rt: &R,
     alloc: Global,
     cluster: &Cluster<B>,
+    settler: &Mutex<Pass<B>>,
     before: usize,
 ) -> usize
     requires { 0 < cluster.now.vnodes }
 {
-    let handout = cluster.settle(rt, 0, Vec::new(alloc));
+    let mut pass = settler.lock(rt);
+    let Some(handout) = cluster.hand_out(rt, &mut pass, 0, Vec::new(alloc)) else {
+        return before;
+    };
     assert!(rt; handout.first == before);
     before.saturating_add(entries_in(&handout))
 }
@@ -93,6 +97,7 @@ fn settle_until<B: Room, R: Wait + Abort>(
     rt: &R,
     alloc: Global,
     cluster: &Cluster<B>,
+    settler: &Mutex<Pass<B>>,
     want: usize,
 ) -> usize
     requires { 0 < cluster.now.vnodes }
@@ -102,7 +107,7 @@ fn settle_until<B: Room, R: Wait + Abort>(
         if out >= want {
             break;
         }
-        out = settle_once(rt, alloc, cluster, out);
+        out = settle_once(rt, alloc, cluster, settler, out);
     }
     out
 }
@@ -112,12 +117,13 @@ fn settle_the_rest<B: Room, R: Wait + Abort>(
     rt: &R,
     alloc: Global,
     cluster: &Cluster<B>,
+    settler: &Mutex<Pass<B>>,
     meanwhile: usize,
 )
     requires { 0 < cluster.now.vnodes }
 {
     assert!(rt; meanwhile >= 2_048);
-    assert!(rt; settle_once(rt, alloc, cluster, meanwhile) == 5_120);
+    assert!(rt; settle_once(rt, alloc, cluster, settler, meanwhile) == 5_120);
 }
 
 /// Workers read at the first vnode, which is settled meanwhile and once more at the end.
@@ -126,6 +132,7 @@ fn read_and_settle<B: Room + Send + Sync, R: Threads + Wait + Abort + Sync>(
     alloc: Global,
     cluster: &Cluster<B>,
     passes: Vec<Pass<B>>,
+    settler: &Mutex<Pass<B>>,
 ) -> Result<Vec<Pass<B>>, AllocError>
     requires { 0 < cluster.now.vnodes }
 {
@@ -133,10 +140,10 @@ fn read_and_settle<B: Room + Send + Sync, R: Threads + Wait + Abort + Sync>(
     let work = workers.as_mut_slice();
     let (out, _) = thread::join(
         rt,
-        || settle_until(rt, alloc, cluster, 2_048),
+        || settle_until(rt, alloc, cluster, settler, 2_048),
         || serve_all(alloc, rt, cluster, work, &Open),
     );
-    settle_the_rest(rt, alloc, cluster, out);
+    settle_the_rest(rt, alloc, cluster, settler, out);
     passes_of(rt, alloc, workers)
 }
 
@@ -148,12 +155,17 @@ fn settled_meanwhile<B: Room + Send + Sync, R: Threads + Wait + Abort + Sync>(
     card: Card,
 ) -> Result<Vec<Vnode>, Fail>
     requires table { (stamps.table.shared.table_id ≡ B.table) × (card.table_id ≡ B.table) }
-    requires size { stamps.table.shared.key ≡ record { first = 0; vnodes = 1; passes = 2 } }
+    requires size { stamps.table.shared.key ≡ record { first = 0; vnodes = 1; passes = 3 } }
     requires card { card.me ≡ (newcomer stamps.table.shared.key, []) }
     ensures { IfOk result (λ vnodes. Differ vnodes.items) }
 {
-    let (cluster, passes) = Cluster::<B>::open(alloc, stamps, card, 0, 1, 2)?;
-    let back = read_and_settle(rt, alloc, &cluster, passes)?;
+    let (cluster, mut passes) = Cluster::<B>::open(alloc, stamps, card, 0, 1, 3)?;
+    let Some(settler) = passes.pop() else {
+        return Err(Fail::new("a pass is missing"));
+    };
+    let settler = Mutex::new(settler);
+    let mut back = read_and_settle(rt, alloc, &cluster, passes, &settler)?;
+    back.push(settler.into_inner())?;
     gathered(cluster, back)
 }
 
@@ -174,18 +186,18 @@ fn are_settled(rt: &impl Abort, alloc: Global, vnodes: &[Vnode])
     assert!(rt; matches!(audit_vnodes(alloc, vnodes), Err(CloseFault::HandedOut)));
 }
 
-/// A vnode and two passes.
-const ONE_BY_TWO: Size = Size {
+/// A vnode and three passes.
+const ONE_BY_THREE: Size = Size {
     first: 0,
     vnodes: 1,
-    passes: 2,
+    passes: 3,
 };
 
 /// Two workers read 3,000 times each. What is handed out follows what was handed out before, each call is answered meanwhile, and a
 /// journal with a part handed out isn't whole.
 #[test]
 fn calls_beside_a_settling(rt: HostRuntime) -> Result<(), Fail> {
-    let (stamps, card) = Stamps::new(rt.alloc(), &ONE_BY_TWO)?;
+    let (stamps, card) = Stamps::new(rt.alloc(), &ONE_BY_THREE)?;
     let vnodes = settled_meanwhile::<Brand, _>(&rt, rt.alloc(), stamps, card)?;
     are_settled(&rt, rt.alloc(), &vnodes);
     Ok(())

@@ -86,7 +86,7 @@ impl Trial for Script<'_> {
 }
 
 /// Changes that aren't published. Each is judged by those before it.
-const JUDGED: [Step; 11] = [
+const JUDGED: &[Step] = &[
     Step::Makes(Change::Remove(b"no"), Err(HookFault::NameUnknown)),
     Step::Makes(
         Change::Bind(&[(BEFORE, b"no")]),
@@ -113,7 +113,7 @@ const JUDGED: [Step; 11] = [
 ];
 
 /// A hook is seen once it is published, and gone once that is. Its name stays bound. One reader is told, and the other is not.
-const SEEN: [Step; 15] = [
+const SEEN: &[Step] = &[
     Step::Makes(Change::Install(b"no", BEFORE), Ok(())),
     Step::Makes(Change::Bind(&[(BEFORE, b"no")]), Ok(())),
     Step::Sees(0, BEFORE, None),
@@ -133,12 +133,12 @@ const SEEN: [Step; 15] = [
 
 #[test]
 fn judged_by_all_changes(rt: HostRuntime) -> Result<(), Fail> {
-    assert!(rt; tried(rt.alloc(), &rt, 2, &Script(&JUDGED))?);
+    assert!(rt; tried(rt.alloc(), &rt, 2, &Script(JUDGED))?);
     Ok(())
 }
 
 #[test]
 fn seen_once_published(rt: HostRuntime) -> Result<(), Fail> {
-    assert!(rt; tried(rt.alloc(), &rt, 2, &Script(&SEEN))?);
+    assert!(rt; tried(rt.alloc(), &rt, 2, &Script(SEEN))?);
     Ok(())
 }

@@ -37,7 +37,7 @@ fn is_seen_at_once<H: Hooks + HookChanges>(
 }
 
 /// What the first worker does.
-const FIRST: [(Change, Result<(), HookFault>); 4] = [
+const FIRST: &[(Change, Result<(), HookFault>)] = &[
     (Change::Install(b"no", BEFORE), Ok(())),
     (
         Change::Bind(&[(RESOLVER, b"no")]),
@@ -48,7 +48,7 @@ const FIRST: [(Change, Result<(), HookFault>); 4] = [
 ];
 
 /// What the second worker does.
-const SECOND: [(Change, Result<(), HookFault>); 4] = [
+const SECOND: &[(Change, Result<(), HookFault>)] = &[
     (Change::Install(b"old", RESOLVER), Ok(())),
     (Change::Remove(b"old"), Ok(())),
     (Change::Install(b"take", RESOLVER), Ok(())),
@@ -62,8 +62,8 @@ fn works<H: Hooks + HookChanges>(
     place: usize,
 ) -> Result<bool, Trouble> {
     match place {
-        0 => is_seen_at_once(alloc, hooks, &FIRST, BEFORE, b"no"),
-        1 => is_seen_at_once(alloc, hooks, &SECOND, RESOLVER, b"take"),
+        0 => is_seen_at_once(alloc, hooks, FIRST, BEFORE, b"no"),
+        1 => is_seen_at_once(alloc, hooks, SECOND, RESOLVER, b"take"),
         _ => {
             let kind = kind_of(alloc, hooks, BEFORE)?;
             Ok(kind == None || kind == Some(BEFORE))
