@@ -1,4 +1,5 @@
 mod Lists
+mod Counts
 mod Taken
 mod Ends
 mod Leads

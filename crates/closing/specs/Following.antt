@@ -61,10 +61,6 @@ pub record IsTakenMore (old new : Taken) (index first : ℕ) (more : List Entry)
   pub here : waiting_at new.waiting index ≡ waiting_at old.waiting index ++ more
   pub others : (other : ℕ) → (other ≡ index → ⊥) → waiting_at new.waiting other ≡ waiting_at old.waiting other
 
--- of some vnode more entries wait than this
-abbrev pub IsBehind : List (List Entry) → ℕ → Type 0
-IsBehind waiting most = (index : ℕ) × (index < length waiting) × (most < length (waiting_at waiting index))
-
 -- ---- how the end is followed
 
 -- where an identifier that is followed is that of a journal, what was taken of it is a front of the journal

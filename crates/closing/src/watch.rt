@@ -3,7 +3,8 @@
 ghost use Rattle.std.specs.Prelude.{◌≡◌, ◌+◌, ◌<◌, ◌≤◌, ◌^◌, ℕ, [], All, IfOk, MatchBool, OnOk, length, vec_len};
 ghost use Rattle.pool.specs.Calls.{pass_view};
 ghost use Rattle.journal.specs.Blocks.{all_of};
-ghost use Rattle.closing.specs.Following.{IsBehind, IsTakenMore, IsToldMore};
+ghost use Rattle.follow.specs.Waiting.{count_waiting};
+ghost use Rattle.closing.specs.Following.{IsTakenMore, IsToldMore};
 
 use follow::{FollowFault, Follower, TakeFault};
 use journal::Handout;
@@ -126,6 +127,8 @@ pub struct Watch<B: Room + Spot> {
     pub(crate) pass: Pass<B>,
     pub(crate) follower: Follower,
     seen: Vec<Seen>,
+    /// The number below which all was followed.
+    reached: u64,
     /// Why a block wasn't taken.
     pub(crate) lost: Option<TakeFault>,
     /// Whether it was told that nothing is followed any more.
@@ -215,6 +218,7 @@ impl<B: Room + Spot> Watch<B> {
             pass,
             follower: Follower::new(alloc, &ids, RECENT)?,
             seen,
+            reached: 0,
             lost: None,
             told: false,
         })
@@ -271,22 +275,27 @@ impl<B: Room + Spot> Watch<B> {
         below
     }
 
-    /// Follows what was taken, as far as all that comes before it was handed out, too. That nothing is followed any more is told, once.
-    pub fn follow<A: Alarm>(&mut self, alarm: &A)
+    /// Follows what was taken, as far as all that comes before it was handed out, too, but no more than so many stamps further than
+    /// before. Whether there is more to follow. That nothing is followed any more is told, once.
+    pub fn follow_some<A: Alarm>(&mut self, stamps: u64, alarm: &A) -> bool
         ensures told { self.new.told ≡ self.old.told }
     {
         if self.told {
-            return;
+            return false;
         }
+        let below = self.below();
+        let bound = below.min(self.reached.saturating_add(stamps));
         if self.lost.is_none() {
-            let below = self.below();
             // What it answers is its fault, which it keeps.
-            let _ = self.follower.follow(below);
+            let _ = self.follower.follow(bound);
         }
         if let Some(fault) = self.stopped() {
             self.told = true;
             alarm.raise(Notice::Stopped(fault));
+            return false;
         }
+        self.reached = bound;
+        bound < below
     }
 
     /// Has each vnode of a cluster hand out its full blocks: [`Watch::hear`] of each.
@@ -305,19 +314,22 @@ impl<B: Room + Spot> Watch<B> {
         }
     }
 
-    /// Whether of some vnode more entries wait to be followed than this.
-    pub fn is_behind(&self, most: usize) -> bool
-        ensures { MatchBool result (IsBehind self.now.taken.waiting most) (IsBehind self.now.taken.waiting most → ⊥) }
+    /// Whether fewer than so many entries wait to be followed, of all vnodes together.
+    pub fn can_go_on(&self, many: usize) -> bool
+        ensures { MatchBool result (count_waiting self.now.taken.waiting < many) (many ≤ count_waiting self.now.taken.waiting) }
     {
+        let mut left = many;
         for index in 0..self.follower.count() {
-            if self.follower.waiting(index) > most {
-                return true;
+            let waiting = self.follower.waiting(index);
+            if waiting > left {
+                return false;
             }
+            left -= waiting;
         }
-        false
+        left > 0
     }
 
-    /// Has each vnode of a cluster hand out its full blocks, and follows them: [`Watch::hear_all`] and [`Watch::follow`].
+    /// Has each vnode of a cluster hand out its full blocks, and follows all of them: [`Watch::hear_all`] and [`Watch::follow_some`].
     pub fn turn<R: Wait, A: Alarm>(
         &mut self,
         alloc: Global,
@@ -329,6 +341,6 @@ impl<B: Room + Spot> Watch<B> {
         ensures told { IsToldMore self.old.told self.new.told }
     {
         self.hear_all(alloc, rt, cluster, alarm);
-        self.follow(alarm);
+        self.follow_some(u64::MAX, alarm);
     }
 }

@@ -7,7 +7,7 @@ ghost use Rattle.closing.specs.Following.{IsFollowedTo};
 use closing::{Alarm, Followed, Notice, Spot, Watch, WatchFault, close_watched};
 use hooks::{HookChanges, Hooks};
 use httpfront::{Backend, Front};
-use listener::{Entrance, serve_all};
+use listener::{Entrance, Pace, PacedEntrance, serve_all};
 use place::Placement;
 use pool::{Cluster, Gate, Pass, Room};
 use quorum::Hooking;
@@ -24,6 +24,15 @@ use workers::PassPeers;
 
 /// How long the thread that follows rests between its turns, in milliseconds.
 const REST: u64 = 20;
+
+/// So many stamps are followed in one turn.
+const PIECE: u64 = 4_096;
+
+/// While so many entries wait to be followed, or more, workers rest before they read.
+const MOST_WAITING: usize = 100_000;
+
+/// How long a worker rests before it looks again, in milliseconds.
+const NAP: u64 = 1;
 
 /// A gate that lets every call through.
 #[derive(Clone, Copy, Debug)]
@@ -62,6 +71,8 @@ struct Shared<B: Room + Spot> {
     err: Stderr,
     /// What the thread that follows rests on.
     rest: Parker,
+    /// Whether so much waits to be followed that workers rest. It is being followed then.
+    is_behind: AtomicBool,
     /// Whether a thread has begun that follows, so that no worker has to.
     is_followed: AtomicBool,
     /// Whether all workers have ended.
@@ -77,6 +88,7 @@ impl<B: Room + Spot> Shared<B> {
             watch: Mutex::new(watch),
             err,
             rest: Parker::new(),
+            is_behind: AtomicBool::new(false),
             is_followed: AtomicBool::new(false),
             over: AtomicBool::new(false),
             lack: AtomicBool::new(false),
@@ -95,17 +107,45 @@ impl Alarm for Aloud {
     }
 }
 
-/// Follows once what the vnodes of a cluster have handed out.
+/// The pace of a worker: it rests while the thread that follows is behind.
+#[derive(Drop)]
+struct Behind<'a, R: Wait> {
+    rt: &'a R,
+    is_behind: &'a AtomicBool,
+    /// What the worker rests on.
+    rest: Parker,
+}
+
+impl<R: Wait> Pace for Behind<'_, R> {
+    fn rest(&self) {
+        for _ in self.rt.forever() {
+            if !self.is_behind.load(SeqCst) {
+                break;
+            }
+            self.rest.park_timeout(self.rt, Duration::from_millis(NAP));
+        }
+    }
+}
+
+/// Follows so many stamps of what the vnodes of a cluster have handed out. Whether there is more to follow. Where that is much, workers
+/// rest until it is followed.
 fn take_turn<B: Room + Spot, R: Wait>(
     alloc: Global,
     rt: &R,
     cluster: &Cluster<B>,
     shared: &Shared<B>,
-)
+    stamps: u64,
+) -> bool
     requires first { cluster.now.first ≡ B.first }
 {
+    let alarm = Aloud(shared.err);
     let mut watch = shared.watch.lock(rt);
-    watch.turn(alloc, rt, cluster, &Aloud(shared.err));
+    watch.hear_all(alloc, rt, cluster, &alarm);
+    let is_more = watch.follow_some(stamps, &alarm);
+    shared
+        .is_behind
+        .store(is_more && !watch.can_go_on(MOST_WAITING), SeqCst);
+    is_more
 }
 
 /// Follows, turn by turn, until all workers have ended.
@@ -122,8 +162,9 @@ fn follow_along<B: Room + Spot, R: Wait>(
         if shared.over.load(SeqCst) {
             break;
         }
-        take_turn(alloc, rt, cluster, shared);
-        shared.rest.park_timeout(rt, Duration::from_millis(REST));
+        if !take_turn(alloc, rt, cluster, shared, PIECE) {
+            shared.rest.park_timeout(rt, Duration::from_millis(REST));
+        }
     }
 }
 
@@ -139,14 +180,19 @@ fn answer_all<B: Room + Spot, K: Backend, R: Wait>(
 )
     requires first { cluster.now.first ≡ B.first }
 {
-    let mut door = entrance;
+    let pace = Behind {
+        rt,
+        is_behind: &shared.is_behind,
+        rest: Parker::new(),
+    };
+    let mut door = PacedEntrance::new(entrance, &pace);
     for _ in rt.forever() {
         // An entrance to which no connection comes any more is closed.
         if serve_all(&mut door, front, store, Some(1)).is_err() {
             break;
         }
         if !shared.is_followed.load(SeqCst) {
-            take_turn(alloc, rt, cluster, shared);
+            take_turn(alloc, rt, cluster, shared, u64::MAX);
         }
     }
 }

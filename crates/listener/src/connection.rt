@@ -1,5 +1,6 @@
 //! One connection over TCP.
 
+use crate::pace::{Pace, PacedSource};
 use httpfront::{Backend, Front, ReadSource, WriteSink};
 use std::io::Read as _;
 use std::net::{Shutdown, TcpStream};
@@ -20,10 +21,15 @@ const MOST_DROPPED: usize = 262_144;
 /// At most how many of them at a time.
 const CHUNK: usize = 65_536;
 
-/// Answers the requests of a connection, until it is over.
-pub(crate) fn converse<B: Backend>(stream: &TcpStream, front: &mut Front, backend: &mut B) {
+/// Answers the requests of a connection, until it is over, and rests before it reads from it.
+pub(crate) fn converse<B: Backend, P: Pace>(
+    stream: &TcpStream,
+    front: &mut Front,
+    backend: &mut B,
+    pace: &P,
+) {
     be_prompt(stream);
-    let mut source = ReadSource::new(stream);
+    let mut source = PacedSource::new(ReadSource::new(stream), pace);
     let mut sink = WriteSink::new(stream);
     // However it ended, the connection is over, and the next one comes.
     let _ = serving::serve(front, &mut source, &mut sink, backend);

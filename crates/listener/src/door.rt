@@ -4,6 +4,7 @@ ghost use Rattle.std.specs.Prelude.{◌≡◌, ℕ, List, Option, OnOk, OnErr};
 ghost use Rattle.listener.specs.Visits.{Admits};
 
 use crate::connection::converse;
+use crate::pace::Restless;
 use httpfront::{Backend, Front};
 use std::net::TcpListener;
 
@@ -36,7 +37,7 @@ impl Door for TcpListener {
         let Ok((stream, _)) = self.accept() else {
             return Err(NoConnection);
         };
-        converse(&stream, front, backend);
+        converse(&stream, front, backend, &Restless);
         Ok(())
     }
 }

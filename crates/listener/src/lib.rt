@@ -4,11 +4,13 @@
 
 mod connection;
 mod door;
+mod pace;
 mod shared;
 mod start;
 mod visiting;
 
 pub use door::{Door, NoConnection};
-pub use shared::Entrance;
+pub use pace::{Pace, PacedSource};
+pub use shared::{Entrance, PacedEntrance};
 pub use start::{listen, serve};
 pub use visiting::{MOST_FAILURES, Stopped, serve_all};

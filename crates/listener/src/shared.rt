@@ -4,8 +4,9 @@ ghost use Rattle.std.specs.Prelude.{None};
 
 use crate::connection::converse;
 use crate::door::{Door, NoConnection};
+use crate::pace::{Pace, Restless};
 use httpfront::{Backend, Front};
-use std::net::TcpListener;
+use std::net::{TcpListener, TcpStream};
 use std::sync::atomic::AtomicU64;
 use std::sync::atomic::Ordering::SeqCst;
 
@@ -31,6 +32,20 @@ impl Entrance {
             left: AtomicU64::new(left),
         }
     }
+
+    /// Takes one of the connections that may still come, and waits for it.
+    fn next(&self) -> Result<TcpStream, NoConnection> {
+        let Entrance { listener, left } = self;
+        let taken = left.fetch_update(SeqCst, SeqCst, |left| left.checked_sub(1));
+        if taken.is_err() {
+            return Err(NoConnection);
+        }
+        let Ok((stream, _)) = listener.accept() else {
+            left.fetch_add(1, SeqCst);
+            return Err(NoConnection);
+        };
+        Ok(stream)
+    }
 }
 
 impl Door for &Entrance {
@@ -41,16 +56,36 @@ impl Door for &Entrance {
         front: &mut Front,
         backend: &mut B,
     ) -> Result<(), NoConnection> {
-        let Entrance { listener, left } = &**self;
-        let taken = left.fetch_update(SeqCst, SeqCst, |left| left.checked_sub(1));
-        if taken.is_err() {
-            return Err(NoConnection);
-        }
-        let Ok((stream, _)) = listener.accept() else {
-            left.fetch_add(1, SeqCst);
-            return Err(NoConnection);
-        };
-        converse(&stream, front, backend);
+        let stream = self.next()?;
+        converse(&stream, front, backend, &Restless);
+        Ok(())
+    }
+}
+
+/// A socket that workers share, for one of them that rests at a pace before it reads from its connection.
+#[derive(Clone, Copy)]
+pub struct PacedEntrance<'a, P: Pace> {
+    entrance: &'a Entrance,
+    pace: &'a P,
+}
+
+impl<'a, P: Pace> PacedEntrance<'a, P> {
+    /// The socket, for a worker that rests at a pace.
+    pub fn new(entrance: &'a Entrance, pace: &'a P) -> Self {
+        PacedEntrance { entrance, pace }
+    }
+}
+
+impl<P: Pace> Door for PacedEntrance<'_, P> {
+    ghost awaited = { λ _. None };
+
+    fn admit<B: Backend>(
+        &mut self,
+        front: &mut Front,
+        backend: &mut B,
+    ) -> Result<(), NoConnection> {
+        let stream = self.entrance.next()?;
+        converse(&stream, front, backend, self.pace);
         Ok(())
     }
 }

@@ -2,4 +2,5 @@
 
 mod guests;
 mod loopback;
+mod resting;
 mod stores;

@@ -1,0 +1,267 @@
+// Asks this store, etcd (its v2 interface) or redis, and prints requests a second:
+//
+//     asker store|etcd|redis PUT|GET|REWRITE PORT CONNECTIONS SECONDS [THREADS [FIRST]]
+//
+// Values of 100 bytes under 1,000 keys, over loopback. One request at a time on each connection: the next is sent once the answer to the last
+// one has come. The connections are shared out among the threads, which wait for answers by epoll: one thread, where nothing is said.
+// A write without a context is a sibling of what stands there, so this store's writes go to a further bucket after each 1,000, the first of them
+// the bucket with the number FIRST, which is read. REWRITE is for this store alone: each connection reads in turn 50 keys of its own, and writes each
+// again in the context that it was told, so that what is stored doesn't grow. A line is printed: requests a second, and the microseconds in which half of the answers, and
+// 99 of 100 of them, came. An answer that isn't that of a write or a read that succeeded ends it with status 1.
+//
+//     cc -O2 -pthread -o asker asker.c
+#define _GNU_SOURCE
+#include <arpa/inet.h>
+#include <netinet/tcp.h>
+#include <pthread.h>
+#include <stdarg.h>
+#include <stdatomic.h>
+#include <stdio.h>
+#include <stdlib.h>
+#include <string.h>
+#include <sys/epoll.h>
+#include <sys/socket.h>
+#include <time.h>
+#include <unistd.h>
+
+enum { KEYS = 1000, OWN = 50, VALUE = 100, ROOM = 8192, CONTEXT = 600, SLOWEST = 100000, MOST = 256 };
+
+enum server { STORE, ETCD, REDIS };
+enum method { PUT, GET, REWRITE };
+
+static enum server server;
+static enum method method;
+static int port;
+static double seconds;
+static unsigned long first;
+static char value[VALUE + 1];
+static atomic_ulong asked;
+
+// A connection, what it asks for and how often it asked, the context that it was told last, what came of its answer, and when its request was sent.
+struct connection {
+    int socket;
+    int number;
+    enum method method;
+    unsigned long asked;
+    size_t length;
+    double sent;
+    char context[CONTEXT];
+    char answer[ROOM + 1];
+};
+
+// A thread, its connections, and how many answers took so many microseconds.
+struct asker {
+    struct connection *connections;
+    int count;
+    unsigned long told;
+    unsigned times[SLOWEST + 1];
+};
+
+static void fail(const char *form, ...) {
+    va_list words;
+    va_start(words, form);
+    vfprintf(stderr, form, words);
+    va_end(words);
+    fputc('\n', stderr);
+    exit(1);
+}
+
+static double now(void) {
+    struct timespec time;
+    clock_gettime(CLOCK_MONOTONIC, &time);
+    return time.tv_sec + time.tv_nsec / 1e9;
+}
+
+static int request(char *to, enum method method, unsigned long turn, unsigned long key) {
+    switch (server) {
+    case STORE:
+        if (method == GET)
+            return sprintf(to, "GET /buckets/load%lu/keys/%lu HTTP/1.1\r\nHost: load\r\n\r\n", first, key);
+        return sprintf(to, "PUT /buckets/load%lu/keys/%lu HTTP/1.1\r\nHost: load\r\nContent-Type: text/plain\r\nContent-Length: %d\r\n\r\n%s", first + turn, key, VALUE, value);
+    case ETCD:
+        if (method == GET)
+            return sprintf(to, "GET /v2/keys/load/%lu HTTP/1.1\r\nHost: load\r\n\r\n", key);
+        return sprintf(to, "PUT /v2/keys/load/%lu HTTP/1.1\r\nHost: load\r\nContent-Type: application/x-www-form-urlencoded\r\nContent-Length: %d\r\n\r\nvalue=%s", key, VALUE + 6, value);
+    default:
+        if (method == GET)
+            return sprintf(to, "*2\r\n$3\r\nGET\r\n$8\r\nload%04lu\r\n", key);
+        return sprintf(to, "*3\r\n$3\r\nSET\r\n$8\r\nload%04lu\r\n$%d\r\n%s\r\n", key, VALUE, value);
+    }
+}
+
+// The next of a read and a write of each of some keys of its own.
+static int rewrite(struct connection *c, char *to) {
+    unsigned long key = c->asked / 2 % OWN;
+    c->method = c->asked % 2 ? PUT : GET;
+    c->asked++;
+    if (c->method == GET)
+        return sprintf(to, "GET /buckets/own%d/keys/%lu HTTP/1.1\r\nHost: load\r\n\r\n", c->number, key);
+    return sprintf(to, "PUT /buckets/own%d/keys/%lu HTTP/1.1\r\nHost: load\r\nContent-Type: text/plain\r\n%sContent-Length: %d\r\n\r\n%s", c->number, key, c->context, VALUE, value);
+}
+
+static void ask(struct connection *c) {
+    char bytes[2048];
+    int length;
+    if (method == REWRITE) {
+        length = rewrite(c, bytes);
+    } else {
+        unsigned long number = atomic_fetch_add(&asked, 1);
+        length = request(bytes, c->method = method, number / KEYS, number % KEYS);
+    }
+    c->length = 0;
+    c->sent = now();
+    if (send(c->socket, bytes, length, MSG_NOSIGNAL) != length)
+        fail("the connection took no request");
+}
+
+// How long an answer over HTTP is, or 0 while that isn't known.
+static size_t http_length(const char *answer) {
+    const char *end = strstr(answer, "\r\n\r\n");
+    if (!end)
+        return 0;
+    const char *field = strcasestr(answer, "\r\nContent-Length:");
+    return end + 4 - answer + (field && field < end ? strtoul(field + 17, NULL, 10) : 0);
+}
+
+// How long an answer of redis is, or 0 while that isn't known.
+static size_t redis_length(const char *answer) {
+    const char *end = strstr(answer, "\r\n");
+    if (!end)
+        return 0;
+    return end + 2 - answer + (answer[0] == '$' && answer[1] != '-' ? strtoul(answer + 1, NULL, 10) + 2 : 0);
+}
+
+static int is_right(const struct connection *c) {
+    if (server == REDIS)
+        return c->method == GET ? !strncmp(c->answer, "$100\r\n", 6) : !strncmp(c->answer, "+OK", 3);
+    int status = atoi(c->answer + 9);
+    if (c->method == GET)
+        return status == 200 || (method == REWRITE && status == 404);
+    return status == 200 || status == 201 || status == 204;
+}
+
+// Keeps the line of the context that a read told.
+static void keep_context(struct connection *c) {
+    const char *field = strstr(c->answer, "X-Riak-Vclock:");
+    size_t length = field ? strstr(field, "\r\n") + 2 - field : 0;
+    if (length >= CONTEXT)
+        fail("the context is too long");
+    if (length)
+        memcpy(c->context, field, length);
+    c->context[length] = 0;
+}
+
+// Reads what has come. Whether the answer is whole.
+static int hear(struct connection *c) {
+    ssize_t n = recv(c->socket, c->answer + c->length, ROOM - c->length, 0);
+    if (n <= 0)
+        fail("the connection ended");
+    c->length += n;
+    c->answer[c->length] = 0;
+    size_t whole = server == REDIS ? redis_length(c->answer) : http_length(c->answer);
+    if (!whole || c->length < whole)
+        return 0;
+    if (c->length > whole || !is_right(c))
+        fail("the answer was %s", c->answer);
+    if (method == REWRITE && c->method == GET)
+        keep_context(c);
+    return 1;
+}
+
+static void note(struct asker *a, const struct connection *c, double time) {
+    unsigned long took = (time - c->sent) * 1e6;
+    a->times[took < SLOWEST ? took : SLOWEST]++;
+    a->told++;
+}
+
+static void *ask_all(void *given) {
+    struct asker *a = given;
+    struct epoll_event events[MOST];
+    int waits = epoll_create1(0);
+    double end = now() + seconds;
+    for (int i = 0; i < a->count; i++) {
+        struct epoll_event event = {.events = EPOLLIN, .data.ptr = &a->connections[i]};
+        epoll_ctl(waits, EPOLL_CTL_ADD, a->connections[i].socket, &event);
+        ask(&a->connections[i]);
+    }
+    for (int open = a->count; open > 0;) {
+        int ready = epoll_wait(waits, events, MOST, 10000);
+        if (ready <= 0)
+            fail("no answer came for ten seconds");
+        for (int i = 0; i < ready; i++) {
+            struct connection *c = events[i].data.ptr;
+            if (!hear(c))
+                continue;
+            double time = now();
+            note(a, c, time);
+            if (time < end)
+                ask(c);
+            else
+                open--;
+        }
+    }
+    close(waits);
+    return NULL;
+}
+
+static void join(struct connection *c) {
+    struct sockaddr_in address = {.sin_family = AF_INET, .sin_port = htons(port), .sin_addr.s_addr = htonl(INADDR_LOOPBACK)};
+    int yes = 1;
+    c->socket = socket(AF_INET, SOCK_STREAM, 0);
+    if (connect(c->socket, (struct sockaddr *)&address, sizeof address))
+        fail("no connection to port %d", port);
+    setsockopt(c->socket, IPPROTO_TCP, TCP_NODELAY, &yes, sizeof yes);
+}
+
+// The microseconds in which this part of all answers came.
+static unsigned within(struct asker *askers, int threads, unsigned long told, double part) {
+    unsigned long sum = 0;
+    for (unsigned took = 0; took < SLOWEST; took++) {
+        for (int t = 0; t < threads; t++)
+            sum += askers[t].times[took];
+        if (sum >= told * part)
+            return took;
+    }
+    return SLOWEST;
+}
+
+int main(int count, char **words) {
+    if (count < 6)
+        fail("asker store|etcd|redis PUT|GET|REWRITE PORT CONNECTIONS SECONDS [THREADS [FIRST]]");
+    server = words[1][0] == 's' ? STORE : words[1][0] == 'e' ? ETCD : REDIS;
+    method = words[2][0] == 'P' ? PUT : words[2][0] == 'G' ? GET : REWRITE;
+    port = atoi(words[3]);
+    seconds = atof(words[5]);
+    first = count > 7 ? strtoul(words[7], NULL, 10) : 0;
+    int connections = atoi(words[4]), threads = count > 6 ? atoi(words[6]) : 1;
+    if (server != STORE && method == REWRITE)
+        fail("only this store has contexts");
+    if (threads < 1 || connections < threads || connections > MOST)
+        fail("1 to %d connections, and no more threads than connections", MOST);
+    memset(value, 'x', VALUE);
+    struct connection *all = calloc(connections, sizeof *all);
+    struct asker *askers = calloc(threads, sizeof *askers);
+    pthread_t *ids = calloc(threads, sizeof *ids);
+    for (int i = 0; i < connections; i++) {
+        all[i].number = i;
+        join(&all[i]);
+    }
+    double start = now();
+    for (int t = 0, next = 0; t < threads; t++) {
+        askers[t].connections = all + next;
+        askers[t].count = connections / threads + (t < connections % threads);
+        next += askers[t].count;
+        if (pthread_create(&ids[t], NULL, ask_all, &askers[t]))
+            fail("no thread");
+    }
+    unsigned long told = 0;
+    for (int t = 0; t < threads; t++) {
+        pthread_join(ids[t], NULL);
+        told += askers[t].told;
+    }
+    double took = now() - start;
+    for (int i = 0; i < connections; i++)
+        close(all[i].socket);
+    printf("%.0f %u %u\n", told / took, within(askers, threads, told, 0.5), within(askers, threads, told, 0.99));
+    return 0;
+}
