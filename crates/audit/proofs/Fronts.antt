@@ -16,7 +16,7 @@ use Rattle.journal.specs.Logs.{Log, with_entry, max_entries}
 use Rattle.journal.specs.Replay.{IsReplay}
 use Rattle.journal.specs.Stamps.{stamp_of}
 use Rattle.world.specs.Represents.{AreDistinct, log_at, empty_logs, with_entry_at}
-use Rattle.audit.specs.declared.turns.Head.{Head}
+use Rattle.audit.specs.declared.heads.Head.{Head}
 use Rattle.audit.specs.declared.auditing.AuditCode.{AuditCode}
 use Rattle.audit.specs.declared.auditing.AuditFault.TheVariants.{Found}
 use Rattle.audit.specs.declared.fault.FollowCode.{FollowCode}

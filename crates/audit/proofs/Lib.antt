@@ -1,4 +1,4 @@
-pub mod Heads
+pub mod Firsts
 pub mod Rising
 pub mod Sorting
 pub mod Ran

@@ -11,7 +11,7 @@ use Rattle.audit.specs.Turns.{EntryIn, IsNotAfter}
 use Rattle.audit.specs.Faulty.{FallsIn, FallsAt, NoneFalls}
 use Rattle.audit.specs.Sorting.{NoneFallsIn, IsFallOf, IsFallNotAfter, NoneFallsBelow, IsFirstFallBelow}
 use Rattle.audit.specs.declared.stamps.Fall.{Fall}
-use Rattle.audit.proofs.Heads.{not_after_trans}
+use Rattle.audit.proofs.Firsts.{not_after_trans}
 
 -- one entry stands at a place
 pub one_entry : (logs : List Log) (index place : ℕ) (a b : Entry) → EntryIn logs index place a → EntryIn logs index place b → a ≡ b

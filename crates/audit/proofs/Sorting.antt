@@ -7,13 +7,13 @@ use Rattle.journal.specs.Logs.{Log}
 use Rattle.world.specs.Represents.{log_at, AreDistinct}
 use Rattle.journal.specs.Stamps.{stamp_of}
 use Rattle.audit.specs.Interleaved.{ids_of}
-use Rattle.audit.specs.declared.turns.Head.{Head}
+use Rattle.audit.specs.declared.heads.Head.{Head}
 use Rattle.audit.specs.Turns.{EntryIn, HasHappened, IsToCome, IsNotAfter, IsNextBelow, IsHead, NoneBelow, count_at}
 use Rattle.audit.specs.Faulty.{NoneFalls, NoneTwice, TwiceAt, IsFault}
 use Rattle.audit.specs.declared.auditing.AuditFault.TheVariants.{Found}
 use Rattle.audit.specs.declared.auditing.AuditCode.TheVariants.{Twice}
 use Rattle.audit.specs.Sorting.{left, IsSplit, IsOnce, IsLast}
-use Rattle.audit.proofs.Heads.{not_after_trans}
+use Rattle.audit.proofs.Firsts.{not_after_trans}
 use Rattle.audit.proofs.Rising.{rises, rises_or_same, entry_before, one_entry}
 
 -- the journal whose entry is next has one entry more
@@ -237,11 +237,3 @@ all_once logs counts once none v p s (other, there, a, b, at_a, at_b, stamp_a, s
     let i : at_a.0 ≡ at_b.0 = once at_a.0 there a at_b.0 p b (all_happened logs counts none at_a.0 there a at_a.2) (all_happened logs counts none at_b.0 p b at_b.2) (stamp_a ∙ sym stamp_b) in
     let same : other ≡ v = sym at_a.1 ∙ ap (λ (j : ℕ). (log_at logs j).vnode) i ∙ at_b.1 in
     absurd (omega arith)
-
--- the next one, as it was told
-pub next_told : (logs : List Log) (n : ℕ) (told counts : List ℕ) (head : Head) → length logs ≡ n → told ≡ counts → IsNextBelow logs told n head → IsNextBelow logs counts (length logs) head
-next_told logs n told counts head size same next = subst (λ (xs : List ℕ). IsNextBelow logs xs (length logs) head) same (subst (λ (m : ℕ). IsNextBelow logs told m head) (sym size) next)
-
--- the place of the next one, as it was read
-pub count_read : (logs : List Log) (counts : List ℕ) (head : Head) (place : ℕ) → IsSplit logs counts → IsNextBelow logs counts (length logs) head → place ≡ get_or counts head.index place → place ≡ count_at counts head.index
-count_read logs counts head place split next is = is ∙ same_default counts head.index place 0 (omega (arith, next.0, split.size))

@@ -1,10 +1,12 @@
 -- Whose entry is next, where some of the entries of each journal have happened.
-use Rattle.std.specs.Prelude.{◌≡◌, ℕ, ◌<◌, ◌≤◌, ◌⊎◌, List, length, slice_get, slice_index_or, Some}
+use Rattle.std.specs.Prelude.{◌≡◌, ℕ, ◌<◌, ◌≤◌, ◌⊎◌, List, All, length, slice_get, slice_index_or, Option, None, Some, MatchOption, IsPermutation, ◌∷◌, sum_by, ◌==◌, if◌then◌else◌}
+use Rattle.std.specs.Ordering.{nat_cmp, on, flip_args, then_cmp}
+use Rattle.std.specs.declared.cmp.Ordering.{Ordering}
 use Rattle.journal.specs.Entry.{Entry}
 use Rattle.journal.specs.Logs.{Log}
 use Rattle.world.specs.Represents.{log_at}
 use Rattle.journal.specs.Stamps.{stamp_of}
-use Rattle.audit.specs.declared.turns.Head.{Head}
+use Rattle.audit.specs.declared.heads.Head.{Head}
 
 -- an entry of the journal with this index
 abbrev pub EntryIn : List Log → ℕ → ℕ → Entry → Type 0
@@ -49,3 +51,33 @@ IsNextBelow logs counts end head = (head.index < end) × IsHeadOf logs counts he
 -- all entries of the journals before this index have happened
 abbrev pub NoneBelow : List Log → List ℕ → ℕ → Type 0
 NoneBelow logs counts end = (index : ℕ) (e : Entry) → index < end → IsHead logs counts index e → ⊥
+
+-- the later of two heads in that order is the less, so that the greatest one is next
+abbrev pub head_cmp : Head → Head → Ordering
+head_cmp = then_cmp (then_cmp (flip_args (on (λ h. h.stamp) nat_cmp)) (flip_args (on (λ h. h.vnode) nat_cmp))) (flip_args (on (λ h. h.index) nat_cmp))
+
+-- how many of some heads are of the journal with this index
+abbrev pub heads_at : ℕ → List Head → ℕ
+heads_at index heads = sum_by (λ head. if head.index == index then 1 else 0) heads
+
+-- how many are due: one, where an entry is to come
+abbrev pub due : Option Entry → ℕ
+due None = 0
+due (Some e) = 1
+
+-- the heads of the journals before this index that have one
+pub record AreHeadsBelow (logs : List Log) (counts : List ℕ) (end : ℕ) (heads : List Head) : Type 0 where
+  pub each : All (λ head. (head.index < end) × IsHeadOf logs counts head.index head) heads
+  pub all : (index : ℕ) → index < end → heads_at index heads ≡ due (slice_get (log_at logs index).entries (count_at counts index))
+
+-- those of all journals
+abbrev pub AreHeads : List Log → List ℕ → List Head → Type 0
+AreHeads logs counts heads = AreHeadsBelow logs counts (length logs) heads
+
+-- the head of the journal with this index comes to others, where it has one
+abbrev pub Joins : List Log → List ℕ → ℕ → List Head → List Head → Type 0
+Joins logs counts index old new = MatchOption (slice_get (log_at logs index).entries (count_at counts index)) (new ≡ old) (λ e. (head : Head) × IsHeadOf logs counts index head × IsPermutation (head ∷ old) new)
+
+-- the next one of some heads, of which the others are left
+abbrev pub Leaves : List Head → Head → List Head → Type 0
+Leaves old head new = IsPermutation old (head ∷ new) × All (λ other. IsHeadNotAfter head other) old

@@ -5,6 +5,7 @@ mod again;
 mod auditing;
 mod fault;
 mod followed;
+mod heads;
 mod kept;
 mod rerun;
 mod sources;

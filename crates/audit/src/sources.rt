@@ -11,9 +11,9 @@ ghost use Rattle.audit.specs.Turns.{IsNextBelow, count_at};
 
 use crate::auditing::{AuditCode, AuditFault};
 use crate::fault::{FollowCode, FollowFault};
+use crate::heads::Head;
 use crate::rerun::Rerun;
-use crate::stamps::place_of;
-use crate::turns::{Head, entry_at, next_of, vnode_at};
+use crate::turns::{entry_at, heads_of, join, next_of, vnode_at};
 use journal::Whole;
 use std::alloc::{AllocError, Global};
 
@@ -58,6 +58,7 @@ fn go_on(
     journals: &[Whole<'_>],
     counts: &mut [usize],
     head: Head,
+    place: u32,
     rerun: &mut Rerun,
 ) -> Result<(), AuditFault>
     requires distinct { AreDistinct (ids_of journals.now) }
@@ -68,27 +69,26 @@ fn go_on(
     requires going { rerun.old.fault ≡ None }
     requires all { max_entries ≤ rerun.old.recent }
     requires next { IsNextBelow journals.now counts.old (length journals.now) head }
+    requires place { place ≡ count_at counts.old head.index }
     ensures run { OnOk result (HasRun journals.now counts.new rerun.new.logs) }
     ensures counts { OnOk result (counts.new ≡ slice_set counts.old head.index (count_at counts.old head.index + 1)) }
     ensures going { OnOk result (rerun.new.fault ≡ None) }
     ensures all { rerun.new.recent ≡ rerun.old.recent }
     ensures err { IfErr result (IsFault journals.now) }
 {
-    let place = counts[head.index];
-    let here = place_of(journals, head.index, place);
-    let Some(entry) = entry_at(journals, head.index, place) else {
+    let Some(entry) = entry_at(journals, head.index, place as usize) else {
         unreachable!()
     };
     match rerun.go_on(head.index, entry) {
         Ok(()) => {
-            counts[head.index] = place + 1;
+            counts[head.index] = place as usize + 1;
             Ok(())
         }
         Err(FollowFault::NoMemory) => Err(AuditFault::NoMemory),
         Err(FollowFault::Found { code, .. }) => Err(AuditFault::Found {
             code: code_of(code),
             vnode: head.vnode,
-            place: here,
+            place,
         }),
     }
 }
@@ -105,8 +105,10 @@ pub(crate) fn check_sources(alloc: Global, journals: &[Whole<'_>]) -> Result<(),
 {
     let mut rerun = open(alloc, journals)?;
     let mut counts = vec![in alloc; 0; journals.len()]?;
-    while let Some(head) = next_of(journals, &counts) {
-        go_on(journals, &mut counts, head, &mut rerun)?;
+    let mut heads = heads_of(alloc, journals, &counts)?;
+    while let Some((head, place)) = next_of(journals, &counts, &mut heads) {
+        go_on(journals, &mut counts, head, place, &mut rerun)?;
+        join(journals, &counts, head.index, &mut heads)?;
     }
     Ok(())
 }

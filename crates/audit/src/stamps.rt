@@ -11,7 +11,7 @@ ghost use Rattle.journal.specs.Entry.{Entry as Entered};
 ghost use Rattle.audit.specs.declared.auditing.AuditCode.TheVariants.{Falls};
 
 use crate::auditing::{AuditCode, AuditFault};
-use crate::turns::{entry_at, next_of, vnode_at};
+use crate::turns::{entry_at, heads_of, join, len_at, next_of, vnode_at};
 use journal::Whole;
 use std::alloc::Global;
 
@@ -41,15 +41,6 @@ fn stamp_at(journals: &[Whole<'_>], index: usize, place: usize) -> u64
         Some(entry) => entry.stamp(),
         None => unreachable!(),
     }
-}
-
-// How many entries the journal with this index has.
-fn len_at(journals: &[Whole<'_>], index: usize) -> usize
-    requires inside { index < length journals.now }
-    ensures len { result ≡ length (log_at journals.now index).entries }
-    ensures limit { result ≤ 2 ^ 32 }
-{
-    journals[index].len()
 }
 
 // The first place of a journal whose stamp isn't above the one before it.
@@ -106,16 +97,6 @@ pub(crate) fn check_rising(journals: &[Whole<'_>]) -> Result<(), AuditFault>
     }
 }
 
-// A place of a journal, which has at most 2^32.
-pub(crate) fn place_of(journals: &[Whole<'_>], index: usize, place: usize) -> u32
-    requires inside { index < length journals.now }
-    requires there { place < length (log_at journals.now index).entries }
-    ensures { result ≡ place }
-{
-    let _len = len_at(journals, index);
-    place as u32
-}
-
 // Whether a stamp is the last one.
 fn is_last(last: Option<u64>, stamp: u64) -> bool
     ensures { MatchBool result (last ≡ Some stamp) (last ≢ Some stamp) }
@@ -134,19 +115,19 @@ pub(crate) fn check_single(alloc: Global, journals: &[Whole<'_>]) -> Result<(), 
     ensures err { IfErr result (IsFault journals.now) }
 {
     let mut counts = vec![in alloc; 0; journals.len()]?;
+    let mut heads = heads_of(alloc, journals, &counts)?;
     let mut last = None;
-    while let Some(head) = next_of(journals, &counts) {
-        let place = counts[head.index];
-        let here = place_of(journals, head.index, place);
+    while let Some((head, place)) = next_of(journals, &counts, &mut heads) {
         if is_last(last, head.stamp) {
             return Err(AuditFault::Found {
                 code: AuditCode::Twice,
                 vnode: head.vnode,
-                place: here,
+                place,
             });
         }
         last = Some(head.stamp);
-        counts[head.index] = place + 1;
+        counts[head.index] = place as usize + 1;
+        join(journals, &counts, head.index, &mut heads)?;
     }
     Ok(())
 }

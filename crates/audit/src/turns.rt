@@ -1,30 +1,14 @@
 //! Whose entry is next: the lowest stamp of those that are to come.
 
-ghost use Rattle.std.specs.Prelude.{◌≡◌, ◌⊎◌, ◌<◌, length, slice_get, IfSome, MatchBool, MatchOption, None, Some};
+ghost use Rattle.std.specs.Prelude.{◌≡◌, ◌<◌, ◌≤◌, ◌^◌, length, slice_get, IfOk, MatchOption, OnOk, Some};
 ghost use Rattle.std.specs.Option.{option_copied};
 ghost use Rattle.journal.specs.Entry.{Entry as Entered};
 ghost use Rattle.world.specs.Represents.{log_at};
-ghost use Rattle.journal.specs.Stamps.{stamp_of};
-ghost use Rattle.audit.specs.Turns.{count_at, IsHead, IsHeadOf, IsHeadNotAfter, IsNextBelow, NoneBelow};
+ghost use Rattle.audit.specs.Turns.{AreHeads, IsHead, IsHeadOf, IsNextBelow, Joins, Leaves, NoneBelow, count_at};
 
+use crate::heads::{Head, Heads};
 use journal::{Entry, Whole};
-
-/// The first entry of a journal that is to come.
-#[derive(Clone, Copy, Drop)]
-pub(crate) struct Head {
-    pub(crate) index: usize,
-    pub(crate) vnode: u32,
-    pub(crate) stamp: u64,
-}
-
-impl Head {
-    // Whether it comes before another: by stamp, and then by vnode.
-    fn is_before(self, other: Head) -> bool
-        ensures { MatchBool result (IsHeadNotAfter self other) (IsHeadNotAfter other self) }
-    {
-        self.stamp < other.stamp || (self.stamp == other.stamp && self.vnode <= other.vnode)
-    }
-}
+use std::alloc::{AllocError, Global};
 
 // Whose journal the one with this index is.
 pub(crate) fn vnode_at(journals: &[Whole<'_>], index: usize) -> u32
@@ -67,26 +51,79 @@ fn head_of(journals: &[Whole<'_>], counts: &[usize], index: usize) -> Option<Hea
     }
 }
 
-// The first of two heads.
-fn first_of(a: Option<Head>, b: Option<Head>) -> Option<Head>
-    ensures one { (result ≡ a) ⊎ (result ≡ b) }
-    ensures first { MatchOption result ((a ≡ None) × (b ≡ None)) (λ head. IfSome a (λ other. IsHeadNotAfter head other) × IfSome b (λ other. IsHeadNotAfter head other)) }
+// The head of a journal comes to others, where it has one.
+pub(crate) fn join(
+    journals: &[Whole<'_>],
+    counts: &[usize],
+    index: usize,
+    heads: &mut Heads,
+) -> Result<(), AllocError>
+    requires inside { index < length journals.now }
+    requires size { length counts.now ≡ length journals.now }
+    ensures { OnOk result (Joins journals.now counts.now index heads.old heads.new) }
 {
-    match (a, b) {
-        (Some(own), Some(other)) => { if own.is_before(other) { a } else { b } }
-        (Some(_), None) => a,
-        (None, _) => b,
+    match head_of(journals, counts, index) {
+        Some(head) => heads.push(head),
+        None => Ok(()),
     }
 }
 
-// The next entry of all: the first by stamp and then by vnode, where any is to come.
-pub(crate) fn next_of(journals: &[Whole<'_>], counts: &[usize]) -> Option<Head>
+// The heads of all journals.
+pub(crate) fn heads_of(
+    alloc: Global,
+    journals: &[Whole<'_>],
+    counts: &[usize],
+) -> Result<Heads, AllocError>
     requires size { length counts.now ≡ length journals.now }
-    ensures { MatchOption result (NoneBelow journals.now counts.now (length journals.now)) (λ head. IsNextBelow journals.now counts.now (length journals.now) head) }
+    ensures { IfOk result (λ heads. AreHeads journals.now counts.now heads) }
 {
-    let mut next = None;
+    let mut heads = Heads::new(alloc);
     for index in 0..journals.len() {
-        next = first_of(next, head_of(journals, counts, index));
+        join(journals, counts, index, &mut heads)?;
     }
-    next
+    Ok(heads)
+}
+
+// How many entries the journal with this index has.
+pub(crate) fn len_at(journals: &[Whole<'_>], index: usize) -> usize
+    requires inside { index < length journals.now }
+    ensures len { result ≡ length (log_at journals.now index).entries }
+    ensures limit { result ≤ 2 ^ 32 }
+{
+    journals[index].len()
+}
+
+// A place of a journal, which has at most 2^32.
+fn place_of(journals: &[Whole<'_>], index: usize, place: usize) -> u32
+    requires inside { index < length journals.now }
+    requires there { place < length (log_at journals.now index).entries }
+    ensures { result ≡ place }
+{
+    let _len = len_at(journals, index);
+    place as u32
+}
+
+// The place of the next entry of all.
+fn place_at(journals: &[Whole<'_>], counts: &[usize], head: Head) -> u32
+    requires size { length counts.now ≡ length journals.now }
+    requires next { IsNextBelow journals.now counts.now (length journals.now) head }
+    ensures { result ≡ count_at counts.now head.index }
+{
+    place_of(journals, head.index, counts[head.index])
+}
+
+// The next entry of all: its journal's head, which leaves the others, and its place there.
+pub(crate) fn next_of(
+    journals: &[Whole<'_>],
+    counts: &[usize],
+    heads: &mut Heads,
+) -> Option<(Head, u32)>
+    requires size { length counts.now ≡ length journals.now }
+    requires heads { AreHeads journals.now counts.now heads.old }
+    ensures { MatchOption result (NoneBelow journals.now counts.now (length journals.now)) (λ next. IsNextBelow journals.now counts.now (length journals.now) next.0 × (next.1 ≡ count_at counts.now next.0.index) × Leaves heads.old next.0 heads.new) }
+{
+    match heads.pop() {
+        Some(head) => Some((head, place_at(journals, counts, head))),
+        None => None,
+    }
 }
