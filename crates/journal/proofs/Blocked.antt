@@ -1,7 +1,9 @@
 -- Entries in blocks are counted, and found, by a division.
-use Rattle.std.proofs.Common.{◌≡◌, refl, ap, ◌∙◌, arith, ℕ, zero, suc, ◌+◌, ◌*◌, ◌-◌, ◌/◌, ◌%◌, ◌<◌, ◌≤◌, List, [], ◌∷◌, ◌++◌, length, Some, length-append, append_assoc, slice_get}
+use Rattle.std.proofs.Common.{◌≡◌, refl, ap, ◌∙◌, arith, ℕ, zero, suc, ◌+◌, ◌*◌, ◌-◌, ◌/◌, ◌%◌, ◌<◌, ◌≤◌, List, [], ◌∷◌, ◌++◌, length, Some, length-append, append_assoc, slice_get, take, sym}
 use Rattle.std.specs.List.{All, flat_map}
 use Rattle.std.specs.Global.{Vec}
+use Rattle.std.proofs.lemmas.List.{take-append-le}
+use Rattle.std.proofs.Math.Seq.{take-append-add}
 use Rattle.std.proofs.lemmas.List.Elements.{All-head, All-tail}
 use Rattle.journal.specs.Entry.{Entry}
 use Rattle.journal.specs.Blocks.{all_of, in_blocks, IsFullBlock}
@@ -53,6 +55,35 @@ module _ (last : List Entry) where
       → slice_get (in_blocks closed last) k ≡ slice_get last (k - length closed * 1024)
   in_last closed full k past =
       behind (flat_map (λ b. b.items) closed) last k (k - length closed * 1024) (let size = long closed full in let whole = length-append (flat_map (λ b. b.items) closed) last in omega arith)
+
+-- the first entries, cut behind the first block
+cut_behind : (first : Vec Entry) (closed : List (Vec Entry)) (last rest : List Entry) (n : ℕ) → IsFullBlock first → 1024 ≤ n → take (n - 1024) (in_blocks closed last) ≡ rest
+    → take n (in_blocks (first ∷ closed) last) ≡ first.items ++ rest
+cut_behind first closed last rest n size past is =
+    ap (take n) (joined last first closed) ∙ ap (λ k. take k (first.items ++ in_blocks closed last)) (omega (arith, size, past))
+    ∙ take-append-add first.items (in_blocks closed last) (n - 1024) ∙ ap (λ xs. first.items ++ xs) is
+
+-- the first entries, cut behind the closed blocks
+pub cut_last : (closed : List (Vec Entry)) (last : List Entry) → All IsFullBlock closed → (n : ℕ) → length closed * 1024 ≤ n
+    → take n (in_blocks closed last) ≡ in_blocks closed (take (n - length closed * 1024) last)
+cut_last [] last full n past = ap (λ k. take k last) (omega arith)
+cut_last (first ∷ closed) last full n past =
+    cut_behind first closed last (in_blocks closed (take (n - length (first ∷ closed) * 1024) last)) n (All-head IsFullBlock first closed full) (omega (arith, past))
+    (cut_last closed last (All-tail IsFullBlock first closed full) (n - 1024) (omega (arith, past)) ∙ ap (λ k. in_blocks closed (take k last)) (omega arith))
+    ∙ sym (joined (take (n - length (first ∷ closed) * 1024) last) first closed)
+
+-- and cut within a closed block
+pub cut_block : (closed : List (Vec Entry)) (last : List Entry) → All IsFullBlock closed → (n at : ℕ) (block : Vec Entry) → slice_get closed at ≡ Some block → at * 1024 ≤ n → n ≤ at * 1024 + 1024
+    → take n (in_blocks closed last) ≡ in_blocks (take at closed) (take (n - at * 1024) block.items)
+cut_block [] last full n at block here past within = cc
+cut_block (first ∷ closed) last full n zero block here past within =
+    let size = All-head IsFullBlock first closed full in
+    let is : first ≡ block = cc in
+    ap (take n) (joined last first closed) ∙ take-append-le n first.items (in_blocks closed last) (omega (arith, size, within)) ∙ ap (λ k. take k first.items) (omega arith) ∙ ap (λ (b : Vec Entry). take (n - zero * 1024) b.items) is
+cut_block (first ∷ closed) last full n (suc at) block here past within =
+    cut_behind first closed last (in_blocks (take at closed) (take (n - suc at * 1024) block.items)) n (All-head IsFullBlock first closed full) (omega (arith, past))
+    (cut_block closed last (All-tail IsFullBlock first closed full) (n - 1024) at block here (omega (arith, past)) (omega (arith, within)) ∙ ap (λ k. in_blocks (take at closed) (take k block.items)) (omega arith))
+    ∙ sym (joined (take (n - suc at * 1024) block.items) first (take at closed))
 
 -- where there is a full block there is an entry
 pub has_entry : (blocks : List (Vec Entry)) → All IsFullBlock blocks → 1 ≤ length blocks → 1 ≤ length (all_of blocks)

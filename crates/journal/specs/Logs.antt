@@ -15,6 +15,10 @@ pub record Log : Type 0 where
 abbrev pub with_entry : Log → Entry → Log
 with_entry log e = record { vnode = log.vnode; entries = log.entries ++ e ∷ [] }
 
+-- so many more entries
+abbrev pub with_entries : Log → List Entry → Log
+with_entries log es = record { vnode = log.vnode; entries = log.entries ++ es }
+
 -- a log, how many of its entries were handed out, and how many can be added before it has to grow
 pub record RoomyLog : Type 0 where
   pub log : Log

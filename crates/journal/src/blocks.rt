@@ -1,6 +1,6 @@
 //! Entries in blocks.
 
-ghost use Rattle.std.specs.Prelude.{◌≡◌, ◌≤◌, ◌<◌, ◌++◌, ◌∷◌, [], OnOk, OnErr, List, All, length, slice_get};
+ghost use Rattle.std.specs.Prelude.{◌≡◌, ◌≤◌, ◌<◌, ◌++◌, ◌∷◌, [], OnOk, OnErr, List, All, length, slice_get, take, ◌+◌};
 ghost use Rattle.std.specs.Option.{option_copied};
 ghost use Rattle.journal.specs.Blocks.{all_of, IsFullBlock};
 
@@ -86,6 +86,47 @@ impl Blocks {
         ensures { self.new.entries ≡ self.old.entries ++ entry ∷ [] }
     {
         let _ = self.last.push(entry);
+    }
+
+    /// Adds these entries in their order, or none of them.
+    pub(crate) fn extend(&mut self, entries: Vec<Entry>) -> Result<(), AllocError>
+        requires below { length self.old.entries + length entries.items ≤ max_entries }
+        ensures entries { OnOk result (self.new.entries ≡ self.old.entries ++ entries.items) }
+        ensures err { OnErr result (self.new.entries ≡ self.old.entries) }
+    {
+        let count = self.len();
+        let added = self.add_each(entries);
+        if added.is_err() {
+            self.truncate(count);
+        }
+        added
+    }
+
+    // Adds entries as far as there is memory.
+    fn add_each(&mut self, entries: Vec<Entry>) -> Result<(), AllocError>
+        requires below { length self.old.entries + length entries.items ≤ max_entries }
+        ensures entries { OnOk result (self.new.entries ≡ self.old.entries ++ entries.items) }
+        ensures front { take (length self.old.entries) self.new.entries ≡ self.old.entries }
+    {
+        for entry in entries {
+            self.reserve()?;
+            self.append(entry);
+        }
+        Ok(())
+    }
+
+    // Keeps the first so many entries.
+    fn truncate(&mut self, count: usize)
+        ensures { self.new.entries ≡ take count self.old.entries }
+    {
+        let full = count / BLOCK;
+        if full >= self.closed.len() {
+            self.last.truncate(count - self.closed.len() * BLOCK);
+            return;
+        }
+        mem::swap(&mut self.closed[full], &mut self.last);
+        self.closed.truncate(full);
+        self.last.truncate(count % BLOCK);
     }
 
     /// Takes the full blocks out, and has that room for the next ones in their place.

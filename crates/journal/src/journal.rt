@@ -59,7 +59,7 @@ impl Model for Journal {
 }
 
 impl Journal {
-    ghost use Rattle.journal.specs.Logs.{max_entries, with_entry};
+    ghost use Rattle.journal.specs.Logs.{max_entries, with_entry, with_entries};
     ghost use Rattle.journal.specs.Limits.{TakesEntry, IsFull};
 
     /// No entry.
@@ -111,6 +111,13 @@ impl Journal {
         ensures room { result ≡ false → TakesEntry self.now.log.entries }
     {
         self.len() == MAX_LENGTH
+    }
+
+    /// Whether so many entries more can be added.
+    pub fn has_places(&self, count: usize) -> bool
+        ensures { IsTrue result ↔ (length self.now.log.entries + count ≤ max_entries) }
+    {
+        count <= MAX_LENGTH - self.len()
     }
 
     /// The entry at a place. None where it was handed out, or there is none yet.
@@ -185,5 +192,18 @@ impl Journal {
     {
         self.reserve()?;
         Ok(self.append(entry))
+    }
+
+    /// Adds entries in their order, or none of them where one is refused.
+    pub fn extend(&mut self, entries: Vec<Entry>) -> Result<(), JournalFault>
+        ensures entries { OnOk result (self.new.log ≡ with_entries self.old.log entries.items) }
+        ensures full { result ≡ Err JournalFault.Full ↔ (max_entries < length self.old.log.entries + length entries.items) }
+        ensures err { OnErr result (self.new.log ≡ self.old.log) }
+        ensures first { self.new.first ≡ self.old.first }
+    {
+        if !self.has_places(entries.len()) {
+            return Err(JournalFault::Full);
+        }
+        Ok(self.here.extend(entries)?)
     }
 }
