@@ -1,10 +1,11 @@
 //! A vnode: what its journal says happened.
 
-ghost use Rattle.std.specs.Prelude.{◌≡◌, ◌≢◌, ◌↔◌, Contains, OnOk, OnErr, IfOk, IfErr, [], length, Err};
+ghost use Rattle.std.specs.Prelude.{◌≡◌, ◌≢◌, ◌↔◌, Contains, IsTrue, OnOk, OnErr, IfOk, IfErr, [], length, Err, List, ◌+◌, ◌^◌, ◌≤◌, ◌<◌, ◌⊎◌, All};
 
 use crate::fault::VnodeFault;
 use crate::steps::{
-    copies_at, keys_in, merge_at, merge_refusal_at, merged_of, put_at, put_refusal_at, write_of,
+    Copied, copies_at, has_places_for, keys_in, merge_at, merge_refusal_at, merged_of, put_at,
+    put_refusal_at, read_all_at, write_of,
 };
 use dvv::{Clock, Dot};
 use journal::{Entry, Handout, Journal, Merged, Write};
@@ -34,7 +35,7 @@ impl Model for Vnode {
 
 impl Vnode {
     ghost use Rattle.journal.specs.Entry.{Put, Merge, Read, Restart};
-    ghost use Rattle.journal.specs.Logs.{Log, with_entry};
+    ghost use Rattle.journal.specs.Logs.{Log, with_entry, with_entries, max_entries};
     ghost use Rattle.object.specs.declared.content.Key.{Key};
     ghost use Rattle.object.specs.State.{State};
     ghost use Rattle.std.specs.List.Sorted.{IsStrictlySortedBy};
@@ -45,6 +46,8 @@ impl Vnode {
     ghost use Rattle.journal.specs.Answers.{TellsChange};
     ghost use Rattle.vnode.specs.declared.fault.VnodeFault.{VnodeFault};
     ghost use Rattle.journal.specs.Blocks.{AreHandedOut};
+    ghost use Rattle.vnode.specs.Keys.{AreKeys, reads_of};
+    ghost use Rattle.vnode.specs.States.{keys_of};
     ghost use Rattle.vnode.specs.Refusals.{RefusesPut, RefusesMerge, RefusesEntry};
 
     /// A vnode at which nothing has happened.
@@ -212,6 +215,32 @@ impl Vnode {
         let (own, state) = copies_at(self.alloc, &self.states, key)?;
         let place = self.journal.append(Entry::read(stamp, own));
         Ok((state, place))
+    }
+
+    /// Whether the journal has places for a read of each key at which something is known.
+    pub fn can_read_all(&self) -> bool
+        ensures { (keys : List Key) × AreKeys self.now keys × (IsTrue result ↔ (length self.now.entries + length keys ≤ max_entries)) }
+    {
+        has_places_for(&self.journal, &self.states)
+    }
+
+    /// Copies the state of each key at which something is known, in the order of bytes of the keys. Answers them, and the place of the
+    /// first entry: each copy has one, with stamps in a row. Where one is refused there is none of them.
+    pub fn read_all(&mut self, stamp: u64) -> Result<(Vec<Copied>, usize), VnodeFault>
+        requires { stamp + max_entries ≤ 2 ^ 64 }
+        ensures keys { IfOk result (λ read. AreKeys self.old (keys_of read.0.items)) }
+        ensures states { IfOk result (λ read. All (λ c. IsReplay self.old.entries c.key c.state) read.0.items) }
+        ensures place { IfOk result (λ read. read.1 ≡ length self.old.entries) }
+        ensures entries { IfOk result (λ read. self.new ≡ with_entries self.old (reads_of stamp (keys_of read.0.items))) }
+        ensures places { IfOk result (λ read. length self.old.entries + length (keys_of read.0.items) ≤ max_entries) }
+
+        // Want of memory is told only where the journal has places for all of them.
+        ensures full { (keys : List Key) × AreKeys self.old keys × (result ≡ Err VnodeFault.JournalFull ↔ (max_entries < length self.old.entries + length keys)) }
+        ensures why { IfErr result (λ fault. (fault ≡ VnodeFault.JournalFull) ⊎ (fault ≡ VnodeFault.NoMemory)) }
+        ensures err { OnErr result (self.new ≡ self.old) }
+        ensures legal { IsJournal self.new.vnode self.new.entries }
+    {
+        read_all_at(self.alloc, &self.states, &mut self.journal, stamp)
     }
 
     /// Starts again. Nothing is lost. Answers the place of the entry.
