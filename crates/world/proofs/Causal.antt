@@ -1,5 +1,5 @@
 -- A run keeps its puts causal.
-use Rattle.std.proofs.Common.{◌≡◌, ◌≢◌, ℕ, zero, suc, ◌+◌, ◌≤◌, true, cond, List, [], ◌∷◌, ◌++◌, length, get_or, refl, sym, ap, subst, ◌∙◌, inl, inr, arith}
+use Rattle.std.proofs.Common.{◌≡◌, ◌≢◌, ℕ, zero, suc, ◌+◌, ◌≤◌, ◌⊎◌, true, cond, List, [], ◌∷◌, ◌++◌, length, get_or, set, refl, sym, ap, subst, ◌∙◌, inl, inr, arith}
 use Rattle.std.specs.Prelude.{Contains, count_by, replicate, IsTrue}
 use Rattle.std.proofs.lemmas.Bool.{and_parts, and_from, eq-eqb, eqb-true}
 use Rattle.std.proofs.lemmas.List.{append_assoc, append-nil}
@@ -15,8 +15,8 @@ use Rattle.std.specs.Prelude.{Option}
 use Rattle.world.specs.declared.event.Event.{Event}
 use Rattle.vnode.specs.declared.fault.VnodeFault.{VnodeFault}
 use Rattle.world.specs.declared.event.Reply.{Reply}
-use Rattle.world.specs.Knowledge.{Knowledge, KeyedWrite, Left, Nothing, Copied, Chosen, Failed, opened, known_at, under, is_of, write_of, after_refusal, after_put, after_copy, after_delivery, after_restart, after_run, after_nothing}
-use Rattle.world.specs.Happening.{Happens, wants_memory, refused_alike, stored, put_refused, found, sent, delivered, delivery_refused, restarted, full, resolved, choice_stored, choice_refused, nothing_chosen, Run, IsKnown}
+use Rattle.world.specs.Knowledge.{Knowledge, KeyedWrite, Copy, Left, Nothing, Copied, CopiedAll, Chosen, Failed, opened, known_at, under, all_copied, copies_at, is_of, write_of, after_refusal, after_put, after_copy, after_delivery, after_restart, after_dump, after_load, after_run, after_nothing}
+use Rattle.world.specs.Happening.{Happens, wants_memory, refused_alike, stored, put_refused, found, sent, delivered, delivery_refused, restarted, dumped, dump_refused, loaded, full, resolved, choice_stored, choice_refused, nothing_chosen, Run, IsKnown}
 use Rattle.world.specs.Causality.{IsCausal, IsFresh, EachAfter}
 use Rattle.world.specs.Numbering.{IsNumbered, IsLawful}
 use Rattle.dvv.specs.Clock.{covers}
@@ -67,27 +67,32 @@ causal before [] first each = tt
 causal before (p ∷ ps) first each = (fresh before p first each.0, causal (before ++ p ∷ []) ps (EachAfter-push IsNumbered [] before p first each.0) each.1)
 
 -- an event that leaves puts and what is known as they were
-leaves_lawful : (old new : Knowledge) (left : Left) → IsLawful old → new.puts ≡ old.puts → new.known ≡ old.known → new.left ≡ old.left ++ left ∷ [] → ((key : Key) (writes : List Write) → left ≡ Copied key writes → (w : Write) → Contains writes w → Contains old.puts (record { key = key; write = w })) → IsLawful new
-leaves_lawful old new left lawful puts known lefts copied = record {
+leaves_lawful : (old new : Knowledge) (left : Left) → IsLawful old → new.puts ≡ old.puts → new.known ≡ old.known → new.left ≡ old.left ++ left ∷ [] → ((key : Key) (writes : List Write) → left ≡ Copied key writes → (w : Write) → Contains writes w → Contains old.puts (record { key = key; write = w }))
+    → ((copies : List Copy) → left ≡ CopiedAll copies → (s : KeyedWrite) → Contains (all_copied copies) s → Contains old.puts s) → IsLawful new
+leaves_lawful old new left lawful puts known lefts copied all = record {
   puts = subst (λ ps. EachAfter IsNumbered [] ps) (sym puts) lawful.puts;
   known = λ v s c. subst (λ ps. Contains ps s) (sym puts) (lawful.known v s (subst (λ (ks : List (List KeyedWrite)). Contains (get_or ks v []) s) known c));
   copied = λ e key writes is w c. subst (λ ps. Contains ps (let s : KeyedWrite = record { key = key; write = w } in s)) (sym puts) (elim (push_cases old.left left e Nothing) [
     | inl same ↦ lawful.copied e key writes (sym same ∙ ap (λ ls. get_or ls e Nothing) (sym lefts) ∙ is) w c
     | inr last ↦ copied key writes (sym last ∙ ap (λ ls. get_or ls e Nothing) (sym lefts) ∙ is) w c
   ]);
+  copied_all = λ e copies is s c. subst (λ ps. Contains ps s) (sym puts) (elim (push_cases old.left left e Nothing) [
+    | inl same ↦ lawful.copied_all e copies (sym same ∙ ap (λ ls. get_or ls e Nothing) (sym lefts) ∙ is) s c
+    | inr last ↦ all copies (sym last ∙ ap (λ ls. get_or ls e Nothing) (sym lefts) ∙ is) s c
+  ]);
 }
 
 pub lawful_refusal : (old : Knowledge) (r : VnodeFault) → IsLawful old → IsLawful (after_refusal old r)
-lawful_refusal old r lawful = leaves_lawful old (after_refusal old r) (Failed r) lawful refl refl refl (λ key writes e. absurd (cc))
+lawful_refusal old r lawful = leaves_lawful old (after_refusal old r) (Failed r) lawful refl refl refl (λ key writes e. absurd (cc)) (λ copies e. absurd (cc))
 
 pub lawful_restart : (old : Knowledge) (v : ℕ) → IsLawful old → IsLawful (after_restart old v)
-lawful_restart old v lawful = leaves_lawful old (after_restart old v) Nothing lawful refl refl refl (λ key writes e. absurd (cc))
+lawful_restart old v lawful = leaves_lawful old (after_restart old v) Nothing lawful refl refl refl (λ key writes e. absurd (cc)) (λ copies e. absurd (cc))
 
 pub lawful_run : (old : Knowledge) (key : Key) (writes : List Write) (content : Option Content) → IsLawful old → IsLawful (after_run old key writes content)
-lawful_run old key writes content lawful = leaves_lawful old (after_run old key writes content) (Chosen key writes content) lawful refl refl refl (λ k ws e. absurd (cc))
+lawful_run old key writes content lawful = leaves_lawful old (after_run old key writes content) (Chosen key writes content) lawful refl refl refl (λ k ws e. absurd (cc)) (λ copies e. absurd (cc))
 
 pub lawful_nothing : (old : Knowledge) → IsLawful old → IsLawful (after_nothing old)
-lawful_nothing old lawful = leaves_lawful old (after_nothing old) Nothing lawful refl refl refl (λ key writes e. absurd (cc))
+lawful_nothing old lawful = leaves_lawful old (after_nothing old) Nothing lawful refl refl refl (λ key writes e. absurd (cc)) (λ copies e. absurd (cc))
 
 pub known_put : (old : Knowledge) (v : ℕ) (key : Key) → IsLawful old → (w : Write) → Contains (known_at old v key) w → Contains old.puts (record { key = key; write = w })
 known_put old v key lawful w c = lawful.known v (record { key = key; write = w }) (from_of_key key (get_or old.known v []) w c)
@@ -96,6 +101,7 @@ pub lawful_copy : (old : Knowledge) (v : ℕ) (key : Key) → IsLawful old → I
 lawful_copy old v key lawful = leaves_lawful old (after_copy old v key) (Copied key (known_at old v key)) lawful refl refl refl (λ k writes e w c.
     let ek : key ≡ k = cc in let ew : known_at old v key ≡ writes = cc in
     subst (λ (x : Key). Contains old.puts (let s : KeyedWrite = record { key = x; write = w } in s)) ek (known_put old v key lawful w (subst (λ (ws : List Write). Contains ws w) (sym ew) c)))
+    (λ copies e. absurd (cc))
 
 same_keyed : (s : KeyedWrite) (key : Key) (w : Write) → s.key ≡ key → s.write ≡ w → s ≡ record { key = key; write = w }
 same_keyed s key w a b = ap (λ (k : Key). let x : KeyedWrite = record { key = k; write = s.write } in x) a ∙ ap (λ (y : Write). let x : KeyedWrite = record { key = key; write = y } in x) b
@@ -116,6 +122,10 @@ lawful_put old v key seen content lawful accepts = record {
   copied = λ e k writes is w c. elim (push_cases old.left Nothing e Nothing) [
     | inl same ↦ Contains-append_left old.puts (put ∷ []) (record { key = k; write = w }) (lawful.copied e k writes (sym same ∙ is) w c)
     | inr last ↦ absurd (let h : Nothing ≡ Copied k writes = sym last ∙ is in cc)
+  ];
+  copied_all = λ e copies is s c. elim (push_cases old.left Nothing e Nothing) [
+    | inl same ↦ Contains-append_left old.puts (put ∷ []) s (lawful.copied_all e copies (sym same ∙ is) s c)
+    | inr last ↦ absurd (let h : Nothing ≡ CopiedAll copies = sym last ∙ is in cc)
   ];
 }
   where
@@ -148,6 +158,47 @@ lawful_delivery old v key writes lawful was_put = record {
     | inl same ↦ lawful.copied e k ws (sym same ∙ is) w c
     | inr last ↦ absurd (let h : Nothing ≡ Copied k ws = sym last ∙ is in cc)
   ];
+  copied_all = λ e copies is s c. elim (push_cases old.left Nothing e Nothing) [
+    | inl same ↦ lawful.copied_all e copies (sym same ∙ is) s c
+    | inr last ↦ absurd (let h : Nothing ≡ CopiedAll copies = sym last ∙ is in cc)
+  ];
+}
+
+-- what a dump copied is known
+copied_known : (old : Knowledge) (v : ℕ) (keys : List Key) (s : KeyedWrite) → Contains (all_copied (copies_at old v keys)) s → Contains (get_or old.known v []) s
+copied_known old v [] s c = absurd (Contains-nil s c)
+copied_known old v (key ∷ keys) s c = elim (Contains-append_cases (under key (known_at old v key)) (all_copied (copies_at old v keys)) s c) [
+  | inl here ↦ let r = from_under key (known_at old v key) s here in
+      subst (λ (x : KeyedWrite). Contains (get_or old.known v []) x) (sym (same_keyed s key s.write r.0 refl)) (from_of_key key (get_or old.known v []) s.write r.1)
+  | inr rest ↦ copied_known old v keys s rest
+]
+
+pub lawful_dump : (old : Knowledge) (v : ℕ) (keys : List Key) → IsLawful old → IsLawful (after_dump old v keys)
+lawful_dump old v keys lawful = leaves_lawful old (after_dump old v keys) (CopiedAll (copies_at old v keys)) lawful refl refl refl (λ key writes e. absurd (cc))
+    (λ copies e s c. let is : copies_at old v keys ≡ copies = cc in lawful.known v s (copied_known old v keys s (subst (λ (cs : List Copy). Contains (all_copied cs) s) (sym is) c)))
+
+-- what a load leaves known at an index: what was copied, what was known there, or at the end what the closed identifier knew
+loaded_known : (old : Knowledge) (v id : ℕ) (copies : List Copy) (u : ℕ) (s : KeyedWrite) → Contains (get_or (after_load old v id copies).known u []) s → Contains (all_copied copies) s ⊎ ((a : ℕ) × Contains (get_or old.known a []) s)
+loaded_known old v id copies u s c = elim (push_cases (set old.known v (all_copied copies)) (get_or old.known v []) u []) [
+  | inl same ↦ elim (set_cases old.known v u (all_copied copies) []) [
+    | inl was ↦ inr (u, subst (λ (xs : List KeyedWrite). Contains xs s) (same ∙ was) c)
+    | inr is ↦ inl (subst (λ (xs : List KeyedWrite). Contains xs s) (same ∙ is.1) c)
+  ]
+  | inr last ↦ inr (v, subst (λ (xs : List KeyedWrite). Contains xs s) last c)
+]
+
+pub lawful_load : (old : Knowledge) (v id : ℕ) (copies : List Copy) → IsLawful old → ((s : KeyedWrite) → Contains (all_copied copies) s → Contains old.puts s) → IsLawful (after_load old v id copies)
+lawful_load old v id copies lawful were_put = record {
+  puts = lawful.puts;
+  known = λ u s c. elim (loaded_known old v id copies u s c) [ inl copied ↦ were_put s copied | inr was ↦ lawful.known was.0 s was.1 ];
+  copied = λ e key writes is w c. elim (push_cases old.left Nothing e Nothing) [
+    | inl same ↦ lawful.copied e key writes (sym same ∙ is) w c
+    | inr last ↦ absurd (let h : Nothing ≡ Copied key writes = sym last ∙ is in cc)
+  ];
+  copied_all = λ e cs is s c. elim (push_cases old.left Nothing e Nothing) [
+    | inl same ↦ lawful.copied_all e cs (sym same ∙ is) s c
+    | inr last ↦ absurd (let h : Nothing ≡ CopiedAll cs = sym last ∙ is in cc)
+  ];
 }
 
 -- an event keeps it
@@ -161,6 +212,9 @@ happens_lawful listed old event reply new lawful (sent v key message is carries 
 happens_lawful listed old event reply new lawful (delivered message v key writes changed is l may c r e) = subst IsLawful (sym e) (lawful_delivery old v key writes lawful (lawful.copied message key writes l))
 happens_lawful listed old event reply new lawful (delivery_refused message v key writes refusal is l why r e) = subst IsLawful (sym e) (lawful_refusal old refusal lawful)
 happens_lawful listed old event reply new lawful (restarted v is place r e) = subst IsLawful (sym e) (lawful_restart old v lawful)
+happens_lawful listed old event reply new lawful (dumped v keys copies is known places carries r e) = subst IsLawful (sym e) (lawful_dump old v keys lawful)
+happens_lawful listed old event reply new lawful (dump_refused v keys is known many r e) = subst IsLawful (sym e) (lawful_refusal old _ lawful)
+happens_lawful listed old event reply new lawful (loaded dump v incarnation copies is l fresh r e) = subst IsLawful (sym e) (lawful_load old v _ copies lawful (lawful.copied_all dump copies l))
 happens_lawful listed old event reply new lawful (full v is f r e) = subst IsLawful (sym e) (lawful_refusal old _ lawful)
 happens_lawful listed old event reply new lawful (resolved get hook key writes state resolution is l shows res r e) = subst IsLawful (sym e) (lawful_run old key writes _ lawful)
 happens_lawful listed old event reply new lawful (choice_stored run v key writes content clock is l context may r e) = subst IsLawful (sym e) (lawful_put old v key clock content lawful may.context)
@@ -184,6 +238,7 @@ lawful_opened ids = record {
   puts = tt;
   known = λ v s c. absurd (Contains-nil s (subst (λ (xs : List KeyedWrite). Contains xs s) (none_known (length ids) v) c));
   copied = λ e key writes is w c. absurd (cc);
+  copied_all = λ e copies is s c. absurd (cc);
 }
 
 pub lawful_causal : (world : Knowledge) → IsLawful world → IsCausal world.puts

@@ -89,11 +89,11 @@ next_is w v key journal dot inside lawful own shows next = same_dots dot (next_d
     ]
 
 -- writes under their key are those of it
-of_key-under : (key : Key) (ws : List Write) → of_key key (under key ws) ≡ ws
+pub of_key-under : (key : Key) (ws : List Write) → of_key key (under key ws) ≡ ws
 of_key-under key [] = refl
 of_key-under key (x ∷ ws) = (rw (same_key-same key key refl) refl) ∙ ap (λ (ys : List Write). x ∷ ys) (of_key-under key ws)
 
-of_key-append : (key : Key) (xs ys : List KeyedWrite) → of_key key (xs ++ ys) ≡ of_key key xs ++ of_key key ys
+pub of_key-append : (key : Key) (xs ys : List KeyedWrite) → of_key key (xs ++ ys) ≡ of_key key xs ++ of_key key ys
 of_key-append key [] ys = refl
 of_key-append key (x ∷ xs) ys = go (of_key-append key xs ys) (same_key x.key key)
   where
@@ -142,7 +142,7 @@ none_itself w key xs lawful put x c saw = (EachAfter-at IsFresh [] w.puts (recor
 pub cases_key : (a b : Key) → (a ≡ b) ⊎ (a ≢ b)
 cases_key a b = elim (cases_Bool (same_key a b)) [ inl t ↦ inl (one_key a b t) | inr f ↦ inr (λ e. both_ways _ f (same_key-same a b e)) ]
 
-of_key-other : (key other : Key) (ws : List Write) → other ≢ key → of_key other (under key ws) ≡ []
+pub of_key-other : (key other : Key) (ws : List Write) → other ≢ key → of_key other (under key ws) ≡ []
 of_key-other key other [] ne = refl
 of_key-other key other (x ∷ ws) ne = elim (cases_Bool (same_key key other)) [
   | inl t ↦ absurd (ne (sym (one_key key other t)))

@@ -24,7 +24,7 @@ use Rattle.helpers.specs.declared.sig.Entry.{Entry as Helper}
 use Rattle.verifier.specs.Program.{Program}
 use Rattle.std.specs.Prelude.{None}
 use Rattle.world.specs.declared.event.Event.{Event}
-use Rattle.world.specs.declared.event.Event.TheVariants.{Put, Get, Send, Deliver, Restart, ResolveRead, ResolveWrite}
+use Rattle.world.specs.declared.event.Event.TheVariants.{Put, Get, Send, Deliver, Restart, Dump, Load, ResolveRead, ResolveWrite}
 use Rattle.vnode.specs.declared.fault.VnodeFault.TheVariants.{ContextAhead, TooManySiblings, ClockFull, MergedClockFull, JournalFull, NoMemory}
 use Rattle.world.specs.declared.event.Message.{Message}
 use Rattle.vnode.specs.declared.fault.VnodeFault.{VnodeFault}
@@ -33,7 +33,7 @@ use Rattle.world.specs.declared.event.Seen.TheVariants.{Clock as Given, Get as C
 use Rattle.hookrun.specs.declared.resolving.Resolution.{Resolution}
 use Rattle.world.specs.declared.event.Reply.{Reply}
 use Rattle.world.specs.declared.event.Reply.TheVariants.{Stored, Found, Sent, Changed, Restarted, Resolved, Nothing, Refused}
-use Rattle.world.specs.Knowledge.{Knowledge, Copied, Chosen, Failed, below, left_by, known_at, id_of, next_dot, write_of, after_refusal, after_put, after_copy, after_delivery, after_restart, after_run, after_nothing, IsStateOf}
+use Rattle.world.specs.Knowledge.{Knowledge, Copied, Chosen, Failed, below, left_by, known_at, id_of, next_dot, write_of, after_refusal, after_put, after_copy, after_delivery, after_restart, after_run, after_nothing, IsStateOf, id_under, ids_under}
 use Rattle.hookrun.specs.Resolving.{IsResolution, chosen_by}
 use Rattle.world.proofs.Equal.{one_state}
 use Rattle.world.specs.Happening.{Means, Happens, wants_memory, refused_alike, stored, put_refused, found, sent, delivered, delivery_refused, restarted, full, resolved, choice_stored, choice_refused, nothing_chosen, RefusesPut, RefusesDelivery, IsAt, IsKnown, CountTogether, HasPlace, MayPut, MayDeliver, MayHappen}
@@ -41,8 +41,10 @@ use Rattle.world.specs.Represents.{Represents, log_at, empty_logs}
 use Rattle.world.specs.Running.{Remember, Holds, Recall, ReplyAt, IsFoundOrRefused, IsSentOrRefused, IsRefusedContext, IsMessageOf, IsChoiceOf}
 
 -- one vnode more
-pub opened_more : (n : ℕ) → empty_logs (below (n + 1)) ≡ empty_logs (below n) ++ record { vnode = n; entries = [] } ∷ []
-opened_more n = ap (λ (k : ℕ). empty_logs (below k)) (add-one n) ∙ map-append (λ (id : ℕ). let l : Log = record { vnode = id; entries = [] } in l) (below n) (n ∷ [])
+pub opened_more : (incarnation n : ℕ) → empty_logs (ids_under incarnation (n + 1)) ≡ empty_logs (ids_under incarnation n) ++ record { vnode = id_under incarnation n; entries = [] } ∷ []
+opened_more incarnation n =
+    ap (λ (k : ℕ). empty_logs (ids_under incarnation k)) (add-one n) ∙ ap empty_logs (map-append (id_under incarnation) (below n) (n ∷ []))
+    ∙ map-append (λ (id : ℕ). let l : Log = record { vnode = id; entries = [] } in l) (ids_under incarnation n) (id_under incarnation n ∷ [])
 
 -- what stands at a place is read there
 pub read_at : {X : Type 0} (xs : List X) (place : ℕ) (x y : X) → slice_get xs place ≡ Some y → x ≡ get_or xs place x → slice_get xs place ≡ Some x
@@ -76,7 +78,7 @@ put_happened listed logs new w v stamp key seen content clock dot rep inside mea
 not_within : (a b : ℕ) → (a ≤ b → ⊥) → b < a
 not_within a b never = elim (cases_lt b a) [ inl lt ↦ lt | inr le ↦ absurd (never le) ]
 
-not_below : (a b : ℕ) → (a < b → ⊥) → b ≤ a
+pub not_below : (a b : ℕ) → (a < b → ⊥) → b ≤ a
 not_below a b never = elim (cases_lt a b) [ inl lt ↦ absurd (never lt) | inr le ↦ le ]
 
 -- the next dot of a vnode's own identifier
@@ -116,7 +118,7 @@ put_refusal logs w v key clock r rep inside (state, replay, why) = by_cause r wh
     )
 
 -- a refusal, as the world's
-refused_so : (listed : List Helper) (logs : List Log) (w : Knowledge) (what : Event) (r : VnodeFault) → Represents logs w → Happens listed w what (Refused r) (after_refusal w r) → (after : Knowledge) × Happens listed w what (Refused r) after × Represents logs after
+pub refused_so : (listed : List Helper) (logs : List Log) (w : Knowledge) (what : Event) (r : VnodeFault) → Represents logs w → Happens listed w what (Refused r) (after_refusal w r) → (after : Knowledge) × Happens listed w what (Refused r) after × Represents logs after
 refused_so listed logs w what r rep happens = (after_refusal w r, happens, refusal_step logs w r rep)
 
 pub put_was_refused : (listed : List Helper) (logs : List Log) (w : Knowledge) (v : ℕ) (key : Key) (seen : Seen) (content : Content) (clock : List Dot) (r : VnodeFault) → Represents logs w → v < length logs → Means w seen clock → RefusesPutAt (log_at logs v) key clock r
@@ -155,6 +157,8 @@ place_may w (Send u key) v at place = subst (HasPlace w) (sym at) place
 place_may w (Restart u) v at place = subst (HasPlace w) (sym at) place
 place_may w (Put u key seen content) v at place = absurd at
 place_may w (Deliver message u) v at place = absurd at
+place_may w (Dump u) v at place = absurd at
+place_may w (Load dump u incarnation) v at place = absurd at
 place_may w (ResolveRead get hook) v at place = absurd at
 place_may w (ResolveWrite run u) v at place = absurd at
 

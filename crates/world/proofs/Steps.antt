@@ -32,7 +32,7 @@ use Rattle.world.proofs.Shown.{shows_at, replay_is, shows_known, same_options, s
 use Rattle.world.proofs.Numbers.{next_is, known_unique, none_itself, one_write, learned, known_other, grows}
 
 -- what entries bring, with one more at the end
-brings_end : (key : Key) (e : Entry) (some : List Write) {es : List Entry} {known : List Write} → BringsAll key es known → Brings key e some → BringsAll key (es ++ e ∷ []) (known ++ some)
+pub brings_end : (key : Key) (e : Entry) (some : List Write) {es : List Entry} {known : List Write} → BringsAll key es known → Brings key e some → BringsAll key (es ++ e ∷ []) (known ++ some)
 brings_end key e some nothing b = subst (λ (ws : List Write). BringsAll key (e ∷ []) ws) (append-nil some) (one_more e [] some [] b nothing)
 brings_end key e some (one_more f es first more h t) b = subst (λ (ws : List Write). BringsAll key (f ∷ (es ++ e ∷ [])) ws) (sym (append_assoc first more some)) (one_more f (es ++ e ∷ []) first (more ++ some) h (brings_end key e some t b))
 

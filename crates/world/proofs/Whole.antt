@@ -1,10 +1,12 @@
 -- Whole runs, one event after another.
-use Rattle.std.proofs.Common.{◌≡◌, ℕ, zero, suc, ◌+◌, ◌<◌, ◌≤◌, ◌⊎◌, List, [], ◌∷◌, ◌++◌, length, get_or, take, drop, refl, sym, ap, subst, ◌∙◌, inl, inr, arith, Some, add-one, length-append}
-use Rattle.std.specs.Prelude.{slice_get}
+use Rattle.std.proofs.Common.{◌≡◌, ℕ, zero, suc, ◌+◌, ◌^◌, ◌<◌, ◌≤◌, ◌⊎◌, Bool, true, false, cond, List, [], ◌∷◌, ◌++◌, length, get_or, take, drop, refl, sym, ap, subst, ◌∙◌, inl, inr, arith, Some, length-append}
+use Rattle.std.specs.Prelude.{slice_get, Contains, count_by}
+use Rattle.std.proofs.lemmas.List.Sums.{sum_by-append}
+use Rattle.vnode.specs.declared.steps.Copied.{Copied as Held}
 use Rattle.std.proofs.Math.ListN.{get_or-append}
 use Rattle.std.proofs.Math.Seq.{get_or-append_seam}
 use Rattle.std.proofs.lemmas.Bool.{cases_lt}
-use Rattle.std.proofs.lemmas.List.{take_more, take_all, length-map, get_or_default, append-nil, drop_all}
+use Rattle.std.proofs.lemmas.List.{take_more, take_all, length-map, map-append, get_or_default, append-nil, drop_all}
 use Rattle.std.proofs.lemmas.Option.{slice_get_read, slice_get_within, get_or_from_slice_get}
 use Rattle.journal.specs.Logs.{Log}
 use Rattle.helpers.specs.declared.sig.Entry.{Entry as Helper}
@@ -13,24 +15,26 @@ use Rattle.object.specs.declared.content.Key.{Key}
 use Rattle.object.specs.Known.{Write}
 use Rattle.object.specs.State.{State}
 use Rattle.world.specs.declared.event.Event.{Event}
-use Rattle.world.specs.declared.event.Event.TheVariants.{Put, Get, Send, Deliver, Restart, ResolveRead, ResolveWrite}
+use Rattle.world.specs.declared.event.Event.TheVariants.{Put, Get, Send, Deliver, Restart, Dump, Load, ResolveRead, ResolveWrite}
 use Rattle.vnode.specs.declared.fault.VnodeFault.{VnodeFault}
 use Rattle.vnode.specs.declared.fault.VnodeFault.TheVariants.{NoMemory, JournalFull}
 use Rattle.hookrun.specs.declared.resolving.Resolution.{Resolution}
 use Rattle.world.specs.declared.event.Reply.{Reply}
-use Rattle.world.specs.declared.event.Reply.TheVariants.{Restarted, Found, Sent, Resolved, Refused}
+use Rattle.world.specs.declared.event.Reply.TheVariants.{Restarted, Dumped, Found, Sent, Resolved, Refused}
 use Rattle.world.specs.declared.event.Seen.{Seen}
 use Rattle.world.specs.declared.event.Seen.TheVariants.{Clock as Given, Get as ContextOf}
-use Rattle.world.specs.Knowledge.{Knowledge, Left, Nothing, Copied, Chosen, Failed, below, start, known_at, left_by, IsStateOf}
+use Rattle.world.specs.Knowledge.{Knowledge, KeyedWrite, Copy, Left, Nothing, Copied, CopiedAll, Chosen, Failed, below, start, known_at, left_by, copies_at, id_under, ids_under, IsStateOf}
 use Rattle.hookrun.specs.Resolving.{chosen_by}
-use Rattle.world.specs.Happening.{Run, Happens, wants_memory, refused_alike, stored, put_refused, found, sent, delivered, delivery_refused, restarted, full, resolved, choice_stored, choice_refused, nothing_chosen}
+use Rattle.world.specs.Happening.{Run, Happens, wants_memory, refused_alike, stored, put_refused, found, sent, delivered, delivery_refused, restarted, dumped, dump_refused, loaded, full, resolved, choice_stored, choice_refused, nothing_chosen}
 use Rattle.world.specs.Represents.{Represents, AreDistinct, empty_logs}
-use Rattle.world.specs.Running.{Holds, Remember, Recall, MayReply, MayCome, IsReady, IsReadyContext, IsGetAt, IsFoundOrRefused, IsSentOrRefused, IsResolvedOrRefused, IsEarlierContext, ReplyAt, AreRunnable, IsRunSoFar, IsAnswered, found as was_found, copied as was_copied, kept as was_kept, IsWorldOf}
+use Rattle.world.specs.Running.{Holds, Remember, Recall, MayReply, MayComeFrom, IsReady, IsReadyContext, IsGetAt, IsEarlierContext, ReplyAt, ShowCopies, AreRunnable, AreRunnableFrom, AreNewFrom, IsNewFor, IsNoLoad, Begins, IsRunSoFar, IsKnownSoFar, IsAnswered, found as was_found, copied as was_copied, dumped as was_dumped, kept as was_kept, IsWorldFrom, is_loaded, max_vnodes}
 use Rattle.world.specs.Stamped.{AreStamped}
 use Rattle.world.specs.Numbering.{WerePut}
 use Rattle.world.proofs.Causal.{lawful_causal, known_put}
+use Rattle.world.proofs.Lists.{Contains-nil, Contains-cases, Contains-first, Contains-later}
 use Rattle.world.proofs.Equal.{equal_states}
-use Rattle.world.proofs.Stamped.{none_stamped}
+use Rattle.world.proofs.LoadRuns.{one_copied, shows_copies}
+use Rattle.world.proofs.Renamed.{grows, logs_more, ids_still, new_from, new_at_start, below_len, below_at}
 use Rattle.world.proofs.Steps.{opened_represents, shown, state_shown}
 
 -- what stands in a list with one more at its end
@@ -105,6 +109,17 @@ what_left listed old event reply new (sent v key message is carries place r e) =
 what_left listed old event reply new (delivered message v key writes changed is l may c r e) = (Nothing, ap (λ (w : Knowledge). w.left) e, nothing_left old event reply (subst (λ (x : Reply). Holds x Nothing) (sym r) tt) (λ resolution h. absurd (cc)))
 what_left listed old event reply new (delivery_refused message v key writes refusal is l why r e) = (Failed refusal, ap (λ (w : Knowledge). w.left) e, failed_left old event reply refusal r)
 what_left listed old event reply new (restarted v is place r e) = (Nothing, ap (λ (w : Knowledge). w.left) e, nothing_left old event reply (subst (λ (x : Reply). Holds x Nothing) (sym r) tt) (λ resolution h. absurd (cc)))
+what_left listed old event reply new (dumped v keys copies is known places carries r e) = (
+  CopiedAll (copies_at old v keys),
+  ap (λ (w : Knowledge). w.left) e,
+  record {
+    holds = subst (λ (x : Reply). Holds x (CopiedAll (copies_at old v keys))) (sym r) (copies_at old v keys, refl, subst (λ (ks : List Key). ShowCopies (copies_at old v ks) copies.held.items) carries.keys_are (shows_copies old v copies.held.items carries.states_are));
+    key = λ v' k other writes e' l. absurd (cc);
+    choice = λ get hook resolution e' h. absurd (let d : Dump v ≡ ResolveRead get hook = sym is ∙ e' in cc);
+  },
+)
+what_left listed old event reply new (dump_refused v keys is known many r e) = (Failed JournalFull, ap (λ (w : Knowledge). w.left) e, failed_left old event reply JournalFull r)
+what_left listed old event reply new (loaded dump v incarnation copies is l fresh r e) = (Nothing, ap (λ (w : Knowledge). w.left) e, nothing_left old event reply (subst (λ (x : Reply). Holds x Nothing) (sym r) tt) (λ resolution h. absurd (cc)))
 what_left listed old event reply new (full v is f r e) = (Failed JournalFull, ap (λ (w : Knowledge). w.left) e, failed_left old event reply JournalFull r)
 what_left listed old event reply new (resolved get hook key writes state resolution is l shows res r e) = (
   Chosen key writes (chosen_by resolution state.siblings),
@@ -153,16 +168,11 @@ remember_more listed replies old event reply new remember happens =
     }
 
 -- what is told of the last event is told of the list
-recall_more : (listed : List Helper) (events : List Event) (replies : List Reply) (old : Knowledge) (event : Event) (reply : Reply) (new : Knowledge) → length replies ≡ length events → Remember replies old → Recall events replies old
-    → ((get : ℕ) (hook : Program) → event ≡ ResolveRead get hook → IsGetAt events get) → Happens listed old event reply new → Recall (events ++ event ∷ []) (replies ++ reply ∷ []) new
-recall_more listed events replies old event reply new len remember recall names happens = record {
+recall_more : (listed : List Helper) (events : List Event) (replies : List Reply) (old : Knowledge) (event : Event) (reply : Reply) (new : Knowledge) → length replies ≡ length events → Remember replies old → Recall events replies old → Happens listed old event reply new → Recall (events ++ event ∷ []) (replies ++ reply ∷ []) new
+recall_more listed events replies old event reply new len remember recall happens = record {
   keys = λ place v k other writes at l. elim (more_cases events event (Get v k) place at) [
     | inl before ↦ recall.keys place v k other writes before.1 (sym (earlier place before.0) ∙ l)
     | inr last ↦ h.2.key v k other writes last.1 (sym (here place last.0) ∙ l)
-  ];
-  named = λ place get hook at. elim (more_cases events event (ResolveRead get hook) place at) [
-    | inl before ↦ still get (recall.named place get hook before.1)
-    | inr last ↦ still get (names get hook last.1)
   ];
   chosen = λ place get hook resolution at atr. elim (more_cases events event (ResolveRead get hook) place at) [
     | inl before ↦ elim (more_cases replies reply (Resolved resolution) place atr) [
@@ -188,169 +198,232 @@ recall_more listed events replies old event reply new len remember recall names 
     here : (place : ℕ) → place ≡ length events → left_by new place ≡ h.0
     here place is = ap (left_by new) (is ∙ sym left_len) ∙ left_last old new h.0 h.1
 
-    still : (get : ℕ) → IsGetAt events get → IsGetAt (events ++ event ∷ []) get
-    still get at = (at.0, at.1, still_at events event (Get at.0 at.1) get at.2)
-
     same_copy : (get : ℕ) (key : Key) (writes : List Write) → left_by old get ≡ Copied key writes → left_by new get ≡ Copied key writes
     same_copy get key writes c = left_before old new h.0 get h.1 (copied_within old.left get key writes c) ∙ c
 
--- an event's reply is of its kind
-refusal_may : (event : Event) (refusal : VnodeFault) → MayReply event (Refused refusal)
-refusal_may (Put v key seen content) refusal = tt
-refusal_may (Get v key) refusal = tt
-refusal_may (Send v key) refusal = tt
-refusal_may (Deliver message v) refusal = tt
-refusal_may (Restart v) refusal = tt
-refusal_may (ResolveRead get hook) refusal = tt
-refusal_may (ResolveWrite run v) refusal = tt
-
-kind_is : (listed : List Helper) (old : Knowledge) (event : Event) (reply : Reply) (new : Knowledge) → Happens listed old event reply new → MayReply event reply
-kind_is listed old event reply new (wants_memory may r e) = subst (MayReply event) (sym r) (refusal_may event NoMemory)
-kind_is listed old event reply new (refused_alike name refusal n l r e) = subst (MayReply event) (sym r) (refusal_may event refusal)
-kind_is listed old event reply new (stored v key seen content clock is means may r e) = subst (λ (x : Event). MayReply x reply) (sym is) tt
-kind_is listed old event reply new (put_refused v key seen content clock refusal is means why r e) = subst (MayReply event) (sym r) (refusal_may event refusal)
-kind_is listed old event reply new (found v key state is shows place r e) = subst (λ (x : Event). MayReply x reply) (sym is) (subst IsFoundOrRefused (sym r) tt)
-kind_is listed old event reply new (sent v key message is carries place r e) = subst (λ (x : Event). MayReply x reply) (sym is) (subst IsSentOrRefused (sym r) tt)
-kind_is listed old event reply new (delivered message v key writes changed is l may c r e) = subst (λ (x : Event). MayReply x reply) (sym is) tt
-kind_is listed old event reply new (delivery_refused message v key writes refusal is l why r e) = subst (MayReply event) (sym r) (refusal_may event refusal)
-kind_is listed old event reply new (restarted v is place r e) = subst (λ (x : Event). MayReply x reply) (sym is) tt
-kind_is listed old event reply new (full v is f r e) = subst (MayReply event) (sym r) (refusal_may event JournalFull)
-kind_is listed old event reply new (resolved get hook key writes state resolution is l shows res r e) = subst (λ (x : Event). MayReply x reply) (sym is) (subst IsResolvedOrRefused (sym r) tt)
-kind_is listed old event reply new (choice_stored run v key writes content clock is l context may r e) = subst (λ (x : Event). MayReply x reply) (sym is) tt
-kind_is listed old event reply new (choice_refused run v key writes content clock refusal is l context why r e) = subst (MayReply event) (sym r) (refusal_may event refusal)
-kind_is listed old event reply new (nothing_chosen run v key writes is l r e) = subst (λ (x : Event). MayReply x reply) (sym is) tt
-
 -- what a named event replied
-replied : (n : ℕ) (listed : List Helper) (events : List Event) (replies : List Reply) (logs : List Log) (made place : ℕ) (event : Event) → IsRunSoFar n listed events replies logs made → slice_get events place ≡ Some event → ReplyAt replies place (MayReply event)
-replied n listed events replies logs made place event so_far at =
-    let lt : place < length replies = let l = so_far.len in let h = slice_get_within events place event at in omega arith in
+replied : (n : ℕ) (all : List Event) (count : ℕ) (replies : List Reply) (logs : List Log) (made place : ℕ) (event : Event) → IsRunSoFar n all count replies logs made → slice_get (take count all) place ≡ Some event → ReplyAt replies place (MayReply event)
+replied n all count replies logs made place event so_far at =
+    let lt : place < length replies = let l = so_far.len in let h = slice_get_within (take count all) place event at in omega arith in
     let r : Reply = get_or replies place Restarted in
     let is : slice_get replies place ≡ Some r = slice_get_read replies (length replies) place (get_or replies place Restarted) refl lt (get_or_default replies place Restarted (get_or replies place Restarted) lt) in
     (get_or replies place Restarted, is, so_far.kinds place event (get_or replies place Restarted) at is)
 
 -- an event that may come is ready
-pub is_ready : (n : ℕ) (listed : List Helper) (events : List Event) (replies : List Reply) (logs : List Log) (made : ℕ) (event : Event) → IsRunSoFar n listed events replies logs made → MayCome n listed events event → IsReady (length logs) listed events replies event
-is_ready n listed events replies logs made (Put v key seen content) so_far come = (subst (λ (m : ℕ). v < m) (sym so_far.size) come.0, context seen come.1)
+pub is_ready : (used : List ℕ) (n : ℕ) (listed : List Helper) (all : List Event) (count : ℕ) (replies : List Reply) (logs : List Log) (made : ℕ) (event : Event) → n ≤ max_vnodes → IsRunSoFar n all count replies logs made → MayComeFrom used n listed (take count all) event → IsReady (length logs) listed (take count all) replies event
+is_ready used n listed all count replies logs made event few so_far come = ready event come
   where
-    context : (s : Seen) → IsEarlierContext events s → IsReadyContext replies s
+    inside : (v : ℕ) → v < n → v < length logs
+    inside v lt = let s = so_far.more in omega (arith, s, lt)
+
+    at_place : (place : ℕ) (event : Event) → slice_get (take count all) place ≡ Some event → ReplyAt replies place (MayReply event)
+    at_place place event at = replied n all count replies logs made place event so_far at
+
+    context : (s : Seen) → IsEarlierContext (take count all) s → IsReadyContext replies s
     context (Given clock) h = tt
-    context (ContextOf get) h = replied n listed events replies logs made get (Get h.0 h.1) so_far h.2
-is_ready n listed events replies logs made (Get v key) so_far come = subst (λ (m : ℕ). v < m) (sym so_far.size) come
-is_ready n listed events replies logs made (Send v key) so_far come = subst (λ (m : ℕ). v < m) (sym so_far.size) come
-is_ready n listed events replies logs made (Deliver message v) so_far come = (subst (λ (m : ℕ). v < m) (sym so_far.size) come.0, let h = come.1 in replied n listed events replies logs made message (Send h.0 h.1) so_far h.2)
-is_ready n listed events replies logs made (Restart v) so_far come = subst (λ (m : ℕ). v < m) (sym so_far.size) come
-is_ready n listed events replies logs made (ResolveRead get hook) so_far come = (let h = come.0 in replied n listed events replies logs made get (Get h.0 h.1) so_far h.2, come.1)
-is_ready n listed events replies logs made (ResolveWrite run v) so_far come = (
-  subst (λ (m : ℕ). v < m) (sym so_far.size) come.0,
-  record {
-    event = come.1;
-    reply = let h = come.1 in replied n listed events replies logs made run (ResolveRead h.0 h.1) so_far h.2;
-    asked = λ get hook at. so_far.recall.named run get hook at;
-    answered = λ get hook at. let g = so_far.recall.named run get hook at in replied n listed events replies logs made get (Get g.0 g.1) so_far g.2;
-  },
-)
+    context (ContextOf get) h = at_place get (Get h.0 h.1) h.2
+
+    ready : (event : Event) → MayComeFrom used n listed (take count all) event → IsReady (length logs) listed (take count all) replies event
+    ready (Put v key seen content) come = (inside v come.0, context seen come.1)
+    ready (Get v key) come = inside v come
+    ready (Send v key) come = inside v come
+    ready (Deliver message v) come = (inside v come.0, let h = come.1 in at_place message (Send h.0 h.1) h.2)
+    ready (Restart v) come = inside v come
+    ready (Dump v) come = inside v come
+    ready (Load dump v incarnation) come = (inside v come.0, (let lt = come.0 in omega (arith, lt, few)), let h = come.1 in at_place dump (Dump h.0) h.1)
+    ready (ResolveRead get hook) come = (let h = come.0 in at_place get (Get h.0 h.1) h.2, come.1)
+    ready (ResolveWrite run v) come = (
+      inside v come.0,
+      record {
+        event = come.1;
+        reply = let h = come.1 in at_place run (ResolveRead h.0 h.1) h.2;
+        asked = λ get hook at. so_far.named run get hook at;
+        answered = λ get hook at. let g = so_far.named run get hook at in at_place get (Get g.0 g.1) g.2;
+      },
+    )
 
 -- a run that may come names an earlier get
-names_get : (n : ℕ) (listed : List Helper) (events : List Event) (event : Event) → MayCome n listed events event → (get : ℕ) (hook : Program) → event ≡ ResolveRead get hook → IsGetAt events get
-names_get n listed events event come get hook is = let c : MayCome n listed events (ResolveRead get hook) = subst (MayCome n listed events) is come in c.0
+names_get : (used : List ℕ) (n : ℕ) (listed : List Helper) (events : List Event) (event : Event) → MayComeFrom used n listed events event → (get : ℕ) (hook : Program) → event ≡ ResolveRead get hook → IsGetAt events get
+names_get used n listed events event come get hook is = let c : MayComeFrom used n listed events (ResolveRead get hook) = subst (MayComeFrom used n listed events) is come in c.0
+
+-- the events up to and with one
+pub one_more_event : (events : List Event) (place : ℕ) (event : Event) → place < length events → event ≡ get_or events place event → take (place + 1) events ≡ take place events ++ event ∷ []
+one_more_event events place event lt is = take_more events place event lt ∙ ap (λ (e : Event). take place events ++ e ∷ []) (sym is)
+
+-- a load that is next is of a new identifier
+new_for : (known : Knowledge) (all : List Event) (count : ℕ) (event : Event) → AreNewFrom known all count → slice_get all count ≡ Some event → IsNewFor known event
+new_for known all count (Put v key seen content) fresh at = tt
+new_for known all count (Get v key) fresh at = tt
+new_for known all count (Send v key) fresh at = tt
+new_for known all count (Deliver message v) fresh at = tt
+new_for known all count (Restart v) fresh at = tt
+new_for known all count (Dump v) fresh at = tt
+new_for known all count (Load dump v incarnation) fresh at = fresh count dump v incarnation (omega arith) at
+new_for known all count (ResolveRead get hook) fresh at = tt
+new_for known all count (ResolveWrite run v) fresh at = tt
+
+-- a load counts
+counted_more : (replies : List Reply) (reply : Reply) → count_by is_loaded (replies ++ reply ∷ []) ≡ count_by is_loaded replies + cond (is_loaded reply) 1 0
+counted_more replies reply = sum_by-append (λ (r : Reply). cond (is_loaded r) 1 0) replies (reply ∷ []) ∙ ap (λ (k : ℕ). count_by is_loaded replies + k) (one_of (is_loaded reply))
+  where
+    one_of : (b : Bool) → 0 + cond b 1 0 ≡ cond b 1 0
+    one_of true = refl
+    one_of false = refl
+
+-- what one event more leads to
+abbrev pub LeadsOn : List Helper → List Event → List Reply → List Log → List Log → Event → Reply → Type 0
+LeadsOn listed events replies logs new event reply = (old : Knowledge) → Represents logs old → length old.ids ≡ length logs → Remember replies old → Recall events replies old → IsNewFor old event → (after : Knowledge) × Happens listed old event reply after × Represents new after
 
 -- one event more was run
-pub goes_on : (n : ℕ) (listed : List Helper) (events : List Event) (replies : List Reply) (logs new : List Log) (made more : ℕ) (event : Event) (reply : Reply) → IsRunSoFar n listed events replies logs made → MayCome n listed events event → length new ≡ length logs → (AreStamped logs made → AreStamped new more) → more ≤ made + 1 → ((old : Knowledge) → Represents logs old → Remember replies old → Recall events replies old → (after : Knowledge) × Happens listed old event reply after × Represents new after) → IsRunSoFar n listed (events ++ event ∷ []) (replies ++ reply ∷ []) new more
-goes_on n listed events replies logs new made more event reply so_far come same stamps few step =
-    let h = step so_far.known so_far.represents so_far.remember so_far.recall in
+pub runs_on : (used : List ℕ) (n : ℕ) (listed : List Helper) (all : List Event) (count : ℕ) (replies : List Reply) (logs new : List Log) (made more : ℕ) (event : Event) (reply : Reply) → AreRunnableFrom used n listed all → count < length all → event ≡ get_or all count event → IsRunSoFar n all count replies logs made
+    → length logs ≤ length new → (AreStamped logs made → AreStamped new more) → (more ≤ made + 1) ⊎ (more ≤ 2 ^ 63) → MayReply event reply → IsRunSoFar n all (count + 1) (replies ++ reply ∷ []) new more
+runs_on used n listed all count replies logs new made more event reply runnable lt is so_far vnodes stamps made_few kind =
+    let longer : take (count + 1) all ≡ take count all ++ event ∷ [] = one_more_event all count event lt is in
     record {
-      known = h.0;
-      run = run_more listed (start n) events replies so_far.known event reply h.0 so_far.run h.1;
-      size = same ∙ so_far.size;
-      len = length-append replies (reply ∷ []) ∙ ap (λ (k : ℕ). k + 1) so_far.len ∙ sym (length-append events (event ∷ []));
-      represents = h.2;
+      len = length-append replies (reply ∷ []) ∙ ap (λ (k : ℕ). k + 1) so_far.len ∙ sym (length-append (take count all) (event ∷ [])) ∙ ap length (sym longer);
+      more = let m = so_far.more in omega (arith, m, vnodes);
       stamped = stamps so_far.stamped;
-      few = let f = so_far.few in let l = length-append replies (reply ∷ []) in omega (arith, f, few, l);
-      remember = remember_more listed replies so_far.known event reply h.0 so_far.remember h.1;
-      recall = recall_more listed events replies so_far.known event reply h.0 so_far.len so_far.remember so_far.recall (names_get n listed events event come) h.1;
-      kinds = λ place e r ate atr. elim (more_cases events event e place ate) [
+      few = let f = so_far.few in let l = length-append replies (reply ∷ []) in elim made_few [ inl one ↦ omega (arith, f, one, l) | inr many ↦ omega (arith, many) ];
+      named = λ place get hook at. subst (λ (es : List Event). IsGetAt es get) (sym longer) (elim (more_cases (take count all) event (ResolveRead get hook) place (subst (λ (es : List Event). slice_get es place ≡ Some (ResolveRead get hook)) longer at)) [
+        | inl before ↦ still get (so_far.named place get hook before.1)
+        | inr last ↦ still get (names_get used n listed (take count all) event (runnable count event (slice_get_read all (length all) count event refl lt is)) get hook last.1)
+      ]);
+      kinds = λ place e r ate atr. elim (more_cases (take count all) event e place (subst (λ (es : List Event). slice_get es place ≡ Some e) longer ate)) [
         | inl before ↦ elim (more_cases replies reply r place atr) [
           | inl earlier ↦ so_far.kinds place e r before.1 earlier.1
           | inr last ↦ absurd (let l = so_far.len in let a = before.0 in let b = last.0 in omega arith)
         ]
         | inr last ↦ elim (more_cases replies reply r place atr) [
           | inl earlier ↦ absurd (let l = so_far.len in let a = last.0 in let b = earlier.0 in omega arith)
-          | inr here ↦ subst (λ (x : Event). MayReply x r) last.1 (subst (MayReply event) here.1 (kind_is listed so_far.known event reply h.0 h.1))
+          | inr there ↦ subst (λ (x : Event). MayReply x r) last.1 (subst (MayReply event) there.1 kind)
         ]
       ];
     }
+  where
+    still : (get : ℕ) → IsGetAt (take count all) get → IsGetAt (take count all ++ event ∷ []) get
+    still get at = (at.0, at.1, still_at (take count all) event (Get at.0 at.1) get at.2)
 
-below_len : (n : ℕ) → length (below n) ≡ n
-below_len zero = refl
-below_len (suc n) = length-append (below n) (n ∷ []) ∙ ap (λ (k : ℕ). k + 1) (below_len n) ∙ add-one n
-
--- an event of the list may come after those before it
-pub comes : (n : ℕ) (listed : List Helper) (events : List Event) (place : ℕ) (event : Event) → AreRunnable n listed events → place < length events → event ≡ get_or events place event → MayCome n listed (take place events) event
-comes n listed events place event runnable lt is = runnable place event (slice_get_read events (length events) place event refl lt is)
-
--- the events up to and with one
-pub one_more_event : (events : List Event) (place : ℕ) (event : Event) → place < length events → event ≡ get_or events place event → take (place + 1) events ≡ take place events ++ event ∷ []
-one_more_event events place event lt is = take_more events place event lt ∙ ap (λ (e : Event). take place events ++ e ∷ []) (sym is)
+-- what is known after one event more
+pub knows_on : (begin : Knowledge) (used : List ℕ) (n : ℕ) (listed : List Helper) (all : List Event) (count : ℕ) (replies : List Reply) (logs new : List Log) (event : Event) (reply : Reply) → n ≤ 65536 → AreRunnableFrom used n listed all → count < length all → event ≡ get_or all count event → length replies ≡ length (take count all)
+    → LeadsOn listed (take count all) replies logs new event reply → IsKnownSoFar begin n listed all count replies logs → IsKnownSoFar begin n listed all (count + 1) (replies ++ reply ∷ []) new
+knows_on begin used n listed all count replies logs new event reply few runnable lt is len step so_far =
+    let here : slice_get all count ≡ Some event = slice_get_read all (length all) count event refl lt is in
+    let h = step so_far.known so_far.represents so_far.ids so_far.remember so_far.recall (new_for so_far.known all count event so_far.fresh here) in
+    let g = grows listed so_far.known event reply h.0 h.1 in
+    let longer : take (count + 1) all ≡ take count all ++ event ∷ [] = one_more_event all count event lt is in
+    record {
+      known = h.0;
+      run = subst (λ (es : List Event). Run listed begin es (replies ++ reply ∷ []) h.0) (sym longer) (run_more listed begin (take count all) replies so_far.known event reply h.0 so_far.run h.1);
+      size = let s = so_far.size in let m = logs_more logs new so_far.known event reply h.0 so_far.represents h.2 g in let c = counted_more replies reply in omega (arith, s, m, c);
+      represents = h.2;
+      ids = ids_still logs new so_far.known event reply h.0 so_far.represents h.2 g so_far.ids;
+      fresh = new_from used n listed all count so_far.known event reply h.0 runnable few here (let s = so_far.size in let i = so_far.ids in omega (arith, s, i)) g so_far.fresh;
+      remember = remember_more listed replies so_far.known event reply h.0 so_far.remember h.1;
+      recall = subst (λ (es : List Event). Recall es (replies ++ reply ∷ []) h.0) (sym longer) (recall_more listed (take count all) replies so_far.known event reply h.0 len so_far.remember so_far.recall h.1);
+    }
 
 -- a slice that came back whole
 pub whole_back : (new items : List Log) (n : ℕ) → length new ≡ length items → n ≡ length items → take n (new ++ drop (length new) items) ≡ new
 whole_back new items n same len = ap (λ (xs : List Log). take n (new ++ xs)) (drop_all (length new) items (omega arith)) ∙ ap (take n) (append-nil new) ∙ take_all n new (omega arith)
 
--- the numbers below one are distinct
-below_at : (n v : ℕ) → v < n → get_or (below n) v 0 ≡ v
-below_at zero v lt = absurd (omega arith)
-below_at (suc n) v lt = elim (cases_lt v n) [
-  | inl inside ↦ get_or-append (below n) (n ∷ []) 0 v (let l = below_len n in omega arith) ∙ below_at n v inside
-  | inr last ↦ let is : v ≡ length (below n) = let l = below_len n in omega arith in ap (λ (k : ℕ). get_or (below n ++ n ∷ []) k 0) is ∙ get_or-append_seam (below n) n [] 0 ∙ (let l = below_len n in omega arith)
-]
+-- an event that is another than a load
+pub no_load : (event : Event) → ((dump vnode incarnation : ℕ) → event ≡ Load dump vnode incarnation → ⊥) → IsNoLoad event
+no_load (Put v key seen content) other = tt
+no_load (Get v key) other = tt
+no_load (Send v key) other = tt
+no_load (Deliver message v) other = tt
+no_load (Restart v) other = tt
+no_load (Dump v) other = tt
+no_load (Load dump v incarnation) other = other dump v incarnation refl
+no_load (ResolveRead get hook) other = tt
+no_load (ResolveWrite run v) other = tt
 
 -- nothing was run
-pub nothing_run : (n : ℕ) (listed : List Helper) → IsRunSoFar n listed [] [] (empty_logs (below n)) 0
-nothing_run n listed = record {
-  known = start n;
-  run = refl;
-  size = length-map (below n) (λ (id : ℕ). let l : Log = record { vnode = id; entries = [] } in l) ∙ below_len n;
+pub nothing_run : (n : ℕ) (all : List Event) (logs : List Log) (made : ℕ) → n ≤ length logs → AreStamped logs made → made ≤ 2 ^ 63 → IsRunSoFar n all 0 [] logs made
+nothing_run n all logs made more stamped few = record {
   len = refl;
-  represents = opened_represents (below n) distinct;
-  stamped = none_stamped (below n);
-  few = omega arith;
-  remember = record { len = refl; each = λ place reply at. absurd (let h = slice_get_within [] place reply at in omega arith) };
+  more = more;
+  stamped = stamped;
+  few = omega (arith, few);
+  named = λ place get hook at. absurd (let h = slice_get_within [] place (ResolveRead get hook) at in omega arith);
+  kinds = λ place e r ate atr. absurd (let h = slice_get_within [] place e ate in omega arith);
+}
+
+pub nothing_known : (listed : List Helper) (all : List Event) (logs : List Log) (begin : Knowledge) → Begins logs all begin → IsKnownSoFar begin (length logs) listed all 0 [] logs
+nothing_known listed all logs begin h = record {
+  known = begin;
+  run = refl;
+  size = omega arith;
+  represents = h.represents;
+  ids = h.ids;
+  fresh = h.fresh;
+  remember = record { len = sym (ap length h.nothing); each = λ place reply at. absurd (let h = slice_get_within [] place reply at in omega arith) };
   recall = record {
     keys = λ place v k other writes at l. absurd (let h = slice_get_within [] place (Get v k) at in omega arith);
-    named = λ place get hook at. absurd (let h = slice_get_within [] place (ResolveRead get hook) at in omega arith);
     chosen = λ place get hook resolution at atr. absurd (let h = slice_get_within [] place (ResolveRead get hook) at in omega arith);
   };
-  kinds = λ place e r ate atr. absurd (let h = slice_get_within [] place e ate in omega arith);
+}
+
+-- vnodes at which nothing has happened
+pub start_begins : (n : ℕ) (listed : List Helper) (all : List Event) → n ≤ 65536 → AreRunnable n listed all → Begins (empty_logs (below n)) all (start n)
+start_begins n listed all few runnable = record {
+  represents = opened_represents (below n) distinct;
+  ids = sym (length-map (below n) (λ (id : ℕ). let l : Log = record { vnode = id; entries = [] } in l));
+  nothing = refl;
+  fresh = new_at_start n listed all runnable few;
 }
   where
     distinct : AreDistinct (below n)
     distinct u v lu lv e = let l = below_len n in sym (below_at n u (omega (arith, lu))) ∙ e ∙ below_at n v (omega (arith, lv))
 
+-- an index is its own identifier under incarnation 0
+pub ids_are_below : (n : ℕ) → ids_under 0 n ≡ below n
+ids_are_below zero = refl
+ids_are_below (suc n) = map-append (id_under 0) (below n) (n ∷ []) ∙ ap (λ (is : List ℕ). is ++ id_under 0 n ∷ []) (ids_are_below n) ∙ ap (λ (k : ℕ). below n ++ k ∷ []) (let e : id_under 0 n ≡ n = omega arith in e)
+
+-- a copy that was held is of one that was left
+copy_of : (all : List Copy) (held : List Held) (one : Held) → ShowCopies all held → Contains held one → (c : Copy) × Contains all c × (one.key ≡ c.key) × IsStateOf c.writes one.state
+copy_of [] [] one h at = absurd (Contains-nil one at)
+copy_of (c ∷ all) (first ∷ held) one h at = elim (Contains-cases first held one at) [
+  | inl is ↦ (c, Contains-first c all, subst (λ (x : Held). x.key ≡ c.key) is h.0.0, subst (λ (x : Held). IsStateOf c.writes x.state) is h.0.1)
+  | inr more ↦ let r = copy_of all held one h.1 more in (r.0, Contains-later c all r.0 r.1, r.2, r.3)
+]
+copy_of [] (first ∷ held) one h at = absurd h
+copy_of (c ∷ all) [] one h at = absurd h
+
 -- what was answered for a key was put under it
-answered : (n : ℕ) (listed : List Helper) (events : List Event) (replies : List Reply) (logs : List Log) (made : ℕ) (so_far : IsRunSoFar n listed events replies logs made) (key : Key) (state : State) → IsAnswered events (record { logs = logs; replies = replies }) key state
-    → (writes : List Write) × WerePut so_far.known key writes × IsStateOf writes state
-answered n listed events replies logs made so_far key state (was_found place v at reply) =
-    let h : Holds (Found state) (left_by so_far.known place) = so_far.remember.each place (Found state) reply in
-    (h.1, so_far.represents.lawful.copied place key h.1 (h.2 ∙ ap (λ (k : Key). Copied k h.1) (so_far.recall.keys place v key h.0 h.1 at h.2)), h.3)
-answered n listed events replies logs made so_far key state (was_copied place message reply is_key is_state) =
-    let h : Holds (Sent message) (left_by so_far.known place) = so_far.remember.each place (Sent message) reply in
-    (h.0, so_far.represents.lawful.copied place key h.0 (h.1 ∙ ap (λ (k : Key). Copied k h.0) is_key), subst (IsStateOf h.0) is_state h.2)
-answered n listed events replies logs made so_far key state (was_kept v lt replay) =
-    (known_at so_far.known v key, known_put so_far.known v key so_far.represents.lawful, state_shown logs so_far.known v key state so_far.represents lt replay)
+answered : (events : List Event) (known : Knowledge) (replies : List Reply) (logs : List Log) → Represents logs known → Remember replies known → Recall events replies known → (key : Key) (state : State) → IsAnswered events (record { logs = logs; replies = replies }) key state
+    → (writes : List Write) × WerePut known key writes × IsStateOf writes state
+answered events known replies logs rep remember recall key state (was_found place v at reply) =
+    let h : Holds (Found state) (left_by known place) = remember.each place (Found state) reply in
+    (h.1, rep.lawful.copied place key h.1 (h.2 ∙ ap (λ (k : Key). Copied k h.1) (recall.keys place v key h.0 h.1 at h.2)), h.3)
+answered events known replies logs rep remember recall key state (was_copied place message reply is_key is_state) =
+    let h : Holds (Sent message) (left_by known place) = remember.each place (Sent message) reply in
+    (h.0, rep.lawful.copied place key h.0 (h.1 ∙ ap (λ (k : Key). Copied k h.0) is_key), subst (IsStateOf h.0) is_state h.2)
+answered events known replies logs rep remember recall key state (was_dumped place copies one reply here is_key is_state) =
+    let h : Holds (Dumped copies) (left_by known place) = remember.each place (Dumped copies) reply in
+    let c = copy_of h.0 copies.held.items one h.2 here in (
+      c.0.writes,
+      λ w its. subst (λ (k : Key). Contains known.puts (let s : KeyedWrite = record { key = k; write = w } in s)) (sym c.2 ∙ is_key) (rep.lawful.copied_all place h.0 h.1 (record { key = c.0.key; write = w }) (one_copied h.0 c.0 w c.1 its)),
+      subst (IsStateOf c.0.writes) is_state c.3,
+    )
+answered events known replies logs rep remember recall key state (was_kept v lt replay) =
+    (known_at known v key, known_put known v key rep.lawful, state_shown logs known v key state rep lt replay)
 
 -- a whole run is a world
-pub world_of : (n : ℕ) (listed : List Helper) (events : List Event) (replies : List Reply) (logs : List Log) (made : ℕ) → IsRunSoFar n listed events replies logs made → IsWorldOf n listed events (record { logs = logs; replies = replies })
-world_of n listed events replies logs made so_far = record {
+pub world_of : (begin : Knowledge) (n : ℕ) (listed : List Helper) (all : List Event) (count : ℕ) (replies : List Reply) (logs : List Log) (made : ℕ) → take count all ≡ all → AreStamped logs made → IsKnownSoFar begin n listed all count replies logs → IsWorldFrom begin n listed all (record { logs = logs; replies = replies })
+world_of begin n listed all count replies logs made whole stamped so_far = record {
   known = so_far.known;
-  run = so_far.run;
+  run = subst (λ (es : List Event). Run listed begin es replies so_far.known) whole so_far.run;
   size = so_far.size;
   represents = so_far.represents;
-  stamped = subst (AreStamped logs) (sym so_far.stamped.count) so_far.stamped;
-  siblings = λ v key lt. shown logs so_far.known v key so_far.represents (subst (λ (m : ℕ). v < m) (sym so_far.size) lt);
-  states = λ v key state lt replay. state_shown logs so_far.known v key state so_far.represents (subst (λ (m : ℕ). v < m) (sym so_far.size) lt) replay;
+  stamped = subst (AreStamped logs) (sym stamped.count) stamped;
+  siblings = λ v key lt. shown logs so_far.known v key so_far.represents lt;
+  states = λ v key state lt replay. state_shown logs so_far.known v key state so_far.represents lt replay;
   causal = lawful_causal so_far.known so_far.represents.lawful;
   told = λ key a b mine theirs.
-      let m = answered n listed events replies logs made so_far key a mine in
-      let t = answered n listed events replies logs made so_far key b theirs in
+      let recall : Recall all replies so_far.known = subst (λ (es : List Event). Recall es replies so_far.known) whole so_far.recall in
+      let m = answered all so_far.known replies logs so_far.represents so_far.remember recall key a mine in
+      let t = answered all so_far.known replies logs so_far.represents so_far.remember recall key b theirs in
       equal_states so_far.known key m.0 t.0 a b so_far.represents.lawful m.1 t.1 m.2 t.2;
 }

@@ -1,5 +1,5 @@
 -- What an event may reply and lead to (Riak KV documentation: siblings and causal contexts; the limits are this store's profile).
-use Rattle.std.specs.Prelude.{◌≡◌, ℕ, ◌<◌, ◌≤◌, ◌↔◌, Bool, List, [], ◌∷◌, ◌++◌, length, MatchBool, Option, Some, None}
+use Rattle.std.specs.Prelude.{◌≡◌, ◌≢◌, ℕ, ◌+◌, ◌<◌, ◌≤◌, ◌↔◌, Contains, Bool, List, [], ◌∷◌, ◌++◌, length, MatchBool, Option, Some, None}
 use Rattle.helpers.specs.declared.sig.Entry.{Entry}
 use Rattle.verifier.specs.Program.{Program}
 use Rattle.dvv.specs.declared.Dot.{Dot}
@@ -8,9 +8,14 @@ use Rattle.object.specs.declared.content.Content.{Content}
 use Rattle.object.specs.declared.content.Key.{Key}
 use Rattle.object.specs.State.{State, kept}
 use Rattle.object.specs.Known.{Write, InContext, IsCurrent}
+use Rattle.std.specs.List.{All}
+use Rattle.vnode.specs.States.{keys_of}
+use Rattle.world.specs.declared.event.Copies.{Copies}
+use Rattle.std.specs.List.Sorted.{IsStrictlySortedBy}
+use Rattle.journal.specs.Keys.{key_cmp}
 use Rattle.journal.specs.Logs.{max_entries}
 use Rattle.world.specs.declared.event.Event.{Event}
-use Rattle.world.specs.declared.event.Event.TheVariants.{Put, Get, Send, Deliver, Restart, ResolveRead, ResolveWrite}
+use Rattle.world.specs.declared.event.Event.TheVariants.{Put, Get, Send, Deliver, Restart, Dump, Load, ResolveRead, ResolveWrite}
 use Rattle.world.specs.declared.event.Message.{Message}
 use Rattle.hookrun.specs.declared.resolving.Resolution.{Resolution}
 use Rattle.world.specs.declared.event.Seen.{Seen}
@@ -18,8 +23,8 @@ use Rattle.world.specs.declared.event.Seen.TheVariants.{Clock as Given, Get as C
 use Rattle.vnode.specs.declared.fault.VnodeFault.{VnodeFault}
 use Rattle.vnode.specs.declared.fault.VnodeFault.TheVariants.{ContextAhead, TooManySiblings, ClockFull, MergedClockFull, JournalFull, NoMemory}
 use Rattle.world.specs.declared.event.Reply.{Reply}
-use Rattle.world.specs.declared.event.Reply.TheVariants.{Stored, Found, Sent, Changed, Restarted, Resolved, Nothing, Refused}
-use Rattle.world.specs.Knowledge.{Knowledge, Copied, Chosen, Failed, left_by, known_at, id_of, accepted_at, IsContext, IsStateOf, write_of, next_dot, after_refusal, after_put, after_copy, after_delivery, after_restart, after_run, after_nothing}
+use Rattle.world.specs.declared.event.Reply.TheVariants.{Stored, Found, Sent, Changed, Restarted, Dumped, Loaded, Resolved, Nothing, Refused}
+use Rattle.world.specs.Knowledge.{Knowledge, KeyedWrite, Copy, Copied, CopiedAll, Chosen, Failed, left_by, known_at, id_of, accepted_at, IsContext, IsStateOf, write_of, next_dot, after_refusal, after_put, after_copy, after_delivery, after_restart, after_dump, after_load, after_run, after_nothing, id_under}
 use Rattle.hookrun.specs.Resolving.{IsResolution, chosen_by}
 
 -- the earlier event that an event names, by its place
@@ -30,6 +35,8 @@ named (Get vnode key) = None
 named (Send vnode key) = None
 named (Deliver message vnode) = Some message
 named (Restart vnode) = None
+named (Dump vnode) = None
+named (Load dump vnode incarnation) = Some dump
 named (ResolveRead get hook) = Some get
 named (ResolveWrite run vnode) = Some run
 
@@ -113,6 +120,27 @@ pub record Carries (world : Knowledge) (vnode : ℕ) (key : Key) (message : Mess
   pub at_is : message.at ≡ accepted_at world vnode
   pub state_is : IsStateOf (known_at world vnode key) message.state
 
+-- what a dump copies: the state of each of these keys, by an entry each, from the vnode's next one on
+pub record CarriesAll (world : Knowledge) (vnode : ℕ) (keys : List Key) (copies : Copies) : Type 0 where
+  pub from_is : copies.from ≡ id_of world vnode
+  pub first_is : copies.first ≡ accepted_at world vnode
+  pub keys_are : keys_of copies.held.items ≡ keys
+  pub states_are : All (λ c. IsStateOf (known_at world vnode c.key) c.state) copies.held.items
+
+-- the keys of which a vnode knows something, each once, in the order of bytes
+pub record AreKnownKeys (world : Knowledge) (vnode : ℕ) (keys : List Key) : Type 0 where
+  pub each : (k : Key) → Contains keys k ↔ ((dot : Dot) × InContext (known_at world vnode k) dot)
+  pub rising : IsStrictlySortedBy key_cmp keys
+
+-- a vnode's journal takes so many events more
+abbrev pub HasPlaces : Knowledge → ℕ → ℕ → Type 0
+HasPlaces world vnode count = accepted_at world vnode + count ≤ max_entries
+
+-- no vnode has or had an identifier, and nothing was put under it
+pub record IsNewId (world : Knowledge) (id : ℕ) : Type 0 where
+  pub vnodes : (vnode : ℕ) → vnode < length world.ids → id_of world vnode ≢ id
+  pub puts : (put : KeyedWrite) → Contains world.puts put → put.write.dot.vnode ≢ id
+
 -- a get, a send or a restart at a vnode
 abbrev pub IsAt : Event → ℕ → Type 0
 IsAt (Get at key) vnode = at ≡ vnode
@@ -120,6 +148,8 @@ IsAt (Send at key) vnode = at ≡ vnode
 IsAt (Restart at) vnode = at ≡ vnode
 IsAt (Put at key seen content) vnode = ⊥
 IsAt (Deliver message at) vnode = ⊥
+IsAt (Dump at) vnode = ⊥
+IsAt (Load dump at incarnation) vnode = ⊥
 IsAt (ResolveRead get hook) vnode = ⊥
 IsAt (ResolveWrite run at) vnode = ⊥
 
@@ -130,6 +160,8 @@ MayHappen world (Get vnode key) = HasPlace world vnode
 MayHappen world (Send vnode key) = HasPlace world vnode
 MayHappen world (Deliver message vnode) = (key : Key) × (writes : List Write) × (left_by world message ≡ Copied key writes) × MayDeliver world vnode key writes
 MayHappen world (Restart vnode) = HasPlace world vnode
+MayHappen world (Dump vnode) = (keys : List Key) × AreKnownKeys world vnode keys × HasPlaces world vnode (length keys)
+MayHappen world (Load dump vnode incarnation) = (copies : List Copy) × (left_by world dump ≡ CopiedAll copies)
 MayHappen world (ResolveRead get hook) = (key : Key) × (writes : List Write) × (left_by world get ≡ Copied key writes)
 MayHappen world (ResolveWrite run vnode) = (key : Key) × (writes : List Write) × (content : Content) × (clock : List Dot) × (left_by world run ≡ Chosen key writes (Some content)) × IsContext writes clock × MayPut world vnode key clock
 
@@ -166,6 +198,18 @@ pub data Happens (listed : List Entry) (old : Knowledge) (event : Event) (reply 
   -- a restart changes nothing
   restarted : (vnode : ℕ) → event ≡ Restart vnode → HasPlace old vnode
       → reply ≡ Restarted → new ≡ after_restart old vnode → Happens listed old event reply new
+  -- a dump answers the current writes and their context of each key of which its vnode knows something
+  dumped : (vnode : ℕ) (keys : List Key) (copies : Copies) → event ≡ Dump vnode
+      → AreKnownKeys old vnode keys → HasPlaces old vnode (length keys) → CarriesAll old vnode keys copies
+      → reply ≡ Dumped copies → new ≡ after_dump old vnode keys → Happens listed old event reply new
+  -- a journal that hasn't place for all of them takes none
+  dump_refused : (vnode : ℕ) (keys : List Key) → event ≡ Dump vnode
+      → AreKnownKeys old vnode keys → max_entries < accepted_at old vnode + length keys
+      → reply ≡ Refused JournalFull → new ≡ after_refusal old JournalFull → Happens listed old event reply new
+  -- a load goes on under a new identifier with what the dump copied, whatever the vnode knew
+  loaded : (dump vnode incarnation : ℕ) (copies : List Copy) → event ≡ Load dump vnode incarnation
+      → left_by old dump ≡ CopiedAll copies → IsNewId old (id_under incarnation vnode)
+      → reply ≡ Loaded (length copies) → new ≡ after_load old vnode (id_under incarnation vnode) copies → Happens listed old event reply new
   -- a full journal takes no get, send or restart
   full : (vnode : ℕ) → IsAt event vnode → IsFull old vnode
       → reply ≡ Refused JournalFull → new ≡ after_refusal old JournalFull → Happens listed old event reply new

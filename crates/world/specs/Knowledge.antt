@@ -1,5 +1,6 @@
 -- What the vnodes of a world know: sets of writes, by causal histories (Preguiça, Baquero, Almeida, Fonte, Gonçalves, 2010).
-use Rattle.std.specs.Prelude.{ℕ, zero, suc, ◌+◌, ◌==◌, ◌&&◌, ◌↔◌, Bool, Option, List, [], ◌∷◌, ◌++◌, length, map, filter, count_by, replicate, slice_set, slice_index_or}
+use Rattle.std.specs.Prelude.{ℕ, zero, suc, ◌+◌, ◌*◌, ◌==◌, ◌&&◌, ◌↔◌, Bool, Option, List, [], ◌∷◌, ◌++◌, length, map, filter, count_by, replicate, slice_set, slice_index_or}
+use Rattle.std.specs.List.{flat_map}
 use Rattle.dvv.specs.declared.Dot.{Dot}
 use Rattle.dvv.specs.Clock.{Covers, covers, IsClock}
 use Rattle.object.specs.declared.content.Content.{Content}
@@ -14,15 +15,22 @@ pub record KeyedWrite : Type 0 where
   pub key : Key
   pub write : Write
 
--- what an event left for later ones that name it: nothing, the writes of a key that it copied, the writes among which a resolver chose and the
--- content that is to be written, if any, or its refusal
+-- the writes of a key, as they were copied
+pub record Copy : Type 0 where
+  pub key : Key
+  pub writes : List Write
+
+-- what an event left for later ones that name it: nothing, the writes of a key that it copied, those of each key, the writes among which a resolver
+-- chose and the content that is to be written, if any, or its refusal
 pub data Left : Type 0 where
   Nothing : Left
   Copied : (key : Key) (writes : List Write) → Left
+  CopiedAll : (copies : List Copy) → Left
   Chosen : (key : Key) (writes : List Write) (content : Option Content) → Left
   Failed : (refusal : VnodeFault) → Left
 
--- the vnodes' identifiers by index; all accepted puts, oldest first; what each vnode knows; how many events each accepted; and what each event left
+-- the vnodes' identifiers by index, and behind them those that loads have closed, oldest first; all accepted puts, oldest first; what each vnode knows, and each
+-- closed one knew; how many events each accepted; and what each event left
 pub record Knowledge : Type 0 where
   pub ids : List ℕ
   pub puts : List KeyedWrite
@@ -155,6 +163,43 @@ after_run world key writes content = record {
   known = world.known;
   accepted = world.accepted;
   left = world.left ++ Chosen key writes content ∷ [];
+}
+
+-- the identifier of an index under an incarnation: the index has its lower 16 bits (this store's profile)
+abbrev pub id_under : ℕ → ℕ → ℕ
+id_under incarnation vnode = incarnation * 65536 + vnode
+
+-- the identifiers of so many indexes under an incarnation
+abbrev pub ids_under : ℕ → ℕ → List ℕ
+ids_under incarnation vnodes = map (id_under incarnation) (below vnodes)
+
+-- what copies hold together
+abbrev pub all_copied : List Copy → List KeyedWrite
+all_copied copies = flat_map (λ c. under c.key c.writes) copies
+
+-- what a vnode knows of each of these keys
+abbrev pub copies_at : Knowledge → ℕ → List Key → List Copy
+copies_at world vnode keys = map (λ key. record { key = key; writes = known_at world vnode key }) keys
+
+-- a dump copies what its vnode knows of each of its keys, by an event for each
+abbrev pub after_dump : Knowledge → ℕ → List Key → Knowledge
+after_dump world vnode keys = record {
+  ids = world.ids;
+  puts = world.puts;
+  known = world.known;
+  accepted = slice_set world.accepted vnode (accepted_at world vnode + length keys);
+  left = world.left ++ CopiedAll (copies_at world vnode keys) ∷ [];
+}
+
+-- after a load the index goes on under a new identifier that knows what was loaded and no more. The identifier that it had is closed, and stands behind the
+-- others with what it knew
+abbrev pub after_load : Knowledge → ℕ → ℕ → List Copy → Knowledge
+after_load world vnode id copies = record {
+  ids = slice_set world.ids vnode id ++ id_of world vnode ∷ [];
+  puts = world.puts;
+  known = slice_set world.known vnode (all_copied copies) ++ slice_index_or world.known vnode [] ∷ [];
+  accepted = slice_set world.accepted vnode (length copies) ++ accepted_at world vnode ∷ [];
+  left = world.left ++ Nothing ∷ [];
 }
 
 -- where nothing was chosen nothing is put

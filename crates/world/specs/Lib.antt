@@ -7,3 +7,4 @@ pub mod Represents
 pub mod Stamped
 pub mod Appending
 pub mod Running
+pub mod Beginning

@@ -4,7 +4,7 @@ use crate::hook::Hook;
 use dvv::{Clock, Dot};
 use hookrun::Resolution;
 use object::{Content, Key, KeyState};
-use vnode::VnodeFault;
+use vnode::{Copied, VnodeFault};
 
 /// What a put had seen.
 #[derive(Drop)]
@@ -44,6 +44,17 @@ pub enum Event {
     Restart {
         vnode: usize,
     },
+    /// A copy of the state of each key of which a vnode knows something, for loads.
+    Dump {
+        vnode: usize,
+    },
+    /// The identifier of an index is closed. The index goes on under that of another incarnation, which knows what an earlier dump copied and no
+    /// more.
+    Load {
+        dump: usize,
+        vnode: usize,
+        incarnation: u16,
+    },
     /// A resolver runs on the siblings that an earlier get answered.
     ResolveRead {
         get: usize,
@@ -67,6 +78,16 @@ pub struct Message {
     pub state: KeyState,
 }
 
+/// Copies of the states of a vnode's keys, in the order of the keys' bytes, each by an entry of its journal.
+#[derive(Drop)]
+pub struct Copies {
+    /// The vnode's identifier.
+    pub from: u32,
+    /// The place of the first copy's entry. Those of the others follow.
+    pub first: usize,
+    pub held: Vec<Copied>,
+}
+
 /// What an event replies.
 #[derive(Drop)]
 pub enum Reply {
@@ -80,6 +101,10 @@ pub enum Reply {
     Changed(bool),
     /// A vnode has started again.
     Restarted,
+    /// What a dump copied, in the order of the keys' bytes.
+    Dumped(Copies),
+    /// How many keys were loaded.
+    Loaded(usize),
     /// What a resolver decided.
     Resolved(Resolution),
     /// The named run chose no content, and nothing was put.

@@ -1,12 +1,15 @@
 //! Interleavings of events over vnodes, resolvers' runs among them, and what each vnode knows.
 #![tactic(auto)]
 
+mod beginning;
 mod event;
 mod hook;
 pub mod laws;
 mod world;
 
-pub use event::{Event, Message, Reply, Seen};
+pub use beginning::BeginFault;
+pub use event::{Copies, Event, Message, Reply, Seen};
 pub use hook::Hook;
 pub use hookrun::Resolution;
+pub use vnode::Copied;
 pub use world::{MAX_VNODES, World};

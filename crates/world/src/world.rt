@@ -2,26 +2,34 @@
 
 ghost use Rattle.std.specs.Option.{option_copied};
 ghost use Rattle.helpers.specs.declared.sig.Entry.{Entry as Helper};
-ghost use Rattle.std.specs.Prelude.{◌≡◌, ◌≢◌, ℕ, ◌<◌, ◌≤◌, ◌^◌, ◌+◌, ◌⊎◌, ◌++◌, ◌∷◌, [], List, length, slice_get, Some, IfOk, IfErr, OnOk, OnErr};
+ghost use Rattle.std.specs.Prelude.{◌≡◌, ◌↔◌, ℕ, ◌<◌, ◌≤◌, ◌^◌, ◌+◌, ◌⊎◌, List, [], ◌∷◌, length, slice_get, Some, IfOk, IfErr, OnOk, OnErr};
 ghost use Rattle.verifier.specs.Program.{Program};
 ghost use Rattle.dvv.specs.declared.Dot.{Dot as Identifier};
 ghost use Rattle.object.specs.declared.content.Key.{Key as StoredKey};
 ghost use Rattle.journal.specs.Entry.{Put, Merge, Read, Restart};
 ghost use Rattle.world.specs.declared.event.Event.TheVariants as event;
-ghost use Rattle.journal.specs.Logs.{Log};
+ghost use Rattle.journal.specs.Logs.{Log, with_entry, max_entries};
 ghost use Rattle.journal.specs.Replay.{IsReplay};
 ghost use Rattle.journal.specs.Answers.{TellsChange};
-ghost use Rattle.journal.specs.Journals.{MayFollow};
-ghost use Rattle.world.specs.Knowledge.{Knowledge, start, opened, below, left_by, Failed};
-ghost use Rattle.world.specs.Happening.{Happens, Means};
+ghost use Rattle.journal.specs.Journals.{IsJournal};
+ghost use Rattle.world.specs.Knowledge.{Knowledge, left_by, Failed, id_under, ids_under};
+ghost use Rattle.world.specs.Happening.{Happens, Means, IsNewId};
 ghost use Rattle.world.specs.Represents.{Represents, log_at, with_entry_at, empty_logs};
 ghost use Rattle.vnode.specs.Refusals.{RefusesPut, RefusesMerge, RefusesEntry};
-ghost use Rattle.world.specs.Appending.{Appends};
+ghost use Rattle.world.specs.Appending.{Appends, AreCopies, CopiesAll, LoadsAll, merges_of_copies};
+ghost use Rattle.vnode.specs.Keys.{AreKeys};
+ghost use Rattle.vnode.specs.States.{keys_of};
+ghost use Rattle.journal.specs.Keys.{key_cmp};
+ghost use Rattle.std.specs.List.Sorted.{IsStrictlySortedBy};
+ghost use Rattle.object.specs.State.{empty};
+ghost use Rattle.journal.specs.Limits.{TakesEntry};
 ghost use Rattle.world.specs.Stamped.{AreStamped};
-ghost use Rattle.world.specs.Running.{IsMessageOf, Remember, IsReady, IsReadyContext, ReplyAt, IsSentOrRefused, IsRefusedContext, AreRunnable, MayReply, Recall, IsReadyRun, IsGetAt, IsRunAt, IsChoiceOf, IsFoundOrRefused, IsResolvedOrRefused};
+ghost use Rattle.world.specs.Running.{IsMessageOf, Remember, IsReady, IsReadyContext, ReplyAt, IsSentOrRefused, IsRefusedContext, AreRunnable, AreRunnableFrom, MayReply, Recall, IsReadyRun, IsGetAt, IsRunAt, IsChoiceOf, IsFoundOrRefused, IsResolvedOrRefused, IsDumpedOrRefused, IsNoLoad, IsNewFor, Begins, IsWorldFrom, max_vnodes};
 ghost use Rattle.world.specs.Resolving.{MayRun};
+ghost use Rattle.world.specs.Beginning.{BeginsWith, RefusesRecords, merges_of};
 
-use crate::event::{Event, Message, Reply, Seen};
+use crate::beginning::{BeginFault, merge_all};
+use crate::event::{Copies, Event, Message, Reply, Seen};
 use crate::hook::Hook;
 use dvv::{Clock, Dot};
 use helpers::Table;
@@ -29,7 +37,9 @@ use hookrun::{Resolution, Room, Unresolved, resolve};
 use object::{Content, Key, KeyState};
 use std::alloc::{AllocError, Global};
 use std::marker::Model;
-use vnode::{Vnode, VnodeFault};
+use std::mem;
+use vnode::{Copied, Vnode, VnodeFault};
+use wire::Record;
 
 /// A world after a run: its vnodes, each seen as its journal, and what each event replied.
 #[derive(Drop)]
@@ -46,12 +56,15 @@ impl Model for World {
     ghost view = { λ w. record { logs = w.vnodes.items; replies = w.replies.items } };
 }
 
+// The most entries made before a dump or a load. No memory holds so many, and as many stamps are left as a list has events.
+const MAX_MADE: u64 = 1 << 62;
+
 /// The most vnodes: the index of a vnode has 16 bits of its identifier.
 pub const MAX_VNODES: usize = 65_536;
 
 impl World {
     ghost use Rattle.std.specs.Prelude.{slice_index_or};
-    ghost use Rattle.world.specs.Running.{IsWorldOf, max_vnodes};
+    ghost use Rattle.world.specs.Running.{IsWorldOf};
 
     /// Runs events, one after another, over so many vnodes at which nothing has happened. A vnode's index is its identifier. The
     /// stamp of an entry is the number of entries that all journals had before it: stamps rise in each journal, and no two
@@ -71,24 +84,44 @@ impl World {
         requires runnable { AreRunnable vnodes table.now.listed events.now }
         ensures { IfOk result (IsWorldOf vnodes table.now.listed events.now) }
     {
-        let mut states = open(alloc, vnodes)?;
-        let mut replies = Vec::with_capacity(alloc, events.len())?;
-        let mut room = Room::new(alloc);
-        let mut made = 0;
-        for event in events {
-            let before = &events[..replies.len()];
-            let reply = happen(
-                alloc,
-                &mut room,
-                table,
-                &mut states,
-                &mut made,
-                before,
-                &replies,
-                event,
-            );
-            replies.push(reply)?;
-        }
+        let mut states = open(alloc, vnodes, 0)?;
+        let replies = go_on(alloc, &mut states, 0, table, events)?;
+        Ok(World {
+            vnodes: states,
+            replies,
+        })
+    }
+
+    /// As [`run`](World::run), at vnodes of this incarnation, the first of which has merged records, in order: its journal begins with a
+    /// merge for each. A vnode's identifier is `incarnation * 65,536` and its index.
+    ///
+    /// Nothing is asked of the records. Where some world has led to them, in which no event of these loads an identifier that was in
+    /// use, the run is one that goes on from it. An error tells the record whose merge the first vnode refused, and why, or that memory
+    /// ran out for the vnodes and the list of replies.
+    pub fn run_from(
+        alloc: Global,
+        vnodes: usize,
+        incarnation: u16,
+        records: &[Record],
+        table: &Table,
+        events: &[Event],
+    ) -> Result<World, BeginFault>
+        requires first { 1 ≤ vnodes }
+        requires few { vnodes ≤ max_vnodes }
+        requires runnable { AreRunnableFrom (0 ∷ incarnation ∷ []) vnodes table.now.listed events.now }
+        ensures world { IfOk result (λ world. (begin : Knowledge) → BeginsWith incarnation vnodes records.now events.now begin → IsWorldFrom begin vnodes table.now.listed events.now world) }
+
+        // Each event is replied, whatever the records are.
+        ensures replies { IfOk result (λ world. length world.replies ≡ length events.now) }
+
+        // Each record is merged, as the first vnode's journal takes it.
+        ensures takes { OnOk result (IsJournal (id_under incarnation 0) (merges_of 0 records.now)) }
+        ensures refused { IfErr result (RefusesRecords (id_under incarnation 0) records.now) }
+    {
+        let mut states = open(alloc, vnodes, incarnation)?;
+        merge_all(&mut states[0], records)?;
+        let made = records.len() as u64;
+        let replies = go_on(alloc, &mut states, made, table, events)?;
         Ok(World {
             vnodes: states,
             replies,
@@ -102,6 +135,13 @@ impl World {
         &self.replies
     }
 
+    /// The vnodes by index, and behind them those that loads have closed, oldest first.
+    pub fn vnodes(&self) -> &[Vnode]
+        ensures { result.now ≡ self.now.logs }
+    {
+        &self.vnodes
+    }
+
     /// The vnode at an index.
     pub fn vnode(&self, index: usize) -> &Vnode
         requires { index < length self.now.logs }
@@ -111,16 +151,53 @@ impl World {
     }
 }
 
-// Vnodes at which nothing happened, each with its index as identifier.
-fn open(alloc: Global, vnodes: usize) -> Result<Vec<Vnode>, AllocError>
-    requires { vnodes ≤ 2 ^ 32 }
-    ensures { IfOk result (λ made. made.items ≡ empty_logs (below vnodes)) }
+// Vnodes of an incarnation at which nothing happened.
+fn open(alloc: Global, vnodes: usize, incarnation: u16) -> Result<Vec<Vnode>, AllocError>
+    requires { vnodes ≤ max_vnodes }
+    ensures { IfOk result (λ made. made.items ≡ empty_logs (ids_under incarnation vnodes)) }
 {
     let mut made = Vec::with_capacity(alloc, vnodes)?;
-    for id in 0..vnodes {
-        made.push(Vnode::new(alloc, id as u32))?;
+    for index in 0..vnodes {
+        made.push(Vnode::new(alloc, identifier(incarnation, index)))?;
     }
     Ok(made)
+}
+
+// The identifier of an index under an incarnation.
+fn identifier(incarnation: u16, index: usize) -> u32
+    requires { index < max_vnodes }
+    ensures { result ≡ id_under incarnation index }
+{
+    incarnation as u32 * 65_536 + index as u32
+}
+
+// Runs events at vnodes whose journals have so many entries, and answers the replies. An event's kind of reply doesn't hang on what the
+// journals say; what is known then does.
+fn go_on(
+    alloc: Global,
+    vnodes: &mut Vec<Vnode>,
+    made: u64,
+    table: &Table,
+    events: &[Event],
+) -> Result<Vec<Reply>, AllocError>
+    requires few { length vnodes.old.items ≤ max_vnodes }
+    requires stamped { AreStamped vnodes.old.items made }
+    requires room { made ≤ 2 ^ 63 }
+    requires runnable { (used : List ℕ) × AreRunnableFrom used (length vnodes.old.items) table.now.listed events.now }
+    ensures replies { IfOk result (λ replies. length replies.items ≡ length events.now) }
+    ensures world { IfOk result (λ replies. (begin : Knowledge) → Begins vnodes.old.items events.now begin → IsWorldFrom begin (length vnodes.old.items) table.now.listed events.now (record { logs = vnodes.new.items; replies = replies.items })) }
+{
+    let mut replies = Vec::with_capacity(alloc, events.len())?;
+    let mut room = Room::new(alloc);
+    let mut made = made;
+    for event in events {
+        let before = &events[..replies.len()];
+        let reply = happen(
+            alloc, &mut room, table, vnodes, &mut made, before, &replies, event,
+        );
+        replies.push(reply)?;
+    }
+    Ok(replies)
 }
 
 // The events that a put had seen, or why the get that it names was refused.
@@ -290,6 +367,7 @@ fn get(vnodes: &mut [Vnode], made: &mut u64, vnode: usize, key: &Key) -> Reply
     requires inside { vnode < length vnodes.old }
     requires room { made.old + 1 < 2 ^ 64 }
     ensures step { (listed : List Helper) (old : Knowledge) → Represents vnodes.old old → (new : Knowledge) × Happens listed old (event.Get vnode key.now) result new × Represents vnodes.new new }
+    ensures kind { IsFoundOrRefused result }
     ensures stamps { AreStamped vnodes.old made.old → AreStamped vnodes.new made.new }
     ensures few { made.new ≤ made.old + 1 }
 {
@@ -304,6 +382,7 @@ fn send(vnodes: &mut [Vnode], made: &mut u64, vnode: usize, key: &Key) -> Reply
     requires inside { vnode < length vnodes.old }
     requires room { made.old + 1 < 2 ^ 64 }
     ensures step { (listed : List Helper) (old : Knowledge) → Represents vnodes.old old → (new : Knowledge) × Happens listed old (event.Send vnode key.now) result new × Represents vnodes.new new }
+    ensures kind { IsSentOrRefused result }
     ensures stamps { AreStamped vnodes.old made.old → AreStamped vnodes.new made.new }
     ensures few { made.new ≤ made.old + 1 }
 {
@@ -368,6 +447,177 @@ fn restart(vnodes: &mut [Vnode], made: &mut u64, vnode: usize) -> Reply
 {
     match restart_at(vnodes, made, vnode) {
         Ok(()) => Reply::Restarted,
+        Err(refusal) => Reply::Refused(refusal),
+    }
+}
+
+// Reads each key at a vnode. The stamps of the entries are the numbers from those made so far on.
+fn dump_at(vnodes: &mut [Vnode], made: &mut u64, at: usize) -> Result<Copies, VnodeFault>
+    requires inside { at < length vnodes.old }
+    requires room { made.old ≤ 2 ^ 62 }
+    ensures copied { IfOk result (λ copies. CopiesAll vnodes.old vnodes.new at made.old copies) }
+    ensures full { IfErr result (λ fault. (keys : List StoredKey) × AreKeys (log_at vnodes.old at) keys × (fault ≡ VnodeFault.JournalFull ↔ (max_entries < length (log_at vnodes.old at).entries + length keys))) }
+    ensures why { IfErr result (λ fault. (fault ≡ VnodeFault.JournalFull) ⊎ (fault ≡ VnodeFault.NoMemory)) }
+    ensures err { OnErr result (vnodes.new ≡ vnodes.old) }
+    ensures stamps { AreStamped vnodes.old made.old → AreStamped vnodes.new made.new }
+    ensures few { made.new ≤ 2 ^ 63 }
+{
+    let vnode = &mut vnodes[at];
+    let from = vnode.id();
+    match vnode.read_all(*made) {
+        Ok((held, first)) => {
+            *made += held.len() as u64;
+            Ok(Copies { from, first, held })
+        }
+        Err(fault) => Err(fault),
+    }
+}
+
+// Want of memory for a dump of a vnode; a journal that has no places for it is told before.
+fn no_memory_for_all(vnode: &Vnode) -> VnodeFault
+    ensures why { (result ≡ VnodeFault.JournalFull) ⊎ (result ≡ VnodeFault.NoMemory) }
+    ensures full { (keys : List StoredKey) × AreKeys vnode.now keys × (result ≡ VnodeFault.JournalFull ↔ (max_entries < length vnode.now.entries + length keys)) }
+{
+    if vnode.can_read_all() {
+        VnodeFault::NoMemory
+    } else {
+        VnodeFault::JournalFull
+    }
+}
+
+// A dump, and its reply.
+fn dump(vnodes: &mut [Vnode], made: &mut u64, vnode: usize) -> Reply
+    requires inside { vnode < length vnodes.old }
+    ensures step { (listed : List Helper) (old : Knowledge) → Represents vnodes.old old → (new : Knowledge) × Happens listed old (event.Dump vnode) result new × Represents vnodes.new new }
+    ensures kind { IsDumpedOrRefused result }
+    ensures stamps { AreStamped vnodes.old made.old → AreStamped vnodes.new made.new }
+    ensures few { (made.new ≤ made.old + 1) ⊎ (made.new ≤ 2 ^ 63) }
+{
+    if *made > MAX_MADE {
+        return Reply::Refused(no_memory_for_all(&vnodes[vnode]));
+    }
+    match dump_at(vnodes, made, vnode) {
+        Ok(copies) => Reply::Dumped(copies),
+        Err(refusal) => Reply::Refused(refusal),
+    }
+}
+
+// What an earlier dump copied, or why it was refused.
+fn copies_of(replies: &[Reply], dump: usize) -> Result<&Copies, VnodeFault>
+    requires dumped { ReplyAt replies.now dump IsDumpedOrRefused }
+    ensures copied { IfOk result (λ copies. slice_get replies.now dump ≡ Some (Reply.Dumped copies.now)) }
+    ensures are { IfOk result (λ copies. AreCopies copies.now) }
+    ensures refused { IfErr result (λ refusal. slice_get replies.now dump ≡ Some (Reply.Refused refusal)) }
+{
+    match &replies[dump] {
+        Reply::Dumped(copies) => Ok(copies),
+        Reply::Refused(refusal) => Err(*refusal),
+        _ => unreachable!(),
+    }
+}
+
+// Merges a copy at a vnode that knows nothing of its key: only memory can lack.
+fn merge_copy(
+    vnode: &mut Vnode,
+    stamp: u64,
+    from: u32,
+    at: u32,
+    one: &Copied,
+) -> Result<(), VnodeFault>
+    requires unknown { IsReplay vnode.old.entries one.now.key empty }
+    requires place { TakesEntry vnode.old.entries }
+    ensures merged { OnOk result (vnode.new ≡ with_entry vnode.old (Merge stamp one.now.key from at one.now.state)) }
+    ensures why { IfErr result (λ fault. fault ≡ VnodeFault.NoMemory) }
+    ensures legal { IsJournal vnode.new.vnode vnode.new.entries }
+{
+    // What every state keeps is told with its siblings.
+    let _siblings = one.state.siblings();
+    match vnode.merge_lent(stamp, &one.key, from, at, &one.state) {
+        Ok(_) => Ok(()),
+        Err(fault) => Err(fault),
+    }
+}
+
+// A vnode of this identifier that has merged copies of rising keys, and at which nothing else happened. Only memory can lack.
+fn loaded(
+    alloc: Global,
+    stamp: u64,
+    id: u32,
+    from: u32,
+    first: usize,
+    held: &[Copied],
+) -> Result<Vnode, VnodeFault>
+    requires rising { IsStrictlySortedBy key_cmp (keys_of held.now) }
+    requires places { first + length held.now ≤ max_entries }
+    requires room { stamp ≤ 2 ^ 62 }
+    ensures vnode { IfOk result (λ vnode. vnode ≡ record { vnode = id; entries = merges_of_copies stamp from first held.now }) }
+    ensures legal { IfOk result (λ vnode. IsJournal vnode.vnode vnode.entries) }
+    ensures why { IfErr result (λ fault. fault ≡ VnodeFault.NoMemory) }
+{
+    let mut vnode = Vnode::new(alloc, id);
+    for (index, one) in held.iter().enumerate() {
+        let at = (first + index) as u32;
+        merge_copy(&mut vnode, stamp + index as u64, from, at, one)?;
+    }
+    // What every journal keeps is told with it.
+    let _journal = vnode.journal();
+    Ok(vnode)
+}
+
+// The index goes on under a new identifier with copies, and the vnode that it had stands behind the others. Only memory can lack.
+fn load_at(
+    alloc: Global,
+    vnodes: &mut Vec<Vnode>,
+    made: &mut u64,
+    at: usize,
+    id: u32,
+    copies: &Copies,
+) -> Result<(), VnodeFault>
+    requires inside { at < length vnodes.old.items }
+    requires are { AreCopies copies.now }
+    requires room { made.old ≤ 2 ^ 62 }
+    ensures loaded { OnOk result (LoadsAll vnodes.old.items vnodes.new.items at id made.old copies.now) }
+    ensures why { IfErr result (λ fault. fault ≡ VnodeFault.NoMemory) }
+    ensures err { OnErr result (vnodes.new.items ≡ vnodes.old.items) }
+    ensures stamps { AreStamped vnodes.old.items made.old → AreStamped vnodes.new.items made.new }
+    ensures few { made.new ≤ 2 ^ 63 }
+{
+    vnodes.try_reserve(1)?;
+    let fresh = loaded(alloc, *made, id, copies.from, copies.first, &copies.held)?;
+    *made += copies.held.len() as u64;
+    let closed = mem::replace(&mut vnodes[at], fresh);
+    vnodes.push_reserved(closed);
+    Ok(())
+}
+
+// A load, and its reply. A dump passes no limit of a journal that has nothing, since each of its keys stands once.
+fn load(
+    alloc: Global,
+    vnodes: &mut Vec<Vnode>,
+    made: &mut u64,
+    replies: &[Reply],
+    dump: usize,
+    vnode: usize,
+    incarnation: u16,
+) -> Reply
+    requires inside { vnode < length vnodes.old.items }
+    requires index { vnode < 65536 }
+    requires dumped { ReplyAt replies.now dump IsDumpedOrRefused }
+    ensures step { (listed : List Helper) (old : Knowledge) → Represents vnodes.old.items old → length old.ids ≡ length vnodes.old.items → Remember replies.now old → IsNewId old (id_under incarnation vnode) → (new : Knowledge) × Happens listed old (event.Load dump vnode incarnation) result new × Represents vnodes.new.items new }
+    ensures more { length vnodes.old.items ≤ length vnodes.new.items }
+    ensures stamps { AreStamped vnodes.old.items made.old → AreStamped vnodes.new.items made.new }
+    ensures few { (made.new ≤ made.old + 1) ⊎ (made.new ≤ 2 ^ 63) }
+{
+    let copies = match copies_of(replies, dump) {
+        Ok(copies) => copies,
+        Err(refusal) => return Reply::Refused(refusal),
+    };
+    if *made > MAX_MADE {
+        return Reply::Refused(VnodeFault::NoMemory);
+    }
+    let id = identifier(incarnation, vnode);
+    match load_at(alloc, vnodes, made, vnode, id, copies) {
+        Ok(()) => Reply::Loaded(copies.held.len()),
         Err(refusal) => Reply::Refused(refusal),
     }
 }
@@ -467,6 +717,7 @@ fn resolve_read(
     requires answered { ReplyAt replies.now get IsFoundOrRefused }
     requires may { MayRun table.now.listed hook.now }
     ensures step { (logs : List Log) (old : Knowledge) → Represents logs old → Remember replies.now old → (new : Knowledge) × Happens table.now.listed old (event.ResolveRead get hook.now) result new × Represents logs new }
+    ensures kind { IsResolvedOrRefused result }
 {
     let state = match answer_of(replies, get) {
         Ok(state) => state,
@@ -510,8 +761,37 @@ fn resolve_write(
     }
 }
 
-// One event after others, and its reply.
+// One event after others, and its reply. A load has one more vnode, closed, behind the others.
 fn happen(
+    alloc: Global,
+    room: &mut Room,
+    table: &Table,
+    vnodes: &mut Vec<Vnode>,
+    made: &mut u64,
+    before: &[Event],
+    replies: &[Reply],
+    event: &Event,
+) -> Reply
+    requires ready { IsReady (length vnodes.old.items) table.now.listed before.now replies.now event.now }
+    requires room { made.old + 1 < 2 ^ 64 }
+    ensures step { (old : Knowledge) → Represents vnodes.old.items old → length old.ids ≡ length vnodes.old.items → Remember replies.now old → Recall before.now replies.now old → IsNewFor old event.now → (new : Knowledge) × Happens table.now.listed old event.now result new × Represents vnodes.new.items new }
+    ensures kind { MayReply event.now result }
+    ensures more { length vnodes.old.items ≤ length vnodes.new.items }
+    ensures stamps { AreStamped vnodes.old.items made.old → AreStamped vnodes.new.items made.new }
+    ensures few { (made.new ≤ made.old + 1) ⊎ (made.new ≤ 2 ^ 63) }
+{
+    match event {
+        Event::Load {
+            dump,
+            vnode,
+            incarnation,
+        } => load(alloc, vnodes, made, replies, *dump, *vnode, *incarnation),
+        _ => happen_at(alloc, room, table, vnodes, made, before, replies, event),
+    }
+}
+
+// One event that is no load, and its reply.
+fn happen_at(
     alloc: Global,
     room: &mut Room,
     table: &Table,
@@ -521,11 +801,13 @@ fn happen(
     replies: &[Reply],
     event: &Event,
 ) -> Reply
+    requires stays { IsNoLoad event.now }
     requires ready { IsReady (length vnodes.old) table.now.listed before.now replies.now event.now }
     requires room { made.old + 1 < 2 ^ 64 }
     ensures step { (old : Knowledge) → Represents vnodes.old old → Remember replies.now old → Recall before.now replies.now old → (new : Knowledge) × Happens table.now.listed old event.now result new × Represents vnodes.new new }
+    ensures kind { MayReply event.now result }
     ensures stamps { AreStamped vnodes.old made.old → AreStamped vnodes.new made.new }
-    ensures few { made.new ≤ made.old + 1 }
+    ensures few { (made.new ≤ made.old + 1) ⊎ (made.new ≤ 2 ^ 63) }
 {
     match event {
         Event::Put {
@@ -538,6 +820,8 @@ fn happen(
         Event::Send { vnode, key } => send(vnodes, made, *vnode, key),
         Event::Deliver { message, vnode } => deliver(vnodes, made, replies, *message, *vnode),
         Event::Restart { vnode } => restart(vnodes, made, *vnode),
+        Event::Dump { vnode } => dump(vnodes, made, *vnode),
+        Event::Load { .. } => unreachable!(),
         Event::ResolveRead { get, hook } => resolve_read(alloc, room, table, replies, *get, hook),
         Event::ResolveWrite { run, vnode } => resolve_write(
             vnodes, made, before, replies, *run, *vnode,

@@ -1,27 +1,36 @@
-use Rattle.std.proofs.Common.{sym, subst}
+use Rattle.std.proofs.Common.{◌≡◌, ◌++◌, List, length, take, drop, sym, subst, ap, ◌∙◌}
+use Rattle.journal.specs.Logs.{Log}
 use Rattle.world.specs.declared.event.Event.{Event}
 use Rattle.world.specs.Knowledge.{Knowledge}
 use Rattle.world.specs.Happening.{Happens}
 use Rattle.world.specs.Represents.{Represents}
+use Rattle.world.specs.Running.{IsNewFor, IsReady}
+use Rattle.world.specs.Stamped.{AreStamped}
+use Rattle.world.proofs.Whole.{no_load, whole_back}
 use Rattle.world.proofs.world.happen.Goals as goal
 
-pub returns-in-Put-clause-step : goal.returns-in-Put-clause-step
-returns-in-Put-clause-step o c = λ old rep remember recall. subst (λ (e : Event). (x : Knowledge) × Happens c.args.table.now.listed old e c.put.result x × Represents c.put.new.vnodes x) (sym c.in-Put.is) (c.put.ensures.step c.args.table.now.listed old rep remember)
+pub returns-in-Load-clause-step : goal.returns-in-Load-clause-step
+returns-in-Load-clause-step o c = λ old rep named remember recall new.
+    subst (λ (e : Event). (x : Knowledge) × Happens c.args.table.now.listed old e c.load.result x × Represents c.load.new.vnodes.items x) (sym c.in-Load.is)
+    (c.load.ensures.step c.args.table.now.listed old rep named remember (subst (IsNewFor old) c.in-Load.is new))
 
-pub returns-in-Get-clause-step : goal.returns-in-Get-clause-step
-returns-in-Get-clause-step o c = λ old rep remember recall. subst (λ (e : Event). (x : Knowledge) × Happens c.args.table.now.listed old e c.get.result x × Represents c.get.new.vnodes x) (sym c.in-Get.is) (c.get.ensures.step c.args.table.now.listed old rep)
+pub happen_at-requires-clause-stays : goal.happen_at-requires-clause-stays
+happen_at-requires-clause-stays o c = no_load c.args.event.now c.in_default.not-Load
 
-pub returns-in-Send-clause-step : goal.returns-in-Send-clause-step
-returns-in-Send-clause-step o c = λ old rep remember recall. subst (λ (e : Event). (x : Knowledge) × Happens c.args.table.now.listed old e c.send.result x × Represents c.send.new.vnodes x) (sym c.in-Send.is) (c.send.ensures.step c.args.table.now.listed old rep)
+pub happen_at-requires-clause-ready : goal.happen_at-requires-clause-ready
+happen_at-requires-clause-ready o c = subst (λ (ls : List Log). IsReady (length ls) c.args.table.now.listed c.args.before.now c.args.replies.now c.args.event.now) (sym c.deref_mut.ensures.value) c.requires.ready
 
-pub returns-in-Deliver-clause-step : goal.returns-in-Deliver-clause-step
-returns-in-Deliver-clause-step o c = λ old rep remember recall. subst (λ (e : Event). (x : Knowledge) × Happens c.args.table.now.listed old e c.deliver.result x × Represents c.deliver.new.vnodes x) (sym c.in-Deliver.is) (c.deliver.ensures.step c.args.table.now.listed old rep remember)
+pub returns-in_default-clause-step : goal.returns-in_default-clause-step
+returns-in_default-clause-step o c = λ old rep named remember recall new.
+    let n : length c.happen_at.new.vnodes ≡ length c.args.vnodes.now.items = c.happen_at.auto.vnodes ∙ ap (λ (ls : List Log). length ls) c.deref_mut.ensures.value in
+    let len : c.args.vnodes.now.len ≡ length c.args.vnodes.now.items = sym c.deref_mut.ensures.len ∙ ap (λ (ls : List Log). length ls) c.deref_mut.ensures.value in
+    let whole : take c.args.vnodes.now.len (c.happen_at.new.vnodes ++ drop (length c.happen_at.new.vnodes) c.args.vnodes.now.items) ≡ c.happen_at.new.vnodes = whole_back c.happen_at.new.vnodes c.args.vnodes.now.items c.args.vnodes.now.len n len in
+    let h = c.happen_at.ensures.step old (subst (λ (ls : List Log). Represents ls old) (sym c.deref_mut.ensures.value) rep) remember recall in
+    (h.0, h.1, subst (λ (ls : List Log). Represents ls h.0) (sym whole) h.2)
 
-pub returns-in-Restart-clause-step : goal.returns-in-Restart-clause-step
-returns-in-Restart-clause-step o c = λ old rep remember recall. subst (λ (e : Event). (x : Knowledge) × Happens c.args.table.now.listed old e c.restart.result x × Represents c.restart.new.vnodes x) (sym c.in-Restart.is) (c.restart.ensures.step c.args.table.now.listed old rep)
-
-pub returns-in-ResolveRead-clause-step : goal.returns-in-ResolveRead-clause-step
-returns-in-ResolveRead-clause-step o c = λ old rep remember recall. subst (λ (e : Event). (x : Knowledge) × Happens c.args.table.now.listed old e c.resolve_read.result x × Represents c.args.vnodes.now x) (sym c.in-ResolveRead.is) (c.resolve_read.ensures.step c.args.vnodes.now old rep remember)
-
-pub returns-in-ResolveWrite-clause-step : goal.returns-in-ResolveWrite-clause-step
-returns-in-ResolveWrite-clause-step o c = λ old rep remember recall. subst (λ (e : Event). (x : Knowledge) × Happens c.args.table.now.listed old e c.resolve_write.result x × Represents c.resolve_write.new.vnodes x) (sym c.in-ResolveWrite.is) (c.resolve_write.ensures.step c.args.table.now.listed old rep remember recall)
+pub returns-in_default-clause-stamps : goal.returns-in_default-clause-stamps
+returns-in_default-clause-stamps o c = λ stamped.
+    let n : length c.happen_at.new.vnodes ≡ length c.args.vnodes.now.items = c.happen_at.auto.vnodes ∙ ap (λ (ls : List Log). length ls) c.deref_mut.ensures.value in
+    let len : c.args.vnodes.now.len ≡ length c.args.vnodes.now.items = sym c.deref_mut.ensures.len ∙ ap (λ (ls : List Log). length ls) c.deref_mut.ensures.value in
+    let whole : take c.args.vnodes.now.len (c.happen_at.new.vnodes ++ drop (length c.happen_at.new.vnodes) c.args.vnodes.now.items) ≡ c.happen_at.new.vnodes = whole_back c.happen_at.new.vnodes c.args.vnodes.now.items c.args.vnodes.now.len n len in
+    subst (λ (ls : List Log). AreStamped ls c.happen_at.new.made) (sym whole) (c.happen_at.ensures.stamps (subst (λ (ls : List Log). AreStamped ls c.args.made.now) (sym c.deref_mut.ensures.value) stamped))

@@ -1,0 +1,29 @@
+use Rattle.std.proofs.Common.{[], List, subst}
+use Rattle.std.specs.Prelude.{◌↔◌, ◌+◌, ◌<◌, ◌≡◌, length}
+use Rattle.std.proofs.lemmas.List.{get_or_default}
+use Rattle.object.specs.declared.content.Key.{Key}
+use Rattle.journal.specs.Logs.{Log, max_entries}
+use Rattle.vnode.specs.declared.fault.VnodeFault.TheVariants.{JournalFull}
+use Rattle.vnode.specs.Keys.{AreKeys}
+use Rattle.world.specs.declared.event.Event.TheVariants as event
+use Rattle.world.specs.declared.event.Reply.TheVariants as reply
+use Rattle.world.specs.Represents.{log_at}
+use Rattle.world.proofs.Dumps.{copies_are}
+use Rattle.world.proofs.LoadRuns.{dump_happened, dump_was_refused}
+use Rattle.world.proofs.Runs.{with_same}
+use Rattle.world.proofs.world.dump.Goals as goal
+
+pub returns-then-made-gt-MAX_MADE-clause-step : goal.returns-then-made-gt-MAX_MADE-clause-step
+returns-then-made-gt-MAX_MADE-clause-step c = λ listed old rep.
+    let full : (keys : List Key) × AreKeys (log_at c.args.vnodes.now c.args.vnode) keys × (c.no_memory_for_all.result ≡ JournalFull ↔ (max_entries < length (log_at c.args.vnodes.now c.args.vnode).entries + length keys)) = subst (λ (l : Log). (keys : List Key) × AreKeys l keys × (c.no_memory_for_all.result ≡ JournalFull ↔ (max_entries < length l.entries + length keys))) (get_or_default c.args.vnodes.now c.args.vnode c.index-vnodes-vnode.result (record { vnode = 0; entries = [] }) c.requires.inside) c.no_memory_for_all.ensures.full in
+    dump_was_refused listed c.args.vnodes.now old c.args.vnode full.0 c.no_memory_for_all.result rep c.requires.inside full.1 full.2 c.no_memory_for_all.ensures.why
+
+pub returns-in-Ok-clause-step : goal.returns-in-Ok-clause-step
+returns-in-Ok-clause-step c = λ listed old rep. dump_happened listed c.args.vnodes.now c.dump_at.new.vnodes old c.args.vnode c.args.made.now c.in-Ok.copies rep c.requires.inside c.in-Ok.ensures.copied
+
+pub returns-in-Err-clause-step : goal.returns-in-Err-clause-step
+returns-in-Err-clause-step c = λ listed old rep. with_same listed c.args.vnodes.now c.dump_at.new.vnodes old (event.Dump c.args.vnode) (reply.Refused c.in-Err.refusal) c.in-Err.ensures.err
+    (let full = c.in-Err.ensures.full in dump_was_refused listed c.args.vnodes.now old c.args.vnode full.0 c.in-Err.refusal rep c.requires.inside full.1 full.2 c.in-Err.ensures.why)
+
+pub returns-in-Ok-clause-kind : goal.returns-in-Ok-clause-kind
+returns-in-Ok-clause-kind c = copies_are c.args.vnodes.now c.dump_at.new.vnodes c.args.vnode c.args.made.now c.in-Ok.copies c.in-Ok.ensures.copied

@@ -1,0 +1,33 @@
+use Rattle.std.proofs.Common.{arith, sym, ◌∙◌}
+use Rattle.std.proofs.lemmas.List.{length-map}
+use Rattle.vnode.specs.declared.steps.Copied.{Copied as Held}
+use Rattle.vnode.specs.States.{keys_of}
+use Rattle.world.proofs.Dumps.{copied_all, copies_stamped, full_at}
+use Rattle.world.proofs.world.dump_at.Goals as goal
+
+pub returns-in-Ok-clause-copied : goal.returns-in-Ok-clause-copied
+returns-in-Ok-clause-copied c =
+    copied_all c.args.vnodes.now c.args.at c.args.made.now c.index-vnodes-at.result c.read_all.new.self (record { from = c.id-from.result; first = c.in-Ok.first; held = c.in-Ok.held }) c.requires.inside
+    c.in-Ok.ensures.keys c.in-Ok.ensures.states c.id-from.ensures c.in-Ok.ensures.place c.in-Ok.ensures.entries c.read_all.ensures.legal c.in-Ok.ensures.places
+
+pub returns-in-Ok-clause-stamps : goal.returns-in-Ok-clause-stamps
+returns-in-Ok-clause-stamps c = copies_stamped c.args.vnodes.now c.args.made.now c.args.at c.len.result c.index-vnodes-at.result c.read_all.new.self (keys_of c.in-Ok.held.items) c.requires.inside c.in-Ok.ensures.entries (c.len.ensures ∙ c.in-Ok.held.ok.0 ∙ sym (length-map c.in-Ok.held.items (λ (one : Held). one.key)))
+
+pub returns-in-Err-clause-full : goal.returns-in-Err-clause-full
+returns-in-Err-clause-full c = full_at c.args.vnodes.now c.args.at c.index-vnodes-at.result c.read_all.result c.in-Err.fault c.requires.inside c.in-Err.is c.read_all.ensures.full
+
+pub overflow_add-made : goal.overflow_add-made
+overflow_add-made c =
+    let places = c.in-Ok.ensures.places in
+    let keys = length-map c.in-Ok.held.items (λ (one : Held). one.key) in
+    let count = c.len.ensures in
+    let room = c.requires.room in
+    omega (arith, places, keys, count, room)
+
+pub returns-in-Ok-clause-few : goal.returns-in-Ok-clause-few
+returns-in-Ok-clause-few c =
+    let places = c.in-Ok.ensures.places in
+    let keys = length-map c.in-Ok.held.items (λ (one : Held). one.key) in
+    let count = c.len.ensures in
+    let room = c.requires.room in
+    omega (arith, places, keys, count, room)

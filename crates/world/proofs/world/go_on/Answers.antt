@@ -1,0 +1,60 @@
+use Rattle.std.proofs.Common.{◌≡◌, ℕ, ◌+◌, List, length, take, sym, subst, ap, refl, ◌∙◌, arith, Some}
+use Rattle.std.specs.Prelude.{slice_get}
+use Rattle.std.proofs.lemmas.List.{take_all, length-take-le}
+use Rattle.std.proofs.lemmas.Option.{slice_get_read}
+use Rattle.helpers.specs.declared.sig.Entry.{Entry as Helper}
+use Rattle.world.specs.declared.event.Event.{Event}
+use Rattle.world.specs.declared.event.Reply.{Reply}
+use Rattle.world.specs.Running.{IsRunSoFar, IsKnownSoFar, IsReady, Remember, Recall}
+use Rattle.world.proofs.Whole.{nothing_run, nothing_known, is_ready, runs_on, knows_on, world_of}
+use Rattle.world.proofs.world.go_on.Goals as goal
+
+pub loop-event-init : goal.loop-event-init
+loop-event-init g c = record {
+  run = subst (λ (rs : List Reply). IsRunSoFar (length c.args.vnodes.now.items) c.args.events.now 0 rs c.args.vnodes.now.items c.args.made) (sym c.in_ok-replies.ensures.items)
+      (nothing_run (length c.args.vnodes.now.items) c.args.events.now c.args.vnodes.now.items c.args.made (omega arith) c.requires.stamped c.requires.room);
+  known = λ begin h. subst (λ (rs : List Reply). IsKnownSoFar begin (length c.args.vnodes.now.items) c.args.table.now.listed c.args.events.now 0 rs c.args.vnodes.now.items) (sym c.in_ok-replies.ensures.items)
+      (nothing_known c.args.table.now.listed c.args.events.now c.args.vnodes.now.items begin h);
+}
+
+pub slice_bounds-before-end : goal.slice_bounds-before-end
+slice_bounds-before-end g c =
+    let so_far : length c.loop-event.replies.items ≡ length (take c.loop-event.event-index c.args.events.now) = c.loop-event.invariant.run.len in
+    let taken : length (take c.loop-event.event-index c.args.events.now) ≡ c.loop-event.event-index = length-take-le c.loop-event.event-index c.args.events.now (let h = c.loop-event-test.true in omega (arith, h)) in
+    let is : c.len.result ≡ c.loop-event.event-index = c.len.ensures ∙ c.loop-event.replies.ok.0 ∙ so_far ∙ taken in
+    sym (length-take-le c.len.result c.args.events.now (let h = c.loop-event-test.true in omega (arith, h, is)))
+
+pub happen-reply-requires-clause-ready : goal.happen-reply-requires-clause-ready
+happen-reply-requires-clause-ready g c =
+    let so_far : length c.loop-event.replies.items ≡ length (take c.loop-event.event-index c.args.events.now) = c.loop-event.invariant.run.len in
+    let taken : length (take c.loop-event.event-index c.args.events.now) ≡ c.loop-event.event-index = length-take-le c.loop-event.event-index c.args.events.now (let h = c.loop-event-test.true in omega (arith, h)) in
+    let is : c.len.result ≡ c.loop-event.event-index = c.len.ensures ∙ c.loop-event.replies.ok.0 ∙ so_far ∙ taken in
+    let here : slice_get c.args.events.now c.loop-event.event-index ≡ Some c.event-item.result = slice_get_read c.args.events.now (length c.args.events.now) c.loop-event.event-index c.event-item.result refl c.loop-event-test.true c.event-item.is in
+    subst (λ (k : ℕ). IsReady (length c.loop-event.vnodes.items) c.args.table.now.listed (take k c.args.events.now) c.deref.result.now c.event-item.result) (sym is)
+    (subst (λ (rs : List Reply). IsReady (length c.loop-event.vnodes.items) c.args.table.now.listed (take c.loop-event.event-index c.args.events.now) rs c.event-item.result) (sym c.deref.ensures.value)
+    (is_ready c.requires.runnable.0 (length c.args.vnodes.now.items) c.args.table.now.listed c.args.events.now c.loop-event.event-index c.loop-event.replies.items c.loop-event.vnodes.items c.loop-event.made c.event-item.result c.requires.few c.loop-event.invariant.run
+    (c.requires.runnable.1 c.loop-event.event-index c.event-item.result here)))
+
+pub loop-event-preserved : goal.loop-event-preserved
+loop-event-preserved g c =
+    let listed : List Helper = c.args.table.now.listed in
+    let so_far : length c.loop-event.replies.items ≡ length (take c.loop-event.event-index c.args.events.now) = c.loop-event.invariant.run.len in
+    let taken : length (take c.loop-event.event-index c.args.events.now) ≡ c.loop-event.event-index = length-take-le c.loop-event.event-index c.args.events.now (let h = c.loop-event-test.true in omega (arith, h)) in
+    let is : c.len.result ≡ c.loop-event.event-index = c.len.ensures ∙ c.loop-event.replies.ok.0 ∙ so_far ∙ taken in
+    record {
+      run = subst (λ (rs : List Reply). IsRunSoFar (length c.args.vnodes.now.items) c.args.events.now (c.loop-event.event-index + 1) rs c.happen-reply.new.vnodes.items c.happen-reply.new.made) (sym c.in_ok-push.ensures.items)
+          (runs_on c.requires.runnable.0 (length c.args.vnodes.now.items) c.args.table.now.listed c.args.events.now c.loop-event.event-index c.loop-event.replies.items c.loop-event.vnodes.items c.happen-reply.new.vnodes.items c.loop-event.made c.happen-reply.new.made c.event-item.result c.happen-reply.result
+          c.requires.runnable.1 c.loop-event-test.true c.event-item.is c.loop-event.invariant.run c.happen-reply.ensures.more c.happen-reply.ensures.stamps c.happen-reply.ensures.few c.happen-reply.ensures.kind);
+      known = λ begin h. subst (λ (rs : List Reply). IsKnownSoFar begin (length c.args.vnodes.now.items) c.args.table.now.listed c.args.events.now (c.loop-event.event-index + 1) rs c.happen-reply.new.vnodes.items) (sym c.in_ok-push.ensures.items)
+          (knows_on begin c.requires.runnable.0 (length c.args.vnodes.now.items) c.args.table.now.listed c.args.events.now c.loop-event.event-index c.loop-event.replies.items c.loop-event.vnodes.items c.happen-reply.new.vnodes.items c.event-item.result c.happen-reply.result
+          c.requires.few c.requires.runnable.1 c.loop-event-test.true c.event-item.is c.loop-event.invariant.run.len
+          (λ old rep named remember recall new. c.happen-reply.ensures.step old rep named (subst (λ (rs : List Reply). Remember rs old) (sym c.deref.ensures.value) remember)
+          (subst (λ (k : ℕ). Recall (take k c.args.events.now) c.deref.result.now old) (sym is) (subst (λ (rs : List Reply). Recall (take c.loop-event.event-index c.args.events.now) rs old) (sym c.deref.ensures.value) recall)) new)
+          (c.loop-event.invariant.known begin h));
+    }
+
+pub returns-clause-replies : goal.returns-clause-replies
+returns-clause-replies g c = c.loop-event.invariant.run.len ∙ ap (λ (es : List Event). length es) (take_all c.loop-event.event-index c.args.events.now c.loop-event-test.false)
+
+pub returns-clause-world : goal.returns-clause-world
+returns-clause-world g c = λ begin h. world_of begin (length c.args.vnodes.now.items) c.args.table.now.listed c.args.events.now c.loop-event.event-index c.loop-event.replies.items c.loop-event.vnodes.items c.loop-event.made (take_all c.loop-event.event-index c.args.events.now c.loop-event-test.false) c.loop-event.invariant.run.stamped (c.loop-event.invariant.known begin h)

@@ -1,0 +1,30 @@
+use Rattle.std.proofs.Common.{sym, subst}
+use Rattle.world.specs.declared.event.Event.{Event}
+use Rattle.world.specs.Knowledge.{Knowledge}
+use Rattle.world.specs.Happening.{Happens}
+use Rattle.world.specs.Represents.{Represents}
+use Rattle.world.proofs.world.happen_at.Goals as goal
+
+pub returns-in-Put-clause-step : goal.returns-in-Put-clause-step
+returns-in-Put-clause-step o c = λ old rep remember recall. subst (λ (e : Event). (x : Knowledge) × Happens c.args.table.now.listed old e c.put.result x × Represents c.put.new.vnodes x) (sym c.in-Put.is) (c.put.ensures.step c.args.table.now.listed old rep remember)
+
+pub returns-in-Get-clause-step : goal.returns-in-Get-clause-step
+returns-in-Get-clause-step o c = λ old rep remember recall. subst (λ (e : Event). (x : Knowledge) × Happens c.args.table.now.listed old e c.get.result x × Represents c.get.new.vnodes x) (sym c.in-Get.is) (c.get.ensures.step c.args.table.now.listed old rep)
+
+pub returns-in-Send-clause-step : goal.returns-in-Send-clause-step
+returns-in-Send-clause-step o c = λ old rep remember recall. subst (λ (e : Event). (x : Knowledge) × Happens c.args.table.now.listed old e c.send.result x × Represents c.send.new.vnodes x) (sym c.in-Send.is) (c.send.ensures.step c.args.table.now.listed old rep)
+
+pub returns-in-Deliver-clause-step : goal.returns-in-Deliver-clause-step
+returns-in-Deliver-clause-step o c = λ old rep remember recall. subst (λ (e : Event). (x : Knowledge) × Happens c.args.table.now.listed old e c.deliver.result x × Represents c.deliver.new.vnodes x) (sym c.in-Deliver.is) (c.deliver.ensures.step c.args.table.now.listed old rep remember)
+
+pub returns-in-Restart-clause-step : goal.returns-in-Restart-clause-step
+returns-in-Restart-clause-step o c = λ old rep remember recall. subst (λ (e : Event). (x : Knowledge) × Happens c.args.table.now.listed old e c.restart.result x × Represents c.restart.new.vnodes x) (sym c.in-Restart.is) (c.restart.ensures.step c.args.table.now.listed old rep)
+
+pub returns-in-ResolveRead-clause-step : goal.returns-in-ResolveRead-clause-step
+returns-in-ResolveRead-clause-step o c = λ old rep remember recall. subst (λ (e : Event). (x : Knowledge) × Happens c.args.table.now.listed old e c.resolve_read.result x × Represents c.args.vnodes.now x) (sym c.in-ResolveRead.is) (c.resolve_read.ensures.step c.args.vnodes.now old rep remember)
+
+pub returns-in-ResolveWrite-clause-step : goal.returns-in-ResolveWrite-clause-step
+returns-in-ResolveWrite-clause-step o c = λ old rep remember recall. subst (λ (e : Event). (x : Knowledge) × Happens c.args.table.now.listed old e c.resolve_write.result x × Represents c.resolve_write.new.vnodes x) (sym c.in-ResolveWrite.is) (c.resolve_write.ensures.step c.args.table.now.listed old rep remember recall)
+
+pub returns-in-Dump-clause-step : goal.returns-in-Dump-clause-step
+returns-in-Dump-clause-step o c = λ old rep remember recall. subst (λ (e : Event). (x : Knowledge) × Happens c.args.table.now.listed old e c.dump.result x × Represents c.dump.new.vnodes x) (sym c.in-Dump.is) (c.dump.ensures.step c.args.table.now.listed old rep)

@@ -1,0 +1,29 @@
+use Rattle.std.proofs.Common.{rules, ◌≡◌, ℕ, length, refl, sym, subst}
+use Rattle.world.specs.declared.event.Event.TheVariants.{Load}
+use Rattle.world.specs.Knowledge.{Knowledge}
+use Rattle.world.specs.Happening.{Happens}
+use Rattle.world.specs.Appending.{LoadsAll}
+use Rattle.world.specs.Represents.{Represents}
+use Rattle.world.proofs.LoadRuns.{load_happened, loads_more, load_wants, load_refused_alike}
+use Rattle.world.specs.declared.event.Reply.TheVariants.{Loaded}
+use Rattle.vnode.specs.declared.fault.VnodeFault.TheVariants.{NoMemory}
+use Rattle.world.proofs.world.load.Goals as goal
+
+pub returns-in-Err-clause-step : goal.returns-in-Err-clause-step
+returns-in-Err-clause-step c = λ listed old rep named remember new. load_refused_alike listed c.args.vnodes.now.items old c.args.replies.now c.args.dump c.args.vnode c.args.incarnation c.in-Err.refusal rep remember c.in-Err.ensures.refused
+
+pub returns-then-made-gt-MAX_MADE-clause-step : goal.returns-then-made-gt-MAX_MADE-clause-step
+returns-then-made-gt-MAX_MADE-clause-step c = λ listed old rep named remember new. load_wants listed c.args.vnodes.now.items c.args.vnodes.now.items old c.args.replies.now c.args.dump c.args.vnode c.args.incarnation c.in-Ok.copies.now NoMemory rep remember c.in-Ok.ensures.copied refl refl
+
+pub returns-in-Ok-load_at-clause-step : goal.returns-in-Ok-load_at-clause-step
+returns-in-Ok-load_at-clause-step c = λ listed old rep named remember new.
+    let count : c.len.result ≡ length c.in-Ok.copies.now.held.items = search rules in
+    subst (λ (n : ℕ). (x : Knowledge) × Happens listed old (Load c.args.dump c.args.vnode c.args.incarnation) (Loaded n) x × Represents c.load_at.new.vnodes.items x) (sym count)
+    (load_happened listed c.args.vnodes.now.items c.load_at.new.vnodes.items old c.args.replies.now c.args.dump c.args.vnode c.args.incarnation c.args.made.now c.in-Ok.copies.now rep c.requires.inside named remember new c.in-Ok.ensures.copied
+    (subst (λ (id : ℕ). LoadsAll c.args.vnodes.now.items c.load_at.new.vnodes.items c.args.vnode id c.args.made.now c.in-Ok.copies.now) c.identifier-id.ensures c.in-Ok-load_at.ensures.loaded))
+
+pub returns-in-Err-load_at-clause-step : goal.returns-in-Err-load_at-clause-step
+returns-in-Err-load_at-clause-step c = λ listed old rep named remember new. load_wants listed c.args.vnodes.now.items c.load_at.new.vnodes.items old c.args.replies.now c.args.dump c.args.vnode c.args.incarnation c.in-Ok.copies.now c.in-Err-load_at.refusal rep remember c.in-Ok.ensures.copied c.in-Err-load_at.ensures.err c.in-Err-load_at.ensures.why
+
+pub returns-in-Ok-load_at-clause-more : goal.returns-in-Ok-load_at-clause-more
+returns-in-Ok-load_at-clause-more c = loads_more c.in-Ok-load_at.ensures.loaded
