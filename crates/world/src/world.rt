@@ -70,10 +70,10 @@ impl World {
     /// stamp of an entry is the number of entries that all journals had before it: stamps rise in each journal, and no two
     /// journals share one. An event that is refused makes no entry, and draws no stamp.
     ///
-    /// Each event's vnode exists, and what it names is an earlier get (of a context or an answer), send (of a message) or
-    /// resolver's run (of a choice). What runs as a resolver is a resolver's program, and the table has the helpers that it was
-    /// verified with. The only error is want of memory for the vnodes and the list of replies; within an event it is that
-    /// event's reply.
+    /// Each event's vnode exists, and what it names is an earlier get (of a context or an answer), send (of a message), dump (of
+    /// copies) or resolver's run (of a choice). A load's incarnation was not in use at its index, where 0 is from the start. What
+    /// runs as a resolver is a resolver's program, and the table has the helpers that it was verified with. The only error is want
+    /// of memory for the vnodes and the list of replies; within an event it is that event's reply.
     pub fn run(
         alloc: Global,
         vnodes: usize,
@@ -96,8 +96,8 @@ impl World {
     /// merge for each. A vnode's identifier is `incarnation * 65,536` and its index.
     ///
     /// Nothing is asked of the records. Where some world has led to them, in which no event of these loads an identifier that was in
-    /// use, the run is one that goes on from it. An error tells the record whose merge the first vnode refused, and why, or that memory
-    /// ran out for the vnodes and the list of replies.
+    /// use, the run is one that goes on from it. Here 0 and this incarnation count as in use from the start. An error tells the record
+    /// whose merge the first vnode refused, and why, or that memory ran out for the vnodes and the list of replies.
     pub fn run_from(
         alloc: Global,
         vnodes: usize,
