@@ -7,25 +7,25 @@ use Rattle.std.proofs.Math.Seq.{take-append_seam}
 use Rattle.helpers.specs.declared.sig.Entry.{Entry}
 use Rattle.lines.specs.Lines.{lines_in}
 use Rattle.events.specs.declared.script.Script.{Script}
-use Rattle.events.specs.Scripts.{IsRunnable, lines_of, asks, AnswersFor, AnswersUpTo}
+use Rattle.events.specs.Scripts.{IsRunnableFrom, lines_of, asks, AnswersFor, AnswersUpTo}
 
 -- a script was read from the lines that are not left
-pub record IsReadSoFar (listed : List Entry) (bytes left : List ℕ) (number : ℕ) (script : Script) : Type 0 where
+pub record IsReadSoFar (used : List ℕ) (listed : List Entry) (bytes left : List ℕ) (number : ℕ) (script : Script) : Type 0 where
   pub before : List (List ℕ)
-  pub runnable : IsRunnable listed script
+  pub runnable : IsRunnableFrom used listed script
   pub lines : lines_in bytes ≡ before ++ lines_in left
   pub count : length before ≡ number
   pub answers : AnswersFor script before
   pub short : number + length left ≤ length bytes
 
 -- nothing was read as yet
-pub begins : (listed : List Entry) (bytes : List ℕ) (script : Script) → IsRunnable listed script → lines_of script ≡ 0 → IsReadSoFar listed bytes bytes 0 script
-begins listed bytes script runnable none = record { before = []; runnable = runnable; lines = refl; count = refl; answers = none; short = omega arith }
+pub begins : (used : List ℕ) (listed : List Entry) (bytes : List ℕ) (script : Script) → IsRunnableFrom used listed script → lines_of script ≡ 0 → IsReadSoFar used listed bytes bytes 0 script
+begins used listed bytes script runnable none = record { before = []; runnable = runnable; lines = refl; count = refl; answers = none; short = omega arith }
 
 -- one line more was read
-pub goes_on : (listed : List Entry) (bytes left line rest : List ℕ) (number : ℕ) (old new : Script) → IsReadSoFar listed bytes left number old → lines_in left ≡ line ∷ lines_in rest → length rest < length left
-    → IsRunnable listed new → lines_of new ≡ lines_of old + (if asks line then 1 else 0) → IsReadSoFar listed bytes rest (number + 1) new
-goes_on listed bytes left line rest number old new so_far cut shorter runnable more = record {
+pub goes_on : (used : List ℕ) (listed : List Entry) (bytes left line rest : List ℕ) (number : ℕ) (old new : Script) → IsReadSoFar used listed bytes left number old → lines_in left ≡ line ∷ lines_in rest → length rest < length left
+    → IsRunnableFrom used listed new → lines_of new ≡ lines_of old + (if asks line then 1 else 0) → IsReadSoFar used listed bytes rest (number + 1) new
+goes_on used listed bytes left line rest number old new so_far cut shorter runnable more = record {
   before = so_far.before ++ line ∷ [];
   runnable = runnable;
   lines = so_far.lines ∙ ap (λ (ls : List (List ℕ)). so_far.before ++ ls) cut ∙ sym (append_assoc so_far.before (line ∷ []) (lines_in rest));
@@ -36,9 +36,9 @@ goes_on listed bytes left line rest number old new so_far cut shorter runnable m
 }
 
 -- the next line is bad, and nothing was read from it
-pub stops : (listed : List Entry) (bytes left line rest : List ℕ) (number : ℕ) (old new : Script) → IsReadSoFar listed bytes left number old → lines_in left ≡ line ∷ lines_in rest
+pub stops : (used : List ℕ) (listed : List Entry) (bytes left line rest : List ℕ) (number : ℕ) (old new : Script) → IsReadSoFar used listed bytes left number old → lines_in left ≡ line ∷ lines_in rest
     → lines_of new ≡ lines_of old → AnswersUpTo new bytes (number + 1)
-stops listed bytes left line rest number old new so_far cut same =
+stops used listed bytes left line rest number old new so_far cut same =
     let all : lines_in bytes ≡ so_far.before ++ line ∷ lines_in rest = so_far.lines ∙ ap (λ (ls : List (List ℕ)). so_far.before ++ ls) cut in
     let len : length (lines_in bytes) ≡ length so_far.before + length (line ∷ lines_in rest) = ap (λ (ls : List (List ℕ)). length ls) all ∙ length-append so_far.before (line ∷ lines_in rest) in
     let count = so_far.count in
@@ -52,9 +52,9 @@ stops listed bytes left line rest number old new so_far cut same =
     }
 
 -- no line is left
-pub ends : (listed : List Entry) (bytes left : List ℕ) (number : ℕ) (script : Script) → IsReadSoFar listed bytes left number script → left ≡ [] → AnswersFor script (lines_in bytes)
+pub ends : (used : List ℕ) (listed : List Entry) (bytes left : List ℕ) (number : ℕ) (script : Script) → IsReadSoFar used listed bytes left number script → left ≡ [] → AnswersFor script (lines_in bytes)
 unfolding lines_in
-ends listed bytes left number script so_far none =
+ends used listed bytes left number script so_far none =
     let all : lines_in bytes ≡ so_far.before = so_far.lines ∙ ap (λ (bs : List ℕ). so_far.before ++ lines_in bs) none ∙ append-nil so_far.before in
     so_far.answers ∙ sym (ap (λ (ls : List (List ℕ)). count_by asks ls) all)
 

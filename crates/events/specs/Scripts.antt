@@ -6,7 +6,7 @@ use Rattle.events.specs.declared.script.Script.{Script}
 use Rattle.events.specs.declared.script.Answered.{Answered}
 use Rattle.events.specs.declared.script.Answered.TheVariants as answered
 use Rattle.world.specs.declared.event.Event.{Event}
-use Rattle.world.specs.Running.{AreRunnable}
+use Rattle.world.specs.Running.{AreRunnableFrom}
 
 -- a line tells of an event: it prints its reply, or what a hook says beside it
 abbrev pub tells_event : Answered → Bool
@@ -16,12 +16,16 @@ tells_event (answered.Refused fault) = false
 tells_event (answered.NotLetIn refusal) = false
 tells_event answered.Nothing = false
 
--- there are at most 64 vnodes, each event's vnode is one of them, what it names is an earlier get, send or run, and a table of these helpers runs its hook;
--- as many lines tell of an event as there are events
-pub record IsRunnable (listed : List Entry) (script : Script) : Type 0 where
+-- there are at most 64 vnodes, each event's vnode is one of them, what it names is an earlier get, send, dump or run, no index had a load's incarnation
+-- before, where these are in use from the start on, and a table of these helpers runs its hook; as many lines tell of an event as there are events
+pub record IsRunnableFrom (used : List ℕ) (listed : List Entry) (script : Script) : Type 0 where
   pub few : script.vnodes ≤ 64
-  pub events : AreRunnable script.vnodes listed script.events.items
+  pub events : AreRunnableFrom used script.vnodes listed script.events.items
   pub told : count_by tells_event script.answered.items ≡ length script.events.items
+
+-- the same, where vnodes begin under incarnation 0
+abbrev pub IsRunnable : List Entry → Script → Type 0
+IsRunnable listed script = IsRunnableFrom (0 ∷ []) listed script
 
 -- a script has one event more, and one line more that was read
 pub record IsOneMore (old : Script) (event : Event) (line : Answered) (new : Script) : Type 0 where

@@ -7,4 +7,4 @@ mod script;
 
 pub use check::Check;
 pub use images::{Images, NoHook};
-pub use script::{Answered, BadAt, MAX_VNODES, Script, parse};
+pub use script::{Answered, BadAt, MAX_VNODES, Script, parse, parse_from};

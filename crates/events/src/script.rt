@@ -1,12 +1,12 @@
 //! Whole scripts.
 
-ghost use Rattle.std.specs.Prelude.{◌≡◌, ◌+◌, ◌<◌, ◌≤◌, ℕ, true, false, List, length, Some, slice_get, if◌then◌else◌, IfOk, OnOk, IfSome, MatchOption};
+ghost use Rattle.std.specs.Prelude.{◌≡◌, ◌+◌, ◌<◌, ◌≤◌, ℕ, true, false, List, length, Some, slice_get, if◌then◌else◌, IfOk, OnOk, IfSome, IsTrue, MatchOption, ◌↔◌, ◌∷◌, []};
 ghost use Rattle.helpers.specs.declared.sig.Entry.{Entry};
 ghost use Rattle.lines.specs.Lines.{lines_in};
-ghost use Rattle.events.specs.Scripts.{IsRunnable, IsOneMore, tells_event, lines_of, asks, AnswersFor, AnswersUpTo};
+ghost use Rattle.events.specs.Scripts.{IsRunnable, IsRunnableFrom, IsOneMore, tells_event, lines_of, asks, AnswersFor, AnswersUpTo};
 ghost use Rattle.helpers.specs.Entries.{AgreesWith};
 ghost use Rattle.world.specs.Resolving.{MayRun};
-ghost use Rattle.world.specs.Running.{AreRunnable, MayCome, IsGetAt, IsSendAt, IsRunAt, IsEarlierContext};
+ghost use Rattle.world.specs.Running.{IsGetAt, IsSendAt, IsDumpAt, IsRunAt, IsUsed, IsEarlierContext};
 
 use crate::check::Check;
 use crate::images::{Images, NoHook};
@@ -60,7 +60,7 @@ type Places<'a> = BTreeMap<&'a [u8], usize>;
 // What names stand for.
 #[derive(Drop)]
 struct Names<'a> {
-    /// The latest get or send.
+    /// The latest get, send or dump.
     events: Places<'a>,
     /// The latest run of a resolver on a get of that name, where no later one was refused.
     runs: Places<'a>,
@@ -74,13 +74,26 @@ struct Names<'a> {
 type Asked<'a> = BTreeMap<&'a [u8], Result<usize, Refusal>>;
 
 /// The script that these bytes spell, up to its first bad line, and that line. Nothing behind it was read. A line whose file
-/// can't be read is bad.
+/// can't be read is bad. Each vnode begins under incarnation 0.
 pub fn parse<'a, I: Images>(
     alloc: Global,
     bytes: &'a [u8],
     images: &I,
 ) -> Result<(Script, Option<BadAt<'a>>), AllocError>
     ensures runnable { IfOk result (λ parsed. IsRunnable (I.listed images.now) parsed.0) }
+    ensures read { IfOk result (λ parsed. MatchOption parsed.1 (AnswersFor parsed.0 (lines_in bytes.now)) (λ bad. AnswersUpTo parsed.0 bytes.now bad.line)) }
+{
+    parse_from(alloc, &[0], bytes, images)
+}
+
+/// The same, where these incarnations are in use at each index from the start on: a load under one of them is a bad line.
+pub fn parse_from<'a, I: Images>(
+    alloc: Global,
+    used: &[u16],
+    bytes: &'a [u8],
+    images: &I,
+) -> Result<(Script, Option<BadAt<'a>>), AllocError>
+    ensures runnable { IfOk result (λ parsed. IsRunnableFrom used.now (I.listed images.now) parsed.0) }
     ensures read { IfOk result (λ parsed. MatchOption parsed.1 (AnswersFor parsed.0 (lines_in bytes.now)) (λ bad. AnswersUpTo parsed.0 bytes.now bad.line)) }
 {
     let mut script = Script {
@@ -94,7 +107,7 @@ pub fn parse<'a, I: Images>(
         resolvers: Asked::new(alloc),
         checks: Asked::new(alloc),
     };
-    let bad = match read_lines(alloc, &mut script, &mut names, images, bytes)? {
+    let bad = match read_lines(alloc, used, &mut script, &mut names, images, bytes)? {
         Some((number, why)) => Some(BadAt { line: number, why }),
         None => None,
     };
@@ -104,14 +117,15 @@ pub fn parse<'a, I: Images>(
 // Adds what the lines of some bytes ask for, up to the first that may not stand there, and tells its number from 1, and why.
 fn read_lines<'a, I: Images>(
     alloc: Global,
+    used: &[u16],
     script: &mut Script,
     names: &mut Names<'a>,
     images: &I,
     bytes: &'a [u8],
 ) -> Result<Option<(usize, BadLine<'a>)>, AllocError>
-    requires runnable { IsRunnable (I.listed images.now) script.old }
+    requires runnable { IsRunnableFrom used.now (I.listed images.now) script.old }
     requires empty { lines_of script.old ≡ 0 }
-    ensures runnable { OnOk result (IsRunnable (I.listed images.now) script.new) }
+    ensures runnable { OnOk result (IsRunnableFrom used.now (I.listed images.now) script.new) }
     ensures read { IfOk result (λ bad. MatchOption bad (AnswersFor script.new (lines_in bytes.now)) (λ at. AnswersUpTo script.new bytes.now at.0)) }
 {
     let mut number: usize = 0;
@@ -119,7 +133,7 @@ fn read_lines<'a, I: Images>(
     while let Some((line, rest)) = first_line(left) {
         left = rest;
         number += 1;
-        if let Some(why) = read(alloc, script, names, images, line)? {
+        if let Some(why) = read(alloc, used, script, names, images, line)? {
             return Ok(Some((number, why)));
         }
     }
@@ -129,18 +143,19 @@ fn read_lines<'a, I: Images>(
 // Adds what the bytes of a line ask for, if anything, or tells why they may not stand there.
 fn read<'a, I: Images>(
     alloc: Global,
+    used: &[u16],
     script: &mut Script,
     names: &mut Names<'a>,
     images: &I,
     bytes: &'a [u8],
 ) -> Result<Option<BadLine<'a>>, AllocError>
-    requires { IsRunnable (I.listed images.now) script.old }
-    ensures runnable { OnOk result (IsRunnable (I.listed images.now) script.new) }
+    requires { IsRunnableFrom used.now (I.listed images.now) script.old }
+    ensures runnable { OnOk result (IsRunnableFrom used.now (I.listed images.now) script.new) }
     ensures answers { IfOk result (λ bad. MatchOption bad (lines_of script.new ≡ lines_of script.old + (if asks bytes.now then 1 else 0)) (λ _. lines_of script.new ≡ lines_of script.old)) }
 {
     match line_of(alloc, bytes)? {
         Spelling::PassedOver => Ok(None),
-        Spelling::Line(line) => read_line(alloc, script, names, images, line),
+        Spelling::Line(line) => read_line(alloc, used, script, names, images, line),
         Spelling::Bad(why) => Ok(Some(why)),
     }
 }
@@ -148,13 +163,14 @@ fn read<'a, I: Images>(
 // Adds what a line asks for, or tells why it may not stand there.
 fn read_line<'a, I: Images>(
     alloc: Global,
+    used: &[u16],
     script: &mut Script,
     names: &mut Names<'a>,
     images: &I,
     line: Line<'a>,
 ) -> Result<Option<BadLine<'a>>, AllocError>
-    requires { IsRunnable (I.listed images.now) script.old }
-    ensures runnable { OnOk result (IsRunnable (I.listed images.now) script.new) }
+    requires { IsRunnableFrom used.now (I.listed images.now) script.old }
+    ensures runnable { OnOk result (IsRunnableFrom used.now (I.listed images.now) script.new) }
     ensures answers { IfOk result (λ bad. MatchOption bad (lines_of script.new ≡ lines_of script.old + 1) (λ _. lines_of script.new ≡ lines_of script.old)) }
 {
     match line {
@@ -169,6 +185,12 @@ fn read_line<'a, I: Images>(
         Line::Send { vnode, key, name } => read_send(alloc, script, names, vnode, key, name),
         Line::Deliver { name, vnode } => read_deliver(script, names, name, vnode),
         Line::Restart { vnode } => read_restart(script, vnode),
+        Line::Dump { vnode, name } => read_dump(script, names, vnode, name),
+        Line::Load {
+            vnode,
+            incarnation,
+            name,
+        } => read_load(used, script, names, vnode, incarnation, name),
         Line::Resolve { name, file } => read_resolve(alloc, script, names, images, name, file),
         Line::Commit { vnode, name } => read_commit(script, names, vnode, name),
         Line::Check {
@@ -189,7 +211,7 @@ fn read_get<'a>(
     key: &[u8],
     name: &'a [u8],
 ) -> Result<Option<BadLine<'a>>, AllocError>
-    ensures runnable { (listed : List Entry) → IsRunnable listed script.old → OnOk result (IsRunnable listed script.new) }
+    ensures runnable { (used : List ℕ) (listed : List Entry) → IsRunnableFrom used listed script.old → OnOk result (IsRunnableFrom used listed script.new) }
     ensures answers { IfOk result (λ bad. MatchOption bad (lines_of script.new ≡ lines_of script.old + 1) (λ _. lines_of script.new ≡ lines_of script.old)) }
 {
     if vnode >= script.vnodes {
@@ -211,7 +233,7 @@ fn read_send<'a>(
     key: &[u8],
     name: &'a [u8],
 ) -> Result<Option<BadLine<'a>>, AllocError>
-    ensures runnable { (listed : List Entry) → IsRunnable listed script.old → OnOk result (IsRunnable listed script.new) }
+    ensures runnable { (used : List ℕ) (listed : List Entry) → IsRunnableFrom used listed script.old → OnOk result (IsRunnableFrom used listed script.new) }
     ensures answers { IfOk result (λ bad. MatchOption bad (lines_of script.new ≡ lines_of script.old + 1) (λ _. lines_of script.new ≡ lines_of script.old)) }
 {
     if vnode >= script.vnodes {
@@ -231,7 +253,7 @@ fn read_deliver<'a>(
     name: &'a [u8],
     vnode: usize,
 ) -> Result<Option<BadLine<'a>>, AllocError>
-    ensures runnable { (listed : List Entry) → IsRunnable listed script.old → OnOk result (IsRunnable listed script.new) }
+    ensures runnable { (used : List ℕ) (listed : List Entry) → IsRunnableFrom used listed script.old → OnOk result (IsRunnableFrom used listed script.new) }
     ensures answers { IfOk result (λ bad. MatchOption bad (lines_of script.new ≡ lines_of script.old + 1) (λ _. lines_of script.new ≡ lines_of script.old)) }
 {
     let Some(message) = sent(&script.events, &names.events, name) else {
@@ -246,7 +268,7 @@ fn read_deliver<'a>(
 
 // A restart of a vnode.
 fn read_restart<'a>(script: &mut Script, vnode: usize) -> Result<Option<BadLine<'a>>, AllocError>
-    ensures runnable { (listed : List Entry) → IsRunnable listed script.old → OnOk result (IsRunnable listed script.new) }
+    ensures runnable { (used : List ℕ) (listed : List Entry) → IsRunnableFrom used listed script.old → OnOk result (IsRunnableFrom used listed script.new) }
     ensures answers { IfOk result (λ bad. MatchOption bad (lines_of script.new ≡ lines_of script.old + 1) (λ _. lines_of script.new ≡ lines_of script.old)) }
 {
     if vnode >= script.vnodes {
@@ -254,6 +276,84 @@ fn read_restart<'a>(script: &mut Script, vnode: usize) -> Result<Option<BadLine<
     }
     push(script, Event::Restart { vnode })?;
     Ok(None)
+}
+
+// A dump, and its place under its name.
+fn read_dump<'a>(
+    script: &mut Script,
+    names: &mut Names<'a>,
+    vnode: usize,
+    name: &'a [u8],
+) -> Result<Option<BadLine<'a>>, AllocError>
+    ensures runnable { (used : List ℕ) (listed : List Entry) → IsRunnableFrom used listed script.old → OnOk result (IsRunnableFrom used listed script.new) }
+    ensures answers { IfOk result (λ bad. MatchOption bad (lines_of script.new ≡ lines_of script.old + 1) (λ _. lines_of script.new ≡ lines_of script.old)) }
+{
+    if vnode >= script.vnodes {
+        return Ok(Some(BadLine::NoVnode(vnode)));
+    }
+    let place = script.events.len();
+    push(script, Event::Dump { vnode })?;
+    names.events.insert(name, place)?;
+    Ok(None)
+}
+
+// A load of what the latest dump of a name copied, under an incarnation that its index never had.
+fn read_load<'a>(
+    used: &[u16],
+    script: &mut Script,
+    names: &Names<'a>,
+    vnode: usize,
+    incarnation: u16,
+    name: &'a [u8],
+) -> Result<Option<BadLine<'a>>, AllocError>
+    ensures runnable { (listed : List Entry) → IsRunnableFrom used.now listed script.old → OnOk result (IsRunnableFrom used.now listed script.new) }
+    ensures answers { IfOk result (λ bad. MatchOption bad (lines_of script.new ≡ lines_of script.old + 1) (λ _. lines_of script.new ≡ lines_of script.old)) }
+{
+    let Some(dump) = dumped(&script.events, &names.events, name) else {
+        return Ok(Some(BadLine::NoDump(name)));
+    };
+    if vnode >= script.vnodes {
+        return Ok(Some(BadLine::NoVnode(vnode)));
+    }
+    if is_used(used, &script.events, vnode, incarnation) {
+        return Ok(Some(BadLine::UsedIncarnation(vnode, incarnation)));
+    }
+    let load = Event::Load {
+        dump,
+        vnode,
+        incarnation,
+    };
+    push(script, load)?;
+    Ok(None)
+}
+
+// Whether an index had an incarnation: from the start on, or by a load.
+fn is_used(used: &[u16], events: &[Event], vnode: usize, incarnation: u16) -> bool
+    ensures { IsTrue result ↔ IsUsed used.now events.now vnode incarnation }
+{
+    if used.contains(&incarnation) {
+        return true;
+    }
+    for event in events {
+        if is_load(event, vnode, incarnation) {
+            return true;
+        }
+    }
+    false
+}
+
+// Whether an event is a load that an index goes on from under an incarnation.
+fn is_load(event: &Event, vnode: usize, incarnation: u16) -> bool
+    ensures { IsTrue result ↔ ((dump : ℕ) × (event.now ≡ Event.Load dump vnode incarnation)) }
+{
+    match event {
+        Event::Load {
+            vnode: index,
+            incarnation: number,
+            ..
+        } => *index == vnode && *number == incarnation,
+        _ => false,
+    }
 }
 
 // A run of a resolver on what the get of a name answered, or the refusal of its image.
@@ -265,8 +365,7 @@ fn read_resolve<'a, I: Images>(
     name: &'a [u8],
     file: &'a str,
 ) -> Result<Option<BadLine<'a>>, AllocError>
-    requires { IsRunnable (I.listed images.now) script.old }
-    ensures runnable { OnOk result (IsRunnable (I.listed images.now) script.new) }
+    ensures runnable { (used : List ℕ) → IsRunnableFrom used (I.listed images.now) script.old → OnOk result (IsRunnableFrom used (I.listed images.now) script.new) }
     ensures answers { IfOk result (λ bad. MatchOption bad (lines_of script.new ≡ lines_of script.old + 1) (λ _. lines_of script.new ≡ lines_of script.old)) }
 {
     let Some(get) = found(&script.events, &names.events, name) else {
@@ -295,7 +394,7 @@ fn read_commit<'a>(
     vnode: usize,
     name: &'a [u8],
 ) -> Result<Option<BadLine<'a>>, AllocError>
-    ensures runnable { (listed : List Entry) → IsRunnable listed script.old → OnOk result (IsRunnable listed script.new) }
+    ensures runnable { (used : List ℕ) (listed : List Entry) → IsRunnableFrom used listed script.old → OnOk result (IsRunnableFrom used listed script.new) }
     ensures answers { IfOk result (λ bad. MatchOption bad (lines_of script.new ≡ lines_of script.old + 1) (λ _. lines_of script.new ≡ lines_of script.old)) }
 {
     if vnode >= script.vnodes {
@@ -323,8 +422,7 @@ fn read_check<'a, I: Images>(
     value: &[u8],
     file: &'a str,
 ) -> Result<Option<BadLine<'a>>, AllocError>
-    requires { IsRunnable (I.listed images.now) script.old }
-    ensures runnable { OnOk result (IsRunnable (I.listed images.now) script.new) }
+    ensures runnable { (used : List ℕ) → IsRunnableFrom used (I.listed images.now) script.old → OnOk result (IsRunnableFrom used (I.listed images.now) script.new) }
     ensures answers { IfOk result (λ bad. MatchOption bad (lines_of script.new ≡ lines_of script.old + 1) (λ _. lines_of script.new ≡ lines_of script.old)) }
 {
     if vnode >= script.vnodes {
@@ -354,7 +452,7 @@ fn push_check(
 ) -> Result<(), AllocError>
     requires within { vnode < script.old.vnodes }
     requires pre_commit { hook.kind ≡ ImageKind.PreCommit }
-    ensures runnable { (listed : List Entry) → IsRunnable listed script.old → OnOk result (IsRunnable listed script.new) }
+    ensures runnable { (used : List ℕ) (listed : List Entry) → IsRunnableFrom used listed script.old → OnOk result (IsRunnableFrom used listed script.new) }
     ensures answers { OnOk result (lines_of script.new ≡ lines_of script.old + 1) }
 {
     let key = key_of(alloc, key)?;
@@ -371,8 +469,7 @@ fn resolver<'a, I: Images>(
     images: &I,
     file: &'a str,
 ) -> Result<Hook, NoHook>
-    requires { IsRunnable (I.listed images.now) script.now }
-    ensures { IfOk result (MayRun (I.listed images.now)) }
+    ensures { (used : List ℕ) → IsRunnableFrom used (I.listed images.now) script.now → IfOk result (MayRun (I.listed images.now)) }
 {
     match asked.get(file.as_bytes()) {
         Some(Ok(place)) => {
@@ -447,7 +544,7 @@ fn keep<'a>(
 
 // The first line tells how many vnodes there are, and no other does.
 fn read_vnodes<'a>(script: &mut Script, count: usize) -> Option<BadLine<'a>>
-    ensures runnable { (listed : List Entry) → IsRunnable listed script.old → IsRunnable listed script.new }
+    ensures runnable { (used : List ℕ) (listed : List Entry) → IsRunnableFrom used listed script.old → IsRunnableFrom used listed script.new }
     ensures answers { MatchOption result (lines_of script.new ≡ lines_of script.old + 1) (λ _. lines_of script.new ≡ lines_of script.old) }
 {
     if script.vnodes != 0 {
@@ -470,7 +567,7 @@ fn read_put<'a>(
     value: Option<&[u8]>,
     context: Context<'a>,
 ) -> Result<Option<BadLine<'a>>, AllocError>
-    ensures runnable { (listed : List Entry) → IsRunnable listed script.old → OnOk result (IsRunnable listed script.new) }
+    ensures runnable { (used : List ℕ) (listed : List Entry) → IsRunnableFrom used listed script.old → OnOk result (IsRunnableFrom used listed script.new) }
     ensures answers { IfOk result (λ bad. MatchOption bad (lines_of script.new ≡ lines_of script.old + 1) (λ _. lines_of script.new ≡ lines_of script.old)) }
 {
     if vnode >= script.vnodes {
@@ -506,7 +603,7 @@ fn push_put(
 ) -> Result<(), AllocError>
     requires within { vnode < script.old.vnodes }
     requires earlier { IsEarlierContext script.old.events.items seen }
-    ensures runnable { (listed : List Entry) → IsRunnable listed script.old → OnOk result (IsRunnable listed script.new) }
+    ensures runnable { (used : List ℕ) (listed : List Entry) → IsRunnableFrom used listed script.old → OnOk result (IsRunnableFrom used listed script.new) }
     ensures answers { OnOk result (lines_of script.new ≡ lines_of script.old + 1) }
 {
     let key = key_of(alloc, key)?;
@@ -541,7 +638,7 @@ fn push_answered(script: &mut Script, event: Event, answered: Answered) -> Resul
 // Adds what a line prints that tells of no event.
 fn push_told(script: &mut Script, answered: Answered) -> Result<(), AllocError>
     requires { tells_event answered ≡ false }
-    ensures runnable { (listed : List Entry) → IsRunnable listed script.old → OnOk result (IsRunnable listed script.new) }
+    ensures runnable { (used : List ℕ) (listed : List Entry) → IsRunnableFrom used listed script.old → OnOk result (IsRunnableFrom used listed script.new) }
     ensures answers { OnOk result (lines_of script.new ≡ lines_of script.old + 1) }
 {
     script.answered.push(answered)?;
@@ -566,6 +663,17 @@ fn sent(events: &[Event], places: &Places<'_>, name: &[u8]) -> Option<usize>
     let place = *places.get(name)?;
     match events.get(place) {
         Some(Event::Send { .. }) => Some(place),
+        _ => None,
+    }
+}
+
+// The place of the latest event of a name, where that is a dump.
+fn dumped(events: &[Event], places: &Places<'_>, name: &[u8]) -> Option<usize>
+    ensures { IfSome result (IsDumpAt events.now) }
+{
+    let place = *places.get(name)?;
+    match events.get(place) {
+        Some(Event::Dump { .. }) => Some(place),
         _ => None,
     }
 }

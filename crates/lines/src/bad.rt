@@ -29,6 +29,12 @@ pub enum BadLine<'a> {
     NoGet(&'a [u8]),
     /// The latest line of this name is no send, or there is none.
     NoSend(&'a [u8]),
+    /// The latest line of this name is no dump, or there is none.
+    NoDump(&'a [u8]),
+    /// An incarnation is at most 65,535.
+    NoIncarnation,
+    /// The index of this vnode had this incarnation before.
+    UsedIncarnation(usize, u16),
     /// There is no file of this name, or it can't be read.
     NoFile(&'a str),
 }
@@ -48,6 +54,11 @@ impl fmt::Display for BadLine<'_> {
             BadLine::NoVnode(vnode) => write!(f, "no vnode {vnode}"),
             BadLine::NoGet(name) => write_named(f, "get", name),
             BadLine::NoSend(name) => write_named(f, "send", name),
+            BadLine::NoDump(name) => write_named(f, "dump", name),
+            BadLine::NoIncarnation => f.write_str("an incarnation is at most 65535"),
+            BadLine::UsedIncarnation(vnode, incarnation) => {
+                write!(f, "vnode {vnode} had incarnation {incarnation} before")
+            }
             BadLine::NoFile(file) => write!(f, "no file {file}"),
         }
     }

@@ -46,6 +46,15 @@ pub enum Line<'a> {
     Restart {
         vnode: usize,
     },
+    Dump {
+        vnode: usize,
+        name: &'a [u8],
+    },
+    Load {
+        vnode: usize,
+        incarnation: u16,
+        name: &'a [u8],
+    },
     Resolve {
         name: &'a [u8],
         file: &'a str,
@@ -114,6 +123,8 @@ fn spelled<'a>(words: &[&'a [u8]]) -> Result<Line<'a>, BadLine<'a>> {
         b"send" => send(arguments),
         b"deliver" => deliver(arguments),
         b"restart" => restart(arguments),
+        b"dump" => dump(arguments),
+        b"load" => load(arguments),
         b"resolve" => resolve(arguments),
         b"commit" => commit(arguments),
         b"check" => check(arguments),
@@ -193,6 +204,27 @@ fn restart<'a>(arguments: &[&'a [u8]]) -> Result<Line<'a>, BadLine<'a>> {
     })
 }
 
+fn dump<'a>(arguments: &[&'a [u8]]) -> Result<Line<'a>, BadLine<'a>> {
+    let [vnode, copies] = arguments else {
+        return Err(BadLine::WordCount);
+    };
+    Ok(Line::Dump {
+        vnode: number_of(vnode)?,
+        name: name_of(copies)?,
+    })
+}
+
+fn load<'a>(arguments: &[&'a [u8]]) -> Result<Line<'a>, BadLine<'a>> {
+    let [vnode, incarnation, copies] = arguments else {
+        return Err(BadLine::WordCount);
+    };
+    Ok(Line::Load {
+        vnode: number_of(vnode)?,
+        incarnation: incarnation_of(incarnation)?,
+        name: name_of(copies)?,
+    })
+}
+
 fn resolve<'a>(arguments: &[&'a [u8]]) -> Result<Line<'a>, BadLine<'a>> {
     let [answer, file] = arguments else {
         return Err(BadLine::WordCount);
@@ -230,6 +262,14 @@ fn number_of<'a>(word: &'a [u8]) -> Result<usize, BadLine<'a>> {
     match number(word) {
         Some(number) => Ok(number),
         None => Err(BadLine::NoNumber),
+    }
+}
+
+// An incarnation of a vnode.
+fn incarnation_of<'a>(word: &'a [u8]) -> Result<u16, BadLine<'a>> {
+    match u16::try_from(number_of(word)?) {
+        Ok(incarnation) => Ok(incarnation),
+        Err(_) => Err(BadLine::NoIncarnation),
     }
 }
 

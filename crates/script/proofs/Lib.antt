@@ -1,2 +1,4 @@
 pub mod Telling
 pub mod Clauses
+pub mod Dumps
+pub mod Loads

@@ -32,6 +32,8 @@ module _ (listed : List Entry) where
   TellsCheck check (reply.Sent message) text = text ≡ reply_text (reply.Sent message)
   TellsCheck check (reply.Changed changed) text = text ≡ reply_text (reply.Changed changed)
   TellsCheck check reply.Restarted text = text ≡ reply_text reply.Restarted
+  TellsCheck check (reply.Dumped copies) text = text ≡ reply_text (reply.Dumped copies)
+  TellsCheck check (reply.Loaded count) text = text ≡ reply_text (reply.Loaded count)
   TellsCheck check (reply.Resolved resolution) text = text ≡ reply_text (reply.Resolved resolution)
   TellsCheck check reply.Nothing text = text ≡ reply_text reply.Nothing
   TellsCheck check (reply.Refused refusal) text = text ≡ reply_text (reply.Refused refusal)

@@ -4,10 +4,10 @@ ghost use Rattle.std.specs.Prelude.{◌≡◌, ◌<◌, ◌≤◌, ◌++◌, ℕ
 ghost use Rattle.abi.specs.Verdicts.{Meaning};
 ghost use Rattle.hookrun.specs.declared.deciding.RunFault.{RunFault};
 ghost use Rattle.telling.specs.Texts.{decision_text};
-ghost use Rattle.events.specs.Scripts.{tells_event};
-ghost use Rattle.script.specs.Printing.{Decides, AddsCheck, AddsLine, Tells, PrintsAll, PrintsUpTo, Simulated};
+ghost use Rattle.events.specs.Scripts.{IsRunnable, tells_event};
+ghost use Rattle.script.specs.Printing.{Decides, AddsCheck, AddsLine, Tells, Prints, PrintsAll, PrintsUpTo, Simulated};
 
-use events::{Answered, BadAt, Check, Images, parse};
+use events::{Answered, BadAt, Check, Images, Script, parse};
 use helpers::Table;
 use hookrun::{Room, decide};
 use lines::BadLine;
@@ -64,8 +64,7 @@ fn printed<'a, I: Images>(
     ensures { IfOk result (λ printed. MatchOption printed.1 (PrintsAll (I.listed images.now) bytes.now (string_bytes printed.0)) (λ _. PrintsUpTo (I.listed images.now) bytes.now (string_bytes printed.0))) }
 {
     let (script, bad) = parse(alloc, bytes, images)?;
-    let world = World::run(alloc, script.vnodes, table, &script.events)?;
-    let mut text = print_answers(alloc, table, &script.answered, world.replies())?;
+    let mut text = text_of(alloc, table, &script)?;
     match bad {
         Some(BadAt { line, why }) => {
             writeln!(text, "bad line {line}")?;
@@ -75,8 +74,17 @@ fn printed<'a, I: Images>(
     }
 }
 
+// What the lines of a script print over the replies of a run of its events.
+pub(crate) fn text_of(alloc: Global, table: &Table, script: &Script) -> Result<String, AllocError>
+    requires { IsRunnable table.now.listed script.now }
+    ensures { IfOk result (λ text. Prints table.now.listed script.now (string_bytes text)) }
+{
+    let world = World::run(alloc, script.vnodes, table, &script.events)?;
+    print_answers(alloc, table, &script.answered, world.replies())
+}
+
 // What lines print over the replies of their events.
-fn print_answers(
+pub(crate) fn print_answers(
     alloc: Global,
     table: &Table,
     answered: &[Answered],

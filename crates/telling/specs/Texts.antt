@@ -1,5 +1,5 @@
 -- The lines that tell what events and hooks answered (this store's profile).
-use Rattle.std.specs.Prelude.{ℕ, true, false, if◌then◌else◌, List, [], ◌∷◌, ◌++◌, flat_map, codes, decimal, Result, Ok, Err}
+use Rattle.std.specs.Prelude.{ℕ, true, false, if◌then◌else◌, List, [], ◌∷◌, ◌++◌, flat_map, length, codes, decimal, Result, Ok, Err}
 use Rattle.hex.specs.Hex.{encode_lower}
 use Rattle.lines.specs.Lines.{is_word}
 use Rattle.dvv.specs.declared.Dot.{Dot}
@@ -88,6 +88,8 @@ reply_text (reply.Sent message) = line (codes "ok")
 reply_text (reply.Changed true) = line (codes "changed")
 reply_text (reply.Changed false) = line (codes "same")
 reply_text reply.Restarted = line (codes "ok")
+reply_text (reply.Dumped copies) = line (codes "dumped " ++ decimal (length copies.held.items))
+reply_text (reply.Loaded count) = line (codes "loaded " ++ decimal count)
 reply_text (reply.Resolved resolution) = resolution_text resolution
 reply_text reply.Nothing = line (codes "nothing")
 reply_text (reply.Refused refusal) = line (refusal_number refusal)

@@ -7,8 +7,8 @@ use abi::BadAnswer;
 use token::TokenFault;
 use vnode::VnodeFault;
 
-// The number of an event's refusal.
-pub(crate) fn refusal_number(refusal: VnodeFault) -> &'static str
+/// The number of an event's refusal.
+pub fn refusal_number(refusal: VnodeFault) -> &'static str
     ensures { result.now ≡ refusal_number refusal }
 {
     match refusal {

@@ -24,6 +24,11 @@ pub fn print_reply(alloc: Global, reply: &Reply, text: &mut String) -> Result<()
         Reply::Changed(true) => text.push_str("changed\n"),
         Reply::Changed(false) => text.push_str("same\n"),
         Reply::Restarted => text.push_str("ok\n"),
+        Reply::Dumped(copies) => {
+            let count = copies.held.len();
+            writeln!(text, "dumped {count}")
+        }
+        Reply::Loaded(count) => writeln!(text, "loaded {count}"),
         Reply::Resolved(resolution) => print_resolution(alloc, resolution, text),
         Reply::Nothing => text.push_str("nothing\n"),
         Reply::Refused(refusal) => {

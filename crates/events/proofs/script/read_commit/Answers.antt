@@ -5,5 +5,5 @@ use Rattle.events.proofs.Growing.{one_more}
 use Rattle.events.proofs.script.read_commit.Goals as goal
 
 pub returns-in-Some-clause-runnable : goal.returns-in-Some-clause-runnable
-returns-in-Some-clause-runnable c listed runnable =
-    one_more _ _ _ _ _ runnable (omega arith, subst (λ (es : List Event). IsRunAt es c.in-Some.run') c.deref.ensures.value c.in-Some.ensures) c.in_ok-push.ensures.more refl
+returns-in-Some-clause-runnable c used listed runnable =
+    one_more _ _ _ _ _ _ runnable (omega arith, subst (λ (es : List Event). IsRunAt es c.in-Some.run') c.deref.ensures.value c.in-Some.ensures) c.in_ok-push.ensures.more refl

@@ -5,4 +5,4 @@ use Rattle.events.proofs.Growing.{one_more}
 use Rattle.events.proofs.script.read_deliver.Goals as goal
 
 pub returns-clause-runnable : goal.returns-clause-runnable
-returns-clause-runnable c listed runnable = one_more _ _ _ _ _ runnable (omega arith, subst (λ (es : List Event). IsSendAt es c.in-Some.message) c.deref.ensures.value c.in-Some.ensures) c.in_ok-push.ensures.more refl
+returns-clause-runnable c used listed runnable = one_more _ _ _ _ _ _ runnable (omega arith, subst (λ (es : List Event). IsSendAt es c.in-Some.message) c.deref.ensures.value c.in-Some.ensures) c.in_ok-push.ensures.more refl

@@ -5,6 +5,6 @@ use Rattle.events.proofs.Growing.{may_run}
 use Rattle.events.proofs.script.resolver.Goals as goal
 
 pub returns-in-Some : goal.returns-in-Some
-returns-in-Some g c =
+returns-in-Some g c used runnable =
     subst (λ (hook : Program). MayRun (g.I.Images.listed c.args.images.now) hook) (sym c.in_ok-share-in-Some-Ok.ensures)
-    (may_run (g.I.Images.listed c.args.images.now) c.args.script.now c.deref.result.now _ c.in-Some.ensures.0 c.in-Some.hook.now c.requires c.deref.ensures.value c.in-Some.ensures.1)
+    (may_run used (g.I.Images.listed c.args.images.now) c.args.script.now c.deref.result.now _ c.in-Some.ensures.0 c.in-Some.hook.now runnable c.deref.ensures.value c.in-Some.ensures.1)

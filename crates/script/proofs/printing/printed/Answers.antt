@@ -1,11 +1,12 @@
-use Rattle.std.proofs.Common.{rules, string_bytes}
+use Rattle.std.proofs.Common.{List, rules, sym, subst, string_bytes}
+use Rattle.helpers.specs.declared.sig.Entry.{Entry}
+use Rattle.events.specs.Scripts.{IsRunnable}
+use Rattle.script.specs.Printing.{Prints}
 use Rattle.script.proofs.Clauses.{at_some, at_none}
-use Rattle.script.proofs.Telling.{enough, prints}
 use Rattle.script.proofs.printing.printed.Goals as goal
 
-pub print_answers-requires : goal.print_answers-requires
-print_answers-requires g c =
-    enough _ _ _ _ _ _ _ c.in_ok-script.ensures.runnable c.deref.ensures.value c.in_ok-world.ensures c.deref-2.ensures.value c.replies.ensures
+pub text_of-requires : goal.text_of-requires
+text_of-requires g c = subst (λ (ls : List Entry). IsRunnable ls c.in_ok-script.script) (sym c.requires) c.in_ok-script.ensures.runnable
 
 pub returns-in-Some : goal.returns-in-Some
 returns-in-Some g c = record {
@@ -13,7 +14,7 @@ returns-in-Some g c = record {
   number = c.in-Some.field-0.line;
   front = string_bytes c.in_ok-text.text;
   read = at_some _ _ _ _ c.in-Some.is c.in_ok-script.ensures.read;
-  prints = prints _ _ _ _ _ _ _ _ c.requires c.in_ok-script.ensures.runnable c.deref.ensures.value c.in_ok-world.ensures c.deref-2.ensures.value c.replies.ensures c.in_ok-text.ensures;
+  prints = subst (λ (ls : List Entry). Prints ls c.in_ok-script.script (string_bytes c.in_ok-text.text)) c.requires c.in_ok-text.ensures;
   told = search rules;
 }
 
@@ -21,5 +22,5 @@ pub returns : goal.returns
 returns g c = record {
   script = c.in_ok-script.script;
   read = at_none _ _ _ c.in-None.is c.in_ok-script.ensures.read;
-  prints = prints _ _ _ _ _ _ _ _ c.requires c.in_ok-script.ensures.runnable c.deref.ensures.value c.in_ok-world.ensures c.deref-2.ensures.value c.replies.ensures c.in_ok-text.ensures;
+  prints = subst (λ (ls : List Entry). Prints ls c.in_ok-script.script (string_bytes c.in_ok-text.text)) c.requires c.in_ok-text.ensures;
 }

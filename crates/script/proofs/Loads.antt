@@ -1,0 +1,42 @@
+-- Runs of a script from records.
+use Rattle.std.proofs.Common.{◌≡◌, ℕ, ◌≤◌, ◌⊎◌, List, [], ◌∷◌, length, inl, inr, arith, sym, ap, subst, ◌∙◌}
+use Rattle.std.specs.Prelude.{count_by, max}
+use Rattle.std.proofs.lemmas.Bool.{cases_lt}
+use Rattle.helpers.specs.declared.sig.Entry.{Entry}
+use Rattle.wire.specs.declared.record.Record.{Record}
+use Rattle.world.specs.Beginning.{BeginsWith}
+use Rattle.world.specs.Knowledge.{Knowledge}
+use Rattle.world.specs.Running.{Ran, AreRunnableFrom, IsWorldFrom}
+use Rattle.world.specs.declared.event.Event.{Event}
+use Rattle.world.specs.declared.event.Reply.{Reply}
+use Rattle.events.specs.declared.script.Answered.{Answered}
+use Rattle.events.specs.declared.script.Script.{Script}
+use Rattle.events.specs.Scripts.{IsRunnableFrom, tells_event}
+use Rattle.events.proofs.Growing.{runs_over}
+use Rattle.script.specs.Loading.{PrintsFrom, vnodes_of}
+use Rattle.script.specs.Printing.{Tells}
+
+-- a script without vnodes has no events, so they run over one
+pub runs_over_some : (used : List ℕ) (listed : List Entry) (script : Script) (vnodes : ℕ) → vnodes ≡ vnodes_of script → IsRunnableFrom used listed script → AreRunnableFrom used vnodes listed script.events.items
+runs_over_some used listed script vnodes is runnable = elim (cases_lt 0 script.vnodes) [
+  | inl some ↦ subst (λ (n : ℕ). AreRunnableFrom used n listed script.events.items) (omega (arith, some, is)) runnable.events
+  | inr none ↦ runs_over used script.vnodes vnodes listed script.events.items (omega (arith, none)) runnable.events
+]
+
+-- there are replies for the script's lines
+pub enough_from : (used : List ℕ) (listed : List Entry) (script : Script) (answers : List Answered) (replies : List Reply) (ran : Ran) (events : List Event) → IsRunnableFrom used listed script → answers ≡ script.answered.items → events ≡ script.events.items
+    → replies ≡ ran.replies → length ran.replies ≡ length events → count_by tells_event answers ≡ length replies
+enough_from used listed script answers replies ran events runnable all_answers all all_replies each =
+    ap (λ (ls : List Answered). count_by tells_event ls) all_answers ∙ runnable.told ∙ ap (λ (es : List Event). length es) (sym all) ∙ sym each ∙ ap (λ (rs : List Reply). length rs) (sym all_replies)
+
+-- what the script's lines print
+pub prints_from : (listed : List Entry) (incarnation : ℕ) (records : List Record) (script : Script) (vnodes : ℕ) (events : List Event) (answers : List Answered) (ran : Ran) (replies : List Reply) (text : List ℕ)
+    → IsRunnableFrom (0 ∷ incarnation ∷ []) listed script → vnodes ≡ vnodes_of script → events ≡ script.events.items
+    → ((begin : Knowledge) → BeginsWith incarnation vnodes records events begin → IsWorldFrom begin vnodes listed events ran) → answers ≡ script.answered.items → replies ≡ ran.replies → Tells listed answers replies text → PrintsFrom listed incarnation records script text
+prints_from listed incarnation records script vnodes events answers ran replies text runnable many all world all_answers all_replies tells = record {
+  runnable = runnable;
+  ran = ran;
+  world = subst (λ (n : ℕ). (begin : Knowledge) → BeginsWith incarnation n records script.events.items begin → IsWorldFrom begin n listed script.events.items ran) many
+      (subst (λ (es : List Event). (begin : Knowledge) → BeginsWith incarnation vnodes records es begin → IsWorldFrom begin vnodes listed es ran) all world);
+  tells = subst (λ (rs : List Reply). Tells listed script.answered.items rs text) all_replies (subst (λ (ls : List Answered). Tells listed ls replies text) all_answers tells);
+}
