@@ -1,17 +1,17 @@
 -- What an event leads to, where it is known what it was replied.
-use Rattle.std.proofs.Common.{◌≡◌, ℕ, List, [], sym, ap, subst, ◌∙◌}
+use Rattle.std.proofs.Common.{◌≡◌, ℕ, List, [], length, sym, ap, subst, ◌∙◌}
 use Rattle.dvv.specs.declared.Dot.{Dot}
 use Rattle.object.specs.declared.content.Content.{Content}
 use Rattle.object.specs.declared.content.Key.{Key}
 use Rattle.object.specs.Known.{Write}
 use Rattle.vnode.specs.declared.fault.VnodeFault.TheVariants.{JournalFull, NoMemory}
 use Rattle.world.specs.declared.event.Event.{Event}
-use Rattle.world.specs.declared.event.Event.TheVariants.{Put, Get, Send, Deliver, Restart, ResolveRead, ResolveWrite}
+use Rattle.world.specs.declared.event.Event.TheVariants.{Put, Get, Send, Deliver, Restart, Dump, Load, ResolveRead, ResolveWrite}
 use Rattle.world.specs.declared.event.Reply.{Reply}
-use Rattle.world.specs.declared.event.Reply.TheVariants.{Stored, Found, Sent, Changed, Restarted, Resolved, Nothing, Refused}
+use Rattle.world.specs.declared.event.Reply.TheVariants.{Stored, Found, Sent, Changed, Restarted, Dumped, Loaded, Resolved, Nothing, Refused}
 use Rattle.world.specs.declared.event.Seen.{Seen}
 use Rattle.world.specs.declared.event.Seen.TheVariants.{Clock as Given, Get as ContextOf}
-use Rattle.world.specs.Happening.{Means, Carries, Happens, wants_memory, refused_alike, stored, put_refused, found, sent, delivered, delivery_refused, restarted, full, resolved, choice_stored, choice_refused, nothing_chosen}
+use Rattle.world.specs.Happening.{Means, Carries, Happens, wants_memory, refused_alike, stored, put_refused, found, sent, delivered, delivery_refused, restarted, dumped, dump_refused, loaded, full, resolved, choice_stored, choice_refused, nothing_chosen}
 use Rattle.world.specs.Knowledge.{Knowledge, Copied, left_by, next_dot, write_of, after_put, after_copy, after_delivery, after_restart}
 
 -- what follows a put that was stored, by what it had seen
@@ -26,6 +26,8 @@ LedTo old new (Stored dot) (Get vnode key) = Unit {0}
 LedTo old new (Stored dot) (Send vnode key) = Unit {0}
 LedTo old new (Stored dot) (Deliver message vnode) = Unit {0}
 LedTo old new (Stored dot) (Restart vnode) = Unit {0}
+LedTo old new (Stored dot) (Dump vnode) = Unit {0}
+LedTo old new (Stored dot) (Load dump vnode incarnation) = Unit {0}
 LedTo old new (Stored dot) (ResolveRead get hook) = Unit {0}
 LedTo old new (Stored dot) (ResolveWrite run vnode) = Unit {0}
 LedTo old new (Sent message) (Send vnode key) = (new ≡ after_copy old vnode key) × Carries old vnode key message
@@ -33,6 +35,8 @@ LedTo old new (Sent message) (Put vnode key seen content) = Unit {0}
 LedTo old new (Sent message) (Get vnode key) = Unit {0}
 LedTo old new (Sent message) (Deliver number vnode) = Unit {0}
 LedTo old new (Sent message) (Restart vnode) = Unit {0}
+LedTo old new (Sent message) (Dump vnode) = Unit {0}
+LedTo old new (Sent message) (Load dump vnode incarnation) = Unit {0}
 LedTo old new (Sent message) (ResolveRead get hook) = Unit {0}
 LedTo old new (Sent message) (ResolveWrite run vnode) = Unit {0}
 LedTo old new (Changed changed) (Deliver message vnode) = (key : Key) (writes : List Write) → left_by old message ≡ Copied key writes → new ≡ after_delivery old vnode key writes
@@ -40,6 +44,8 @@ LedTo old new (Changed changed) (Put vnode key seen content) = Unit {0}
 LedTo old new (Changed changed) (Get vnode key) = Unit {0}
 LedTo old new (Changed changed) (Send vnode key) = Unit {0}
 LedTo old new (Changed changed) (Restart vnode) = Unit {0}
+LedTo old new (Changed changed) (Dump vnode) = Unit {0}
+LedTo old new (Changed changed) (Load dump vnode incarnation) = Unit {0}
 LedTo old new (Changed changed) (ResolveRead get hook) = Unit {0}
 LedTo old new (Changed changed) (ResolveWrite run vnode) = Unit {0}
 LedTo old new Restarted (Restart vnode) = new ≡ after_restart old vnode
@@ -47,9 +53,13 @@ LedTo old new Restarted (Put vnode key seen content) = Unit {0}
 LedTo old new Restarted (Get vnode key) = Unit {0}
 LedTo old new Restarted (Send vnode key) = Unit {0}
 LedTo old new Restarted (Deliver message vnode) = Unit {0}
+LedTo old new Restarted (Dump vnode) = Unit {0}
+LedTo old new Restarted (Load dump vnode incarnation) = Unit {0}
 LedTo old new Restarted (ResolveRead get hook) = Unit {0}
 LedTo old new Restarted (ResolveWrite run vnode) = Unit {0}
 LedTo old new (Found state) event = Unit {0}
+LedTo old new (Dumped copies) event = Unit {0}
+LedTo old new (Loaded count) event = Unit {0}
 LedTo old new (Resolved resolution) event = Unit {0}
 LedTo old new Nothing event = Unit {0}
 LedTo old new (Refused refusal) event = Unit {0}
@@ -79,6 +89,9 @@ leads old new event reply (delivered message v key writes changed e left may cha
     is ∙ ap (λ (x : Key). after_delivery old v x writes) keys ∙ ap (λ (xs : List Write). after_delivery old v k xs) both)
 leads old new event reply (delivery_refused message v key writes refusal e left why r is) = replied old new reply (Refused refusal) event r tt
 leads old new event reply (restarted v e place r is) = as_told old new reply Restarted event (Restart v) r e is
+leads old new event reply (dumped v keys copies e known places carries r is) = replied old new reply (Dumped copies) event r tt
+leads old new event reply (dump_refused v keys e known many r is) = replied old new reply (Refused JournalFull) event r tt
+leads old new event reply (loaded dump v incarnation copies e left fresh r is) = replied old new reply (Loaded (length copies)) event r tt
 leads old new event reply (full v at f r is) = replied old new reply (Refused JournalFull) event r tt
 leads old new event reply (resolved get hook key writes state resolution e left shows res r is) = replied old new reply (Resolved resolution) event r tt
 leads old new event reply (choice_stored run v key writes content clock e left context may r is) = as_told old new reply (Stored (next_dot old v key)) event (ResolveWrite run v) r e tt
