@@ -1,6 +1,6 @@
 -- Runs of a script from records.
-use Rattle.std.proofs.Common.{◌≡◌, ℕ, ◌≤◌, ◌⊎◌, List, [], ◌∷◌, length, inl, inr, arith, sym, ap, subst, ◌∙◌}
-use Rattle.std.specs.Prelude.{count_by, max}
+use Rattle.std.proofs.Common.{◌≡◌, ℕ, List, [], ◌∷◌, length, inl, inr, arith, sym, ap, subst, ◌∙◌}
+use Rattle.std.specs.Prelude.{count_by}
 use Rattle.std.proofs.lemmas.Bool.{cases_lt}
 use Rattle.helpers.specs.declared.sig.Entry.{Entry}
 use Rattle.wire.specs.declared.record.Record.{Record}
