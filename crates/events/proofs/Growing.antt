@@ -106,5 +106,5 @@ pub no_load_yet : (events : List Event) (i : ℕ) (event : Event) (vnode incarna
 no_load_yet events i event vnode incarnation is none other place dump lt at = elim (cases_lt place i) [
   | inl before ↦ none place dump before at
   | inr le ↦ let same : place ≡ i = omega (arith, lt, le) in
-    other dump (is ∙ get_or_from_slice_get events i (Load dump vnode incarnation) event (subst (λ (k : ℕ). slice_get events k ≡ Some (Load dump vnode incarnation)) same at))
+      other dump (is ∙ get_or_from_slice_get events i (Load dump vnode incarnation) event (subst (λ (k : ℕ). slice_get events k ≡ Some (Load dump vnode incarnation)) same at))
 ]
