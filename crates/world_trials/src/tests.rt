@@ -1,3 +1,7 @@
 //! The tests of worlds.
 
+mod dumps;
+mod many;
+mod printing;
+mod scripted;
 mod worlds;

@@ -122,6 +122,30 @@ const REASONS: &[(&str, &str)] = &[
     ("commit 0 m\n", "no get named m\n"),
     ("resolve g absent.img\n", "no file absent.img\n"),
     ("check 0 k a absent.img\n", "no file absent.img\n"),
+    ("dump 0\n", "too many or too few words\n"),
+    ("dump 0 d d\n", "too many or too few words\n"),
+    ("dump 00 d\n", "a number that is no decimal\n"),
+    (
+        "dump 0 d-\n",
+        "a word that is not 1 to 64 letters and digits\n",
+    ),
+    ("dump 1 d\n", "no vnode 1\n"),
+    ("load 0 1\n", "too many or too few words\n"),
+    ("load 0 1 d d\n", "too many or too few words\n"),
+    ("load 0 01 d\n", "a number that is no decimal\n"),
+    ("load 0 -1 d\n", "a number that is no decimal\n"),
+    ("load 0 65536 d\n", "an incarnation is at most 65535\n"),
+    (
+        "load 0 18446744073709551615 d\n",
+        "an incarnation is at most 65535\n",
+    ),
+    (
+        "load 0 1 d-\n",
+        "a word that is not 1 to 64 letters and digits\n",
+    ),
+    ("load 0 1 d\n", "no dump named d\n"),
+    ("load 0 1 g\n", "no dump named g\n"),
+    ("load 0 1 m\n", "no dump named m\n"),
 ];
 
 /// A line behind a get and a send.
@@ -139,6 +163,42 @@ const WHOLE: &[(&[u8], &str, &str)] = &[
         b"vnodes 1\nget 0 k g\nresolve g \xff.img\n",
         "none AQAA\nbad line 3\n",
         "a file name that is no text\n",
+    ),
+    (b"dump 0 d\n", "bad line 1\n", "no vnode 0\n"),
+    (
+        b"vnodes 1\ndump 0 d\nload 1 1 d\n",
+        "dumped 0\nbad line 3\n",
+        "no vnode 1\n",
+    ),
+    (
+        b"vnodes 1\ndump 0 d\nget 0 k d\nload 0 1 d\n",
+        "dumped 0\nnone AQAA\nbad line 4\n",
+        "no dump named d\n",
+    ),
+    (
+        b"vnodes 1\nget 0 k d\ndump 0 d\nput 0 k a @d\n",
+        "none AQAA\ndumped 0\nbad line 4\n",
+        "no get named d\n",
+    ),
+    (
+        b"vnodes 1\nput 0 k a -\ndump 0 d\nload 0 0 d\n",
+        "0-1\ndumped 1\nbad line 4\n",
+        "vnode 0 had incarnation 0 before\n",
+    ),
+    (
+        b"vnodes 1\ndump 0 d\nload 0 1 d\nload 0 1 d\n",
+        "dumped 0\nloaded 0\nbad line 4\n",
+        "vnode 0 had incarnation 1 before\n",
+    ),
+    (
+        b"vnodes 2\ndump 0 d\nload 0 5 d\nload 1 5 d\nload 0 3 d\nload 1 0 d\n",
+        "dumped 0\nloaded 0\nloaded 0\nloaded 0\nbad line 6\n",
+        "vnode 1 had incarnation 0 before\n",
+    ),
+    (
+        b"vnodes 2\ndump 1 d\nload 0 5 d\nload 0 3 d\nload 0 5 d\nput 0 k a -\n",
+        "dumped 0\nloaded 0\nloaded 0\nbad line 5\n",
+        "vnode 0 had incarnation 5 before\n",
     ),
 ];
 

@@ -23,3 +23,12 @@ fn parses(rt: HostRuntime) -> Result<(), Fail> {
     assert!(rt; counts == [2, 5, 7] && bad == Some(BadAt { line: 9, why }));
     Ok(())
 }
+
+#[test]
+fn parses_dumps_and_loads(rt: HostRuntime) -> Result<(), Fail> {
+    let script = b"vnodes 2\ndump 1 d\nload 1 1 d\nload 0 1 d\nload 1 1 d\nload 1 2 d\n";
+    let (counts, bad) = read(rt.alloc(), script)?;
+    let why = BadLine::UsedIncarnation(1, 1);
+    assert!(rt; counts == [2, 3, 3] && bad == Some(BadAt { line: 5, why }));
+    Ok(())
+}

@@ -98,6 +98,36 @@ const SCRIPTS: &[(&str, &str, &str)] = &[
         "vnodes 1\ncheck 0 k a no.img\ncheck 0 k a no40.img\ncheck 0 k a no41.img\ncheck 0 k a pass.img\ncheck 0 k a change.img\ncheck 0 k a odd.img\ncheck 0 k a wide.img\nget 0 k g\nput 0 k b -\ncheck 0 k a no41.img\ncheck 0 k a no.img\nget 0 k h\n",
         "reject 1\nlarge\nreject 1\npass\nwrite 610000\nbad B1\nbad B2\nnone AQAA\n0-1\nlarge\nreject 1\n0-1=b AQABAAAAAAAAAAAAAAAB\n",
     ),
+    (
+        "a lost vnode is brought back",
+        "vnodes 2\nput 0 k a -\nget 0 k g\ndump 0 d\nput 0 k b @g\nload 0 1 d\nput 0 k c -\nget 0 k h\n",
+        "0-1\n0-1=a AQABAAAAAAAAAAAAAAAB\ndumped 1\n0-2\nloaded 1\n65536-1\n0-1=a 65536-1=c AQACAAAAAAAAAAAAAAABAAEAAAAAAAAAAAAB\n",
+    ),
+    (
+        "what others know of a lost vnode comes back beside its new writes",
+        "vnodes 2\nput 0 k a -\ndump 0 d\nput 0 k b -\nsend 0 k m\ndeliver m 1\nload 0 1 d\nget 0 k g\nput 0 k c @g\nrestart 0\nsend 1 k n\ndeliver n 0\nget 0 k h\ndeliver m 0\n",
+        "0-1\ndumped 1\n0-2\nok\nchanged\nloaded 1\n0-1=a AQABAAAAAAAAAAAAAAAB\n65536-1\nok\nok\nchanged\n0-2=b 65536-1=c AQACAAAAAAAAAAAAAAACAAEAAAAAAAAAAAAB\nsame\n",
+    ),
+    (
+        "each key of which something is known is in a dump, a deleted one too",
+        "vnodes 1\nput 0 b x -\ndel 0 a -\nget 0 c g\ndump 0 d\nload 0 7 d\nget 0 a h\nget 0 b i\nget 0 c j\ndump 0 e\nload 0 8 e\nput 0 a y @h\nget 0 a l\n",
+        "0-1\n0-1\nnone AQAA\ndumped 2\nloaded 2\n0-1! AQABAAAAAAAAAAAAAAAB\n0-1=x AQABAAAAAAAAAAAAAAAB\nnone AQAA\ndumped 2\nloaded 2\n524288-1\n524288-1=y AQACAAAAAAAAAAAAAAABAAgAAAAAAAAAAAAB\n",
+    ),
+    (
+        "a dump of nothing, and the last incarnation",
+        "vnodes 2\ndump 1 d\nput 1 k a -\nload 1 65535 d\nget 1 k g\nput 1 k b -\nget 1 k h\n",
+        "dumped 0\n1-1\nloaded 0\nnone AQAA\n4294901761-1\n4294901761-1=b AQAB//8AAQAAAAAAAAAB\n",
+    ),
+    (
+        "a dump is loaded at another vnode, and twice",
+        "vnodes 2\nput 0 k a -\ndump 0 d\nput 1 k b -\nload 1 1 d\nget 1 k g\nput 1 k c @g\nload 0 1 d\nload 0 2 d\nsend 1 k m\ndeliver m 0\nget 0 k h\n",
+        "0-1\ndumped 1\n1-1\nloaded 1\n0-1=a AQABAAAAAAAAAAAAAAAB\n65537-1\nloaded 1\nloaded 1\nok\nchanged\n65537-1=c AQACAAAAAAAAAAAAAAABAAEAAQAAAAAAAAAB\n",
+    ),
+    (
+        "the latest dump of a name counts",
+        "vnodes 1\ndump 0 d\nput 0 k a -\ndump 0 d\nget 0 k d\ndump 0 d\nload 0 9 d\nload 0 3 d\nget 0 k g\n",
+        "dumped 0\n0-1\ndumped 1\n0-1=a AQABAAAAAAAAAAAAAAAB\ndumped 1\nloaded 1\nloaded 1\n0-1=a AQABAAAAAAAAAAAAAAAB\n",
+    ),
     ("nothing at all", "", ""),
     ("no line that counts", "\n# nothing\n\n", ""),
 ];

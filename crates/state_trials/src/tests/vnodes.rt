@@ -1,6 +1,7 @@
 //! Vnodes called by hand, and their answers.
 
 mod calls;
+mod copies;
 mod keys;
 mod limits;
 mod steps;

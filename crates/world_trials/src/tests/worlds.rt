@@ -4,17 +4,16 @@ ghost use Rattle.std.specs.Prelude.{◌≡◌, true};
 ghost use Rattle.world.specs.Resolving.{MayRun};
 ghost use Rattle.world.specs.Running.{AreRunnable, IsEarlierContext, IsGetAt, IsRunAt, IsSendAt, MayCome};
 
+use crate::tests::printing::printed;
 use bpfimage::ImageKind;
 use dvv::Clock;
 use helpers::{Sigs, Table};
-use object::{Content, KeyState};
 use std::alloc::{AllocError, Global};
-use std::fmt::Write as _;
 use std::test::Fail;
 use trial_parts::building::{content_of, key_of};
 use trial_parts::programs::{RESOLVER, answer, hook};
 use verifier::Verified;
-use world::{Event, Hook, Reply, Resolution, Seen, World};
+use world::{Event, Hook, Seen, World};
 
 /// An event of the key `k`, by its numbers.
 #[derive(Clone, Copy)]
@@ -149,6 +148,8 @@ fn may_come(vnodes: usize, table: &Table, before: &[Event], event: &Event) -> bo
         Event::Send { vnode, .. } => *vnode < vnodes,
         Event::Deliver { message, vnode } => *vnode < vnodes && is_send(before, *message),
         Event::Restart { vnode } => *vnode < vnodes,
+        // There are none among the steps.
+        Event::Dump { .. } | Event::Load { .. } => false,
         Event::ResolveRead { get, hook } => {
             is_get(before, *get) && may_run(table, hook.program())
         }
@@ -166,74 +167,6 @@ fn are_runnable(vnodes: usize, table: &Table, events: &[Event]) -> bool
         }
     }
     true
-}
-
-fn print_content(text: &mut String, content: &Content) -> Result<(), AllocError> {
-    match content {
-        Content::Value { media, bytes } => {
-            write!(text, "=")?;
-            for byte in bytes.as_slice() {
-                write!(text, "{}", char::from(*byte))?;
-            }
-            let mark = if media.as_slice() == b"text/plain".as_slice() {
-                ""
-            } else {
-                "?"
-            };
-            write!(text, "{mark}")
-        }
-        Content::Tombstone => write!(text, "!"),
-    }
-}
-
-fn print_state(text: &mut String, state: &KeyState) -> Result<(), AllocError> {
-    for sibling in state.siblings() {
-        write!(text, "{}-{}", sibling.dot.vnode, sibling.dot.n)?;
-        print_content(text, &sibling.content)?;
-        write!(text, " ")?;
-    }
-    for dot in state.clock().entries() {
-        write!(text, "{}:{} ", dot.vnode, dot.n)?;
-    }
-    Ok(())
-}
-
-fn print_resolution(text: &mut String, resolution: &Resolution) -> Result<(), AllocError> {
-    match resolution {
-        Resolution::Keep => write!(text, "keep"),
-        Resolution::Take(place) => write!(text, "take {place}"),
-        Resolution::Write(content) => {
-            write!(text, "write")?;
-            print_content(text, content)
-        }
-        Resolution::Delete => write!(text, "delete"),
-        Resolution::TooLarge => write!(text, "large"),
-        Resolution::Bad(bad) => write!(text, "bad {bad}"),
-    }
-}
-
-fn print(text: &mut String, reply: &Reply) -> Result<(), AllocError> {
-    match reply {
-        Reply::Stored(dot) => write!(text, "{}-{}", dot.vnode, dot.n)?,
-        Reply::Found(state) => print_state(text, state)?,
-        Reply::Sent(_) => write!(text, "ok")?,
-        Reply::Changed(true) => write!(text, "changed")?,
-        Reply::Changed(false) => write!(text, "same")?,
-        Reply::Restarted => write!(text, "ok")?,
-        Reply::Resolved(resolution) => print_resolution(text, resolution)?,
-        Reply::Nothing => write!(text, "nothing")?,
-        Reply::Refused(refusal) => write!(text, "{refusal}")?,
-    }
-    write!(text, ";")
-}
-
-/// The text of replies, from a place on.
-fn printed(alloc: Global, replies: &[Reply], from: usize) -> Result<String, AllocError> {
-    let mut text = String::new(alloc);
-    for reply in replies.iter().skip(from) {
-        print(&mut text, reply)?;
-    }
-    Ok(text)
 }
 
 /// What steps over three vnodes reply, from a place on: the text of the replies.

@@ -25,7 +25,7 @@ fn is_content(content: &Content, byte: u8) -> bool {
 }
 
 /// Whether the siblings are these, each a vnode, a number and a byte.
-fn shows(state: &KeyState, want: &[(u32, u64, u8)]) -> bool {
+pub fn shows(state: &KeyState, want: &[(u32, u64, u8)]) -> bool {
     state.siblings().len() == want.len()
         && state.siblings().iter().zip(want.iter()).all(|(sibling, (vnode, n, byte))| {
             sibling.dot.vnode == *vnode
