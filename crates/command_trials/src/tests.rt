@@ -1,6 +1,7 @@
 //! The commands on files in memory, against what they must print. What they say of programs stands in rows of the examples, but for
 //! files of the greatest length.
 
+mod dumps;
 mod runs;
 mod scripts;
 mod serving;
@@ -9,8 +10,9 @@ mod words;
 
 use commands::files::{Files, Part};
 use commands::own::command_with_helpers;
-use commands::server::Offline;
+use commands::server::{Offline, Server};
 use std::alloc::{AllocError, Global};
+use std::fmt::Debug;
 use std::io;
 use std::process::Abort;
 
@@ -88,20 +90,34 @@ struct Want<'a> {
     status: u8,
 }
 
-/// Does what the words ask for on these files, and compares what comes of it.
-fn expect(
-    rt: &impl Abort,
+/// Whether this is printed on the output and beside it, with this status.
+fn is_told(out: &[u8], err: &[u8], done: Result<u8, AllocError>, want: Want<'_>) -> bool {
+    out == want.out.as_bytes() && err == want.err.as_bytes() && done == Ok(want.status)
+}
+
+/// Whether words come to that on these files and with this server.
+fn served_so<S: Server>(
     alloc: Global,
-    name: &str,
+    server: &mut S,
     words: &[&str],
     files: &[(&str, &[u8])],
     want: Want<'_>,
-) {
+) -> bool
+    requires { S.ready }
+{
     let mut shelf = Shelf { files };
     let mut out = Vec::new(alloc);
     let mut err = Vec::new(alloc);
-    let done = command_with_helpers(alloc, words, &mut shelf, &mut Offline, &mut out, &mut err);
-    let printed = (out.as_slice(), done);
-    assert_eq!(rt; printed, (want.out.as_bytes(), Ok(want.status)), "{name}");
-    assert_eq!(rt; err.as_slice(), want.err.as_bytes(), "{name}");
+    let done = command_with_helpers(alloc, words, &mut shelf, server, &mut out, &mut err);
+    is_told(&out, &err, done, want)
+}
+
+/// Whether words that serve nothing come to that on these files.
+fn comes_to(alloc: Global, words: &[&str], files: &[(&str, &[u8])], want: Want<'_>) -> bool {
+    served_so(alloc, &mut Offline, words, files, want)
+}
+
+/// Ends the test where a row does not hold, and names the row.
+fn expect(rt: &impl Abort, holds: bool, row: &impl Debug) {
+    assert!(rt; holds, "{row:?}");
 }

@@ -4,4 +4,6 @@ pub mod Run
 pub mod Verdict
 pub mod Words
 pub mod Audited
+pub mod Records
+pub mod Dumped
 pub mod Command

@@ -6,7 +6,7 @@ use Rattle.std.specs.Str.Parse.{digits_value}
 use Rattle.std.specs.Cmp.Lexicographic.{pointwise}
 use Rattle.std.specs.Borrow.{Bor}
 use Rattle.commands.specs.declared.words.Request.{Request}
-use Rattle.commands.specs.declared.words.Request.TheVariants.{Run, Verify, Sim, Serve}
+use Rattle.commands.specs.declared.words.Request.TheVariants.{Run, Verify, Sim, Dump, Load, Serve}
 
 -- the number of 1 to 2^32 - 1 that a decimal without sign and leading zeros spells
 abbrev pub count_of : List ℕ → Option ℕ
@@ -14,6 +14,28 @@ count_of [] = None
 count_of (d ∷ ds) =
     if not (d == 48) && (list_all is_ascii_digit (d ∷ ds) && nat_lt (digits_value 10 (d ∷ ds)) (2 ^ 32)) then Some (digits_value 10 (d ∷ ds))
     else None
+
+-- the number of 0 to 2^32 - 1 that one spells
+abbrev pub number_of : List ℕ → Option ℕ
+number_of word = if pointwise nat_eq word (codes "0") then Some 0 else count_of word
+
+-- an incarnation has 16 bits
+abbrev pub as_incarnation : Option ℕ → Option ℕ
+as_incarnation None = None
+as_incarnation (Some n) = if nat_lt n (2 ^ 16) then Some n else None
+
+abbrev pub incarnation_of : List ℕ → Option ℕ
+incarnation_of word = as_incarnation (number_of word)
+
+-- to run a script and dump a vnode into a file
+abbrev pub dumped_by : Bor (List ℕ) → Bor (List ℕ) → Option ℕ → Option Request
+dumped_by file script None = None
+dumped_by file script (Some vnode) = Some (Dump file script vnode)
+
+-- to load a file under an incarnation and run a script
+abbrev pub loaded_by : Bor (List ℕ) → Option ℕ → Bor (List ℕ) → Option Request
+loaded_by file None script = None
+loaded_by file (Some incarnation) script = Some (Load file incarnation script)
 
 -- to serve at an address, by so many workers, 16 at most
 abbrev pub served_by : Bor (List ℕ) → Option ℕ → Option ℕ → Option Request
@@ -25,10 +47,16 @@ abbrev pub served_so_many : Bor (List ℕ) → Option ℕ → Option ℕ → Opt
 served_so_many addr workers None = None
 served_so_many addr workers (Some count) = served_by addr workers (Some count)
 
+-- what a name and three more words ask for
+abbrev pub three_words_of : List ℕ → Bor (List ℕ) → Bor (List ℕ) → Bor (List ℕ) → Option Request
+three_words_of name first second third =
+    if pointwise nat_eq name (codes "dump") then dumped_by first second (number_of third.now)
+    else (if pointwise nat_eq name (codes "load") then loaded_by first (incarnation_of second.now) third
+    else (if pointwise nat_eq name (codes "serve") then served_so_many first (count_of second.now) (count_of third.now) else None))
+
 -- what words ask for
 abbrev pub request_of : List (Bor (List ℕ)) → Option Request
-request_of (name ∷ addr ∷ workers ∷ count ∷ []) =
-    if pointwise nat_eq name.now (codes "serve") then served_so_many addr (count_of workers.now) (count_of count.now) else None
+request_of (name ∷ first ∷ second ∷ third ∷ []) = three_words_of name.now first second third
 request_of (name ∷ first ∷ second ∷ []) =
     if pointwise nat_eq name.now (codes "run") then Some (Run first second)
     else (if pointwise nat_eq name.now (codes "serve") then served_by first (count_of second.now) None else None)

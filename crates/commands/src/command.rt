@@ -3,10 +3,13 @@ ghost use Rattle.std.specs.Prelude.{◌≡◌, ℕ, ◌<◌, ◌≤◌, List, Op
 ghost use Rattle.std.specs.Borrow.{Bor};
 ghost use Rattle.commands.specs.Words.{request_of};
 ghost use Rattle.commands.specs.Command.{Judged, Ran, Served, SimulatedFile};
+ghost use Rattle.commands.specs.Dumped.{DumpedFile, LoadedFile};
 
 use crate::audited::tell;
+use crate::dump::dump;
 use crate::failure::Failure;
 use crate::files::Files;
+use crate::load::load;
 use crate::run::run;
 use crate::server::{Server, Unserved};
 use crate::simulate::simulate;
@@ -41,6 +44,9 @@ pub fn command<F: Files, S: Server, O: Write, E: Write>(
     ensures ran { (image input : Bor (List ℕ)) → request_of words.now ≡ Some (Request.Run image input) → result < 2 → Ran table.listed (F.held files.old image.now) (F.held files.old input.now) (O.contents out.old) (O.contents out.new) result }
     ensures judged { (image : Bor (List ℕ)) → request_of words.now ≡ Some (Request.Verify image) → result < 2 → Judged table.listed (F.held files.old image.now) (O.contents out.old) (O.contents out.new) result }
     ensures simulated { (script : Bor (List ℕ)) → request_of words.now ≡ Some (Request.Sim script) → result < 2 → SimulatedFile table.listed (F.held files.old script.now) (O.contents out.old) (O.contents out.new) result }
+    ensures dumped { (file script : Bor (List ℕ)) (vnode : ℕ) → request_of words.now ≡ Some (Request.Dump file script vnode) → result < 2 → DumpedFile table.listed vnode (F.held files.old script.now) (F.held files.new file.now) (O.contents out.old) (O.contents out.new) result }
+    ensures unwritten { (file script : Bor (List ℕ)) (vnode : ℕ) → request_of words.now ≡ Some (Request.Dump file script vnode) → result ≡ 1 → files.new ≡ files.old }
+    ensures loaded { (file script : Bor (List ℕ)) (incarnation : ℕ) → request_of words.now ≡ Some (Request.Load file incarnation script) → result < 2 → LoadedFile table.listed incarnation (F.held files.old file.now) (F.held files.old script.now) (O.contents out.old) (O.contents out.new) result }
     ensures served { (addr : Bor (List ℕ)) (workers : ℕ) (count : Option ℕ) → request_of words.now ≡ Some (Request.Serve addr workers count) → result < 2 → Served (O.contents out.old) (O.contents out.new) result }
     ensures wrong_words { request_of words.now ≡ None → result ≡ 2 }
     ensures untouched { request_of words.now ≡ None → out.new ≡ out.old }
@@ -72,6 +78,9 @@ fn done<F: Files, S: Server, O: Write, E: Write>(
     ensures ran { (image input : Bor (List ℕ)) → request_of words.now ≡ Some (Request.Run image input) → IfOk result (λ status. status < 2 → Ran table.listed (F.held files.old image.now) (F.held files.old input.now) (O.contents out.old) (O.contents out.new) status) }
     ensures judged { (image : Bor (List ℕ)) → request_of words.now ≡ Some (Request.Verify image) → IfOk result (λ status. status < 2 → Judged table.listed (F.held files.old image.now) (O.contents out.old) (O.contents out.new) status) }
     ensures simulated { (script : Bor (List ℕ)) → request_of words.now ≡ Some (Request.Sim script) → IfOk result (λ status. status < 2 → SimulatedFile table.listed (F.held files.old script.now) (O.contents out.old) (O.contents out.new) status) }
+    ensures dumped { (file script : Bor (List ℕ)) (vnode : ℕ) → request_of words.now ≡ Some (Request.Dump file script vnode) → IfOk result (λ status. status < 2 → DumpedFile table.listed vnode (F.held files.old script.now) (F.held files.new file.now) (O.contents out.old) (O.contents out.new) status) }
+    ensures unwritten { (file script : Bor (List ℕ)) (vnode : ℕ) → request_of words.now ≡ Some (Request.Dump file script vnode) → IfOk result (λ status. status ≡ 1 → files.new ≡ files.old) }
+    ensures loaded { (file script : Bor (List ℕ)) (incarnation : ℕ) → request_of words.now ≡ Some (Request.Load file incarnation script) → IfOk result (λ status. status < 2 → LoadedFile table.listed incarnation (F.held files.old file.now) (F.held files.old script.now) (O.contents out.old) (O.contents out.new) status) }
     ensures served { (addr : Bor (List ℕ)) (workers : ℕ) (count : Option ℕ) → request_of words.now ≡ Some (Request.Serve addr workers count) → IfOk result (λ status. status < 2 → Served (O.contents out.old) (O.contents out.new) status) }
     ensures wrong_words { request_of words.now ≡ None → IsErr result × (out.new ≡ out.old) }
 {
@@ -79,6 +88,20 @@ fn done<F: Files, S: Server, O: Write, E: Write>(
         Some(Request::Run { image, input }) => run(alloc, &table, image, input, files, out),
         Some(Request::Verify { image }) => verify(alloc, &table, image, files, out),
         Some(Request::Sim { script }) => simulate(alloc, &table, script, files, out, err),
+        Some(
+            Request::Dump {
+                file,
+                script,
+                vnode,
+            },
+        ) => dump(alloc, &table, file, script, vnode, files, out, err),
+        Some(
+            Request::Load {
+                file,
+                incarnation,
+                script,
+            },
+        ) => load(alloc, &table, file, incarnation, script, files, out, err),
         Some(Request::Serve { addr, count, .. }) => serve(
             alloc, table, more, addr, count, server, out,
         ),

@@ -3,10 +3,13 @@
 
 pub mod audited;
 pub mod command;
+pub mod dump;
 pub mod failure;
 pub mod files;
+pub mod load;
 pub mod outcome;
 pub mod own;
+pub mod records;
 pub mod run;
 pub mod server;
 pub mod simulate;

@@ -9,6 +9,7 @@ ghost use Rattle.helpers.specs.declared.sig.Entry.{Entry};
 ghost use Rattle.helpers.specs.Entries.{IsAdmitted};
 ghost use Rattle.helpers.specs.Answers.{IsCallableOn, AnswersOn};
 ghost use Rattle.commands.specs.Command.{Judged, Ran, Served, SimulatedFile};
+ghost use Rattle.commands.specs.Dumped.{DumpedFile, LoadedFile};
 ghost use Rattle.commands.specs.Own.{one_number, shapes_of, own_shapes};
 ghost use Rattle.commands.specs.Words.{request_of};
 
@@ -16,7 +17,7 @@ use crate::command::command;
 use crate::files::Files;
 use crate::server::Server;
 use crate::tables::OwnTables;
-use crate::words::{Request, parse};
+use crate::words::{MOST_WORKERS, Request, parse};
 use helpers::{
     ArgRule, Body, Helper, HelperFault, Sig, Table, decimal, find, newest, order, written_sig,
 };
@@ -65,6 +66,9 @@ pub fn command_with_helpers<F: Files, S: Server, O: Write, E: Write>(
     ensures ran { (image input : Bor (List ℕ)) → request_of words.now ≡ Some (Request.Run image input) → IfOk result (λ status. status < 2 → (sigs : List Entry) × (shapes_of sigs ≡ own_shapes) × Ran sigs (F.held files.old image.now) (F.held files.old input.now) (O.contents out.old) (O.contents out.new) status) }
     ensures judged { (image : Bor (List ℕ)) → request_of words.now ≡ Some (Request.Verify image) → IfOk result (λ status. status < 2 → (sigs : List Entry) × (shapes_of sigs ≡ own_shapes) × Judged sigs (F.held files.old image.now) (O.contents out.old) (O.contents out.new) status) }
     ensures simulated { (script : Bor (List ℕ)) → request_of words.now ≡ Some (Request.Sim script) → IfOk result (λ status. status < 2 → (sigs : List Entry) × (shapes_of sigs ≡ own_shapes) × SimulatedFile sigs (F.held files.old script.now) (O.contents out.old) (O.contents out.new) status) }
+    ensures dumped { (file script : Bor (List ℕ)) (vnode : ℕ) → request_of words.now ≡ Some (Request.Dump file script vnode) → IfOk result (λ status. status < 2 → (sigs : List Entry) × (shapes_of sigs ≡ own_shapes) × DumpedFile sigs vnode (F.held files.old script.now) (F.held files.new file.now) (O.contents out.old) (O.contents out.new) status) }
+    ensures unwritten { (file script : Bor (List ℕ)) (vnode : ℕ) → request_of words.now ≡ Some (Request.Dump file script vnode) → IfOk result (λ status. status ≡ 1 → files.new ≡ files.old) }
+    ensures loaded { (file script : Bor (List ℕ)) (incarnation : ℕ) → request_of words.now ≡ Some (Request.Load file incarnation script) → IfOk result (λ status. status < 2 → (sigs : List Entry) × (shapes_of sigs ≡ own_shapes) × LoadedFile sigs incarnation (F.held files.old file.now) (F.held files.old script.now) (O.contents out.old) (O.contents out.new) status) }
     ensures served { (addr : Bor (List ℕ)) (workers : ℕ) (count : Option ℕ) → request_of words.now ≡ Some (Request.Serve addr workers count) → IfOk result (λ status. status < 2 → Served (O.contents out.old) (O.contents out.new) status) }
     ensures wrong_words { request_of words.now ≡ None → IfOk result (λ status. status ≡ 2) }
     ensures untouched { request_of words.now ≡ None → out.new ≡ out.old }
@@ -129,7 +133,7 @@ fn tables_for(words: &[&str]) -> u32
     ensures few { result ≤ 16 }
 {
     match parse(words) {
-        Some(Request::Serve { workers, .. }) => workers.max(1),
+        Some(Request::Serve { workers, .. }) => workers.max(1).min(MOST_WORKERS),
         _ => 1,
     }
 }

@@ -16,9 +16,9 @@ use verifier::Verified;
 
 /// The images of hooks in files, for a table with these helpers.
 #[derive(Drop)]
-struct FileImages<'a, F> {
-    files: &'a F,
-    sigs: &'a Sigs,
+pub(crate) struct FileImages<'a, F> {
+    pub(crate) files: &'a F,
+    pub(crate) sigs: &'a Sigs,
     ghost whole: { AgreesWith sigs.now sigs.now },
 }
 

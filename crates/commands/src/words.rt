@@ -1,6 +1,6 @@
 //! The words of a command line.
 ghost use Rattle.std.specs.Prelude.{◌≡◌};
-ghost use Rattle.commands.specs.Words.{count_of, request_of, served_by};
+ghost use Rattle.commands.specs.Words.{count_of, incarnation_of, number_of, request_of, served_by, three_words_of};
 
 /// What the words ask for.
 #[derive(Clone, Copy)]
@@ -18,6 +18,18 @@ pub enum Request<'a> {
     Sim {
         script: &'a str,
     },
+    /// To run the script in the file `script`, and to make `file` hold the records of what a vnode knows then.
+    Dump {
+        file: &'a str,
+        script: &'a str,
+        vnode: u32,
+    },
+    /// To load the records of the file `file` under an incarnation, and to run the script in the file `script` then.
+    Load {
+        file: &'a str,
+        incarnation: u16,
+        script: &'a str,
+    },
     /// To serve the store at an address, by 1 to 16 workers: so many connections, or without end.
     Serve {
         addr: &'a str,
@@ -27,7 +39,7 @@ pub enum Request<'a> {
 }
 
 /// The most workers.
-const MOST_WORKERS: u32 = 16;
+pub(crate) const MOST_WORKERS: u32 = 16;
 
 /// What the words ask for, where they are those of a command.
 pub fn parse<'a>(words: &[&'a str]) -> Option<Request<'a>>
@@ -47,11 +59,32 @@ pub fn parse<'a>(words: &[&'a str]) -> Option<Request<'a>>
             "serve" => served(first, second, None),
             _ => None,
         },
-        [name, addr, workers, count] if *name == "serve" => served(
-            addr,
-            workers,
-            Some(count_in(count)?),
-        ),
+        [name, first, second, third] => three_words(name, first, second, third),
+        _ => None,
+    }
+}
+
+/// What the words of a command with three words behind its name ask for.
+fn three_words<'a>(
+    name: &str,
+    first: &'a str,
+    second: &'a str,
+    third: &'a str,
+) -> Option<Request<'a>>
+    ensures { result ≡ three_words_of name.now first.entry second.entry third.entry }
+{
+    match name {
+        "dump" => Some(Request::Dump {
+            file: first,
+            script: second,
+            vnode: number_in(third)?,
+        }),
+        "load" => Some(Request::Load {
+            file: first,
+            incarnation: incarnation_in(second)?,
+            script: third,
+        }),
+        "serve" => served(first, second, Some(count_in(third)?)),
         _ => None,
     }
 }
@@ -80,4 +113,18 @@ fn count_in(word: &str) -> Option<u32>
         return None;
     }
     word.parse().ok()
+}
+
+/// The number of 0 to `2^32 - 1` that a decimal without sign and leading zeros spells.
+fn number_in(word: &str) -> Option<u32>
+    ensures { result ≡ number_of word.now }
+{
+    if word == "0" { Some(0) } else { count_in(word) }
+}
+
+/// The incarnation that a decimal without sign and leading zeros spells.
+fn incarnation_in(word: &str) -> Option<u16>
+    ensures { result ≡ incarnation_of word.now }
+{
+    u16::try_from(number_in(word)?).ok()
 }

@@ -29,7 +29,7 @@ fn main(rt: HostRuntime) -> io::Result<ExitCode> {
     for argument in &arguments {
         words.push(argument.as_str())?;
     }
-    let mut disk = Disk { rt: &rt };
+    let mut disk = Disk { rt: &rt, alloc };
     let mut network = Network {
         rt: &rt,
         err: rt.stderr(),

@@ -25,7 +25,11 @@ impl<R: rt::Files + AllocGlobal> Files for Folder<'_, R> {
         Ok(Part { bytes, len })
     }
 
-    fn write(&mut self, _name: &str, _bytes: &[u8]) -> io::Result<()> {
+    /// Nothing is changed: a file can be written as it stands, and not otherwise.
+    fn write(&mut self, name: &str, bytes: &[u8]) -> io::Result<()> {
+        if self.read(self.rt.alloc(), name)?.as_slice() == bytes {
+            return Ok(());
+        }
         Err(io::Error::from(io::ErrorKind::PermissionDenied))
     }
 }

@@ -36,15 +36,38 @@ const FUNCTIONS: [&str; 7] = [
     "bits", "branches", "buffers", "checksum", "division", "hash", "number",
 ];
 
-/// Scripts of data/hooks/, each with what it prints in a file beside it.
-const SCRIPTS: [&str; 7] = [
-    "at_most_32",
-    "delete_wins",
-    "digits_only",
-    "first_sixteen",
-    "largest_counter",
-    "last_writer",
-    "union_of_records",
+/// The folder of a script, the words of its command, and its name: what is printed stands in a file beside it.
+type Script = (&'static str, &'static [&'static str], &'static str);
+
+/// Scripts of data/hooks/ and data/scripts/. A dump has to write its file as it stands.
+const SCRIPTS: [Script; 11] = [
+    ("hooks/", &["sim", "at_most_32.script"], "at_most_32"),
+    ("hooks/", &["sim", "delete_wins.script"], "delete_wins"),
+    ("hooks/", &["sim", "digits_only.script"], "digits_only"),
+    ("hooks/", &["sim", "first_sixteen.script"], "first_sixteen"),
+    (
+        "hooks/",
+        &["sim", "largest_counter.script"],
+        "largest_counter",
+    ),
+    ("hooks/", &["sim", "last_writer.script"], "last_writer"),
+    (
+        "hooks/",
+        &["sim", "union_of_records.script"],
+        "union_of_records",
+    ),
+    ("scripts/", &["sim", "lost_vnode.script"], "lost_vnode"),
+    ("scripts/", &["sim", "deletes.script"], "deletes"),
+    (
+        "scripts/",
+        &["dump", "before.records", "before.script", "0"],
+        "before",
+    ),
+    (
+        "scripts/",
+        &["load", "before.records", "1", "after.script"],
+        "after",
+    ),
 ];
 
 /// Dialogues of data/http/: what clients send, a connection each, with the answers in a file beside it.
@@ -78,8 +101,8 @@ pub fn try_all<R: Files + AllocGlobal>(rt: &R, told: &mut Vec<u8>) -> io::Result
     for name in FUNCTIONS {
         try_function(rt, name, &mut counts, told)?;
     }
-    for name in SCRIPTS {
-        try_script(rt, name, told)?;
+    for (path, words, name) in SCRIPTS {
+        try_script(rt, path, words, name, told)?;
     }
     for name in DIALOGUES {
         try_dialogue(rt, name, told)?;
@@ -152,23 +175,27 @@ fn try_function<R: Files + AllocGlobal>(
     writeln!(told, "c/{image} {comes_to}")
 }
 
-/// Tells whether a script prints what stands beside it, and its status.
-fn try_script<R: Files + AllocGlobal>(rt: &R, name: &str, told: &mut Vec<u8>) -> io::Result<()> {
+/// Tells whether the words of a script print what stands beside it, and the status.
+fn try_script<R: Files + AllocGlobal>(
+    rt: &R,
+    path: &'static str,
+    words: &[&str],
+    name: &str,
+    told: &mut Vec<u8>,
+) -> io::Result<()> {
     let alloc = rt.alloc();
-    let mut hooks = Folder { rt, path: "hooks/" };
-    let want = hooks.read(alloc, format!(in alloc; "{name}.stdout")?.as_str())?;
-    let script = format!(in alloc; "{name}.script")?;
+    let mut folder = Folder { rt, path };
+    let want = folder.read(alloc, format!(in alloc; "{name}.stdout")?.as_str())?;
     let mut out = Vec::new(alloc);
     let mut err = Vec::new(alloc);
-    let words = ["sim", script.as_str()];
-    let status = command_with_helpers(alloc, &words, &mut hooks, &mut Offline, &mut out, &mut err)?;
+    let status = command_with_helpers(alloc, words, &mut folder, &mut Offline, &mut out, &mut err)?;
     let is_same = out.as_slice() == want.as_slice() && err.is_empty();
     let comes_to = if is_same {
         "as written"
     } else {
         "something else"
     };
-    writeln!(told, "{script} {comes_to}, status {status}")
+    writeln!(told, "{path}{name}.script {comes_to}, status {status}")
 }
 
 /// Tells of how many connections the requests are answered by what stands beside them, and of each other one from which byte on

@@ -1,10 +1,10 @@
 //! Scripts, and the hooks that they name.
-use super::{BY_EIGHT, BY_NINE, EXIT, Head, Slot, USED_FIRST, Want, ZERO, expect, image};
+use super::{BY_EIGHT, BY_NINE, EXIT, Head, Slot, USED_FIRST, Want, ZERO, comes_to, expect, image};
 use std::alloc::{AllocError, Global};
 use std::test::Fail;
 
 /// A name, a script without hooks, and what it comes to.
-const PLAIN: [(&str, &str, Want<'static>); 2] = [
+const PLAIN: &[(&str, &str, Want<'static>)] = &[
     (
         "two siblings",
         "vnodes 1\nput 0 k a -\nput 0 k b -\nget 0 k g\n",
@@ -25,19 +25,25 @@ const PLAIN: [(&str, &str, Want<'static>); 2] = [
     ),
 ];
 
+/// The words of a script.
+const SIM: &[&str] = &["sim", "script"];
+
 #[test]
 fn scripts(rt: HostRuntime) {
-    let alloc = rt.alloc();
-    for (name, script, want) in &PLAIN {
+    for (name, script, want) in PLAIN {
         let files = [("script", script.as_bytes())];
-        expect(&rt, alloc, name, &["sim", "script"], &files, *want);
+        expect(&rt, comes_to(rt.alloc(), SIM, &files, *want), name);
     }
+}
+
+#[test]
+fn no_script(rt: HostRuntime) {
     let unreadable = Want {
         out: "",
         err: "unreadable\n",
         status: 2,
     };
-    expect(&rt, alloc, "no script", &["sim", "script"], &[], unreadable);
+    assert!(rt; comes_to(rt.alloc(), SIM, &[], unreadable));
 }
 
 /// The name of a hook's file, the head of its image, and its code.
@@ -56,7 +62,7 @@ const REJECT_ONE: Slot = [0xb7, 0, 0, 0, 1, 1, 0, 0];
 
 const ADD_256: Slot = [0x07, 0, 0, 0, 0, 1, 0, 0];
 
-const HOOKS: [Hook; 18] = [
+const HOOKS: &[Hook] = &[
     ("take.img", &RESOLVER, &[TAKE_FIRST, EXIT]),
     ("keep.img", &RESOLVER, &[ZERO, EXIT]),
     (
@@ -130,7 +136,7 @@ const HOOKS: [Hook; 18] = [
 /// A name, a script, what it prints, and the status.
 type Script = (&'static str, &'static str, &'static str, u8);
 
-const SCRIPTS: [Script; 9] = [
+const SCRIPTS: &[Script] = &[
     (
         "resolver_takes_first",
         "vnodes 3\nput 0 k a -\nput 1 k b -\nsend 1 k m\ndeliver m 0\nget 0 k g\nresolve g take.img\nput 2 k c -\nsend 2 k n\ndeliver n 0\ncommit 0 g\nget 0 k h\n",
@@ -191,32 +197,45 @@ const SCRIPTS: [Script; 9] = [
 fn files_with(alloc: Global, script: &str) -> Result<Vec<(&'static str, Vec<u8>)>, AllocError> {
     let mut files = Vec::new(alloc);
     files.push(("script", script.as_bytes().to_vec(alloc)?))?;
-    for (name, head, slots) in &HOOKS {
+    for (name, head, slots) in HOOKS {
         files.push((*name, image(alloc, head, slots)?))?;
     }
     Ok(files)
 }
 
+/// The files, as they are lent.
+fn lent<'a>(
+    alloc: Global,
+    files: &'a [(&'static str, Vec<u8>)],
+) -> Result<Vec<(&'static str, &'a [u8])>, AllocError> {
+    let mut lent = Vec::new(alloc);
+    for (file, bytes) in files {
+        lent.push((*file, bytes.as_slice()))?;
+    }
+    Ok(lent)
+}
+
+/// What a script is to come to. A status of 2 tells of one file.
+fn wanted(script: &Script) -> Want<'static> {
+    let (_, _, out, status) = *script;
+    let err = match status {
+        2 => "no file absent.img\n",
+        _ => "",
+    };
+    Want { out, err, status }
+}
+
+/// Whether a script comes to that with the files of hooks.
+fn is_simulated(alloc: Global, script: &Script) -> Result<bool, AllocError> {
+    let files = files_with(alloc, script.1)?;
+    let lent = lent(alloc, &files)?;
+    Ok(comes_to(alloc, SIM, &lent, wanted(script)))
+}
+
 #[test]
 fn hooks_in_scripts(rt: HostRuntime) -> Result<(), Fail> {
-    let alloc = rt.alloc();
-    for (name, script, out, status) in &SCRIPTS {
-        let files = files_with(alloc, script)?;
-        let mut lent = Vec::new(alloc);
-        for (file, bytes) in &files {
-            lent.push((*file, bytes.as_slice()))?;
-        }
-        let err = if *status == 2 {
-            "no file absent.img\n"
-        } else {
-            ""
-        };
-        let want = Want {
-            out,
-            err,
-            status: *status,
-        };
-        expect(&rt, alloc, name, &["sim", "script"], &lent, want);
+    for script in SCRIPTS {
+        expect(&rt, is_simulated(rt.alloc(), script)?, &script.0);
     }
     Ok(())
 }

@@ -1,13 +1,11 @@
 //! What serving comes to: a store that there is no memory for, and what is said of the journals at the end.
-use super::Shelf;
+use super::{Want, expect, served_so};
 use closing::{Followed, WatchFault};
-use commands::own::command_with_helpers;
 use commands::server::{Server, Unserved};
 use follow::{FollowCode, FollowFault};
 use helpers::Table;
 use std::alloc::Global;
 use std::io::Write;
-use std::process::Abort;
 
 /// A server without memory for a store.
 #[derive(Drop)]
@@ -29,14 +27,13 @@ impl Server for Cramped {
 
 #[test]
 fn no_memory_for_the_store(rt: HostRuntime) {
-    let alloc = rt.alloc();
+    let want = Want {
+        out: "E1\n",
+        err: "",
+        status: 1,
+    };
     let words = ["serve", "nowhere", "16"];
-    let mut shelf = Shelf { files: &[] };
-    let mut out = Vec::new(alloc);
-    let mut err = Vec::new(alloc);
-    let done = command_with_helpers(alloc, &words, &mut shelf, &mut Cramped, &mut out, &mut err);
-    assert_eq!(rt; (out.as_slice(), done), (b"E1\n".as_slice(), Ok(1)));
-    assert!(rt; err.is_empty());
+    assert!(rt; served_so(rt.alloc(), &mut Cramped, &words, &[], want));
 }
 
 /// A server that no connection comes to. It keeps with how many tables of helpers, on which address, and for how many connections it was
@@ -64,7 +61,7 @@ impl Server for Deserted {
 }
 
 /// Words, with how many workers and for how many connections they ask to be served.
-const RIGHT: [(&[&str], usize, Option<u32>); 5] = [
+const RIGHT: &[(&[&str], usize, Option<u32>)] = &[
     (&["serve", "here", "1"], 1, None),
     (&["serve", "here", "2", "1"], 2, Some(1)),
     (&["serve", "here", "9"], 9, None),
@@ -76,27 +73,30 @@ const RIGHT: [(&[&str], usize, Option<u32>); 5] = [
     (&["serve", "here", "16", "7"], 16, Some(7)),
 ];
 
+/// Whether words ask for so many workers and connections, and come to a good end.
+fn asks_for(alloc: Global, words: &[&str], workers: usize, count: Option<u32>) -> bool {
+    let mut server = Deserted {
+        says: Ok(()),
+        asked: None,
+    };
+    let want = Want {
+        out: "listening here\naudit ok\n",
+        err: "",
+        status: 0,
+    };
+    served_so(alloc, &mut server, words, &[], want) && server.asked == Some((workers, count))
+}
+
 /// As many workers serve as are asked for, each with a table of its own.
 #[test]
 fn so_many_workers(rt: HostRuntime) {
-    let alloc = rt.alloc();
-    for (words, workers, count) in &RIGHT {
-        let mut shelf = Shelf { files: &[] };
-        let mut server = Deserted {
-            says: Ok(()),
-            asked: None,
-        };
-        let mut out = Vec::new(alloc);
-        let mut err = Vec::new(alloc);
-        let done = command_with_helpers(alloc, words, &mut shelf, &mut server, &mut out, &mut err);
-        assert_eq!(rt; (server.asked, done), (Some((*workers, *count)), Ok(0)));
-        assert_eq!(rt; out.as_slice(), b"listening here\naudit ok\n".as_slice());
-        assert!(rt; err.is_empty());
+    for (words, workers, count) in RIGHT {
+        expect(&rt, asks_for(rt.alloc(), words, *workers, *count), words);
     }
 }
 
 /// Faults that a follower finds, with what is printed.
-const FOUND: [(FollowCode, u32, usize, &str); 7] = [
+const FOUND: &[(FollowCode, u32, usize, &str)] = &[
     (FollowCode::Twice, 1, 0, "listening here\naudit A1 1 0\n"),
     (
         FollowCode::Falls,
@@ -131,20 +131,20 @@ const FOUND: [(FollowCode, u32, usize, &str); 7] = [
     ),
 ];
 
-/// What is printed, and the status, where that is said of the journals.
-fn expect_said(rt: &impl Abort, alloc: Global, says: Followed, told: &str, status: u8) {
+/// Whether that is printed, with this status, where that is said of the journals.
+fn ends_so(alloc: Global, says: Followed, out: &str, status: u8) -> bool {
     let words = ["serve", "here", "4", "3"];
-    let mut shelf = Shelf { files: &[] };
     let mut server = Deserted { says, asked: None };
-    let mut out = Vec::new(alloc);
-    let mut err = Vec::new(alloc);
-    let done = command_with_helpers(alloc, &words, &mut shelf, &mut server, &mut out, &mut err);
-    assert_eq!(rt; (out.as_slice(), done), (told.as_bytes(), Ok(status)));
-    assert!(rt; err.is_empty());
+    let want = Want {
+        out,
+        err: "",
+        status,
+    };
+    served_so(alloc, &mut server, &words, &[], want)
 }
 
 /// What is said but for what was found, with what is printed and the status.
-const SAID: [(Followed, &str, u8); 4] = [
+const SAID: &[(Followed, &str, u8)] = &[
     (Ok(()), "listening here\naudit ok\n", 0),
     (Err(WatchFault::NoMemory), "listening here\naudit E1\n", 1),
     (
@@ -162,16 +162,15 @@ const SAID: [(Followed, &str, u8); 4] = [
 /// What is said of the journals is told after the address, and is the status.
 #[test]
 fn the_end_is_told(rt: HostRuntime) {
-    let alloc = rt.alloc();
-    for (says, told, status) in &SAID {
-        expect_said(&rt, alloc, *says, told, *status);
+    for (says, told, status) in SAID {
+        expect(&rt, ends_so(rt.alloc(), *says, told, *status), told);
     }
-    for (code, vnode, place, told) in &FOUND {
-        let found = FollowFault::Found {
-            code: *code,
-            vnode: *vnode,
-            place: *place,
-        };
-        expect_said(&rt, alloc, Err(WatchFault::Found(found)), told, 1);
+}
+
+#[test]
+fn what_was_found_is_told(rt: HostRuntime) {
+    for &(code, vnode, place, told) in FOUND {
+        let found = WatchFault::Found(FollowFault::Found { code, vnode, place });
+        expect(&rt, ends_so(rt.alloc(), Err(found), told, 1), &told);
     }
 }

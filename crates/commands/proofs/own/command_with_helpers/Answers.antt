@@ -8,3 +8,9 @@ returns-clause-judged g c image words done = (c.split-table.result.0.listed, c.s
 
 pub returns-clause-simulated : goal.returns-clause-simulated
 returns-clause-simulated g c script words done = (c.split-table.result.0.listed, c.split-table.ensures.own, c.command.ensures.simulated script words done)
+
+pub returns-clause-dumped : goal.returns-clause-dumped
+returns-clause-dumped g c file script vnode words done = (c.split-table.result.0.listed, c.split-table.ensures.own, c.command.ensures.dumped file script vnode words done)
+
+pub returns-clause-loaded : goal.returns-clause-loaded
+returns-clause-loaded g c file script incarnation words done = (c.split-table.result.0.listed, c.split-table.ensures.own, c.command.ensures.loaded file script incarnation words done)

@@ -1,0 +1,67 @@
+-- What a script that begins with records comes to.
+use Rattle.std.proofs.Common.{◌≡◌, ℕ, List, [], ◌∷◌, ◌++◌, length, refl, sym, subst, append_assoc, ◌∙◌}
+use Rattle.std.specs.Prelude.{codes, decimal, Option, Some, None, MatchOption, Result, Ok, Err, IfOk, IfSome}
+use Rattle.std.specs.Io.KnownBytes.{Appends}
+use Rattle.helpers.specs.declared.sig.Entry.{Entry}
+use Rattle.wire.specs.declared.fault.WireFault.{WireFault}
+use Rattle.wire.specs.declared.record.Record.{Record}
+use Rattle.script.specs.Loading.{PrintsAllFrom, PrintsUpToFrom}
+use Rattle.commands.specs.declared.failure.Failure.{Failure}
+use Rattle.commands.specs.declared.records.Unread.{Unread}
+use Rattle.commands.specs.declared.records.Unread.TheVariants as unread
+use Rattle.commands.specs.Dumped.{Loads, LoadedFile, whole, up_to, faulty}
+use Rattle.commands.specs.Outcome.{line}
+use Rattle.commands.specs.Records.{AreSpelledBy, FaultAt, IsUnread, fault_text}
+
+-- every line was read
+pub all_loaded : {X : Type 0} (sigs listed : List Entry) (incarnation : ℕ) (records : List Record) (bytes script text : List ℕ) (why : Option X) (Q : X → Type 0) (before after : Option (List ℕ))
+    → AreSpelledBy records bytes → sigs ≡ listed → why ≡ None → MatchOption why (PrintsAllFrom listed incarnation records script text) Q
+    → Appends before after (line (codes "loaded " ++ decimal (length records)) ++ text) → Loads sigs bytes incarnation script before after 0
+all_loaded sigs listed incarnation records bytes script text why Q before after spelt same is printed told =
+    whole records text refl spelt (subst (λ (ls : List Entry). PrintsAllFrom ls incarnation records script text) (sym same) (subst (λ v. MatchOption v (PrintsAllFrom listed incarnation records script text) Q) is printed)) told
+
+-- a line is bad
+pub loaded_up_to : {X : Type 0} (sigs listed : List Entry) (incarnation : ℕ) (records : List Record) (bytes script text : List ℕ) (why : Option X) (reason : X) (P : Type 0) (before after : Option (List ℕ))
+    → AreSpelledBy records bytes → sigs ≡ listed → why ≡ Some reason → MatchOption why P (λ reason. PrintsUpToFrom listed incarnation records script text)
+    → Appends before after (line (codes "loaded " ++ decimal (length records)) ++ text) → Loads sigs bytes incarnation script before after 2
+loaded_up_to sigs listed incarnation records bytes script text why reason P before after spelt same is printed told =
+    up_to records text refl spelt (subst (λ (ls : List Entry). PrintsUpToFrom ls incarnation records script text) (sym same) (subst (λ v. MatchOption v P (λ reason. PrintsUpToFrom listed incarnation records script text)) is printed)) told
+
+-- how many records were loaded, and what the lines print
+pub told_loaded : (before after : Option (List ℕ)) (n : ℕ) (text : List ℕ) → Appends before after (codes "loaded " ++ (decimal n ++ (codes "\n" ++ text))) → Appends before after (line (codes "loaded " ++ decimal n) ++ text)
+told_loaded before after n text told = subst (λ (ns : List ℕ). Appends before after (codes "loaded " ++ ns)) (sym (append_assoc (decimal n) (10 ∷ []) text)) told
+
+-- why a record is refused, and which
+pub told_refused : (before after : Option (List ℕ)) (number why : List ℕ) (place : ℕ) → number ≡ why → Appends before after (codes "refused " ++ (number ++ (codes " " ++ (decimal place ++ codes "\n"))))
+    → Appends before after (line (codes "refused " ++ why ++ codes " " ++ decimal place))
+told_refused before after number why place is told =
+    let same : number ++ (32 ∷ (decimal place ++ (10 ∷ []))) ≡ ((number ++ (32 ∷ [])) ++ decimal place) ++ (10 ∷ []) =
+    sym (append_assoc (number ++ (32 ∷ [])) (decimal place) (10 ∷ []) ∙ append_assoc number (32 ∷ []) (decimal place ++ (10 ∷ []))) in
+    subst (λ (ns : List ℕ). Appends before after (line (codes "refused " ++ ns ++ codes " " ++ decimal place))) is
+    (subst (λ (ns : List ℕ). Appends before after (codes "refused " ++ ns)) same told)
+
+-- the bytes and the script are those of files
+pub loaded_file : (sigs : List Entry) (incarnation : ℕ) (bytes file lines script : List ℕ) (given records : List Record) (held_file held_script before after : Option (List ℕ)) (told : Result ℕ Failure)
+    → given ≡ records → bytes ≡ file → lines ≡ script → IfSome held_file (λ known. file ≡ known) → IfSome held_script (λ known. script ≡ known) → AreSpelledBy records bytes
+    → ((bs : List ℕ) → AreSpelledBy given bs → IfOk told (Loads sigs bs incarnation lines before after)) → IfOk told (LoadedFile sigs incarnation held_file held_script before after)
+loaded_file sigs incarnation bytes file lines script given records held_file held_script before after (Ok status) same read are from_file from_script spelt loads = record {
+  file = file;
+  script = script;
+  from_file = from_file;
+  from_script = from_script;
+  loads = subst (λ (bs : List ℕ). Loads sigs bs incarnation script before after status) read
+      (subst (λ (ls : List ℕ). Loads sigs bytes incarnation ls before after status) are (loads bytes (subst (λ (rs : List Record). AreSpelledBy rs bytes) (sym same) spelt)));
+}
+loaded_file sigs incarnation bytes file lines script given records held_file held_script before after (Err why) same read are from_file from_script spelt loads = tt
+
+-- a record in the file has a fault
+pub faulty_file : (sigs : List Entry) (incarnation : ℕ) (bytes file script number : List ℕ) (held_file held_script before after : Option (List ℕ)) (given place : ℕ) (fault : WireFault) (why : Unread)
+    → why ≡ unread.Faulty place fault → IsUnread bytes why → bytes ≡ file → IfSome held_file (λ known. file ≡ known) → IfSome held_script (λ known. script ≡ known) → number ≡ fault_text fault → given ≡ place
+    → Appends before after (codes "refused " ++ (number ++ (codes " " ++ (decimal given ++ codes "\n")))) → LoadedFile sigs incarnation held_file held_script before after 1
+faulty_file sigs incarnation bytes file script number held_file held_script before after given place fault why is told_why read from_file from_script named same told = record {
+  file = file;
+  script = script;
+  from_file = from_file;
+  from_script = from_script;
+  loads = faulty place fault refl (subst (λ (bs : List ℕ). FaultAt bs place fault) read (subst (IsUnread bytes) is told_why)) (subst (λ (n : ℕ). Appends before after (line (codes "refused " ++ fault_text fault ++ codes " " ++ decimal n))) same (told_refused before after number (fault_text fault) given named told));
+}

@@ -1,0 +1,62 @@
+-- Records of dumps, one after another.
+use Rattle.std.proofs.Common.{◌≡◌, ℕ, ◌+◌, ◌-◌, ◌<◌, List, [], ◌∷◌, ◌++◌, length, get_or, take, drop, arith, sym, ap, subst, ◌∙◌, append_assoc}
+use Rattle.std.specs.List.{AllByRecursion, flat_map}
+use Rattle.std.proofs.lemmas.List.{append-nil, length-drop, length-take-le, take-append-drop, take_all, take_more}
+use Rattle.std.proofs.lemmas.Grind.{flat_map-append}
+use Rattle.vnode.specs.declared.steps.Copied.{Copied}
+use Rattle.wire.specs.declared.record.Record.{Record}
+use Rattle.wire.specs.Records.{Begins, IsRecord, spelling}
+use Rattle.commands.specs.Records.{AreSpelledBy, record_of, records_from}
+
+all_append : (xs ys : List Record) → AllByRecursion IsRecord xs → AllByRecursion IsRecord ys → AllByRecursion IsRecord (xs ++ ys)
+all_append [] ys a b = b
+all_append (x ∷ xs) ys a b = (a.0, all_append xs ys a.1 b)
+
+spelled_append : (records : List Record) (r : Record) → flat_map spelling (records ++ r ∷ []) ≡ flat_map spelling records ++ spelling r
+spelled_append records r = flat_map-append spelling records (r ∷ []) ∙ ap (λ (bs : List ℕ). flat_map spelling records ++ bs) (append-nil (spelling r))
+
+records_append : (from at : ℕ) (held : List Copied) (one : Copied) → records_from from at (held ++ one ∷ []) ≡ records_from from at held ++ record_of from (at + length held) one ∷ []
+records_append from at [] one = ap (λ (n : ℕ). record_of from n one ∷ []) (omega arith)
+records_append from at (c ∷ held) one =
+    ap (λ (rs : List Record). record_of from at c ∷ rs)
+    (records_append from (at + 1) held one ∙ ap (λ (n : ℕ). records_from from (at + 1) held ++ record_of from n one ∷ []) (omega arith))
+
+-- ---- written
+
+pub copy_spelled : (from first i at place : ℕ) (items held : List Copied) (one : Copied) (bytes more new : List ℕ) → items ≡ held → i < length items → one ≡ get_or items i one → AreSpelledBy (records_from from first (take i held)) bytes
+    → place ≡ first + i → at ≡ place → IsRecord (record_of from at one) → more ≡ spelling (record_of from at one) → new ≡ bytes ++ more → AreSpelledBy (records_from from first (take (i + 1) held)) new
+copy_spelled from first i at place items held one bytes more new same in_items at_items so_far here there is_record spelled longer =
+    let lt : i < length held = subst (λ (cs : List Copied). i < length cs) same in_items in
+    let is : one ≡ get_or held i one = subst (λ (cs : List Copied). one ≡ get_or cs i one) same at_items in
+    let held_more : take (i + 1) held ≡ take i held ++ one ∷ [] = take_more held i one lt ∙ ap (λ (c : Copied). take i held ++ c ∷ []) (sym is) in
+    let count : length (take i held) ≡ i = length-take-le i held (omega (arith, lt)) in
+    let all : records_from from first (take (i + 1) held) ≡ records_from from first (take i held) ++ record_of from at one ∷ [] =
+    ap (λ (cs : List Copied). records_from from first cs) held_more ∙ records_append from first (take i held) one
+    ∙ ap (λ (n : ℕ). records_from from first (take i held) ++ record_of from n one ∷ []) (omega (arith, count, here, there)) in
+    subst (λ (rs : List Record). AreSpelledBy rs new) (sym all) (record {
+      each = all_append (records_from from first (take i held)) (record_of from at one ∷ []) so_far.each (is_record, tt);
+      bytes_are = longer ∙ ap (λ (bs : List ℕ). bs ++ more) so_far.bytes_are ∙ ap (λ (bs : List ℕ). flat_map spelling (records_from from first (take i held)) ++ bs) spelled
+          ∙ sym (spelled_append (records_from from first (take i held)) (record_of from at one));
+    })
+
+-- ---- read
+
+-- the bytes before those that are left are records
+pub record IsReadSoFar (bytes left : List ℕ) (records : List Record) : Type 0 where
+  pub each : AllByRecursion IsRecord records
+  pub bytes_are : bytes ≡ flat_map spelling records ++ left
+
+cut : (left : List ℕ) (r : Record) (len : ℕ) → Begins left r len → left ≡ spelling r ++ drop len left
+cut left r len first = sym (take-append-drop len left) ∙ ap (λ (bs : List ℕ). bs ++ drop len left) first.front
+
+pub goes_on : (bytes left rest : List ℕ) (records new : List Record) (r : Record) (len : ℕ) → IsReadSoFar bytes left records → Begins left r len → rest ≡ drop len left → new ≡ records ++ r ∷ [] → IsReadSoFar bytes rest new
+goes_on bytes left rest records new r len so_far first rest_is more = subst (λ (rs : List Record). IsReadSoFar bytes rest rs) (sym more) (subst (λ (bs : List ℕ). IsReadSoFar bytes bs (records ++ r ∷ [])) (sym rest_is) (record {
+  each = all_append records (r ∷ []) so_far.each (first.is_record, tt);
+  bytes_are = so_far.bytes_are ∙ ap (λ (bs : List ℕ). flat_map spelling records ++ bs) (cut left r len first) ∙ sym (append_assoc (flat_map spelling records) (spelling r) (drop len left))
+      ∙ ap (λ (bs : List ℕ). bs ++ drop len left) (sym (spelled_append records r));
+}))
+
+-- the same of a slice from a place on
+pub goes_on_sliced : (bytes left : List ℕ) (records new : List Record) (r : Record) (len : ℕ) → IsReadSoFar bytes left records → Begins left r len → new ≡ records ++ r ∷ [] → IsReadSoFar bytes (take (length left - len) (drop len left)) new
+goes_on_sliced bytes left records new r len so_far first more =
+    goes_on bytes left (take (length left - len) (drop len left)) records new r len so_far first (take_all (length left - len) (drop len left) (omega (arith, length-drop len left))) more

@@ -1,0 +1,10 @@
+use Rattle.std.proofs.Common.{◌≡◌, ◌+◌, take}
+use Rattle.commands.specs.Records.{AreSpelledBy, records_from}
+use Rattle.commands.proofs.records.spelled.Given as goal
+
+-- the copies so far are spelled
+abbrev pub invariant-loop-copy : goal.invariant-loop-copy
+invariant-loop-copy l = record {
+  spelled : AreSpelledBy (records_from l.copies.from l.copies.first (take l.copy-index l.copies.held.items)) l.bytes.items;
+  place : l.place ≡ l.copies.first + l.copy-index;
+}
