@@ -1,6 +1,9 @@
 pub mod Siblings
 pub mod Merges
 pub mod Same
+pub mod Searches
+pub mod Parts
+pub mod Exchanged
 pub mod Told
 pub mod Shown
 pub mod Forms

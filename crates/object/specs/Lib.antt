@@ -4,4 +4,5 @@ pub mod Limits
 pub mod Faults
 pub mod Placing
 pub mod Merging
+pub mod Parts
 pub mod Known

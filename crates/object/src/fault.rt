@@ -3,7 +3,7 @@
 ghost use Rattle.std.specs.Prelude.{◌≡◌};
 
 use dvv::ClockFault;
-use std::alloc::AllocError;
+use std::alloc::{AllocError, AllocFailed};
 use thiserror::Error;
 
 /// What a put is refused for by the state alone, the first in this order.
@@ -79,5 +79,48 @@ impl From<AllocError> for MergeFault {
 
     fn from(_error: AllocError) -> Self {
         MergeFault::NoMemory
+    }
+}
+
+/// Why the merge of a part is refused, the first in this order. It is shown as its number.
+#[derive(Clone, Copy, Debug, PartialEq, Eq, Error)]
+pub enum PartFault {
+    /// A dot whose content was left out isn't held now.
+    #[error("M2")]
+    Missing,
+    /// The merge of the whole state is refused.
+    #[error("{0}")]
+    Merge(MergeFault),
+}
+
+impl From<AllocError> for PartFault {
+    ghost use Rattle.object.specs.declared.fault.MergeFault.TheVariants.{NoMemory};
+    ghost use Rattle.object.specs.declared.fault.PartFault.TheVariants.{Merge};
+
+    ghost from_gives = { λ _ fault. fault ≡ Merge NoMemory };
+
+    fn from(_error: AllocError) -> Self {
+        PartFault::Merge(MergeFault::NoMemory)
+    }
+}
+
+impl<T: Drop> From<AllocFailed<T>> for PartFault {
+    ghost use Rattle.object.specs.declared.fault.MergeFault.TheVariants.{NoMemory};
+    ghost use Rattle.object.specs.declared.fault.PartFault.TheVariants.{Merge};
+
+    ghost from_gives = { λ _ fault. fault ≡ Merge NoMemory };
+
+    fn from(_error: AllocFailed<T>) -> Self {
+        PartFault::Merge(MergeFault::NoMemory)
+    }
+}
+
+impl From<MergeFault> for PartFault {
+    ghost use Rattle.object.specs.declared.fault.PartFault.TheVariants.{Merge};
+
+    ghost from_gives = { λ refusal fault. fault ≡ Merge refusal };
+
+    fn from(refusal: MergeFault) -> Self {
+        PartFault::Merge(refusal)
     }
 }

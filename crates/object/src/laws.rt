@@ -1,11 +1,12 @@
 //! Laws of the definitions.
 
-ghost use Rattle.std.specs.Prelude.{◌≡◌, ◌↔◌, ◌++◌, ◌∷◌, [], List, Some, IsTrue, map};
+ghost use Rattle.std.specs.Prelude.{◌≡◌, ◌↔◌, ◌++◌, ◌∷◌, [], List, None, Some, IsTrue, false, is_some, map};
 ghost use Rattle.dvv.specs.declared.Dot.{Dot};
 ghost use Rattle.dvv.specs.Clock.{Covers, Within};
 ghost use Rattle.object.specs.declared.content.Content.{Content};
 ghost use Rattle.object.specs.declared.content.Sibling.{Sibling as OneSibling};
 ghost use Rattle.object.specs.State.{State, Puts, Merges, IsState, HaveSameDots, content_at};
+ghost use Rattle.object.specs.Parts.{Summarized, HoldsLeftOut, summary_of, part_of, whole_of, holds, lacks_some, contents_in};
 ghost use Rattle.object.specs.Limits.{most_siblings, longest_bucket, longest_key, longest_media, longest_value};
 ghost use Rattle.object.specs.Known.{Write, write_of, IsCurrent, InContext, Shows, AreUnique, NoneSawItself, current_among, context_of, ShowsKnown};
 
@@ -51,4 +52,22 @@ pub fn states_are_told_by_dots()
 /// So are two whose siblings have equal dots in order and whose clocks have equal entries: what a repair compares.
 pub fn states_are_told_by_dots_and_clocks()
     ensures { (mine theirs : List Write) (a b : State) → IsState a → IsState b → Shows mine a → Shows theirs b → AreUnique (mine ++ theirs) → map (λ (s : OneSibling). s.dot) a.siblings ≡ map (λ (s : OneSibling). s.dot) b.siblings → a.clock ≡ b.clock → a ≡ b }
+{}
+
+/// A part that was made of a state stands for that state where each content that was left out is held: by one who has the
+/// state's own contents under these dots, and so by whoever is of the same world and lacks none of them.
+pub fn parts_stand_for_their_states()
+    ensures held { (own state : State) (summary : Summarized) → IsState state → HoldsLeftOut own state summary → lacks_some own (part_of state summary) ≡ false }
+    ensures whole { (own state : State) (summary : Summarized) → IsState state → HoldsLeftOut own state summary → whole_of (part_of state summary) own ≡ state }
+    ensures world { (mine theirs : List Write) (own state : State) (summary : Summarized) → IsState state → Shows mine own → Shows theirs state → AreUnique (mine ++ theirs) → lacks_some own (part_of state summary) ≡ false → whole_of (part_of state summary) own ≡ state }
+{}
+
+/// A part is lacking exactly where the summary for which it was made holds a dot of the state that is none of the own.
+pub fn parts_lack_what_is_held_no_more()
+    ensures { (own state : State) (summary : Summarized) → IsTrue (lacks_some own (part_of state summary)) ↔ ((dot : Dot) × IsTrue (holds summary dot) × IsTrue (is_some (content_at state.siblings dot)) × (content_at own.siblings dot ≡ None)) }
+{}
+
+/// Where a summary is that of a state itself, the part of that state has no content.
+pub fn parts_of_what_is_held_are_empty()
+    ensures { (state : State) → contents_in (part_of state (summary_of state)) ≡ 0 }
 {}

@@ -3,15 +3,18 @@
 
 mod bytes;
 mod content;
+mod exchange;
 mod fault;
 pub mod laws;
 mod limits;
 mod merging;
+mod part;
 mod placing;
 mod state;
 
 pub use bytes::Bytes;
 pub use content::{Content, Key, Sibling};
-pub use fault::{MergeFault, PutFault, PutRefusal};
+pub use fault::{MergeFault, PartFault, PutFault, PutRefusal};
 pub use limits::{MAX_BUCKET, MAX_KEY, MAX_MEDIA, MAX_SIBLINGS, MAX_VALUE};
+pub use part::{Part, PartSibling, Summary};
 pub use state::KeyState;

@@ -202,6 +202,11 @@ impl KeyState {
         Ok(true)
     }
 
+    // Where its memory is from.
+    pub(crate) fn allocator(&self) -> Global {
+        *self.siblings.allocator()
+    }
+
     // Whether each event that another state knows is known here.
     fn knows_all_of(&self, other: &KeyState) -> bool
         ensures { result ≡ is_within other.now.clock self.now.clock }
@@ -243,7 +248,7 @@ fn copies_of(alloc: Global, siblings: &[Sibling]) -> Result<Vec<Sibling>, AllocE
 }
 
 // Whether two clocks' entries are the same.
-fn have_same_entries(entries: &[Dot], others: &[Dot]) -> bool
+pub(crate) fn have_same_entries(entries: &[Dot], others: &[Dot]) -> bool
     ensures { IsTrue result ↔ (entries.now ≡ others.now) }
 {
     if entries.len() != others.len() {
