@@ -5,6 +5,7 @@ use Rattle.bpfimage.specs.declared.image.ImageFault.{ImageFault}
 use Rattle.bpfimage.specs.declared.image.ImageFault.TheVariants as image
 use Rattle.bpfimage.specs.declared.image.ImageKind.{ImageKind}
 use Rattle.helpers.specs.declared.sig.Entry.{Entry}
+use Rattle.ranges.specs.declared.profile.Profile.TheVariants.{First}
 use Rattle.verifier.specs.Program.{Program}
 use Rattle.verifier.specs.Table.{IsAccepted}
 use Rattle.verifier.specs.Verdict.{IsRefused}
@@ -44,14 +45,16 @@ of_rule refused = by_rule refused refused.rule
 
 -- ---- what is let in
 
--- the bytes are those of the image of a program, with these helpers
+-- the bytes are those of the image of a program, with these helpers; the one version of images is verified by the first table of kinds
 pub record IsImageOf (bytes : List ℕ) (sigs : List Entry) (p : Program) : Type 0 where
   pub image : IsImage bytes p.kind p.in_len p.out_len p.code
+  pub profile_is : p.profile ≡ First
   pub sigs_are : p.sigs ≡ sigs
 
 -- the same of an image or raw code
 pub record IsProgramOf (bytes : List ℕ) (sigs : List Entry) (p : Program) : Type 0 where
   pub program : IsProgram bytes p.kind p.in_len p.out_len p.code
+  pub profile_is : p.profile ≡ First
   pub sigs_are : p.sigs ≡ sigs
 
 -- the bytes are an image, which the verifier accepts

@@ -5,6 +5,7 @@ ghost use Rattle.insn.specs.Encoding.{IsCode};
 ghost use Rattle.memory.specs.Windows.{longest_window};
 
 use insn::{DecodeFault, Insn};
+use ranges::Profile;
 use std::fmt;
 
 /// What a program is for.
@@ -18,10 +19,12 @@ pub enum ImageKind {
     Resolver,
 }
 
-/// A program: its kind, the lengths of its windows in bytes, and its code, one entry for each slot.
+/// A program: its kind, the table of kinds by which it is verified, the lengths of its windows in bytes, and its code, one entry
+/// for each slot.
 #[derive(Drop)]
 pub struct Image {
     pub kind: ImageKind,
+    pub profile: Profile,
     pub in_len: u32,
     pub out_len: u32,
     pub code: Vec<Insn>,

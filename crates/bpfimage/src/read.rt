@@ -10,6 +10,7 @@ use crate::image::{Image, ImageFault, ImageKind};
 use insn::decode::decode;
 use insn::{DecodeFault, Refusal};
 use memory::MAX_WINDOW;
+use ranges::Profile;
 use std::alloc::Global;
 
 /// How many bytes stand before the code.
@@ -93,6 +94,8 @@ fn code_fault(fault: DecodeFault) -> ImageFault
 pub fn read_image(alloc: Global, bytes: &[u8]) -> Result<Image, ImageFault>
     // What is read is what the bytes spell.
     ensures found { IfOk result (λ image. IsImage bytes.now image.kind image.in_len image.out_len image.code.items) }
+    // The one version is verified by the first table of kinds.
+    ensures profile { IfOk result (λ image. image.profile ≡ Profile.First) }
     // What is spelled is read, unless memory runs out.
     ensures only { (code : List Insn) → HasHead bytes.now → Spells code (drop 16 bytes.now) → MatchResult result (λ image. image.code.items ≡ code) (λ fault. fault ≡ ImageFault.NoMemory) }
     // A fault is the first that stands.
@@ -102,6 +105,7 @@ pub fn read_image(alloc: Global, bytes: &[u8]) -> Result<Image, ImageFault>
     match decode(alloc, after_head(bytes)) {
         Ok(code) => Ok(Image {
             kind: head.kind,
+            profile: Profile::First,
             in_len: head.in_len,
             out_len: head.out_len,
             code,
@@ -113,12 +117,14 @@ pub fn read_image(alloc: Global, bytes: &[u8]) -> Result<Image, ImageFault>
 /// The image of code that has no head: a plain program with windows of the greatest length that raw code has.
 pub fn raw_image(alloc: Global, bytes: &[u8]) -> Result<Image, ImageFault>
     ensures found { IfOk result (λ image. (image.kind ≡ ImageKind.Plain) × (image.in_len ≡ 4096) × (image.out_len ≡ 4096) × Spells image.code.items bytes.now) }
+    ensures profile { IfOk result (λ image. image.profile ≡ Profile.First) }
     ensures only { (code : List Insn) → Spells code bytes.now → MatchResult result (λ image. image.code.items ≡ code) (λ fault. fault ≡ ImageFault.NoMemory) }
     ensures refused { IfErr result (λ fault. IsCodeFault bytes.now fault) }
 {
     match decode(alloc, bytes) {
         Ok(code) => Ok(Image {
             kind: ImageKind::Plain,
+            profile: Profile::First,
             in_len: RAW_WINDOW,
             out_len: RAW_WINDOW,
             code,
@@ -130,6 +136,7 @@ pub fn raw_image(alloc: Global, bytes: &[u8]) -> Result<Image, ImageFault>
 /// The program that bytes are: an image where they begin with its mark, which is no opcode, and else raw code.
 pub fn read_program(alloc: Global, bytes: &[u8]) -> Result<Image, ImageFault>
     ensures found { IfOk result (λ image. IsProgram bytes.now image.kind image.in_len image.out_len image.code.items) }
+    ensures profile { IfOk result (λ image. image.profile ≡ Profile.First) }
     ensures refused { IfErr result (λ fault. IsNoProgram bytes.now fault) }
 {
     if bytes.starts_with(MARK) {

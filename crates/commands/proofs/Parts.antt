@@ -25,7 +25,7 @@ use Rattle.commands.specs.declared.verify.Verdict.TheVariants.{Accepted, Refused
 -- ---- programs
 
 program_of_all : (some all : List ℕ) (sigs : List Entry) (p : Program) → AreReadAlike some all → IsProgramOf some sigs p → IsProgramOf all sigs p
-program_of_all some all sigs p alike x = record { program = (alike.programs p.kind p.in_len p.out_len p.code).0 x.program; sigs_are = x.sigs_are }
+program_of_all some all sigs p alike x = record { program = (alike.programs p.kind p.in_len p.out_len p.code).0 x.program; profile_is = x.profile_is; sigs_are = x.sigs_are }
 
 let_in_of_all : (some all : List ℕ) (sigs : List Entry) (p : Program) → AreReadAlike some all → IsLetIn sigs some p → IsLetIn sigs all p
 let_in_of_all some all sigs p alike x = (program_of_all some all sigs p alike x.0, x.1)

@@ -1,5 +1,10 @@
-pub mod Numbers
+pub mod Ranges
+pub mod KnownBits
+pub mod Settled
+pub mod Rows
+pub mod Narrowed
+pub mod Halves
+pub mod Comparisons
 pub mod Pointers
 pub mod Operations
-pub mod Comparisons
 pub mod Joins

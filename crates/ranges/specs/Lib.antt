@@ -1,3 +1,6 @@
+pub mod KnownBits
+pub mod Numbers
+pub mod Comparisons
 pub mod Kinds
 pub mod Transfer
 pub mod Laws

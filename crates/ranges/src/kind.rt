@@ -1,26 +1,25 @@
 //! Kinds of registers, and what two of them have in common.
 
-ghost use Rattle.std.specs.Prelude.{◌≡◌, ℕ, Option, IsTrue};
+ghost use Rattle.std.specs.Prelude.{◌≡◌, ◌≤◌, ℕ, Option, IfSome};
 ghost use Rattle.std.specs.Int.{int_min, int_max};
+ghost use Rattle.ranges.specs.Numbers.{IsNumber};
 ghost use Rattle.ranges.specs.Kinds.{Admits, IsKind};
-ghost use Rattle.ranges.specs.Transfer.{single, up_to, is_single, kind_of, join_of};
+ghost use Rattle.ranges.specs.Transfer.{kind_in, kind_of, join_of, joined_pointers};
 
+use crate::bits::Bits;
+use crate::number::Number;
+use crate::profile::Profile;
+use crate::range::Range;
 use memory::Region;
-
-/// The numbers from `lo` to `hi`, both included.
-#[derive(Clone, Copy, PartialEq, Eq, Debug)]
-pub struct Range {
-    pub lo: u64,
-    pub hi: u64,
-}
 
 /// What is known of a register before an instruction.
 #[derive(Clone, Copy, PartialEq, Eq, Debug)]
 pub enum Kind {
     /// Nothing: it may hold any number, or none.
     Unset,
-    /// A number from `lo` to `hi`, both included.
-    Num { lo: u64, hi: u64 },
+    /// That no run comes here: there is no number that it could hold.
+    Dead,
+    Num(Number),
     /// An address from `lo` to `hi` bytes, both included, past the place in the region that offsets count from: the
     /// stack's end, the first byte of the input or of the output.
     Ptr { region: Region, lo: i64, hi: i64 },
@@ -35,43 +34,22 @@ pub enum Bad {
     V23,
 }
 
-impl Range {
-    /// One number.
-    pub fn single(n: u64) -> Range
-        ensures { result ≡ single n }
-    {
-        Range { lo: n, hi: n }
-    }
-
-    /// The numbers from 0 to `n`.
-    pub fn up_to(n: u64) -> Range
-        ensures { result ≡ up_to n }
-    {
-        Range { lo: 0, hi: n }
-    }
-
-    /// Whether this is one number.
-    pub fn is_single(self) -> bool
-        ensures { result ≡ is_single self }
-    {
-        self.lo == self.hi
-    }
-}
-
 impl Kind {
-    /// A number of a range.
-    pub fn number(range: Range) -> Kind
-        ensures { result ≡ kind_of range }
+    /// What is left of a number, and Dead where nothing is.
+    pub fn left(number: Option<Number>) -> Kind
+        requires { IfSome number IsNumber }
+        ensures table { result ≡ kind_of number }
+        ensures kind { IsKind result }
     {
-        Kind::Num {
-            lo: range.lo,
-            hi: range.hi,
+        match number {
+            Some(a) => Kind::Num(a),
+            None => Kind::Dead,
         }
     }
 }
 
 /// A pointer between the bounds of two pointers into one region.
-fn join_pointers(region: Region, lo: i64, hi: i64, low: i64, high: i64) -> Kind
+fn least_pointer(region: Region, lo: i64, hi: i64, low: i64, high: i64) -> Kind
     ensures { result ≡ Kind.Ptr region (int_min lo low) (int_max hi high) }
 {
     Kind::Ptr {
@@ -81,14 +59,28 @@ fn join_pointers(region: Region, lo: i64, hi: i64, low: i64, high: i64) -> Kind
     }
 }
 
-fn join_kinds(a: Kind, b: Kind) -> Kind
-    ensures { result ≡ join_of a b }
+/// A pointer that is one of two: nothing is known where they are of unlike regions.
+fn join_pointers(region: Region, lo: i64, hi: i64, other: Region, low: i64, high: i64) -> Kind
+    ensures table { result ≡ joined_pointers region lo hi other low high }
+    ensures kind { IsKind (Kind.Ptr region lo hi) → IsKind (Kind.Ptr other low high) → IsKind result }
+{
+    if region == other {
+        least_pointer(region, lo, hi, low, high)
+    } else {
+        Kind::Unset
+    }
+}
+
+fn join_kinds(profile: Profile, a: Kind, b: Kind) -> Kind
+    requires left { IsKind a }
+    requires right { IsKind b }
+    ensures table { result ≡ join_of profile a b }
+    ensures kind { IsKind result }
 {
     match (a, b) {
-        (Kind::Num { lo, hi }, Kind::Num { lo: low, hi: high }) => Kind::Num {
-            lo: lo.min(low),
-            hi: hi.max(high),
-        },
+        (Kind::Dead, _) => b,
+        (_, Kind::Dead) => a,
+        (Kind::Num(x), Kind::Num(y)) => Kind::left(Number::joined(profile, x, y)),
         (
             Kind::Ptr { region, lo, hi },
             Kind::Ptr {
@@ -96,24 +88,29 @@ fn join_kinds(a: Kind, b: Kind) -> Kind
                 lo: low,
                 hi: high,
             },
-        ) => {
-            if region == other {
-                join_pointers(region, lo, hi, low, high)
-            } else {
-                Kind::Unset
-            }
-        }
+        ) => join_pointers(region, lo, hi, other, low, high),
         _ => Kind::Unset,
     }
 }
 
-/// The least kind that admits what either admits: the least range over both of two numbers, or of two pointers into one
-/// region, and Unset of any other two.
-pub fn join(a: Kind, b: Kind) -> Kind
-    ensures table { result ≡ join_of a b }
-    ensures kind { IsKind a → IsKind b → IsKind result }
+/// The least kind that admits what either admits: the least range over both of two numbers and the bits that they share,
+/// the least range over two pointers into one region, the other one of Dead, and Unset of any other two.
+pub fn join(profile: Profile, a: Kind, b: Kind) -> Kind
+    requires left { IsKind a }
+    requires right { IsKind b }
+    ensures table { result ≡ join_of profile a b }
+    ensures kind { IsKind result }
     ensures left { (v : Option ℕ) → Admits a v → Admits result v }
     ensures right { (v : Option ℕ) → Admits b v → Admits result v }
 {
-    join_kinds(a, b)
+    join_kinds(profile, a, b)
+}
+
+/// What is known of a number of a range, which is not empty.
+pub fn kind_in(profile: Profile, range: Range) -> Kind
+    requires { range.lo ≤ range.hi }
+    ensures table { result ≡ kind_in profile range }
+    ensures kind { IsKind result }
+{
+    Kind::left(Number::settled(profile, range, Bits::nothing()))
 }

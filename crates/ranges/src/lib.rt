@@ -1,14 +1,25 @@
-//! What the verifier knows of a register, and what an instruction leaves of that knowledge.
+//! What the verifier knows of a register, and what an instruction leaves of that knowledge: below, of numbers, by their ranges
+//! and bits; above it, of kinds, which are numbers, addresses, or nothing known.
 #![tactic(auto)]
 
+mod arithmetic;
+mod bits;
 mod comparison;
 mod kind;
 mod laws;
+mod narrowing;
 mod number;
 mod operation;
 mod pointer;
+mod profile;
+mod range;
+mod refinement;
 
-pub use comparison::refine;
-pub use kind::{Bad, Kind, Range, join};
+pub use bits::Bits;
+pub use kind::{Bad, Kind, join, kind_in};
 pub use laws::kinds_are_sound;
+pub use number::Number;
 pub use operation::{transfer, transfer_swap};
+pub use profile::Profile;
+pub use range::Range;
+pub use refinement::refine;

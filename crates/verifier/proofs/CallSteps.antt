@@ -14,8 +14,11 @@ use Rattle.memory.specs.Step.{AreBytes}
 use Rattle.memory.specs.declared.Region.{Region}
 use Rattle.memory.specs.declared.Region.TheVariants.{Input}
 use Rattle.ranges.specs.declared.kind.Kind.{Kind}
-use Rattle.ranges.specs.declared.kind.Kind.TheVariants.{Unset, Num, Ptr}
+use Rattle.ranges.specs.declared.kind.Kind.TheVariants.{Unset, Dead, Num, Ptr}
+use Rattle.ranges.specs.declared.profile.Profile.{Profile}
 use Rattle.ranges.specs.Kinds.{Admits}
+use Rattle.ranges.specs.Numbers.{range, single}
+use Rattle.ranges.specs.Laws.{IsSoundTable}
 use Rattle.helpers.specs.declared.sig.ArgRule.{ArgRule}
 use Rattle.helpers.specs.declared.sig.ArgRule.TheVariants as rule
 use Rattle.helpers.specs.declared.sig.Sig.{Sig}
@@ -24,7 +27,7 @@ use Rattle.helpers.specs.Answers.{Given, FitsRules, FitsReads, Fits}
 use Rattle.helpers.specs.Calls.{argument_registers, Spans, bytes_at, Copies, Fills, Compares, HasAnswer, numbers_of, places_of, HoldsAll, Gives, Callee, Copy, Fill, Same, Helper, Unknown, fits_with, answers_with}
 use Rattle.verifier.specs.Program.{Program, HasLimits}
 use Rattle.verifier.specs.Registers.{Row, kind_at, is_inside, is_input_pointer}
-use Rattle.verifier.specs.CallKinds.{has_bytes, reaches, is_number, is_within, are_arguments, argument_kinds, is_read, is_written, is_given, answer_kind}
+use Rattle.verifier.specs.CallKinds.{number_up_to, has_bytes, reaches, is_number, is_within, are_arguments, argument_kinds, is_read, is_written, is_given, answer_kind}
 use Rattle.verifier.specs.Lowered.{pieces_of, LiesIn, HasPieces, read_kinds, piece_kinds, region_of, region_at}
 use Rattle.lows.specs.Lows.{first_of, second_of}
 use Rattle.lows.specs.declared.pieces.Pieces.{Pieces}
@@ -55,11 +58,12 @@ arguments_fit (k ∷ a ∷ b ∷ c ∷ d ∷ e ∷ row) s at =
 
 in_range : (lo hi : ℕ) (k : Kind) (n : ℕ) → Admits k (Some n) → is_within lo hi k ≡ true → (lo ≤ n) × (n ≤ hi)
 in_range lo hi Unset n a t = cc
-in_range lo hi (Num low high) n a t =
-    let parts = and_parts (leb lo low) (leb high hi) t in
-    let below = leb-true lo low parts.0 in
-    let above = leb-true high hi parts.1 in
-    (omega (arith, a.0), omega (arith, a.1))
+in_range lo hi Dead n a t = absurd a
+in_range lo hi (Num b) n a t =
+    let parts = and_parts (leb lo b.range.lo) (leb b.range.hi hi) t in
+    let below = leb-true lo b.range.lo parts.0 in
+    let above = leb-true b.range.hi hi parts.1 in
+    (omega (arith, a.within.0), omega (arith, a.within.1))
 in_range lo hi (Ptr q low high) n a t = cc
 
 -- ---- places
@@ -114,11 +118,33 @@ fits_drop (suc n) [] (v ∷ vs) h = absurd h
 fits_drop (suc n) (k ∷ row) [] h = absurd h
 fits_drop (suc n) (k ∷ row) (v ∷ vs) h = fits_drop n row vs h.2
 
-module _ (p : Program) (row : Row) (s : State) (limits : HasLimits p) (fits : FitsRow row s.registers) (memory : IsMemory p s.memory) (at : (r : Register) → FitsAt row s r) where
+-- what is Dead admits no argument: of any others bytes of a window are asked for
+reaches_bytes : (p : Program) (limit : ℕ) (k len : Kind) (a n : ℕ) → Admits k (Some a) → Admits len (Some n) → reaches p limit k len ≡ has_bytes p k (number_up_to limit len)
+reaches_bytes p limit Dead len a n h l = absurd h
+reaches_bytes p limit k Dead a n h l = absurd l
+reaches_bytes p limit Unset Unset a n h l = refl
+reaches_bytes p limit Unset (Num b) a n h l = refl
+reaches_bytes p limit Unset (Ptr r lo hi) a n h l = refl
+reaches_bytes p limit (Num b) Unset a n h l = refl
+reaches_bytes p limit (Num b) (Num c) a n h l = refl
+reaches_bytes p limit (Num b) (Ptr r lo hi) a n h l = refl
+reaches_bytes p limit (Ptr q low high) Unset a n h l = refl
+reaches_bytes p limit (Ptr q low high) (Num b) a n h l = refl
+reaches_bytes p limit (Ptr q low high) (Ptr r lo hi) a n h l = refl
+
+never : false ≡ true → ⊥
+never e = cc
+
+-- a length is asked for
+no_length : (p : Program) (limit : ℕ) (k : Kind) (a : ℕ) → Admits k (Some a) → reaches p limit k Unset ≡ true → ⊥
+no_length p limit k a h t = never (sym (reaches_bytes p limit k Unset a a h tt) ∙ t)
+
+module _ (sound : (profile : Profile) → IsSoundTable profile) (p : Program) (row : Row) (s : State) (limits : HasLimits p) (fits : FitsRow row s.registers) (memory : IsMemory p s.memory) (at : (r : Register) → FitsAt row s r) where
   -- a place that is known to lie in a window
   inside : (k : Kind) (a n size : ℕ) → Admits k (Some a) → a < 2 ^ 64 → n ≤ size → is_inside p k (pos 0) size ≡ true → (region : Region) × Covers s.memory region a n × (is_input_pointer k ≡ false → region ≢ Input)
   inside Unset a n size h w le t = cc
-  inside (Num lo hi) a n size h w le t = cc
+  inside Dead a n size h w le t = cc
+  inside (Num b) a n size h w le t = cc
   inside (Ptr region lo hi) a n size h w le t =
       let c = place_in p s.memory region lo hi a (pos 0) size limits memory h t in
       let e : wrapped 64 (pos a +ℤ pos 0) ≡ a = ap (wrapped 64) (plus_zero a) ∙ wrapped_small 64 a w in
@@ -128,37 +154,38 @@ module _ (p : Program) (row : Row) (s : State) (limits : HasLimits p) (fits : Fi
       plus_zero a = omega (arith, ints)
 
   place : (limit : ℕ) (k len : Kind) (a n : ℕ) → Admits k (Some a) → a < 2 ^ 64 → Admits len (Some n) → reaches p limit k len ≡ true → (region : Region) × Covers s.memory region a n × (n ≤ limit) × (is_input_pointer k ≡ false → region ≢ Input)
-  place limit k Unset a n h w l t = cc
-  place limit k (Ptr q lo hi) a n h w l t = cc
-  place limit k (Num lo hi) a n h w l t =
+  place limit k Dead a n h w l t = absurd l
+  place limit k Unset a n h w l t = absurd (no_length p limit k a h t)
+  place limit k (Ptr q lo hi) a n h w l t = absurd (never (sym (reaches_bytes p limit k (Ptr q lo hi) a n h l) ∙ t))
+  place limit k (Num c) a n h w l t =
+      let hi = c.range.hi in
+      let u = sym (reaches_bytes p limit k (Num c) a n h l) ∙ t in
       ⊎_elim
-      (λ yes. let q = inside k a n hi h w l.1 (ap (λ b. has_bytes p k (cond b (Some hi) None)) (sym yes) ∙ t) in
+      (λ yes. let q = inside k a n hi h w l.within.1 (ap (λ b. has_bytes p k (cond b (Some hi) None)) (sym yes) ∙ u) in
       let le = leb-true hi limit yes in
-      (q.0, q.1, omega (arith, l.1), q.2))
-      (λ no. absurd (never (ap (λ b. has_bytes p k (cond b (Some hi) None)) (sym no) ∙ t)))
+      (q.0, q.1, omega (arith, l.within.1), q.2))
+      (λ no. absurd (never (ap (λ b. has_bytes p k (cond b (Some hi) None)) (sym no) ∙ u)))
       (cases_Bool (leb hi limit))
-    where
-      never : false ≡ true → ⊥
-      never e = cc
 
   -- the same, of the region to which the pointer's kind leads
   own_inside : (k : Kind) (a n size : ℕ) → Admits k (Some a) → a < 2 ^ 64 → n ≤ size → is_inside p k (pos 0) size ≡ true → Covers s.memory (region_of k) a n
   unfolding inside
   own_inside Unset a n size h w le t = cc
-  own_inside (Num lo hi) a n size h w le t = cc
+  own_inside Dead a n size h w le t = cc
+  own_inside (Num b) a n size h w le t = cc
   own_inside (Ptr region lo hi) a n size h w le t = (inside (Ptr region lo hi) a n size h w le t).1
 
   own_place : (limit : ℕ) (k len : Kind) (a n : ℕ) → Admits k (Some a) → a < 2 ^ 64 → Admits len (Some n) → reaches p limit k len ≡ true → Covers s.memory (region_of k) a n
-  own_place limit k Unset a n h w l t = cc
-  own_place limit k (Ptr q lo hi) a n h w l t = cc
-  own_place limit k (Num lo hi) a n h w l t =
+  own_place limit k Dead a n h w l t = absurd l
+  own_place limit k Unset a n h w l t = absurd (no_length p limit k a h t)
+  own_place limit k (Ptr q lo hi) a n h w l t = absurd (never (sym (reaches_bytes p limit k (Ptr q lo hi) a n h l) ∙ t))
+  own_place limit k (Num c) a n h w l t =
+      let hi = c.range.hi in
+      let u = sym (reaches_bytes p limit k (Num c) a n h l) ∙ t in
       ⊎_elim
-      (λ yes. own_inside k a n hi h w l.1 (ap (λ b. has_bytes p k (cond b (Some hi) None)) (sym yes) ∙ t))
-      (λ no. absurd (never (ap (λ b. has_bytes p k (cond b (Some hi) None)) (sym no) ∙ t)))
+      (λ yes. own_inside k a n hi h w l.within.1 (ap (λ b. has_bytes p k (cond b (Some hi) None)) (sym yes) ∙ u))
+      (λ no. absurd (never (ap (λ b. has_bytes p k (cond b (Some hi) None)) (sym no) ∙ u)))
       (cases_Bool (leb hi limit))
-    where
-      never : false ≡ true → ⊥
-      never e = cc
 
   own_read : (r : Register) → is_read p row (kind_at row r) ≡ true → Covers s.memory (region_of (kind_at row r)) (number_in s r) (number_in s R3)
   own_read r t = own_place 65536 (kind_at row r) (kind_at row R3) (number_in s r) (number_in s R3) (at r).0 (at r).1 (at R3).0 t
@@ -169,10 +196,7 @@ module _ (p : Program) (row : Row) (s : State) (limits : HasLimits p) (fits : Fi
   own_arguments (r ∷ rules) (k ∷ ks) [] h t j = absurd h
   own_arguments (rule.Unused ∷ rules) (k ∷ ks) (n ∷ ns) h t j = own_arguments rules ks ns h.2 (and_parts true (are_arguments p rules ks) t).1 j
   own_arguments (rule.Num lo hi ∷ rules) (k ∷ ks) (n ∷ ns) h t j = own_arguments rules ks ns h.2 (and_parts (is_within lo hi k) (are_arguments p rules ks) t).1 j
-  own_arguments (rule.Read max ∷ rules) (k ∷ []) (n ∷ ns) h t j = let parts = and_parts (reaches p max k Unset) (are_arguments p rules []) t in absurd (never parts.0)
-    where
-      never : false ≡ true → ⊥
-      never e = cc
+  own_arguments (rule.Read max ∷ rules) (k ∷ []) (n ∷ ns) h t j = let parts = and_parts (reaches p max k Unset) (are_arguments p rules []) t in absurd (no_length p max k n h.0 parts.0)
   own_arguments (rule.Read max ∷ rules) (k ∷ l ∷ ks) (n ∷ []) h t j = absurd h.2
   own_arguments (rule.Read max ∷ rules) (k ∷ l ∷ ks) (n ∷ len ∷ ns) h t zero =
       own_place max k l n len h.0 h.1 h.2.0 (and_parts (reaches p max k l) (are_arguments p rules (l ∷ ks)) t).0
@@ -248,10 +272,7 @@ module _ (p : Program) (row : Row) (s : State) (limits : HasLimits p) (fits : Fi
       let parts = and_parts (is_within lo hi k) (are_arguments p rules ks) t in
       let more = arguments rules ks ns h.2 parts.1 in
       ((in_range lo hi k n h.0 parts.0, more.0), more.1)
-  arguments (rule.Read max ∷ rules) (k ∷ []) (n ∷ ns) h t = let parts = and_parts (reaches p max k Unset) (are_arguments p rules []) t in absurd (never parts.0)
-    where
-      never : false ≡ true → ⊥
-      never e = cc
+  arguments (rule.Read max ∷ rules) (k ∷ []) (n ∷ ns) h t = let parts = and_parts (reaches p max k Unset) (are_arguments p rules []) t in absurd (no_length p max k n h.0 parts.0)
   arguments (rule.Read max ∷ rules) (k ∷ l ∷ ks) (n ∷ []) h t = absurd h.2
   arguments (rule.Read max ∷ rules) (k ∷ l ∷ ks) (n ∷ len ∷ ns) h t =
       let parts = and_parts (reaches p max k l) (are_arguments p rules (l ∷ ks)) t in
@@ -278,7 +299,7 @@ module _ (p : Program) (row : Row) (s : State) (limits : HasLimits p) (fits : Fi
 
   -- ---- answers
   abbrev pub Answered : Callee → ℕ → Memory → Type 0
-  Answered callee answer after = Admits (answer_kind callee) (Some answer) × (answer < 2 ^ 64) × IsMemory p after
+  Answered callee answer after = Admits (answer_kind p.profile callee) (Some answer) × (answer < 2 ^ 64) × IsMemory p after
 
   bytes_there : (region : Region) (a n : ℕ) → AreBytes (bytes_at s.memory region a n)
   bytes_there region a n =
@@ -289,22 +310,22 @@ module _ (p : Program) (row : Row) (s : State) (limits : HasLimits p) (fits : Fi
 
   pub answered : (n : ℕ) (callee : Callee) (answer : ℕ) (after : Memory) → answers_with n callee s answer after → Answered callee answer after
   answered n Copy answer after h = (
-    (omega arith, omega (arith, h.5)),
+    (sound p.profile).range (single 0) answer (omega arith) (omega arith, omega (arith, h.5)),
     omega (arith, h.5),
     memory_after h.0 (number_in s R1) (number_in s R3) (bytes_at s.memory h.1 (number_in s R2) (number_in s R3)) after h.2.0 (length_bytes s.memory h.1 (number_in s R2) (number_in s R3) h.3.0) (bytes_there h.1 (number_in s R2) (number_in s R3)) h.6,
   )
   answered n Fill answer after h = (
-    (omega arith, omega (arith, h.3)),
+    (sound p.profile).range (single 0) answer (omega arith) (omega arith, omega (arith, h.3)),
     omega (arith, h.3),
     memory_after h.0 (number_in s R1) (number_in s R3) (replicate (number_in s R3) (number_in s R2 % 256)) after h.1.0 (length-replicate {A = ℕ} (number_in s R3) (number_in s R2 % 256)) (bytes_replicate (number_in s R3) (number_in s R2 % 256) (mod-lt (number_in s R2) (omega arith))) h.4,
   )
   answered n Same answer after h =
       ⊎_elim
-      (λ yes. ((omega arith, omega (arith, yes.1)), omega (arith, yes.1), subst (IsMemory p) (sym h.4) memory))
-      (λ no. ((omega arith, omega (arith, no.1)), omega (arith, no.1), subst (IsMemory p) (sym h.4) memory))
+      (λ yes. ((sound p.profile).range (range 0 1) answer (omega arith) (omega arith, omega (arith, yes.1)), omega (arith, yes.1), subst (IsMemory p) (sym h.4) memory))
+      (λ no. ((sound p.profile).range (range 0 1) answer (omega arith) (omega arith, omega (arith, no.1)), omega (arith, no.1), subst (IsMemory p) (sym h.4) memory))
       h.5
   answered n (Helper sig) answer after h =
-      ((h.3.0, h.3.1), omega (arith, h.3.1, sig.word), subst (IsMemory p) (sym h.4) memory)
+      ((sound p.profile).range (range sig.lo sig.hi) answer sig.word (h.3.0, h.3.1), omega (arith, h.3.1, sig.word), subst (IsMemory p) (sym h.4) memory)
   answered n Unknown answer after h = absurd h
 
   -- the registers after a call

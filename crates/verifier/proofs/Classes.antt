@@ -31,12 +31,15 @@ use Rattle.memory.specs.declared.Region.TheVariants.{Input}
 use Rattle.memory.specs.declared.Fault.{Fault}
 use Rattle.memory.specs.declared.Fault.TheVariants as fault
 use Rattle.ranges.specs.declared.kind.Kind.{Kind}
-use Rattle.ranges.specs.declared.kind.Kind.TheVariants.{Unset, Num, Ptr}
+use Rattle.ranges.specs.declared.kind.Kind.TheVariants.{Unset, Dead, Num, Ptr}
+use Rattle.ranges.specs.declared.profile.Profile.{Profile}
+use Rattle.ranges.specs.declared.profile.Profile.TheVariants.{First}
+use Rattle.ranges.specs.declared.range.Range.{Range}
 use Rattle.ranges.specs.declared.kind.Bad.{Bad}
 use Rattle.ranges.specs.declared.kind.Bad.TheVariants.{V22, V23}
-use Rattle.ranges.specs.declared.kind.Range.{Range}
-use Rattle.ranges.specs.Kinds.{Admits}
-use Rattle.ranges.specs.Transfer.{single, full, transfer_of, swap_of}
+use Rattle.ranges.specs.Kinds.{Admits, IsKind}
+use Rattle.ranges.specs.Numbers.{single, full, number_of}
+use Rattle.ranges.specs.Transfer.{transfer_of, swap_of}
 use Rattle.ranges.specs.Laws.{IsSoundTable}
 use Rattle.bpfimage.specs.Form.{landing, target_of}
 use Rattle.helpers.specs.Calls.{Callee, Unknown, callee_of, calls_of}
@@ -46,7 +49,7 @@ use Rattle.verifier.specs.declared.rule.KindRule.TheVariants.{UnsetRead, FrameWr
 use Rattle.verifier.specs.Registers.{Row, kind_at, with_kind, one_number, kind_from, is_unset, is_input_pointer, any_unset, is_inside}
 use Rattle.verifier.specs.CallKinds.{answer_kind}
 use Rattle.verifier.specs.Rules.{callee_in, reads_by, broken_if, is_frame, bad_result, class_rules, rules_of, first_of, result_kind, loaded, refined}
-use Rattle.verifier.specs.Table.{target_edge, edges_from}
+use Rattle.verifier.specs.Table.{target_edge, edges_from, AreKinds}
 use Rattle.verifier.proofs.SameReads.{reads_called}
 use Rattle.verifier.proofs.Words.{wrapped_below, size_fits, some_bytes}
 use Rattle.verifier.proofs.Fits.{IsWord, FitsRow, at_register, at_write, at_learn, SomeEdge}
@@ -86,13 +89,15 @@ or_right false b h = h
 is_set : (k : Kind) (v : Option ℕ) → is_unset k ≡ false → Admits k v → v ≢ None
 is_set k (Some n) h a e = cc
 is_set Unset None h a e = cc
-is_set (Num lo hi) None h a e = absurd a
+is_set Dead None h a e = absurd a
+is_set (Num b) None h a e = absurd a
 is_set (Ptr r lo hi) None h a e = absurd a
 
 admits_number : (k : Kind) (v : Option ℕ) → Admits k v → Admits k (Some (unwrap_or v 0))
 admits_number k (Some n) a = a
 admits_number Unset None a = tt
-admits_number (Num lo hi) None a = absurd a
+admits_number Dead None a = absurd a
+admits_number (Num b) None a = absurd a
 admits_number (Ptr r lo hi) None a = absurd a
 
 number_fits : (v : Option ℕ) → IsWord v → unwrap_or v 0 < 2 ^ 64
@@ -110,6 +115,10 @@ ok_result (Ok k) v h a = a
 ok_result (Err V22) v h a = cc
 ok_result (Err V23) v h a = cc
 
+pub result_is_kind : (r : Result Kind Bad) → IfOk r IsKind → IsKind (result_kind r)
+result_is_kind (Ok k) h = h
+result_is_kind (Err e) h = tt
+
 no_frame : (o : Option Register) → is_frame o ≡ false → o ≢ Some R10
 no_frame o h e = let t : is_frame (Some R10) ≡ false = subst (λ q. is_frame q ≡ false) e h in cc
 
@@ -123,11 +132,16 @@ value_word : (o : Op) (w : Width) (x y : ℕ) → value o w x y < 2 ^ 64
 value_word o W32 x y = let small : value o W32 x y < 2 ^ 32 = wrapped_below 32 _ in omega (arith, small)
 value_word o W64 x y = wrapped_below 64 _
 
-swapped_word : (sound : IsSoundTable) (kind : SwapKind) (n : SwapBits) (x : ℕ) → swapped kind n x < 2 ^ 64
+swapped_word : (sound : (profile : Profile) → IsSoundTable profile) (kind : SwapKind) (n : SwapBits) (x : ℕ) → swapped kind n x < 2 ^ 64
 swapped_word sound kind n x =
-    subst (λ (r : Range). r.hi < 2 ^ 64) (cond-true (eqb x x) (single (swapped kind n x)) (full (8 * byte_count n)) (eq-eqb x x refl)) (sound.swap_kind kind n (one_number x)).1
+    subst (λ (r : Range). r.hi < 2 ^ 64) (cond-true (eqb x x) (single (swapped kind n x)) (full (8 * byte_count n)) (eq-eqb x x refl)) ((sound First).swap_kind kind n (Num (number_of (single x)))).range.fits
 
-module _ (sound : IsSoundTable) (p : Program) (i : ℕ) (row : Row) (s : State) (limits : HasLimits p) (fits : FitsRow row s.registers) (at : s.slot ≡ pos i) (memory : IsMemory p s.memory) where
+-- what is left of a number by a width is a word
+pub cut_word : (w : Width) (x : ℕ) → x % 2 ^ bits w < 2 ^ 64
+cut_word W32 x = let h : x % 2 ^ 32 < 2 ^ 32 = mod-lt x (omega arith) in omega (arith, h)
+cut_word W64 x = mod-lt x (omega arith)
+
+module _ (sound : (profile : Profile) → IsSoundTable profile) (p : Program) (i : ℕ) (row : Row) (s : State) (limits : HasLimits p) (kinds : AreKinds row) (fits : FitsRow row s.registers) (at : s.slot ≡ pos i) (memory : IsMemory p s.memory) where
   -- ---- registers
   at_reg : (r : Register) → Admits (kind_at row r) (register s r) × IsWord (register s r)
   at_reg r =
@@ -135,9 +149,17 @@ module _ (sound : IsSoundTable) (p : Program) (i : ℕ) (row : Row) (s : State) 
       let e = sym (unwrap_or-slice_get s.registers (number r) None) in
       (subst (Admits (kind_at row r)) e h.0, subst IsWord e h.1)
 
-  at_operand : (src : Operand) → Admits (kind_from row src) (Some (operand_in s src)) × (operand_in s src < 2 ^ 64)
+  at_kind : (r : Register) → IsKind (kind_at row r)
+  at_kind r = kinds (number r)
+
+  operand_kind : (src : Operand) → IsKind (kind_from p.profile row src)
+  operand_kind (operand.Register r) = at_kind r
+  operand_kind (operand.Immediate n) = (sound p.profile).range_kind (single (wrapped 64 n)) (omega arith) (wrapped_below 64 n)
+
+  at_operand : (src : Operand) → Admits (kind_from p.profile row src) (Some (operand_in s src)) × (operand_in s src < 2 ^ 64)
   at_operand (operand.Register r) = let h = at_reg r in (admits_number _ _ h.0, number_fits _ h.1)
-  at_operand (operand.Immediate n) = ((omega arith, omega arith), wrapped_below 64 n)
+  at_operand (operand.Immediate n) =
+      let m = wrapped 64 n in ((sound p.profile).range (single m) m (wrapped_below 64 n) (omega arith, omega arith), wrapped_below 64 n)
 
   pub at_number : (r : Register) → Admits (kind_at row r) (Some (number_in s r)) × (number_in s r < 2 ^ 64)
   at_number r = let h = at_reg r in (admits_number _ _ h.0, number_fits _ h.1)
@@ -153,7 +175,8 @@ module _ (sound : IsSoundTable) (p : Program) (i : ℕ) (row : Row) (s : State) 
     where
       from : (k : Kind) (v : Option ℕ) → Admits k v → is_inside p k offset size ≡ true → (region : Region) × Covers s.memory region (wrapped 64 (pos (unwrap_or v 0) +ℤ offset)) size × (is_input_pointer k ≡ false → region ≢ Input)
       from Unset v a t = cc
-      from (Num lo hi) v a t = cc
+      from Dead v a t = cc
+      from (Num b) v a t = cc
       from (Ptr region lo hi) None a t = absurd a
       from (Ptr region lo hi) (Some n) a t = (region, place_in p s.memory region lo hi n offset size limits memory a t, not_input region lo hi)
 
@@ -185,7 +208,7 @@ module _ (sound : IsSoundTable) (p : Program) (i : ℕ) (row : Row) (s : State) 
   no_input callee insn.Tail h c = c
 
   no_bad_call : (x : Insn) → AllNone (class_rules p (callee_in p.sigs x) row x) → ¬ Breaks (calls_of p.sigs) x s fault.Helper
-  no_bad_call (insn.Call n) h c = c (given_fits p row s limits fits memory at_number (callee_of p.sigs n) (untold_not _ ArgumentRule h.1.0))
+  no_bad_call (insn.Call n) h c = c (given_fits sound p row s limits fits memory at_number (callee_of p.sigs n) (untold_not _ ArgumentRule h.1.0))
   no_bad_call (insn.Store size r offset src) h c = c
   no_bad_call (insn.Load size extend d r offset) h c = c
   no_bad_call (insn.Alu o w d src) h c = c
@@ -207,12 +230,12 @@ module _ (sound : IsSoundTable) (p : Program) (i : ℕ) (row : Row) (s : State) 
   -- ---- what follows
   -- an edge that admits the state, and a memory as it was laid out
   abbrev pub Lands : Insn → State → Type 0
-  Lands x t = SomeEdge t.slot t.registers (edges_from (callee_in p.sigs x) i row x) × IsMemory p t.memory
+  Lands x t = SomeEdge t.slot t.registers (edges_from p.profile (callee_in p.sigs x) i row x) × IsMemory p t.memory
 
   -- a number written into a register, whose kind is told by an edge to the next slot
-  written_lands : (x : Insn) (r : Register) (k : Kind) (v : ℕ) (t : State) → edges_from (callee_in p.sigs x) i row x ≡ (i + 1, with_kind row r k) ∷ [] → Admits k (Some v) → v < 2 ^ 64 → t ≡ advanced (with_register r v s) → Lands x t
+  written_lands : (x : Insn) (r : Register) (k : Kind) (v : ℕ) (t : State) → edges_from p.profile (callee_in p.sigs x) i row x ≡ (i + 1, with_kind row r k) ∷ [] → Admits k (Some v) → v < 2 ^ 64 → t ≡ advanced (with_register r v s) → Lands x t
   written_lands x r k v t es a w e =
-      let P : State → Type 0 = λ u. SomeEdge u.slot u.registers (edges_from (callee_in p.sigs x) i row x) × IsMemory p u.memory in
+      let P : State → Type 0 = λ u. SomeEdge u.slot u.registers (edges_from p.profile (callee_in p.sigs x) i row x) × IsMemory p u.memory in
       subst P (sym e) (subst (SomeEdge (s.slot +ℤ pos 1) (set s.registers (number r) (Some v))) (sym es) (inl (one_on s.slot i at, at_write row s.registers (number r) k (Some v) fits a w)), memory)
 
   alu_lands : (o : Op) (w : Width) (dst : Register) (src : Operand) (t : State) → AllNone (class_rules p Unknown row (insn.Alu o w dst src)) → Does (calls_of p.sigs) (insn.Alu o w dst src) s t → Lands (insn.Alu o w dst src) t
@@ -221,30 +244,35 @@ module _ (sound : IsSoundTable) (p : Program) (i : ℕ) (row : Row) (s : State) 
       let b = at_operand src in
       let m = number_in s dst in
       let n = operand_in s src in
-      let admitted = sound.operation o w (kind_at row dst) (kind_from row src) m n (number_fits _ a.1) b.1 (λ _. admits_number _ _ a.0) (λ _. b.0) in
-      written_lands (insn.Alu o w dst src) dst (result_kind (transfer_of o w (kind_at row dst) (kind_from row src))) (value o w m n) t refl (ok_result _ (Some (value o w m n)) h.0 admitted) (value_word o w m n) d
+      let admitted = (sound p.profile).operation o w (kind_at row dst) (kind_from p.profile row src) m n (at_kind dst) (operand_kind src) (number_fits _ a.1) b.1 (λ _. admits_number _ _ a.0) (λ _. b.0) in
+      written_lands (insn.Alu o w dst src) dst (result_kind (transfer_of p.profile o w (kind_at row dst) (kind_from p.profile row src))) (value o w m n) t refl (ok_result _ (Some (value o w m n)) h.0 admitted) (value_word o w m n) d
 
   swap_lands : (kind : SwapKind) (n : SwapBits) (dst : Register) (t : State) → AllNone (class_rules p Unknown row (insn.Swap kind n dst)) → Does (calls_of p.sigs) (insn.Swap kind n dst) s t → Lands (insn.Swap kind n dst) t
   swap_lands kind n dst t h d =
       let a = at_reg dst in
       let m = number_in s dst in
-      let admitted = sound.swap kind n (kind_at row dst) m (admits_number _ _ a.0) in
-      written_lands (insn.Swap kind n dst) dst (result_kind (swap_of kind n (kind_at row dst))) (swapped kind n m) t refl (ok_result _ (Some (swapped kind n m)) h.0 admitted) (swapped_word sound kind n m) d
+      let admitted = (sound p.profile).swap kind n (kind_at row dst) m (admits_number _ _ a.0) in
+      written_lands (insn.Swap kind n dst) dst (result_kind (swap_of p.profile kind n (kind_at row dst))) (swapped kind n m) t refl (ok_result _ (Some (swapped kind n m)) h.0 admitted) (swapped_word sound kind n m) d
 
   -- what a load reads is in the kind of its size
-  in_loaded : (size : Size) (extend : Extend) (n : ℕ) → n < 2 ^ (8 * size_bytes size) → Admits (loaded size extend) (Some (extended extend size n)) × (extended extend size n < 2 ^ 64)
-  in_loaded size Zero n h = ((omega arith, omega arith), omega (arith, size_fits size))
-  in_loaded size Sign n h = let b = wrapped_below 64 (signed (8 * size_bytes size) n) in ((omega arith, omega arith), b)
+  in_loaded : (size : Size) (extend : Extend) (n : ℕ) → n < 2 ^ (8 * size_bytes size) → Admits (loaded p.profile size extend) (Some (extended extend size n)) × (extended extend size n < 2 ^ 64)
+  in_loaded size Zero n h =
+      let fits = size_fits size in
+      let some = pow_pos (8 * size_bytes size) in
+      ((sound p.profile).range (full (8 * size_bytes size)) n (omega arith) (omega arith, omega arith), omega arith)
+  in_loaded size Sign n h =
+      let b = wrapped_below 64 (signed (8 * size_bytes size) n) in
+      ((sound p.profile).range (full 64) (wrapped 64 (signed (8 * size_bytes size) n)) (omega arith) (omega arith, omega arith), b)
 
   load_lands : (size : Size) (extend : Extend) (dst r : Register) (offset : ℤ) (t : State) → Does (calls_of p.sigs) (insn.Load size extend dst r offset) s t → Lands (insn.Load size extend dst r offset) t
   load_lands size extend dst r offset t d =
       let n = little_endian (read s.memory d.0 (address s r offset - base d.0) (size_bytes size)) in
       let k = in_loaded size extend n (load_small p s.memory d.0 (address s r offset) size memory d.1) in
-      written_lands (insn.Load size extend dst r offset) dst (loaded size extend) (extended extend size n) t refl k.0 k.1 d.2
+      written_lands (insn.Load size extend dst r offset) dst (loaded p.profile size extend) (extended extend size n) t refl k.0 k.1 d.2
 
   store_lands : (size : Size) (r : Register) (offset : ℤ) (src : Operand) (t : State) → Does (calls_of p.sigs) (insn.Store size r offset src) s t → Lands (insn.Store size r offset src) t
   store_lands size r offset src t d =
-      let P : State → Type 0 = λ u. SomeEdge u.slot u.registers (edges_from Unknown i row (insn.Store size r offset src)) × IsMemory p u.memory in
+      let P : State → Type 0 = λ u. SomeEdge u.slot u.registers (edges_from p.profile Unknown i row (insn.Store size r offset src)) × IsMemory p u.memory in
       subst P (sym d.2) (inl (one_on s.slot i at, fits), store_kept p s.memory d.0 (address s r offset) size (operand_in s src) memory d.1)
 
   -- ---- jumps
@@ -265,13 +293,13 @@ module _ (sound : IsSoundTable) (p : Program) (i : ℕ) (row : Row) (s : State) 
       subst P (sym d) (jump_edge (landing i o) k row (s.slot +ℤ pos 1 +ℤ o) e (landed o) fits, memory)
 
   -- the kinds of two compared operands, narrowed, still admit them
-  branch_fits : (c : Cond) (w : Width) (left : Register) (right : Operand) (taken : Bool) → any_unset row (left ∷ operand_reads right) ≡ false → condition c w (number_in s left) (operand_in s right) ≡ taken → FitsRow (refined c w left right taken row) s.registers
+  branch_fits : (c : Cond) (w : Width) (left : Register) (right : Operand) (taken : Bool) → any_unset row (left ∷ operand_reads right) ≡ false → condition c w (number_in s left) (operand_in s right) ≡ taken → FitsRow (refined p.profile c w left right taken row) s.registers
   branch_fits c w left (operand.Register right) taken h t =
       let a = at_reg left in
       let b = at_reg right in
       let ha = is_set _ _ (or_left (is_unset (kind_at row left)) _ h) a.0 in
       let hb = is_set _ _ (or_left (is_unset (kind_at row right)) _ (or_right (is_unset (kind_at row left)) _ h)) b.0 in
-      let r = sound.comparison c w (kind_at row left) (kind_at row right) taken (number_in s left) (number_in s right) (admits_number _ _ a.0) (admits_number _ _ b.0) t in
+      let r = (sound p.profile).comparison c w (kind_at row left) (kind_at row right) taken (number_in s left) (number_in s right) (at_kind left) (at_kind right) (admits_number _ _ a.0) (admits_number _ _ b.0) t in
       let ea = unwrap_or-slice_get s.registers (number left) None in
       let eb = unwrap_or-slice_get s.registers (number right) None in
       cond_both (eqb (number left) (number right)) _ _ (λ q. FitsRow q s.registers) (λ _. fits)
@@ -282,29 +310,30 @@ module _ (sound : IsSoundTable) (p : Program) (i : ℕ) (row : Row) (s : State) 
       let m = wrapped 64 n % 2 ^ bits w in
       let again : m % 2 ^ bits w ≡ wrapped 64 n % 2 ^ bits w = mod-eq_of_lt (mod-lt (wrapped 64 n) (pow_pos (bits w))) in
       let same : condition c w (number_in s left) m ≡ taken = ap (λ j. compares c (bits w) (number_in s left % 2 ^ bits w) j) again ∙ t in
-      let r = sound.comparison c w (kind_at row left) (one_number m) taken (number_in s left) m (admits_number _ _ a.0) (omega arith, omega arith) same in
+      let word = cut_word w (wrapped 64 n) in
+      let r = (sound p.profile).comparison c w (kind_at row left) (one_number p.profile m) taken (number_in s left) m (at_kind left) ((sound p.profile).range_kind (single m) (omega arith) word) (admits_number _ _ a.0) ((sound p.profile).range (single m) m word (omega arith, omega arith)) same in
       at_learn row s.registers (number left) _ fits (subst (Admits _) (unwrap_or-slice_get s.registers (number left) None) (back _ _ ha r.0))
 
   branch_lands : (c : Cond) (w : Width) (left : Register) (right : Operand) (o : ℤ) (k : ℕ) (t : State) → landing i o ≡ pos k → any_unset row (left ∷ operand_reads right) ≡ false → Does (calls_of p.sigs) (insn.JumpIf c w left right o) s t → Lands (insn.JumpIf c w left right o) t
   branch_lands c w left right o k t e h d =
-      let P : State → Type 0 = λ u. SomeEdge u.slot u.registers (edges_from Unknown i row (insn.JumpIf c w left right o)) × IsMemory p u.memory in
+      let P : State → Type 0 = λ u. SomeEdge u.slot u.registers (edges_from p.profile Unknown i row (insn.JumpIf c w left right o)) × IsMemory p u.memory in
       subst P (sym d)
       (cond_both (condition c w (number_in s left) (operand_in s right)) (jumped o s) (advanced s) P
-      (λ yes. (inr (jump_edge (landing i o) k (refined c w left right true row) (s.slot +ℤ pos 1 +ℤ o) e (landed o) (branch_fits c w left right true h yes)), memory))
+      (λ yes. (inr (jump_edge (landing i o) k (refined p.profile c w left right true row) (s.slot +ℤ pos 1 +ℤ o) e (landed o) (branch_fits c w left right true h yes)), memory))
       (λ no. (inl (one_on s.slot i at, branch_fits c w left right false h no), memory)))
 
   wide_lands : (dst : Register) (n : ℕ) (t : State) → n < 2 ^ 64 → Does (calls_of p.sigs) (insn.Wide dst n) s t → Lands (insn.Wide dst n) t
   wide_lands dst n t small d =
-      let P : State → Type 0 = λ u. SomeEdge u.slot u.registers (edges_from Unknown i row (insn.Wide dst n)) × IsMemory p u.memory in
+      let P : State → Type 0 = λ u. SomeEdge u.slot u.registers (edges_from p.profile Unknown i row (insn.Wide dst n)) × IsMemory p u.memory in
       let two : pos (i + 2) ≡ (s.slot +ℤ pos 1 +ℤ pos 1) = two_on s.slot i at in
-      subst P (sym d) (inl (two, at_write row s.registers (number dst) (one_number n) (Some n) fits (omega arith, omega arith) small), memory)
+      subst P (sym d) (inl (two, at_write row s.registers (number dst) (one_number p.profile n) (Some n) fits ((sound p.profile).range (single n) n small (omega arith, omega arith)) small), memory)
 
   call_lands : (n : ℕ) (t : State) → Does (calls_of p.sigs) (insn.Call n) s t → Lands (insn.Call n) t
   call_lands n t d =
       let callee = callee_of p.sigs n in
-      let P : State → Type 0 = λ u. SomeEdge u.slot u.registers (edges_from callee i row (insn.Call n)) × IsMemory p u.memory in
-      let a = answered p row s limits fits memory at_number n callee d.0 d.1 d.2 in
-      subst P (sym d.3) (inl (one_on s.slot i at, row_fits p row s limits fits memory at_number (answer_kind callee) d.0 a.0 a.1), a.2)
+      let P : State → Type 0 = λ u. SomeEdge u.slot u.registers (edges_from p.profile callee i row (insn.Call n)) × IsMemory p u.memory in
+      let a = answered sound p row s limits fits memory at_number n callee d.0 d.1 d.2 in
+      subst P (sym d.3) (inl (one_on s.slot i at, row_fits sound p row s limits fits memory at_number (answer_kind p.profile callee) d.0 a.0 a.1), a.2)
 
   -- ---- any instruction
   pub lands : (x : Insn) (t : State) → IsInstruction x → ((z : ℤ) → target_of i x ≡ Some z → (k : ℕ) × (z ≡ pos k)) → AllNone (rules_of p row x) → Does (calls_of p.sigs) x s t → Lands x t

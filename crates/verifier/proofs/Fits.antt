@@ -2,12 +2,13 @@
 use Rattle.std.proofs.Common.{◌≡◌, ℕ, zero, suc, ℤ, pos, ◌^◌, ◌<◌, cond, eqb, List, [], ◌∷◌, length, get_or, set, Option, Some, None, refl, sym, ◌∙◌, subst, inl, inr, arith}
 use Rattle.std.specs.Prelude.{◌⊎◌}
 use Rattle.std.proofs.lemmas.Bool.{cond_both, eq-eqb}
+use Rattle.ranges.specs.declared.profile.Profile.{Profile}
 use Rattle.ranges.specs.declared.kind.Kind.{Kind}
 use Rattle.ranges.specs.declared.kind.Kind.TheVariants.{Unset}
 use Rattle.ranges.specs.Kinds.{Admits}
 use Rattle.ranges.specs.Laws.{IsSoundTable}
 use Rattle.verifier.specs.Registers.{Row}
-use Rattle.verifier.specs.Table.{Edge, join_rows, joined, into}
+use Rattle.verifier.specs.Table.{Edge, join_rows, joined, into, AreKinds}
 
 -- a register holds a number of 64 bits, or nothing
 abbrev pub IsWord : Option ℕ → Type 0
@@ -53,34 +54,25 @@ SameLength [] (y ∷ ys) = ⊥
 SameLength (x ∷ xs) [] = ⊥
 SameLength (x ∷ xs) (y ∷ ys) = SameLength xs ys
 
-pub rows_left : (sound : IsSoundTable) (a b : Row) (vs : List (Option ℕ)) → SameLength a b → FitsRow a vs → FitsRow (join_rows a b) vs
-rows_left sound [] [] vs e h = h
-rows_left sound [] (l ∷ ls) vs e h = absurd e
-rows_left sound (k ∷ ks) [] vs e h = absurd e
-rows_left sound (k ∷ ks) (l ∷ ls) [] e h = absurd h
-rows_left sound (k ∷ ks) (l ∷ ls) (v ∷ vs) e h = (sound.join_left k l v h.0, h.1, rows_left sound ks ls vs e h.2)
-
-pub rows_right : (sound : IsSoundTable) (a b : Row) (vs : List (Option ℕ)) → SameLength a b → FitsRow b vs → FitsRow (join_rows a b) vs
-rows_right sound [] [] vs e h = h
-rows_right sound [] (l ∷ ls) vs e h = absurd e
-rows_right sound (k ∷ ks) [] vs e h = absurd e
-rows_right sound (k ∷ ks) (l ∷ ls) [] e h = absurd h
-rows_right sound (k ∷ ks) (l ∷ ls) (v ∷ vs) e h = (sound.join_right k l v h.0, h.1, rows_right sound ks ls vs e h.2)
+pub length_join : (profile : Profile) (a b : Row) → length a ≡ length b → length (join_rows profile a b) ≡ length a
+length_join profile [] b e = refl
+length_join profile (k ∷ ks) [] e = absurd (omega arith)
+length_join profile (k ∷ ks) (l ∷ ls) e = let h : length (join_rows profile ks ls) ≡ length ks = length_join profile ks ls (omega arith) in omega arith
 
 -- every row has the registers' number of kinds
-abbrev pub IsRow : Row → Type 0
-IsRow row = length row ≡ 11
+abbrev pub IsLong : Row → Type 0
+IsLong row = length row ≡ 11
+
+-- and kinds that may stand in it
+pub record IsRow (row : Row) : Type 0 where
+  pub long : IsLong row
+  pub kinds : AreKinds row
 
 same_length : (a b : Row) → length a ≡ length b → SameLength a b
 same_length [] [] e = tt
 same_length [] (l ∷ ls) e = absurd (omega arith)
 same_length (k ∷ ks) [] e = absurd (omega arith)
 same_length (k ∷ ks) (l ∷ ls) e = same_length ks ls (omega arith)
-
-pub length_join : (a b : Row) → length a ≡ length b → length (join_rows a b) ≡ length a
-length_join [] b e = refl
-length_join (k ∷ ks) [] e = absurd (omega arith)
-length_join (k ∷ ks) (l ∷ ls) e = let h : length (join_rows ks ls) ≡ length ks = length_join ks ls (omega arith) in omega arith
 
 abbrev pub IsRowIfAny : Option Row → Type 0
 IsRowIfAny None = Unit {0}
@@ -100,36 +92,60 @@ abbrev pub SomeEdge : ℤ → List (Option ℕ) → List Edge → Type 0
 SomeEdge z vs [] = ⊥
 SomeEdge z vs (e ∷ es) = ((pos e.0 ≡ z) × FitsRow e.1 vs) ⊎ SomeEdge z vs es
 
-joined_is_row : (o : Option Row) (row : Row) → IsRowIfAny o → IsRow row → IsRowIfAny (joined o row)
-joined_is_row None row h r = r
-joined_is_row (Some old) row h r = length_join old row (h ∙ sym r) ∙ h
-
-joined_old : (sound : IsSoundTable) (o : Option Row) (row : Row) (vs : List (Option ℕ)) → IsRowIfAny o → IsRow row → FitsSome o vs → FitsSome (joined o row) vs
-joined_old sound None row vs h r f = absurd f
-joined_old sound (Some old) row vs h r f = rows_left sound old row vs (same_length old row (h ∙ sym r)) f
-
-joined_new : (sound : IsSoundTable) (o : Option Row) (row : Row) (vs : List (Option ℕ)) → IsRowIfAny o → IsRow row → FitsRow row vs → FitsSome (joined o row) vs
-joined_new sound None row vs h r f = f
-joined_new sound (Some old) row vs h r f = rows_right sound old row vs (same_length old row (h ∙ sym r)) f
-
-step_is_row : (k : ℕ) (e : Edge) (o : Option Row) → IsRow e.1 → IsRowIfAny o → IsRowIfAny (cond (eqb e.0 k) (joined o e.1) o)
-step_is_row k e o a h = cond_both (eqb e.0 k) _ _ IsRowIfAny (λ _. joined_is_row o e.1 h a) (λ _. h)
-
-pub into_is_row : (k : ℕ) (es : List Edge) (o : Option Row) → AreRows es → IsRowIfAny o → IsRowIfAny (into k es o)
-into_is_row k [] o a h = h
-into_is_row k (e ∷ es) o a h = into_is_row k es _ a.1 (step_is_row k e o a.0 h)
-
-pub into_old : (sound : IsSoundTable) (k : ℕ) (es : List Edge) (o : Option Row) (vs : List (Option ℕ)) → AreRows es → IsRowIfAny o → FitsSome o vs → FitsSome (into k es o) vs
-into_old sound k [] o vs a h f = f
-into_old sound k (e ∷ es) o vs a h f =
-    into_old sound k es _ vs a.1 (step_is_row k e o a.0 h) (cond_both (eqb e.0 k) _ _ (λ p. FitsSome p vs) (λ _. joined_old sound o e.1 vs h a.0 f) (λ _. f))
-
 pub same_slot : (j k : ℕ) → pos j ≡ pos k → j ≡ k
 same_slot j k e = cc
 
-pub into_new : (sound : IsSoundTable) (k : ℕ) (es : List Edge) (o : Option Row) (vs : List (Option ℕ)) → AreRows es → IsRowIfAny o → SomeEdge (pos k) vs es → FitsSome (into k es o) vs
-into_new sound k [] o vs a h s = absurd s
-into_new sound k (e ∷ es) o vs a h (inr s) = into_new sound k es _ vs a.1 (step_is_row k e o a.0 h) s
-into_new sound k (e ∷ es) o vs a h (inl s) =
-    into_old sound k es _ vs a.1 (step_is_row k e o a.0 h)
-    (subst (λ b. FitsSome (cond b (joined o e.1) o) vs) (sym (eq-eqb e.0 k (same_slot e.0 k s.0))) (joined_new sound o e.1 vs h a.0 s.1))
+module _ (profile : Profile) (sound : IsSoundTable profile) where
+  rows_left : (a b : Row) (vs : List (Option ℕ)) → SameLength a b → AreKinds a → AreKinds b → FitsRow a vs → FitsRow (join_rows profile a b) vs
+  rows_left [] [] vs e ka kb h = h
+  rows_left [] (l ∷ ls) vs e ka kb h = absurd e
+  rows_left (k ∷ ks) [] vs e ka kb h = absurd e
+  rows_left (k ∷ ks) (l ∷ ls) [] e ka kb h = absurd h
+  rows_left (k ∷ ks) (l ∷ ls) (v ∷ vs) e ka kb h =
+      (sound.join_left k l v (ka zero) (kb zero) h.0, h.1, rows_left ks ls vs e (λ r. ka (suc r)) (λ r. kb (suc r)) h.2)
+
+  rows_right : (a b : Row) (vs : List (Option ℕ)) → SameLength a b → AreKinds a → AreKinds b → FitsRow b vs → FitsRow (join_rows profile a b) vs
+  rows_right [] [] vs e ka kb h = h
+  rows_right [] (l ∷ ls) vs e ka kb h = absurd e
+  rows_right (k ∷ ks) [] vs e ka kb h = absurd e
+  rows_right (k ∷ ks) (l ∷ ls) [] e ka kb h = absurd h
+  rows_right (k ∷ ks) (l ∷ ls) (v ∷ vs) e ka kb h =
+      (sound.join_right k l v (ka zero) (kb zero) h.0, h.1, rows_right ks ls vs e (λ r. ka (suc r)) (λ r. kb (suc r)) h.2)
+
+  kinds_join : (a b : Row) → AreKinds a → AreKinds b → AreKinds (join_rows profile a b)
+  kinds_join [] b ka kb r = tt
+  kinds_join (k ∷ ks) [] ka kb r = tt
+  kinds_join (k ∷ ks) (l ∷ ls) ka kb zero = sound.join_kind k l (ka zero) (kb zero)
+  kinds_join (k ∷ ks) (l ∷ ls) ka kb (suc r) = kinds_join ks ls (λ n. ka (suc n)) (λ n. kb (suc n)) r
+
+  joined_is_row : (o : Option Row) (row : Row) → IsRowIfAny o → IsRow row → IsRowIfAny (joined profile o row)
+  joined_is_row None row h r = r
+  joined_is_row (Some old) row h r =
+      record { long = length_join profile old row (h.long ∙ sym r.long) ∙ h.long; kinds = kinds_join old row h.kinds r.kinds }
+
+  joined_old : (o : Option Row) (row : Row) (vs : List (Option ℕ)) → IsRowIfAny o → IsRow row → FitsSome o vs → FitsSome (joined profile o row) vs
+  joined_old None row vs h r f = absurd f
+  joined_old (Some old) row vs h r f = rows_left old row vs (same_length old row (h.long ∙ sym r.long)) h.kinds r.kinds f
+
+  joined_new : (o : Option Row) (row : Row) (vs : List (Option ℕ)) → IsRowIfAny o → IsRow row → FitsRow row vs → FitsSome (joined profile o row) vs
+  joined_new None row vs h r f = f
+  joined_new (Some old) row vs h r f = rows_right old row vs (same_length old row (h.long ∙ sym r.long)) h.kinds r.kinds f
+
+  step_is_row : (k : ℕ) (e : Edge) (o : Option Row) → IsRow e.1 → IsRowIfAny o → IsRowIfAny (cond (eqb e.0 k) (joined profile o e.1) o)
+  step_is_row k e o a h = cond_both (eqb e.0 k) _ _ IsRowIfAny (λ _. joined_is_row o e.1 h a) (λ _. h)
+
+  pub into_is_row : (k : ℕ) (es : List Edge) (o : Option Row) → AreRows es → IsRowIfAny o → IsRowIfAny (into profile k es o)
+  into_is_row k [] o a h = h
+  into_is_row k (e ∷ es) o a h = into_is_row k es _ a.1 (step_is_row k e o a.0 h)
+
+  pub into_old : (k : ℕ) (es : List Edge) (o : Option Row) (vs : List (Option ℕ)) → AreRows es → IsRowIfAny o → FitsSome o vs → FitsSome (into profile k es o) vs
+  into_old k [] o vs a h f = f
+  into_old k (e ∷ es) o vs a h f =
+      into_old k es _ vs a.1 (step_is_row k e o a.0 h) (cond_both (eqb e.0 k) _ _ (λ p. FitsSome p vs) (λ _. joined_old o e.1 vs h a.0 f) (λ _. f))
+
+  pub into_new : (k : ℕ) (es : List Edge) (o : Option Row) (vs : List (Option ℕ)) → AreRows es → IsRowIfAny o → SomeEdge (pos k) vs es → FitsSome (into profile k es o) vs
+  into_new k [] o vs a h s = absurd s
+  into_new k (e ∷ es) o vs a h (inr s) = into_new k es _ vs a.1 (step_is_row k e o a.0 h) s
+  into_new k (e ∷ es) o vs a h (inl s) =
+      into_old k es _ vs a.1 (step_is_row k e o a.0 h)
+      (subst (λ b. FitsSome (cond b (joined profile o e.1) o) vs) (sym (eq-eqb e.0 k (same_slot e.0 k s.0))) (joined_new o e.1 vs h a.0 s.1))

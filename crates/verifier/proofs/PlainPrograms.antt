@@ -13,23 +13,24 @@ use Rattle.memory.specs.State.{no_calls, reads, writes, operand_reads}
 use Rattle.memory.specs.declared.Region.{Region}
 use Rattle.memory.specs.declared.Region.TheVariants.{Stack, Input, Output}
 use Rattle.ranges.specs.declared.kind.Kind.{Kind}
-use Rattle.ranges.specs.declared.kind.Kind.TheVariants.{Unset, Num, Ptr}
+use Rattle.ranges.specs.declared.kind.Kind.TheVariants.{Unset, Dead, Num, Ptr}
+use Rattle.ranges.specs.declared.profile.Profile.{Profile}
 use Rattle.bpfimage.specs.Form.{next_of, target_of, GoesTo, IsSuccessor, IsPath, IsFormed}
 use Rattle.verifier.specs.Program.{Program}
 use Rattle.verifier.specs.declared.rule.KindRule.{KindRule}
 use Rattle.verifier.specs.declared.rule.KindRule.TheVariants.{UnsetRead, FrameWritten, PointerOperand, OutsideWindow, InputStored, PointerStored, PointerAnswer}
 use Rattle.verifier.specs.Registers.{Row, kind_at, entry, is_unset, is_pointer, is_input_pointer, any_unset, first_offset, end_offset, is_inside}
 use Rattle.helpers.specs.Calls.{Callee}
-use Rattle.verifier.specs.Rules.{callee_in, is_frame, broken_if, bad_result, class_rules, rules_of, first_of, row_after, row_taken}
+use Rattle.verifier.specs.Rules.{callee_in, compares_pointer, is_frame, broken_if, bad_result, class_rules, rules_of, first_of, row_after, row_taken}
 use Rattle.verifier.specs.Table.{Edge, next_edge, target_edge, edges_from, join_rows, joined, into, edges_of, arrivals, table, broken_with, IsAccepted}
 use Rattle.verifier.specs.Plain.{IsIn, WrittenOn, SetAtStart, window_of, IsPlainInsn, IsPlain, InWindow, StaysInside, IsWellBehaved}
-use Rattle.verifier.proofs.Fits.{IsRow, length_join}
+use Rattle.verifier.proofs.Fits.{IsLong, length_join}
 use Rattle.verifier.proofs.Shape.{Leads, NextStarts, next_leads, target_leads}
 use Rattle.verifier.proofs.Classes.{AllNone, or_right}
-use Rattle.verifier.proofs.Soundness.{after_is_row, taken_is_row}
+use Rattle.verifier.proofs.Soundness.{after_is_long, taken_is_long}
 use Rattle.verifier.proofs.SameReads.{reads_plain}
 use Rattle.verifier.proofs.Tables.{length_rows, table_at}
-use Rattle.verifier.proofs.PlainRows.{IsNum, IsNumOrUnset, PlainAt, PlainRow, GivesNumber, operand_number, register_number, alu_number, swap_result, Follows, after_follows, taken_follows, join_plain, unset_of_one}
+use Rattle.verifier.proofs.PlainRows.{plain_number, IsNum, IsNumOrUnset, left_number, not_number, PlainAt, PlainRow, GivesNumber, operand_number, register_number, alu_number, swap_result, Follows, after_follows, taken_follows, join_plain, unset_of_one}
 
 -- on some path to slot k the register is not written, and it is not set at the start
 abbrev pub Unwritten : List Insn → ℕ → Register → Type 0
@@ -37,7 +38,7 @@ Unwritten code k r = (path : List ℕ) × IsPath code (k ∷ path) × (WrittenOn
 
 -- what is known of the row of slot k
 pub record IsPlainAt (code : List Insn) (k : ℕ) (row : Row) : Type 0 where
-  pub long : IsRow row
+  pub long : IsLong row
   pub plain : PlainRow row
   pub unset : (r : Register) → kind_at row r ≡ Unset → Unwritten code k r
 
@@ -51,26 +52,26 @@ PlainSlot code k (Some o) = PlainIfAny code k o
 
 -- ---- joins
 
-joined_rows : (code : List Insn) (k : ℕ) (a b : Row) → IsPlainAt code k a → IsPlainAt code k b → IsPlainAt code k (join_rows a b)
-joined_rows code k a b ha hb = record {
-  long = length_join a b (ha.long ∙ sym hb.long) ∙ ha.long;
-  plain = join_plain a b ha.plain hb.plain;
-  unset = λ r u. ⊎_elim (λ e. ha.unset r e) (λ e. hb.unset r e) (unset_of_one a b r ha.plain hb.plain u);
+joined_rows : (profile : Profile) (code : List Insn) (k : ℕ) (a b : Row) → IsPlainAt code k a → IsPlainAt code k b → IsPlainAt code k (join_rows profile a b)
+joined_rows profile code k a b ha hb = record {
+  long = length_join profile a b (ha.long ∙ sym hb.long) ∙ ha.long;
+  plain = join_plain profile a b ha.plain hb.plain;
+  unset = λ r u. ⊎_elim (λ e. ha.unset r e) (λ e. hb.unset r e) (unset_of_one profile a b r ha.plain hb.plain u);
 }
 
-joined_plain : (code : List Insn) (k : ℕ) (o : Option Row) (row : Row) → PlainIfAny code k o → IsPlainAt code k row → PlainIfAny code k (joined o row)
-joined_plain code k None row h g = g
-joined_plain code k (Some old) row h g = joined_rows code k old row h g
+joined_plain : (profile : Profile) (code : List Insn) (k : ℕ) (o : Option Row) (row : Row) → PlainIfAny code k o → IsPlainAt code k row → PlainIfAny code k (joined profile o row)
+joined_plain profile code k None row h g = g
+joined_plain profile code k (Some old) row h g = joined_rows profile code k old row h g
 
 abbrev AllPlain : List Insn → List Edge → Type 0
 AllPlain code [] = Unit {0}
 AllPlain code (e ∷ es) = IsPlainAt code e.0 e.1 × AllPlain code es
 
-into_plain : (code : List Insn) (k : ℕ) (es : List Edge) (o : Option Row) → AllPlain code es → PlainIfAny code k o → PlainIfAny code k (into k es o)
-into_plain code k [] o a h = h
-into_plain code k (e ∷ es) o a h =
-    into_plain code k es _ a.1
-    (cond_both (eqb e.0 k) _ _ (PlainIfAny code k) (λ t. joined_plain code k o e.1 h (subst (λ n. IsPlainAt code n e.1) (eqb-true e.0 k t) a.0)) (λ _. h))
+into_plain : (profile : Profile) (code : List Insn) (k : ℕ) (es : List Edge) (o : Option Row) → AllPlain code es → PlainIfAny code k o → PlainIfAny code k (into profile k es o)
+into_plain profile code k [] o a h = h
+into_plain profile code k (e ∷ es) o a h =
+    into_plain profile code k es _ a.1
+    (cond_both (eqb e.0 k) _ _ (PlainIfAny code k) (λ t. joined_plain profile code k o e.1 h (subst (λ n. IsPlainAt code n e.1) (eqb-true e.0 k t) a.0)) (λ _. h))
 
 all_append : (code : List Insn) (es fs : List Edge) → AllPlain code es → AllPlain code fs → AllPlain code (es ++ fs)
 all_append code [] fs a b = b
@@ -90,9 +91,9 @@ target_plain code (Some (negsuc k)) row h = tt
 entry_plain : (p : Program) → PlainRow (entry p)
 entry_plain p R0 = tt
 entry_plain p R1 = refl
-entry_plain p R2 = tt
+entry_plain p R2 = plain_number R2 _ refl (left_number _)
 entry_plain p R3 = refl
-entry_plain p R4 = tt
+entry_plain p R4 = plain_number R4 _ refl (left_number _)
 entry_plain p R5 = tt
 entry_plain p R6 = tt
 entry_plain p R7 = tt
@@ -103,9 +104,9 @@ entry_plain p R10 = refl
 entry_unset : (p : Program) (r : Register) → kind_at (entry p) r ≡ Unset → SetAtStart r → ⊥
 entry_unset p R0 u s = s
 entry_unset p R1 u s = cc
-entry_unset p R2 u s = cc
+entry_unset p R2 u s = not_number _ (left_number _) u
 entry_unset p R3 u s = cc
-entry_unset p R4 u s = cc
+entry_unset p R4 u s = not_number _ (left_number _) u
 entry_unset p R5 u s = s
 entry_unset p R6 u s = s
 entry_unset p R7 u s = s
@@ -124,7 +125,7 @@ same_insn : (o : Option Insn) (x y : Insn) → o ≡ Some x → o ≡ Some y →
 same_insn o x y e f = cc
 
 -- an edge carries on what is known
-carried : (code : List Insn) (i k : ℕ) (x : Insn) (row next : Row) → slice_get code i ≡ Some x → IsPlainAt code i row → IsSuccessor code i k → IsRow next → Follows row next x → IsPlainAt code k next
+carried : (code : List Insn) (i k : ℕ) (x : Insn) (row next : Row) → slice_get code i ≡ Some x → IsPlainAt code i row → IsSuccessor code i k → IsLong next → Follows row next x → IsPlainAt code k next
 carried code i k x row next at here leads long follows = record {
   long = long;
   plain = follows.plain;
@@ -141,15 +142,15 @@ module _ (p : Program) (some : 1 ≤ length p.code) (formed : IsFormed p.code) (
   same_slot : (j k : ℕ) → pos k ≡ pos j → j ≡ k
   same_slot j k e = cc
 
-  edges_plain : (i : ℕ) (x : Insn) (row : Row) → slice_get p.code i ≡ Some x → slice_get (table p) i ≡ Some (Some row) → IsPlainAt p.code i row → AllPlain p.code (edges_from (callee_in p.sigs x) i row x)
+  edges_plain : (i : ℕ) (x : Insn) (row : Row) → slice_get p.code i ≡ Some x → slice_get (table p) i ≡ Some (Some row) → IsPlainAt p.code i row → AllPlain p.code (edges_from p.profile (callee_in p.sigs x) i row x)
   edges_plain i x row at here is =
       let set = reads_set i x row at here is in
       all_append p.code _ _
-      (next_plain p.code (next_of i x) (row_after (callee_in p.sigs x) row x) (λ k e. carried p.code i k x row (row_after (callee_in p.sigs x) row x) at is (successor i k x at (inl e) (next_leads p.code i x k formed starts at e)) (after_is_row (callee_in p.sigs x) row x is.long) (after_follows (callee_in p.sigs x) row x is.long is.plain (plain i x at) set)))
-      (target_plain p.code (target_of i x) (row_taken row x) (λ k e. let l = target_leads p.code i x (pos k) formed at e in
-      carried p.code i k x row (row_taken row x) at is (successor i k x at (inr e) (subst (Leads p.code i) (same_slot l.0 k l.1) l.2)) (taken_is_row row x is.long) (taken_follows row x (pos k) i e is.long is.plain (plain i x at) set)))
+      (next_plain p.code (next_of i x) (row_after p.profile (callee_in p.sigs x) row x) (λ k e. carried p.code i k x row (row_after p.profile (callee_in p.sigs x) row x) at is (successor i k x at (inl e) (next_leads p.code i x k formed starts at e)) (after_is_long p.profile (callee_in p.sigs x) row x is.long) (after_follows p.profile (callee_in p.sigs x) row x is.long is.plain (plain i x at) set)))
+      (target_plain p.code (target_of i x) (row_taken p.profile row x) (λ k e. let l = target_leads p.code i x (pos k) formed at e in
+      carried p.code i k x row (row_taken p.profile row x) at is (successor i k x at (inr e) (subst (Leads p.code i) (same_slot l.0 k l.1) l.2)) (taken_is_long p.profile row x is.long) (taken_follows p.profile row x (pos k) i e is.long is.plain (plain i x at) set)))
 
-  edges_of_plain : (i : ℕ) (x : Option Insn) (o : Option (Option Row)) → slice_get p.code i ≡ x → slice_get (table p) i ≡ o → PlainSlot p.code i o → AllPlain p.code (edges_of p.sigs i x o)
+  edges_of_plain : (i : ℕ) (x : Option Insn) (o : Option (Option Row)) → slice_get p.code i ≡ x → slice_get (table p) i ≡ o → PlainSlot p.code i o → AllPlain p.code (edges_of p i x o)
   edges_of_plain i None o at here h = tt
   edges_of_plain i (Some x) None at here h = tt
   edges_of_plain i (Some x) (Some None) at here h = tt
@@ -161,7 +162,7 @@ module _ (p : Program) (some : 1 ≤ length p.code) (formed : IsFormed p.code) (
   arrivals_plain : (n k : ℕ) → ((i : ℕ) → i < n → PlainSlot p.code i (slice_get (table p) i)) → PlainIfAny p.code k (arrivals p (table p) n k)
   arrivals_plain zero k h = first_plain k
   arrivals_plain (suc n) k h =
-      into_plain p.code k _ _ (edges_of_plain n (slice_get p.code n) (slice_get (table p) n) refl refl (h n (omega arith))) (arrivals_plain n k (λ i lt. h i (omega arith)))
+      into_plain p.profile p.code k _ _ (edges_of_plain n (slice_get p.code n) (slice_get (table p) n) refl refl (h n (omega arith))) (arrivals_plain n k (λ i lt. h i (omega arith)))
 
   pub table_plain : (n k : ℕ) → k < n → PlainSlot p.code k (slice_get (table p) k)
   table_plain zero k h = absurd (omega arith)
@@ -183,7 +184,8 @@ some_unset row (r ∷ rs) h =
   where
     unset_kind : (k : Kind) → is_unset k ≡ true → k ≡ Unset
     unset_kind Unset t = refl
-    unset_kind (Num lo hi) t = cc
+    unset_kind Dead t = cc
+    unset_kind (Num a) t = cc
     unset_kind (Ptr q lo hi) t = cc
 
     or_rest : (a b : Bool) → a ≡ false → (a || b) ≡ true → b ≡ true
@@ -230,7 +232,19 @@ not_input_at p R9 k offset size h w n = absurd w
 not_input_at p R10 k offset size h w n = ap is_input_pointer h
 
 no_pointer : (k : Kind) → IsNum k → is_pointer k ≡ false
-no_pointer k h = ap is_pointer h.2
+no_pointer Unset h = absurd h
+no_pointer Dead h = refl
+no_pointer (Num a) h = refl
+no_pointer (Ptr q lo hi) h = absurd h
+
+no_compared : (j k : Kind) → IsNum j → IsNum k → compares_pointer j k ≡ false
+no_compared Unset k h g = absurd h
+no_compared Dead k h g = refl
+no_compared (Num a) Unset h g = absurd g
+no_compared (Num a) Dead h g = refl
+no_compared (Num a) (Num b) h g = refl
+no_compared (Num a) (Ptr q lo hi) h g = absurd g
+no_compared (Ptr q lo hi) k h g = absurd h
 
 not_told : (b : Bool) (rule : KindRule) → b ≡ false → broken_if b rule ≡ None
 not_told b rule e = ap (λ t. broken_if t rule) e
@@ -263,33 +277,30 @@ no_frame insn.Exit is = refl
 no_frame (insn.Wide dst n) is = not_frame dst (is.no_address dst (inl refl))
 no_frame insn.Tail is = refl
 
-or_false : (a b : Bool) → a ≡ false → b ≡ false → (a || b) ≡ false
-or_false true b h g = cc
-or_false false b h g = g
-
 not_true : (t : Bool) → t ≡ true → not t ≡ false
 not_true t e = ap not e
 
 kind_no_pointer : (k : Kind) → IsNumOrUnset k → is_pointer k ≡ false
 kind_no_pointer Unset h = refl
-kind_no_pointer (Num lo hi) h = refl
+kind_no_pointer Dead h = refl
+kind_no_pointer (Num a) h = refl
 kind_no_pointer (Ptr q lo hi) h = absurd h
 
 class_kept : (p : Program) (callee : Callee) (row : Row) (x : Insn) → PlainRow row → IsPlainInsn x → StaysInside p x → any_unset row (reads no_calls x) ≡ false → AllNone (class_rules p callee row x)
-class_kept p callee row (insn.Alu o w dst src) plain is inside u = (no_bad _ (alu_number row plain w dst src is.no_address o u), tt)
-class_kept p callee row (insn.Swap kind n dst) plain is inside u = (no_bad _ (swap_result kind n (kind_at row dst) (register_number row dst [] plain (is.no_address dst (inl refl)) u)), tt)
+class_kept p callee row (insn.Alu o w dst src) plain is inside u = (no_bad _ (alu_number p.profile row plain w dst src is.no_address o u), tt)
+class_kept p callee row (insn.Swap kind n dst) plain is inside u = (no_bad _ (swap_result p.profile kind n (kind_at row dst) (register_number row dst [] plain (is.no_address dst (inl refl)) u)), tt)
 class_kept p callee row (insn.Load size extend dst base offset) plain is inside u = (not_told _ OutsideWindow (not_true _ (inside_at p base (kind_at row base) offset (size_bytes size) (plain base) inside)), tt)
 class_kept p callee row (insn.Store size base offset src) plain is inside u = (
   not_told _ OutsideWindow (not_true _ (inside_at p base (kind_at row base) offset (size_bytes size) (plain base) inside.0)),
   (
     not_told _ InputStored (not_input_at p base (kind_at row base) offset (size_bytes size) (plain base) inside.0 inside.1),
-    (not_told _ PointerStored (no_pointer _ (operand_number row src plain is.no_address (or_right (is_unset (kind_at row base)) (any_unset row (operand_reads src)) u))), tt),
+    (not_told _ PointerStored (no_pointer _ (operand_number p.profile row src plain is.no_address (or_right (is_unset (kind_at row base)) (any_unset row (operand_reads src)) u))), tt),
   ),
 )
 class_kept p callee row (insn.Jump d) plain is inside u = tt
 class_kept p callee row (insn.JumpIf c w left right o) plain is inside u = (
   not_told _ PointerOperand
-      (or_false _ _ (no_pointer _ (register_number row left (operand_reads right) plain (is.no_address left (inl refl)) u)) (no_pointer _ (operand_number row right plain (λ r h. is.no_address r (inr h)) (or_right (is_unset (kind_at row left)) (any_unset row (operand_reads right)) u)))),
+      (no_compared _ _ (register_number row left (operand_reads right) plain (is.no_address left (inl refl)) u) (operand_number p.profile row right plain (λ r h. is.no_address r (inr h)) (or_right (is_unset (kind_at row left)) (any_unset row (operand_reads right)) u))),
   tt,
 )
 class_kept p callee row (insn.Call h) plain is inside u = absurd (is.no_call h refl)

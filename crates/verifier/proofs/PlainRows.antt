@@ -1,5 +1,5 @@
 -- The rows of plain programs: the addresses stay as they were at the start, and every other register is a number or unset.
-use Rattle.std.proofs.Common.{◌≡◌, ◌≢◌, ℕ, zero, suc, ℤ, pos, ◌<◌, Bool, true, false, eqb, List, [], ◌∷◌, length, length-set, get_or, set, ◌%◌, ◌^◌, Some, None, Result, Ok, refl, sym, ap, ◌∙◌, subst, inl, inr, ⊎_elim, arith}
+use Rattle.std.proofs.Common.{◌≡◌, ◌≢◌, ℕ, zero, suc, ℤ, pos, ◌<◌, Bool, true, false, eqb, List, [], ◌∷◌, length, length-set, get_or, set, ◌%◌, ◌^◌, Option, Some, None, Result, Ok, refl, sym, ap, ◌∙◌, subst, inl, inr, ⊎_elim, arith}
 use Rattle.std.specs.Prelude.{◌⊎◌}
 use Rattle.std.proofs.lemmas.Bool.{cond_both, cases_eq}
 use Rattle.alu.specs.Value.{wrapped, bits}
@@ -21,9 +21,12 @@ use Rattle.insn.specs.declared.Insn.TheVariants as insn
 use Rattle.memory.specs.State.{no_calls, reads, writes, operand_reads}
 use Rattle.memory.specs.declared.Region.TheVariants.{Stack, Input, Output}
 use Rattle.ranges.specs.declared.kind.Kind.{Kind}
-use Rattle.ranges.specs.declared.kind.Kind.TheVariants.{Unset, Num, Ptr}
+use Rattle.ranges.specs.declared.kind.Kind.TheVariants.{Unset, Dead, Num, Ptr}
+use Rattle.ranges.specs.declared.number.Number.{Number}
+use Rattle.ranges.specs.declared.profile.Profile.{Profile}
 use Rattle.ranges.specs.declared.kind.Bad.{Bad}
-use Rattle.ranges.specs.Transfer.{transfer_of, of_one, of_two, swap_of, refine_of, join_of}
+use Rattle.ranges.specs.Comparisons.{compared}
+use Rattle.ranges.specs.Transfer.{kind_of, transfer_of, of_one, of_two, swap_of, kinds_of, refine_of, join_of}
 use Rattle.bpfimage.specs.Form.{target_of}
 use Rattle.helpers.specs.Calls.{Callee}
 use Rattle.verifier.specs.Registers.{Row, kind_at, with_kind, kind_from, one_number, is_unset, any_unset}
@@ -34,13 +37,24 @@ use Rattle.verifier.proofs.Classes.{or_left, or_right}
 
 -- ---- kinds
 
+-- a number, or what is Dead
 abbrev pub IsNum : Kind → Type 0
-IsNum k = (lo : ℕ) × (hi : ℕ) × (k ≡ Num lo hi)
+IsNum Unset = ⊥
+IsNum Dead = Unit {0}
+IsNum (Num a) = Unit {0}
+IsNum (Ptr region lo hi) = ⊥
 
 abbrev pub IsNumOrUnset : Kind → Type 0
 IsNumOrUnset Unset = Unit {0}
-IsNumOrUnset (Num lo hi) = Unit {0}
+IsNumOrUnset Dead = Unit {0}
+IsNumOrUnset (Num a) = Unit {0}
 IsNumOrUnset (Ptr region lo hi) = ⊥
+
+num_or_unset : (k : Kind) → IsNum k → IsNumOrUnset k
+num_or_unset Unset h = tt
+num_or_unset Dead h = tt
+num_or_unset (Num a) h = tt
+num_or_unset (Ptr region lo hi) h = h
 
 -- the kinds that a register may have
 abbrev pub PlainAt : Register → Kind → Type 0
@@ -82,22 +96,23 @@ named_back R10 = refl
 pub same_register : (r q : Register) → number r ≡ number q → r ≡ q
 same_register r q e = sym (named_back r) ∙ ap register_of e ∙ named_back q
 
-plain_number : (r : Register) (k : Kind) → window_of r ≡ None → IsNum k → PlainAt r k
-plain_number R0 k w h = subst IsNumOrUnset (sym h.2) tt
+pub plain_number : (r : Register) (k : Kind) → window_of r ≡ None → IsNum k → PlainAt r k
+plain_number R0 k w h = num_or_unset k h
 plain_number R1 k w h = cc
-plain_number R2 k w h = subst IsNumOrUnset (sym h.2) tt
+plain_number R2 k w h = num_or_unset k h
 plain_number R3 k w h = cc
-plain_number R4 k w h = subst IsNumOrUnset (sym h.2) tt
-plain_number R5 k w h = subst IsNumOrUnset (sym h.2) tt
-plain_number R6 k w h = subst IsNumOrUnset (sym h.2) tt
-plain_number R7 k w h = subst IsNumOrUnset (sym h.2) tt
-plain_number R8 k w h = subst IsNumOrUnset (sym h.2) tt
-plain_number R9 k w h = subst IsNumOrUnset (sym h.2) tt
+plain_number R4 k w h = num_or_unset k h
+plain_number R5 k w h = num_or_unset k h
+plain_number R6 k w h = num_or_unset k h
+plain_number R7 k w h = num_or_unset k h
+plain_number R8 k w h = num_or_unset k h
+plain_number R9 k w h = num_or_unset k h
 plain_number R10 k w h = cc
 
 num_of_kind : (k : Kind) → IsNumOrUnset k → is_unset k ≡ false → IsNum k
 num_of_kind Unset h u = cc
-num_of_kind (Num lo hi) h u = (lo, hi, refl)
+num_of_kind Dead h u = tt
+num_of_kind (Num a) h u = tt
 num_of_kind (Ptr region lo hi) h u = absurd h
 
 -- a register that is set, and no address, is a number
@@ -119,33 +134,55 @@ num_of R10 k h w u = cc
 abbrev pub GivesNumber : Result Kind Bad → Type 0
 GivesNumber r = (k : Kind) × (r ≡ Ok k) × IsNum k
 
-two_numbers : (o : Op) (w : Width) (al ah bl bh : ℕ) → GivesNumber (of_two o w (Num al ah) (Num bl bh))
-two_numbers o w al ah bl bh = (_, refl, (_, _, refl))
+-- what is left of a number, or nothing
+pub left_number : (o : Option Number) → IsNum (kind_of o)
+left_number None = tt
+left_number (Some a) = tt
 
-one_number_alone : (o : Op) (w : Width) (al ah : ℕ) → GivesNumber (of_one o w (Num al ah))
-one_number_alone o w al ah = (_, refl, (_, _, refl))
+two_result : (profile : Profile) (o : Op) (w : Width) (a b : Kind) → IsNum a → IsNum b → GivesNumber (of_two profile o w a b)
+two_result profile o w Unset b ha hb = absurd ha
+two_result profile o w Dead b ha hb = (Dead, refl, tt)
+two_result profile o w (Num a) Unset ha hb = absurd hb
+two_result profile o w (Num a) Dead ha hb = (Dead, refl, tt)
+two_result profile o w (Num a) (Num b) ha hb = (_, refl, left_number _)
+two_result profile o w (Num a) (Ptr q lo hi) ha hb = absurd hb
+two_result profile o w (Ptr q lo hi) b ha hb = absurd ha
 
-two_result : (o : Op) (w : Width) (a b : Kind) → IsNum a → IsNum b → GivesNumber (of_two o w a b)
-two_result o w a b ha hb =
-    subst (λ x. GivesNumber (of_two o w x b)) (sym ha.2) (subst (λ y. GivesNumber (of_two o w (Num ha.0 ha.1) y)) (sym hb.2) (two_numbers o w ha.0 ha.1 hb.0 hb.1))
+one_result : (profile : Profile) (o : Op) (w : Width) (a : Kind) → IsNum a → GivesNumber (of_one profile o w a)
+one_result profile o w Unset ha = absurd ha
+one_result profile o w Dead ha = (Dead, refl, tt)
+one_result profile o w (Num a) ha = (_, refl, left_number _)
+one_result profile o w (Ptr q lo hi) ha = absurd ha
 
-one_result : (o : Op) (w : Width) (a : Kind) → IsNum a → GivesNumber (of_one o w a)
-one_result o w a ha = subst (λ x. GivesNumber (of_one o w x)) (sym ha.2) (one_number_alone o w ha.0 ha.1)
+move_result : (profile : Profile) (w : Width) (a b : Kind) → IsNum b → GivesNumber (transfer_of profile op.Mov w a b)
+move_result profile W64 a b hb = (b, refl, hb)
+move_result profile W32 a b hb = one_result profile op.Mov W32 b hb
 
-move_result : (w : Width) (a b : Kind) → IsNum b → GivesNumber (transfer_of op.Mov w a b)
-move_result W64 a b hb = (b, refl, hb)
-move_result W32 a b hb = one_result op.Mov W32 b hb
+pub swap_result : (profile : Profile) (kind : _) (n : _) (a : Kind) → IsNum a → GivesNumber (swap_of profile kind n a)
+swap_result profile kind n Unset ha = absurd ha
+swap_result profile kind n Dead ha = (Dead, refl, tt)
+swap_result profile kind n (Num a) ha = (_, refl, left_number _)
+swap_result profile kind n (Ptr q lo hi) ha = absurd ha
 
-pub swap_result : (kind : _) (n : _) (a : Kind) → IsNum a → GivesNumber (swap_of kind n a)
-swap_result kind n a ha = subst (λ x. GivesNumber (swap_of kind n x)) (sym ha.2) (_, refl, (_, _, refl))
+abbrev AreNum : Kind × Kind → Type 0
+AreNum k = IsNum k.0 × IsNum k.1
 
-refine_numbers : (c : Cond) (w : Width) (a b : Kind) (t : Bool) → IsNum a → IsNum b → IsNum (refine_of c w a b t).0 × IsNum (refine_of c w a b t).1
-refine_numbers c w a b t ha hb =
-    subst (λ x. IsNum (refine_of c w x b t).0 × IsNum (refine_of c w x b t).1) (sym ha.2) (subst (λ y. IsNum (refine_of c w (Num ha.0 ha.1) y t).0 × IsNum (refine_of c w (Num ha.0 ha.1) y t).1) (sym hb.2) ((_, _, refl), (_, _, refl)))
+left_numbers : (o : Option (Number × Number)) → AreNum (kinds_of o)
+left_numbers None = (tt, tt)
+left_numbers (Some p) = (tt, tt)
 
-loaded_number : (size : Size) (extend : Extend) → IsNum (loaded size extend)
-loaded_number size Zero = (_, _, refl)
-loaded_number size Sign = (_, _, refl)
+refined_numbers : (profile : Profile) (c : Cond) (w : Width) (a b : Kind) (t : Bool) → IsNum a → IsNum b → AreNum (refine_of profile c w a b t)
+refined_numbers profile c w Unset b t ha hb = absurd ha
+refined_numbers profile c w Dead b t ha hb = (tt, tt)
+refined_numbers profile c w (Num a) Unset t ha hb = absurd hb
+refined_numbers profile c w (Num a) Dead t ha hb = (tt, tt)
+refined_numbers profile c w (Num a) (Num b) t ha hb = left_numbers (compared profile c w t a b)
+refined_numbers profile c w (Num a) (Ptr q lo hi) t ha hb = absurd hb
+refined_numbers profile c w (Ptr q lo hi) b t ha hb = absurd ha
+
+loaded_number : (profile : Profile) (size : Size) (extend : Extend) → IsNum (loaded profile size extend)
+loaded_number profile size Zero = left_number _
+loaded_number profile size Sign = left_number _
 
 result_number : (r : Result Kind Bad) → GivesNumber r → IsNum (result_kind r)
 result_number r h = subst IsNum (ap result_kind (sym h.1)) h.2
@@ -155,21 +192,21 @@ result_number r h = subst IsNum (ap result_kind (sym h.1)) h.2
 abbrev pub NoAddress : List Register → Type 0
 NoAddress rs = (r : Register) → IsIn r rs → window_of r ≡ None
 
-pub operand_number : (row : Row) (src : Operand) → PlainRow row → NoAddress (operand_reads src) → any_unset row (operand_reads src) ≡ false → IsNum (kind_from row src)
-operand_number row (operand.Register r) plain na u = num_of r (kind_at row r) (plain r) (na r (inl refl)) (or_left (is_unset (kind_at row r)) (any_unset row []) u)
-operand_number row (operand.Immediate n) plain na u = (_, _, refl)
+pub operand_number : (profile : Profile) (row : Row) (src : Operand) → PlainRow row → NoAddress (operand_reads src) → any_unset row (operand_reads src) ≡ false → IsNum (kind_from profile row src)
+operand_number profile row (operand.Register r) plain na u = num_of r (kind_at row r) (plain r) (na r (inl refl)) (or_left (is_unset (kind_at row r)) (any_unset row []) u)
+operand_number profile row (operand.Immediate n) plain na u = left_number _
 
 pub register_number : (row : Row) (r : Register) (rs : List Register) → PlainRow row → window_of r ≡ None → any_unset row (r ∷ rs) ≡ false → IsNum (kind_at row r)
 register_number row r rs plain w u = num_of r (kind_at row r) (plain r) w (or_left (is_unset (kind_at row r)) (any_unset row rs) u)
 
-module _ (row : Row) (plain : PlainRow row) (w : Width) (dst : Register) (src : Operand) (na : NoAddress (dst ∷ operand_reads src)) where
-  both : (o : Op) → any_unset row (dst ∷ operand_reads src) ≡ false → GivesNumber (of_two o w (kind_at row dst) (kind_from row src))
-  both o u = two_result o w (kind_at row dst) (kind_from row src) (register_number row dst (operand_reads src) plain (na dst (inl refl)) u) (operand_number row src plain (λ r h. na r (inr h)) (or_right (is_unset (kind_at row dst)) (any_unset row (operand_reads src)) u))
+module _ (profile : Profile) (row : Row) (plain : PlainRow row) (w : Width) (dst : Register) (src : Operand) (na : NoAddress (dst ∷ operand_reads src)) where
+  both : (o : Op) → any_unset row (dst ∷ operand_reads src) ≡ false → GivesNumber (of_two profile o w (kind_at row dst) (kind_from profile row src))
+  both o u = two_result profile o w (kind_at row dst) (kind_from profile row src) (register_number row dst (operand_reads src) plain (na dst (inl refl)) u) (operand_number profile row src plain (λ r h. na r (inr h)) (or_right (is_unset (kind_at row dst)) (any_unset row (operand_reads src)) u))
 
-  alone : any_unset row (operand_reads src) ≡ false → IsNum (kind_from row src)
-  alone u = operand_number row src plain (λ r h. na r (inr h)) u
+  alone : any_unset row (operand_reads src) ≡ false → IsNum (kind_from profile row src)
+  alone u = operand_number profile row src plain (λ r h. na r (inr h)) u
 
-  pub alu_number : (o : Op) → any_unset row (reads no_calls (insn.Alu o w dst src)) ≡ false → GivesNumber (transfer_of o w (kind_at row dst) (kind_from row src))
+  pub alu_number : (o : Op) → any_unset row (reads no_calls (insn.Alu o w dst src)) ≡ false → GivesNumber (transfer_of profile o w (kind_at row dst) (kind_from profile row src))
   alu_number op.Add u = both op.Add u
   alu_number op.Sub u = both op.Sub u
   alu_number op.Mul u = both op.Mul u
@@ -183,11 +220,11 @@ module _ (row : Row) (plain : PlainRow row) (w : Width) (dst : Register) (src : 
   alu_number op.Arsh u = both op.Arsh u
   alu_number op.Mod u = both op.Mod u
   alu_number op.SignedMod u = both op.SignedMod u
-  alu_number op.Neg u = one_result op.Neg w (kind_at row dst) (register_number row dst (operand_reads src) plain (na dst (inl refl)) u)
-  alu_number op.Mov u = move_result w (kind_at row dst) (kind_from row src) (alone u)
-  alu_number op.Movsx8 u = one_result op.Movsx8 w (kind_from row src) (alone u)
-  alu_number op.Movsx16 u = one_result op.Movsx16 w (kind_from row src) (alone u)
-  alu_number op.Movsx32 u = one_result op.Movsx32 w (kind_from row src) (alone u)
+  alu_number op.Neg u = one_result profile op.Neg w (kind_at row dst) (register_number row dst (operand_reads src) plain (na dst (inl refl)) u)
+  alu_number op.Mov u = move_result profile w (kind_at row dst) (kind_from profile row src) (alone u)
+  alu_number op.Movsx8 u = one_result profile op.Movsx8 w (kind_from profile row src) (alone u)
+  alu_number op.Movsx16 u = one_result profile op.Movsx16 w (kind_from profile row src) (alone u)
+  alu_number op.Movsx32 u = one_result profile op.Movsx32 w (kind_from profile row src) (alone u)
 
 -- ---- a kind that is written
 
@@ -226,8 +263,8 @@ number_small R8 = omega arith
 number_small R9 = omega arith
 number_small R10 = omega arith
 
-not_number : (k : Kind) → IsNum k → k ≡ Unset → ⊥
-not_number k h e = let f : Num h.0 h.1 ≡ Unset = sym h.2 ∙ e in cc
+pub not_number : (k : Kind) → IsNum k → k ≡ Unset → ⊥
+not_number k h e = subst IsNum e h
 
 -- what is unset there was unset before, and is another register
 pub unset_before : (row : Row) (d r : Register) (k : Kind) → length row ≡ 11 → IsNum k → kind_at (with_kind row d k) r ≡ Unset → (kind_at row r ≡ Unset) × (r ≢ d)
@@ -259,113 +296,125 @@ same_follows row x plain e = record { plain = plain; unset = λ r u. (u, λ q. n
     no_some : (r : Register) → None ≡ Some r → ⊥
     no_some r e = cc
 
-refined_follows : (row : Row) (c : Cond) (w : Width) (left : Register) (right : Operand) (o : ℤ) (t : Bool) → length row ≡ 11 → PlainRow row → NoAddress (left ∷ operand_reads right) → any_unset row (left ∷ operand_reads right) ≡ false → Follows row (refined c w left right t row) (insn.JumpIf c w left right o)
-refined_follows row c w left (operand.Register right) o t long plain na u =
+refined_follows : (profile : Profile) (row : Row) (c : Cond) (w : Width) (left : Register) (right : Operand) (o : ℤ) (t : Bool) → length row ≡ 11 → PlainRow row → NoAddress (left ∷ operand_reads right) → any_unset row (left ∷ operand_reads right) ≡ false → Follows row (refined profile c w left right t row) (insn.JumpIf c w left right o)
+refined_follows profile row c w left (operand.Register right) o t long plain na u =
     let a = register_number row left (right ∷ []) plain (na left (inl refl)) u in
     let b = register_number row right [] plain (na right (inr (inl refl))) (or_right (is_unset (kind_at row left)) (any_unset row (right ∷ [])) u) in
-    let k = refine_of c w (kind_at row left) (kind_at row right) t in
-    let n = refine_numbers c w (kind_at row left) (kind_at row right) t a b in
+    let k = refine_of profile c w (kind_at row left) (kind_at row right) t in
+    let n = refined_numbers profile c w (kind_at row left) (kind_at row right) t a b in
     cond_both (eqb (number left) (number right)) _ _ (λ q. Follows row q (insn.JumpIf c w left (operand.Register right) o)) (λ _. same_follows row _ plain refl)
     (λ _. record {
       plain = set_plain (with_kind row left k.0) right k.1 (set_plain row left k.0 plain (na left (inl refl)) n.0) (na right (inr (inl refl))) n.1;
       unset = λ r e. let one = unset_before (with_kind row left k.0) right r k.1 (length-set row (number left) k.0 ∙ long) n.1 e in
           let two = unset_before row left r k.0 long n.0 one.0 in (two.0, λ q. cc);
     })
-refined_follows row c w left (operand.Immediate i) o t long plain na u =
+refined_follows profile row c w left (operand.Immediate i) o t long plain na u =
     let a = register_number row left [] plain (na left (inl refl)) u in
     let m = wrapped 64 i % 2 ^ bits w in
-    let n = refine_numbers c w (kind_at row left) (one_number m) t a (m, m, refl) in
+    let n = refined_numbers profile c w (kind_at row left) (one_number profile m) t a (left_number _) in
     record {
       plain = set_plain row left _ plain (na left (inl refl)) n.0;
       unset = λ r e. let one = unset_before row left r _ long n.0 e in (one.0, λ q. cc);
     }
 
-pub after_follows : (callee : Callee) (row : Row) (x : Insn) → length row ≡ 11 → PlainRow row → IsPlainInsn x → any_unset row (reads no_calls x) ≡ false → Follows row (row_after callee row x) x
-after_follows callee row (insn.Alu o w dst src) long plain is u = written_follows row _ dst _ long plain (is.no_address dst (inl refl)) (result_number _ (alu_number row plain w dst src is.no_address o u)) refl
-after_follows callee row (insn.Swap kind n dst) long plain is u = written_follows row _ dst _ long plain (is.no_address dst (inl refl)) (result_number _ (swap_result kind n (kind_at row dst) (register_number row dst [] plain (is.no_address dst (inl refl)) u))) refl
-after_follows callee row (insn.Load size extend dst base offset) long plain is u = written_follows row _ dst _ long plain (is.no_address dst (inl refl)) (loaded_number size extend) refl
-after_follows callee row (insn.Store size base offset src) long plain is u = same_follows row _ plain refl
-after_follows callee row (insn.Jump distance) long plain is u = same_follows row _ plain refl
-after_follows callee row (insn.JumpIf c w left right o) long plain is u = refined_follows row c w left right o false long plain is.no_address u
-after_follows callee row (insn.Call helper) long plain is u = absurd (is.no_call helper refl)
-after_follows callee row insn.Exit long plain is u = same_follows row _ plain refl
-after_follows callee row (insn.Wide dst n) long plain is u = written_follows row _ dst _ long plain (is.no_address dst (inl refl)) (n, n, refl) refl
-after_follows callee row insn.Tail long plain is u = same_follows row _ plain refl
+pub after_follows : (profile : Profile) (callee : Callee) (row : Row) (x : Insn) → length row ≡ 11 → PlainRow row → IsPlainInsn x → any_unset row (reads no_calls x) ≡ false → Follows row (row_after profile callee row x) x
+after_follows profile callee row (insn.Alu o w dst src) long plain is u = written_follows row _ dst _ long plain (is.no_address dst (inl refl)) (result_number _ (alu_number profile row plain w dst src is.no_address o u)) refl
+after_follows profile callee row (insn.Swap kind n dst) long plain is u = written_follows row _ dst _ long plain (is.no_address dst (inl refl)) (result_number _ (swap_result profile kind n (kind_at row dst) (register_number row dst [] plain (is.no_address dst (inl refl)) u))) refl
+after_follows profile callee row (insn.Load size extend dst base offset) long plain is u = written_follows row _ dst _ long plain (is.no_address dst (inl refl)) (loaded_number profile size extend) refl
+after_follows profile callee row (insn.Store size base offset src) long plain is u = same_follows row _ plain refl
+after_follows profile callee row (insn.Jump distance) long plain is u = same_follows row _ plain refl
+after_follows profile callee row (insn.JumpIf c w left right o) long plain is u = refined_follows profile row c w left right o false long plain is.no_address u
+after_follows profile callee row (insn.Call helper) long plain is u = absurd (is.no_call helper refl)
+after_follows profile callee row insn.Exit long plain is u = same_follows row _ plain refl
+after_follows profile callee row (insn.Wide dst n) long plain is u = written_follows row _ dst _ long plain (is.no_address dst (inl refl)) (left_number _) refl
+after_follows profile callee row insn.Tail long plain is u = same_follows row _ plain refl
 
-pub taken_follows : (row : Row) (x : Insn) (z : ℤ) (i : ℕ) → target_of i x ≡ Some z → length row ≡ 11 → PlainRow row → IsPlainInsn x → any_unset row (reads no_calls x) ≡ false → Follows row (row_taken row x) x
-taken_follows row (insn.Alu o w dst src) z i e long plain is u = cc
-taken_follows row (insn.Swap kind n dst) z i e long plain is u = cc
-taken_follows row (insn.Load size extend dst base offset) z i e long plain is u = cc
-taken_follows row (insn.Store size base offset src) z i e long plain is u = cc
-taken_follows row (insn.Jump distance) z i e long plain is u = same_follows row _ plain refl
-taken_follows row (insn.JumpIf c w left right o) z i e long plain is u = refined_follows row c w left right o true long plain is.no_address u
-taken_follows row (insn.Call helper) z i e long plain is u = cc
-taken_follows row insn.Exit z i e long plain is u = cc
-taken_follows row (insn.Wide dst n) z i e long plain is u = cc
-taken_follows row insn.Tail z i e long plain is u = cc
+pub taken_follows : (profile : Profile) (row : Row) (x : Insn) (z : ℤ) (i : ℕ) → target_of i x ≡ Some z → length row ≡ 11 → PlainRow row → IsPlainInsn x → any_unset row (reads no_calls x) ≡ false → Follows row (row_taken profile row x) x
+taken_follows profile row (insn.Alu o w dst src) z i e long plain is u = cc
+taken_follows profile row (insn.Swap kind n dst) z i e long plain is u = cc
+taken_follows profile row (insn.Load size extend dst base offset) z i e long plain is u = cc
+taken_follows profile row (insn.Store size base offset src) z i e long plain is u = cc
+taken_follows profile row (insn.Jump distance) z i e long plain is u = same_follows row _ plain refl
+taken_follows profile row (insn.JumpIf c w left right o) z i e long plain is u = refined_follows profile row c w left right o true long plain is.no_address u
+taken_follows profile row (insn.Call helper) z i e long plain is u = cc
+taken_follows profile row insn.Exit z i e long plain is u = cc
+taken_follows profile row (insn.Wide dst n) z i e long plain is u = cc
+taken_follows profile row insn.Tail z i e long plain is u = cc
 
 -- ---- joins
 
-join_unset : (k : Kind) → join_of k Unset ≡ Unset
-join_unset Unset = refl
-join_unset (Num lo hi) = refl
-join_unset (Ptr s lo hi) = refl
+pub join_unset : (profile : Profile) (k : Kind) → join_of profile k Unset ≡ Unset
+join_unset profile Unset = refl
+join_unset profile Dead = refl
+join_unset profile (Num a) = refl
+join_unset profile (Ptr s lo hi) = refl
 
-pub at_join : (a b : Row) (r : ℕ) → get_or (join_rows a b) r Unset ≡ join_of (get_or a r Unset) (get_or b r Unset)
-at_join [] b r = refl
-at_join (x ∷ xs) [] r = sym (join_unset (get_or (x ∷ xs) r Unset))
-at_join (x ∷ xs) (y ∷ ys) zero = refl
-at_join (x ∷ xs) (y ∷ ys) (suc r) = at_join xs ys r
+pub unset_join : (profile : Profile) (k : Kind) → join_of profile Unset k ≡ Unset
+unset_join profile Unset = refl
+unset_join profile Dead = refl
+unset_join profile (Num a) = refl
+unset_join profile (Ptr s lo hi) = refl
 
-join_plain_kinds : (a b : Kind) → IsNumOrUnset a → IsNumOrUnset b → IsNumOrUnset (join_of a b)
-join_plain_kinds Unset b h g = tt
-join_plain_kinds (Num al ah) Unset h g = tt
-join_plain_kinds (Num al ah) (Num bl bh) h g = tt
-join_plain_kinds (Num al ah) (Ptr q bl bh) h g = absurd g
-join_plain_kinds (Ptr q al ah) b h g = absurd h
+pub at_join : (profile : Profile) (a b : Row) (r : ℕ) → get_or (join_rows profile a b) r Unset ≡ join_of profile (get_or a r Unset) (get_or b r Unset)
+at_join profile [] b r = sym (unset_join profile (get_or b r Unset))
+at_join profile (x ∷ xs) [] r = sym (join_unset profile (get_or (x ∷ xs) r Unset))
+at_join profile (x ∷ xs) (y ∷ ys) zero = refl
+at_join profile (x ∷ xs) (y ∷ ys) (suc r) = at_join profile xs ys r
 
-join_same : (a b k : Kind) → join_of k k ≡ k → a ≡ k → b ≡ k → join_of a b ≡ k
-join_same a b k j e f = ap (λ x. join_of x b) e ∙ ap (join_of k) f ∙ j
+module _ (profile : Profile) where
+  join_plain_kinds : (a b : Kind) → IsNumOrUnset a → IsNumOrUnset b → IsNumOrUnset (join_of profile a b)
+  join_plain_kinds Dead b h g = g
+  join_plain_kinds Unset b h g = subst IsNumOrUnset (sym (unset_join profile b)) tt
+  join_plain_kinds (Num a) Unset h g = tt
+  join_plain_kinds (Num a) Dead h g = tt
+  join_plain_kinds (Num a) (Num b) h g = num_or_unset _ (left_number _)
+  join_plain_kinds (Num a) (Ptr q bl bh) h g = absurd g
+  join_plain_kinds (Ptr q al ah) b h g = absurd h
 
-join_plain_at : (r : Register) (a b : Kind) → PlainAt r a → PlainAt r b → PlainAt r (join_of a b)
-join_plain_at R0 a b h g = join_plain_kinds a b h g
-join_plain_at R1 a b h g = join_same a b _ refl h g
-join_plain_at R2 a b h g = join_plain_kinds a b h g
-join_plain_at R3 a b h g = join_same a b _ refl h g
-join_plain_at R4 a b h g = join_plain_kinds a b h g
-join_plain_at R5 a b h g = join_plain_kinds a b h g
-join_plain_at R6 a b h g = join_plain_kinds a b h g
-join_plain_at R7 a b h g = join_plain_kinds a b h g
-join_plain_at R8 a b h g = join_plain_kinds a b h g
-join_plain_at R9 a b h g = join_plain_kinds a b h g
-join_plain_at R10 a b h g = join_same a b _ refl h g
+  join_same : (a b k : Kind) → join_of profile k k ≡ k → a ≡ k → b ≡ k → join_of profile a b ≡ k
+  join_same a b k j e f = ap (λ x. join_of profile x b) e ∙ ap (join_of profile k) f ∙ j
 
-pub join_plain : (a b : Row) → PlainRow a → PlainRow b → PlainRow (join_rows a b)
-join_plain a b h g = λ r. subst (PlainAt r) (sym (at_join a b (number r))) (join_plain_at r (kind_at a r) (kind_at b r) (h r) (g r))
+  join_plain_at : (r : Register) (a b : Kind) → PlainAt r a → PlainAt r b → PlainAt r (join_of profile a b)
+  join_plain_at R0 a b h g = join_plain_kinds a b h g
+  join_plain_at R1 a b h g = join_same a b _ refl h g
+  join_plain_at R2 a b h g = join_plain_kinds a b h g
+  join_plain_at R3 a b h g = join_same a b _ refl h g
+  join_plain_at R4 a b h g = join_plain_kinds a b h g
+  join_plain_at R5 a b h g = join_plain_kinds a b h g
+  join_plain_at R6 a b h g = join_plain_kinds a b h g
+  join_plain_at R7 a b h g = join_plain_kinds a b h g
+  join_plain_at R8 a b h g = join_plain_kinds a b h g
+  join_plain_at R9 a b h g = join_plain_kinds a b h g
+  join_plain_at R10 a b h g = join_same a b _ refl h g
 
--- of two plain kinds that join to nothing known, one was unset
-one_unset : (a b : Kind) → IsNumOrUnset a → IsNumOrUnset b → join_of a b ≡ Unset → (a ≡ Unset) ⊎ (b ≡ Unset)
-one_unset Unset b h g e = inl refl
-one_unset (Num al ah) Unset h g e = inr refl
-one_unset (Num al ah) (Num bl bh) h g e = cc
-one_unset (Num al ah) (Ptr q bl bh) h g e = absurd g
-one_unset (Ptr q al ah) b h g e = absurd h
+  pub join_plain : (a b : Row) → PlainRow a → PlainRow b → PlainRow (join_rows profile a b)
+  join_plain a b h g = λ r. subst (PlainAt r) (sym (at_join profile a b (number r))) (join_plain_at r (kind_at a r) (kind_at b r) (h r) (g r))
 
-kept_pointer : (a b k : Kind) → join_of k k ≡ k → (k ≡ Unset → ⊥) → a ≡ k → b ≡ k → join_of a b ≡ Unset → (a ≡ Unset) ⊎ (b ≡ Unset)
-kept_pointer a b k j n e f u = absurd (n (sym (join_same a b k j e f) ∙ u))
+  -- of two plain kinds that join to nothing known, one was unset
+  one_unset : (a b : Kind) → IsNumOrUnset a → IsNumOrUnset b → join_of profile a b ≡ Unset → (a ≡ Unset) ⊎ (b ≡ Unset)
+  one_unset Unset b h g e = inl refl
+  one_unset Dead b h g e = inr e
+  one_unset (Num a) Unset h g e = inr refl
+  one_unset (Num a) Dead h g e = cc
+  one_unset (Num a) (Num b) h g e = absurd (not_number _ (left_number _) e)
+  one_unset (Num a) (Ptr q bl bh) h g e = absurd g
+  one_unset (Ptr q al ah) b h g e = absurd h
 
-one_unset_at : (r : Register) (a b : Kind) → PlainAt r a → PlainAt r b → join_of a b ≡ Unset → (a ≡ Unset) ⊎ (b ≡ Unset)
-one_unset_at R0 a b h g e = one_unset a b h g e
-one_unset_at R1 a b h g e = kept_pointer a b _ refl (λ q. cc) h g e
-one_unset_at R2 a b h g e = one_unset a b h g e
-one_unset_at R3 a b h g e = kept_pointer a b _ refl (λ q. cc) h g e
-one_unset_at R4 a b h g e = one_unset a b h g e
-one_unset_at R5 a b h g e = one_unset a b h g e
-one_unset_at R6 a b h g e = one_unset a b h g e
-one_unset_at R7 a b h g e = one_unset a b h g e
-one_unset_at R8 a b h g e = one_unset a b h g e
-one_unset_at R9 a b h g e = one_unset a b h g e
-one_unset_at R10 a b h g e = kept_pointer a b _ refl (λ q. cc) h g e
+  kept_pointer : (a b k : Kind) → join_of profile k k ≡ k → (k ≡ Unset → ⊥) → a ≡ k → b ≡ k → join_of profile a b ≡ Unset → (a ≡ Unset) ⊎ (b ≡ Unset)
+  kept_pointer a b k j n e f u = absurd (n (sym (join_same a b k j e f) ∙ u))
 
-pub unset_of_one : (a b : Row) (r : Register) → PlainRow a → PlainRow b → kind_at (join_rows a b) r ≡ Unset → (kind_at a r ≡ Unset) ⊎ (kind_at b r ≡ Unset)
-unset_of_one a b r h g e = one_unset_at r (kind_at a r) (kind_at b r) (h r) (g r) (sym (at_join a b (number r)) ∙ e)
+  one_unset_at : (r : Register) (a b : Kind) → PlainAt r a → PlainAt r b → join_of profile a b ≡ Unset → (a ≡ Unset) ⊎ (b ≡ Unset)
+  one_unset_at R0 a b h g e = one_unset a b h g e
+  one_unset_at R1 a b h g e = kept_pointer a b _ refl (λ q. cc) h g e
+  one_unset_at R2 a b h g e = one_unset a b h g e
+  one_unset_at R3 a b h g e = kept_pointer a b _ refl (λ q. cc) h g e
+  one_unset_at R4 a b h g e = one_unset a b h g e
+  one_unset_at R5 a b h g e = one_unset a b h g e
+  one_unset_at R6 a b h g e = one_unset a b h g e
+  one_unset_at R7 a b h g e = one_unset a b h g e
+  one_unset_at R8 a b h g e = one_unset a b h g e
+  one_unset_at R9 a b h g e = one_unset a b h g e
+  one_unset_at R10 a b h g e = kept_pointer a b _ refl (λ q. cc) h g e
+
+  pub unset_of_one : (a b : Row) (r : Register) → PlainRow a → PlainRow b → kind_at (join_rows profile a b) r ≡ Unset → (kind_at a r ≡ Unset) ⊎ (kind_at b r ≡ Unset)
+  unset_of_one a b r h g e = one_unset_at r (kind_at a r) (kind_at b r) (h r) (g r) (sym (at_join profile a b (number r)) ∙ e)

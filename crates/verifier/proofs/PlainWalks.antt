@@ -17,7 +17,8 @@ use Rattle.memory.specs.State.{no_calls, reads, writes, operand_reads}
 use Rattle.memory.specs.declared.Region.{Region}
 use Rattle.memory.specs.declared.Region.TheVariants.{Stack, Input, Output}
 use Rattle.ranges.specs.declared.kind.Kind.{Kind}
-use Rattle.ranges.specs.declared.kind.Kind.TheVariants.{Unset, Num, Ptr}
+use Rattle.ranges.specs.declared.kind.Kind.TheVariants.{Unset, Dead, Num, Ptr}
+use Rattle.ranges.specs.declared.profile.Profile.{Profile}
 use Rattle.ranges.specs.Transfer.{join_of}
 use Rattle.bpfimage.specs.declared.form.FormRule.TheVariants.{Unreachable}
 use Rattle.bpfimage.specs.Form.{next_of, GoesTo, IsPath}
@@ -32,7 +33,7 @@ use Rattle.verifier.proofs.Shape.{keeps, NextStarts}
 use Rattle.verifier.proofs.Classes.{AllNone, none_each, untold, untold_not, or_left, or_right}
 use Rattle.verifier.proofs.SameReads.{reads_less}
 use Rattle.verifier.proofs.Tables.{table_at}
-use Rattle.verifier.proofs.PlainRows.{IsNumOrUnset, PlainAt, PlainRow, same_register, at_join}
+use Rattle.verifier.proofs.PlainRows.{IsNumOrUnset, PlainAt, PlainRow, same_register, at_join, join_unset, unset_join}
 use Rattle.verifier.proofs.PlainPrograms.{IsPlainAt, PlainSlot, table_plain}
 
 -- ---- what an edge brings stays through joins
@@ -46,34 +47,34 @@ abbrev SomeEdge : (Row → Type 0) → ℕ → List Edge → Type 0
 SomeEdge P k [] = ⊥
 SomeEdge P k (e ∷ es) = ((e.0 ≡ k) × P e.1) ⊎ SomeEdge P k es
 
-module _ (P : Row → Type 0) (left : (a b : Row) → P a → P (join_rows a b)) (right : (a b : Row) → P b → P (join_rows a b)) where
-  joined_old : (o : Option Row) (row : Row) → Holds P o → Holds P (joined o row)
+module _ (p : Program) (P : Row → Type 0) (left : (a b : Row) → P a → P (join_rows p.profile a b)) (right : (a b : Row) → P b → P (join_rows p.profile a b)) where
+  joined_old : (o : Option Row) (row : Row) → Holds P o → Holds P (joined p.profile o row)
   joined_old None row h = absurd h
   joined_old (Some old) row h = left old row h
 
-  joined_new : (o : Option Row) (row : Row) → P row → Holds P (joined o row)
+  joined_new : (o : Option Row) (row : Row) → P row → Holds P (joined p.profile o row)
   joined_new None row h = h
   joined_new (Some old) row h = right old row h
 
-  into_old : (k : ℕ) (es : List Edge) (o : Option Row) → Holds P o → Holds P (into k es o)
+  into_old : (k : ℕ) (es : List Edge) (o : Option Row) → Holds P o → Holds P (into p.profile k es o)
   into_old k [] o h = h
   into_old k (e ∷ es) o h = into_old k es _ (cond_both (eqb e.0 k) _ _ (Holds P) (λ _. joined_old o e.1 h) (λ _. h))
 
-  into_new : (k : ℕ) (es : List Edge) (o : Option Row) → SomeEdge P k es → Holds P (into k es o)
+  into_new : (k : ℕ) (es : List Edge) (o : Option Row) → SomeEdge P k es → Holds P (into p.profile k es o)
   into_new k [] o s = absurd s
   into_new k (e ∷ es) o (inr s) = into_new k es _ s
   into_new k (e ∷ es) o (inl s) =
-      into_old k es _ (subst (λ b. Holds P (cond b (joined o e.1) o)) (sym (eq-eqb e.0 k s.0)) (joined_new o e.1 s.1))
+      into_old k es _ (subst (λ b. Holds P (cond b (joined p.profile o e.1) o)) (sym (eq-eqb e.0 k s.0)) (joined_new o e.1 s.1))
 
-  arrives : (p : Program) (i n k : ℕ) (x : Insn) (row : Row) → i < n → slice_get p.code i ≡ Some x → slice_get (table p) i ≡ Some (Some row) → SomeEdge P k (edges_from (callee_in p.sigs x) i row x) → Holds P (arrivals p (table p) n k)
-  arrives p i zero k x row lt at here e = absurd (omega arith)
-  arrives p i (suc n) k x row lt at here e =
+  arrives : (i n k : ℕ) (x : Insn) (row : Row) → i < n → slice_get p.code i ≡ Some x → slice_get (table p) i ≡ Some (Some row) → SomeEdge P k (edges_from p.profile (callee_in p.sigs x) i row x) → Holds P (arrivals p (table p) n k)
+  arrives i zero k x row lt at here e = absurd (omega arith)
+  arrives i (suc n) k x row lt at here e =
       ⊎_elim
       (λ same. let at' = ap (slice_get p.code) (sym same) ∙ at in
       let here' = ap (slice_get (table p)) (sym same) ∙ here in
-      into_new k (edges_of p.sigs n (slice_get p.code n) (slice_get (table p) n)) (arrivals p (table p) n k)
-      (subst (λ o. SomeEdge P k (edges_of p.sigs n o (slice_get (table p) n))) (sym at') (subst (λ o. SomeEdge P k (edges_of p.sigs n (Some x) o)) (sym here') (subst (λ j. SomeEdge P k (edges_from (callee_in p.sigs x) j row x)) same e))))
-      (λ other. into_old k (edges_of p.sigs n (slice_get p.code n) (slice_get (table p) n)) (arrivals p (table p) n k) (arrives p i n k x row (omega arith) at here e))
+      into_new k (edges_of p n (slice_get p.code n) (slice_get (table p) n)) (arrivals p (table p) n k)
+      (subst (λ o. SomeEdge P k (edges_of p n o (slice_get (table p) n))) (sym at') (subst (λ o. SomeEdge P k (edges_of p n (Some x) o)) (sym here') (subst (λ j. SomeEdge P k (edges_from p.profile (callee_in p.sigs x) j row x)) same e))))
+      (λ other. into_old k (edges_of p n (slice_get p.code n) (slice_get (table p) n)) (arrivals p (table p) n k) (arrives i n k x row (omega arith) at here e))
       (cases_eq i n)
 
 some_left : (P : Row → Type 0) (k : ℕ) (es fs : List Edge) → SomeEdge P k es → SomeEdge P k (es ++ fs)
@@ -86,9 +87,9 @@ some_right P k [] fs h = h
 some_right P k (e ∷ es) fs h = inr (some_right P k es fs h)
 
 -- the edge by which an instruction goes to a slot
-edge_to : (callee : Callee) (P : Row → Type 0) (i k : ℕ) (row : Row) (x : Insn) → GoesTo i x k → P (row_after callee row x) → P (row_taken row x) → SomeEdge P k (edges_from (callee) i row x)
-edge_to callee P i k row x (inl e) a t = some_left P k (next_edge (next_of i x) (row_after callee row x)) _ (subst (λ o. SomeEdge P k (next_edge o (row_after callee row x))) (sym e) (inl (refl, a)))
-edge_to callee P i k row x (inr e) a t = some_right P k (next_edge (next_of i x) (row_after callee row x)) _ (subst (λ o. SomeEdge P k (target_edge o (row_taken row x))) (sym e) (inl (refl, t)))
+edge_to : (profile : Profile) (callee : Callee) (P : Row → Type 0) (i k : ℕ) (row : Row) (x : Insn) → GoesTo i x k → P (row_after profile callee row x) → P (row_taken profile row x) → SomeEdge P k (edges_from profile (callee) i row x)
+edge_to profile callee P i k row x (inl e) a t = some_left P k (next_edge (next_of i x) (row_after profile callee row x)) _ (subst (λ o. SomeEdge P k (next_edge o (row_after profile callee row x))) (sym e) (inl (refl, a)))
+edge_to profile callee P i k row x (inr e) a t = some_right P k (next_edge (next_of i x) (row_after profile callee row x)) _ (subst (λ o. SomeEdge P k (target_edge o (row_taken profile row x))) (sym e) (inl (refl, t)))
 
 some_row : (o : Option Row) (P : Row → Type 0) → Holds P o → (row : Row) × (o ≡ Some row) × P row
 some_row None P h = absurd h
@@ -96,16 +97,11 @@ some_row (Some row) P h = (row, refl, h)
 
 -- ---- what is unset, and not written, stays unset
 
-join_unset : (k : Kind) → join_of k Unset ≡ Unset
-join_unset Unset = refl
-join_unset (Num lo hi) = refl
-join_unset (Ptr s lo hi) = refl
+unset_left : (profile : Profile) (r : Register) (a b : Row) → kind_at a r ≡ Unset → kind_at (join_rows profile a b) r ≡ Unset
+unset_left profile r a b h = at_join profile a b (number r) ∙ ap (λ k. join_of profile k (kind_at b r)) h ∙ unset_join profile (kind_at b r)
 
-unset_left : (r : Register) (a b : Row) → kind_at a r ≡ Unset → kind_at (join_rows a b) r ≡ Unset
-unset_left r a b h = at_join a b (number r) ∙ ap (λ k. join_of k (kind_at b r)) h
-
-unset_right : (r : Register) (a b : Row) → kind_at b r ≡ Unset → kind_at (join_rows a b) r ≡ Unset
-unset_right r a b h = at_join a b (number r) ∙ ap (join_of (kind_at a r)) h ∙ join_unset (kind_at a r)
+unset_right : (profile : Profile) (r : Register) (a b : Row) → kind_at b r ≡ Unset → kind_at (join_rows profile a b) r ≡ Unset
+unset_right profile r a b h = at_join profile a b (number r) ∙ ap (join_of profile (kind_at a r)) h ∙ join_unset profile (kind_at a r)
 
 set_aside : (row : Row) (i j : ℕ) (k : Kind) → j ≢ i → get_or (set row i k) j Unset ≡ get_or row j Unset
 set_aside [] i j k ne = refl
@@ -133,35 +129,35 @@ read_set row (q ∷ rs) r h (inr i) u = read_set row rs r (or_right (is_unset (k
 other_register : (row : Row) (rs : List Register) (q r : Register) → any_unset row rs ≡ false → IsIn q rs → kind_at row r ≡ Unset → number r ≢ number q
 other_register row rs q r h i u e = read_set row rs q h i (ap (kind_at row) (sym (same_register r q e)) ∙ u)
 
-refined_unset : (row : Row) (c : Cond) (w : Width) (left : Register) (right : Operand) (t : Bool) (r : Register) → any_unset row (left ∷ operand_reads right) ≡ false → kind_at row r ≡ Unset → kind_at (refined c w left right t row) r ≡ Unset
-refined_unset row c w left (operand.Register right) t r h u =
+refined_unset : (profile : Profile) (row : Row) (c : Cond) (w : Width) (left : Register) (right : Operand) (t : Bool) (r : Register) → any_unset row (left ∷ operand_reads right) ≡ false → kind_at row r ≡ Unset → kind_at (refined profile c w left right t row) r ≡ Unset
+refined_unset profile row c w left (operand.Register right) t r h u =
     cond_both (eqb (number left) (number right)) _ _ (λ q. kind_at q r ≡ Unset) (λ _. u)
     (λ _. still_unset _ right r _ (other_register row (left ∷ right ∷ []) right r h (inr (inl refl)) u) (still_unset row left r _ (other_register row (left ∷ right ∷ []) left r h (inl refl) u) u))
-refined_unset row c w left (operand.Immediate n) t r h u = still_unset row left r _ (other_register row (left ∷ []) left r h (inl refl) u) u
+refined_unset profile row c w left (operand.Immediate n) t r h u = still_unset row left r _ (other_register row (left ∷ []) left r h (inl refl) u) u
 
-after_unset : (callee : Callee) (row : Row) (x : Insn) (r : Register) → ((n : ℕ) → x ≢ insn.Call n) → any_unset row (reads no_calls x) ≡ false → kind_at row r ≡ Unset → (writes x ≡ Some r) ⊎ (kind_at (row_after callee row x) r ≡ Unset)
-after_unset callee row (insn.Alu o w dst src) r other h u = written_or_unset row (insn.Alu o w dst src) dst r _ refl u
-after_unset callee row (insn.Swap kind n dst) r other h u = written_or_unset row (insn.Swap kind n dst) dst r _ refl u
-after_unset callee row (insn.Load size extend dst base offset) r other h u = written_or_unset row (insn.Load size extend dst base offset) dst r _ refl u
-after_unset callee row (insn.Store size base offset src) r other h u = inr u
-after_unset callee row (insn.Jump d) r other h u = inr u
-after_unset callee row (insn.JumpIf c w left right o) r other h u = inr (refined_unset row c w left right false r h u)
-after_unset callee row (insn.Call n) r other h u = absurd (other n refl)
-after_unset callee row insn.Exit r other h u = inr u
-after_unset callee row (insn.Wide dst n) r other h u = written_or_unset row (insn.Wide dst n) dst r _ refl u
-after_unset callee row insn.Tail r other h u = inr u
+after_unset : (profile : Profile) (callee : Callee) (row : Row) (x : Insn) (r : Register) → ((n : ℕ) → x ≢ insn.Call n) → any_unset row (reads no_calls x) ≡ false → kind_at row r ≡ Unset → (writes x ≡ Some r) ⊎ (kind_at (row_after profile callee row x) r ≡ Unset)
+after_unset profile callee row (insn.Alu o w dst src) r other h u = written_or_unset row (insn.Alu o w dst src) dst r _ refl u
+after_unset profile callee row (insn.Swap kind n dst) r other h u = written_or_unset row (insn.Swap kind n dst) dst r _ refl u
+after_unset profile callee row (insn.Load size extend dst base offset) r other h u = written_or_unset row (insn.Load size extend dst base offset) dst r _ refl u
+after_unset profile callee row (insn.Store size base offset src) r other h u = inr u
+after_unset profile callee row (insn.Jump d) r other h u = inr u
+after_unset profile callee row (insn.JumpIf c w left right o) r other h u = inr (refined_unset profile row c w left right false r h u)
+after_unset profile callee row (insn.Call n) r other h u = absurd (other n refl)
+after_unset profile callee row insn.Exit r other h u = inr u
+after_unset profile callee row (insn.Wide dst n) r other h u = written_or_unset row (insn.Wide dst n) dst r _ refl u
+after_unset profile callee row insn.Tail r other h u = inr u
 
-taken_unset : (row : Row) (x : Insn) (r : Register) → any_unset row (reads no_calls x) ≡ false → kind_at row r ≡ Unset → kind_at (row_taken row x) r ≡ Unset
-taken_unset row (insn.Alu o w dst src) r h u = u
-taken_unset row (insn.Swap kind n dst) r h u = u
-taken_unset row (insn.Load size extend dst base offset) r h u = u
-taken_unset row (insn.Store size base offset src) r h u = u
-taken_unset row (insn.Jump d) r h u = u
-taken_unset row (insn.JumpIf c w left right o) r h u = refined_unset row c w left right true r h u
-taken_unset row (insn.Call n) r h u = u
-taken_unset row insn.Exit r h u = u
-taken_unset row (insn.Wide dst n) r h u = u
-taken_unset row insn.Tail r h u = u
+taken_unset : (profile : Profile) (row : Row) (x : Insn) (r : Register) → any_unset row (reads no_calls x) ≡ false → kind_at row r ≡ Unset → kind_at (row_taken profile row x) r ≡ Unset
+taken_unset profile row (insn.Alu o w dst src) r h u = u
+taken_unset profile row (insn.Swap kind n dst) r h u = u
+taken_unset profile row (insn.Load size extend dst base offset) r h u = u
+taken_unset profile row (insn.Store size base offset src) r h u = u
+taken_unset profile row (insn.Jump d) r h u = u
+taken_unset profile row (insn.JumpIf c w left right o) r h u = refined_unset profile row c w left right true r h u
+taken_unset profile row (insn.Call n) r h u = u
+taken_unset profile row insn.Exit r h u = u
+taken_unset profile row (insn.Wide dst n) r h u = u
+taken_unset profile row insn.Tail r h u = u
 
 start_or_unset : (p : Program) (r : Register) → SetAtStart r ⊎ (kind_at (entry p) r ≡ Unset)
 start_or_unset p R0 = inr refl
@@ -199,8 +195,8 @@ module _ (p : Program) (some : 1 ≤ length p.code) (accepted : IsAccepted p) wh
   reached j (i ∷ path) h =
       let before = reached i path h.1 in
       let s = h.0 in
-      let edge = edge_to (callee_in p.sigs s.0) Something i j before.0 s.0 s.2 tt tt in
-      let row = some_row (arrivals p (table p) j j) Something (arrives Something (λ a b t. tt) (λ a b t. tt) p i j j s.0 before.0 s.3 s.1 before.1 edge) in
+      let edge = edge_to p.profile (callee_in p.sigs s.0) Something i j before.0 s.0 s.2 tt tt in
+      let row = some_row (arrivals p (table p) j j) Something (arrives p Something (λ a b t. tt) (λ a b t. tt) i j j s.0 before.0 s.3 s.1 before.1 edge) in
       (row.0, table_at p j (within j s.4.0 s.4.1) ∙ ap Some row.1)
 
   -- and a register that is not written on it is unset there, unless it is set at the start
@@ -217,11 +213,11 @@ module _ (p : Program) (some : 1 ≤ length p.code) (accepted : IsAccepted p) wh
       (λ done. inl (⊎_elim (λ w. inl (inr w)) (λ t. inr t) done))
       (λ u. ⊎_elim
       (λ w. inl (inl (inl (s.0, s.1, w))))
-      (λ a. let edge = edge_to (callee_in p.sigs s.0) P i j before.0 s.0 s.2 a (taken_unset before.0 s.0 r set u) in
-      let here' = some_row (arrivals p (table p) j j) P (arrives P (unset_left r) (unset_right r) p i j j s.0 before.0 s.3 s.1 before.1 edge) in
+      (λ a. let edge = edge_to p.profile (callee_in p.sigs s.0) P i j before.0 s.0 s.2 a (taken_unset p.profile before.0 s.0 r set u) in
+      let here' = some_row (arrivals p (table p) j j) P (arrives p P (unset_left p.profile r) (unset_right p.profile r) i j j s.0 before.0 s.3 s.1 before.1 edge) in
       let is = same_rows (slice_get (table p) j) (Some row) (Some here'.0) here (table_at p j (within j s.4.0 s.4.1) ∙ ap Some here'.1) in
       inr (ap (λ q. kind_at q r) (same_Some _ _ is) ∙ here'.2))
-      (after_unset (callee_in p.sigs s.0) before.0 s.0 r (plain i s.0 s.1).no_call set u))
+      (after_unset p.profile (callee_in p.sigs s.0) before.0 s.0 r (plain i s.0 s.1).no_call set u))
       (walked plain r i path h.1 before.0 before.1)
 
   -- accepted plain programs read what was written on every path
@@ -264,7 +260,8 @@ window_from p q k offset size e t =
 
 no_window : (p : Program) (k : Kind) (offset : ℤ) (size : ℕ) → IsNumOrUnset k → is_inside p k offset size ≡ true → ⊥
 no_window p Unset offset size h t = cc
-no_window p (Num lo hi) offset size h t = cc
+no_window p Dead offset size h t = cc
+no_window p (Num a) offset size h t = cc
 no_window p (Ptr q lo hi) offset size h t = h
 
 window_at : (p : Program) (r : Register) (k : Kind) (offset : ℤ) (size : ℕ) → PlainAt r k → is_inside p k offset size ≡ true → InWindow p r offset size

@@ -4,6 +4,7 @@ use Rattle.std.proofs.Math.Seq.{drop-cons}
 use Rattle.std.specs.Prelude.{slice_get}
 use Rattle.ranges.specs.Kinds.{IsKind}
 use Rattle.ranges.specs.Transfer.{join_of}
+use Rattle.ranges.specs.declared.profile.Profile.{Profile}
 use Rattle.ranges.specs.declared.kind.Kind.{Kind}
 use Rattle.ranges.specs.declared.kind.Kind.TheVariants.{Unset}
 use Rattle.verifier.specs.Registers.{Row}
@@ -60,37 +61,37 @@ row_kinds_set (r ∷ rows) (suc i) next h hn (suc k) o e = row_kinds_set rows i 
 
 -- ---- joins
 
-front : ℕ → Row → Row → Row
-front i a b = join_rows (take i a) (take i b) ++ drop i a
+front : Profile → ℕ → Row → Row → Row
+front profile i a b = join_rows profile (take i a) (take i b) ++ drop i a
 
-join_suc : (i : ℕ) (a b : Row) (d : Kind) → i < length a → i < length b → set (front i a b) i (join_of (get_or a i d) (get_or b i d)) ≡ front (suc i) a b
+join_suc : (profile : Profile) (i : ℕ) (a b : Row) (d : Kind) → i < length a → i < length b → set (front profile i a b) i (join_of profile (get_or a i d) (get_or b i d)) ≡ front profile (suc i) a b
 unfolding front
-join_suc i [] b d h g = absurd (omega arith)
-join_suc i (x ∷ xs) [] d h g = absurd (omega arith)
-join_suc zero (x ∷ xs) (y ∷ ys) d h g = refl
-join_suc (suc i) (x ∷ xs) (y ∷ ys) d h g = ap (λ zs. join_of x y ∷ zs) (join_suc i xs ys d (omega arith) (omega arith))
+join_suc profile i [] b d h g = absurd (omega arith)
+join_suc profile i (x ∷ xs) [] d h g = absurd (omega arith)
+join_suc profile zero (x ∷ xs) (y ∷ ys) d h g = refl
+join_suc profile (suc i) (x ∷ xs) (y ∷ ys) d h g = ap (λ zs. join_of profile x y ∷ zs) (join_suc profile i xs ys d (omega arith) (omega arith))
 
-front_at : (i : ℕ) (a b : Row) (d : Kind) → i < length a → i < length b → get_or (front i a b) i d ≡ get_or a i d
+front_at : (profile : Profile) (i : ℕ) (a b : Row) (d : Kind) → i < length a → i < length b → get_or (front profile i a b) i d ≡ get_or a i d
 unfolding front
-front_at i [] b d h g = absurd (omega arith)
-front_at i (x ∷ xs) [] d h g = absurd (omega arith)
-front_at zero (x ∷ xs) (y ∷ ys) d h g = refl
-front_at (suc i) (x ∷ xs) (y ∷ ys) d h g = front_at i xs ys d (omega arith) (omega arith)
+front_at profile i [] b d h g = absurd (omega arith)
+front_at profile i (x ∷ xs) [] d h g = absurd (omega arith)
+front_at profile zero (x ∷ xs) (y ∷ ys) d h g = refl
+front_at profile (suc i) (x ∷ xs) (y ∷ ys) d h g = front_at profile i xs ys d (omega arith) (omega arith)
 
-pub join_more : (i : ℕ) (a b row : Row) (k : Kind) → i < length a → i < length b → k ≡ join_of (get_or row i Unset) (get_or b i Unset) → row ≡ join_rows (take i a) (take i b) ++ drop i a → set row i k ≡ join_rows (take (i + 1) a) (take (i + 1) b) ++ drop (i + 1) a
+pub join_more : (profile : Profile) (i : ℕ) (a b row : Row) (k : Kind) → i < length a → i < length b → k ≡ join_of profile (get_or row i Unset) (get_or b i Unset) → row ≡ join_rows profile (take i a) (take i b) ++ drop i a → set row i k ≡ join_rows profile (take (i + 1) a) (take (i + 1) b) ++ drop (i + 1) a
 unfolding front
-join_more i a b row k h g ek e =
-    let here : get_or row i Unset ≡ get_or a i Unset = ap (λ r. get_or r i Unset) e ∙ front_at i a b Unset h g in
-    let ek' : k ≡ join_of (get_or a i Unset) (get_or b i Unset) = ek ∙ ap (λ x. join_of x (get_or b i Unset)) here in
-    rw (e, ek', add-one) (join_suc i a b Unset h g)
+join_more profile i a b row k h g ek e =
+    let here : get_or row i Unset ≡ get_or a i Unset = ap (λ r. get_or r i Unset) e ∙ front_at profile i a b Unset h g in
+    let ek' : k ≡ join_of profile (get_or a i Unset) (get_or b i Unset) = ek ∙ ap (λ x. join_of profile x (get_or b i Unset)) here in
+    rw (e, ek', add-one) (join_suc profile i a b Unset h g)
 
 row_is : (rows : List (Option Row)) (k : ℕ) (d : Option Row) → k < length rows → get_or rows k d ≡ row_at rows k
 row_is [] k d h = absurd (omega arith)
 row_is (r ∷ rows) zero d h = refl
 row_is (r ∷ rows) (suc k) d h = row_is rows k d (omega arith)
 
-pub pushed_at : (rows : List (Option Row)) (k : ℕ) (o next : Option Row) (row : Row) → k < length rows → o ≡ get_or rows k o → next ≡ joined o row → set rows k next ≡ set rows k (joined (row_at rows k) row)
-pushed_at rows k o next row h e n = ap (set rows k) (n ∙ ap (λ q. joined q row) (e ∙ row_is rows k o h))
+pub pushed_at : (profile : Profile) (rows : List (Option Row)) (k : ℕ) (o next : Option Row) (row : Row) → k < length rows → o ≡ get_or rows k o → next ≡ joined profile o row → set rows k next ≡ set rows k (joined profile (row_at rows k) row)
+pushed_at profile rows k o next row h e n = ap (set rows k) (n ∙ ap (λ q. joined profile q row) (e ∙ row_is rows k o h))
 
 -- a row that is read has the kinds of the rows
 pub read_kinds : (rows : List (Option Row)) (k : ℕ) (o : Option Row) → k < length rows → o ≡ get_or rows k o → AreRowKinds rows → HasKinds o

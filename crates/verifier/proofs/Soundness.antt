@@ -1,67 +1,140 @@
 -- A formed program of which no slot breaks a rule is safe.
-use Rattle.std.proofs.Common.{◌≡◌, ◌≢◌, ℕ, zero, suc, ℤ, pos, negsuc, ◌<◌, ◌≤◌, Bool, true, false, eqb, List, [], ◌∷◌, ◌++◌, length, take, Option, Some, None, refl, sym, ap, ◌∙◌, subst, inl, inr, ⊎_elim, arith, length-set, length-drop}
+use Rattle.std.proofs.Common.{◌≡◌, ◌≢◌, ℕ, zero, suc, ℤ, pos, negsuc, ◌-◌, ◌*◌, ◌%◌, ◌^◌, ◌<◌, ◌≤◌, Bool, true, false, eqb, List, [], ◌∷◌, ◌++◌, length, take, drop, Option, Some, None, refl, sym, ap, ◌∙◌, subst, inl, inr, ⊎_elim, arith, length-set, length-drop}
 use Rattle.std.specs.Prelude.{slice_get}
 use Rattle.std.proofs.lemmas.List.{length-replicate}
 use Rattle.std.proofs.lemmas.Int.{ints}
 use Rattle.std.proofs.lemmas.Bool.{cond_both, cases_lt, cases_eq}
 use Rattle.std.proofs.lemmas.Option.{slice_get_within, slice_get_past, same_Some}
+use Rattle.alu.specs.Value.{bits, wrapped}
 use Rattle.alu.specs.declared.Cond.{Cond}
 use Rattle.alu.specs.declared.Width.{Width}
-use Rattle.insn.specs.Encoding.{number}
+use Rattle.insn.specs.Encoding.{number, size_bytes, IsInstruction}
+use Rattle.insn.specs.declared.Size.{Size}
+use Rattle.insn.specs.declared.Extend.{Extend}
+use Rattle.insn.specs.declared.Extend.TheVariants.{Zero, Sign}
 use Rattle.insn.specs.declared.Register.{Register}
 use Rattle.insn.specs.declared.Operand.{Operand}
 use Rattle.insn.specs.declared.Operand.TheVariants as operand
 use Rattle.insn.specs.declared.Insn.{Insn}
 use Rattle.insn.specs.declared.Insn.TheVariants as insn
+use Rattle.std.proofs.lemmas.Nat.{pow_pos}
 use Rattle.memory.specs.State.{State, Row as Row_of}
 use Rattle.memory.specs.Step.{Step, Faults, Runs, IsInput, start, instruction_at, starting, instruction_count}
 use Rattle.memory.specs.declared.Fault.{Fault}
+use Rattle.ranges.specs.declared.profile.Profile.{Profile}
+use Rattle.ranges.specs.declared.kind.Kind.{Kind}
+use Rattle.ranges.specs.declared.kind.Kind.TheVariants.{Unset}
+use Rattle.ranges.specs.Kinds.{IsKind}
+use Rattle.ranges.specs.Numbers.{range, single, up_to, full}
+use Rattle.ranges.specs.Transfer.{transfer_of, swap_of}
 use Rattle.ranges.specs.Laws.{IsSoundTable}
 use Rattle.bpfimage.specs.Form.{next_of, target_of}
 use Rattle.helpers.specs.declared.sig.Entry.{Entry}
-use Rattle.helpers.specs.Calls.{Callee, calls_of}
+use Rattle.helpers.specs.Calls.{Callee, Copy, Fill, Same, Helper, Unknown, calls_of}
 use Rattle.verifier.specs.Program.{Program, HasLimits, IsSafeProgram}
-use Rattle.verifier.specs.Registers.{Row, entry}
-use Rattle.verifier.specs.Rules.{callee_in, refined, row_after, row_taken, rules_of}
-use Rattle.verifier.specs.Table.{Edge, next_edge, target_edge, edges_from, edges_of, arrivals, table, broken_with, IsAccepted}
-use Rattle.verifier.proofs.Words.{bytes_zero}
-use Rattle.verifier.proofs.Fits.{FitsRow, IsRow, IsRowIfAny, AreRows, FitsSome, SomeEdge, into_is_row, into_old, into_new}
+use Rattle.verifier.specs.Registers.{Row, kind_at, kind_from, one_number, entry}
+use Rattle.verifier.specs.CallKinds.{answer_kind}
+use Rattle.verifier.specs.Rules.{callee_in, loaded, refined, row_after, row_taken, rules_of}
+use Rattle.verifier.specs.Table.{Edge, next_edge, target_edge, edges_from, edges_of, arrivals, table, broken_with, IsAccepted, AreKinds}
+use Rattle.verifier.proofs.Words.{wrapped_below, size_fits, bytes_zero}
+use Rattle.verifier.proofs.RowSteps.{kinds_set, kinds_drop}
+use Rattle.verifier.proofs.Fits.{FitsRow, IsLong, IsRow, IsRowIfAny, AreRows, FitsSome, SomeEdge, into_is_row, into_old, into_new}
 use Rattle.verifier.proofs.Shape.{IsPaired, Leads, AllLead, paired_starts, edges_lead, target_leads}
 use Rattle.verifier.proofs.Places.{IsMemory}
-use Rattle.verifier.proofs.Classes.{AllNone, none_each, no_fault, lands}
+use Rattle.verifier.proofs.Classes.{AllNone, none_each, cut_word, result_is_kind, no_fault, lands}
 use Rattle.verifier.proofs.Counting.{starts_there, counted, counted_all}
 use Rattle.verifier.proofs.Tables.{length_rows, table_at}
 
 -- ---- rows of the table
 
-refined_is_row : (c : Cond) (w : Width) (l : Register) (r : Operand) (t : Bool) (row : Row) → IsRow row → IsRow (refined c w l r t row)
-refined_is_row c w l (operand.Register r) t row h =
-    cond_both (eqb (number l) (number r)) _ _ IsRow (λ _. h) (λ _. length-set _ _ _ ∙ length-set _ _ _ ∙ h)
-refined_is_row c w l (operand.Immediate n) t row h = length-set _ _ _ ∙ h
+refined_is_long : (profile : Profile) (c : Cond) (w : Width) (l : Register) (r : Operand) (t : Bool) (row : Row) → IsLong row → IsLong (refined profile c w l r t row)
+refined_is_long profile c w l (operand.Register r) t row h =
+    cond_both (eqb (number l) (number r)) _ _ IsLong (λ _. h) (λ _. length-set _ _ _ ∙ length-set _ _ _ ∙ h)
+refined_is_long profile c w l (operand.Immediate n) t row h = length-set _ _ _ ∙ h
 
-pub after_is_row : (callee : Callee) (row : Row) (x : Insn) → IsRow row → IsRow (row_after callee row x)
-after_is_row callee row (insn.Alu o w d src) h = length-set _ _ _ ∙ h
-after_is_row callee row (insn.Swap k n d) h = length-set _ _ _ ∙ h
-after_is_row callee row (insn.Load size x d r o) h = length-set _ _ _ ∙ h
-after_is_row callee row (insn.Store size r o src) h = h
-after_is_row callee row (insn.Jump d) h = h
-after_is_row callee row (insn.JumpIf c w l r o) h = refined_is_row c w l r false row h
-after_is_row callee row (insn.Call n) h = simp (length-drop) (omega (arith, h))
-after_is_row callee row insn.Exit h = h
-after_is_row callee row (insn.Wide d n) h = length-set _ _ _ ∙ h
-after_is_row callee row insn.Tail h = h
+pub after_is_long : (profile : Profile) (callee : Callee) (row : Row) (x : Insn) → IsLong row → IsLong (row_after profile callee row x)
+after_is_long profile callee row (insn.Alu o w d src) h = length-set _ _ _ ∙ h
+after_is_long profile callee row (insn.Swap k n d) h = length-set _ _ _ ∙ h
+after_is_long profile callee row (insn.Load size x d r o) h = length-set _ _ _ ∙ h
+after_is_long profile callee row (insn.Store size r o src) h = h
+after_is_long profile callee row (insn.Jump d) h = h
+after_is_long profile callee row (insn.JumpIf c w l r o) h = refined_is_long profile c w l r false row h
+after_is_long profile callee row (insn.Call n) h = simp (length-drop) (omega (arith, h))
+after_is_long profile callee row insn.Exit h = h
+after_is_long profile callee row (insn.Wide d n) h = length-set _ _ _ ∙ h
+after_is_long profile callee row insn.Tail h = h
 
-pub taken_is_row : (row : Row) (x : Insn) → IsRow row → IsRow (row_taken row x)
-taken_is_row row (insn.Alu o w d src) h = h
-taken_is_row row (insn.Swap k n d) h = h
-taken_is_row row (insn.Load size x d r o) h = h
-taken_is_row row (insn.Store size r o src) h = h
-taken_is_row row (insn.Jump d) h = h
-taken_is_row row (insn.JumpIf c w l r o) h = refined_is_row c w l r true row h
-taken_is_row row (insn.Call n) h = h
-taken_is_row row insn.Exit h = h
-taken_is_row row (insn.Wide d n) h = h
-taken_is_row row insn.Tail h = h
+pub taken_is_long : (profile : Profile) (row : Row) (x : Insn) → IsLong row → IsLong (row_taken profile row x)
+taken_is_long profile row (insn.Alu o w d src) h = h
+taken_is_long profile row (insn.Swap k n d) h = h
+taken_is_long profile row (insn.Load size x d r o) h = h
+taken_is_long profile row (insn.Store size r o src) h = h
+taken_is_long profile row (insn.Jump d) h = h
+taken_is_long profile row (insn.JumpIf c w l r o) h = refined_is_long profile c w l r true row h
+taken_is_long profile row (insn.Call n) h = h
+taken_is_long profile row insn.Exit h = h
+taken_is_long profile row (insn.Wide d n) h = h
+taken_is_long profile row insn.Tail h = h
+
+module _ (profile : Profile) (sound : IsSoundTable profile) where
+  from_kind : (row : Row) (src : Operand) → AreKinds row → IsKind (kind_from profile row src)
+  from_kind row (operand.Register r) h = h (number r)
+  from_kind row (operand.Immediate n) h = sound.range_kind (single (wrapped 64 n)) (omega arith) (wrapped_below 64 n)
+
+  refined_kinds : (c : Cond) (w : Width) (l : Register) (r : Operand) (t : Bool) (row : Row) → AreKinds row → AreKinds (refined profile c w l r t row)
+  refined_kinds c w l (operand.Register r) t row h =
+      let k = sound.comparison_kind c w (kind_at row l) (kind_at row r) t (h (number l)) (h (number r)) in
+      cond_both (eqb (number l) (number r)) _ _ AreKinds (λ _. h) (λ _. kinds_set _ (number r) _ (kinds_set row (number l) _ h k.0) k.1)
+  refined_kinds c w l (operand.Immediate n) t row h =
+      let m = wrapped 64 n % 2 ^ bits w in
+      kinds_set row (number l) _ h
+      (sound.comparison_kind c w (kind_at row l) (one_number profile m) t (h (number l)) (sound.range_kind (single m) (omega arith) (cut_word w (wrapped 64 n)))).0
+
+  loaded_kind : (size : Size) (extend : Extend) → IsKind (loaded profile size extend)
+  loaded_kind size Zero = let fits = size_fits size in let some = pow_pos (8 * size_bytes size) in sound.range_kind (full (8 * size_bytes size)) (omega arith) (omega arith)
+  loaded_kind size Sign = sound.range_kind (full 64) (omega arith) (omega arith)
+
+  answer_is_kind : (callee : Callee) → IsKind (answer_kind profile callee)
+  answer_is_kind Copy = sound.range_kind (single 0) (omega arith) (omega arith)
+  answer_is_kind Fill = sound.range_kind (single 0) (omega arith) (omega arith)
+  answer_is_kind Same = sound.range_kind (range 0 1) (omega arith) (omega arith)
+  answer_is_kind (Helper sig) = sound.range_kind (range sig.lo sig.hi) sig.ordered sig.word
+  answer_is_kind Unknown = tt
+
+  call_kinds : (k : Kind) (row : Row) → IsKind k → AreKinds row → AreKinds (k ∷ Unset ∷ Unset ∷ Unset ∷ Unset ∷ Unset ∷ drop 6 row)
+  call_kinds k row hk h zero = hk
+  call_kinds k row hk h (suc zero) = tt
+  call_kinds k row hk h (suc (suc zero)) = tt
+  call_kinds k row hk h (suc (suc (suc zero))) = tt
+  call_kinds k row hk h (suc (suc (suc (suc zero)))) = tt
+  call_kinds k row hk h (suc (suc (suc (suc (suc zero))))) = tt
+  call_kinds k row hk h (suc (suc (suc (suc (suc (suc r)))))) = kinds_drop 6 row h r
+
+  after_kinds : (callee : Callee) (row : Row) (x : Insn) → (x ≢ insn.Tail → IsInstruction x) → AreKinds row → AreKinds (row_after profile callee row x)
+  after_kinds callee row (insn.Alu o w d src) is h =
+      kinds_set row (number d) _ h (result_is_kind (transfer_of profile o w (kind_at row d) (kind_from profile row src)) (sound.operation_kind o w (kind_at row d) (kind_from profile row src) (h (number d)) (from_kind row src h)))
+  after_kinds callee row (insn.Swap k n d) is h = kinds_set row (number d) _ h (result_is_kind (swap_of profile k n (kind_at row d)) (sound.swap_kind k n (kind_at row d)))
+  after_kinds callee row (insn.Load size x d r o) is h = kinds_set row (number d) _ h (loaded_kind size x)
+  after_kinds callee row (insn.Store size r o src) is h = h
+  after_kinds callee row (insn.Jump d) is h = h
+  after_kinds callee row (insn.JumpIf c w l r o) is h = refined_kinds c w l r false row h
+  after_kinds callee row (insn.Call n) is h = call_kinds (answer_kind profile callee) row (answer_is_kind callee) h
+  after_kinds callee row insn.Exit is h = h
+  after_kinds callee row (insn.Wide d n) is h = kinds_set row (number d) _ h (sound.range_kind (single n) (omega arith) (is (λ e. cc)))
+  after_kinds callee row insn.Tail is h = h
+
+  taken_kinds : (row : Row) (x : Insn) → AreKinds row → AreKinds (row_taken profile row x)
+  taken_kinds row (insn.Alu o w d src) h = h
+  taken_kinds row (insn.Swap k n d) h = h
+  taken_kinds row (insn.Load size x d r o) h = h
+  taken_kinds row (insn.Store size r o src) h = h
+  taken_kinds row (insn.Jump d) h = h
+  taken_kinds row (insn.JumpIf c w l r o) h = refined_kinds c w l r true row h
+  taken_kinds row (insn.Call n) h = h
+  taken_kinds row insn.Exit h = h
+  taken_kinds row (insn.Wide d n) h = h
+  taken_kinds row insn.Tail h = h
+
 
 rows_append : (es fs : List Edge) → AreRows es → AreRows fs → AreRows (es ++ fs)
 rows_append [] fs a b = b
@@ -76,47 +149,71 @@ target_rows None row h = tt
 target_rows (Some (pos k)) row h = (h, tt)
 target_rows (Some (negsuc k)) row h = tt
 
-edge_rows : (callee : Callee) (i : ℕ) (row : Row) (x : Insn) → IsRow row → AreRows (edges_from callee i row x)
-edge_rows callee i row x h = rows_append _ _ (next_rows (next_of i x) (row_after callee row x) (after_is_row callee row x h)) (target_rows (target_of i x) (row_taken row x) (taken_is_row row x h))
-
 abbrev IsRowAt : Option (Option Row) → Type 0
 IsRowAt None = Unit {0}
 IsRowAt (Some o) = IsRowIfAny o
 
-edges_are_rows : (sigs : List Entry) (i : ℕ) (x : Option Insn) (row : Option (Option Row)) → IsRowAt row → AreRows (edges_of sigs i x row)
-edges_are_rows sigs i None row h = tt
-edges_are_rows sigs i (Some x) None h = tt
-edges_are_rows sigs i (Some x) (Some None) h = tt
-edges_are_rows sigs i (Some x) (Some (Some row)) h = edge_rows (callee_in sigs x) i row x h
+module _ (sound : (profile : Profile) → IsSoundTable profile) (p : Program) (limits : HasLimits p) (paired : IsPaired p.code) where
+  edge_rows : (i : ℕ) (row : Row) (x : Insn) → (x ≢ insn.Tail → IsInstruction x) → IsRow row → AreRows (edges_from p.profile (callee_in p.sigs x) i row x)
+  edge_rows i row x is h =
+      rows_append _ _
+      (next_rows (next_of i x) (row_after p.profile (callee_in p.sigs x) row x) (record { long = after_is_long p.profile (callee_in p.sigs x) row x h.long; kinds = after_kinds p.profile (sound p.profile) (callee_in p.sigs x) row x is h.kinds }))
+      (target_rows (target_of i x) (row_taken p.profile row x) (record { long = taken_is_long p.profile row x h.long; kinds = taken_kinds p.profile (sound p.profile) row x h.kinds }))
 
-arrival_rows : (p : Program) (rows : List (Option Row)) (n k : ℕ) → ((i : ℕ) → i < n → IsRowAt (slice_get rows i)) → IsRowIfAny (arrivals p rows n k)
-arrival_rows p rows zero k h = cond_both (eqb k 0) _ _ IsRowIfAny (λ _. refl) (λ _. tt)
-arrival_rows p rows (suc n) k h =
-    into_is_row k _ _ (edges_are_rows p.sigs n (slice_get p.code n) (slice_get rows n) (h n (omega arith))) (arrival_rows p rows n k (λ i lt. h i (omega arith)))
+  edges_are_rows : (i : ℕ) (x : Option Insn) (row : Option (Option Row)) → slice_get p.code i ≡ x → IsRowAt row → AreRows (edges_of p i x row)
+  edges_are_rows i None row at h = tt
+  edges_are_rows i (Some x) None at h = tt
+  edges_are_rows i (Some x) (Some None) at h = tt
+  edges_are_rows i (Some x) (Some (Some row)) at h = edge_rows i row x (paired.instructions i x at) h
 
-table_rows : (p : Program) (n k : ℕ) → k < n → IsRowAt (slice_get (table p) k)
-table_rows p zero k h = absurd (omega arith)
-table_rows p (suc n) k h =
-    ⊎_elim
-    (λ lt. subst IsRowAt (sym (table_at p k lt)) (arrival_rows p (table p) k k (λ i l. table_rows p n i (omega arith))))
-    (λ le. subst IsRowAt (sym (slice_get_past (table p) k (omega (arith, length_rows p (length p.code))))) tt)
-    (cases_lt k (length p.code))
+  entry_is_row : IsRow (entry p)
+  entry_is_row = record { long = refl; kinds = from }
+    where
+      from : AreKinds (entry p)
+      from zero = tt
+      from (suc zero) = (omega (arith, ints), omega (arith, ints), omega (arith, ints))
+      from (suc (suc zero)) = (sound p.profile).range_kind (up_to p.in_len) (omega arith) (omega (arith, limits.input))
+      from (suc (suc (suc zero))) = (omega (arith, ints), omega (arith, ints), omega (arith, ints))
+      from (suc (suc (suc (suc zero)))) = (sound p.profile).range_kind (single p.out_len) (omega arith) (omega (arith, limits.output))
+      from (suc (suc (suc (suc (suc zero))))) = tt
+      from (suc (suc (suc (suc (suc (suc zero)))))) = tt
+      from (suc (suc (suc (suc (suc (suc (suc zero))))))) = tt
+      from (suc (suc (suc (suc (suc (suc (suc (suc zero)))))))) = tt
+      from (suc (suc (suc (suc (suc (suc (suc (suc (suc zero))))))))) = tt
+      from (suc (suc (suc (suc (suc (suc (suc (suc (suc (suc zero)))))))))) = (omega (arith, ints), omega (arith, ints), omega (arith, ints))
+      from (suc (suc (suc (suc (suc (suc (suc (suc (suc (suc (suc r))))))))))) = tt
 
--- ---- an edge is joined into its slot's row
+  arrival_rows : (rows : List (Option Row)) (n k : ℕ) → ((i : ℕ) → i < n → IsRowAt (slice_get rows i)) → IsRowIfAny (arrivals p rows n k)
+  arrival_rows rows zero k h = cond_both (eqb k 0) _ _ IsRowIfAny (λ _. entry_is_row) (λ _. tt)
+  arrival_rows rows (suc n) k h =
+      into_is_row p.profile (sound p.profile) k _ _ (edges_are_rows n (slice_get p.code n) (slice_get rows n) refl (h n (omega arith))) (arrival_rows rows n k (λ i lt. h i (omega arith)))
 
-arrives : (sound : IsSoundTable) (p : Program) (i n k : ℕ) (x : Insn) (row : Row) (vs : List (Option ℕ)) → i < n → slice_get p.code i ≡ Some x → slice_get (table p) i ≡ Some (Some row) → SomeEdge (pos k) vs (edges_from (callee_in p.sigs x) i row x) → FitsSome (arrivals p (table p) n k) vs
-arrives sound p i zero k x row vs lt at here e = absurd (omega arith)
-arrives sound p i (suc n) k x row vs lt at here e =
-    let all : (m : ℕ) → IsRowAt (slice_get (table p) m) = λ m. table_rows p (suc m) m (omega arith) in
-    let edges = edges_are_rows p.sigs n (slice_get p.code n) (slice_get (table p) n) (all n) in
-    let before = arrival_rows p (table p) n k (λ m _. all m) in
-    ⊎_elim
-    (λ same. let at' = ap (slice_get p.code) (sym same) ∙ at in
-    let here' = ap (slice_get (table p)) (sym same) ∙ here in
-    into_new sound k _ _ vs edges before
-    (subst (λ o. SomeEdge (pos k) vs (edges_of p.sigs n o (slice_get (table p) n))) (sym at') (subst (λ o. SomeEdge (pos k) vs (edges_of p.sigs n (Some x) o)) (sym here') (subst (λ j. SomeEdge (pos k) vs (edges_from (callee_in p.sigs x) j row x)) same e))))
-    (λ other. into_old sound k _ _ vs edges before (arrives sound p i n k x row vs (omega arith) at here e))
-    (cases_eq i n)
+  table_rows : (n k : ℕ) → k < n → IsRowAt (slice_get (table p) k)
+  table_rows zero k h = absurd (omega arith)
+  table_rows (suc n) k h =
+      ⊎_elim
+      (λ lt. subst IsRowAt (sym (table_at p k lt)) (arrival_rows (table p) k k (λ i l. table_rows n i (omega arith))))
+      (λ le. subst IsRowAt (sym (slice_get_past (table p) k (omega (arith, length_rows p (length p.code))))) tt)
+      (cases_lt k (length p.code))
+
+  pub row_kinds : (k : ℕ) (row : Row) → slice_get (table p) k ≡ Some (Some row) → AreKinds row
+  row_kinds k row e = let h : IsRowAt (Some (Some row)) = subst IsRowAt e (table_rows (suc k) k (omega arith)) in h.kinds
+
+  -- ---- an edge is joined into its slot's row
+
+  arrives : (i n k : ℕ) (x : Insn) (row : Row) (vs : List (Option ℕ)) → i < n → slice_get p.code i ≡ Some x → slice_get (table p) i ≡ Some (Some row) → SomeEdge (pos k) vs (edges_from p.profile (callee_in p.sigs x) i row x) → FitsSome (arrivals p (table p) n k) vs
+  arrives i zero k x row vs lt at here e = absurd (omega arith)
+  arrives i (suc n) k x row vs lt at here e =
+      let all : (m : ℕ) → IsRowAt (slice_get (table p) m) = λ m. table_rows (suc m) m (omega arith) in
+      let edges = edges_are_rows n (slice_get p.code n) (slice_get (table p) n) refl (all n) in
+      let before = arrival_rows (table p) n k (λ m _. all m) in
+      ⊎_elim
+      (λ same. let at' = ap (slice_get p.code) (sym same) ∙ at in
+      let here' = ap (slice_get (table p)) (sym same) ∙ here in
+      into_new p.profile (sound p.profile) k _ _ vs edges before
+      (subst (λ o. SomeEdge (pos k) vs (edges_of p n o (slice_get (table p) n))) (sym at') (subst (λ o. SomeEdge (pos k) vs (edges_of p n (Some x) o)) (sym here') (subst (λ j. SomeEdge (pos k) vs (edges_from p.profile (callee_in p.sigs x) j row x)) same e))))
+      (λ other. into_old p.profile (sound p.profile) k _ _ vs edges before (arrives i n k x row vs (omega arith) at here e))
+      (cases_eq i n)
 
 -- ---- one state
 
@@ -147,7 +244,7 @@ found_first : (code : List Insn) → 1 ≤ length code → (x : Insn) × (slice_
 found_first [] h = absurd (omega arith)
 found_first (x ∷ code) h = (x, refl)
 
-module _ (sound : IsSoundTable) (p : Program) (limits : HasLimits p) (paired : IsPaired p.code) (some : 1 ≤ length p.code) (accepted : IsAccepted p) where
+module _ (sound : (profile : Profile) → IsSoundTable profile) (p : Program) (limits : HasLimits p) (paired : IsPaired p.code) (some : 1 ≤ length p.code) (accepted : IsAccepted p) where
   pub rules_kept : (n : ℕ) (s : State) (g : Stands p n s) → AllNone (rules_of p g.row g.here)
   rules_kept n s g =
       none_each (rules_of p g.row g.here) (subst (λ o. broken_with p (Some g.here) o ≡ None) g.kinds (subst (λ o. broken_with p o (slice_get (table p) g.at) ≡ None) g.found (accepted.unbroken g.at)))
@@ -162,15 +259,15 @@ module _ (sound : IsSoundTable) (p : Program) (limits : HasLimits p) (paired : I
       none_there o x e h = cc
   faultless n s g f (inr e) =
       let same : e.0 ≡ g.here = same_Some _ _ (sym e.1 ∙ there n s g) in
-      no_fault sound p g.at g.row s limits g.fits g.slot g.memory e.0 (subst (λ x. AllNone (rules_of p g.row x)) (sym same) (rules_kept n s g)) f e.2.stands
+      no_fault sound p g.at g.row s limits (row_kinds sound p limits paired g.at g.row g.kinds) g.fits g.slot g.memory e.0 (subst (λ x. AllNone (rules_of p g.row x)) (sym same) (rules_kept n s g)) f e.2.stands
 
-  goes_on : (n : ℕ) (s : State) (g : Stands p n s) (t : State) → SomeEdge t.slot t.registers (edges_from (callee_in p.sigs g.here) g.at g.row g.here) → IsMemory p t.memory → Stands p (suc n) t
+  goes_on : (n : ℕ) (s : State) (g : Stands p n s) (t : State) → SomeEdge t.slot t.registers (edges_from p.profile (callee_in p.sigs g.here) g.at g.row g.here) → IsMemory p t.memory → Stands p (suc n) t
   goes_on n s g t e m =
-      let to = lead_any p g.at (edges_from (callee_in p.sigs g.here) g.at g.row g.here) t.slot t.registers (edges_lead (callee_in p.sigs g.here) p.code g.at g.here g.row accepted.formed (paired_starts p.code paired) g.found) e in
+      let to = lead_any p g.at (edges_from p.profile (callee_in p.sigs g.here) g.at g.row g.here) t.slot t.registers (edges_lead p.profile (callee_in p.sigs g.here) p.code g.at g.here g.row accepted.formed (paired_starts p.code paired) g.found) e in
       let k = to.0 in
       let l = to.2 in
       let within = slice_get_within p.code k l.to l.there in
-      let arrived = arrives sound p g.at k k g.here g.row t.registers l.above g.found g.kinds (subst (λ z. SomeEdge z t.registers (edges_from (callee_in p.sigs g.here) g.at g.row g.here)) to.1 e) in
+      let arrived = arrives sound p limits paired g.at k k g.here g.row t.registers l.above g.found g.kinds (subst (λ z. SomeEdge z t.registers (edges_from p.profile (callee_in p.sigs g.here) g.at g.row g.here)) to.1 e) in
       let next = stand_at p k (arrivals p (table p) k k) t.registers (table_at p k within) arrived in
       record {
         at = k;
@@ -190,7 +287,7 @@ module _ (sound : IsSoundTable) (p : Program) (limits : HasLimits p) (paired : I
       let same : d.0 ≡ g.here = same_Some _ _ (sym d.1 ∙ there n s g) in
       let row = subst (λ x. Row_of (calls_of p.sigs) x s t) same d.2.row in
       let to : (z : ℤ) → target_of g.at g.here ≡ Some z → (k : ℕ) × (z ≡ pos k) = λ z e. let l = target_leads p.code g.at g.here z accepted.formed g.found e in (l.0, l.1) in
-      let l = lands sound p g.at g.row s limits g.fits g.slot g.memory g.here t (paired.instructions g.at g.here g.found g.starts) to (rules_kept n s g) row in
+      let l = lands sound p g.at g.row s limits (row_kinds sound p limits paired g.at g.row g.kinds) g.fits g.slot g.memory g.here t (paired.instructions g.at g.here g.found g.starts) to (rules_kept n s g) row in
       goes_on n s g t l.0 l.1
 
   -- the state before the first slot
@@ -207,7 +304,7 @@ module _ (sound : IsSoundTable) (p : Program) (limits : HasLimits p) (paired : I
         starts = λ tail. paired.no_tail_first (first.1 ∙ ap Some tail);
         row = entry p;
         kinds = table_at p 0 some;
-        fits = (tt, tt, ((omega (arith, ints), omega (arith, ints)), omega arith, ((omega arith, h.within), omega (arith, h.within), ((omega (arith, ints), omega (arith, ints)), omega arith, ((omega arith, omega arith), omega arith, (tt, tt, (tt, tt, (tt, tt, (tt, tt, (tt, tt, ((omega (arith, ints), omega (arith, ints)), omega arith, tt)))))))))));
+        fits = (tt, tt, ((omega (arith, ints), omega (arith, ints)), omega arith, ((sound p.profile).range (up_to p.in_len) used (omega arith) (omega arith, h.within), omega (arith, h.within), ((omega (arith, ints), omega (arith, ints)), omega arith, ((sound p.profile).range (single p.out_len) p.out_len (omega arith) (omega arith, omega arith), omega arith, (tt, tt, (tt, tt, (tt, tt, (tt, tt, (tt, tt, ((omega (arith, ints), omega (arith, ints)), omega arith, tt)))))))))));
         memory = record { stack_length = length-replicate {A = ℕ} 512 0; input_length = h.whole; output_length = length-replicate {A = ℕ} p.out_len 0; stack_bytes = bytes_zero 512; input_bytes = h.bytes; output_bytes = bytes_zero p.out_len };
         steps = omega arith;
       }

@@ -4,6 +4,7 @@ use Rattle.std.specs.Prelude.{slice_get}
 use Rattle.std.proofs.lemmas.Bool.{cases_lt, cases_eq, cond-true, cond-false, eq-eqb, ne_eqb}
 use Rattle.std.proofs.lemmas.List.{length-replicate}
 use Rattle.std.proofs.lemmas.Option.{same_Some}
+use Rattle.ranges.specs.declared.profile.Profile.{Profile}
 use Rattle.verifier.specs.Program.{Program}
 use Rattle.verifier.specs.Registers.{Row, entry}
 use Rattle.verifier.specs.Rows.{row_at, push_one, pushed, Misses, IsPass}
@@ -40,8 +41,8 @@ at_rows p (suc n) m h =
 same_below : (p : Program) (rows rows' : List (Option Row)) (n k : ℕ) → ((m : ℕ) → m < n → slice_get rows m ≡ slice_get rows' m) → arrivals p rows n k ≡ arrivals p rows' n k
 same_below p rows rows' zero k h = refl
 same_below p rows rows' (suc n) k h =
-    ap (λ r. into k (edges_of p.sigs n (slice_get p.code n) r) (arrivals p rows n k)) (h n (omega arith))
-    ∙ ap (into k (edges_of p.sigs n (slice_get p.code n) (slice_get rows' n))) (same_below p rows rows' n k (λ m lt. h m (omega arith)))
+    ap (λ r. into p.profile k (edges_of p n (slice_get p.code n) r) (arrivals p rows n k)) (h n (omega arith))
+    ∙ ap (into p.profile k (edges_of p n (slice_get p.code n) (slice_get rows' n))) (same_below p rows rows' n k (λ m lt. h m (omega arith)))
 
 pub table_at : (p : Program) (k : ℕ) → k < length p.code → slice_get (table p) k ≡ Some (arrivals p (table p) k k)
 table_at p k h =
@@ -49,10 +50,10 @@ table_at p k h =
 
 -- ---- edges joined into rows
 
-get_set_same : (rows : List (Option Row)) (k : ℕ) (o : Option Row) (row : Row) → slice_get rows k ≡ Some o → slice_get (set rows k (joined (row_at rows k) row)) k ≡ Some (joined o row)
-get_set_same [] k o row e = cc
-get_set_same (r ∷ rows) zero o row e = ap (λ q. Some (joined q row)) (same_Some _ _ e)
-get_set_same (r ∷ rows) (suc k) o row e = get_set_same rows k o row e
+get_set_same : (profile : Profile) (rows : List (Option Row)) (k : ℕ) (o : Option Row) (row : Row) → slice_get rows k ≡ Some o → slice_get (set rows k (joined profile (row_at rows k) row)) k ≡ Some (joined profile o row)
+get_set_same profile [] k o row e = cc
+get_set_same profile (r ∷ rows) zero o row e = ap (λ q. Some (joined profile q row)) (same_Some _ _ e)
+get_set_same profile (r ∷ rows) (suc k) o row e = get_set_same profile rows k o row e
 
 get_set_other : (rows : List (Option Row)) (j k : ℕ) (q : Option Row) → k ≢ j → slice_get (set rows j q) k ≡ slice_get rows k
 get_set_other [] j k q ne = refl
@@ -61,20 +62,20 @@ get_set_other (r ∷ rows) zero (suc k) q ne = refl
 get_set_other (r ∷ rows) (suc j) zero q ne = refl
 get_set_other (r ∷ rows) (suc j) (suc k) q ne = get_set_other rows j k q (λ e. ne (ap suc e))
 
-one_edge : (rows : List (Option Row)) (x : Edge) (k : ℕ) (o : Option Row) → slice_get rows k ≡ Some o → slice_get (push_one rows x) k ≡ Some (cond (eqb x.0 k) (joined o x.1) o)
-one_edge rows x k o e =
+one_edge : (profile : Profile) (rows : List (Option Row)) (x : Edge) (k : ℕ) (o : Option Row) → slice_get rows k ≡ Some o → slice_get (push_one profile rows x) k ≡ Some (cond (eqb x.0 k) (joined profile o x.1) o)
+one_edge profile rows x k o e =
     ⊎_elim
-    (λ same. subst (λ n. slice_get (set rows n (joined (row_at rows n) x.1)) k ≡ Some (joined o x.1)) same (get_set_same rows k o x.1 e) ∙ ap Some (sym (cond-true (eqb x.0 k) (joined o x.1) o (eq-eqb x.0 k (sym same)))))
-    (λ ne. get_set_other rows x.0 k (joined (row_at rows x.0) x.1) ne ∙ e ∙ ap Some (sym (cond-false (eqb x.0 k) (joined o x.1) o (ne_eqb x.0 k (λ q. ne (sym q))))))
+    (λ same. subst (λ n. slice_get (set rows n (joined profile (row_at rows n) x.1)) k ≡ Some (joined profile o x.1)) same (get_set_same profile rows k o x.1 e) ∙ ap Some (sym (cond-true (eqb x.0 k) (joined profile o x.1) o (eq-eqb x.0 k (sym same)))))
+    (λ ne. get_set_other rows x.0 k (joined profile (row_at rows x.0) x.1) ne ∙ e ∙ ap Some (sym (cond-false (eqb x.0 k) (joined profile o x.1) o (ne_eqb x.0 k (λ q. ne (sym q))))))
     (cases_eq k x.0)
 
-all_edges : (rows : List (Option Row)) (es : List Edge) (k : ℕ) (o : Option Row) → slice_get rows k ≡ Some o → slice_get (pushed rows es) k ≡ Some (into k es o)
-all_edges rows [] k o e = e
-all_edges rows (x ∷ es) k o e = all_edges (push_one rows x) es k _ (one_edge rows x k o e)
+all_edges : (profile : Profile) (rows : List (Option Row)) (es : List Edge) (k : ℕ) (o : Option Row) → slice_get rows k ≡ Some o → slice_get (pushed profile rows es) k ≡ Some (into profile k es o)
+all_edges profile rows [] k o e = e
+all_edges profile rows (x ∷ es) k o e = all_edges profile (push_one profile rows x) es k _ (one_edge profile rows x k o e)
 
-length_pushed : (es : List Edge) (rows : List (Option Row)) → length (pushed rows es) ≡ length rows
-length_pushed [] rows = refl
-length_pushed (e ∷ es) rows = length_pushed es (push_one rows e) ∙ length-set rows e.0 _
+length_pushed : (profile : Profile) (es : List Edge) (rows : List (Option Row)) → length (pushed profile rows es) ≡ length rows
+length_pushed profile [] rows = refl
+length_pushed profile (e ∷ es) rows = length_pushed profile es (push_one profile rows e) ∙ length-set rows e.0 _
 
 -- ---- the pass
 
@@ -82,44 +83,44 @@ length_pushed (e ∷ es) rows = length_pushed es (push_one rows e) ∙ length-se
 pub row_here : (p : Program) (rows : List (Option Row)) (here : Option Row) (i : ℕ) → IsPass p rows here i → i < length p.code → slice_get (table p) i ≡ Some here
 row_here p rows here i h lt = table_at p i lt ∙ ap Some (sym h.here_is)
 
-missed : (k : ℕ) (es : List Edge) (o : Option Row) → Misses k es → into k es o ≡ o
-missed k [] o m = refl
-missed k (e ∷ es) o m = ap (into k es) (cond-false (eqb e.0 k) (joined o e.1) o (ne_eqb e.0 k m.0)) ∙ missed k es o m.1
+missed : (profile : Profile) (k : ℕ) (es : List Edge) (o : Option Row) → Misses k es → into profile k es o ≡ o
+missed profile k [] o m = refl
+missed profile k (e ∷ es) o m = ap (into profile k es) (cond-false (eqb e.0 k) (joined profile o e.1) o (ne_eqb e.0 k m.0)) ∙ missed profile k es o m.1
 
 -- one slot more
-module _ (p : Program) (rows : List (Option Row)) (here : Option Row) (i : ℕ) (es : List Edge) (h : IsPass p rows here i) (lt : i < length p.code) (is : es ≡ edges_of p.sigs i (slice_get p.code i) (slice_get (table p) i)) where
-  arrive : (k : ℕ) → into k es (arrivals p (table p) i k) ≡ arrivals p (table p) (i + 1) k
-  arrive k = let one : suc i ≡ i + 1 = omega arith in ap (λ xs. into k xs (arrivals p (table p) i k)) is ∙ ap (λ n. arrivals p (table p) n k) one
+module _ (p : Program) (rows : List (Option Row)) (here : Option Row) (i : ℕ) (es : List Edge) (h : IsPass p rows here i) (lt : i < length p.code) (is : es ≡ edges_of p i (slice_get p.code i) (slice_get (table p) i)) where
+  arrive : (k : ℕ) → into p.profile k es (arrivals p (table p) i k) ≡ arrivals p (table p) (i + 1) k
+  arrive k = let one : suc i ≡ i + 1 = omega arith in ap (λ xs. into p.profile k xs (arrivals p (table p) i k)) is ∙ ap (λ n. arrivals p (table p) n k) one
 
   -- with all its edges joined in
-  pub pass_all : (next : Option Row) → slice_get (pushed rows es) (i + 1) ≡ Some next → IsPass p (pushed rows es) next (i + 1)
+  pub pass_all : (next : Option Row) → slice_get (pushed p.profile rows es) (i + 1) ≡ Some next → IsPass p (pushed p.profile rows es) next (i + 1)
   pass_all next e =
-      let len = length_pushed es rows in
-      let there = all_edges rows es (i + 1) _ (h.rows_are (i + 1) (omega arith) (omega (arith, h.long, lt))) in
+      let len = length_pushed p.profile es rows in
+      let there = all_edges p.profile rows es (i + 1) _ (h.rows_are (i + 1) (omega arith) (omega (arith, h.long, lt))) in
       record {
         long = len ∙ h.long;
         here_is = same_Some _ _ (sym e ∙ there) ∙ arrive (i + 1);
-        rows_are = λ k above within. all_edges rows es k _ (h.rows_are k (omega arith) (omega (arith, len))) ∙ ap Some (arrive k);
+        rows_are = λ k above within. all_edges p.profile rows es k _ (h.rows_are k (omega arith) (omega (arith, len))) ∙ ap Some (arrive k);
       }
 
   -- where its row goes on as it stands
-  pub pass_alone : (row : Row) (fs : List Edge) → es ≡ (i + 1, row) ∷ fs → slice_get rows (i + 1) ≡ Some None → Misses (i + 1) fs → IsPass p (pushed rows fs) (Some row) (i + 1)
+  pub pass_alone : (row : Row) (fs : List Edge) → es ≡ (i + 1, row) ∷ fs → slice_get rows (i + 1) ≡ Some None → Misses (i + 1) fs → IsPass p (pushed p.profile rows fs) (Some row) (i + 1)
   pass_alone row fs e none m =
-      let len = length_pushed fs rows in
+      let len = length_pushed p.profile fs rows in
       let empty : arrivals p (table p) i (i + 1) ≡ None = same_Some _ _ (sym (h.rows_are (i + 1) (omega arith) (omega (arith, h.long, lt))) ∙ none) in
       record {
         long = len ∙ h.long;
         here_is =
             sym
             (sym (arrive (i + 1))
-            ∙ ap (λ xs. into (i + 1) xs (arrivals p (table p) i (i + 1))) e
-            ∙ ap (into (i + 1) ((i + 1, row) ∷ fs)) empty
-            ∙ ap (into (i + 1) fs) (cond-true (eqb (i + 1) (i + 1)) (Some row) None (eq-eqb (i + 1) (i + 1) refl))
-            ∙ missed (i + 1) fs (Some row) m);
+            ∙ ap (λ xs. into p.profile (i + 1) xs (arrivals p (table p) i (i + 1))) e
+            ∙ ap (into p.profile (i + 1) ((i + 1, row) ∷ fs)) empty
+            ∙ ap (into p.profile (i + 1) fs) (cond-true (eqb (i + 1) (i + 1)) (Some row) None (eq-eqb (i + 1) (i + 1) refl))
+            ∙ missed p.profile (i + 1) fs (Some row) m);
         rows_are = λ k above within.
-            all_edges rows fs k _ (h.rows_are k (omega arith) (omega (arith, len)))
-            ∙ ap (λ o. Some (into k fs o)) (sym (cond-false (eqb (i + 1) k) (joined (arrivals p (table p) i k) row) (arrivals p (table p) i k) (ne_eqb (i + 1) k (λ q. omega (arith, q)))))
-            ∙ ap (λ xs. Some (into k xs (arrivals p (table p) i k))) (sym e)
+            all_edges p.profile rows fs k _ (h.rows_are k (omega arith) (omega (arith, len)))
+            ∙ ap (λ o. Some (into p.profile k fs o)) (sym (cond-false (eqb (i + 1) k) (joined p.profile (arrivals p (table p) i k) row) (arrivals p (table p) i k) (ne_eqb (i + 1) k (λ q. omega (arith, q)))))
+            ∙ ap (λ xs. Some (into p.profile k xs (arrivals p (table p) i k))) (sym e)
             ∙ ap Some (arrive k);
       }
 

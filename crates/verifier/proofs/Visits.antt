@@ -12,7 +12,6 @@ use Rattle.insn.specs.declared.Insn.{Insn}
 use Rattle.bpfimage.specs.Form.{IsFormed}
 use Rattle.verifier.specs.Program.{Program}
 use Rattle.verifier.specs.Registers.{Row}
-use Rattle.helpers.specs.declared.sig.Entry.{Entry}
 use Rattle.helpers.specs.Calls.{Callee}
 use Rattle.bpfimage.specs.Form.{next_of, target_of}
 use Rattle.verifier.specs.Rules.{callee_in, broken_in, row_after, row_taken}
@@ -25,9 +24,9 @@ no_rule : (p : Program) (o : Option Insn) → broken_with p o (Some None) ≡ No
 no_rule p None = refl
 no_rule p (Some x) = refl
 
-no_edges : (sigs : List Entry) (i : ℕ) (o : Option Insn) → [] ≡ edges_of sigs i o (Some None)
-no_edges sigs i None = refl
-no_edges sigs i (Some x) = refl
+no_edges : (p : Program) (i : ℕ) (o : Option Insn) → [] ≡ edges_of p i o (Some None)
+no_edges p i None = refl
+no_edges p i (Some x) = refl
 
 module _ (p : Program) (rows : List (Option Row)) (i : ℕ) (within : i < length p.code) where
   -- a slot that no kinds reach
@@ -35,28 +34,28 @@ module _ (p : Program) (rows : List (Option Row)) (i : ℕ) (within : i < length
   none_unbroken pass = ap (broken_with p (slice_get p.code i)) (row_here p rows None i pass within) ∙ no_rule p (slice_get p.code i)
 
   pub none_pass : (next : Option Row) → IsPass p rows None i → slice_get rows (i + 1) ≡ Some next → IsPass p rows next (i + 1)
-  none_pass next pass e = pass_all p rows None i [] pass within (no_edges p.sigs i (slice_get p.code i) ∙ ap (edges_of p.sigs i (slice_get p.code i)) (sym (row_here p rows None i pass within))) next e
+  none_pass next pass e = pass_all p rows None i [] pass within (no_edges p i (slice_get p.code i) ∙ ap (edges_of p i (slice_get p.code i)) (sym (row_here p rows None i pass within))) next e
 
   -- a slot that some reach
   module _ (row : Row) (x : Insn) (pass : IsPass p rows (Some row) i) (at : slice_get p.code i ≡ Some x) where
     pub broken_here : broken_at p i ≡ broken_in p row x
     broken_here = ap (λ o. broken_with p o (slice_get (table p) i)) at ∙ ap (broken_with p (Some x)) (row_here p rows (Some row) i pass within)
 
-    edges_here : edges_from (callee_in p.sigs x) i row x ≡ edges_of p.sigs i (slice_get p.code i) (slice_get (table p) i)
-    edges_here = ap (λ r. edges_of p.sigs i (Some x) r) (sym (row_here p rows (Some row) i pass within)) ∙ ap (λ o. edges_of p.sigs i o (slice_get (table p) i)) (sym at)
+    edges_here : edges_from p.profile (callee_in p.sigs x) i row x ≡ edges_of p i (slice_get p.code i) (slice_get (table p) i)
+    edges_here = ap (λ r. edges_of p i (Some x) r) (sym (row_here p rows (Some row) i pass within)) ∙ ap (λ o. edges_of p i o (slice_get (table p) i)) (sym at)
 
     -- its edges, of which the first is that of the next slot
-    module _ (callee : Callee) (after : Row) (fs : List Edge) (called : callee ≡ callee_in p.sigs x) (goes : after ≡ row_after callee row x) (takes : fs ≡ target_edge (target_of i x) (row_taken row x)) where
-      edges_are : next_edge (next_of i x) after ++ fs ≡ edges_from (callee_in p.sigs x) i row x
-      edges_are = ap (λ r. next_edge (next_of i x) r ++ fs) goes ∙ ap (λ es. next_edge (next_of i x) (row_after callee row x) ++ es) takes ∙ ap (λ y. edges_from y i row x) called
+    module _ (callee : Callee) (after : Row) (fs : List Edge) (called : callee ≡ callee_in p.sigs x) (goes : after ≡ row_after p.profile callee row x) (takes : fs ≡ target_edge (target_of i x) (row_taken p.profile row x)) where
+      edges_are : next_edge (next_of i x) after ++ fs ≡ edges_from p.profile (callee_in p.sigs x) i row x
+      edges_are = ap (λ r. next_edge (next_of i x) r ++ fs) goes ∙ ap (λ es. next_edge (next_of i x) (row_after p.profile callee row x) ++ es) takes ∙ ap (λ y. edges_from p.profile y i row x) called
 
-      pub all_here : (rows' : List (Option Row)) (next : Option Row) → rows' ≡ pushed rows (next_edge (next_of i x) after ++ fs) → slice_get rows' (i + 1) ≡ Some next → IsPass p rows' next (i + 1)
+      pub all_here : (rows' : List (Option Row)) (next : Option Row) → rows' ≡ pushed p.profile rows (next_edge (next_of i x) after ++ fs) → slice_get rows' (i + 1) ≡ Some next → IsPass p rows' next (i + 1)
       all_here rows' next are e =
           let es = next_edge (next_of i x) after ++ fs in
           subst (λ xs. IsPass p xs next (i + 1)) (sym are)
           (pass_all p rows (Some row) i es pass within (edges_are ∙ edges_here) next (ap (λ xs. slice_get xs (i + 1)) (sym are) ∙ e))
 
-      pub alone_here : (rows' : List (Option Row)) → rows' ≡ pushed rows fs → next_of i x ≡ Some (i + 1) → slice_get rows (i + 1) ≡ Some None → Misses (i + 1) fs → IsPass p rows' (Some after) (i + 1)
+      pub alone_here : (rows' : List (Option Row)) → rows' ≡ pushed p.profile rows fs → next_of i x ≡ Some (i + 1) → slice_get rows (i + 1) ≡ Some None → Misses (i + 1) fs → IsPass p rows' (Some after) (i + 1)
       alone_here rows' are on none m =
           let es = next_edge (next_of i x) after ++ fs in
           subst (λ xs. IsPass p xs (Some after) (i + 1)) (sym are)

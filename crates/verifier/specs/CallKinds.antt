@@ -1,8 +1,11 @@
 -- What a call must be given, and what is known after it (this store's profile).
 use Rattle.std.specs.Prelude.{ℕ, pos, nat_le, Bool, true, false, not, ◌&&◌, if◌then◌else◌, Option, None, Some, List, [], ◌∷◌, take, drop}
 use Rattle.insn.specs.declared.Register.TheVariants.{R1, R2, R3}
+use Rattle.ranges.specs.Numbers.{range, single}
+use Rattle.ranges.specs.Transfer.{kind_in}
+use Rattle.ranges.specs.declared.profile.Profile.{Profile}
 use Rattle.ranges.specs.declared.kind.Kind.{Kind}
-use Rattle.ranges.specs.declared.kind.Kind.TheVariants.{Unset, Num}
+use Rattle.ranges.specs.declared.kind.Kind.TheVariants.{Unset, Dead, Num}
 use Rattle.memory.specs.Windows.{longest_window}
 use Rattle.helpers.specs.declared.sig.ArgRule.{ArgRule}
 use Rattle.helpers.specs.declared.sig.ArgRule.TheVariants as rule
@@ -20,11 +23,11 @@ callee_from called.Same = Same
 callee_from (called.Helper sig) = Helper sig
 callee_from called.Unknown = Unknown
 
--- ---- the arguments
+-- ---- the arguments: of what is Dead there is none, and it passes
 
 -- the greatest number of a kind that is known to be a number up to some limit
 abbrev pub number_up_to : ℕ → Kind → Option ℕ
-number_up_to limit (Num lo hi) = if nat_le hi limit then Some hi else None
+number_up_to limit (Num a) = if nat_le a.range.hi limit then Some a.range.hi else None
 number_up_to limit k = None
 
 -- whether all bytes from a pointer on lie in its window, where there are at most so many
@@ -34,14 +37,18 @@ has_bytes p k (Some n) = is_inside p k (pos 0) n
 
 -- whether a pointer and the kind of a length up to some limit name bytes of one window
 abbrev pub reaches : Program → ℕ → Kind → Kind → Bool
+reaches p limit Dead len = true
+reaches p limit k Dead = true
 reaches p limit k len = has_bytes p k (number_up_to limit len)
 
 abbrev pub is_number : Kind → Bool
-is_number (Num lo hi) = true
+is_number (Num a) = true
+is_number Dead = true
 is_number k = false
 
 abbrev pub is_within : ℕ → ℕ → Kind → Bool
-is_within lo hi (Num low high) = nat_le lo low && nat_le high hi
+is_within lo hi (Num a) = nat_le lo a.range.lo && nat_le a.range.hi hi
+is_within lo hi Dead = true
 is_within lo hi k = false
 
 abbrev pub first_kind : List Kind → Kind
@@ -85,12 +92,12 @@ is_unknown other = false
 
 -- ---- after a call: R0 holds the answer, and R1 to R5 are unset
 
-abbrev pub answer_kind : Callee → Kind
-answer_kind Copy = Num 0 0
-answer_kind Fill = Num 0 0
-answer_kind Same = Num 0 1
-answer_kind (Helper sig) = Num sig.lo sig.hi
-answer_kind Unknown = Unset
+abbrev pub answer_kind : Profile → Callee → Kind
+answer_kind profile Copy = kind_in profile (single 0)
+answer_kind profile Fill = kind_in profile (single 0)
+answer_kind profile Same = kind_in profile (range 0 1)
+answer_kind profile (Helper sig) = kind_in profile (range sig.lo sig.hi)
+answer_kind profile Unknown = Unset
 
-abbrev pub row_after_call : Callee → Row → Row
-row_after_call callee row = answer_kind callee ∷ Unset ∷ Unset ∷ Unset ∷ Unset ∷ Unset ∷ drop 6 row
+abbrev pub row_after_call : Profile → Callee → Row → Row
+row_after_call profile callee row = answer_kind profile callee ∷ Unset ∷ Unset ∷ Unset ∷ Unset ∷ Unset ∷ drop 6 row

@@ -7,8 +7,11 @@ use Rattle.insn.specs.declared.Operand.{Operand}
 use Rattle.insn.specs.declared.Operand.TheVariants as operand
 use Rattle.memory.specs.declared.Region.{Region}
 use Rattle.memory.specs.declared.Region.TheVariants.{Stack, Input, Output}
+use Rattle.ranges.specs.Numbers.{single, up_to}
+use Rattle.ranges.specs.Transfer.{kind_in}
+use Rattle.ranges.specs.declared.profile.Profile.{Profile}
 use Rattle.ranges.specs.declared.kind.Kind.{Kind}
-use Rattle.ranges.specs.declared.kind.Kind.TheVariants.{Unset, Num, Ptr}
+use Rattle.ranges.specs.declared.kind.Kind.TheVariants.{Unset, Ptr}
 use Rattle.verifier.specs.Program.{Program}
 
 -- the kinds of R0 to R10
@@ -21,18 +24,18 @@ kind_at row r = slice_index_or row (number r) Unset
 abbrev pub with_kind : Row → Register → Kind → Row
 with_kind row r k = slice_set row (number r) k
 
-abbrev pub one_number : ℕ → Kind
-one_number n = Num n n
+abbrev pub one_number : Profile → ℕ → Kind
+one_number profile n = kind_in profile (single n)
 
 -- the kind of an operand: an immediate is one number, with its sign extended
-abbrev pub kind_from : Row → Operand → Kind
-kind_from row (operand.Register r) = kind_at row r
-kind_from row (operand.Immediate n) = one_number (wrapped 64 n)
+abbrev pub kind_from : Profile → Row → Operand → Kind
+kind_from profile row (operand.Register r) = kind_at row r
+kind_from profile row (operand.Immediate n) = one_number profile (wrapped 64 n)
 
 -- the kinds before the first slot: R1 the input, R2 its used length, R3 the output, R4 its length, R10 the stack's end
 abbrev pub entry : Program → Row
 entry p =
-    Unset ∷ Ptr Input (pos 0) (pos 0) ∷ Num 0 p.in_len ∷ Ptr Output (pos 0) (pos 0) ∷ one_number p.out_len ∷ Unset ∷ Unset ∷ Unset ∷ Unset ∷ Unset ∷ Ptr Stack (pos 0) (pos 0) ∷ []
+    Unset ∷ Ptr Input (pos 0) (pos 0) ∷ kind_in p.profile (up_to p.in_len) ∷ Ptr Output (pos 0) (pos 0) ∷ one_number p.profile p.out_len ∷ Unset ∷ Unset ∷ Unset ∷ Unset ∷ Unset ∷ Ptr Stack (pos 0) (pos 0) ∷ []
 
 abbrev pub is_unset : Kind → Bool
 is_unset Unset = true

@@ -1,5 +1,6 @@
 -- A list of rows with edges joined in.
 use Rattle.std.specs.Prelude.{◌≡◌, ◌≢◌, ℕ, zero, suc, ◌+◌, ◌<◌, List, [], ◌∷◌, Option, Some, None, length, slice_get, slice_set}
+use Rattle.ranges.specs.declared.profile.Profile.{Profile}
 use Rattle.verifier.specs.Program.{Program}
 use Rattle.verifier.specs.Registers.{Row}
 use Rattle.verifier.specs.Table.{Edge, joined, arrivals, table, AreKinds}
@@ -9,13 +10,13 @@ row_at [] k = None
 row_at (r ∷ rows) zero = r
 row_at (r ∷ rows) (suc k) = row_at rows k
 
-abbrev pub push_one : List (Option Row) → Edge → List (Option Row)
-push_one rows e = slice_set rows e.0 (joined (row_at rows e.0) e.1)
+abbrev pub push_one : Profile → List (Option Row) → Edge → List (Option Row)
+push_one profile rows e = slice_set rows e.0 (joined profile (row_at rows e.0) e.1)
 
 -- the edges of a list, one after the other
-abbrev pub pushed : List (Option Row) → List Edge → List (Option Row)
-pushed rows [] = rows
-pushed rows (e ∷ es) = pushed (push_one rows e) es
+abbrev pub pushed : Profile → List (Option Row) → List Edge → List (Option Row)
+pushed profile rows [] = rows
+pushed profile rows (e ∷ es) = pushed profile (push_one profile rows e) es
 
 -- the edge of a jump, if there is one: where it leads, and the kinds that it brings there
 abbrev pub edge_list : Option ℕ → Row → List Edge

@@ -14,9 +14,11 @@ use Rattle.insn.specs.declared.Extend.TheVariants.{Zero, Sign}
 use Rattle.insn.specs.declared.Insn.{Insn}
 use Rattle.insn.specs.declared.Insn.TheVariants as insn
 use Rattle.memory.specs.State.{no_calls, reads, writes}
-use Rattle.ranges.specs.Transfer.{transfer_of, swap_of, refine_of}
+use Rattle.ranges.specs.Numbers.{full}
+use Rattle.ranges.specs.Transfer.{kind_in, transfer_of, swap_of, refine_of}
+use Rattle.ranges.specs.declared.profile.Profile.{Profile}
 use Rattle.ranges.specs.declared.kind.Kind.{Kind}
-use Rattle.ranges.specs.declared.kind.Kind.TheVariants.{Unset, Num}
+use Rattle.ranges.specs.declared.kind.Kind.TheVariants.{Unset, Dead}
 use Rattle.ranges.specs.declared.kind.Bad.{Bad}
 use Rattle.ranges.specs.declared.kind.Bad.TheVariants.{V22, V23}
 use Rattle.helpers.specs.declared.sig.Entry.{Entry}
@@ -47,22 +49,28 @@ bad_result (Ok k) = None
 bad_result (Err V22) = Some PointerOperand
 bad_result (Err V23) = Some FarOffset
 
+-- whether a condition has a pointer as an operand: beside what is Dead none counts
+abbrev pub compares_pointer : Kind → Kind → Bool
+compares_pointer Dead k = false
+compares_pointer j Dead = false
+compares_pointer j k = is_pointer j || is_pointer k
+
 -- the rules on a call, each where it is broken, the lowest number first
 abbrev pub call_rules : Program → Callee → Row → List (Option KindRule)
 call_rules p callee row = broken_if (is_unknown callee) UnknownHelper ∷ broken_if (not (is_given p callee row)) ArgumentRule ∷ []
 
 -- the rules on an instruction of each class, each where it is broken, the lowest number first
 abbrev pub class_rules : Program → Callee → Row → Insn → List (Option KindRule)
-class_rules p callee row (insn.Alu op width dst src) = bad_result (transfer_of op width (kind_at row dst) (kind_from row src)) ∷ []
-class_rules p callee row (insn.Swap kind n dst) = bad_result (swap_of kind n (kind_at row dst)) ∷ []
+class_rules p callee row (insn.Alu op width dst src) = bad_result (transfer_of p.profile op width (kind_at row dst) (kind_from p.profile row src)) ∷ []
+class_rules p callee row (insn.Swap kind n dst) = bad_result (swap_of p.profile kind n (kind_at row dst)) ∷ []
 class_rules p callee row (insn.Load size extend dst base offset) = broken_if (not (is_inside p (kind_at row base) offset (size_bytes size))) OutsideWindow ∷ []
 class_rules p callee row (insn.Store size base offset src) =
     broken_if (not (is_inside p (kind_at row base) offset (size_bytes size))) OutsideWindow
     ∷ broken_if (is_input_pointer (kind_at row base)) InputStored
-    ∷ broken_if (is_pointer (kind_from row src)) PointerStored
+    ∷ broken_if (is_pointer (kind_from p.profile row src)) PointerStored
     ∷ []
 class_rules p callee row (insn.JumpIf c width left right offset) =
-    broken_if (is_pointer (kind_at row left) || is_pointer (kind_from row right)) PointerOperand ∷ []
+    broken_if (compares_pointer (kind_at row left) (kind_from p.profile row right)) PointerOperand ∷ []
 class_rules p callee row (insn.Call helper) = call_rules p callee row
 class_rules p callee row insn.Exit = broken_if (is_pointer (kind_at row R0)) PointerAnswer ∷ []
 class_rules p callee row other = []
@@ -97,28 +105,28 @@ result_kind (Ok k) = k
 result_kind (Err e) = Unset
 
 -- the numbers that a load gives
-abbrev pub loaded : Size → Extend → Kind
-loaded size Zero = Num 0 (2 ^ (8 * size_bytes size) - 1)
-loaded size Sign = Num 0 (2 ^ 64 - 1)
+abbrev pub loaded : Profile → Size → Extend → Kind
+loaded profile size Zero = kind_in profile (full (8 * size_bytes size))
+loaded profile size Sign = kind_in profile (full 64)
 
 -- the kinds after a jump on a condition, taken or not; one register on both sides tells nothing
-abbrev pub refined : Cond → Width → Register → Operand → Bool → Row → Row
-refined c width left (operand.Register right) taken row =
-    let k = refine_of c width (kind_at row left) (kind_at row right) taken in
+abbrev pub refined : Profile → Cond → Width → Register → Operand → Bool → Row → Row
+refined profile c width left (operand.Register right) taken row =
+    let k = refine_of profile c width (kind_at row left) (kind_at row right) taken in
     if number left == number right then row else with_kind (with_kind row left k.0) right k.1
-refined c width left (operand.Immediate n) taken row =
-    with_kind row left (refine_of c width (kind_at row left) (one_number (wrapped 64 n % 2 ^ bits width)) taken).0
+refined profile c width left (operand.Immediate n) taken row =
+    with_kind row left (refine_of profile c width (kind_at row left) (one_number profile (wrapped 64 n % 2 ^ bits width)) taken).0
 
 -- the kinds where an instruction goes on to the next slot, and where its jump is taken
-abbrev pub row_after : Callee → Row → Insn → Row
-row_after callee row (insn.Alu op width dst src) = with_kind row dst (result_kind (transfer_of op width (kind_at row dst) (kind_from row src)))
-row_after callee row (insn.Swap kind n dst) = with_kind row dst (result_kind (swap_of kind n (kind_at row dst)))
-row_after callee row (insn.Load size extend dst base offset) = with_kind row dst (loaded size extend)
-row_after callee row (insn.JumpIf c width left right offset) = refined c width left right false row
-row_after callee row (insn.Call helper) = row_after_call callee row
-row_after callee row (insn.Wide dst n) = with_kind row dst (one_number n)
-row_after callee row other = row
+abbrev pub row_after : Profile → Callee → Row → Insn → Row
+row_after profile callee row (insn.Alu op width dst src) = with_kind row dst (result_kind (transfer_of profile op width (kind_at row dst) (kind_from profile row src)))
+row_after profile callee row (insn.Swap kind n dst) = with_kind row dst (result_kind (swap_of profile kind n (kind_at row dst)))
+row_after profile callee row (insn.Load size extend dst base offset) = with_kind row dst (loaded profile size extend)
+row_after profile callee row (insn.JumpIf c width left right offset) = refined profile c width left right false row
+row_after profile callee row (insn.Call helper) = row_after_call profile callee row
+row_after profile callee row (insn.Wide dst n) = with_kind row dst (one_number profile n)
+row_after profile callee row other = row
 
-abbrev pub row_taken : Row → Insn → Row
-row_taken row (insn.JumpIf c width left right offset) = refined c width left right true row
-row_taken row other = row
+abbrev pub row_taken : Profile → Row → Insn → Row
+row_taken profile row (insn.JumpIf c width left right offset) = refined profile c width left right true row
+row_taken profile row other = row

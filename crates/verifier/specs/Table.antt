@@ -4,10 +4,10 @@ use Rattle.insn.specs.declared.Insn.{Insn}
 use Rattle.bpfimage.specs.Form.{next_of, target_of, IsFormed}
 use Rattle.ranges.specs.Kinds.{IsKind}
 use Rattle.ranges.specs.Transfer.{join_of}
+use Rattle.ranges.specs.declared.profile.Profile.{Profile}
 use Rattle.ranges.specs.declared.kind.Kind.TheVariants.{Unset}
 use Rattle.verifier.specs.Program.{Program}
 use Rattle.verifier.specs.Registers.{Row, entry}
-use Rattle.helpers.specs.declared.sig.Entry.{Entry}
 use Rattle.helpers.specs.Calls.{Callee}
 use Rattle.verifier.specs.Rules.{callee_in, row_after, row_taken, broken_in}
 use Rattle.verifier.specs.declared.rule.KindRule.{KindRule}
@@ -28,36 +28,37 @@ target_edge (Some (pos k)) row = (k, row) ∷ []
 target_edge (Some (negsuc k)) row = []
 
 -- the edges of an instruction at slot i, with what it calls, which a row of kinds reaches: to the next slot, and to the target of its jump
-abbrev pub edges_from : Callee → ℕ → Row → Insn → List Edge
-edges_from callee i row x = next_edge (next_of i x) (row_after callee row x) ++ target_edge (target_of i x) (row_taken row x)
+abbrev pub edges_from : Profile → Callee → ℕ → Row → Insn → List Edge
+edges_from profile callee i row x =
+    next_edge (next_of i x) (row_after profile callee row x) ++ target_edge (target_of i x) (row_taken profile row x)
 
 -- ---- joins
 
-abbrev pub join_rows : Row → Row → Row
-join_rows [] ys = []
-join_rows (x ∷ xs) [] = []
-join_rows (x ∷ xs) (y ∷ ys) = join_of x y ∷ join_rows xs ys
+abbrev pub join_rows : Profile → Row → Row → Row
+join_rows profile [] ys = []
+join_rows profile (x ∷ xs) [] = []
+join_rows profile (x ∷ xs) (y ∷ ys) = join_of profile x y ∷ join_rows profile xs ys
 
-abbrev pub joined : Option Row → Row → Option Row
-joined None row = Some row
-joined (Some old) row = Some (join_rows old row)
+abbrev pub joined : Profile → Option Row → Row → Option Row
+joined profile None row = Some row
+joined profile (Some old) row = Some (join_rows profile old row)
 
 -- the edges of a list that lead to slot k, joined to what came before
-abbrev pub into : ℕ → List Edge → Option Row → Option Row
-into k [] before = before
-into k (e ∷ es) before = into k es (if e.0 == k then joined before e.1 else before)
+abbrev pub into : Profile → ℕ → List Edge → Option Row → Option Row
+into profile k [] before = before
+into profile k (e ∷ es) before = into profile k es (if e.0 == k then joined profile before e.1 else before)
 
 -- ---- the table
 
 -- the edges of slot i, if some row of kinds reaches it
-abbrev pub edges_of : List Entry → ℕ → Option Insn → Option (Option Row) → List Edge
-edges_of sigs i (Some x) (Some (Some row)) = edges_from (callee_in sigs x) i row x
-edges_of sigs i x row = []
+abbrev pub edges_of : Program → ℕ → Option Insn → Option (Option Row) → List Edge
+edges_of p i (Some x) (Some (Some row)) = edges_from p.profile (callee_in p.sigs x) i row x
+edges_of p i x row = []
 
 -- the join over all edges into slot k from the first n slots of a table; slot 0 has the entry too
 abbrev pub arrivals : Program → List (Option Row) → ℕ → ℕ → Option Row
 arrivals p rows zero k = if k == 0 then Some (entry p) else None
-arrivals p rows (suc n) k = into k (edges_of p.sigs n (slice_get p.code n) (slice_get rows n)) (arrivals p rows n k)
+arrivals p rows (suc n) k = into p.profile k (edges_of p n (slice_get p.code n) (slice_get rows n)) (arrivals p rows n k)
 
 -- the rows of the first n slots: each is the join over all edges into its slot, which come from lower ones
 abbrev pub rows_before : Program → ℕ → List (Option Row)

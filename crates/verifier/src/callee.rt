@@ -15,7 +15,7 @@ use crate::windows::is_inside;
 use helpers::{ARGUMENT_REGISTERS, ArgRule, Sig, Sigs};
 use insn::{Insn, Register};
 use memory::{MAX_WINDOW, Region};
-use ranges::Kind;
+use ranges::{Kind, Profile, Range, kind_in};
 
 /// What a call's number stands for.
 #[derive(Clone, Copy)]
@@ -93,8 +93,9 @@ fn reaches(program: &Candidate, limit: u32, address: Kind, len: Kind) -> bool
     requires { IsKind address }
     ensures { result ≡ reaches (program_in program.now) limit address len }
 {
-    match len {
-        Kind::Num { hi, .. } if hi <= u64::from(limit) => is_inside(program, address, 0, hi as u32),
+    match (address, len) {
+        (Kind::Dead, _) | (_, Kind::Dead) => true,
+        (_, Kind::Num(n)) if n.range.hi <= u64::from(limit) => is_inside(program, address, 0, n.range.hi as u32),
         _ => false,
     }
 }
@@ -104,7 +105,8 @@ fn is_within(lo: u64, hi: u64, kind: Kind) -> bool
     ensures { result ≡ is_within lo hi kind }
 {
     match kind {
-        Kind::Num { lo: low, hi: high } => lo <= low && high <= hi,
+        Kind::Num(n) => lo <= n.range.lo && n.range.hi <= hi,
+        Kind::Dead => true,
         _ => false,
     }
 }
@@ -180,7 +182,7 @@ pub fn is_given(program: &Candidate, callee: &Called, row: &Row) -> bool
     let second = kind_of(row, Register::R2);
     match callee {
         Called::Copy => is_written(program, row, first) && is_read(program, row, second),
-        Called::Fill => is_written(program, row, first) && matches!(second, Kind::Num { .. }),
+        Called::Fill => is_written(program, row, first) && matches!(second, Kind::Num(_) | Kind::Dead),
         Called::Same => is_read(program, row, first) && is_read(program, row, second),
         Called::Helper(sig) => are_arguments(program, &sig.args, &row[1..6]),
         Called::Unknown => false,
@@ -188,28 +190,28 @@ pub fn is_given(program: &Candidate, callee: &Called, row: &Row) -> bool
 }
 
 /// What a call answers.
-fn answer_kind(callee: &Called) -> Kind
-    ensures table { result ≡ answer_kind (callee_from callee.now) }
+fn answer_kind(profile: Profile, callee: &Called) -> Kind
+    ensures table { result ≡ answer_kind profile (callee_from callee.now) }
     ensures kind { IsKind result }
 {
     match callee {
-        Called::Copy | Called::Fill => Kind::Num { lo: 0, hi: 0 },
-        Called::Same => Kind::Num { lo: 0, hi: 1 },
-        Called::Helper(sig) => Kind::Num {
+        Called::Copy | Called::Fill => kind_in(profile, Range::single(0)),
+        Called::Same => kind_in(profile, Range::up_to(1)),
+        Called::Helper(sig) => kind_in(profile, Range {
             lo: sig.lo,
             hi: sig.hi,
-        },
+        }),
         Called::Unknown => Kind::Unset,
     }
 }
 
 /// The kinds after a call.
-pub fn row_after_call(row: &Row, callee: &Called) -> Row
-    ensures table { result ≡ row_after_call (callee_from callee.now) row.now }
+pub fn row_after_call(profile: Profile, row: &Row, callee: &Called) -> Row
+    ensures table { result ≡ row_after_call profile (callee_from callee.now) row.now }
     ensures kinds { AreKinds row.now → AreKinds result }
 {
     [
-        answer_kind(callee),
+        answer_kind(profile, callee),
         Kind::Unset,
         Kind::Unset,
         Kind::Unset,

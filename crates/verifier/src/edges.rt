@@ -9,52 +9,62 @@ ghost use Rattle.verifier.specs.Rows.{push_one, pushed, edge_list, LeadBelow, Ha
 use crate::kinds::{Row, write_taken};
 use bpfimage::form::{next_of, target_of};
 use insn::Insn;
-use ranges::join;
+use ranges::{Profile, join};
 
 /// Joins a row into one that was there before.
-fn join_row(kept: &mut Row, new: &Row)
-    ensures table { kept.new ≡ join_rows kept.old new.now }
-    ensures kinds { AreKinds kept.old → AreKinds new.now → AreKinds kept.new }
+fn join_row(profile: Profile, kept: &mut Row, new: &Row)
+    requires old { AreKinds kept.old }
+    requires kinds { AreKinds new.now }
+    ensures table { kept.new ≡ join_rows profile kept.old new.now }
+    ensures kinds { AreKinds kept.new }
 {
     for i in 0..11 {
-        kept[i] = join(kept[i], new[i]);
+        kept[i] = join(profile, kept[i], new[i]);
     }
 }
 
 /// Joins an edge's kinds into what was there before, if anything was.
-fn join_edge(kept: &mut Option<Row>, row: &Row)
-    ensures row { kept.new ≡ joined kept.old row.now }
-    ensures kinds { HasKinds kept.old → AreKinds row.now → HasKinds kept.new }
+fn join_edge(profile: Profile, kept: &mut Option<Row>, row: &Row)
+    requires old { HasKinds kept.old }
+    requires kinds { AreKinds row.now }
+    ensures row { kept.new ≡ joined profile kept.old row.now }
+    ensures kinds { HasKinds kept.new }
 {
     match kept {
-        Some(kept) => join_row(kept, row),
+        Some(kept) => join_row(profile, kept, row),
         None => *kept = Some(*row),
     }
 }
 
 /// Joins an edge's kinds into its target's row.
-fn push_edge(rows: &mut Vec<Option<Row>>, to: usize, row: &Row)
+fn push_edge(profile: Profile, rows: &mut Vec<Option<Row>>, to: usize, row: &Row)
     requires within { to < vec_len rows.old }
     requires kinds { AreKinds row.now }
     requires old { AreRowKinds rows.old.items }
-    ensures items { rows.new.items ≡ push_one rows.old.items (to, row.now) }
+    ensures items { rows.new.items ≡ push_one profile rows.old.items (to, row.now) }
     ensures len { vec_len rows.new ≡ vec_len rows.old }
     ensures kinds { AreRowKinds rows.new.items }
 {
-    join_edge(&mut rows[to], row);
+    join_edge(profile, &mut rows[to], row);
 }
 
 /// The edge of a jump: where it leads. The kinds that it brings there are written over a row.
-pub fn taken_edge(at: usize, row: &Row, insn: Insn, taken: &mut Row) -> Option<usize>
+pub fn taken_edge(
+    profile: Profile,
+    at: usize,
+    row: &Row,
+    insn: Insn,
+    taken: &mut Row,
+) -> Option<usize>
     requires small { at < 4096 }
     requires ahead { (z : ℤ) → target_of at insn ≡ Some z → (k : ℕ) × (z ≡ pos k) }
     requires kinds { AreKinds row.now }
-    ensures edge { edge_list result taken.new ≡ target_edge (target_of at insn) (row_taken row.now insn) }
+    ensures edge { edge_list result taken.new ≡ target_edge (target_of at insn) (row_taken profile row.now insn) }
     ensures kinds { HaveKinds (edge_list result taken.new) }
 {
     match target_of(at, insn) {
         Some(target) => {
-            write_taken(row, insn, taken);
+            write_taken(profile, row, insn, taken);
             Some(target as usize)
         }
         None => None,
@@ -62,22 +72,23 @@ pub fn taken_edge(at: usize, row: &Row, insn: Insn, taken: &mut Row) -> Option<u
 }
 
 /// Joins a jump's edge, if there is one, into its target's row.
-fn push_taken(rows: &mut Vec<Option<Row>>, target: Option<usize>, taken: &Row)
+fn push_taken(profile: Profile, rows: &mut Vec<Option<Row>>, target: Option<usize>, taken: &Row)
     requires within { LeadBelow (vec_len rows.old) (edge_list target taken.now) }
     requires kinds { HaveKinds (edge_list target taken.now) }
     requires old { AreRowKinds rows.old.items }
-    ensures items { rows.new.items ≡ pushed rows.old.items (edge_list target taken.now) }
+    ensures items { rows.new.items ≡ pushed profile rows.old.items (edge_list target taken.now) }
     ensures len { vec_len rows.new ≡ vec_len rows.old }
     ensures kinds { AreRowKinds rows.new.items }
 {
     if let Some(target) = target {
-        push_edge(rows, target, taken);
+        push_edge(profile, rows, target, taken);
     }
 }
 
 /// Joins an instruction's edges into the rows of their targets: that of its jump, and that of its own row after it. Where this
 /// row is all that reaches the next slot, its edge is left out, and the answer is true: the row goes on as it stands.
 pub fn lead_on(
+    profile: Profile,
     rows: &mut Vec<Option<Row>>,
     at: usize,
     row: &Row,
@@ -92,19 +103,19 @@ pub fn lead_on(
     requires taken_kinds { HaveKinds (edge_list target taken.now) }
     requires old { AreRowKinds rows.old.items }
     ensures alone { result ≡ true → next_of at insn ≡ Some (at + 1) × slice_get rows.old.items (at + 1) ≡ Some None × Misses (at + 1) (edge_list target taken.now) }
-    ensures rest { result ≡ true → rows.new.items ≡ pushed rows.old.items (edge_list target taken.now) }
-    ensures all { result ≡ false → rows.new.items ≡ pushed rows.old.items (next_edge (next_of at insn) row.now ++ edge_list target taken.now) }
+    ensures rest { result ≡ true → rows.new.items ≡ pushed profile rows.old.items (edge_list target taken.now) }
+    ensures all { result ≡ false → rows.new.items ≡ pushed profile rows.old.items (next_edge (next_of at insn) row.now ++ edge_list target taken.now) }
     ensures len { vec_len rows.new ≡ vec_len rows.old }
     ensures kinds { AreRowKinds rows.new.items }
 {
     let next = next_of(at, insn);
     if next == Some(at + 1) && rows[at + 1].is_none() && target != Some(at + 1) {
-        push_taken(rows, target, taken);
+        push_taken(profile, rows, target, taken);
         return true;
     }
     if let Some(next) = next {
-        push_edge(rows, next, row);
+        push_edge(profile, rows, next, row);
     }
-    push_taken(rows, target, taken);
+    push_taken(profile, rows, target, taken);
     false
 }

@@ -4,13 +4,13 @@ ghost use Rattle.std.specs.Prelude.{◌≡◌, ◌%◌, ◌^◌};
 ghost use Rattle.alu.specs.Value.{bits, wrapped};
 ghost use Rattle.insn.specs.Encoding.{size_bytes};
 ghost use Rattle.ranges.specs.Kinds.{IsKind};
-ghost use Rattle.verifier.specs.Registers.{kind_at, with_kind, kind_from};
+ghost use Rattle.verifier.specs.Registers.{kind_at, with_kind, one_number, kind_from};
 ghost use Rattle.verifier.specs.Rules.{loaded, refined, row_taken};
 ghost use Rattle.verifier.specs.Table.{AreKinds};
 
 use alu::{Cond, Width};
 use insn::{Extend, Insn, Operand, Register, Size};
-use ranges::{Kind, refine};
+use ranges::{Kind, Profile, Range, kind_in, refine};
 
 /// The kinds of R0 to R10.
 pub type Row = [Kind; 11];
@@ -24,20 +24,21 @@ pub fn kind_of(row: &Row, register: Register) -> Kind
 }
 
 /// The kind of one number.
-pub fn one_number(n: u64) -> Kind
-    ensures { result ≡ Kind.Num n n }
+pub fn one_number(profile: Profile, n: u64) -> Kind
+    ensures table { result ≡ one_number profile n }
+    ensures kind { IsKind result }
 {
-    Kind::Num { lo: n, hi: n }
+    kind_in(profile, Range::single(n))
 }
 
 /// The kind of an operand.
-pub fn kind_of_operand(row: &Row, operand: Operand) -> Kind
-    ensures table { result ≡ kind_from row.now operand }
+pub fn kind_of_operand(profile: Profile, row: &Row, operand: Operand) -> Kind
+    ensures table { result ≡ kind_from profile row.now operand }
     ensures kind { AreKinds row.now → IsKind result }
 {
     match operand {
         Operand::Register(register) => kind_of(row, register),
-        Operand::Immediate(n) => one_number(i64::from(n).cast_unsigned()),
+        Operand::Immediate(n) => one_number(profile, i64::from(n).cast_unsigned()),
     }
 }
 
@@ -50,8 +51,8 @@ pub fn set_kind(row: &mut Row, register: Register, kind: Kind)
 }
 
 /// What a load gives.
-pub fn loaded(size: Size, extend: Extend) -> Kind
-    ensures table { result ≡ loaded size extend }
+pub fn loaded(profile: Profile, size: Size, extend: Extend) -> Kind
+    ensures table { result ≡ loaded profile size extend }
     ensures kind { IsKind result }
 {
     let hi = match (extend, size) {
@@ -60,7 +61,7 @@ pub fn loaded(size: Size, extend: Extend) -> Kind
         (Extend::Zero, Size::Word) => 0xffff_ffff,
         _ => u64::MAX,
     };
-    Kind::Num { lo: 0, hi }
+    kind_in(profile, Range::up_to(hi))
 }
 
 /// The bits of an immediate that a comparison reads.
@@ -76,6 +77,7 @@ fn compared(width: Width, n: i32) -> u64
 
 /// Narrows the kinds by a condition: of a jump that is taken, or of one that is not.
 pub fn refine_row(
+    profile: Profile,
     cond: Cond,
     width: Width,
     left: Register,
@@ -84,29 +86,30 @@ pub fn refine_row(
     row: &mut Row,
 )
     requires { AreKinds row.old }
-    ensures table { row.new ≡ refined cond width left right taken row.old }
+    ensures table { row.new ≡ refined profile cond width left right taken row.old }
     ensures kinds { AreKinds row.new }
 {
     let a = kind_of(row, left);
     match right {
         Operand::Register(right) => {
             if left.number() != right.number() {
-                let (first, second) = refine(cond, width, a, kind_of(row, right), taken);
+                let (first, second) = refine(profile, cond, width, a, kind_of(row, right), taken);
                 set_kind(row, left, first);
                 set_kind(row, right, second);
             }
         }
         Operand::Immediate(n) => {
-            let (first, _) = refine(cond, width, a, one_number(compared(width, n)), taken);
+            let b = one_number(profile, compared(width, n));
+            let (first, _) = refine(profile, cond, width, a, b, taken);
             set_kind(row, left, first);
         }
     }
 }
 
 /// Writes the kinds where a jump is taken.
-pub fn write_taken(row: &Row, insn: Insn, taken: &mut Row)
+pub fn write_taken(profile: Profile, row: &Row, insn: Insn, taken: &mut Row)
     requires { AreKinds row.now }
-    ensures table { taken.new ≡ row_taken row.now insn }
+    ensures table { taken.new ≡ row_taken profile row.now insn }
     ensures kinds { AreKinds taken.new }
 {
     *taken = *row;
@@ -118,6 +121,6 @@ pub fn write_taken(row: &Row, insn: Insn, taken: &mut Row)
         ..
     } = insn
     {
-        refine_row(cond, width, left, right, true, taken);
+        refine_row(profile, cond, width, left, right, true, taken);
     }
 }

@@ -7,9 +7,9 @@ ghost use Rattle.memory.specs.State.{writes, operand_reads};
 ghost use Rattle.helpers.specs.Calls.{Unknown};
 ghost use Rattle.ranges.specs.Kinds.{IsKind};
 ghost use Rattle.verifier.specs.Candidates.{program_in};
-ghost use Rattle.verifier.specs.Registers.{kind_at, with_kind, kind_from, is_unset, is_pointer, any_unset, is_inside};
+ghost use Rattle.verifier.specs.Registers.{kind_at, with_kind, kind_from, is_unset, any_unset, is_inside};
 ghost use Rattle.verifier.specs.CallKinds.{callee_from, row_after_call};
-ghost use Rattle.verifier.specs.Rules.{is_frame, bad_result, result_kind, broken_if, first_of, reads_by, call_rules, class_rules, rules_by, loaded, refined, row_after};
+ghost use Rattle.verifier.specs.Rules.{is_frame, bad_result, result_kind, broken_if, first_of, compares_pointer, reads_by, call_rules, class_rules, rules_by, loaded, refined, row_after};
 ghost use Rattle.verifier.specs.Table.{AreKinds};
 ghost use Rattle.verifier.specs.declared.rule.KindRule.TheVariants.{PointerOperand, OutsideWindow};
 
@@ -21,7 +21,7 @@ use crate::windows::is_inside;
 use alu::{Cond, Op, Width};
 use insn::{Extend, Insn, Operand, Register, Size};
 use memory::Region;
-use ranges::{Bad, Kind, transfer, transfer_swap};
+use ranges::{Bad, Kind, Profile, transfer, transfer_swap};
 
 /// Whether the kind of a register is unset.
 fn is_unset(row: &Row, register: Register) -> bool
@@ -125,7 +125,7 @@ fn store_rule(
     ) {
         return Some(KindRule::InputStored);
     }
-    match kind_of_operand(row, src) {
+    match kind_of_operand(program.image.profile, row, src) {
         Kind::Ptr { .. } => Some(KindRule::PointerStored),
         _ => None,
     }
@@ -146,8 +146,20 @@ fn call_rule(program: &Candidate, callee: &Called, row: &Row) -> Option<KindRule
     }
 }
 
+/// Whether a condition has a pointer as an operand, and none that is dead.
+fn compares_pointer(a: Kind, b: Kind) -> bool
+    ensures { result ≡ compares_pointer a b }
+{
+    match (a, b) {
+        (Kind::Dead, _) | (_, Kind::Dead) => false,
+        (Kind::Ptr { .. }, _) | (_, Kind::Ptr { .. }) => true,
+        _ => false,
+    }
+}
+
 /// Goes over a conditional jump that is not taken, or tells the rule that it breaks.
 fn compare(
+    profile: Profile,
     cond: Cond,
     width: Width,
     left: Register,
@@ -155,17 +167,15 @@ fn compare(
     row: &mut Row,
 ) -> Option<KindRule>
     requires kinds { AreKinds row.old }
-    ensures rule { result ≡ broken_if (is_pointer (kind_at row.old left) || is_pointer (kind_from row.old right)) PointerOperand }
-    ensures row { IfNone result (row.new ≡ refined cond width left right false row.old) }
+    ensures rule { result ≡ broken_if (compares_pointer (kind_at row.old left) (kind_from profile row.old right)) PointerOperand }
+    ensures row { IfNone result (row.new ≡ refined profile cond width left right false row.old) }
     ensures kinds { IfNone result (AreKinds row.new) }
 {
-    match (kind_of(row, left), kind_of_operand(row, right)) {
-        (Kind::Ptr { .. }, _) | (_, Kind::Ptr { .. }) => Some(KindRule::PointerOperand),
-        _ => {
-            refine_row(cond, width, left, right, false, row);
-            None
-        }
+    if compares_pointer(kind_of(row, left), kind_of_operand(profile, row, right)) {
+        return Some(KindRule::PointerOperand);
     }
+    refine_row(profile, cond, width, left, right, false, row);
+    None
 }
 
 /// Goes over a load, or tells the rule that it breaks.
@@ -180,11 +190,11 @@ fn load(
 ) -> Option<KindRule>
     requires kinds { AreKinds row.old }
     ensures rule { result ≡ broken_if (not (is_inside (program_in program.now) (kind_at row.old base) offset (size_bytes size))) OutsideWindow }
-    ensures row { IfNone result (row.new ≡ with_kind row.old dst (loaded size extend)) }
+    ensures row { IfNone result (row.new ≡ with_kind row.old dst (loaded program.now.image.profile size extend)) }
     ensures kinds { IfNone result (AreKinds row.new) }
 {
     if is_access_inside(program, kind_of(row, base), offset, size) {
-        set_kind(row, dst, loaded(size, extend));
+        set_kind(row, dst, loaded(program.image.profile, size, extend));
         None
     } else {
         Some(KindRule::OutsideWindow)
@@ -195,13 +205,13 @@ fn load(
 fn call(program: &Candidate, callee: &Called, row: &mut Row) -> Option<KindRule>
     requires kinds { AreKinds row.old }
     ensures rule { result ≡ first_of (call_rules (program_in program.now) (callee_from callee.now) row.old) }
-    ensures row { IfNone result (row.new ≡ row_after_call (callee_from callee.now) row.old) }
+    ensures row { IfNone result (row.new ≡ row_after_call program.now.image.profile (callee_from callee.now) row.old) }
     ensures kinds { IfNone result (AreKinds row.new) }
 {
     if let Some(rule) = call_rule(program, callee, row) {
         return Some(rule);
     }
-    *row = row_after_call(row, callee);
+    *row = row_after_call(program.image.profile, row, callee);
     None
 }
 
@@ -209,9 +219,10 @@ fn call(program: &Candidate, callee: &Called, row: &mut Row) -> Option<KindRule>
 fn class_step(program: &Candidate, callee: &Called, row: &mut Row, insn: Insn) -> Option<KindRule>
     requires kinds { AreKinds row.old }
     ensures rule { result ≡ first_of (class_rules (program_in program.now) (callee_from callee.now) row.old insn) }
-    ensures row { IfNone result (row.new ≡ row_after (callee_from callee.now) row.old insn) }
+    ensures row { IfNone result (row.new ≡ row_after program.now.image.profile (callee_from callee.now) row.old insn) }
     ensures kinds { IfNone result (AreKinds row.new) }
 {
+    let profile = program.image.profile;
     match insn {
         Insn::Alu {
             op,
@@ -219,11 +230,12 @@ fn class_step(program: &Candidate, callee: &Called, row: &mut Row, insn: Insn) -
             dst,
             src,
         } => {
-            let outcome = transfer(op, width, kind_of(row, dst), kind_of_operand(row, src));
+            let operand = kind_of_operand(profile, row, src);
+            let outcome = transfer(profile, op, width, kind_of(row, dst), operand);
             settle(row, dst, outcome)
         }
         Insn::Swap { kind, bits, dst } => {
-            let outcome = transfer_swap(kind, bits, kind_of(row, dst));
+            let outcome = transfer_swap(profile, kind, bits, kind_of(row, dst));
             settle(row, dst, outcome)
         }
         Insn::Load {
@@ -245,10 +257,10 @@ fn class_step(program: &Candidate, callee: &Called, row: &mut Row, insn: Insn) -
             left,
             right,
             ..
-        } => compare(cond, width, left, right, row),
+        } => compare(profile, cond, width, left, right, row),
         Insn::Call { .. } => call(program, callee, row),
         Insn::Wide { dst, value } => {
-            set_kind(row, dst, one_number(value));
+            set_kind(row, dst, one_number(profile, value));
             None
         }
         Insn::Exit => match kind_of(row, Register::R0) {
@@ -264,7 +276,7 @@ fn class_step(program: &Candidate, callee: &Called, row: &mut Row, insn: Insn) -
 pub fn advance(program: &Candidate, callee: &Called, row: &mut Row, insn: Insn) -> Option<KindRule>
     requires kinds { AreKinds row.old }
     ensures rule { result ≡ first_of (rules_by (program_in program.now) (callee_from callee.now) row.old insn) }
-    ensures row { IfNone result (row.new ≡ row_after (callee_from callee.now) row.old insn) }
+    ensures row { IfNone result (row.new ≡ row_after program.now.image.profile (callee_from callee.now) row.old insn) }
     ensures kinds { IfNone result (AreKinds row.new) }
 {
     if reads_unset(callee, row, insn) {

@@ -15,7 +15,7 @@ ghost use Rattle.verifier.specs.Plain.{IsPlain, IsWellBehaved};
 use crate::callee::callee_in;
 use crate::candidate::Candidate;
 use crate::edges::{lead_on, taken_edge};
-use crate::kinds::Row;
+use crate::kinds::{Row, one_number};
 use crate::rule::{KindRule, Refused, Rule};
 use crate::rules::advance;
 use crate::slots::lower_slot;
@@ -25,7 +25,7 @@ use helpers::Sigs;
 use insn::code_is_paired;
 use lows::{Low, tail};
 use memory::Region;
-use ranges::{Kind, kinds_are_sound};
+use ranges::{Kind, Range, kind_in, kinds_are_sound};
 use std::alloc::Global;
 
 /// The kind of the address of a window: of its first byte, or of the stack's end.
@@ -44,19 +44,13 @@ fn entry(program: &Candidate) -> Row
     ensures table { result ≡ entry (program_in program.now) }
     ensures kinds { AreKinds result }
 {
-    let out_len = u64::from(program.image.out_len);
+    let image = &program.image;
     [
         Kind::Unset,
         address_of(Region::Input),
-        Kind::Num {
-            lo: 0,
-            hi: u64::from(program.image.in_len),
-        },
+        kind_in(image.profile, Range::up_to(u64::from(image.in_len))),
         address_of(Region::Output),
-        Kind::Num {
-            lo: out_len,
-            hi: out_len,
-        },
+        one_number(image.profile, u64::from(image.out_len)),
         Kind::Unset,
         Kind::Unset,
         Kind::Unset,
@@ -92,11 +86,12 @@ fn visit(
     };
     let insn = program.image.code[at];
     let callee = callee_in(&program.sigs, insn);
-    let target = taken_edge(at, row, insn, taken);
+    let profile = program.image.profile;
+    let target = taken_edge(profile, at, row, insn, taken);
     if let Some(rule) = advance(program, &callee, row, insn) {
         return Some(rule);
     }
-    if !lead_on(rows, at, row, insn, target, taken) {
+    if !lead_on(profile, rows, at, row, insn, target, taken) {
         *here = rows[at + 1];
     }
     None

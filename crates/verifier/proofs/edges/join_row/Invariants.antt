@@ -4,6 +4,6 @@ use Rattle.verifier.proofs.edges.join_row.Given as goal
 
 abbrev pub invariant-loop-i : goal.invariant-loop-i
 invariant-loop-i l = record {
-  joined : l.kept ≡ join_rows (take l.i l.initial.kept) (take l.i l.new) ++ drop l.i l.initial.kept;
-  kinds : AreKinds l.initial.kept → AreKinds l.new → AreKinds l.kept;
+  joined : l.kept ≡ join_rows l.profile (take l.i l.initial.kept) (take l.i l.new) ++ drop l.i l.initial.kept;
+  kinds : AreKinds l.kept;
 }

@@ -51,7 +51,7 @@ pub lead_on-requires-clause-within : goal.lead_on-requires-clause-within
 lead_on-requires-clause-within c =
     let insn = slice_get_read c.args.program.now.image.code.items c.args.program.now.image.code.len c.args.at c.index-insn.result.now c.args.program.now.image.code.ok.0 (omega (arith, c.requires.within, c.args.program.now.image.code.ok.0)) c.index-insn.ensures in
     subst (LeadBelow (vec_len c.args.rows.now)) (sym c.taken_edge-target.ensures.edge)
-    (target_below c.args.program.now.image.code.items c.args.at c.index-insn.result.now (row_taken c.in-Some.row c.index-insn.result.now) (vec_len c.args.rows.now) c.requires.formed insn (omega (arith, c.requires.pass.long, c.args.rows.now.ok.0)))
+    (target_below c.args.program.now.image.code.items c.args.at c.index-insn.result.now (row_taken c.args.program.now.image.profile c.in-Some.row c.index-insn.result.now) (vec_len c.args.rows.now) c.requires.formed insn (omega (arith, c.requires.pass.long, c.args.rows.now.ok.0)))
 
 pub returns-then-not-lead_on-clause-unbroken : goal.returns-then-not-lead_on-clause-unbroken
 returns-then-not-lead_on-clause-unbroken c =

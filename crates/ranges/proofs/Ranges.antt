@@ -2,7 +2,7 @@
 use Rattle.std.proofs.Common.{◌≡◌, ℕ, zero, suc, ◌+◌, ◌-◌, ◌*◌, ◌/◌, ◌%◌, ◌^◌, ◌<◌, ◌≤◌, true, ◌&&◌, eqb, ltb, leb, max, refl, sym, ap, ◌∙◌, subst, arith}
 use Rattle.std.specs.Prelude.{bit_and, bit_or, bit_xor}
 use Rattle.std.proofs.Math.Nat.{mod-eq_of_lt, mod-lt, div-le_self, mod-le, mul-div-le, add-mul-mod_self_right, div-zero, mod-zero}
-use Rattle.std.proofs.lemmas.Nat.{and_le_l, and_le_r, or_lt, xor_lt, pow_pos, leading_length, le-div, mod_below, mul-le}
+use Rattle.std.proofs.lemmas.Nat.{and_le_l, and_le_r, or_lt, xor_lt, pow_pos, leading_length, le-div, mod_below, mul-le, div-add-mod'}
 use Rattle.std.proofs.lemmas.Bool.{cond_both, ltb-true, leb-true, lt-ltb, eqb-true, and_parts}
 use Rattle.std.specs.Int.{w64, leading_zeros}
 use Rattle.std.proofs.Math.Pow.{pow_mono}
@@ -18,12 +18,13 @@ use Rattle.alu.specs.declared.SwapKind.TheVariants.{ToLittle, ToBig, Swap}
 use Rattle.alu.specs.declared.SwapBits.{SwapBits}
 use Rattle.alu.specs.declared.SwapBits.TheVariants.{B16, B32, B64}
 use Rattle.alu.specs.Value.{bits, wrapped, signed, quotient, remainder, exact, remainder, value, byte_count, reversed, swapped}
-use Rattle.ranges.specs.declared.kind.Range.{Range}
-use Rattle.ranges.specs.Kinds.{InRange}
-use Rattle.ranges.specs.Transfer.{single, full, is_single, cut, are_single, range_else, shifted_right, numbers, swapped_numbers}
+use Rattle.ranges.specs.declared.profile.Profile.{Profile}
+use Rattle.ranges.specs.declared.profile.Profile.TheVariants.{First, Second}
+use Rattle.ranges.specs.declared.range.Range.{Range}
+use Rattle.ranges.specs.Numbers.{InRange, single, full, is_single, cut, are_single, range_else, shifted_right, wrapped_range, range_by, range_result, swapped_range}
 
 -- a quotient grows with the dividend and falls with the divisor
-div_mono : (a b m n : ℕ) → a ≤ b → 0 < n → n ≤ m → a / m ≤ b / n
+pub div_mono : (a b m n : ℕ) → a ≤ b → 0 < n → n ≤ m → a / m ≤ b / n
 div_mono a b m n h p q =
     le-div (a / m) b n p (omega (arith, mul-le (a / m) n (a / m) m (omega arith) q, mul-div-le a m))
 
@@ -31,7 +32,7 @@ in_full : (k n : ℕ) → n < 2 ^ k → InRange (full k) n
 in_full k n h = (omega arith, omega arith)
 
 -- a number up to n is below the power of two that n is below
-under_ones : (n m : ℕ) → n < 2 ^ 64 → m ≤ n → m < 2 ^ (64 - leading_zeros w64 n)
+pub under_ones : (n m : ℕ) → n < 2 ^ 64 → m ≤ n → m < 2 ^ (64 - leading_zeros w64 n)
 under_ones n m h le =
     let l = leading_length 64 n h in
     let e : 64 - leading_zeros w64 n ≡ l.0 = omega (arith, l.1) in
@@ -43,10 +44,10 @@ wrapped_below : (k : ℕ) (z : ℤ) → wrapped k z < 2 ^ k
 wrapped_below k (pos n) = mod-lt n (pow_pos k)
 wrapped_below k (negsuc n) = omega (arith, pow_pos k)
 
-wrapped_small : (k n : ℕ) → n < 2 ^ k → wrapped k (pos n) ≡ n
+pub wrapped_small : (k n : ℕ) → n < 2 ^ k → wrapped k (pos n) ≡ n
 wrapped_small k n h = mod-eq_of_lt h
 
-wrapped_difference : (k a b : ℕ) → b < 2 ^ k → wrapped k (pos a -ℤ pos b) ≡ (a + (2 ^ k - b)) % 2 ^ k
+pub wrapped_difference : (k a b : ℕ) → b < 2 ^ k → wrapped k (pos a -ℤ pos b) ≡ (a + (2 ^ k - b)) % 2 ^ k
 wrapped_difference k a b h =
     ap unsigned_abs (int_rem_euclid_is (pos a -ℤ pos b) (pos (2 ^ k)) (2 ^ k) 1 (a + (2 ^ k - b)) (pow_pos k) refl (omega (arith, ints)))
 
@@ -69,26 +70,42 @@ plain_div k a b h = ap (λ q. q % 2 ^ k) (quotient_is a b) ∙ mod-eq_of_lt (ome
 plain_mod : (k a b : ℕ) → a < 2 ^ k → wrapped k (exact Mod k a b) ≡ a % b
 plain_mod k a b h = ap (λ q. q % 2 ^ k) (remainder_is a b) ∙ mod-eq_of_lt (omega (arith, mod-le a b))
 
-plain_and : (k a b : ℕ) → a < 2 ^ k → wrapped k (exact And k a b) ≡ bit_and a b
+pub plain_and : (k a b : ℕ) → a < 2 ^ k → wrapped k (exact And k a b) ≡ bit_and a b
 plain_and k a b h = mod-eq_of_lt (omega (arith, and_le_l a b))
 
-plain_or : (k a b : ℕ) → a < 2 ^ k → b < 2 ^ k → wrapped k (exact Or k a b) ≡ bit_or a b
+pub plain_or : (k a b : ℕ) → a < 2 ^ k → b < 2 ^ k → wrapped k (exact Or k a b) ≡ bit_or a b
 plain_or k a b h g = mod-eq_of_lt (or_lt k a b h g)
 
-plain_xor : (k a b : ℕ) → a < 2 ^ k → b < 2 ^ k → wrapped k (exact Xor k a b) ≡ bit_xor a b
+pub plain_xor : (k a b : ℕ) → a < 2 ^ k → b < 2 ^ k → wrapped k (exact Xor k a b) ≡ bit_xor a b
 plain_xor k a b h g = mod-eq_of_lt (xor_lt k a b h g)
 
-plain_shift_right : (k a b : ℕ) → a < 2 ^ k → wrapped k (exact Rsh k a b) ≡ a / 2 ^ (b % k)
+pub plain_shift_right : (k a b : ℕ) → a < 2 ^ k → wrapped k (exact Rsh k a b) ≡ a / 2 ^ (b % k)
 plain_shift_right k a b h = mod-eq_of_lt (omega (arith, div-le_self a (2 ^ (b % k))))
 
 -- below half of the width an arithmetic shift is a plain one
-plain_arithmetic_shift : (k a b : ℕ) → a < 2 ^ (k - 1) → a < 2 ^ k → wrapped k (exact Arsh k a b) ≡ a / 2 ^ (b % k)
+pub plain_arithmetic_shift : (k a b : ℕ) → a < 2 ^ (k - 1) → a < 2 ^ k → wrapped k (exact Arsh k a b) ≡ a / 2 ^ (b % k)
 plain_arithmetic_shift k a b h g = rw (lt-ltb a (2 ^ (k - 1)) h) (plain_shift_right k a b g)
 
 -- ---- each row of the table, over the width
 
 as_plain : {n m : ℕ} (r : Range) → n ≡ m → InRange r m → InRange r n
 as_plain r e h = subst (InRange r) (sym e) h
+
+-- what k bits keep of a number between two others lies between what they keep of these, where no multiple of 2 ^ k is passed
+wrapped_sound : (k lo hi n : ℕ) → lo ≤ n → n ≤ hi → InRange (wrapped_range k lo hi) (n % 2 ^ k)
+wrapped_sound k lo hi n p q =
+    let m = 2 ^ k in
+    let pos = pow_pos k in
+    cond_both (eqb (lo / m) (hi / m)) _ _ (λ r. InRange r (n % m))
+    (λ t. let one = eqb-true _ _ t in
+    let above = div_mono lo n m m p pos (omega arith) in
+    let below = div_mono n hi m m q pos (omega arith) in
+    let el : n / m ≡ lo / m = omega arith in
+    let eh : n / m ≡ hi / m = omega arith in
+    let sl : n / m * m ≡ lo / m * m = ap (λ d. d * m) el in
+    let sh : n / m * m ≡ hi / m * m = ap (λ d. d * m) eh in
+    (omega (arith, div-add-mod' n m, div-add-mod' lo m), omega (arith, div-add-mod' n m, div-add-mod' hi m)))
+    (λ _. in_full k _ (mod-lt n pos))
 
 module _ (k : ℕ) (a b : Range) (x y : ℕ) (px : InRange a x) (py : InRange b y) (fa : a.hi < 2 ^ k) (fb : b.hi < 2 ^ k) (wide : k ≤ 64) where
   below : x < 2 ^ k
@@ -208,12 +225,22 @@ module _ (k : ℕ) (a b : Range) (x y : ℕ) (px : InRange a x) (py : InRange b 
   sound_else Movsx16 = sound_full Movsx16
   sound_else Movsx32 = sound_full Movsx32
 
-bits_wide : (w : Width) → bits w ≤ 64
+  sound_wrapped_sub : InRange (range_by Second Sub k a b) (wrapped k (exact Sub k x y))
+  sound_wrapped_sub =
+      as_plain _ (wrapped_difference k x y (omega arith)) (wrapped_sound k (a.lo + (2 ^ k - b.hi)) (a.hi + (2 ^ k - b.lo)) (x + (2 ^ k - y)) (omega arith) (omega arith))
+
+  sound_by : (profile : Profile) (op : Op) → InRange (range_by profile op k a b) (wrapped k (exact op k x y))
+  sound_by First op = sound_else op
+  sound_by Second Add = wrapped_sound k (a.lo + b.lo) (a.hi + b.hi) (x + y) (omega arith) (omega arith)
+  sound_by Second Sub = sound_wrapped_sub
+  sound_by Second op = sound_else op
+
+pub bits_wide : (w : Width) → bits w ≤ 64
 bits_wide W32 = omega arith
 bits_wide W64 = omega arith
 
 -- an operand, cut, is within the cut range, and that range fits
-cut_sound : (w : Width) (r : Range) (x : ℕ) → InRange r x → InRange (cut (bits w) r) (x % 2 ^ bits w) × ((cut (bits w) r).hi < 2 ^ bits w)
+pub cut_sound : (w : Width) (r : Range) (x : ℕ) → InRange r x → InRange (cut (bits w) r) (x % 2 ^ bits w) × ((cut (bits w) r).hi < 2 ^ bits w)
 cut_sound w r x p =
     let k = bits w in
     cond_both (ltb r.hi (2 ^ k)) _ _ (λ c. InRange c (x % 2 ^ k) × (c.hi < 2 ^ k))
@@ -232,7 +259,7 @@ in_single n m e = (omega arith, omega arith)
 cut_again : (k n x : ℕ) → n ≡ x % 2 ^ k → n % 2 ^ k ≡ x % 2 ^ k
 cut_again k n x e = rw e (mod-eq_of_lt (mod-lt x (pow_pos k)))
 
-of_single : (r : Range) (n : ℕ) → InRange r n → is_single r ≡ true → r.lo ≡ n
+pub of_single : (r : Range) (n : ℕ) → InRange r n → is_single r ≡ true → r.lo ≡ n
 of_single r n p t = let one = eqb-true _ _ t in omega arith
 
 -- single operands that are read: the one value
@@ -268,19 +295,26 @@ single_sound Arsh w a b x y px py t = both_single Arsh w a b x y px py t
 single_sound Mod w a b x y px py t = both_single Mod w a b x y px py t
 single_sound SignedMod w a b x y px py t = both_single SignedMod w a b x y px py t
 
-pub numbers_sound : (op : Op) (w : Width) (a b : Range) (x y : ℕ) → InRange a x → InRange b y → InRange (numbers op w a b) (value op w x y)
-numbers_sound op w a b x y px py =
+pub range_sound : (profile : Profile) (op : Op) (w : Width) (a b : Range) (x y : ℕ) → InRange a x → InRange b y → InRange (range_result profile op w a b) (value op w x y)
+range_sound profile op w a b x y px py =
     let k = bits w in
     let ca = cut_sound w a x px in
     let cb = cut_sound w b y py in
     cond_both (are_single op (cut k a) (cut k b)) _ _ (λ r. InRange r (value op w x y))
     (single_sound op w (cut k a) (cut k b) x y ca.0 cb.0)
-    (λ _. sound_else k (cut k a) (cut k b) (x % 2 ^ k) (y % 2 ^ k) ca.0 cb.0 ca.1 cb.1 (bits_wide w) op)
+    (λ _. sound_by k (cut k a) (cut k b) (x % 2 ^ k) (y % 2 ^ k) ca.0 cb.0 ca.1 cb.1 (bits_wide w) profile op)
+
+-- a result has the bits of the width
+pub value_fits : (op : Op) (w : Width) (x y : ℕ) → value op w x y < 2 ^ 64
+value_fits op w x y =
+    let k = bits w in
+    let le : 2 ^ k ≤ 2 ^ 64 = pow_mono (bits_wide w) in
+    omega (arith, wrapped_below k (exact op k (x % 2 ^ k) (y % 2 ^ k)))
 
 -- a range of results is not empty
-pub numbers_ordered : (op : Op) (w : Width) (a b : Range) → a.lo ≤ a.hi → b.lo ≤ b.hi → (numbers op w a b).lo ≤ (numbers op w a b).hi
-numbers_ordered op w a b h g =
-    let s = numbers_sound op w a b a.lo b.lo (omega arith, h) (omega arith, g) in omega (arith, s.0, s.1)
+pub range_ordered : (profile : Profile) (op : Op) (w : Width) (a b : Range) → a.lo ≤ a.hi → b.lo ≤ b.hi → (range_result profile op w a b).lo ≤ (range_result profile op w a b).hi
+range_ordered profile op w a b h g =
+    let s = range_sound profile op w a b a.lo b.lo (omega arith, h) (omega arith, g) in omega (arith, s.0, s.1)
 
 -- ---- byte swaps
 
@@ -311,13 +345,13 @@ bytes_fit B16 = omega arith
 bytes_fit B32 = omega arith
 bytes_fit B64 = omega arith
 
-pub swapped_sound : (kind : SwapKind) (n : SwapBits) (a : Range) (x : ℕ) → InRange a x → InRange (swapped_numbers kind n a) (swapped kind n x)
+pub swapped_sound : (kind : SwapKind) (n : SwapBits) (a : Range) (x : ℕ) → InRange a x → InRange (swapped_range kind n a) (swapped kind n x)
 swapped_sound kind n a x p =
     cond_both (is_single a) _ _ (λ r. InRange r (swapped kind n x))
     (λ t. in_single _ _ (ap (swapped kind n) (of_single a x p t)))
     (λ _. in_full (8 * byte_count n) _ (rw (← bytes_are_bits n) (swapped_below kind n x)))
 
-pub swapped_fits : (kind : SwapKind) (n : SwapBits) (a : Range) → ((swapped_numbers kind n a).lo ≤ (swapped_numbers kind n a).hi) × ((swapped_numbers kind n a).hi < 2 ^ 64)
+pub swapped_fits : (kind : SwapKind) (n : SwapBits) (a : Range) → ((swapped_range kind n a).lo ≤ (swapped_range kind n a).hi) × ((swapped_range kind n a).hi < 2 ^ 64)
 swapped_fits kind n a =
     let small : 2 ^ (8 * byte_count n) ≤ 2 ^ 64 = bytes_fit n in
     cond_both (is_single a) (single (swapped kind n a.lo)) (full (8 * byte_count n)) (λ r. (r.lo ≤ r.hi) × (r.hi < 2 ^ 64))
