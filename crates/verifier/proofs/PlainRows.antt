@@ -11,7 +11,6 @@ use Rattle.alu.specs.declared.Cond.{Cond}
 use Rattle.insn.specs.Encoding.{number}
 use Rattle.insn.specs.declared.Size.{Size}
 use Rattle.insn.specs.declared.Extend.{Extend}
-use Rattle.insn.specs.declared.Extend.TheVariants.{Zero, Sign}
 use Rattle.insn.specs.declared.Register.{Register}
 use Rattle.insn.specs.declared.Register.TheVariants.{R0, R1, R2, R3, R4, R5, R6, R7, R8, R9, R10}
 use Rattle.insn.specs.declared.Operand.{Operand}
@@ -181,8 +180,7 @@ refined_numbers profile c w (Num a) (Ptr q lo hi) t ha hb = absurd hb
 refined_numbers profile c w (Ptr q lo hi) b t ha hb = absurd ha
 
 loaded_number : (profile : Profile) (size : Size) (extend : Extend) → IsNum (loaded profile size extend)
-loaded_number profile size Zero = left_number _
-loaded_number profile size Sign = left_number _
+loaded_number profile size extend = left_number _
 
 result_number : (r : Result Kind Bad) → GivesNumber r → IsNum (result_kind r)
 result_number r h = subst IsNum (ap result_kind (sym h.1)) h.2

@@ -1,5 +1,5 @@
 -- A formed program of which no slot breaks a rule is safe.
-use Rattle.std.proofs.Common.{◌≡◌, ◌≢◌, ℕ, zero, suc, ℤ, pos, negsuc, ◌-◌, ◌*◌, ◌%◌, ◌^◌, ◌<◌, ◌≤◌, Bool, true, false, eqb, List, [], ◌∷◌, ◌++◌, length, take, drop, Option, Some, None, refl, sym, ap, ◌∙◌, subst, inl, inr, ⊎_elim, arith, length-set, length-drop}
+use Rattle.std.proofs.Common.{◌≡◌, ◌≢◌, ℕ, zero, suc, ℤ, pos, negsuc, ◌*◌, ◌%◌, ◌^◌, ◌<◌, ◌≤◌, Bool, true, false, eqb, List, [], ◌∷◌, ◌++◌, length, take, drop, Option, Some, None, refl, sym, ap, ◌∙◌, subst, inl, inr, ⊎_elim, arith, length-set, length-drop}
 use Rattle.std.specs.Prelude.{slice_get}
 use Rattle.std.proofs.lemmas.List.{length-replicate}
 use Rattle.std.proofs.lemmas.Int.{ints}
@@ -29,7 +29,6 @@ use Rattle.ranges.specs.Numbers.{range, single, up_to, full}
 use Rattle.ranges.specs.Transfer.{transfer_of, swap_of}
 use Rattle.ranges.specs.Laws.{IsSoundTable}
 use Rattle.bpfimage.specs.Form.{next_of, target_of}
-use Rattle.helpers.specs.declared.sig.Entry.{Entry}
 use Rattle.helpers.specs.Calls.{Callee, Copy, Fill, Same, Helper, Unknown, calls_of}
 use Rattle.verifier.specs.Program.{Program, HasLimits, IsSafeProgram}
 use Rattle.verifier.specs.Registers.{Row, kind_at, kind_from, one_number, entry}
@@ -134,7 +133,6 @@ module _ (profile : Profile) (sound : IsSoundTable profile) where
   taken_kinds row insn.Exit h = h
   taken_kinds row (insn.Wide d n) h = h
   taken_kinds row insn.Tail h = h
-
 
 rows_append : (es fs : List Edge) → AreRows es → AreRows fs → AreRows (es ++ fs)
 rows_append [] fs a b = b

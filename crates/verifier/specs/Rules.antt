@@ -1,5 +1,5 @@
 -- The verifier's rules over kinds, and what it knows after an instruction (this store's profile).
-use Rattle.std.specs.Prelude.{◌-◌, ◌*◌, ◌%◌, ◌^◌, ◌==◌, Bool, true, false, not, ◌||◌, if◌then◌else◌, Option, None, Some, Result, Ok, Err, List, [], ◌∷◌}
+use Rattle.std.specs.Prelude.{◌*◌, ◌%◌, ◌^◌, ◌==◌, Bool, true, false, not, ◌||◌, if◌then◌else◌, Option, None, Some, Result, Ok, Err, List, [], ◌∷◌}
 use Rattle.alu.specs.Value.{bits, wrapped}
 use Rattle.alu.specs.declared.Cond.{Cond}
 use Rattle.alu.specs.declared.Width.{Width}
@@ -17,6 +17,7 @@ use Rattle.memory.specs.State.{no_calls, reads, writes}
 use Rattle.ranges.specs.Numbers.{full}
 use Rattle.ranges.specs.Transfer.{kind_in, transfer_of, swap_of, refine_of}
 use Rattle.ranges.specs.declared.profile.Profile.{Profile}
+use Rattle.ranges.specs.declared.range.Range.{Range}
 use Rattle.ranges.specs.declared.kind.Kind.{Kind}
 use Rattle.ranges.specs.declared.kind.Kind.TheVariants.{Unset, Dead}
 use Rattle.ranges.specs.declared.kind.Bad.{Bad}
@@ -105,9 +106,12 @@ result_kind (Ok k) = k
 result_kind (Err e) = Unset
 
 -- the numbers that a load gives
+abbrev pub numbers_loaded : Size → Extend → Range
+numbers_loaded size Zero = full (8 * size_bytes size)
+numbers_loaded size Sign = full 64
+
 abbrev pub loaded : Profile → Size → Extend → Kind
-loaded profile size Zero = kind_in profile (full (8 * size_bytes size))
-loaded profile size Sign = kind_in profile (full 64)
+loaded profile size extend = kind_in profile (numbers_loaded size extend)
 
 -- the kinds after a jump on a condition, taken or not; one register on both sides tells nothing
 abbrev pub refined : Profile → Cond → Width → Register → Operand → Bool → Row → Row

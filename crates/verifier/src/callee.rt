@@ -95,7 +95,12 @@ fn reaches(program: &Candidate, limit: u32, address: Kind, len: Kind) -> bool
 {
     match (address, len) {
         (Kind::Dead, _) | (_, Kind::Dead) => true,
-        (_, Kind::Num(n)) if n.range.hi <= u64::from(limit) => is_inside(program, address, 0, n.range.hi as u32),
+        (_, Kind::Num(n)) if n.range.hi <= u64::from(limit) => is_inside(
+            program,
+            address,
+            0,
+            n.range.hi as u32,
+        ),
         _ => false,
     }
 }
@@ -182,7 +187,8 @@ pub fn is_given(program: &Candidate, callee: &Called, row: &Row) -> bool
     let second = kind_of(row, Register::R2);
     match callee {
         Called::Copy => is_written(program, row, first) && is_read(program, row, second),
-        Called::Fill => is_written(program, row, first) && matches!(second, Kind::Num(_) | Kind::Dead),
+        Called::Fill => is_written(program, row, first)
+            && matches!(second, Kind::Num(_) | Kind::Dead),
         Called::Same => is_read(program, row, first) && is_read(program, row, second),
         Called::Helper(sig) => are_arguments(program, &sig.args, &row[1..6]),
         Called::Unknown => false,
@@ -197,10 +203,13 @@ fn answer_kind(profile: Profile, callee: &Called) -> Kind
     match callee {
         Called::Copy | Called::Fill => kind_in(profile, Range::single(0)),
         Called::Same => kind_in(profile, Range::up_to(1)),
-        Called::Helper(sig) => kind_in(profile, Range {
-            lo: sig.lo,
-            hi: sig.hi,
-        }),
+        Called::Helper(sig) => kind_in(
+            profile,
+            Range {
+                lo: sig.lo,
+                hi: sig.hi,
+            },
+        ),
         Called::Unknown => Kind::Unset,
     }
 }

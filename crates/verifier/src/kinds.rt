@@ -1,11 +1,11 @@
 //! What is known of the registers, from slot to slot.
 
-ghost use Rattle.std.specs.Prelude.{◌≡◌, ◌%◌, ◌^◌};
+ghost use Rattle.std.specs.Prelude.{◌≡◌, ◌≤◌, ◌%◌, ◌^◌};
 ghost use Rattle.alu.specs.Value.{bits, wrapped};
 ghost use Rattle.insn.specs.Encoding.{size_bytes};
 ghost use Rattle.ranges.specs.Kinds.{IsKind};
 ghost use Rattle.verifier.specs.Registers.{kind_at, with_kind, one_number, kind_from};
-ghost use Rattle.verifier.specs.Rules.{loaded, refined, row_taken};
+ghost use Rattle.verifier.specs.Rules.{numbers_loaded, loaded, refined, row_taken};
 ghost use Rattle.verifier.specs.Table.{AreKinds};
 
 use alu::{Cond, Width};
@@ -50,10 +50,10 @@ pub fn set_kind(row: &mut Row, register: Register, kind: Kind)
     row[register.number() as usize] = kind;
 }
 
-/// What a load gives.
-pub fn loaded(profile: Profile, size: Size, extend: Extend) -> Kind
-    ensures table { result ≡ loaded profile size extend }
-    ensures kind { IsKind result }
+/// The numbers that a load gives.
+fn numbers_loaded(size: Size, extend: Extend) -> Range
+    ensures table { result ≡ numbers_loaded size extend }
+    ensures ordered { result.lo ≤ result.hi }
 {
     let hi = match (extend, size) {
         (Extend::Zero, Size::Byte) => 0xff,
@@ -61,7 +61,15 @@ pub fn loaded(profile: Profile, size: Size, extend: Extend) -> Kind
         (Extend::Zero, Size::Word) => 0xffff_ffff,
         _ => u64::MAX,
     };
-    kind_in(profile, Range::up_to(hi))
+    Range { lo: 0, hi }
+}
+
+/// What a load gives.
+pub fn loaded(profile: Profile, size: Size, extend: Extend) -> Kind
+    ensures table { result ≡ loaded profile size extend }
+    ensures kind { IsKind result }
+{
+    kind_in(profile, numbers_loaded(size, extend))
 }
 
 /// The bits of an immediate that a comparison reads.
