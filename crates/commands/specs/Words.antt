@@ -1,5 +1,5 @@
 -- The words of a command line (this store's profile).
-use Rattle.std.specs.Prelude.{ℕ, ◌==◌, ◌&&◌, ◌^◌, not, nat_lt, List, [], ◌∷◌, if◌then◌else◌, nat_eq, Option, None, Some, codes}
+use Rattle.std.specs.Prelude.{ℕ, ◌==◌, ◌&&◌, ◌^◌, ◌-◌, min, not, nat_lt, Bool, false, List, [], ◌∷◌, if◌then◌else◌, nat_eq, Option, None, Some, codes}
 use Rattle.std.specs.List.{list_all}
 use Rattle.std.specs.Char.{is_ascii_digit}
 use Rattle.std.specs.Str.Parse.{digits_value}
@@ -8,16 +8,23 @@ use Rattle.std.specs.Borrow.{Bor}
 use Rattle.commands.specs.declared.words.Request.{Request}
 use Rattle.commands.specs.declared.words.Request.TheVariants.{Run, Verify, Sim, Dump, Load, Serve}
 
--- the number of 1 to 2^32 - 1 that a decimal without sign and leading zeros spells
-abbrev pub count_of : List ℕ → Option ℕ
-count_of [] = None
-count_of (d ∷ ds) =
-    if not (d == 48) && (list_all is_ascii_digit (d ∷ ds) && nat_lt (digits_value 10 (d ∷ ds)) (2 ^ 32)) then Some (digits_value 10 (d ∷ ds))
-    else None
+-- a decimal of 1 or more, without sign and leading zeros
+abbrev pub is_count : List ℕ → Bool
+is_count [] = false
+is_count (d ∷ ds) = not (d == 48) && list_all is_ascii_digit (d ∷ ds)
 
--- the number of 0 to 2^32 - 1 that one spells
+-- the number of 1 to 2^32 - 1 that one spells
+abbrev pub count_of : List ℕ → Option ℕ
+count_of word = if is_count word && nat_lt (digits_value 10 word) (2 ^ 32) then Some (digits_value 10 word) else None
+
+-- the number of 0 to 2^32 - 1 that a decimal without sign and leading zeros spells
 abbrev pub number_of : List ℕ → Option ℕ
 number_of word = if pointwise nat_eq word (codes "0") then Some 0 else count_of word
+
+-- the index of a vnode that one spells, of whatever length: a script has 64 vnodes at most, so that one past 2^32 - 1 names no vnode, as 2^32 - 1 itself
+abbrev pub vnode_of : List ℕ → Option ℕ
+vnode_of word =
+    if pointwise nat_eq word (codes "0") then Some 0 else (if is_count word then Some (min (digits_value 10 word) (2 ^ 32 - 1)) else None)
 
 -- an incarnation has 16 bits
 abbrev pub as_incarnation : Option ℕ → Option ℕ
@@ -50,7 +57,7 @@ served_so_many addr workers (Some count) = served_by addr workers (Some count)
 -- what a name and three more words ask for
 abbrev pub three_words_of : List ℕ → Bor (List ℕ) → Bor (List ℕ) → Bor (List ℕ) → Option Request
 three_words_of name first second third =
-    if pointwise nat_eq name (codes "dump") then dumped_by first second (number_of third.now)
+    if pointwise nat_eq name (codes "dump") then dumped_by first second (vnode_of third.now)
     else (if pointwise nat_eq name (codes "load") then loaded_by first (incarnation_of second.now) third
     else (if pointwise nat_eq name (codes "serve") then served_so_many first (count_of second.now) (count_of third.now) else None))
 

@@ -1,6 +1,8 @@
 //! The words of a command line.
 ghost use Rattle.std.specs.Prelude.{◌≡◌};
-ghost use Rattle.commands.specs.Words.{count_of, incarnation_of, number_of, request_of, served_by, three_words_of};
+ghost use Rattle.std.specs.Char.{is_ascii_digit};
+ghost use Rattle.std.specs.List.{list_all};
+ghost use Rattle.commands.specs.Words.{count_of, incarnation_of, is_count, number_of, request_of, served_by, three_words_of, vnode_of};
 
 /// What the words ask for.
 #[derive(Clone, Copy)]
@@ -18,7 +20,8 @@ pub enum Request<'a> {
     Sim {
         script: &'a str,
     },
-    /// To run the script in the file `script`, and to make `file` hold the records of what a vnode knows then.
+    /// To run the script in the file `script`, and to make `file` hold the records of what the vnode at an index knows then. The index `2^32 - 1` stands for
+    /// those past it too: no script has so many vnodes.
     Dump {
         file: &'a str,
         script: &'a str,
@@ -77,7 +80,7 @@ fn three_words<'a>(
         "dump" => Some(Request::Dump {
             file: first,
             script: second,
-            vnode: number_in(third)?,
+            vnode: vnode_in(third)?,
         }),
         "load" => Some(Request::Load {
             file: first,
@@ -104,12 +107,26 @@ fn served<'a>(addr: &'a str, workers: &str, count: Option<u32>) -> Option<Reques
     })
 }
 
+/// Whether a word is a decimal of 1 or more, without sign and leading zeros.
+fn is_count(word: &str) -> bool
+    ensures { result ≡ is_count word.now }
+{
+    let digits = word.as_bytes();
+    digits.len() > 0 && digits[0] != b'0' && are_digits(digits)
+}
+
+/// Whether each byte is a digit.
+fn are_digits(text: &[u8]) -> bool
+    ensures { result ≡ list_all is_ascii_digit text.now }
+{
+    text.iter().all(|b| b.is_ascii_digit())
+}
+
 /// The number of 1 to `2^32 - 1` that a decimal without sign and leading zeros spells.
 fn count_in(word: &str) -> Option<u32>
     ensures { result ≡ count_of word.now }
 {
-    let first = *word.as_bytes().first()?;
-    if first == b'0' || first == b'+' {
+    if !is_count(word) {
         return None;
     }
     word.parse().ok()
@@ -120,6 +137,19 @@ fn number_in(word: &str) -> Option<u32>
     ensures { result ≡ number_of word.now }
 {
     if word == "0" { Some(0) } else { count_in(word) }
+}
+
+/// The index of a vnode that a decimal without sign and leading zeros spells. One past `2^32 - 1` counts as that one, which no script has either.
+fn vnode_in(word: &str) -> Option<u32>
+    ensures { result ≡ vnode_of word.now }
+{
+    if word == "0" {
+        return Some(0);
+    }
+    if !is_count(word) {
+        return None;
+    }
+    Some(word.parse().unwrap_or(u32::MAX))
 }
 
 /// The incarnation that a decimal without sign and leading zeros spells.

@@ -3,6 +3,7 @@ use super::{Shelf, Want, expect, is_told};
 use commands::files::{Files, Part};
 use commands::own::command_with_helpers;
 use commands::server::Offline;
+use sha1::Sha1;
 use std::alloc::{AllocError, Global};
 use std::fmt::Write as _;
 use std::io;
@@ -113,6 +114,9 @@ const SIBLINGS: &str = "0-1\n0-2\n0-1=a 0-2=b AQABAAAAAAAAAAAAAAAC\n";
 
 const KEYS: &str = "1-1\n1-1\n1-2\n0-1\n";
 
+/// A number of 40 digits, which is 0 modulo 2^32.
+const LONG: &str = "4294967296000000000000000000000000000000";
+
 const DUMPS: &[Dump] = &[
     Dump {
         words: ["dump", "new", "siblings", "0"],
@@ -127,6 +131,31 @@ const DUMPS: &[Dump] = &[
     Dump {
         words: ["dump", "new", "siblings", "1"],
         told: (SIBLINGS, "usage\n", 2),
+        new: None,
+    },
+    Dump {
+        words: ["dump", "new", "siblings", "4294967295"],
+        told: (SIBLINGS, "usage\n", 2),
+        new: None,
+    },
+    Dump {
+        words: ["dump", "new", "siblings", "4294967296"],
+        told: (SIBLINGS, "usage\n", 2),
+        new: None,
+    },
+    Dump {
+        words: ["dump", "new", "siblings", LONG],
+        told: (SIBLINGS, "usage\n", 2),
+        new: None,
+    },
+    Dump {
+        words: ["dump", "new", "bad", "4294967296"],
+        told: ("0-1\nbad line 3\n", "no such line\n", 2),
+        new: None,
+    },
+    Dump {
+        words: ["dump", "new", "absent", LONG],
+        told: ("", "unreadable\n", 2),
         new: None,
     },
     Dump {
@@ -329,6 +358,67 @@ fn is_loaded(alloc: Global, load: &Load) -> Result<bool, AllocError> {
 fn loads_from_files(rt: HostRuntime) -> Result<(), Fail> {
     for load in LOADS {
         expect(&rt, is_loaded(rt.alloc(), load)?, &load.told);
+    }
+    Ok(())
+}
+
+/// The bucket `sim`, the key `k`, and the place 1 of vnode 0.
+const KEY: &[u8] = b"\x00\x03sim\x00\x01k\x00\x00\x00\x00\x00\x00\x00\x01";
+
+/// The vnodes of which a record's clock counts the first event: the lowest identifier, and how many there are from there on.
+type Known = (u16, u16);
+
+/// Adds a record of the key that has no siblings, only a clock.
+fn push_known(alloc: Global, bytes: &mut Vec<u8>, known: Known) -> Result<(), AllocError> {
+    let (first, count) = known;
+    let mut body = KEY.to_vec(alloc)?;
+    body.extend_from_slice(&count.to_be_bytes())?;
+    for n in 0..count {
+        let vnode = first as u32 + n as u32;
+        body.extend_from_slice(&vnode.to_be_bytes())?;
+        body.extend_from_slice(&1u64.to_be_bytes())?;
+    }
+    body.extend_from_slice(&0u32.to_be_bytes())?;
+    let len = 22 + 12 * count as u32;
+    bytes.extend_from_slice(b"DVR1")?;
+    bytes.extend_from_slice(&len.to_be_bytes())?;
+    bytes.extend_from_slice(&body)?;
+    bytes.extend_from_slice(&Sha1::digest(&body))
+}
+
+/// Records of the key behind the two of two other keys, and what a load of them prints, with its status. A clock has 1,024 entries at most.
+const MERGES: &[(&[Known], &str, u8)] = &[
+    (&[(0, 1_024), (1_023, 1)], "loaded 4\nP3\n", 0),
+    (&[(0, 1_024), (1_024, 1)], "refused M1 3\n", 1),
+    (
+        &[(0, 1_024), (0, 1_024), (5, 1_019), (1_024, 1)],
+        "refused M1 5\n",
+        1,
+    ),
+    (&[(0, 512), (512, 513), (0, 0)], "refused M1 3\n", 1),
+    (&[(1_024, 1), (0, 1_024), (0, 1_025)], "refused W4 4\n", 1),
+];
+
+/// Whether a load of records comes to that.
+fn is_merged(
+    alloc: Global,
+    records: &[Known],
+    out: &'static str,
+    status: u8,
+) -> Result<bool, AllocError> {
+    let mut old = TWO_KEYS.to_vec(alloc)?;
+    for &known in records {
+        push_known(alloc, &mut old, known)?;
+    }
+    let want = want_of((out, "", status));
+    Ok(done(alloc, &["load", "old", "1", "put"], SCRIPTS, &old, want).0)
+}
+
+/// A record that can't be merged is told by its place, once all records are read.
+#[test]
+fn clocks_that_are_full(rt: HostRuntime) -> Result<(), Fail> {
+    for &(records, out, status) in MERGES {
+        expect(&rt, is_merged(rt.alloc(), records, out, status)?, &records);
     }
     Ok(())
 }
