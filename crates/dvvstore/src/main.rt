@@ -9,38 +9,53 @@ mod session;
 use crate::disk::Disk;
 use crate::network::Network;
 use commands::own::command_with_helpers;
+use std::alloc::{AllocError, Global};
+use std::env::Args;
 use std::process::ExitCode;
 use std::{env, io};
 
-fn main(rt: HostRuntime) -> io::Result<ExitCode> {
-    let alloc = rt.alloc();
-    let mut arguments = Vec::new(alloc);
-    // Words that are no text are those of no command.
-    match env::args(&rt) {
-        Ok(all) => {
-            for argument in all.skip(1) {
-                arguments.push(argument)?;
-            }
-        }
-        Err(error) if error.kind() == io::ErrorKind::OutOfMemory => return Err(error),
-        Err(_) => {}
+/// What stands behind the program's name. Words that are no text are those of no command: none.
+fn arguments(rt: &HostRuntime) -> io::Result<Vec<String>> {
+    match env::args(rt) {
+        Ok(all) => Ok(behind_the_name(rt.alloc(), all)?),
+        Err(error) if error.kind() == io::ErrorKind::OutOfMemory => Err(error),
+        Err(_) => Ok(Vec::new(rt.alloc())),
     }
+}
+
+/// All arguments but the first.
+fn behind_the_name(alloc: Global, all: Args<Global>) -> Result<Vec<String>, AllocError> {
+    let mut arguments = Vec::new(alloc);
+    for argument in all.skip(1) {
+        arguments.push(argument)?;
+    }
+    Ok(arguments)
+}
+
+/// The texts of some words.
+fn texts_of(alloc: Global, arguments: &[String]) -> Result<Vec<&str>, AllocError> {
     let mut words = Vec::new(alloc);
-    for argument in &arguments {
+    for argument in arguments {
         words.push(argument.as_str())?;
     }
-    let mut disk = Disk { rt: &rt, alloc };
+    Ok(words)
+}
+
+/// Does what the words ask for, on the files and the network of the system. Answers the status.
+fn command(rt: &HostRuntime, words: &[&str]) -> Result<u8, AllocError> {
+    let alloc = rt.alloc();
+    let mut disk = Disk { rt, alloc };
     let mut network = Network {
-        rt: &rt,
+        rt,
         err: rt.stderr(),
     };
-    let status = command_with_helpers(
-        alloc,
-        &words,
-        &mut disk,
-        &mut network,
-        &mut rt.stdout(),
-        &mut rt.stderr(),
-    )?;
+    let (mut out, mut err) = (rt.stdout(), rt.stderr());
+    command_with_helpers(alloc, words, &mut disk, &mut network, &mut out, &mut err)
+}
+
+fn main(rt: HostRuntime) -> io::Result<ExitCode> {
+    let arguments = arguments(&rt)?;
+    let words = texts_of(rt.alloc(), &arguments)?;
+    let status = command(&rt, &words)?;
     Ok(ExitCode::from(status))
 }

@@ -12,6 +12,17 @@ pub struct Folder<'a, R> {
     pub path: &'static str,
 }
 
+/// The bytes of the file of a name and an ending.
+pub fn read_ending<F: Files>(
+    alloc: Global,
+    files: &F,
+    name: &str,
+    ending: &str,
+) -> io::Result<Vec<u8>> {
+    let file = format!(in alloc; "{name}.{ending}")?;
+    files.read(alloc, file.as_str())
+}
+
 impl<R: rt::Files + AllocGlobal> Files for Folder<'_, R> {
     fn read(&self, alloc: Global, name: &str) -> io::Result<Vec<u8>> {
         let path = self.path;

@@ -1,11 +1,9 @@
 //! Programs in rows of a file, tried one after another.
 
 use crate::both::Counts;
-use crate::folder::Folder;
-use crate::trying::tell_difference;
+use crate::folder::{Folder, read_ending};
+use crate::trying::{tell_command, tell_difference};
 use commands::files::{Files, Part};
-use commands::own::command_with_helpers;
-use commands::server::Offline;
 use std::alloc::Global;
 use std::io::Write;
 use std::{io, rt};
@@ -49,16 +47,28 @@ pub fn try_rows<R: rt::Files + AllocGlobal>(
 ) -> io::Result<()> {
     let alloc = rt.alloc();
     let folder = Folder { rt, path: "rows/" };
-    let rows = folder.read(alloc, format!(in alloc; "{name}.rows")?.as_str())?;
-    let want = folder.read(alloc, format!(in alloc; "{name}.told")?.as_str())?;
+    let rows = read_ending(alloc, &folder, name, "rows")?;
+    let want = read_ending(alloc, &folder, name, "told")?;
+    write!(told, "rows/{name}.rows ")?;
+    tell_rows(alloc, words, &rows, &want, counts, told)
+}
+
+/// Tells whether each of some rows, a line each, is told as is written.
+fn tell_rows(
+    alloc: Global,
+    words: &[&str],
+    rows: &[u8],
+    want: &[u8],
+    counts: &mut Counts,
+    told: &mut Vec<u8>,
+) -> io::Result<()> {
     let mut got = Vec::new(alloc);
     for line in rows.split(|byte| *byte == b'\n') {
         if !line.is_empty() {
             try_row(alloc, words, line, counts, &mut got)?;
         }
     }
-    write!(told, "rows/{name}.rows ")?;
-    tell_difference(&got, &want, told)
+    tell_difference(&got, want, told)
 }
 
 /// Tells the name of a row, what the command says of its program, and its status. The parts of a row are its name, the program and its input,
@@ -75,14 +85,21 @@ fn try_row(
     got.write_all(b"\n")?;
     let program = bytes_of(alloc, parts.next())?;
     let input = bytes_of(alloc, parts.next())?;
-    let mut row = Row {
-        program: &program,
-        input: &input,
-    };
-    counts.count(alloc, &mut row, &program, &input)?;
-    let mut err = Vec::new(alloc);
-    let status = command_with_helpers(alloc, words, &mut row, &mut Offline, got, &mut err)?;
-    got.write_all(&err)?;
+    tell_program(alloc, words, &program, &input, counts, got)
+}
+
+/// Tells what the command says of a program with this input, and its status.
+fn tell_program(
+    alloc: Global,
+    words: &[&str],
+    program: &[u8],
+    input: &[u8],
+    counts: &mut Counts,
+    got: &mut Vec<u8>,
+) -> io::Result<()> {
+    let mut row = Row { program, input };
+    counts.count(alloc, &mut row, program, input)?;
+    let status = tell_command(alloc, words, &mut row, got)?;
     writeln!(got, "status {status}")
 }
 

@@ -2,18 +2,17 @@
 
 use crate::both::Counts;
 use crate::dialogue::Dialogue;
-use crate::folder::Folder;
+use crate::folder::{Folder, read_ending};
 use crate::rows::try_rows;
-use commands::files::Files as _;
+use commands::files::Files;
 use commands::own::command_with_helpers;
 use commands::server::Offline;
 use std::alloc::Global;
-use std::io;
 use std::io::Write;
-use std::rt::Files;
+use std::{io, rt};
 
 /// Programs of data/, images and raw code.
-const PROGRAMS: [&str; 15] = [
+const PROGRAMS: &[&str] = &[
     "accesses.img",
     "branchy.img",
     "calls.img",
@@ -32,7 +31,7 @@ const PROGRAMS: [&str; 15] = [
 ];
 
 /// Functions of data/c/: images, each with its input, and beside them what the function answers where it is compiled for the machine itself.
-const FUNCTIONS: [&str; 7] = [
+const FUNCTIONS: &[&str] = &[
     "bits", "branches", "buffers", "checksum", "division", "hash", "number",
 ];
 
@@ -40,7 +39,7 @@ const FUNCTIONS: [&str; 7] = [
 type Script = (&'static str, &'static [&'static str], &'static str);
 
 /// Scripts of data/hooks/ and data/scripts/. A dump has to write its file as it stands.
-const SCRIPTS: [Script; 11] = [
+const SCRIPTS: &[Script] = &[
     ("hooks/", &["sim", "at_most_32.script"], "at_most_32"),
     ("hooks/", &["sim", "delete_wins.script"], "delete_wins"),
     ("hooks/", &["sim", "digits_only.script"], "digits_only"),
@@ -71,7 +70,7 @@ const SCRIPTS: [Script; 11] = [
 ];
 
 /// Dialogues of data/http/: what clients send, a connection each, with the answers in a file beside it.
-const DIALOGUES: [&str; 10] = [
+const DIALOGUES: &[&str] = &[
     "broken", "cart", "changes", "hooks", "images", "limits", "parts", "reads", "refused",
     "strange",
 ];
@@ -80,10 +79,10 @@ const DIALOGUES: [&str; 10] = [
 const SEPARATOR: u8 = 0x1e;
 
 /// Rows of data/rows/, programs each with what the verifier tells of it in a file beside them.
-const VERDICTS: [&str; 6] = ["calls", "forms", "images", "joins", "programs", "refusals"];
+const VERDICTS: &[&str] = &["calls", "forms", "images", "joins", "programs", "refusals"];
 
 /// The same, each with what it comes to.
-const RUNS: [&str; 6] = [
+const RUNS: &[&str] = &[
     "accesses",
     "helpers",
     "inputs",
@@ -93,32 +92,44 @@ const RUNS: [&str; 6] = [
 ];
 
 /// Tells of each example what it comes to.
-pub fn try_all<R: Files + AllocGlobal>(rt: &R, told: &mut Vec<u8>) -> io::Result<()> {
+pub fn try_all<R: rt::Files + AllocGlobal>(rt: &R, told: &mut Vec<u8>) -> io::Result<()> {
     let mut counts = Counts::NONE;
-    for name in PROGRAMS {
-        try_program(rt, name, &mut counts, told)?;
-    }
-    for name in FUNCTIONS {
-        try_function(rt, name, &mut counts, told)?;
-    }
-    for (path, words, name) in SCRIPTS {
-        try_script(rt, path, words, name, told)?;
-    }
-    for name in DIALOGUES {
-        try_dialogue(rt, name, told)?;
-    }
-    for name in VERDICTS {
-        try_rows(rt, &["verify", "program"], name, &mut counts, told)?;
-    }
-    for name in RUNS {
-        try_rows(rt, &["run", "program", "input"], name, &mut counts, told)?;
-    }
+    try_programs(rt, &mut counts, told)?;
+    try_functions(rt, &mut counts, told)?;
+    try_scripts(rt, told)?;
+    try_dialogues(rt, told)?;
+    try_all_rows(rt, &["verify", "program"], VERDICTS, &mut counts, told)?;
+    try_all_rows(rt, &["run", "program", "input"], RUNS, &mut counts, told)?;
     let Counts { alike, apart } = counts;
     writeln!(told, "run as driven {alike}, otherwise {apart}")
 }
 
+/// Does what the words ask for, and tells what is written, the output first. Answers the status.
+pub fn tell_command<F: Files>(
+    alloc: Global,
+    words: &[&str],
+    files: &mut F,
+    told: &mut Vec<u8>,
+) -> io::Result<u8> {
+    let mut err = Vec::new(alloc);
+    let status = command_with_helpers(alloc, words, files, &mut Offline, told, &mut err)?;
+    told.write_all(&err)?;
+    Ok(status)
+}
+
+fn try_programs<R: rt::Files + AllocGlobal>(
+    rt: &R,
+    counts: &mut Counts,
+    told: &mut Vec<u8>,
+) -> io::Result<()> {
+    for name in PROGRAMS {
+        try_program(rt, name, counts, told)?;
+    }
+    Ok(())
+}
+
 /// Tells whether a program is let in, and of how many slots it is.
-fn try_program<R: Files + AllocGlobal>(
+fn try_program<R: rt::Files + AllocGlobal>(
     rt: &R,
     name: &str,
     counts: &mut Counts,
@@ -126,70 +137,102 @@ fn try_program<R: Files + AllocGlobal>(
 ) -> io::Result<()> {
     let alloc = rt.alloc();
     let mut data = Folder { rt, path: "" };
-    let program = data.read(alloc, name)?;
-    counts.count(alloc, &mut data, &program, &[])?;
-    let mut err = Vec::new(alloc);
+    count_program(alloc, &mut data, name, counts)?;
     write!(told, "{name} ")?;
-    command_with_helpers(
-        alloc,
-        &["verify", name],
-        &mut data,
-        &mut Offline,
-        told,
-        &mut err,
-    )?;
-    told.write_all(&err)
+    tell_command(alloc, &["verify", name], &mut data, told)?;
+    Ok(())
 }
 
-/// Tells whether a function's image answers to its input what stands beside it.
-fn try_function<R: Files + AllocGlobal>(
-    rt: &R,
+/// Counts the program of a name, without input.
+fn count_program<F: Files>(
+    alloc: Global,
+    files: &mut F,
     name: &str,
+    counts: &mut Counts,
+) -> io::Result<()> {
+    let program = files.read(alloc, name)?;
+    counts.count(alloc, files, &program, &[])
+}
+
+fn try_functions<R: rt::Files + AllocGlobal>(
+    rt: &R,
     counts: &mut Counts,
     told: &mut Vec<u8>,
 ) -> io::Result<()> {
-    let alloc = rt.alloc();
-    let mut functions = Folder { rt, path: "c/" };
-    let image = format!(in alloc; "{name}.img")?;
-    let input = format!(in alloc; "{name}.input")?;
-    let answer = functions.read(alloc, format!(in alloc; "{name}.answer")?.as_str())?;
-    let program = functions.read(alloc, image.as_str())?;
-    let bytes = functions.read(alloc, input.as_str())?;
-    counts.count(alloc, &mut functions, &program, &bytes)?;
-    let mut out = Vec::new(alloc);
-    let mut err = Vec::new(alloc);
-    let words = ["run", image.as_str(), input.as_str()];
-    command_with_helpers(
-        alloc,
-        &words,
-        &mut functions,
-        &mut Offline,
-        &mut out,
-        &mut err,
-    )?;
-    let comes_to = if out.starts_with(&answer) {
+    for name in FUNCTIONS {
+        let is_right = is_answered(rt, name, counts)?;
+        tell_function(name, is_right, told)?;
+    }
+    Ok(())
+}
+
+/// Tells whether a function's image answers to its input what stands beside it.
+fn tell_function(name: &str, is_right: bool, told: &mut Vec<u8>) -> io::Result<()> {
+    let comes_to = if is_right {
         "answers as written"
     } else {
         "answers something else"
     };
-    writeln!(told, "c/{image} {comes_to}")
+    writeln!(told, "c/{name}.img {comes_to}")
+}
+
+/// Whether a function's image answers to its input what stands beside it. Counts that program.
+fn is_answered<R: rt::Files + AllocGlobal>(
+    rt: &R,
+    name: &str,
+    counts: &mut Counts,
+) -> io::Result<bool> {
+    let alloc = rt.alloc();
+    let mut functions = Folder { rt, path: "c/" };
+    let image = format!(in alloc; "{name}.img")?;
+    let input = format!(in alloc; "{name}.input")?;
+    count_function(alloc, &mut functions, image.as_str(), input.as_str(), counts)?;
+    let words = ["run", image.as_str(), input.as_str()];
+    begins_as_written(alloc, &words, &mut functions, name)
+}
+
+/// Counts the program of a name, with the input of another.
+fn count_function<F: Files>(
+    alloc: Global,
+    files: &mut F,
+    image: &str,
+    input: &str,
+    counts: &mut Counts,
+) -> io::Result<()> {
+    let program = files.read(alloc, image)?;
+    let bytes = files.read(alloc, input)?;
+    counts.count(alloc, files, &program, &bytes)
+}
+
+/// Whether the output of what the words ask for begins with the answer of this name.
+fn begins_as_written<F: Files>(
+    alloc: Global,
+    words: &[&str],
+    files: &mut F,
+    name: &str,
+) -> io::Result<bool> {
+    let answer = read_ending(alloc, files, name, "answer")?;
+    let mut out = Vec::new(alloc);
+    tell_command(alloc, words, files, &mut out)?;
+    Ok(out.starts_with(&answer))
+}
+
+fn try_scripts<R: rt::Files + AllocGlobal>(rt: &R, told: &mut Vec<u8>) -> io::Result<()> {
+    for (path, words, name) in SCRIPTS {
+        let (is_same, status) = is_printed(rt, path, words, name)?;
+        tell_script(path, name, is_same, status, told)?;
+    }
+    Ok(())
 }
 
 /// Tells whether the words of a script print what stands beside it, and the status.
-fn try_script<R: Files + AllocGlobal>(
-    rt: &R,
-    path: &'static str,
-    words: &[&str],
+fn tell_script(
+    path: &str,
     name: &str,
+    is_same: bool,
+    status: u8,
     told: &mut Vec<u8>,
 ) -> io::Result<()> {
-    let alloc = rt.alloc();
-    let mut folder = Folder { rt, path };
-    let want = folder.read(alloc, format!(in alloc; "{name}.stdout")?.as_str())?;
-    let mut out = Vec::new(alloc);
-    let mut err = Vec::new(alloc);
-    let status = command_with_helpers(alloc, words, &mut folder, &mut Offline, &mut out, &mut err)?;
-    let is_same = out.as_slice() == want.as_slice() && err.is_empty();
     let comes_to = if is_same {
         "as written"
     } else {
@@ -198,18 +241,67 @@ fn try_script<R: Files + AllocGlobal>(
     writeln!(told, "{path}{name}.script {comes_to}, status {status}")
 }
 
+/// Whether the words of a script print what stands beside it, and the status.
+fn is_printed<R: rt::Files + AllocGlobal>(
+    rt: &R,
+    path: &'static str,
+    words: &[&str],
+    name: &str,
+) -> io::Result<(bool, u8)> {
+    let mut folder = Folder { rt, path };
+    let want = read_ending(rt.alloc(), &folder, name, "stdout")?;
+    prints_so(rt.alloc(), words, &mut folder, &want)
+}
+
+/// Whether what the words ask for writes this to the output and nothing else, and the status.
+fn prints_so<F: Files>(
+    alloc: Global,
+    words: &[&str],
+    files: &mut F,
+    want: &[u8],
+) -> io::Result<(bool, u8)> {
+    let mut out = Vec::new(alloc);
+    let mut err = Vec::new(alloc);
+    let status = command_with_helpers(alloc, words, files, &mut Offline, &mut out, &mut err)?;
+    Ok((out.as_slice() == want && err.is_empty(), status))
+}
+
+fn try_dialogues<R: rt::Files + AllocGlobal>(rt: &R, told: &mut Vec<u8>) -> io::Result<()> {
+    for name in DIALOGUES {
+        try_dialogue(rt, name, told)?;
+    }
+    Ok(())
+}
+
 /// Tells of how many connections the requests are answered by what stands beside them, and of each other one from which byte on
 /// they aren't.
-fn try_dialogue<R: Files + AllocGlobal>(rt: &R, name: &str, told: &mut Vec<u8>) -> io::Result<()> {
+fn try_dialogue<R: rt::Files + AllocGlobal>(
+    rt: &R,
+    name: &str,
+    told: &mut Vec<u8>,
+) -> io::Result<()> {
     let alloc = rt.alloc();
     let mut http = Folder { rt, path: "http/" };
-    let requests = http.read(alloc, format!(in alloc; "{name}.requests")?.as_str())?;
-    let want = http.read(alloc, format!(in alloc; "{name}.answers")?.as_str())?;
-    let mut want = want.split(|byte| *byte == SEPARATOR);
+    let requests = read_ending(alloc, &http, name, "requests")?;
+    let answers = read_ending(alloc, &http, name, "answers")?;
+    let as_written = try_connections(alloc, &mut http, name, &requests, &answers, told)?;
+    writeln!(told, "http/{name}.requests as written on {as_written}")
+}
+
+/// How many connections are answered as is written. Tells of each other one.
+fn try_connections<F: Files>(
+    alloc: Global,
+    files: &mut F,
+    name: &str,
+    requests: &[u8],
+    answers: &[u8],
+    told: &mut Vec<u8>,
+) -> io::Result<u32> {
+    let mut answers = answers.split(|byte| *byte == SEPARATOR);
     let mut as_written = 0u32;
     for requests in requests.split(|byte| *byte == SEPARATOR) {
-        let answers = answers_on_store(alloc, &mut http, requests)?;
-        match first_difference(&answers, want.next().unwrap_or(&[])) {
+        let want = answers.next().unwrap_or(&[]);
+        match answered_otherwise(alloc, files, requests, want)? {
             None => as_written = as_written.saturating_add(1),
             Some(at) => writeln!(
                 told,
@@ -217,15 +309,17 @@ fn try_dialogue<R: Files + AllocGlobal>(rt: &R, name: &str, told: &mut Vec<u8>) 
             )?,
         }
     }
-    writeln!(told, "http/{name}.requests as written on {as_written}")
+    Ok(as_written)
 }
 
-/// What a client is answered to the bytes that it sends, by the store that dvvstore serves; nothing where it isn't served.
-fn answers_on_store<R: Files + AllocGlobal>(
+/// From which byte on a client is answered something else to the bytes that it sends, by the store that dvvstore serves; a client that
+/// isn't served is answered nothing.
+fn answered_otherwise<F: Files>(
     alloc: Global,
-    data: &mut Folder<'_, R>,
+    files: &mut F,
     requests: &[u8],
-) -> io::Result<Vec<u8>> {
+    want: &[u8],
+) -> io::Result<Option<usize>> {
     let mut dialogue = Dialogue {
         requests,
         answers: Vec::new(alloc),
@@ -233,8 +327,22 @@ fn answers_on_store<R: Files + AllocGlobal>(
     let mut out = Vec::new(alloc);
     let mut err = Vec::new(alloc);
     let words = ["serve", "memory", "1", "1"];
-    command_with_helpers(alloc, &words, data, &mut dialogue, &mut out, &mut err)?;
-    Ok(dialogue.answers)
+    command_with_helpers(alloc, &words, files, &mut dialogue, &mut out, &mut err)?;
+    Ok(first_difference(&dialogue.answers, want))
+}
+
+/// Tells of the rows of each file. The words are those of a command.
+fn try_all_rows<R: rt::Files + AllocGlobal>(
+    rt: &R,
+    words: &[&str],
+    names: &[&str],
+    counts: &mut Counts,
+    told: &mut Vec<u8>,
+) -> io::Result<()> {
+    for name in names {
+        try_rows(rt, words, name, counts, told)?;
+    }
+    Ok(())
 }
 
 /// Tells whether two texts are the same, or from which byte on, counted from 0, they aren't.
