@@ -2,4 +2,5 @@
 
 mod put_hooks;
 mod registries;
+mod resolvers;
 mod tables;

@@ -4,4 +4,5 @@ mod alterations;
 mod late;
 mod losses;
 mod operations;
+mod repairs;
 mod shown;

@@ -136,7 +136,7 @@ const BEFORE: ImageKind = ImageKind::PreCommit;
 
 const RESOLVER: ImageKind = ImageKind::Resolver;
 
-const CHANGES: [Row; 9] = [
+const CHANGES: &[Row] = &[
     Row {
         step: Step::Remove(b"no"),
         back: Err(HookFault::NameUnknown),
@@ -205,12 +205,12 @@ const CHANGES: [Row; 9] = [
 
 #[test]
 fn changes_take_effect_at_once(rt: HostRuntime) -> Result<(), Fail> {
-    assert_eq!(rt; told_rightly(rt.alloc(), &CHANGES)?, 9);
+    assert_eq!(rt; told_rightly(rt.alloc(), CHANGES)?, 9);
     Ok(())
 }
 
 /// All of a binding's names, or none: an unknown name is told before a kind that differs.
-const REFUSED: [Row; 3] = [
+const REFUSED: &[Row] = &[
     Row {
         step: Step::Install(b"no", BEFORE),
         back: Ok(()),
@@ -236,7 +236,7 @@ const REFUSED: [Row; 3] = [
 
 #[test]
 fn refused_bindings(rt: HostRuntime) -> Result<(), Fail> {
-    assert_eq!(rt; told_rightly(rt.alloc(), &REFUSED)?, 3);
+    assert_eq!(rt; told_rightly(rt.alloc(), REFUSED)?, 3);
     Ok(())
 }
 

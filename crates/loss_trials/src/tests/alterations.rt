@@ -4,10 +4,12 @@ use crate::tests::late::deliver_late;
 use crate::tests::operations::{Operation, operate, prepare};
 use audit::AuditCode;
 use audit_parts::{Alteration, Altered, Told, alter, judge};
+use code_parts::expect;
 use local::Local;
 use std::alloc::Global;
 use std::test::Fail;
 use trial_parts::building::three_losing;
+use vnode::Vnode;
 
 /// Makes an operation of which nothing is lost, and delivers late copies of what was read.
 fn operate_whole(alloc: Global, local: &mut Local, operation: Operation) -> Result<(), Fail> {
@@ -16,19 +18,30 @@ fn operate_whole(alloc: Global, local: &mut Local, operation: Operation) -> Resu
     deliver_late(alloc, local)
 }
 
-/// What the audit tells of the journals, and where this is altered in them.
-fn tell(alloc: Global, operation: Operation, altered: Altered) -> Result<(Told, Told), Fail> {
-    let mut local = three_losing(alloc, &[])?;
-    operate_whole(alloc, &mut local, operation)?;
-    let vnodes = alter(alloc, local.vnodes(), altered)?;
-    Ok((judge(alloc, local.vnodes())?, judge(alloc, &vnodes)?))
-}
-
 /// An operation, what is altered, and what is told then.
 type Row = (Operation, Altered, Told);
 
+/// Whether the audit says yes to the journals of an operation, and tells of them what its row says where something is altered in them.
+fn is_told(alloc: Global, row: &Row) -> Result<bool, Fail> {
+    let (operation, altered, want) = *row;
+    let mut local = three_losing(alloc, &[])?;
+    operate_whole(alloc, &mut local, operation)?;
+    judged_so(alloc, local.vnodes(), altered, want)
+}
+
+/// Whether the audit says yes to the journals of vnodes, and tells this of them where something is altered.
+fn judged_so(
+    alloc: Global,
+    vnodes: &[Vnode],
+    altered: Altered,
+    want: Told,
+) -> Result<bool, Fail> {
+    let changed = alter(alloc, vnodes, altered)?;
+    Ok(judge(alloc, vnodes)?.is_none() && judge(alloc, &changed)? == want)
+}
+
 /// A content is told where a state is first merged that shows it, the last read of a journal where what it answered is first merged.
-const ROWS: [Row; 6] = [
+const ROWS: &[Row] = &[
     (
         Operation::Put,
         (1, 0, Alteration::OtherContent),
@@ -63,8 +76,8 @@ const ROWS: [Row; 6] = [
 
 #[test]
 fn altered_journals_are_told(rt: HostRuntime) -> Result<(), Fail> {
-    for (operation, altered, told) in &ROWS {
-        assert_eq!(rt; tell(rt.alloc(), *operation, *altered)?, (None, *told));
+    for row in ROWS {
+        expect(is_told(rt.alloc(), row)?, &row.1)?;
     }
     Ok(())
 }

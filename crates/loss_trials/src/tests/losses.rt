@@ -4,6 +4,7 @@ use crate::tests::late::deliver_late;
 use crate::tests::operations::{Loss, Operation, Stored, lose, operate, prepare, stored_by};
 use crate::tests::shown::all_are_kept;
 use audit_parts::{Told, judge};
+use code_parts::expect;
 use local::Local;
 use peers::Peers;
 use quorum::QuorumFault;
@@ -59,21 +60,41 @@ fn outcome(alloc: Global, operation: Operation, loss: Loss) -> Result<Outcome, F
     outcome_at(alloc, &mut local, operation, loss)
 }
 
-/// What it comes to where the call with this number is lost, where its answer is, and where it and all calls after it are.
-fn outcomes(alloc: Global, operation: Operation, number: u64) -> Result<[Outcome; 3], Fail> {
-    Ok([
-        outcome(alloc, operation, Loss::Call(number))?,
-        outcome(alloc, operation, Loss::Answer(number))?,
-        outcome(alloc, operation, Loss::CallsFrom(number))?,
-    ])
+/// Whether it is refused so, and nothing that was acknowledged is lost.
+fn is_sound(
+    alloc: Global,
+    operation: Operation,
+    loss: Loss,
+    refused: Option<QuorumFault>,
+) -> Result<bool, Fail> {
+    Ok(outcome(alloc, operation, loss)? == (refused, [true, true], None))
 }
 
-/// Why an operation is refused, in the three cases.
+/// Why an operation is refused of which a call is lost, its answer, or it and all calls after it.
 type Refusals = [Option<QuorumFault>; 3];
 
-/// The outcomes where nothing that was acknowledged is lost.
-fn sound(refusals: &Refusals) -> [Outcome; 3] {
-    refusals.map(|refused| (refused, [true, true], None))
+/// Whether it is so with the call of this number, each time.
+fn are_sound(
+    alloc: Global,
+    operation: Operation,
+    number: u64,
+    refusals: &Refusals,
+) -> Result<bool, Fail> {
+    let [call, answer, all] = *refusals;
+    Ok(is_sound(alloc, operation, Loss::Call(number), call)?
+        && is_sound(alloc, operation, Loss::Answer(number), answer)?
+        && is_sound(alloc, operation, Loss::CallsFrom(number), all)?)
+}
+
+/// The calls of an operation, by their numbers, each with why the operation is refused.
+type Row = (u64, Refusals);
+
+/// Fails where what is acknowledged is lost with a call of one of the rows.
+fn expect_all(alloc: Global, operation: Operation, rows: &[Row]) -> Result<(), Fail> {
+    for (number, refusals) in rows {
+        expect(are_sound(alloc, operation, *number, refusals)?, number)?;
+    }
+    Ok(())
 }
 
 const FEW: Option<QuorumFault> = Some(QuorumFault::TooFew);
@@ -82,7 +103,7 @@ const AHEAD: Option<QuorumFault> = Some(QuorumFault::Refused(VnodeFault::Context
 
 /// Call 0 is the first put, 1 and 2 bring vnode 1's state, 3 and 4 that of vnode 2, 5 is the second put, 6 the read of what it left, and 7
 /// and 8 are the copies. There is no call 9.
-const PUTS: [(u64, Refusals); 10] = [
+const PUTS: &[Row] = &[
     (0, [FEW, FEW, FEW]),
     (1, [AHEAD, AHEAD, FEW]),
     (2, [AHEAD, None, FEW]),
@@ -97,17 +118,11 @@ const PUTS: [(u64, Refusals); 10] = [
 
 #[test]
 fn calls_of_a_put(rt: HostRuntime) -> Result<(), Fail> {
-    for (number, refusals) in &PUTS {
-        assert_eq!(rt;
-            outcomes(rt.alloc(), Operation::Put, *number)?,
-            sound(refusals)
-        );
-    }
-    Ok(())
+    expect_all(rt.alloc(), Operation::Put, PUTS)
 }
 
 /// Calls 0 to 2 are the reads, and 3 to 6 the repair. There is no call 7.
-const GETS: [(u64, Refusals); 8] = [
+const GETS: &[Row] = &[
     (0, [None, None, FEW]),
     (1, [None, None, None]),
     (2, [None, None, None]),
@@ -120,13 +135,7 @@ const GETS: [(u64, Refusals); 8] = [
 
 #[test]
 fn calls_of_a_get_and_its_repair(rt: HostRuntime) -> Result<(), Fail> {
-    for (number, refusals) in &GETS {
-        assert_eq!(rt;
-            outcomes(rt.alloc(), Operation::GetAndRepair, *number)?,
-            sound(refusals)
-        );
-    }
-    Ok(())
+    expect_all(rt.alloc(), Operation::GetAndRepair, GETS)
 }
 
 /// Call 0 names the keys of vnode 0, 1 to 6 bring them to vnode 1, call 7 names those of vnode 1, and 8 to 14 bring them to vnode 0. There
@@ -134,10 +143,7 @@ fn calls_of_a_get_and_its_repair(rt: HostRuntime) -> Result<(), Fail> {
 #[test]
 fn calls_of_an_exchange(rt: HostRuntime) -> Result<(), Fail> {
     for number in 0..16 {
-        assert_eq!(rt;
-            outcomes(rt.alloc(), Operation::Exchange, number)?,
-            sound(&[None, None, None])
-        );
+        expect(are_sound(rt.alloc(), Operation::Exchange, number, &[None; 3])?, &number)?;
     }
     Ok(())
 }
@@ -150,18 +156,22 @@ fn failures(alloc: Global, operation: Operation, number: u64) -> Result<u64, Fai
 }
 
 /// Operations, each with the number of its last call and the next number.
-const LAST: [(Operation, u64, u64); 3] = [
+const LAST: &[(Operation, u64, u64)] = &[
     (Operation::Put, 8, 9),
     (Operation::GetAndRepair, 6, 7),
     (Operation::Exchange, 14, 15),
 ];
 
-/// One call fails anyhow: the put whose context is ahead, or a copy that was lost before.
+/// Whether the number is that of the last call. One call fails anyhow: the put whose context is ahead, or a copy that was lost before.
+fn is_last(alloc: Global, operation: Operation, last: u64, next: u64) -> Result<bool, Fail> {
+    Ok(failures(alloc, operation, last)? == 2 && failures(alloc, operation, next)? == 1)
+}
+
 #[test]
 fn no_call_is_left_out(rt: HostRuntime) -> Result<(), Fail> {
-    for (operation, last, next) in &LAST {
-        assert_eq!(rt; failures(rt.alloc(), *operation, *last)?, 2);
-        assert_eq!(rt; failures(rt.alloc(), *operation, *next)?, 1);
+    for row in LAST {
+        let (operation, last, next) = *row;
+        expect(is_last(rt.alloc(), operation, last, next)?, row)?;
     }
     Ok(())
 }

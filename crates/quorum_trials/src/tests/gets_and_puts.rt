@@ -3,6 +3,7 @@
 ghost use Rattle.std.specs.Prelude.{◌∷◌, ◌<◌, ◌^◌, length};
 ghost use Rattle.place.specs.Places.{AreDifferent};
 
+use code_parts::expect;
 use dvv::Dot;
 use local::Local;
 use object::Key;
@@ -262,12 +263,12 @@ fn put_losing(
     put_seeing(alloc, local, 0, &[1, 2], key, (1, 1), b"b", 3)
 }
 
-/// What it answers, and the journals' lengths after it.
-fn retried(alloc: Global, lost: &[u64]) -> Result<(Result<Dot, QuorumFault>, [usize; 3]), Fail> {
+/// Whether it answers what its row says, and leaves journals of these lengths.
+fn is_retried(alloc: Global, row: &Retry) -> Result<bool, Fail> {
     let key = key_of(alloc, b"k")?;
     let mut local = three_losing(alloc, &[])?;
-    let back = put_losing(alloc, &mut local, &key, lost)?;
-    Ok((back, lengths(&local)))
+    let back = put_losing(alloc, &mut local, &key, row.lost)?;
+    Ok(back == row.back && lengths(&local) == row.after)
 }
 
 /// The calls that are lost, what the put answers, and the journals' lengths after it.
@@ -285,7 +286,7 @@ const TOO_FEW: Result<Dot, QuorumFault> = Err(QuorumFault::TooFew);
 
 /// Call 0 is the first put, 1 and 2 bring vnode 1's state, 3 and 4 that of vnode 2, and 5 is the second put, where none of
 /// these is lost. A read that is lost brings no merge.
-const RETRIES: [Retry; 7] = [
+const RETRIES: &[Retry] = &[
     Retry {
         lost: &[],
         back: STORED,
@@ -325,9 +326,8 @@ const RETRIES: [Retry; 7] = [
 
 #[test]
 fn lost_calls_of_the_retry(rt: HostRuntime) -> Result<(), Fail> {
-    for row in &RETRIES {
-        let after = row.after;
-        assert_eq!(rt; retried(rt.alloc(), row.lost)?, (row.back, after));
+    for row in RETRIES {
+        expect(is_retried(rt.alloc(), row)?, &row.lost)?;
     }
     Ok(())
 }

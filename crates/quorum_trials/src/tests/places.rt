@@ -1,12 +1,14 @@
 //! Places of keys, preference lists and quorums.
 
+use code_parts::expect;
 use place::{Placement, copies, others, place, preferred, quorum};
+use std::test::Fail;
 
 /// A bucket, a key, how many vnodes there are, and the key's place among them.
 type Place = (&'static [u8], &'static [u8], u32, u32);
 
 /// Computed by another program.
-const PLACES: [Place; 13] = [
+const PLACES: &[Place] = &[
     (b"b", b"k", 3, 0),
     (b"b", b"k", 1, 0),
     (b"b", b"k", 64, 2),
@@ -23,27 +25,26 @@ const PLACES: [Place; 13] = [
 ];
 
 #[test]
-fn places(rt: HostRuntime) {
-    for (bucket, key, vnodes, want) in &PLACES {
-        let some = bucket.len() <= 64 && *vnodes > 0;
-        assert!(rt; some && place(bucket, key, *vnodes) == *want);
+fn places(rt: HostRuntime) -> Result<(), Fail> {
+    for row in PLACES {
+        let (bucket, key, vnodes, want) = *row;
+        let some = bucket.len() <= 64 && vnodes > 0;
+        expect(some && place(bucket, key, vnodes) == want, row)?;
     }
     let one = Placement::at_one(64, 7);
+    let by_digest = Placement::by_digest(64).place_of(b"b", b"k");
     assert_eq!(rt;
-        (
-            one.place_of(b"b", b"k"),
-            one.vnodes(),
-            Placement::by_digest(64).place_of(b"b", b"k")
-        ),
+        (one.place_of(b"b", b"k"), one.vnodes(), by_digest),
         (7, 64, 2)
     );
+    Ok(())
 }
 
 /// How many vnodes there are, how many copies, and how many of these are a quorum.
-const QUORUMS: [[u32; 3]; 5] = [[1, 1, 1], [2, 2, 2], [3, 3, 2], [4, 3, 2], [64, 3, 2]];
+const QUORUMS: &[[u32; 3]] = &[[1, 1, 1], [2, 2, 2], [3, 3, 2], [4, 3, 2], [64, 3, 2]];
 
 /// A place, how many vnodes there are, and the list that begins at it.
-const LISTS: [(u32, u32, &[usize]); 7] = [
+const LISTS: &[(u32, u32, &[usize])] = &[
     (0, 1, &[0]),
     (1, 2, &[1, 0]),
     (0, 3, &[0, 1, 2]),
@@ -54,7 +55,7 @@ const LISTS: [(u32, u32, &[usize]); 7] = [
 ];
 
 /// A place, an index of the list that begins at it, how many vnodes there are, and the list without the vnode at the index.
-const OTHERS: [(u32, u32, u32, &[usize]); 6] = [
+const OTHERS: &[(u32, u32, u32, &[usize])] = &[
     (0, 0, 1, &[]),
     (0, 1, 2, &[0]),
     (2, 0, 3, &[0, 1]),
@@ -64,15 +65,19 @@ const OTHERS: [(u32, u32, u32, &[usize]); 6] = [
 ];
 
 #[test]
-fn quorums_and_lists(rt: HostRuntime) {
-    for [vnodes, want, enough] in &QUORUMS {
-        assert_eq!(rt; [copies(*vnodes), quorum(*want)], [*want, *enough]);
+fn quorums_and_lists(_rt: HostRuntime) -> Result<(), Fail> {
+    for row in QUORUMS {
+        let [vnodes, want, enough] = *row;
+        expect(copies(vnodes) == want && quorum(want) == enough, row)?;
     }
-    for (first, vnodes, list) in &LISTS {
-        assert!(rt; *first < *vnodes && preferred(*first, *vnodes).as_slice() == *list);
+    for row in LISTS {
+        let (first, vnodes, list) = *row;
+        expect(first < vnodes && preferred(first, vnodes).as_slice() == list, row)?;
     }
-    for (first, at, vnodes, list) in &OTHERS {
-        let inside = *first < *vnodes && *at < copies(*vnodes);
-        assert!(rt; inside && others(*first, *at, *vnodes).as_slice() == *list);
+    for row in OTHERS {
+        let (first, at, vnodes, list) = *row;
+        let inside = first < vnodes && at < copies(vnodes);
+        expect(inside && others(first, at, vnodes).as_slice() == list, row)?;
     }
+    Ok(())
 }

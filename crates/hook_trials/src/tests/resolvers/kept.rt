@@ -1,6 +1,7 @@
 //! Gets whose own answer stands.
 
-use crate::tests::outcomes::{BOTH, Only, Outcome, Want, has, resolved_by};
+use crate::tests::resolvers::outcomes::{BOTH, Only, Outcome, Want, has, resolved_by};
+use code_parts::expect;
 use helpers::Table;
 use peers::PeerFault;
 use quorum::{Hooking, ResolveFault, Resolved};
@@ -33,33 +34,41 @@ fn one_sibling_needs_no_resolver(rt: HostRuntime) -> Result<(), Fail> {
 }
 
 /// The call that is lost, and the journals' lengths after the resolve.
-const CUTS: [(u64, [usize; 3]); 4] = [
+const CUTS: &[(u64, [usize; 3])] = &[
     (0, [3, 3, 1]),
     (1, [4, 3, 1]),
     (2, [5, 3, 1]),
     (3, [6, 3, 1]),
 ];
 
+/// Whether the get's own answer stands of which this call of the resolve is lost, with journals of these lengths.
+fn is_cut_short(alloc: Global, lost: u64, after: [usize; 3]) -> Result<bool, Fail> {
+    let cut = Some(ResolveFault::Cut(PeerFault::Lost));
+    Ok(resolved_by(alloc, 128, &answer(256), &[lost], &BOTH)? == (cut, true, after))
+}
+
 /// A merge, the put or the read is lost: the get's own answer stands, and no call follows.
 #[test]
 fn resolves_that_are_cut_short(rt: HostRuntime) -> Result<(), Fail> {
-    let cut = Some(ResolveFault::Cut(PeerFault::Lost));
-    for (lost, after) in &CUTS {
-        let outcome = resolved_by(rt.alloc(), 128, &answer(256), &[*lost], &BOTH)?;
-        assert_eq!(rt; outcome, (cut, true, *after), "lost {lost}");
+    for (lost, after) in CUTS {
+        expect(is_cut_short(rt.alloc(), *lost, *after)?, lost)?;
     }
     Ok(())
 }
 
 /// A resolver's input window, and its answer: keep, no code of a resolver, no such sibling, and an input of 66 bytes that is too
 /// large.
-const NOTHING: [(u16, u16); 4] = [(128, 0), (128, 7), (128, 258), (65, 256)];
+const NOTHING: &[(u16, u16)] = &[(128, 0), (128, 7), (128, 258), (65, 256)];
+
+/// Whether the siblings stand as they were where the resolver has this window and this answer.
+fn writes_nothing(alloc: Global, window: u16, code: u16) -> Result<bool, Fail> {
+    Ok(resolved_by(alloc, window, &answer(code), &[], &BOTH)? == (None, true, [3, 3, 1]))
+}
 
 #[test]
 fn resolvers_that_write_nothing(rt: HostRuntime) -> Result<(), Fail> {
-    for (window, code) in &NOTHING {
-        let outcome = resolved_by(rt.alloc(), *window, &answer(*code), &[], &BOTH)?;
-        assert_eq!(rt; outcome, (None, true, [3, 3, 1]), "answer {code}");
+    for (window, code) in NOTHING {
+        expect(writes_nothing(rt.alloc(), *window, *code)?, code)?;
     }
     Ok(())
 }

@@ -1,6 +1,6 @@
 //! Resolvers that write.
 
-use crate::tests::outcomes::{Only, Outcome, Want, has, resolved_by};
+use crate::tests::resolvers::outcomes::{Only, Outcome, Want, has, resolved_by};
 use dvv::Dot;
 use local::Local;
 use object::{Key, KeyState};

@@ -2,6 +2,7 @@
 
 ghost use Rattle.std.specs.Prelude.{◌<◌, ◌^◌, length};
 
+use code_parts::expect;
 use dvv::{Clock, Dot};
 use local::Local;
 use object::{Key, KeyState};
@@ -43,7 +44,7 @@ const STORED: Result<Dot, QuorumFault> = Ok(Dot { vnode: 0, n: 1 });
 const FEW: Result<Dot, QuorumFault> = Err(QuorumFault::TooFew);
 
 /// A call whose answer is lost is made: what it stored stays, and what it should have told is missing.
-const ROWS: [Row; 8] = [
+const ROWS: &[Row] = &[
     Row {
         lost: &[],
         unheard: &[],
@@ -136,12 +137,15 @@ fn losing(alloc: Global, lost: &[u64], unheard: &[u64]) -> Result<Outcome, Fail>
     put_and_repair(alloc, &mut local)
 }
 
+/// Whether they come to what a row says.
+fn is_as_told(alloc: Global, row: &Row) -> Result<bool, Fail> {
+    Ok(losing(alloc, row.lost, row.unheard)? == (row.put, row.found, row.lengths))
+}
+
 #[test]
 fn lost_calls(rt: HostRuntime) -> Result<(), Fail> {
-    for row in &ROWS {
-        let outcome = losing(rt.alloc(), row.lost, row.unheard)?;
-        let lengths = row.lengths;
-        assert_eq!(rt; outcome, (row.put, row.found, lengths));
+    for row in ROWS {
+        expect(is_as_told(rt.alloc(), row)?, &(row.lost, row.unheard))?;
     }
     Ok(())
 }

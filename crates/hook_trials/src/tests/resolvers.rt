@@ -1,0 +1,5 @@
+//! Gets with resolvers, by what becomes of the siblings.
+
+mod kept;
+mod outcomes;
+mod written;

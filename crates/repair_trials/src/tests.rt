@@ -1,3 +1,0 @@
-//! The tests of repairs.
-
-mod repairs;

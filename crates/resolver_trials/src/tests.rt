@@ -1,5 +1,0 @@
-//! The tests by what becomes of the siblings.
-
-mod kept;
-mod outcomes;
-mod written;
