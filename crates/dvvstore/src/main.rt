@@ -32,30 +32,30 @@ fn behind_the_name(alloc: Global, all: Args<Global>) -> Result<Vec<String>, Allo
     Ok(arguments)
 }
 
-/// The texts of some words.
-fn texts_of(alloc: Global, arguments: &[String]) -> Result<Vec<&str>, AllocError> {
+/// Does what the arguments ask for, on the files and the network of the system. Answers the status.
+fn command(rt: &HostRuntime, arguments: &[String]) -> Result<u8, AllocError> {
+    let alloc = rt.alloc();
     let mut words = Vec::new(alloc);
     for argument in arguments {
         words.push(argument.as_str())?;
     }
-    Ok(words)
-}
-
-/// Does what the words ask for, on the files and the network of the system. Answers the status.
-fn command(rt: &HostRuntime, words: &[&str]) -> Result<u8, AllocError> {
-    let alloc = rt.alloc();
     let mut disk = Disk { rt, alloc };
     let mut network = Network {
         rt,
         err: rt.stderr(),
     };
-    let (mut out, mut err) = (rt.stdout(), rt.stderr());
-    command_with_helpers(alloc, words, &mut disk, &mut network, &mut out, &mut err)
+    command_with_helpers(
+        alloc,
+        &words,
+        &mut disk,
+        &mut network,
+        &mut rt.stdout(),
+        &mut rt.stderr(),
+    )
 }
 
 fn main(rt: HostRuntime) -> io::Result<ExitCode> {
     let arguments = arguments(&rt)?;
-    let words = texts_of(rt.alloc(), &arguments)?;
-    let status = command(&rt, &words)?;
+    let status = command(&rt, &arguments)?;
     Ok(ExitCode::from(status))
 }

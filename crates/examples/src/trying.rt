@@ -211,9 +211,10 @@ fn begins_as_written<F: Files>(
     files: &mut F,
     name: &str,
 ) -> io::Result<bool> {
-    let answer = read_ending(alloc, files, name, "answer")?;
+    let answer = read_ending(alloc, &*files, name, "answer")?;
     let mut out = Vec::new(alloc);
-    tell_command(alloc, words, files, &mut out)?;
+    let mut err = Vec::new(alloc);
+    command_with_helpers(alloc, words, files, &mut Offline, &mut out, &mut err)?;
     Ok(out.starts_with(&answer))
 }
 
