@@ -186,7 +186,13 @@ fn is_answered<R: rt::Files + AllocGlobal>(
     let mut functions = Folder { rt, path: "c/" };
     let image = format!(in alloc; "{name}.img")?;
     let input = format!(in alloc; "{name}.input")?;
-    count_function(alloc, &mut functions, image.as_str(), input.as_str(), counts)?;
+    count_function(
+        alloc,
+        &mut functions,
+        image.as_str(),
+        input.as_str(),
+        counts,
+    )?;
     let words = ["run", image.as_str(), input.as_str()];
     begins_as_written(alloc, &words, &mut functions, name)
 }

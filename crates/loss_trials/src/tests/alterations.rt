@@ -30,12 +30,7 @@ fn is_told(alloc: Global, row: &Row) -> Result<bool, Fail> {
 }
 
 /// Whether the audit says yes to the journals of vnodes, and tells this of them where something is altered.
-fn judged_so(
-    alloc: Global,
-    vnodes: &[Vnode],
-    altered: Altered,
-    want: Told,
-) -> Result<bool, Fail> {
+fn judged_so(alloc: Global, vnodes: &[Vnode], altered: Altered, want: Told) -> Result<bool, Fail> {
     let changed = alter(alloc, vnodes, altered)?;
     Ok(judge(alloc, vnodes)?.is_none() && judge(alloc, &changed)? == want)
 }

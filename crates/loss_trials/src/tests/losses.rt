@@ -81,9 +81,11 @@ fn are_sound(
     refusals: &Refusals,
 ) -> Result<bool, Fail> {
     let [call, answer, all] = *refusals;
-    Ok(is_sound(alloc, operation, Loss::Call(number), call)?
-        && is_sound(alloc, operation, Loss::Answer(number), answer)?
-        && is_sound(alloc, operation, Loss::CallsFrom(number), all)?)
+    Ok(
+        is_sound(alloc, operation, Loss::Call(number), call)?
+            && is_sound(alloc, operation, Loss::Answer(number), answer)?
+            && is_sound(alloc, operation, Loss::CallsFrom(number), all)?,
+    )
 }
 
 /// The calls of an operation, by their numbers, each with why the operation is refused.
@@ -143,7 +145,10 @@ fn calls_of_a_get_and_its_repair(rt: HostRuntime) -> Result<(), Fail> {
 #[test]
 fn calls_of_an_exchange(rt: HostRuntime) -> Result<(), Fail> {
     for number in 0..16 {
-        expect(are_sound(rt.alloc(), Operation::Exchange, number, &[None; 3])?, &number)?;
+        expect(
+            are_sound(rt.alloc(), Operation::Exchange, number, &[None; 3])?,
+            &number,
+        )?;
     }
     Ok(())
 }

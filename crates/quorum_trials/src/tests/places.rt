@@ -72,7 +72,10 @@ fn quorums_and_lists(_rt: HostRuntime) -> Result<(), Fail> {
     }
     for row in LISTS {
         let (first, vnodes, list) = *row;
-        expect(first < vnodes && preferred(first, vnodes).as_slice() == list, row)?;
+        expect(
+            first < vnodes && preferred(first, vnodes).as_slice() == list,
+            row,
+        )?;
     }
     for row in OTHERS {
         let (first, at, vnodes, list) = *row;

@@ -116,12 +116,7 @@ const ALTERED: &[Alike] = &[
 ];
 
 /// Whether the audit says yes to the journals of vnodes, and tells this of them where something is altered.
-fn judged_so(
-    alloc: Global,
-    vnodes: &[Vnode],
-    altered: Altered,
-    want: Told,
-) -> Result<bool, Fail> {
+fn judged_so(alloc: Global, vnodes: &[Vnode], altered: Altered, want: Told) -> Result<bool, Fail> {
     let others = alter(alloc, vnodes, altered)?;
     Ok(judge(alloc, vnodes)?.is_none() && judge(alloc, &others)? == want)
 }
