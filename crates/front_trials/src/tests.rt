@@ -2,5 +2,4 @@
 
 mod connections;
 mod opening;
-mod refusals;
 mod rows;
