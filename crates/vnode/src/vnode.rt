@@ -1,15 +1,16 @@
 //! A vnode: what its journal says happened.
 
-ghost use Rattle.std.specs.Prelude.{◌≡◌, ◌≢◌, ◌↔◌, Contains, IsTrue, OnOk, OnErr, IfOk, IfErr, [], length, Err, List, ◌+◌, ◌^◌, ◌≤◌, ◌<◌, ◌⊎◌, All};
+ghost use Rattle.std.specs.Prelude.{◌≡◌, ◌≢◌, ◌↔◌, Contains, IsTrue, OnOk, OnErr, IfOk, IfErr, [], false, length, Err, List, ◌+◌, ◌^◌, ◌≤◌, ◌<◌, ◌⊎◌, All};
 
-use crate::fault::VnodeFault;
+use crate::fault::{PartFault, VnodeFault};
+use crate::parts::{part_refusal_at, summary_at, whole_merged};
 use crate::steps::{
     Copied, copies_at, has_places_for, keys_in, merge_at, merge_refusal_at, merged_of, put_at,
     put_refusal_at, read_all_at, write_of,
 };
 use dvv::{Clock, Dot};
 use journal::{Entry, Handout, Journal, Merged, Write};
-use object::{Content, Key, KeyState};
+use object::{Content, Key, KeyState, Part, Summary};
 use std::alloc::{AllocError, Global};
 use std::collections::BTreeMap;
 use std::marker::Model;
@@ -40,15 +41,18 @@ impl Vnode {
     ghost use Rattle.object.specs.State.{State};
     ghost use Rattle.std.specs.List.Sorted.{IsStrictlySortedBy};
     ghost use Rattle.journal.specs.Keys.{key_cmp};
-    ghost use Rattle.journal.specs.Replay.{IsReplay, IsNextDot, IsKeyOf};
+    ghost use Rattle.journal.specs.Replay.{Leaves, IsReplay, IsNextDot, IsKeyOf};
     ghost use Rattle.journal.specs.Limits.{TakesEntry, AcceptsPut, AcceptsMerge};
     ghost use Rattle.journal.specs.Journals.{IsJournal};
     ghost use Rattle.journal.specs.Answers.{TellsChange};
+    ghost use Rattle.object.specs.Parts.{summary_of, lacks_some, whole_of};
+    ghost use Rattle.vnode.specs.declared.fault.PartFault.{PartFault};
     ghost use Rattle.vnode.specs.declared.fault.VnodeFault.{VnodeFault};
     ghost use Rattle.journal.specs.Blocks.{AreHandedOut};
     ghost use Rattle.vnode.specs.Keys.{AreKeys, reads_of};
     ghost use Rattle.vnode.specs.States.{keys_of};
     ghost use Rattle.vnode.specs.Refusals.{RefusesPut, RefusesMerge, RefusesEntry};
+    ghost use Rattle.vnode.specs.Parts.{RefusesPart};
 
     /// A vnode at which nothing has happened.
     pub fn new(alloc: Global, id: u32) -> Self
@@ -215,6 +219,64 @@ impl Vnode {
         let (own, state) = copies_at(self.alloc, &self.states, key)?;
         let place = self.journal.append(Entry::read(stamp, own));
         Ok((state, place))
+    }
+
+    /// The summary of what is held under a key. Answers it, and the place of the entry: it is a read of the key.
+    pub fn summary(&mut self, stamp: u64, key: &Key) -> Result<(Summary, u32), VnodeFault>
+        ensures summary { IfOk result (λ read. Leaves self.old.entries key.now (λ state. read.0 ≡ summary_of state)) }
+        ensures place { IfOk result (λ read. read.1 ≡ length self.old.entries) }
+        ensures entry { OnOk result (self.new ≡ with_entry self.old (Read stamp key.now)) }
+        ensures accepts { OnOk result (TakesEntry self.old.entries) }
+
+        ensures why { IfErr result (RefusesEntry self.old) }
+        ensures exact { (fault : VnodeFault) → fault ≢ VnodeFault.NoMemory → RefusesEntry self.old fault → result ≡ Err fault }
+        ensures err { OnErr result (self.new ≡ self.old) }
+        ensures legal { IsJournal self.new.vnode self.new.entries }
+    {
+        self.journal.reserve()?;
+        let (own, summary) = summary_at(self.alloc, &self.states, key)?;
+        let place = self.journal.append(Entry::read(stamp, own));
+        Ok((summary, place))
+    }
+
+    /// Merges a part of the state that the vnode `from` answered at place `at` of its journal: a content that was left out is the own
+    /// one under its dot. The entry holds the whole state. Otherwise as [`merge_lent`](Vnode::merge_lent).
+    pub fn merge_part(
+        &mut self,
+        stamp: u64,
+        key: &Key,
+        from: u32,
+        at: u32,
+        part: &Part,
+    ) -> Result<(bool, u32), PartFault>
+        ensures held { OnOk result (Leaves self.old.entries key.now (λ own. lacks_some own part.now ≡ false)) }
+        ensures changed { IfOk result (λ merge. Leaves self.old.entries key.now (λ own. TellsChange self.old.entries (Merge stamp key.now from at (whole_of part.now own)) key.now merge.0)) }
+        ensures place { IfOk result (λ merge. merge.1 ≡ length self.old.entries) }
+        ensures entry { OnOk result (Leaves self.old.entries key.now (λ own. self.new ≡ with_entry self.old (Merge stamp key.now from at (whole_of part.now own)))) }
+        ensures accepts { OnOk result (Leaves self.old.entries key.now (λ own. AcceptsMerge self.old.entries key.now (whole_of part.now own))) }
+
+        // Want of memory is told only where nothing is lacking and no limit is passed.
+        ensures why { IfErr result (RefusesPart self.old key.now part.now) }
+        ensures exact { (fault : PartFault) → fault ≢ PartFault.Refused VnodeFault.NoMemory → RefusesPart self.old key.now part.now fault → result ≡ Err fault }
+        ensures err { OnErr result (self.new ≡ self.old) }
+        ensures legal { IsJournal self.new.vnode self.new.entries }
+    {
+        match whole_merged(self.alloc, &self.states, key, from, at, part) {
+            Some(merged) => match self.merge(stamp, merged) {
+                Ok(merge) => Ok(merge),
+                Err(fault) => Err(PartFault::Refused(fault)),
+            },
+            None => Err(self.part_refusal(key, part)),
+        }
+    }
+
+    // Why a part is refused that lacks a content or finds no memory.
+    fn part_refusal(&self, key: &Key, part: &Part) -> PartFault
+        ensures why { RefusesPart self.now key.now part.now result }
+        ensures exact { (fault : PartFault) → RefusesPart self.now key.now part.now fault → result ≡ fault }
+        ensures legal { IsJournal self.now.vnode self.now.entries }
+    {
+        part_refusal_at(self.alloc, &self.states, &self.journal, key, part)
     }
 
     /// Whether the journal has places for a read of each key at which something is known.
