@@ -1,12 +1,12 @@
 -- Why a part is refused, and what its merge is of the whole state.
-use Rattle.std.proofs.Common.{◌≡◌, ◌≢◌, ℕ, Bool, true, false, Result, Err, List, refl, sym, ap, subst, ◌∙◌}
+use Rattle.std.proofs.Common.{◌≡◌, ◌≢◌, ℕ, false, Result, Err, refl, ap, ◌∙◌}
 use Rattle.std.proofs.lemmas.Bool.{both_ways}
 use Rattle.object.specs.declared.content.Key.{Key}
 use Rattle.object.specs.State.{State}
 use Rattle.object.specs.Parts.{Partial, lacks_some, whole_of}
-use Rattle.journal.specs.Entry.{Entry, Merge}
+use Rattle.journal.specs.Entry.{Merge}
 use Rattle.journal.specs.Logs.{Log}
-use Rattle.journal.specs.Replay.{IsReplay, Leaves}
+use Rattle.journal.specs.Replay.{IsReplay}
 use Rattle.vnode.specs.declared.fault.VnodeFault.{VnodeFault}
 use Rattle.vnode.specs.declared.fault.VnodeFault.TheVariants.{NoMemory}
 use Rattle.vnode.specs.declared.fault.PartFault.{PartFault}

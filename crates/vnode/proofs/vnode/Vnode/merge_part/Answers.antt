@@ -1,9 +1,9 @@
-use Rattle.std.proofs.Common.{◌≡◌, ◌∙◌, Err, sym, ap, subst}
+use Rattle.std.proofs.Common.{◌∙◌, Err, sym, ap, subst}
 use Rattle.object.specs.declared.content.Key.{Key}
 use Rattle.object.specs.State.{State}
 use Rattle.object.specs.Parts.{whole_of}
 use Rattle.journal.specs.Entry.{Entry, Merge}
-use Rattle.journal.specs.Logs.{Log, with_entry}
+use Rattle.journal.specs.Logs.{with_entry}
 use Rattle.journal.specs.Replay.{IsReplay}
 use Rattle.journal.specs.Limits.{AcceptsMerge}
 use Rattle.journal.specs.Answers.{TellsChange}
@@ -32,7 +32,7 @@ returns-in-Ok-clause-changed c = let m = c.in-Some.ensures.merged in (
   state_at c.self.inside.states c.args.key.now,
   subst (λ log. IsReplay log.entries c.args.key.now (state_at c.self.inside.states c.args.key.now)) c.self.view_is (c.self.invariant.leaves c.args.key.now),
   subst (λ (e : Entry). TellsChange c.args.self.now.entries e c.args.key.now c.in-Ok.merge.0) (whole_entry c.args.stamp m.0 m.1 m.2 m.3)
-  (subst (λ (k : Key). TellsChange c.args.self.now.entries (Merge c.args.stamp c.in-Some.merged.value.key c.in-Some.merged.value.from c.in-Some.merged.value.at c.in-Some.merged.value.state) k c.in-Ok.merge.0) m.0 c.in-Ok.ensures.changed),
+      (subst (λ (k : Key). TellsChange c.args.self.now.entries (Merge c.args.stamp c.in-Some.merged.value.key c.in-Some.merged.value.from c.in-Some.merged.value.at c.in-Some.merged.value.state) k c.in-Ok.merge.0) m.0 c.in-Ok.ensures.changed),
 )
 
 pub returns-in-Ok-clause-accepts : goal.returns-in-Ok-clause-accepts
