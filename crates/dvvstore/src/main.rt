@@ -32,30 +32,25 @@ fn behind_the_name(alloc: Global, all: Args<Global>) -> Result<Vec<String>, Allo
     Ok(arguments)
 }
 
-/// Does what the arguments ask for, on the files and the network of the system. Answers the status.
-fn command(rt: &HostRuntime, arguments: &[String]) -> Result<u8, AllocError> {
+fn main(rt: HostRuntime) -> io::Result<ExitCode> {
     let alloc = rt.alloc();
+    let arguments = arguments(&rt)?;
     let mut words = Vec::new(alloc);
-    for argument in arguments {
+    for argument in &arguments {
         words.push(argument.as_str())?;
     }
-    let mut disk = Disk { rt, alloc };
+    let mut disk = Disk { rt: &rt, alloc };
     let mut network = Network {
-        rt,
+        rt: &rt,
         err: rt.stderr(),
     };
-    command_with_helpers(
+    let status = command_with_helpers(
         alloc,
         &words,
         &mut disk,
         &mut network,
         &mut rt.stdout(),
         &mut rt.stderr(),
-    )
-}
-
-fn main(rt: HostRuntime) -> io::Result<ExitCode> {
-    let arguments = arguments(&rt)?;
-    let status = command(&rt, &arguments)?;
+    )?;
     Ok(ExitCode::from(status))
 }
