@@ -2,10 +2,10 @@
 
 ghost use Rattle.std.specs.Prelude.{◌≤◌, ◌^◌};
 
-use crate::tests::steps::{content_of, key_of};
+use crate::tests::steps::key_of;
 use dvv::Clock;
-use journal::Handout;
-use object::Key;
+use journal::{Entry, Handout};
+use object::{Content, Key};
 use std::alloc::Global;
 use std::test::Fail;
 use vnode::Vnode;
@@ -24,14 +24,23 @@ fn read_often(vnode: &mut Vnode, first: u64, count: u64, key: &Key) -> Result<()
 /// Where handed-out blocks begin, how many they are, and the stamps of their entries, first and last.
 type Shape = (usize, usize, Option<u64>, Option<u64>);
 
+/// The stamp of the first entry.
+fn first_stamp(blocks: &[Vec<Entry>]) -> Option<u64> {
+    Some(blocks.first()?.first()?.stamp())
+}
+
+/// The stamp of the last entry.
+fn last_stamp(blocks: &[Vec<Entry>]) -> Option<u64> {
+    Some(blocks.last()?.last()?.stamp())
+}
+
 fn shape(handout: &Handout) -> Shape {
-    let first = handout.blocks.first().and_then(|block| block.first());
-    let last = handout.blocks.last().and_then(|block| block.last());
+    let blocks = handout.blocks.as_slice();
     (
         handout.first,
-        handout.blocks.len(),
-        first.map(|entry| entry.stamp()),
-        last.map(|entry| entry.stamp()),
+        blocks.len(),
+        first_stamp(blocks),
+        last_stamp(blocks),
     )
 }
 
@@ -40,29 +49,36 @@ fn settle(alloc: Global, vnode: &mut Vnode) -> Shape {
     shape(&vnode.settle(Vec::new(alloc)))
 }
 
-/// Puts an `a` with stamp 0.
+/// Puts a tombstone with stamp 0.
 fn put(alloc: Global, vnode: &mut Vnode, key: &Key) -> Result<(), Fail> {
-    let _ = vnode.put_lent(0, key, &Clock::new(alloc), &content_of(alloc, b'a')?)?;
+    let _ = vnode.put_lent(0, key, &Clock::new(alloc), &Content::Tombstone)?;
     Ok(())
 }
 
-/// What a vnode hands out after a put, whether its journal is whole then, and what it hands out after 2,999 reads and after 1,100
-/// more.
-type Settlings = (Shape, bool, Shape, Shape);
-
-fn settlings(alloc: Global, vnode: &mut Vnode, key: &Key) -> Result<Settlings, Fail> {
+/// What a vnode hands out after a put, and whether its journal is whole then.
+fn settle_put(alloc: Global, vnode: &mut Vnode, key: &Key) -> Result<(Shape, bool), Fail> {
     put(alloc, vnode, key)?;
-    let nothing = settle(alloc, vnode);
-    let whole = vnode.journal().whole().is_some();
-    read_often(vnode, 1, 2_999, key)?;
-    let first = settle(alloc, vnode);
-    read_often(vnode, 3_000, 1_100, key)?;
-    Ok((nothing, whole, first, settle(alloc, vnode)))
+    Ok((settle(alloc, vnode), vnode.journal().whole().is_some()))
+}
+
+/// What it hands out after so many reads, with stamps from the first on.
+fn settle_reads(
+    alloc: Global,
+    vnode: &mut Vnode,
+    first: u64,
+    count: u64,
+    key: &Key,
+) -> Result<Shape, Fail>
+    requires first { first ≤ 2 ^ 32 }
+    requires count { count ≤ 2 ^ 32 }
+{
+    read_often(vnode, first, count, key)?;
+    Ok(settle(alloc, vnode))
 }
 
 /// The stamp at a place, where its entry is here.
 fn stamp_at(vnode: &Vnode, place: u32) -> Option<u64> {
-    vnode.journal().get(place).map(|entry| entry.stamp())
+    Some(vnode.journal().get(place)?.stamp())
 }
 
 /// Where what is left of a journal begins, how many entries there are in all, whether it is whole, and the stamps at four places.
@@ -72,7 +88,12 @@ fn left(vnode: &Vnode) -> (usize, usize, bool, [Option<u64>; 4]) {
         journal.first(),
         journal.len(),
         journal.whole().is_some(),
-        [0, 4_095, 4_096, 4_100].map(|place| stamp_at(vnode, place)),
+        [
+            stamp_at(vnode, 0),
+            stamp_at(vnode, 4_095),
+            stamp_at(vnode, 4_096),
+            stamp_at(vnode, 4_100),
+        ],
     )
 }
 
@@ -82,17 +103,22 @@ fn found(vnode: &mut Vnode, key: &Key) -> Result<(usize, u32), Fail> {
     Ok((state.siblings().len(), place))
 }
 
-/// Two settlings hand out two full blocks each.
-const SETTLED: Settlings = (
-    (0, 0, None, None),
-    true,
-    (0, 2, Some(0), Some(2_047)),
-    (2_048, 2, Some(2_048), Some(4_095)),
-);
+/// Nothing is handed out of a journal that has no full block, and it stays whole.
+const AFTER_A_PUT: (Shape, bool) = ((0, 0, None, None), true);
+
+/// After 2,999 reads two full blocks are handed out.
+const AFTER_READS: Shape = (0, 2, Some(0), Some(2_047));
+
+/// And two more after 1,100 further ones.
+const AFTER_MORE: Shape = (2_048, 2, Some(2_048), Some(4_095));
 
 /// Whether a vnode hands that out.
 fn settles(alloc: Global, vnode: &mut Vnode, key: &Key) -> Result<bool, Fail> {
-    Ok(settlings(alloc, vnode, key)? == SETTLED)
+    Ok(
+        settle_put(alloc, vnode, key)? == AFTER_A_PUT
+            && settle_reads(alloc, vnode, 1, 2_999, key)? == AFTER_READS
+            && settle_reads(alloc, vnode, 3_000, 1_100, key)? == AFTER_MORE,
+    )
 }
 
 /// Whether a vnode then has the last four entries, and answers a read as before.
@@ -101,12 +127,20 @@ fn is_as_before(vnode: &mut Vnode, key: &Key) -> Result<bool, Fail> {
     Ok(left(vnode) == (4_096, 4_100, false, stamps) && found(vnode, key)? == (1, 4_100))
 }
 
+/// Whether a vnode does both.
+fn settles_and_answers(alloc: Global, vnode: &mut Vnode, key: &Key) -> Result<bool, Fail> {
+    Ok(settles(alloc, vnode, key)? && is_as_before(vnode, key)?)
+}
+
+/// Whether a new vnode does.
+fn is_settled(alloc: Global) -> Result<bool, Fail> {
+    let key = key_of(alloc, b'k')?;
+    settles_and_answers(alloc, &mut Vnode::new(alloc, 7), &key)
+}
+
 /// What two settlings hand out follows one another; places and answers stay as they were.
 #[test]
 fn settled_vnodes_answer_as_before(rt: HostRuntime) -> Result<(), Fail> {
-    let key = key_of(rt.alloc(), b'k')?;
-    let mut vnode = Vnode::new(rt.alloc(), 7);
-    let told = settles(rt.alloc(), &mut vnode, &key)? && is_as_before(&mut vnode, &key)?;
-    assert!(rt; told);
+    assert!(rt; is_settled(rt.alloc())?);
     Ok(())
 }

@@ -6,7 +6,7 @@ use dvv::Clock;
 use object::{Bytes, Content, Key, KeyState};
 use std::alloc::{AllocError, Global};
 use std::test::Fail;
-use vnode::{Vnode, VnodeFault};
+use vnode::Vnode;
 
 /// A call of a vnode, each but the last two with its stamp and its key. What reads answer is kept, and named by its number, from 0.
 #[derive(Clone, Copy)]
@@ -48,6 +48,18 @@ pub(super) fn content_of(alloc: Global, byte: u8) -> Result<Content, AllocError>
     })
 }
 
+/// Puts a content that had seen what a clock counts.
+fn put_content(
+    vnode: &mut Vnode,
+    stamp: u64,
+    key: &Key,
+    seen: &Clock,
+    content: &Content,
+) -> Result<(), Fail> {
+    let _ = vnode.put_lent(stamp, key, seen, content)?;
+    Ok(())
+}
+
 /// Puts a byte that had seen what a clock counts.
 fn put(
     alloc: Global,
@@ -56,48 +68,10 @@ fn put(
     key: u8,
     seen: &Clock,
     byte: u8,
-) -> Result<(), VnodeFault> {
-    let _ = vnode.put_lent(stamp, &key_of(alloc, key)?, seen, &content_of(alloc, byte)?)?;
-    Ok(())
-}
-
-/// Puts a byte that had seen what a read answered, or nothing.
-fn put_after(
-    alloc: Global,
-    vnode: &mut Vnode,
-    stamp: u64,
-    key: u8,
-    seen: Option<&Answer>,
-    byte: u8,
-) -> Result<(), VnodeFault> {
-    match seen {
-        Some(answer) => put(alloc, vnode, stamp, key, answer.state.clock(), byte),
-        None => put(alloc, vnode, stamp, key, &Clock::new(alloc), byte),
-    }
-}
-
-/// Reads a key.
-fn read(alloc: Global, vnode: &mut Vnode, stamp: u64, key: u8) -> Result<Answer, VnodeFault> {
-    let (state, at) = vnode.read(stamp, &key_of(alloc, key)?)?;
-    Ok(Answer {
-        state,
-        from: vnode.id(),
-        at,
-    })
-}
-
-/// Merges a state as that of this vnode and place.
-fn merge(
-    alloc: Global,
-    vnode: &mut Vnode,
-    stamp: u64,
-    key: u8,
-    from: u32,
-    at: u32,
-    state: &KeyState,
-) -> Result<(), VnodeFault> {
-    let _ = vnode.merge_lent(stamp, &key_of(alloc, key)?, from, at, state)?;
-    Ok(())
+) -> Result<(), Fail> {
+    let key = key_of(alloc, key)?;
+    let content = content_of(alloc, byte)?;
+    put_content(vnode, stamp, &key, seen, &content)
 }
 
 /// The answer with this number.
@@ -106,6 +80,78 @@ fn answered(answers: &[Answer], number: usize) -> Result<&Answer, Fail> {
         Some(answer) => Ok(answer),
         None => Err(Fail::new("no such read")),
     }
+}
+
+/// Puts a byte that had seen what a read answered, or nothing.
+fn put_after(
+    alloc: Global,
+    vnode: &mut Vnode,
+    answers: &[Answer],
+    stamp: u64,
+    key: u8,
+    seen: Option<usize>,
+    byte: u8,
+) -> Result<(), Fail> {
+    match seen {
+        Some(number) => {
+            let seen = answered(answers, number)?.state.clock();
+            put(alloc, vnode, stamp, key, seen, byte)
+        }
+        None => put(alloc, vnode, stamp, key, &Clock::new(alloc), byte),
+    }
+}
+
+/// Reads a key.
+fn read_key(vnode: &mut Vnode, stamp: u64, key: &Key) -> Result<Answer, Fail> {
+    let from = vnode.id();
+    let (state, at) = vnode.read(stamp, key)?;
+    Ok(Answer { state, from, at })
+}
+
+/// Reads a key, and keeps what is answered.
+fn read(
+    alloc: Global,
+    vnode: &mut Vnode,
+    answers: &mut Vec<Answer>,
+    stamp: u64,
+    key: u8,
+) -> Result<(), Fail> {
+    let key = key_of(alloc, key)?;
+    answers.push(read_key(vnode, stamp, &key)?)?;
+    Ok(())
+}
+
+/// Merges a state as that of this vnode and place.
+fn merge_state(
+    vnode: &mut Vnode,
+    stamp: u64,
+    key: &Key,
+    from: u32,
+    at: u32,
+    state: &KeyState,
+) -> Result<(), Fail> {
+    let _ = vnode.merge_lent(stamp, key, from, at, state)?;
+    Ok(())
+}
+
+/// Merges what a read answered as that of this vnode and place.
+fn merge(
+    alloc: Global,
+    vnode: &mut Vnode,
+    stamp: u64,
+    key: u8,
+    from: u32,
+    at: u32,
+    answer: &Answer,
+) -> Result<(), Fail> {
+    let key = key_of(alloc, key)?;
+    merge_state(vnode, stamp, &key, from, at, &answer.state)
+}
+
+/// Starts a vnode again.
+fn restart(vnode: &mut Vnode, stamp: u64) -> Result<(), Fail> {
+    let _ = vnode.restart(stamp)?;
+    Ok(())
 }
 
 /// Makes a step at a vnode.
@@ -117,23 +163,26 @@ fn happen(
 ) -> Result<(), Fail> {
     match step {
         Step::Put(stamp, key, seen, byte) => {
-            let seen = seen.and_then(|number| answers.get(number));
-            put_after(alloc, vnode, stamp, key, seen, byte)?;
+            put_after(alloc, vnode, answers, stamp, key, seen, byte)
         }
-        Step::Read(stamp, key) => answers.push(read(alloc, vnode, stamp, key)?)?,
+        Step::Read(stamp, key) => read(alloc, vnode, answers, stamp, key),
         Step::Merge(stamp, key, from, at, number) => {
-            let state = &answered(answers, number)?.state;
-            merge(alloc, vnode, stamp, key, from, at, state)?;
+            merge(
+                alloc,
+                vnode,
+                stamp,
+                key,
+                from,
+                at,
+                answered(answers, number)?,
+            )
         }
         Step::Deliver(stamp, key, number) => {
-            let Answer { state, from, at } = answered(answers, number)?;
-            merge(alloc, vnode, stamp, key, *from, *at, state)?;
+            let answer = answered(answers, number)?;
+            merge(alloc, vnode, stamp, key, answer.from, answer.at, answer)
         }
-        Step::Restart(stamp) => {
-            let _ = vnode.restart(stamp)?;
-        }
+        Step::Restart(stamp) => restart(vnode, stamp),
     }
-    Ok(())
 }
 
 /// The index of the vnode with this identifier.
