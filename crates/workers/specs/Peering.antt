@@ -49,11 +49,11 @@ abbrev pub IsRead : Size → View → View → ℕ → Request → Result Answer
 IsRead size old new i asked (Ok answer) = (answer.from ≡ size.first + i) × IsReplied size old new i asked answer.at (reply.State answer.state)
 IsRead size old new i asked (Err why) = IsNoReply size old new i asked why
 
--- the keys that a vnode named; nothing more was told, and only memory can lack
+-- the keys that a vnode named; nothing more was told, and what is lost had no vnode: at one that is there only memory can lack
 abbrev pub IsKeys : Size → View → View → ℕ → Result (Vec Key) PeerFault → Type 0
 IsKeys size old new i (Ok keys) = (new.told ≡ old.told) × AreKeysOf size old i keys.items
 IsKeys size old new i (Err Lost) = (new.told ≡ old.told) × (size.vnodes ≤ i)
-IsKeys size old new i (Err (Refused why)) = (new.told ≡ old.told) × (why ≡ NoMemory)
+IsKeys size old new i (Err (Refused why)) = (i < size.vnodes) × (new.told ≡ old.told) × (why ≡ NoMemory)
 
 -- what a call leaves of what the pass knows
 abbrev pub Passes : Size → View → Call → View → Type 0
