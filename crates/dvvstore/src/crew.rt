@@ -13,6 +13,7 @@ use pool::{Cluster, Gate, Pass, Room};
 use quorum::Hooking;
 use std::alloc::{AllocError, Global};
 use std::io::{Eprint, Stderr};
+use std::rt::Clock;
 use std::sync::atomic::AtomicBool;
 use std::sync::atomic::Ordering::SeqCst;
 use std::sync::{Mutex, Wait};
@@ -107,16 +108,16 @@ impl Alarm for Aloud {
     }
 }
 
-/// The pace of a worker: it rests while the thread that follows is behind.
+/// The pace of a worker: it rests while the thread that follows is behind. Its clock is the system's.
 #[derive(Drop)]
-struct Behind<'a, R: Wait> {
+struct Behind<'a, R: Wait + Clock> {
     rt: &'a R,
     is_behind: &'a AtomicBool,
     /// What the worker rests on.
     rest: Parker,
 }
 
-impl<R: Wait> Pace for Behind<'_, R> {
+impl<R: Wait + Clock> Pace for Behind<'_, R> {
     fn rest(&self) {
         for _ in self.rt.forever() {
             if !self.is_behind.load(SeqCst) {
@@ -124,6 +125,10 @@ impl<R: Wait> Pace for Behind<'_, R> {
             }
             self.rest.park_timeout(self.rt, Duration::from_millis(NAP));
         }
+    }
+
+    fn now(&self) -> Option<Duration> {
+        self.rt.monotonic().ok()
     }
 }
 
@@ -169,7 +174,7 @@ fn follow_along<B: Room + Spot, R: Wait>(
 }
 
 /// Answers connections at an entrance, until none come any more. After each it takes a turn to follow, where no thread does.
-fn answer_all<B: Room + Spot, K: Backend, R: Wait>(
+fn answer_all<B: Room + Spot, K: Backend, R: Wait + Clock>(
     alloc: Global,
     rt: &R,
     cluster: &Cluster<B>,
@@ -199,7 +204,7 @@ fn answer_all<B: Room + Spot, K: Backend, R: Wait>(
 
 /// Answers connections at an entrance, until none come any more, over the vnodes of a cluster, which are called by the seat's pass.
 /// The pass is handed back. Without memory to read requests with none is answered, and that is noted.
-fn work<B: Room + Spot, H: Hooks + HookChanges + Drop, R: Wait>(
+fn work<B: Room + Spot, H: Hooks + HookChanges + Drop, R: Wait + Clock>(
     alloc: Global,
     rt: &R,
     cluster: &Cluster<B>,
@@ -230,7 +235,7 @@ fn work<B: Room + Spot, H: Hooks + HookChanges + Drop, R: Wait>(
 fn work_all<
     B: Room + Spot + Send + Sync,
     H: Hooks + HookChanges + Send + Drop,
-    R: Threads + Wait + Sync,
+    R: Threads + Wait + Clock + Sync,
 >(
     alloc: Global,
     rt: &R,
@@ -264,7 +269,7 @@ fn work_all<
 pub fn serve<
     B: Room + Spot + Send + Sync,
     H: Hooks + HookChanges + Send + Drop,
-    R: Threads + Wait + Sync,
+    R: Threads + Wait + Clock + Sync,
 >(
     alloc: Global,
     rt: &R,

@@ -4,3 +4,4 @@ mod guests;
 mod loopback;
 mod resting;
 mod stores;
+mod waiting;
