@@ -1,10 +1,11 @@
-//! The table of kinds, row by row, by cases worked out by hand.
+//! The tables of kinds, row by row, by cases worked out by hand.
 
 mod comparisons;
 mod joins;
 mod known;
 mod operations;
 mod pointers;
+mod wider;
 
 const MAX: u64 = u64::MAX;
 

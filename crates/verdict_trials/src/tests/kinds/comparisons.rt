@@ -7,34 +7,34 @@ use alu::Cond::*;
 use alu::Width::*;
 use alu::{Cond, Width};
 use code_parts::expect;
-use ranges::{Kind, refine};
+use ranges::{Kind, Profile, refine};
 use std::test::Fail;
 
 /// What is known of two operands.
-type Pair = (Known, Known);
+pub type Pair = (Known, Known);
 
 /// A condition, its width, what is known before it, and what is known where it holds and where it does not.
-type Row = (Cond, Width, Pair, (Pair, Pair));
+pub type Row = (Cond, Width, Pair, (Pair, Pair));
 
 /// The kinds that say what is known of two operands.
-fn kinds_of((a, b): Pair) -> (Kind, Kind) {
-    (a.kind(), b.kind())
+fn kinds_of(profile: Profile, (a, b): Pair) -> (Kind, Kind) {
+    (a.kind(profile), b.kind(profile))
 }
 
 /// Whether a condition leaves so much of what is known.
-fn narrows(row: &Row) -> bool {
+fn narrows(profile: Profile, row: &Row) -> bool {
     let (cond, width, before, (taken, passed)) = *row;
-    let (a, b) = kinds_of(before);
+    let (a, b) = kinds_of(profile, before);
     is_kind(a)
         && is_kind(b)
-        && refine(cond, width, a, b, true) == kinds_of(taken)
-        && refine(cond, width, a, b, false) == kinds_of(passed)
+        && refine(profile, cond, width, a, b, true) == kinds_of(profile, taken)
+        && refine(profile, cond, width, a, b, false) == kinds_of(profile, passed)
 }
 
 /// Tells what conditions leave of what is known.
-fn narrow(rows: &[Row]) -> Result<(), Fail> {
+pub fn narrow(profile: Profile, rows: &[Row]) -> Result<(), Fail> {
     for row in rows {
-        expect(narrows(row), &(row.0, row.1))?;
+        expect(narrows(profile, row), &(row.0, row.1))?;
     }
     Ok(())
 }
@@ -94,7 +94,7 @@ type Kept = (Cond, Width, Pair);
 fn keeps(rows: &[Kept]) -> Result<(), Fail> {
     for &(cond, width, pair) in rows {
         let row = (cond, width, pair, (pair, pair));
-        expect(narrows(&row), &(cond, width))?;
+        expect(narrows(Profile::First, &row), &(cond, width))?;
     }
     Ok(())
 }
@@ -178,9 +178,9 @@ const NO_NUMBERS: &[Kept] = &[
 
 #[test]
 fn conditions_that_narrow(_rt: HostRuntime) -> Result<(), Fail> {
-    narrow(EQUALITY)?;
-    narrow(UNSIGNED_ORDER)?;
-    narrow(SIGNED_ORDER)?;
+    narrow(Profile::First, EQUALITY)?;
+    narrow(Profile::First, UNSIGNED_ORDER)?;
+    narrow(Profile::First, SIGNED_ORDER)?;
     Ok(())
 }
 

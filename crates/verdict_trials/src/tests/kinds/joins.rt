@@ -2,11 +2,13 @@
 
 use super::MAX;
 use super::known::Known::{Input, Num, One, Stack, Unset};
-use super::known::{FULL, Known};
-use ranges::{Kind, Range, join};
+use super::known::{FULL, Known, is_kind};
+use ranges::{Kind, Number, Profile, Range, join};
 
 /// What is known on two ways, and where they meet.
-const JOINS: &[(Known, Known, Known)] = &[
+pub type Joined = (Known, Known, Known);
+
+const JOINS: &[Joined] = &[
     (Num(0, 5), Num(3, 9), Num(0, 9)),
     (One(1), One(7), Num(1, 7)),
     (One(MAX), One(0), FULL),
@@ -20,14 +22,15 @@ const JOINS: &[(Known, Known, Known)] = &[
 ];
 
 /// Whether two ways meet so.
-fn are_joined(row: &(Known, Known, Known)) -> bool {
-    join(row.0.kind(), row.1.kind()) == row.2.kind()
+pub fn are_joined(profile: Profile, row: &Joined) -> bool {
+    let (a, b) = (row.0.kind(profile), row.1.kind(profile));
+    is_kind(a) && is_kind(b) && join(profile, a, b) == row.2.kind(profile)
 }
 
 #[test]
 fn joins(rt: HostRuntime) {
     for row in JOINS {
-        assert!(rt; are_joined(row));
+        assert!(rt; are_joined(Profile::First, row));
     }
 }
 
@@ -41,6 +44,6 @@ fn ranges(rt: HostRuntime) {
     let up_to = Range::up_to(7);
     let told = is_range(Range::single(7), 7, 7, true)
         && is_range(up_to, 0, 7, false)
-        && Kind::number(up_to) == Num(0, 7).kind();
+        && Kind::Num(Number::of(up_to)) == Num(0, 7).kind(Profile::First);
     assert!(rt; told);
 }

@@ -10,32 +10,32 @@ use alu::SwapKind::*;
 use alu::Width::*;
 use alu::{Op, SwapBits, SwapKind, Width};
 use code_parts::expect;
-use ranges::{Bad, Kind, transfer, transfer_swap};
+use ranges::{Bad, Kind, Profile, transfer, transfer_swap};
 use std::test::Fail;
 
 /// A width, what is known of the destination and of the source, and what is known of the destination after it.
 pub type Row = (Width, Known, Known, Result<Known, Bad>);
 
 /// Whether a result is known so.
-fn is_known(known: Result<Kind, Bad>, want: Result<Known, Bad>) -> bool {
+fn is_known(profile: Profile, known: Result<Kind, Bad>, want: Result<Known, Bad>) -> bool {
     match (known, want) {
-        (Ok(kind), Ok(want)) => kind == want.kind(),
+        (Ok(kind), Ok(want)) => kind == want.kind(profile),
         (Err(bad), Err(why)) => bad == why,
         _ => false,
     }
 }
 
 /// Whether an operation leaves what its row says.
-fn leaves(op: Op, row: &Row) -> bool {
+fn leaves(profile: Profile, op: Op, row: &Row) -> bool {
     let (width, a, b, want) = *row;
-    let (a, b) = (a.kind(), b.kind());
-    is_kind(a) && is_kind(b) && is_known(transfer(op, width, a, b), want)
+    let (a, b) = (a.kind(profile), b.kind(profile));
+    is_kind(a) && is_kind(b) && is_known(profile, transfer(profile, op, width, a, b), want)
 }
 
 /// Tells what an operation leaves.
-fn leave(op: Op, rows: &[Row]) -> Result<(), Fail> {
+pub fn leave(profile: Profile, op: Op, rows: &[Row]) -> Result<(), Fail> {
     for row in rows {
-        expect(leaves(op, row), &(op, row.0))?;
+        expect(leaves(profile, op, row), &(op, row.0))?;
     }
     Ok(())
 }
@@ -261,7 +261,7 @@ const OPERATIONS: &[(Op, &[Row])] = &[
 #[test]
 fn operations(_rt: HostRuntime) -> Result<(), Fail> {
     for (op, rows) in OPERATIONS {
-        leave(*op, rows)?;
+        leave(Profile::First, *op, rows)?;
     }
     Ok(())
 }
@@ -284,8 +284,9 @@ const SWAPS: &[Swapped] = &[
 /// Whether a byte swap leaves what its row says.
 fn is_swapped(row: &Swapped) -> bool {
     let (kind, bits, a, want) = *row;
-    let a = a.kind();
-    is_kind(a) && is_known(transfer_swap(kind, bits, a), want)
+    let first = Profile::First;
+    let a = a.kind(first);
+    is_kind(a) && is_known(first, transfer_swap(first, kind, bits, a), want)
 }
 
 #[test]
