@@ -2,6 +2,7 @@
 
 mod copies;
 mod limits;
+mod parts;
 mod puts_and_merges;
 
 use dvv::Dot;

@@ -4,6 +4,7 @@ mod calls;
 mod copies;
 mod keys;
 mod limits;
+mod parts;
 mod steps;
 
 use dvv::Clock;
