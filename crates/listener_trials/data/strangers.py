@@ -103,6 +103,15 @@ def put_big(server):
     client.close()
 
 
+def read_out(client):
+    """Reads until the server ends the connection."""
+    try:
+        while client.recv(4096):
+            pass
+    except ConnectionResetError:
+        pass
+
+
 def leave(server, number):
     """Opens a connection and leaves it: at once, by a reset, in a head, in a body, or after an answer."""
     way = number % 5
@@ -110,8 +119,7 @@ def leave(server, number):
     if way == 1:
         client.setsockopt(socket.SOL_SOCKET, socket.SO_LINGER, struct.pack("ii", 1, 0))
     if way == 4:
-        while client.recv(4096):
-            pass
+        read_out(client)
     client.close()
 
 
@@ -148,8 +156,7 @@ def given_up(server):
     start = time.monotonic()
     clients = [stuck(server) for name, stuck in STUCK.items() if name.startswith("sends")]
     for client in clients:
-        while client.recv(4096):
-            pass
+        read_out(client)
         client.close()
     took = time.monotonic() - start
     print(f"three clients that send too little were given up after {took:.0f} seconds")

@@ -22,7 +22,7 @@ def tests_of(program):
 
 def numbers_of(program, library, test):
     """How many allocations each call of a test was refused; none where the test failed."""
-    ran = subprocess.run([program, test], env={**os.environ, "LD_PRELOAD": library}, stdin=subprocess.DEVNULL, capture_output=True, text=True, timeout=60)
+    ran = subprocess.run([program, test], env={**os.environ, "LD_PRELOAD": library}, stdin=subprocess.DEVNULL, capture_output=True, text=True, timeout=600)
     said = ran.stderr.split()
     if ran.returncode or not all(word.isdigit() for word in said):
         print(ran.stdout + ran.stderr, end="")

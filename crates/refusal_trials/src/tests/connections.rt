@@ -1,7 +1,7 @@
 //! Connections over HTTP of one request: what is written is its answer, or tells of want of memory, or is a beginning of the answer where
 //! the front itself lacks memory; and what a client finds afterwards is what it was told.
 
-use crate::tests::refusing::{End, Trial, begin, end_of, in_turn, was_met};
+use crate::tests::refusing::{End, Trial, begin, end_beside, in_turn, was_met};
 use helpers::Table;
 use hooks::Registry;
 use httpfront::{FailSink, FailSource, Front, FrontFault};
@@ -120,8 +120,10 @@ impl Trial for Serve {
         let is_written = is_told || !self.before.is_empty();
         let stands = stands(alloc, &mut store, is_written)?;
         // A vnode's want of memory shows in no answer while enough others have it.
-        let is_refused = met && (is_told || is_refusal(back, written));
-        Ok((met, end_of(stands && is_told && !met, stands && is_refused)))
+        Ok((
+            met,
+            end_beside(met, stands && is_told, stands && is_refusal(back, written)),
+        ))
     }
 }
 

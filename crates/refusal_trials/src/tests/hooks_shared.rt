@@ -3,7 +3,7 @@
 ghost use Rattle.std.specs.Prelude.{◌≡◌, []};
 ghost use Rattle.shared_hooks.specs.Lists.{list_of};
 
-use crate::tests::refusing::{End, Trial, begin, end_of, in_turn, was_met};
+use crate::tests::refusing::{End, Trial, begin, end_beside, in_turn, was_met};
 use bpfimage::ImageKind;
 use fronts::Naming;
 use hooks::{HookChanges, Hooks};
@@ -40,7 +40,8 @@ fn finds<J: Naming, T: Rack<J> + Drop>(reader: &mut HookReader<J, T>) -> Option<
     }
 }
 
-/// A publish of what was changed: readers see all of it, or what they saw, and then the next publish brings it.
+/// A publish of two changes: readers see both, or what they saw, and then the next publish brings them. What is refused for the first change is
+/// asked for again for the second, so that a publish that met a refusal may succeed.
 fn publish_changes<J: Naming, T: Rack<J> + Drop, R: Env + Wait, W: Wait + Drop>(
     rt: &R,
     installer: &mut Installer<J, T, W>,
@@ -51,7 +52,8 @@ fn publish_changes<J: Naming, T: Rack<J> + Drop, R: Env + Wait, W: Wait + Drop>(
     let met = was_met(rt);
     let seen = finds(reader);
     let again = installer.publish().is_ok();
-    let end = end_of(
+    let end = end_beside(
+        met,
         back.is_ok() && seen == Some(true),
         back.is_err() && seen == Some(false) && again && finds(reader) == Some(true),
     );

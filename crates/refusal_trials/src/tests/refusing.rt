@@ -25,6 +25,11 @@ pub(super) fn end_of(is_whole: bool, is_refused: bool) -> End {
     }
 }
 
+/// The end of a call that may go on where it met a refusal, and come to the whole.
+pub(super) fn end_beside(met: bool, is_whole: bool, is_refused: bool) -> End {
+    end_of(is_whole && !met, met && (is_whole || is_refused))
+}
+
 /// Whether the environment has a value of this name.
 fn has<R: Env>(rt: &R, name: &str) -> bool {
     rt.var(name, &mut []).is_ok()
