@@ -11,14 +11,15 @@ use crate::network::Network;
 use commands::own::command_with_helpers;
 use std::alloc::{AllocError, Global};
 use std::env::Args;
+use std::io::Write as _;
 use std::process::ExitCode;
 use std::{env, io};
 
 /// What stands behind the program's name. Words that are no text are those of no command: none.
-fn arguments(rt: &HostRuntime) -> io::Result<Vec<String>> {
+fn arguments(rt: &HostRuntime) -> Result<Vec<String>, AllocError> {
     match env::args(rt) {
-        Ok(all) => Ok(behind_the_name(rt.alloc(), all)?),
-        Err(error) if error.kind() == io::ErrorKind::OutOfMemory => Err(error),
+        Ok(all) => behind_the_name(rt.alloc(), all),
+        Err(error) if error.kind() == io::ErrorKind::OutOfMemory => Err(AllocError),
         Err(_) => Ok(Vec::new(rt.alloc())),
     }
 }
@@ -32,25 +33,43 @@ fn behind_the_name(alloc: Global, all: Args<Global>) -> Result<Vec<String>, Allo
     Ok(arguments)
 }
 
-fn main(rt: HostRuntime) -> io::Result<ExitCode> {
-    let alloc = rt.alloc();
-    let arguments = arguments(&rt)?;
+/// The arguments, as they are lent.
+fn lent(alloc: Global, arguments: &[String]) -> Result<Vec<&str>, AllocError> {
     let mut words = Vec::new(alloc);
-    for argument in &arguments {
+    for argument in arguments {
         words.push(argument.as_str())?;
     }
+    Ok(words)
+}
+
+/// Tells on the output that memory was refused, for the words or for the tables of helpers, and gives the status.
+fn refused(rt: &HostRuntime) -> io::Result<ExitCode> {
+    rt.stdout().write_all(b"E1\n")?;
+    Ok(ExitCode::from(1))
+}
+
+fn main(rt: HostRuntime) -> io::Result<ExitCode> {
+    let alloc = rt.alloc();
+    let Ok(arguments) = arguments(&rt) else {
+        return refused(&rt);
+    };
+    let Ok(words) = lent(alloc, &arguments) else {
+        return refused(&rt);
+    };
     let mut disk = Disk { rt: &rt, alloc };
     let mut network = Network {
         rt: &rt,
         err: rt.stderr(),
     };
-    let status = command_with_helpers(
+    match command_with_helpers(
         alloc,
         &words,
         &mut disk,
         &mut network,
         &mut rt.stdout(),
         &mut rt.stderr(),
-    )?;
-    Ok(ExitCode::from(status))
+    ) {
+        Ok(status) => Ok(ExitCode::from(status)),
+        Err(AllocError) => refused(&rt),
+    }
 }
