@@ -13,7 +13,6 @@ use pool::{Cluster, Gate, Pass, Room};
 use quorum::Hooking;
 use std::alloc::{AllocError, Global};
 use std::io::{Eprint, Stderr};
-use std::rt::Clock;
 use std::sync::atomic::AtomicBool;
 use std::sync::atomic::Ordering::SeqCst;
 use std::sync::{Mutex, Wait};
@@ -108,16 +107,16 @@ impl Alarm for Aloud {
     }
 }
 
-/// The pace of a worker: it rests while the thread that follows is behind. Its clock is the system's.
+/// The pace of a worker: it rests while the thread that follows is behind.
 #[derive(Drop)]
-struct Behind<'a, R: Wait + Clock> {
+struct Behind<'a, R: Wait> {
     rt: &'a R,
     is_behind: &'a AtomicBool,
     /// What the worker rests on.
     rest: Parker,
 }
 
-impl<R: Wait + Clock> Pace for Behind<'_, R> {
+impl<R: Wait> Pace for Behind<'_, R> {
     fn rest(&self) {
         for _ in self.rt.forever() {
             if !self.is_behind.load(SeqCst) {
@@ -125,10 +124,6 @@ impl<R: Wait + Clock> Pace for Behind<'_, R> {
             }
             self.rest.park_timeout(self.rt, Duration::from_millis(NAP));
         }
-    }
-
-    fn now(&self) -> Option<Duration> {
-        self.rt.monotonic().ok()
     }
 }
 
@@ -174,7 +169,7 @@ fn follow_along<B: Room + Spot, R: Wait>(
 }
 
 /// Answers connections at an entrance, until none come any more. After each it takes a turn to follow, where no thread does.
-fn answer_all<B: Room + Spot, K: Backend, R: Wait + Clock>(
+fn answer_all<B: Room + Spot, K: Backend, R: Wait>(
     alloc: Global,
     rt: &R,
     cluster: &Cluster<B>,
@@ -204,7 +199,7 @@ fn answer_all<B: Room + Spot, K: Backend, R: Wait + Clock>(
 
 /// Answers connections at an entrance, until none come any more, over the vnodes of a cluster, which are called by the seat's pass.
 /// The pass is handed back. Without memory to read requests with none is answered, and that is noted.
-fn work<B: Room + Spot, H: Hooks + HookChanges + Drop, R: Wait + Clock>(
+fn work<B: Room + Spot, H: Hooks + HookChanges + Drop, R: Wait>(
     alloc: Global,
     rt: &R,
     cluster: &Cluster<B>,
@@ -235,7 +230,7 @@ fn work<B: Room + Spot, H: Hooks + HookChanges + Drop, R: Wait + Clock>(
 fn work_all<
     B: Room + Spot + Send + Sync,
     H: Hooks + HookChanges + Send + Drop,
-    R: Threads + Wait + Clock + Sync,
+    R: Threads + Wait + Sync,
 >(
     alloc: Global,
     rt: &R,
@@ -269,7 +264,7 @@ fn work_all<
 pub fn serve<
     B: Room + Spot + Send + Sync,
     H: Hooks + HookChanges + Send + Drop,
-    R: Threads + Wait + Clock + Sync,
+    R: Threads + Wait + Sync,
 >(
     alloc: Global,
     rt: &R,

@@ -19,7 +19,6 @@ use stamps::{Card, Size, Stamps};
 use std::alloc::{AllocError, Global};
 use std::io::Stderr;
 use std::marker::Brand;
-use std::rt::Clock;
 use std::sync::{Mutex, Wait};
 use std::thread::Threads;
 use worker_hooks::{WorkerHooks, open};
@@ -33,7 +32,7 @@ const NO_MEMORY: Followed = Err(WatchFault::NoMemory);
 /// Opens vnodes numbered from the first identifier on, and hooks that may call the helpers of the tables, and has a worker for each table
 /// answer connections that come to an entrance, while what they do is followed; what can't wait is told on standard error. Answers what is said of the vnodes' journals then,
 /// `NoMemory` where memory was refused for any of it.
-pub fn serve<R: Threads + Wait + Clock + Sync>(
+pub fn serve<R: Threads + Wait + Sync>(
     alloc: Global,
     rt: &R,
     first: u32,
@@ -59,7 +58,7 @@ pub fn serve<R: Threads + Wait + Clock + Sync>(
 }
 
 /// The same, over a word that nobody has drawn from.
-fn over_stamps<B: Room + Spot + Send + Sync, R: Threads + Wait + Clock + Sync>(
+fn over_stamps<B: Room + Spot + Send + Sync, R: Threads + Wait + Sync>(
     alloc: Global,
     rt: &R,
     first: u32,
@@ -99,11 +98,7 @@ fn over_stamps<B: Room + Spot + Send + Sync, R: Threads + Wait + Clock + Sync>(
 }
 
 /// The same, over a cluster and the empty list of changes of hooks.
-fn over_cluster<
-    B: Room + Spot + Send + Sync,
-    J: Naming + Send + Sync,
-    R: Threads + Wait + Clock + Sync,
->(
+fn over_cluster<B: Room + Spot + Send + Sync, J: Naming + Send + Sync, R: Threads + Wait + Sync>(
     alloc: Global,
     rt: &R,
     cluster: Cluster<B>,
@@ -131,7 +126,7 @@ fn over_ground<
     B: Room + Spot + Send + Sync,
     J: Naming + Send + Sync,
     T: Rack<J> + Drop + Send + Sync,
-    R: Threads + Wait + Clock + Sync,
+    R: Threads + Wait + Sync,
 >(
     alloc: Global,
     rt: &R,
@@ -164,7 +159,7 @@ fn over_hooks<
     B: Room + Spot + Send + Sync,
     J: Naming + Send + Sync,
     T: Rack<J> + Drop + Send + Sync,
-    R: Threads + Wait + Clock + Sync,
+    R: Threads + Wait + Sync,
 >(
     alloc: Global,
     rt: &'r R,

@@ -4,4 +4,3 @@ mod guests;
 mod loopback;
 mod resting;
 mod stores;
-mod waiting;
