@@ -1,7 +1,6 @@
 //! One connection over TCP.
 
 use crate::pace::{Pace, PacedSource};
-use crate::waiting::{TimedSink, TimedSource, Waits};
 use httpfront::{Backend, Front, ReadSource, WriteSink};
 use std::io::Read as _;
 use std::net::{Shutdown, TcpStream};
@@ -22,8 +21,7 @@ const MOST_DROPPED: usize = 262_144;
 /// At most how many of them at a time.
 const CHUNK: usize = 65_536;
 
-/// Answers the requests of a connection, until it is over, and rests before it reads from it. A client that is waited for too long in all,
-/// while it sends one request or takes one answer, is given up.
+/// Answers the requests of a connection, until it is over, and rests before it reads from it.
 pub(crate) fn converse<B: Backend, P: Pace>(
     stream: &TcpStream,
     front: &mut Front,
@@ -31,9 +29,8 @@ pub(crate) fn converse<B: Backend, P: Pace>(
     pace: &P,
 ) {
     be_prompt(stream);
-    let waits = Waits::new(pace);
-    let mut source = PacedSource::new(TimedSource::new(ReadSource::new(stream), &waits), pace);
-    let mut sink = TimedSink::new(WriteSink::new(stream), &waits);
+    let mut source = PacedSource::new(ReadSource::new(stream), pace);
+    let mut sink = WriteSink::new(stream);
     // However it ended, the connection is over, and the next one comes.
     let _ = serving::serve(front, &mut source, &mut sink, backend);
     hang_up(stream);

@@ -8,11 +8,9 @@ mod pace;
 mod shared;
 mod start;
 mod visiting;
-mod waiting;
 
 pub use door::{Door, NoConnection};
 pub use pace::{Pace, PacedSource};
 pub use shared::{Entrance, PacedEntrance};
 pub use start::{listen, serve};
 pub use visiting::{MOST_FAILURES, Stopped, serve_all};
-pub use waiting::{MOST_WAITED, TimedSink, TimedSource, Waits};

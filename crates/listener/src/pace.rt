@@ -1,20 +1,14 @@
 //! When bytes are read.
 
 use httpfront::{Failed, Source};
-use std::time::Duration;
 
-/// Says when its caller may go on, and has a clock.
+/// Says when its caller may go on.
 pub trait Pace {
     /// Rests until the caller may go on: not at all, where nothing else is said.
     fn rest(&self) {}
-
-    /// The time since some start, or `None` without a clock, as where nothing else is said.
-    fn now(&self) -> Option<Duration> {
-        None
-    }
 }
 
-/// A pace at which nobody rests, without a clock.
+/// A pace at which nobody rests.
 #[derive(Clone, Copy, Debug)]
 pub(crate) struct Restless;
 
