@@ -4,7 +4,6 @@
 
 mod clusters;
 mod connections;
-mod hooks_shared;
 mod programs;
 mod quorums;
 mod records;

@@ -105,7 +105,7 @@ const AHEAD: Option<QuorumFault> = Some(QuorumFault::Refused(VnodeFault::Context
 
 /// Call 0 is the first put, 1 and 2 bring vnode 1's state, 3 and 4 that of vnode 2, 5 is the second put, 6 the read of what it left, and 7
 /// and 8 are the copies. There is no call 9.
-const PUTS: &[Row] = &[
+const PUTS: [Row; 10] = [
     (0, [FEW, FEW, FEW]),
     (1, [AHEAD, AHEAD, FEW]),
     (2, [AHEAD, None, FEW]),
@@ -120,11 +120,12 @@ const PUTS: &[Row] = &[
 
 #[test]
 fn calls_of_a_put(rt: HostRuntime) -> Result<(), Fail> {
-    expect_all(rt.alloc(), Operation::Put, PUTS)
+    let rows = PUTS;
+    expect_all(rt.alloc(), Operation::Put, &rows)
 }
 
 /// Calls 0 to 2 are the reads, and 3 to 6 the repair. There is no call 7.
-const GETS: &[Row] = &[
+const GETS: [Row; 8] = [
     (0, [None, None, FEW]),
     (1, [None, None, None]),
     (2, [None, None, None]),
@@ -137,7 +138,8 @@ const GETS: &[Row] = &[
 
 #[test]
 fn calls_of_a_get_and_its_repair(rt: HostRuntime) -> Result<(), Fail> {
-    expect_all(rt.alloc(), Operation::GetAndRepair, GETS)
+    let rows = GETS;
+    expect_all(rt.alloc(), Operation::GetAndRepair, &rows)
 }
 
 /// Call 0 names the keys of vnode 0, 1 to 6 bring them to vnode 1, call 7 names those of vnode 1, and 8 to 14 bring them to vnode 0. There
