@@ -1,12 +1,19 @@
 -- One vnode more, and what calls keep.
 use Rattle.std.proofs.Common.{◌≡◌, ℕ, zero, suc, ◌+◌, List, [], ◌∷◌, ◌++◌, ap, ◌∙◌, sym, subst, arith, length, refl, Option, Some, None, Bool, true, false, MatchBool, if◌then◌else◌, Result, Err, is_ok, slice_get}
 use Rattle.std.proofs.lemmas.List.{length-set}
-use Rattle.journal.specs.Logs.{Log}
+use Rattle.object.specs.declared.content.Key.{Key}
+use Rattle.object.specs.State.{State}
+use Rattle.object.specs.Parts.{Partial, lacks_some, whole_of}
+use Rattle.journal.specs.Entry.{Entry, Merge}
+use Rattle.journal.specs.Answers.{TellsChange}
+use Rattle.journal.specs.Limits.{AcceptsMerge}
+use Rattle.journal.specs.Logs.{Log, with_entry}
+use Rattle.journal.specs.Replay.{IsReplay, Leaves}
 use Rattle.peers.specs.declared.fault.PeerFault.{PeerFault}
 use Rattle.peers.specs.declared.fault.PeerFault.TheVariants.{Lost}
-use Rattle.peers.specs.Calls.{Call, PutAt, MergeAt, StateOf, KeysOf, Made}
+use Rattle.peers.specs.Calls.{Call, PutAt, MergeAt, StateOf, SummaryAt, MergePartAt, KeysOf, Made, is_merged}
 use Rattle.peers.specs.Counts.{has_failed}
-use Rattle.local.specs.Locals.{fresh_from, PutsIn, MergesIn, ReadsIn, AtVnode, Does, IsLost, has_added, counted, LocalView, LocalStep, IsUnmade, IsMade, IsUnheard, is_next, unanswered}
+use Rattle.local.specs.Locals.{fresh_from, PutsIn, MergesIn, ReadsIn, SummarizesIn, MergesPartIn, MergesWhole, AtVnode, Does, IsLost, has_added, counted, LocalView, LocalStep, IsUnmade, IsMade, IsUnheard, is_next, unanswered}
 
 pub fresh_end : (id n : ℕ) → fresh_from id (suc n) ≡ fresh_from id n ++ (record { vnode = id + n; entries = [] }) ∷ []
 fresh_end id zero = ap (λ (v : ℕ). let l : Log = record { vnode = v; entries = [] } in l ∷ []) (omega arith)
@@ -20,6 +27,8 @@ does_keeps : (stamp : ℕ) (old : List Log) (call : Call) (new : List Log) → D
 does_keeps stamp old (PutAt i key seen content back) new h = at_keeps (λ log after. PutsIn stamp key seen content log back after) (back ≡ Err Lost) (slice_get old i) old i new h
 does_keeps stamp old (MergeAt i key from at state back) new h = at_keeps (λ log after. MergesIn stamp key from at state log back after) (back ≡ Err Lost) (slice_get old i) old i new h
 does_keeps stamp old (StateOf i key back) new h = at_keeps (λ log after. ReadsIn stamp key log back after) (back ≡ Err Lost) (slice_get old i) old i new h
+does_keeps stamp old (SummaryAt i key back) new h = at_keeps (λ log after. SummarizesIn stamp key log back after) (back ≡ Err Lost) (slice_get old i) old i new h
+does_keeps stamp old (MergePartAt i key from at part back) new h = at_keeps (λ log after. MergesPartIn stamp key from at part log back after) (back ≡ Err Lost) (slice_get old i) old i new h
 does_keeps stamp old (KeysOf i back) new h = ap length h.1
 
 made_keeps : (old : LocalView) (call : Call) (new : LocalView) → IsMade old call new → length new.logs ≡ length old.logs
@@ -53,12 +62,16 @@ lost_again : (call : Call) → IsLost (unanswered call)
 lost_again (PutAt i key seen content back) = refl
 lost_again (MergeAt i key from at state back) = refl
 lost_again (StateOf i key back) = refl
+lost_again (SummaryAt i key back) = refl
+lost_again (MergePartAt i key from at part back) = refl
 lost_again (KeysOf i back) = refl
 
 lost_adds_nothing : (call : Call) → IsLost call → has_added call ≡ false
 lost_adds_nothing (PutAt i key seen content back) h = ap is_ok h
 lost_adds_nothing (MergeAt i key from at state back) h = ap is_ok h
 lost_adds_nothing (StateOf i key back) h = ap is_ok h
+lost_adds_nothing (SummaryAt i key back) h = ap is_ok h
+lost_adds_nothing (MergePartAt i key from at part back) h = ap is_merged h
 lost_adds_nothing (KeysOf i back) h = refl
 
 still_lost : (unheard : Bool) (made : Call) → IsLost made → IsLost (if unheard then unanswered made else made)
@@ -122,3 +135,25 @@ module _ (made call : Call) (added : Bool) where
         stamp_is ∙ ap (λ (b : Bool). if b then counted old.stamp else old.stamp) (lost_adds_nothing made h.0),
       )
       by_loss false h = by_hearing (is_next old old.unheard) heard_there (subst (λ (l : List Log). Does old.stamp old.logs made l) (sym logs_are) h, stamp_is)
+
+-- what a journal leaves at a key is one state, of which all this is said
+module _ (one : (journal : List Entry) (k : Key) (a b : State) → IsReplay journal k a → IsReplay journal k b → a ≡ b) where
+  pub merges_whole : (stamp : ℕ) (key : Key) (from at : ℕ) (part : Partial) (old new : Log) (changed : Bool) → Leaves old.entries key (λ own. lacks_some own part ≡ false)
+      → Leaves old.entries key (λ own. TellsChange old.entries (Merge stamp key from at (whole_of part own)) key changed)
+      → Leaves old.entries key (λ own. new ≡ with_entry old (Merge stamp key from at (whole_of part own)))
+      → Leaves old.entries key (λ own. AcceptsMerge old.entries key (whole_of part own)) → MergesWhole stamp key from at part old changed new
+  merges_whole stamp key from at part old new changed held told entry accepts = (
+    held.0,
+    held.1,
+    (
+      held.2,
+      (
+        here (λ own. AcceptsMerge old.entries key (whole_of part own)) accepts,
+        here (λ own. TellsChange old.entries (Merge stamp key from at (whole_of part own)) key changed) told,
+        here (λ own. new ≡ with_entry old (Merge stamp key from at (whole_of part own))) entry,
+      ),
+    ),
+  )
+    where
+      here : (P : State → Type 0) → Leaves old.entries key P → P held.0
+      here P l = subst P (one old.entries key l.0 held.0 l.1 held.1) l.2

@@ -6,18 +6,24 @@ use Rattle.dvv.specs.declared.Dot.{Dot}
 use Rattle.object.specs.declared.content.Content.{Content}
 use Rattle.object.specs.declared.content.Key.{Key}
 use Rattle.object.specs.State.{State}
+use Rattle.object.specs.Parts.{Partial, summary_of, lacks_some, whole_of}
 use Rattle.journal.specs.Entry.{Put, Merge, Read}
-use Rattle.journal.specs.Replay.{IsNextDot, IsReplay}
+use Rattle.journal.specs.Replay.{IsNextDot, IsReplay, Leaves}
 use Rattle.journal.specs.Limits.{TakesEntry, AcceptsPut, AcceptsMerge}
 use Rattle.journal.specs.Answers.{TellsChange}
 use Rattle.journal.specs.Logs.{Log, with_entry}
 use Rattle.vnode.specs.Keys.{AreKeys}
 use Rattle.vnode.specs.Refusals.{RefusesPut, RefusesMerge, RefusesEntry}
+use Rattle.vnode.specs.Parts.{RefusesPart}
+use Rattle.vnode.specs.declared.fault.PartFault.TheVariants as why
 use Rattle.vnode.specs.declared.fault.VnodeFault.TheVariants.{NoMemory}
 use Rattle.peers.specs.declared.peers.Answer.{Answer}
+use Rattle.peers.specs.declared.peers.SummaryAnswer.{SummaryAnswer}
+use Rattle.peers.specs.declared.peers.PartAnswer.{PartAnswer}
+use Rattle.peers.specs.declared.peers.PartAnswer.TheVariants.{Merged, Missing}
 use Rattle.peers.specs.declared.fault.PeerFault.{PeerFault}
 use Rattle.peers.specs.declared.fault.PeerFault.TheVariants.{Lost, Refused}
-use Rattle.peers.specs.Calls.{Call, PutAt, MergeAt, StateOf, KeysOf}
+use Rattle.peers.specs.Calls.{Call, PutAt, MergeAt, StateOf, SummaryAt, MergePartAt, KeysOf, is_merged}
 use Rattle.peers.specs.Counts.{Counts}
 
 -- the vnodes' journals, where every key's place is set to one, the numbers of the calls that are lost and of those whose answers
@@ -53,6 +59,23 @@ ReadsIn stamp key old (Ok answer) new = TakesEntry old.entries × IsReplay old.e
 ReadsIn stamp key old (Err Lost) new = ⊥
 ReadsIn stamp key old (Err (Refused fault)) new = RefusesEntry old fault × (new ≡ old)
 
+-- a summary at one vnode: that of its state there, and the place of the read
+abbrev pub SummarizesIn : ℕ → Key → Log → Result SummaryAnswer PeerFault → Log → Type 0
+SummarizesIn stamp key old (Ok answer) new = TakesEntry old.entries × Leaves old.entries key (λ state. answer.summary ≡ summary_of state) × (answer.from ≡ old.vnode) × (answer.at ≡ length old.entries) × (new ≡ with_entry old (Read stamp key))
+SummarizesIn stamp key old (Err Lost) new = ⊥
+SummarizesIn stamp key old (Err (Refused fault)) new = RefusesEntry old fault × (new ≡ old)
+
+-- a part that is merged at one vnode: no content that was left out is lacking there, and the whole state that the part stands for is merged
+abbrev pub MergesWhole : ℕ → Key → ℕ → ℕ → Partial → Log → Bool → Log → Type 0
+MergesWhole stamp key from at part old changed new = Leaves old.entries key (λ own. (lacks_some own part ≡ false) × MergesIn stamp key from at (whole_of part own) old (Ok changed) new)
+
+-- a part at one vnode: it is merged, or a content that was left out isn't held there and nothing happens, or it is refused and nothing happens
+abbrev pub MergesPartIn : ℕ → Key → ℕ → ℕ → Partial → Log → Result PartAnswer PeerFault → Log → Type 0
+MergesPartIn stamp key from at part old (Ok (Merged changed)) new = MergesWhole stamp key from at part old changed new
+MergesPartIn stamp key from at part old (Ok Missing) new = RefusesPart old key part why.Missing × (new ≡ old)
+MergesPartIn stamp key from at part old (Err Lost) new = ⊥
+MergesPartIn stamp key from at part old (Err (Refused fault)) new = RefusesPart old key part (why.Refused fault) × (new ≡ old)
+
 -- the keys that one vnode names; only memory can lack
 abbrev pub KeysIn : Log → Result (Vec Key) PeerFault → Type 0
 KeysIn log (Ok keys) = AreKeys log keys.items
@@ -70,6 +93,8 @@ abbrev pub Does : ℕ → List Log → Call → List Log → Type 0
 Does stamp old (PutAt i key seen content back) new = AtVnode (λ log after. PutsIn stamp key seen content log back after) (back ≡ Err Lost) (slice_get old i) old i new
 Does stamp old (MergeAt i key from at state back) new = AtVnode (λ log after. MergesIn stamp key from at state log back after) (back ≡ Err Lost) (slice_get old i) old i new
 Does stamp old (StateOf i key back) new = AtVnode (λ log after. ReadsIn stamp key log back after) (back ≡ Err Lost) (slice_get old i) old i new
+Does stamp old (SummaryAt i key back) new = AtVnode (λ log after. SummarizesIn stamp key log back after) (back ≡ Err Lost) (slice_get old i) old i new
+Does stamp old (MergePartAt i key from at part back) new = AtVnode (λ log after. MergesPartIn stamp key from at part log back after) (back ≡ Err Lost) (slice_get old i) old i new
 Does stamp old (KeysOf i back) new = MatchOption (slice_get old i) (back ≡ Err Lost) (λ log. KeysIn log back) × (new ≡ old)
 
 -- a call that came back as lost
@@ -77,6 +102,8 @@ abbrev pub IsLost : Call → Type 0
 IsLost (PutAt i key seen content back) = back ≡ Err Lost
 IsLost (MergeAt i key from at state back) = back ≡ Err Lost
 IsLost (StateOf i key back) = back ≡ Err Lost
+IsLost (SummaryAt i key back) = back ≡ Err Lost
+IsLost (MergePartAt i key from at part back) = back ≡ Err Lost
 IsLost (KeysOf i back) = back ≡ Err Lost
 
 -- whether a call added an entry
@@ -84,6 +111,8 @@ abbrev pub has_added : Call → Bool
 has_added (PutAt i key seen content back) = is_ok back
 has_added (MergeAt i key from at state back) = is_ok back
 has_added (StateOf i key back) = is_ok back
+has_added (SummaryAt i key back) = is_ok back
+has_added (MergePartAt i key from at part back) = is_merged back
 has_added (KeysOf i back) = false
 
 -- the same call, come back as lost
@@ -91,6 +120,8 @@ abbrev pub unanswered : Call → Call
 unanswered (PutAt i key seen content back) = PutAt i key seen content (Err Lost)
 unanswered (MergeAt i key from at state back) = MergeAt i key from at state (Err Lost)
 unanswered (StateOf i key back) = StateOf i key (Err Lost)
+unanswered (SummaryAt i key back) = SummaryAt i key (Err Lost)
+unanswered (MergePartAt i key from at part back) = MergePartAt i key from at part (Err Lost)
 unanswered (KeysOf i back) = KeysOf i (Err Lost)
 
 -- whether the next call has one of these numbers

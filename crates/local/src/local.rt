@@ -2,16 +2,16 @@
 
 ghost use Rattle.std.specs.Prelude.{◌≡◌, ◌<◌, ◌≤◌, ◌^◌, ◌==◌, [], length, slice_get, IfOk, MatchOption, Some, None, if◌then◌else◌, is_err};
 ghost use Rattle.std.specs.List.{list_any};
-ghost use Rattle.peers.specs.Calls.{PutAt, MergeAt, StateOf};
-ghost use Rattle.local.specs.Locals.{Does, KeysIn, fresh, counted};
+ghost use Rattle.peers.specs.Calls.{PutAt, MergeAt, StateOf, SummaryAt, MergePartAt, is_merged};
+ghost use Rattle.local.specs.Locals.{Does, KeysIn, MergesPartIn, fresh, counted};
 
 use dvv::{Clock, Dot};
-use object::{Content, Key, KeyState};
-use peers::{Answer, PeerFault, Peers};
+use object::{Content, Key, KeyState, Part};
+use peers::{Answer, PartAnswer, PeerFault, Peers, SummaryAnswer};
 use place::Placement;
 use std::alloc::{AllocError, Global};
 use std::marker::Model;
-use vnode::{Vnode, VnodeFault};
+use vnode::{PartFault, Vnode, VnodeFault};
 
 /// Vnodes that one thread owns, the numbers of the calls that are lost and not made, and of those that are made and whose answers
 /// are lost.
@@ -240,6 +240,73 @@ fn read_at(vnodes: &mut Vec<Vnode>, stamp: u64, i: usize, key: &Key) -> Result<A
     }
 }
 
+// Reads a summary at a vnode that is there.
+fn summary_at(
+    vnodes: &mut Vec<Vnode>,
+    stamp: u64,
+    i: usize,
+    key: &Key,
+) -> Result<SummaryAnswer, PeerFault>
+    ensures does { Does stamp vnodes.old.items (SummaryAt i key.now result) vnodes.new.items }
+    ensures all { length vnodes.new.items ≡ length vnodes.old.items }
+{
+    match vnodes.get_mut(i) {
+        None => Err(PeerFault::Lost),
+        Some(vnode) => {
+            let from = vnode.journal().vnode();
+            match vnode.summary(stamp, key) {
+                Ok((summary, at)) => Ok(SummaryAnswer { from, at, summary }),
+                Err(fault) => Err(PeerFault::Refused(fault)),
+            }
+        }
+    }
+}
+
+// Merges a part at a vnode.
+fn merge_part_in(
+    vnode: &mut Vnode,
+    stamp: u64,
+    key: &Key,
+    from: u32,
+    at: u32,
+    part: &Part,
+) -> Result<PartAnswer, PeerFault>
+    ensures { MergesPartIn stamp key.now from at part.now vnode.old result vnode.new }
+{
+    journal::laws::replays_are_one();
+    match vnode.merge_part(stamp, key, from, at, part) {
+        Ok((changed, _)) => Ok(PartAnswer::Merged(changed)),
+        Err(PartFault::Missing) => Ok(PartAnswer::Missing),
+        Err(PartFault::Refused(fault)) => Err(PeerFault::Refused(fault)),
+    }
+}
+
+// Merges a part at a vnode that is there.
+fn merge_part_at(
+    vnodes: &mut Vec<Vnode>,
+    stamp: u64,
+    i: usize,
+    key: &Key,
+    from: u32,
+    at: u32,
+    part: &Part,
+) -> Result<PartAnswer, PeerFault>
+    ensures does { Does stamp vnodes.old.items (MergePartAt i key.now from at part.now result) vnodes.new.items }
+    ensures all { length vnodes.new.items ≡ length vnodes.old.items }
+{
+    match vnodes.get_mut(i) {
+        None => Err(PeerFault::Lost),
+        Some(vnode) => merge_part_in(vnode, stamp, key, from, at, part),
+    }
+}
+
+// Whether a part was merged, and so added an entry.
+fn is_merged(back: &Result<PartAnswer, PeerFault>) -> bool
+    ensures { result ≡ is_merged back.now }
+{
+    matches!(back, Ok(PartAnswer::Merged(_)))
+}
+
 // Names the keys of a vnode that is there.
 fn keys_at(vnodes: &[Vnode], i: usize) -> Result<Vec<Key>, PeerFault>
     ensures { MatchOption (slice_get vnodes.now i) (result ≡ Err PeerFault.Lost) (λ log. KeysIn log result) }
@@ -305,6 +372,31 @@ impl Peers for Local {
             read_at(&mut self.vnodes, self.stamp, i, key)
         };
         self.hand_back(back.is_ok(), back)
+    }
+
+    fn summary_at(&mut self, i: usize, key: &Key) -> Result<SummaryAnswer, PeerFault> {
+        let back = if self.loses() {
+            Err(PeerFault::Lost)
+        } else {
+            summary_at(&mut self.vnodes, self.stamp, i, key)
+        };
+        self.hand_back(back.is_ok(), back)
+    }
+
+    fn merge_part_at(
+        &mut self,
+        i: usize,
+        key: &Key,
+        from: u32,
+        at: u32,
+        part: &Part,
+    ) -> Result<PartAnswer, PeerFault> {
+        let back = if self.loses() {
+            Err(PeerFault::Lost)
+        } else {
+            merge_part_at(&mut self.vnodes, self.stamp, i, key, from, at, part)
+        };
+        self.hand_back(is_merged(&back), back)
     }
 
     fn keys_of(&mut self, i: usize) -> Result<Vec<Key>, PeerFault> {

@@ -6,3 +6,5 @@ mod losses;
 mod operations;
 mod repairs;
 mod shown;
+mod summaries;
+mod watched;

@@ -1,12 +1,14 @@
 -- A count of failures, which stays at its greatest once there.
 use Rattle.std.specs.Prelude.{◌≡◌, ℕ, ◌+◌, ◌-◌, ◌^◌, ◌<◌, Bool, if◌then◌else◌, is_err, min, ◌⊎◌}
-use Rattle.peers.specs.Calls.{Call, PutAt, MergeAt, StateOf, KeysOf}
+use Rattle.peers.specs.Calls.{Call, PutAt, MergeAt, StateOf, SummaryAt, MergePartAt, KeysOf}
 
 -- whether a call was lost or refused
 abbrev pub has_failed : Call → Bool
 has_failed (PutAt i key seen content back) = is_err back
 has_failed (MergeAt i key from at state back) = is_err back
 has_failed (StateOf i key back) = is_err back
+has_failed (SummaryAt i key back) = is_err back
+has_failed (MergePartAt i key from at part back) = is_err back
 has_failed (KeysOf i back) = is_err back
 
 -- a call that was lost or refused counts, and no other

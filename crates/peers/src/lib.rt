@@ -1,9 +1,9 @@
-//! The vnodes of a store, as whoever reaches them: calls on them, and what came back. A call is one event at its vnode, or it
-//! was lost or refused.
+//! The vnodes of a store, as whoever reaches them: calls on them, and what came back. A call is at most one event at its vnode, and
+//! may be lost or refused.
 #![tactic(auto)]
 
 mod fault;
 mod peers;
 
 pub use fault::PeerFault;
-pub use peers::{Answer, Peers};
+pub use peers::{Answer, PartAnswer, Peers, SummaryAnswer};

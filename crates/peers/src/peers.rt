@@ -4,7 +4,7 @@ ghost use Rattle.std.specs.Prelude.{◌≡◌, ℕ};
 
 use crate::fault::PeerFault;
 use dvv::{Clock, Dot};
-use object::{Content, Key, KeyState};
+use object::{Content, Key, KeyState, Part, Summary};
 
 /// What a vnode's read answered.
 #[derive(Debug, Drop)]
@@ -17,9 +17,29 @@ pub struct Answer {
     pub state: KeyState,
 }
 
+/// What a vnode answered of the summary of a key. It is a read there.
+#[derive(Debug, Drop)]
+pub struct SummaryAnswer {
+    /// The identifier of the vnode.
+    pub from: u32,
+    /// The place of the read in its journal.
+    pub at: u32,
+    /// The summary of the state of the key there.
+    pub summary: Summary,
+}
+
+/// What a vnode answered to a part of a state. Neither is a failure.
+#[derive(Clone, Copy, Debug, PartialEq, Eq)]
+pub enum PartAnswer {
+    /// The whole state was merged. Whether that changed something.
+    Merged(bool),
+    /// A content that was left out isn't held there now. It is no event there: nothing was changed.
+    Missing,
+}
+
 /// Vnodes that may be out of reach, by their indexes. A call on an index that has no vnode is lost.
 pub trait Peers {
-    ghost use Rattle.peers.specs.Calls.{Call, PutAt, MergeAt, StateOf, KeysOf};
+    ghost use Rattle.peers.specs.Calls.{Call, PutAt, MergeAt, StateOf, SummaryAt, MergePartAt, KeysOf};
     ghost use Rattle.peers.specs.Counts.{Counts};
 
     /// From one state, a call may come back so and leave the other.
@@ -56,6 +76,22 @@ pub trait Peers {
     /// Reads at a vnode.
     fn state_of(&mut self, i: usize, key: &Key) -> Result<Answer, PeerFault>
         ensures { happens self.old (StateOf i key.now result) self.new };
+
+    /// Reads at a vnode the summary of what is held under a key.
+    fn summary_at(&mut self, i: usize, key: &Key) -> Result<SummaryAnswer, PeerFault>
+        ensures { happens self.old (SummaryAt i key.now result) self.new };
+
+    /// Merges into another a part of the state that the vnode `from` answered, by the read at place `at` of its journal: a content
+    /// that was left out is the one that is held there under its dot.
+    fn merge_part_at(
+        &mut self,
+        i: usize,
+        key: &Key,
+        from: u32,
+        at: u32,
+        part: &Part,
+    ) -> Result<PartAnswer, PeerFault>
+        ensures { happens self.old (MergePartAt i key.now from at part.now result) self.new };
 
     /// The keys of a vnode whose clock isn't empty, in the order of bytes. It is no event there.
     fn keys_of(&mut self, i: usize) -> Result<Vec<Key>, PeerFault>

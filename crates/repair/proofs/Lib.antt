@@ -1,3 +1,2 @@
-pub mod DotLemmas
 pub mod ExchangeLemmas
 pub mod RepairLemmas

@@ -1,45 +1,76 @@
--- Exchange of the keys of two vnodes (Riak KV documentation, active anti-entropy; this store's profile).
-use Rattle.std.specs.Prelude.{◌≡◌, ℕ, List, [], ◌∷◌, ◌++◌, Result, Ok, Err, Bool, false, is_ok, map, length, count_by}
+-- Exchange of the keys of two vnodes by summaries (Riak KV documentation, active anti-entropy; this store's profile).
+use Rattle.std.specs.Prelude.{◌≡◌, ◌≢◌, ℕ, List, [], ◌∷◌, ◌++◌, Result, Ok, Err, Bool, false, is_ok, length, count_by}
 use Rattle.std.specs.List.{AllByRecursion}
 use Rattle.std.specs.Global.{Vec}
 use Rattle.object.specs.declared.content.Key.{Key}
-use Rattle.object.specs.State.{State}
+use Rattle.object.specs.Parts.{Summarized, summary_of, part_of}
 use Rattle.peers.specs.declared.peers.Answer.{Answer}
+use Rattle.peers.specs.declared.peers.PartAnswer.{PartAnswer}
+use Rattle.peers.specs.declared.peers.PartAnswer.TheVariants.{Merged, Missing}
+use Rattle.peers.specs.declared.peers.SummaryAnswer.{SummaryAnswer}
 use Rattle.peers.specs.declared.fault.PeerFault.{PeerFault}
-use Rattle.peers.specs.Calls.{Call, MergeAt, StateOf, KeysOf}
+use Rattle.peers.specs.Calls.{Call, MergeAt, StateOf, SummaryAt, MergePartAt, KeysOf}
 
--- two states hold the same dots under equal clocks
-abbrev pub HaveEqualDots : State → State → Type 0
-HaveEqualDots own other = (own.clock ≡ other.clock) × (map (λ s. s.dot) own.siblings ≡ map (λ s. s.dot) other.siblings)
+-- How a state was sent, and what came back: its part, which was merged, lost or refused; its part, of which the receiver lacked a content,
+-- and then the whole state; or the whole state at once, since there was no memory for the part.
+pub data Sending : Type 0 where
+  InPart : (back : Result Bool PeerFault) → Sending
+  AfterPart : (back : Result Bool PeerFault) → Sending
+  AtOnce : (back : Result Bool PeerFault) → Sending
 
--- what came of one key: the sender's read failed, the receiver's did, both are alike and nothing was sent, or the sender's
--- state was merged, whatever that gave
+-- what came of one key: the receiver told no summary; or the sender answered no state; or the summary is that of the state, and nothing was
+-- sent; or the state was sent
 pub data Sent : Type 0 where
-  Unread : (fault : PeerFault) → Sent
-  Unmet : (own : Answer) (fault : PeerFault) → Sent
-  Alike : (own other : Answer) → Sent
-  Brought : (own other : Answer) (back : Result Bool PeerFault) → Sent
+  Untold : (fault : PeerFault) → Sent
+  Unread : (told : SummaryAnswer) (fault : PeerFault) → Sent
+  Alike : (told : SummaryAnswer) (own : Answer) → Sent
+  Brought : (told : SummaryAnswer) (own : Answer) (sending : Sending) → Sent
 
--- nothing was sent just where both answered equal dots and clocks
+-- nothing was sent just where the summary is that of the state
 abbrev pub IsFair : Sent → Type 0
-IsFair (Unread fault) = Unit {0}
-IsFair (Unmet own fault) = Unit {0}
-IsFair (Alike own other) = HaveEqualDots own.state other.state
-IsFair (Brought own other back) = ¬ HaveEqualDots own.state other.state
+IsFair (Untold fault) = Unit {0}
+IsFair (Unread told fault) = Unit {0}
+IsFair (Alike told own) = told.summary ≡ summary_of own.state
+IsFair (Brought told own sending) = told.summary ≢ summary_of own.state
+
+-- whether what was sent was taken
+abbrev pub is_received : Sending → Bool
+is_received (InPart back) = is_ok back
+is_received (AfterPart back) = is_ok back
+is_received (AtOnce back) = is_ok back
 
 -- whether a state was taken
 abbrev pub is_taken : Sent → Bool
-is_taken (Unread fault) = false
-is_taken (Unmet own fault) = false
-is_taken (Alike own other) = false
-is_taken (Brought own other back) = is_ok back
+is_taken (Untold fault) = false
+is_taken (Unread told fault) = false
+is_taken (Alike told own) = false
+is_taken (Brought told own sending) = is_received sending
+
+-- what came back of a part that lacked nothing
+abbrev pub merged : Result Bool PeerFault → Result PartAnswer PeerFault
+merged (Ok changed) = Ok (Merged changed)
+merged (Err fault) = Err fault
+
+-- an answered state goes to a vnode, whole
+abbrev pub whole_goes : ℕ → Key → Answer → Result Bool PeerFault → Call
+whole_goes to key own back = MergeAt to key own.from own.at own.state back
+
+-- the part of an answered state goes to the vnode which told this summary: the contents of those dots that the summary doesn't hold
+abbrev pub part_goes : ℕ → Key → Summarized → Answer → Result PartAnswer PeerFault → Call
+part_goes to key summary own back = MergePartAt to key own.from own.at (part_of own.state summary) back
+
+-- the calls by which an answered state was sent to the vnode which told this summary
+abbrev pub sendings : ℕ → Key → Summarized → Answer → Sending → List Call
+sendings to key summary own (InPart back) = part_goes to key summary own (merged back) ∷ []
+sendings to key summary own (AfterPart back) = part_goes to key summary own (Ok Missing) ∷ whole_goes to key own back ∷ []
+sendings to key summary own (AtOnce back) = whole_goes to key own back ∷ []
 
 -- the calls for one key
 abbrev pub sends : ℕ → ℕ → Key → Sent → List Call
-sends from to key (Unread fault) = StateOf from key (Err fault) ∷ []
-sends from to key (Unmet own fault) = StateOf from key (Ok own) ∷ StateOf to key (Err fault) ∷ []
-sends from to key (Alike own other) = StateOf from key (Ok own) ∷ StateOf to key (Ok other) ∷ []
-sends from to key (Brought own other back) = StateOf from key (Ok own) ∷ StateOf to key (Ok other) ∷ MergeAt to key own.from own.at own.state back ∷ []
+sends from to key (Untold fault) = SummaryAt to key (Err fault) ∷ []
+sends from to key (Unread told fault) = SummaryAt to key (Ok told) ∷ StateOf from key (Err fault) ∷ []
+sends from to key (Alike told own) = SummaryAt to key (Ok told) ∷ StateOf from key (Ok own) ∷ []
+sends from to key (Brought told own sending) = SummaryAt to key (Ok told) ∷ StateOf from key (Ok own) ∷ sendings to key told.summary own sending
 
 -- the calls for these keys, in order
 abbrev pub sends_all : ℕ → ℕ → List Key → List Sent → List Call

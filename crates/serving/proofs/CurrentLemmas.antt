@@ -15,7 +15,7 @@ use Rattle.journal.specs.Replay.{first_held, sibling_in, known_in, IsReplay, IsM
 use Rattle.peers.specs.declared.peers.Answer.{Answer}
 use Rattle.peers.specs.declared.fault.PeerFault.{PeerFault}
 use Rattle.peers.specs.declared.fault.PeerFault.TheVariants.{Lost, Refused}
-use Rattle.peers.specs.Calls.{Call, PutAt, MergeAt, StateOf, KeysOf, Made}
+use Rattle.peers.specs.Calls.{Call, PutAt, MergeAt, StateOf, SummaryAt, MergePartAt, KeysOf, Made}
 use Rattle.local.specs.Locals.{ReadsIn, AtVnode, unanswered, is_next, IsUnmade, IsMade, IsUnheard, LocalView, LocalStep}
 use Rattle.quorum.specs.Gets.{reads, answers, states_of}
 use Rattle.serving.specs.Journals.{AreJournals}
@@ -76,6 +76,8 @@ module _ (k : Key) where
       by_call (StateOf j k' came) is h = read_at_one old.stamp k' came (slice_get old.logs j) old.logs j new.logs refl h.0
       by_call (PutAt j k' seen content came) is h = absurd cc
       by_call (MergeAt j k' from at state came) is h = absurd cc
+      by_call (SummaryAt j k' came) is h = absurd cc
+      by_call (MergePartAt j k' from at part came) is h = absurd cc
       by_call (KeysOf j came) is h = absurd cc
 
       by_hearing : (unheard : Bool) → MatchBool unheard (IsUnheard old (StateOf i key back) new) (IsMade old (StateOf i key back) new) → AllZip Alike old.logs new.logs

@@ -4,14 +4,18 @@ use Rattle.dvv.specs.declared.Dot.{Dot}
 use Rattle.object.specs.declared.content.Content.{Content}
 use Rattle.object.specs.declared.content.Key.{Key}
 use Rattle.object.specs.State.{State}
+use Rattle.object.specs.Parts.{Partial, whole_of}
 use Rattle.journal.specs.Entry.{Entry, Put, Merge, Read}
 use Rattle.journal.specs.Journals.{IsJournal, MayFollow}
 use Rattle.journal.specs.Logs.{Log, with_entry}
 use Rattle.peers.specs.declared.peers.Answer.{Answer}
+use Rattle.peers.specs.declared.peers.PartAnswer.{PartAnswer}
+use Rattle.peers.specs.declared.peers.PartAnswer.TheVariants.{Merged, Missing}
+use Rattle.peers.specs.declared.peers.SummaryAnswer.{SummaryAnswer}
 use Rattle.peers.specs.declared.fault.PeerFault.{PeerFault}
 use Rattle.peers.specs.declared.fault.PeerFault.TheVariants.{Lost, Refused}
-use Rattle.peers.specs.Calls.{Call, PutAt, MergeAt, StateOf, KeysOf, Made}
-use Rattle.local.specs.Locals.{fresh_from, PutsIn, MergesIn, ReadsIn, AtVnode, Does, IsLost, unanswered, is_next, IsUnmade, IsMade, IsUnheard, LocalView, LocalStep}
+use Rattle.peers.specs.Calls.{Call, PutAt, MergeAt, StateOf, SummaryAt, MergePartAt, KeysOf, Made}
+use Rattle.local.specs.Locals.{fresh_from, PutsIn, MergesIn, ReadsIn, SummarizesIn, MergesPartIn, AtVnode, Does, IsLost, unanswered, is_next, IsUnmade, IsMade, IsUnheard, LocalView, LocalStep}
 use Rattle.serving.specs.Journals.{AreJournals, GoesOn, GoOn}
 use Rattle.serving.proofs.Zips.{one_is, set_there, zip_same, zip_far, zip_set}
 
@@ -68,6 +72,17 @@ module _ (more : (vnode : ℕ) (journal : List Entry) (e : Entry) → IsJournal 
     read_in (Err Lost) h = absurd h
     read_in (Err (Refused fault)) h = not_one log after legal h.1
 
+    summary_in : (back : Result SummaryAnswer PeerFault) → SummarizesIn stamp key log back after → IsJournal after.vnode after.entries × GoesOn log after
+    summary_in (Ok answer) h = one_more log after (Read stamp key) legal h.0 h.4
+    summary_in (Err Lost) h = absurd h
+    summary_in (Err (Refused fault)) h = not_one log after legal h.1
+
+    part_in : (from at : ℕ) (part : Partial) (back : Result PartAnswer PeerFault) → MergesPartIn stamp key from at part log back after → IsJournal after.vnode after.entries × GoesOn log after
+    part_in from at part (Ok (Merged changed)) h = merge_in from at (whole_of part h.0) (Ok changed) h.2.1
+    part_in from at part (Ok Missing) h = not_one log after legal h.1
+    part_in from at part (Err Lost) h = absurd h
+    part_in from at part (Err (Refused fault)) h = not_one log after legal h.1
+
   unchanged : (old new : List Log) → AreJournals old → new ≡ old → AreJournals new × GoOn old new
   unchanged old new are is = (subst AreJournals (sym is) are, subst (λ l. GoOn old l) (sym is) (go_same old))
 
@@ -83,6 +98,8 @@ module _ (more : (vnode : ℕ) (journal : List Entry) (e : Entry) → IsJournal 
   does_one stamp old (PutAt i key seen content back) new are h = at_vnode (λ log after. PutsIn stamp key seen content log back after) (back ≡ Err Lost) (slice_get old i) old i new refl are (λ log after legal. put_in stamp key log after legal seen content back) h
   does_one stamp old (MergeAt i key from at state back) new are h = at_vnode (λ log after. MergesIn stamp key from at state log back after) (back ≡ Err Lost) (slice_get old i) old i new refl are (λ log after legal. merge_in stamp key log after legal from at state back) h
   does_one stamp old (StateOf i key back) new are h = at_vnode (λ log after. ReadsIn stamp key log back after) (back ≡ Err Lost) (slice_get old i) old i new refl are (λ log after legal. read_in stamp key log after legal back) h
+  does_one stamp old (SummaryAt i key back) new are h = at_vnode (λ log after. SummarizesIn stamp key log back after) (back ≡ Err Lost) (slice_get old i) old i new refl are (λ log after legal. summary_in stamp key log after legal back) h
+  does_one stamp old (MergePartAt i key from at part back) new are h = at_vnode (λ log after. MergesPartIn stamp key from at part log back after) (back ≡ Err Lost) (slice_get old i) old i new refl are (λ log after legal. part_in stamp key log after legal from at part back) h
   does_one stamp old (KeysOf i back) new are h = unchanged old new are h.1
 
   pub step_goes : (old : LocalView) (call : Call) (new : LocalView) → AreJournals old.logs → LocalStep old call new → AreJournals new.logs × GoOn old.logs new.logs
@@ -111,6 +128,8 @@ unanswered_is_lost call made is = subst IsLost (sym is) (is_lost made)
     is_lost (PutAt i key seen content back) = refl
     is_lost (MergeAt i key from at state back) = refl
     is_lost (StateOf i key back) = refl
+    is_lost (SummaryAt i key back) = refl
+    is_lost (MergePartAt i key from at part back) = refl
     is_lost (KeysOf i back) = refl
 
 -- a call on one vnode that wasn't lost was made there

@@ -142,8 +142,8 @@ fn calls_of_a_get_and_its_repair(rt: HostRuntime) -> Result<(), Fail> {
     expect_all(rt.alloc(), Operation::GetAndRepair, &rows)
 }
 
-/// Call 0 names the keys of vnode 0, 1 to 6 bring them to vnode 1, call 7 names those of vnode 1, and 8 to 14 bring them to vnode 0. There
-/// is no call 15.
+/// Call 0 names the keys of vnode 0, 1 to 6 bring them to vnode 1: for each a summary, a state and a part. Call 7 names the keys of vnode 1,
+/// and 8 to 14 bring them to vnode 0, of which two are alike by then. There is no call 15.
 #[test]
 fn calls_of_an_exchange(rt: HostRuntime) -> Result<(), Fail> {
     for number in 0..16 {

@@ -195,7 +195,7 @@ pub(super) fn operate(
         Operation::Put => put_ahead(alloc, local),
         Operation::GetAndRepair => get_and_repair(alloc, local),
         Operation::Exchange => {
-            let _taken = exchange(local, 0, 1);
+            let _taken = exchange(alloc, local, 0, 1);
             Ok(None)
         }
     }

@@ -20,8 +20,8 @@ fn repair(local: &mut Local, key: &Key, answers: &[Answer]) -> u64
     repair::repair(local, key, answers)
 }
 
-fn exchange(local: &mut Local, i: usize, j: usize) -> u64 {
-    repair::exchange(local, i, j)
+fn exchange(alloc: Global, local: &mut Local, i: usize, j: usize) -> u64 {
+    repair::exchange(alloc, local, i, j)
 }
 
 // Whether the one sibling is the value `a`, put first at vnode 0.
@@ -188,9 +188,9 @@ fn are_alike(alloc: Global, local: &mut Local) -> Result<[bool; 3], Fail> {
 fn exchange_twice(alloc: Global) -> Result<([u64; 2], [[usize; 3]; 3], [bool; 3]), Fail> {
     let mut local = apart(alloc)?;
     let before = lengths(&local);
-    let first = exchange(&mut local, 0, 1);
+    let first = exchange(alloc, &mut local, 0, 1);
     let between = lengths(&local);
-    let second = exchange(&mut local, 0, 1);
+    let second = exchange(alloc, &mut local, 0, 1);
     let after = lengths(&local);
     Ok((
         [first, second],
@@ -219,7 +219,7 @@ fn brings_each_key_to_the_other_side(rt: HostRuntime) -> Result<(), Fail> {
 fn a_vnode_that_is_not_there(rt: HostRuntime) -> Result<(), Fail> {
     let mut local = apart(rt.alloc())?;
     let before = local.failures();
-    let taken = exchange(&mut local, 0, 5);
+    let taken = exchange(rt.alloc(), &mut local, 0, 5);
     assert_eq!(rt; (before, taken, local.failures() > 0), (0, 0, true));
     Ok(())
 }
