@@ -8,7 +8,7 @@ use Rattle.object.specs.declared.content.Key.{Key}
 use Rattle.std.specs.Global.{Vec}
 use Rattle.std.specs.Prelude.{IfOk}
 use Rattle.vnode.specs.Keys.{AreKeys}
-use Rattle.vnode.specs.declared.fault.VnodeFault.{VnodeFault}
+use Rattle.vnode.specs.declared.fault.PartFault.{PartFault}
 use Rattle.calls.specs.declared.request.Reply.{Reply}
 use Rattle.calls.specs.declared.request.Request.{Request}
 use Rattle.calls.specs.Answered.{made, with_made}
@@ -28,7 +28,7 @@ entries_of-push (u ∷ us) t = ap (λ es. entry_of_call u ++ es) (entries_of-pus
 pub length_made : (s : ℕ) (n : News) → length (entries_made s n) ≡ entry_count n
 length_made s (news.Call q o) = by o
   where
-    by : (o : Result Reply VnodeFault) → length (made s q o) ≡ outcome_count o
+    by : (o : Result Reply PartFault) → length (made s q o) ≡ outcome_count o
     by (Ok a) = refl
     by (Err f) = refl
 length_made s (news.HandOut first entries) = refl
@@ -71,7 +71,7 @@ vnodes_more old new x h drawn ts t n tn j a ex answer more = record {
 }
 
 -- and after one that was refused for memory
-pub vnodes_same : (old new : Log) (w x : View) (h : History) (drawn : ℕ) (ts : List Told) (stamp s : ℕ) (q : Request) (out : Result Reply VnodeFault) → h.vnode ≡ old.vnode → entries_of h.told ≡ old.entries → AreAnswered [] h.told → w ≡ lent drawn ts h stamp
+pub vnodes_same : (old new : Log) (w x : View) (h : History) (drawn : ℕ) (ts : List Told) (stamp s : ℕ) (q : Request) (out : Result Reply PartFault) → h.vnode ≡ old.vnode → entries_of h.told ≡ old.entries → AreAnswered [] h.told → w ≡ lent drawn ts h stamp
     → x ≡ dropped w → lacks_memory out ≡ true → new ≡ with_made old s q out → IsVnodes new (without_pass x)
 vnodes_same old new w x h drawn ts stamp s q out n j a ew ex lacks more = record {
   history = h;
@@ -81,7 +81,7 @@ vnodes_same old new w x h drawn ts stamp s q out n j a ew ex lacks more = record
   answered = a;
 }
   where
-    none : (o : Result Reply VnodeFault) → lacks_memory o ≡ true → made s q o ≡ []
+    none : (o : Result Reply PartFault) → lacks_memory o ≡ true → made s q o ≡ []
     none (Ok r) e = absurd (cc)
     none (Err f) e = refl
 

@@ -50,6 +50,8 @@ stamp_entry : (s : ℕ) (q : Request) (a : Reply) → stamp_of (entry_of s q a) 
 stamp_entry s (request.Put key seen content) a = refl
 stamp_entry s (request.Merge key from at state) a = refl
 stamp_entry s (request.Read key) a = refl
+stamp_entry s (request.Summary key) a = refl
+stamp_entry s (request.Part key from at part) a = refl
 stamp_entry s request.Restart a = refl
 
 -- the stamps rise from low on

@@ -2,6 +2,8 @@
 use Rattle.std.specs.Prelude.{◌≡◌, ◌≤◌, ℕ, Bool, true, false, List, [], ◌∷◌, ◌++◌, length, drop, Result, Ok, Err}
 use Rattle.journal.specs.Entry.{Entry}
 use Rattle.journal.specs.Logs.{Log}
+use Rattle.vnode.specs.declared.fault.PartFault.{PartFault}
+use Rattle.vnode.specs.declared.fault.PartFault.TheVariants.{Missing, Refused}
 use Rattle.vnode.specs.declared.fault.VnodeFault.{VnodeFault}
 use Rattle.vnode.specs.declared.fault.VnodeFault.TheVariants.{ContextAhead, TooManySiblings, ClockFull, MergedClockFull, JournalFull, NoMemory}
 use Rattle.calls.specs.declared.request.Reply.{Reply}
@@ -20,10 +22,15 @@ is_want_of_memory ClockFull = false
 is_want_of_memory MergedClockFull = false
 is_want_of_memory JournalFull = false
 
+-- a refusal is for memory
+abbrev pub wants_memory : PartFault → Bool
+wants_memory Missing = false
+wants_memory (Refused fault) = is_want_of_memory fault
+
 -- a request was refused for memory
-abbrev pub lacks_memory : Result Reply VnodeFault → Bool
+abbrev pub lacks_memory : Result Reply PartFault → Bool
 lacks_memory (Ok reply) = false
-lacks_memory (Err fault) = is_want_of_memory fault
+lacks_memory (Err fault) = wants_memory fault
 
 -- what is not told, since there was no memory
 abbrev pub lacks : News → Bool

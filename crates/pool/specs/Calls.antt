@@ -7,7 +7,8 @@ use Rattle.std.specs.Global.{Vec}
 use Rattle.journal.specs.Journals.{IsJournal}
 use Rattle.object.specs.declared.content.Key.{Key}
 use Rattle.vnode.specs.Keys.{AreKeys}
-use Rattle.vnode.specs.declared.fault.VnodeFault.{VnodeFault}
+use Rattle.vnode.specs.declared.fault.PartFault.{PartFault}
+use Rattle.vnode.specs.declared.fault.PartFault.TheVariants as part
 use Rattle.calls.specs.declared.request.Reply.{Reply}
 use Rattle.calls.specs.declared.request.Request.{Request}
 use Rattle.stamps.specs.Rule.{IsWithin, stamps_each, hand_out_of}
@@ -18,7 +19,7 @@ use Rattle.stamps.specs.declared.view.History.{History}
 use Rattle.stamps.specs.declared.view.View.{View}
 use Rattle.pool.specs.Answers.{IsAnswered, is_want_of_memory, lacks, log_of}
 use Rattle.pool.specs.declared.fault.CallFault.{CallFault}
-use Rattle.pool.specs.declared.fault.CallFault.TheVariants.{PassSpent, Refused}
+use Rattle.pool.specs.declared.fault.CallFault.TheVariants.{PassSpent, Missing, Refused}
 
 -- the name of no table
 abbrev pub no_table : TableId
@@ -29,7 +30,7 @@ abbrev pub pass_view : ℕ → List Told → View
 pass_view drawn told = record { parts = 1; drawn = drawn; pending = []; told = told; owed = []; histories = [] }
 
 -- an accepted request's outcome
-abbrev pub outcome_ok : Reply → Result Reply VnodeFault
+abbrev pub outcome_ok : Reply → Result Reply PartFault
 outcome_ok reply = Ok reply
 
 -- what was told after one call more: nothing more, where that was refused for memory
@@ -45,13 +46,14 @@ abbrev pub IsNews : View → View → Told → Type 0
 IsNews old new t = (new.told ≡ old.told ++ t ∷ []) × IsTold t old.told
 
 -- the pass was told of a refusal by the vnode
-abbrev pub IsRefusal : View → View → ℕ → Request → VnodeFault → Type 0
+abbrev pub IsRefusal : View → View → ℕ → Request → PartFault → Type 0
 IsRefusal old new vnode request fault = (t : Told) × IsNews old new t × (t.vnode ≡ vnode) × (t.news ≡ news.Call request (Err fault))
 
--- a refusal: the pass has drawn all its stamps; there was no memory; or the vnode's, as one thread is refused there
+-- a refusal: the pass has drawn all its stamps; the vnode's, as one thread is refused there; or there was no memory
 abbrev pub IsFault : View → View → ℕ → Request → CallFault → Type 0
 IsFault old new vnode request PassSpent = (new.told ≡ old.told) × (old.drawn ≡ stamps_each)
-IsFault old new vnode request (Refused fault) = MatchBool (is_want_of_memory fault) (new.told ≡ old.told) (IsRefusal old new vnode request fault)
+IsFault old new vnode request Missing = IsRefusal old new vnode request part.Missing
+IsFault old new vnode request (Refused fault) = MatchBool (is_want_of_memory fault) (new.told ≡ old.told) (IsRefusal old new vnode request (part.Refused fault))
 
 -- The pass was told of these full blocks, which a vnode's journal has from this place on. When they were handed out it had at most a block more.
 abbrev pub IsHandedOut : View → View → ℕ → ℕ → List (Vec Entry) → Type 0

@@ -9,6 +9,9 @@ pub enum CallFault {
     /// The pass has drawn 2^48 stamps.
     #[error("S1")]
     PassSpent,
+    /// A content that was left out of a part isn't held there now.
+    #[error("M2")]
+    Missing,
     /// The vnode refused it, or there was no memory.
     #[error("{0}")]
     Refused(VnodeFault),

@@ -8,7 +8,7 @@ ghost use Rattle.journal.specs.Entry.{Entry as Entered};
 ghost use Rattle.journal.specs.Journals.{IsJournal};
 ghost use Rattle.vnode.specs.Keys.{AreKeys};
 ghost use Rattle.calls.specs.Answered.{asked};
-ghost use Rattle.pool.specs.Answers.{IsVnodes, lacks_memory, log_of};
+ghost use Rattle.pool.specs.Answers.{IsVnodes, wants_memory, lacks_memory, log_of};
 ghost use Rattle.pool.specs.Calls.{pass_view, told_then, IsTold, IsNews, IsFault, IsHandedOut, outcome_ok};
 
 use crate::fault::{CallFault, Receipt};
@@ -19,7 +19,7 @@ use object::Key;
 use stamps::{Asking, Card, Stamps};
 use std::alloc::AllocError;
 use std::marker::{Brand, Model, PhantomData};
-use vnode::{Vnode, VnodeFault};
+use vnode::{PartFault, Vnode, VnodeFault};
 
 // The vnode's card takes in what the pass knows.
 fn lend(stamps: &Stamps, card: &mut Card, pass: &mut Card)
@@ -43,20 +43,28 @@ fn give_back(stamps: &Stamps, card: &mut Card, pass: &mut Card)
     stamps.join(pass, mine);
 }
 
+// Whether a refusal is for memory.
+fn wants_memory(fault: PartFault) -> bool
+    ensures { result ≡ wants_memory fault }
+{
+    match fault {
+        PartFault::Missing => false,
+        PartFault::Refused(VnodeFault::NoMemory) => true,
+        PartFault::Refused(VnodeFault::ContextAhead) => false,
+        PartFault::Refused(VnodeFault::TooManySiblings) => false,
+        PartFault::Refused(VnodeFault::ClockFull) => false,
+        PartFault::Refused(VnodeFault::MergedClockFull) => false,
+        PartFault::Refused(VnodeFault::JournalFull) => false,
+    }
+}
+
 // Whether a request was refused for memory.
-fn lacks_memory(outcome: &Result<Reply, VnodeFault>) -> bool
+fn lacks_memory(outcome: &Result<Reply, PartFault>) -> bool
     ensures { result ≡ lacks_memory outcome.now }
 {
     match outcome {
         Ok(_) => false,
-        Err(fault) => match *fault {
-            VnodeFault::NoMemory => true,
-            VnodeFault::ContextAhead => false,
-            VnodeFault::TooManySiblings => false,
-            VnodeFault::ClockFull => false,
-            VnodeFault::MergedClockFull => false,
-            VnodeFault::JournalFull => false,
-        },
+        Err(fault) => wants_memory(*fault),
     }
 }
 
@@ -64,7 +72,7 @@ fn lacks_memory(outcome: &Result<Reply, VnodeFault>) -> bool
 struct Asked {
     at: usize,
     stamp: u64,
-    outcome: Result<Reply, VnodeFault>,
+    outcome: Result<Reply, PartFault>,
 }
 
 // Asks the vnode, and tells the pass of the request that `Q` names. A request that is refused for memory leaves nothing but a gap in the
@@ -159,7 +167,8 @@ impl<B: Room> Locked<B> {
                     stamp,
                 },
             )),
-            Err(fault) => Err(CallFault::Refused(fault)),
+            Err(PartFault::Missing) => Err(CallFault::Missing),
+            Err(PartFault::Refused(fault)) => Err(CallFault::Refused(fault)),
         }
     }
 }

@@ -1,6 +1,7 @@
 //! The tests of vnodes under locks.
 
 mod building;
+mod exchanges;
 mod gates;
 mod passes;
 mod quorums;

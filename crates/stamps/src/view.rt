@@ -3,7 +3,7 @@
 use calls::{Reply, Request};
 use journal::Entry;
 use std::collections::LinkedList;
-use vnode::VnodeFault;
+use vnode::PartFault;
 
 /// What a vnode tells.
 pub enum News {
@@ -12,7 +12,7 @@ pub enum News {
         /// What was asked.
         request: Request,
         /// What came of it.
-        outcome: Result<Reply, VnodeFault>,
+        outcome: Result<Reply, PartFault>,
     },
     /// A part of the journal was handed out.
     HandOut {

@@ -15,7 +15,7 @@ use calls::Reply;
 use journal::Handout;
 use std::alloc::{AllocError, Global};
 use std::marker::Brand;
-use vnode::VnodeFault;
+use vnode::PartFault;
 
 /// The most stamps that one pass draws.
 pub const STAMPS_EACH: u64 = 1 << 48;
@@ -61,7 +61,7 @@ impl Stamps {
         vnode: u32,
         at: usize,
         stamp: u64,
-        outcome: &Result<Reply, VnodeFault>,
+        outcome: &Result<Reply, PartFault>,
     )
         requires table { card.old.table_id ≡ self.now.table.shared.table_id }
         requires pass { 0 < card.old.me.0.parts }
@@ -94,7 +94,7 @@ impl Stamps {
         vnode: u32,
         at: usize,
         stamp: u64,
-        outcome: &Result<Reply, VnodeFault>,
+        outcome: &Result<Reply, PartFault>,
     )
         requires { (N.call ≡ call_of vnode at stamp Q.request outcome.now) × (card.old.table_id ≡ self.now.table.shared.table_id) × (0 < card.old.me.0.parts) × (card.old.me.0.pending ≡ stamp ∷ []) × (card.old.me.0.owed ≡ []) × ((h : History) × (card.old.me.0.histories ≡ h ∷ []) × (vnode ≡ h.vnode) × (at ≡ entries h.told)) }
         ensures table { card.new.table_id ≡ card.old.table_id }
@@ -110,7 +110,7 @@ impl Stamps {
         vnode: u32,
         at: usize,
         stamp: u64,
-        outcome: &Result<Reply, VnodeFault>,
+        outcome: &Result<Reply, PartFault>,
     )
         requires table { card.old.table_id ≡ self.now.table.shared.table_id }
         requires pass { 0 < card.old.me.0.parts }
@@ -164,7 +164,7 @@ impl Stamps {
         vnode: u32,
         at: usize,
         stamp: u64,
-        outcome: &Result<Reply, VnodeFault>,
+        outcome: &Result<Reply, PartFault>,
     )
         requires { (N.call ≡ call_of vnode at stamp Q.request outcome.now) × (card.old.table_id ≡ self.now.table.shared.table_id) × (0 < card.old.me.0.parts) × (card.old.me.0.pending ≡ stamp ∷ []) × (card.old.me.0.owed ≡ []) × ((h : History) × (card.old.me.0.histories ≡ h ∷ []) × (vnode ≡ h.vnode) × (at ≡ entries h.told)) }
         ensures table { card.new.table_id ≡ card.old.table_id }
@@ -180,7 +180,7 @@ impl Stamps {
         vnode: u32,
         at: usize,
         stamp: u64,
-        outcome: &Result<Reply, VnodeFault>,
+        outcome: &Result<Reply, PartFault>,
     )
         requires table { card.old.table_id ≡ self.now.table.shared.table_id }
         requires pass { 0 < card.old.me.0.parts }

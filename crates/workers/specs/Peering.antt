@@ -3,6 +3,7 @@ use Rattle.std.specs.Prelude.{◌≡◌, ◌<◌, ◌≤◌, ◌+◌, ◌⊎◌,
 use Rattle.std.specs.Global.{Vec}
 use Rattle.dvv.specs.declared.Dot as dvv
 use Rattle.object.specs.declared.content.Key.{Key}
+use Rattle.object.specs.State.{State}
 use Rattle.vnode.specs.declared.fault.VnodeFault.{VnodeFault}
 use Rattle.vnode.specs.declared.fault.VnodeFault.TheVariants.{NoMemory}
 use Rattle.calls.specs.declared.request.Reply.{Reply}
@@ -10,9 +11,12 @@ use Rattle.calls.specs.declared.request.Reply.TheVariants as reply
 use Rattle.calls.specs.declared.request.Request.{Request}
 use Rattle.calls.specs.declared.request.Request.TheVariants as request
 use Rattle.peers.specs.declared.peers.Answer.{Answer}
+use Rattle.peers.specs.declared.peers.SummaryAnswer.{SummaryAnswer}
+use Rattle.peers.specs.declared.peers.PartAnswer.{PartAnswer}
+use Rattle.peers.specs.declared.peers.PartAnswer.TheVariants.{Merged, Missing}
 use Rattle.peers.specs.declared.fault.PeerFault.{PeerFault}
 use Rattle.peers.specs.declared.fault.PeerFault.TheVariants.{Lost, Refused}
-use Rattle.peers.specs.Calls.{Call, PutAt, MergeAt, StateOf, KeysOf}
+use Rattle.peers.specs.Calls.{Call, PutAt, MergeAt, StateOf, SummaryAt, MergePartAt, KeysOf}
 use Rattle.peers.specs.Counts.{Counts}
 use Rattle.stamps.specs.Rule.{stamps_each, call_of}
 use Rattle.stamps.specs.declared.view.Size.{Size}
@@ -49,6 +53,17 @@ abbrev pub IsRead : Size → View → View → ℕ → Request → Result Answer
 IsRead size old new i asked (Ok answer) = (answer.from ≡ size.first + i) × IsReplied size old new i asked answer.at (reply.State answer.state)
 IsRead size old new i asked (Err why) = IsNoReply size old new i asked why
 
+-- what a summary leaves
+abbrev pub IsSummary : Size → View → View → ℕ → Request → Result SummaryAnswer PeerFault → Type 0
+IsSummary size old new i asked (Ok answer) = (answer.from ≡ size.first + i) × IsReplied size old new i asked answer.at (reply.Summary answer.summary)
+IsSummary size old new i asked (Err why) = IsNoReply size old new i asked why
+
+-- what a part leaves: the merge of the whole state that was built, or the refusal that tells of a content which isn't held
+abbrev pub IsPart : Size → View → View → ℕ → Request → Result PartAnswer PeerFault → Type 0
+IsPart size old new i asked (Ok (Merged changed)) = (place : ℕ) × (whole : State) × IsReplied size old new i asked place (reply.Built changed whole)
+IsPart size old new i asked (Ok Missing) = (i < size.vnodes) × IsFault old new (size.first + i) asked fault.Missing
+IsPart size old new i asked (Err why) = IsNoReply size old new i asked why
+
 -- the keys that a vnode named; nothing more was told, and what is lost had no vnode: at one that is there only memory can lack
 abbrev pub IsKeys : Size → View → View → ℕ → Result (Vec Key) PeerFault → Type 0
 IsKeys size old new i (Ok keys) = (new.told ≡ old.told) × AreKeysOf size old i keys.items
@@ -60,6 +75,8 @@ abbrev pub Passes : Size → View → Call → View → Type 0
 Passes size old (PutAt i key seen content back) new = IsPut size old new i (request.Put key seen content) back
 Passes size old (MergeAt i key from at state back) new = IsMerge size old new i (request.Merge key from at state) back
 Passes size old (StateOf i key back) new = IsRead size old new i (request.Read key) back
+Passes size old (SummaryAt i key back) new = IsSummary size old new i (request.Summary key) back
+Passes size old (MergePartAt i key from at part back) new = IsPart size old new i (request.Part key from at part) back
 Passes size old (KeysOf i back) new = IsKeys size old new i back
 
 -- one call through the peers of a pass
@@ -70,6 +87,7 @@ pub record PassStep (size : Size) (old : View) (failures : ℕ) (call : Call) (n
   pub size_is : size_after ≡ size
 
 -- by cases on why a call was refused
-abbrev pub MatchCall : CallFault → Type 0 → (VnodeFault → Type 0) → Type 0
-MatchCall fault.PassSpent spent refused = spent
-MatchCall (fault.Refused why) spent refused = refused why
+abbrev pub MatchCall : CallFault → Type 0 → Type 0 → (VnodeFault → Type 0) → Type 0
+MatchCall fault.PassSpent spent missing refused = spent
+MatchCall fault.Missing spent missing refused = missing
+MatchCall (fault.Refused why) spent missing refused = refused why

@@ -1,14 +1,16 @@
 //! The vnodes of a cluster as peers, by one pass.
 
-ghost use Rattle.std.specs.Prelude.{◌≡◌, ◌^◌, ◌-◌, ◌+◌, min, if◌then◌else◌};
+ghost use Rattle.std.specs.Prelude.{◌≡◌, ◌≢◌, Ok, Err, ◌^◌, ◌-◌, ◌+◌, min, if◌then◌else◌};
 ghost use Rattle.calls.specs.declared.request.Request.TheVariants as request;
 ghost use Rattle.peers.specs.declared.fault.PeerFault.TheVariants.{Lost, Refused};
-ghost use Rattle.workers.specs.Peering.{IsPut, IsMerge, IsRead, IsKeys, MatchCall};
+ghost use Rattle.peers.specs.declared.peers.PartAnswer.TheVariants.{Missing};
+ghost use Rattle.pool.specs.declared.fault.CallFault.{CallFault};
+ghost use Rattle.workers.specs.Peering.{IsPut, IsMerge, IsRead, IsSummary, IsPart, IsKeys, MatchCall};
 
 use calls::{Prepared, Reply};
 use dvv::{Clock, Dot};
-use object::{Content, Key, KeyState};
-use peers::{Answer, PeerFault, Peers};
+use object::{Content, Key, KeyState, Part};
+use peers::{Answer, PartAnswer, PeerFault, Peers, SummaryAnswer};
 use pool::{CallFault, Cluster, Gate, Pass, Room};
 use std::alloc::Global;
 use std::sync::Wait;
@@ -26,13 +28,26 @@ pub struct PassPeers<'a, B: Room, R: Wait, G: Gate> {
     failures: u64,
 }
 
-// Why a call came back without a reply.
+// Why a call that was no part came back without a reply.
 fn no_reply(fault: CallFault) -> PeerFault
-    ensures { MatchCall fault (result ≡ Lost) (λ why. result ≡ Refused why) }
+    requires { fault ≢ CallFault.Missing }
+    ensures { MatchCall fault (result ≡ Lost) ⊥ (λ why. result ≡ Refused why) }
 {
     match fault {
         CallFault::PassSpent => PeerFault::Lost,
+        CallFault::Missing => unreachable!(),
         CallFault::Refused(fault) => PeerFault::Refused(fault),
+    }
+}
+
+// What a part that was refused came to.
+fn part_refused(fault: CallFault) -> Result<PartAnswer, PeerFault>
+    ensures { MatchCall fault (result ≡ Err Lost) (result ≡ Ok Missing) (λ why. result ≡ Err (Refused why)) }
+{
+    match fault {
+        CallFault::PassSpent => Err(PeerFault::Lost),
+        CallFault::Missing => Ok(PartAnswer::Missing),
+        CallFault::Refused(fault) => Err(PeerFault::Refused(fault)),
     }
 }
 
@@ -115,6 +130,63 @@ fn read_through<B: Room, R: Wait, G: Gate>(
             _ => unreachable!(),
         },
         Err(fault) => Err(no_reply(fault)),
+    }
+}
+
+// Reads the summary of what a vnode holds.
+fn summary_through<B: Room, R: Wait, G: Gate>(
+    rt: &R,
+    cluster: &Cluster<B>,
+    pass: &mut Pass<B>,
+    gate: &G,
+    i: usize,
+    key: &Key,
+) -> Result<SummaryAnswer, PeerFault>
+    ensures { IsSummary cluster.now pass.old pass.new i (request.Summary key.now) result }
+{
+    if i >= cluster.count() {
+        return Err(PeerFault::Lost);
+    }
+    match cluster.call_prepared(rt, pass, i, Prepared::Summary(key), gate) {
+        Ok((reply, receipt)) => match reply {
+            Reply::Summary(summary) => Ok(SummaryAnswer {
+                from: receipt.vnode,
+                at: receipt.place,
+                summary,
+            }),
+            _ => unreachable!(),
+        },
+        Err(fault) => Err(no_reply(fault)),
+    }
+}
+
+// Merges a part at a vnode.
+fn part_through<B: Room, R: Wait, G: Gate>(
+    rt: &R,
+    cluster: &Cluster<B>,
+    pass: &mut Pass<B>,
+    gate: &G,
+    i: usize,
+    key: &Key,
+    from: u32,
+    at: u32,
+    part: &Part,
+) -> Result<PartAnswer, PeerFault>
+    ensures { IsPart cluster.now pass.old pass.new i (request.Part key.now from at part.now) result }
+{
+    if i >= cluster.count() {
+        return Err(PeerFault::Lost);
+    }
+    let prepared = Prepared::Part {
+        key,
+        from,
+        at,
+        part,
+    };
+    match cluster.call_prepared(rt, pass, i, prepared, gate) {
+        Ok((Reply::Built { changed, .. }, _)) => Ok(PartAnswer::Merged(changed)),
+        Ok(_) => unreachable!(),
+        Err(fault) => part_refused(fault),
     }
 }
 
@@ -230,6 +302,35 @@ impl<'a, B: Room, R: Wait, G: Gate> Peers for PassPeers<'a, B, R, G> {
 
     fn state_of(&mut self, i: usize, key: &Key) -> Result<Answer, PeerFault> {
         let back = read_through(self.rt, self.cluster, self.pass, self.gate, i, key);
+        self.count(back.is_err());
+        back
+    }
+
+    fn summary_at(&mut self, i: usize, key: &Key) -> Result<SummaryAnswer, PeerFault> {
+        let back = summary_through(self.rt, self.cluster, self.pass, self.gate, i, key);
+        self.count(back.is_err());
+        back
+    }
+
+    fn merge_part_at(
+        &mut self,
+        i: usize,
+        key: &Key,
+        from: u32,
+        at: u32,
+        part: &Part,
+    ) -> Result<PartAnswer, PeerFault> {
+        let back = part_through(
+            self.rt,
+            self.cluster,
+            self.pass,
+            self.gate,
+            i,
+            key,
+            from,
+            at,
+            part,
+        );
         self.count(back.is_err());
         back
     }

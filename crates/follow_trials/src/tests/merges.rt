@@ -1,6 +1,7 @@
 //! Merges with and without a source, handed over in blocks of one entry.
 
 use crate::tests::following::{Told, key_of, take_one, told, value_of};
+use code_parts::expect;
 use dvv::{Clock, Dot};
 use follow::{FollowCode, Follower};
 use journal::{Entry, Merged, Write};
@@ -12,7 +13,7 @@ use vnode::Vnode;
 /// Vnode 7 puts under this number, reads, puts, reads, and reads another key, with stamps 1 to 5, and of its last entries so many answers
 /// are kept. Then vnode 5 merges with a stamp and under a key what the read of a vnode at a place is said to have answered: what vnode 7
 /// reads after it has put this value.
-#[derive(Clone, Copy)]
+#[derive(Clone, Copy, Debug)]
 struct Merge {
     n: u64,
     recent: usize,
@@ -48,7 +49,7 @@ const OTHER_STATE: Merge = Merge {
     ..RIGHT
 };
 
-const MERGES: [Merge; 19] = [
+const MERGES: &[Merge] = &[
     RIGHT,
     Merge {
         at: 3,
@@ -167,11 +168,16 @@ fn judged(alloc: Global, key: &Key, merge: &Merge) -> Result<Told, Fail> {
     told_of(alloc, &mut follower, key, merge)
 }
 
+/// Each merge.
+fn all_are_judged(alloc: Global, key: &Key) -> Result<(), Fail> {
+    for merge in MERGES {
+        expect(judged(alloc, key, merge)? == merge.told, merge)?;
+    }
+    Ok(())
+}
+
 #[test]
 fn a_merge_has_an_earlier_source(rt: HostRuntime) -> Result<(), Fail> {
     let key = key_of(rt.alloc(), b"k")?;
-    for merge in &MERGES {
-        assert_eq!(rt; judged(rt.alloc(), &key, merge)?, merge.told);
-    }
-    Ok(())
+    all_are_judged(rt.alloc(), &key)
 }

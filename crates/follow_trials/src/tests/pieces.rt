@@ -102,18 +102,39 @@ fn fill(vnode: &mut Vnode, key: &Key) -> Result<(), Fail> {
     Ok(())
 }
 
-/// What vnodes did is one run, as far as their blocks are full.
-fn are_followed(rt: &impl Abort, alloc: Global, vnodes: &mut [Vnode]) -> Result<(), Fail> {
-    let key = key_of(alloc, b"k")?;
-    let mut follower = Follower::new(alloc, &[0, 1, 2], RECENT)?;
+/// Whether nothing is told, and of each vnode so many entries are followed.
+fn are_all_followed(follower: &mut Follower) -> Result<bool, Fail> {
+    Ok(
+        told(follower, u64::MAX)?.is_none()
+            && (0..follower.count()).all(|index| follower.followed(index) == FOLLOWED),
+    )
+}
+
+/// Takes the full blocks of each of some vnodes.
+fn take_vnodes(
+    alloc: Global,
+    follower: &mut Follower,
+    key: &Key,
+    vnodes: &mut [Vnode],
+) -> Result<(), Fail> {
     for vnode in vnodes {
-        fill(vnode, &key)?;
-        take_vnode(alloc, &mut follower, vnode)?;
+        fill(vnode, key)?;
+        take_vnode(alloc, follower, vnode)?;
     }
-    assert_eq!(rt; told(&mut follower, u64::MAX)?, None);
-    for index in 0..follower.count() {
-        assert_eq!(rt; follower.followed(index), FOLLOWED);
-    }
+    Ok(())
+}
+
+/// Whether what vnodes did is one run, as far as their blocks are full.
+fn are_followed(alloc: Global, key: &Key, vnodes: &mut [Vnode]) -> Result<bool, Fail> {
+    let mut follower = Follower::new(alloc, &[0, 1, 2], RECENT)?;
+    take_vnodes(alloc, &mut follower, key, vnodes)?;
+    are_all_followed(&mut follower)
+}
+
+/// What they did is one run.
+fn are_one_run(rt: &impl Abort, alloc: Global, vnodes: &mut [Vnode]) -> Result<(), Fail> {
+    let key = key_of(alloc, b"k")?;
+    assert!(rt; are_followed(alloc, &key, vnodes)?);
     Ok(())
 }
 
@@ -145,7 +166,7 @@ fn followed_in_pieces<B: Room + Send + Sync, R: Threads + Wait + Abort + Sync>(
     let Ok(mut vnodes) = cluster.gather(back) else {
         return Err(Fail::new("not gathered"));
     };
-    are_followed(rt, alloc, vnodes.as_mut_slice())
+    are_one_run(rt, alloc, vnodes.as_mut_slice())
 }
 
 /// A million calls of four threads, handed over in pieces of 64 entries, are one run.

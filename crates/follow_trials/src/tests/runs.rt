@@ -2,12 +2,12 @@
 
 ghost use Rattle.std.specs.Prelude.{◌<◌, ◌^◌};
 
-use crate::tests::following::{Told, follower_of_two, key_of, take_all, told, value_of};
+use crate::tests::following::{follower_of_two, key_of, take_all, told, value_of};
+use code_parts::expect;
 use follow::{Follower, TakeFault};
 use journal::Entry;
 use object::{Content, Key};
 use std::alloc::Global;
-use std::process::Abort;
 use std::test::Fail;
 use vnode::Vnode;
 
@@ -46,28 +46,30 @@ impl Pair {
         bring(&mut self.b, &mut self.a, 8 * round + 4, key, content)
     }
 
-    /// Takes what the vnodes hand out, and follows it up to a bound.
-    fn follow(&mut self, alloc: Global, below: u64) -> Result<Told, Fail> {
+    /// Takes what the vnodes hand out, and follows it up to a bound. Nothing is told.
+    fn follow(&mut self, alloc: Global, below: u64) -> Result<(), Fail> {
         take_all(&mut self.follower, 0, self.a.settle(Vec::new(alloc)))?;
         take_all(&mut self.follower, 1, self.b.settle(Vec::new(alloc)))?;
-        told(&mut self.follower, below)
+        let told = told(&mut self.follower, below)?;
+        expect(told.is_none(), &told)
     }
 
     /// As many rounds, of which all but the last 300 are followed every 300.
-    fn rounds(
-        &mut self,
-        rt: &impl Abort,
-        alloc: Global,
-        key: &Key,
-        content: &Content,
-    ) -> Result<(), Fail> {
+    fn rounds(&mut self, alloc: Global, key: &Key, content: &Content) -> Result<(), Fail> {
         for round in 0..ROUNDS {
             self.round(round, key, content)?;
             if round % 300 == 299 {
-                assert_eq!(rt; self.follow(alloc, 8 * (round - 299))?, None);
+                self.follow(alloc, 8 * (round - 299))?;
             }
         }
         Ok(())
+    }
+
+    /// All rounds, and then all that was handed out is followed.
+    fn all(&mut self, alloc: Global, key: &Key, content: &Content) -> Result<(), Fail> {
+        self.rounds(alloc, key, content)?;
+        self.follow(alloc, 8 * 1024)?;
+        expect(self.follower.fault().is_none(), &self.follower.fault())
     }
 }
 
@@ -85,16 +87,13 @@ fn blocks_are_followed(rt: HostRuntime) -> Result<(), Fail> {
         b: Vnode::new(alloc, 1),
         follower: follower_of_two(alloc, 16)?,
     };
-    pair.rounds(&rt, alloc, &key, &content)?;
-    assert_eq!(rt; pair.follow(alloc, 8 * 1024)?, None);
-    assert_eq!(rt; pair.follower.fault(), None);
-    Ok(())
+    pair.all(alloc, &key, &content)
 }
 
 /// A vnode, a place, the stamps of restarts that are taken of it from there on, what taking them answers, and up to which bound is followed then.
 type Taking = (u32, usize, &'static [u64], Result<(), TakeFault>, u64);
 
-const TAKINGS: [Taking; 6] = [
+const TAKINGS: &[Taking] = &[
     (2, 0, &[], Err(TakeFault::Unknown), 0),
     (1, 1, &[], Err(TakeFault::Gap), 0),
     (1, 0, &[3], Ok(()), 0),
@@ -116,13 +115,23 @@ fn taken(
     Ok(follower.take(taking.0, taking.1, block))
 }
 
+/// Whether taking them answers so, and nothing is told.
+fn is_taken(alloc: Global, follower: &mut Follower, taking: &Taking) -> Result<bool, Fail> {
+    let answered = taken(alloc, follower, taking)?;
+    Ok(answered == taking.3 && told(follower, taking.4)?.is_none())
+}
+
+/// Each of them.
+fn all_are_taken(alloc: Global, follower: &mut Follower) -> Result<(), Fail> {
+    for taking in TAKINGS {
+        expect(is_taken(alloc, follower, taking)?, taking)?;
+    }
+    Ok(())
+}
+
 /// Entries are taken of a vnode that is followed, and where the last ones ended.
 #[test]
 fn entries_follow_on(rt: HostRuntime) -> Result<(), Fail> {
     let mut follower = follower_of_two(rt.alloc(), 1)?;
-    for taking in &TAKINGS {
-        assert_eq!(rt; taken(rt.alloc(), &mut follower, taking)?, taking.3);
-        assert_eq!(rt; told(&mut follower, taking.4)?, None);
-    }
-    Ok(())
+    all_are_taken(rt.alloc(), &mut follower)
 }

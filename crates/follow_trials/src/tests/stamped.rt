@@ -1,6 +1,7 @@
 //! Stamps that fall, stand twice or come late, of blocks of one entry: a follower tells the first of these in the order of stamps.
 
 use crate::tests::following::{Told, follower_of_two, take_one, told};
+use code_parts::expect;
 use follow::{FollowCode, Follower};
 use journal::Entry;
 use std::alloc::Global;
@@ -9,7 +10,7 @@ use std::test::Fail;
 /// The stamps of restarts at vnodes 9, 3 and 5, and what is told.
 type Stamps = (&'static [u64], &'static [u64], &'static [u64], Told);
 
-const STAMPS: [Stamps; 15] = [
+const STAMPS: &[Stamps] = &[
     (&[4, 6, 8, 9], &[1, 2, 3, 5], &[10, 11, 12], None),
     (
         &[4, 6, 6, 5],
@@ -96,8 +97,11 @@ fn told_twice(alloc: Global, stamps: &Stamps) -> Result<(Told, Told), Fail> {
 
 #[test]
 fn a_stamp_falls_or_stands_twice(rt: HostRuntime) -> Result<(), Fail> {
-    for stamps in &STAMPS {
-        assert_eq!(rt; told_twice(rt.alloc(), stamps)?, (stamps.3, stamps.3));
+    for stamps in STAMPS {
+        expect(
+            told_twice(rt.alloc(), stamps)? == (stamps.3, stamps.3),
+            stamps,
+        )?;
     }
     Ok(())
 }
@@ -105,7 +109,7 @@ fn a_stamp_falls_or_stands_twice(rt: HostRuntime) -> Result<(), Fail> {
 /// A restart at a vnode and a place with this stamp, the bound up to which is followed then, and what is told.
 type Late = (u32, usize, u64, u64, Told);
 
-const LATE: [Late; 3] = [
+const LATE: &[Late] = &[
     (0, 0, 4, 4, None),
     (1, 0, 3, 5, None),
     (1, 1, 2, 5, Some((FollowCode::Late, 1, 1))),
@@ -117,12 +121,17 @@ fn told_late(alloc: Global, follower: &mut Follower, late: &Late) -> Result<Told
     told(follower, late.3)
 }
 
+/// Each of them.
+fn all_are_late(alloc: Global, follower: &mut Follower) -> Result<(), Fail> {
+    for late in LATE {
+        expect(told_late(alloc, follower, late)? == late.4, late)?;
+    }
+    Ok(())
+}
+
 /// An entry that is taken after its turn is told as late; one whose stamp isn't below the bound waits.
 #[test]
 fn late_entries(rt: HostRuntime) -> Result<(), Fail> {
     let mut follower = follower_of_two(rt.alloc(), 8)?;
-    for late in &LATE {
-        assert_eq!(rt; told_late(rt.alloc(), &mut follower, late)?, late.4);
-    }
-    Ok(())
+    all_are_late(rt.alloc(), &mut follower)
 }

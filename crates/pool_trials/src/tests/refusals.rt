@@ -15,7 +15,7 @@ use vnode::VnodeFault;
 /// After sixty-four puts without a context on one key the 65th is refused: 64 siblings stay, and a refused put has its stamp. A clock with
 /// 1,024 entries of other vnodes takes no put, and no merge of a further vnode's events. Then keys are written, and one is read that
 /// nobody wrote.
-const ROWS: [Row; 10] = [
+const ROWS: &[Row] = &[
     (
         0,
         b'k',
@@ -106,7 +106,7 @@ fn limits<B: Room, R: Wait + Abort>(
 ) -> Result<(), Fail> {
     assert!(rt; cluster.count() == 1);
     put_sixty_four(rt, alloc, cluster, pass)?;
-    rows_are(rt, alloc, cluster, pass, &ROWS)?;
+    rows_are(rt, alloc, cluster, pass, ROWS)?;
     keys_rise(rt, cluster, pass)?;
     row_is(rt, alloc, cluster, pass, &LAST)
 }

@@ -4,9 +4,9 @@ use crate::tests::building::{Open, clock_over, key_of, state_over};
 use crate::tests::running::{Trial, tried};
 use calls::{Reply, Request};
 use dvv::{Clock, Dot};
-use object::{Content, KeyState};
+use object::{Content, KeyState, Summary};
 use pool::{CallFault, Cluster, Pass, Receipt, Room};
-use std::alloc::Global;
+use std::alloc::{AllocError, Global};
 use std::process::Abort;
 use std::sync::Wait;
 use std::test::Fail;
@@ -21,12 +21,25 @@ pub(super) enum Came {
     Changed(bool),
     /// A state: how many siblings it has, and vnode and number of the last one's dot.
     State(usize, Option<(u32, u64)>),
+    /// A summary: how many dots it has, and vnode and number of the last one.
+    Summary(usize, Option<(u32, u64)>),
+    /// Whether the merge of a part changed something.
+    Built(bool),
     /// A vnode started again.
     Done,
+    /// A content that was left out of a part isn't held.
+    Missing,
     /// A vnode refused it.
     Refused(VnodeFault),
     /// The pass has drawn all its stamps.
     Spent,
+}
+
+/// What one holds of a state, for whom a part of it is made.
+#[derive(Clone, Copy)]
+pub(super) enum Held {
+    Nothing,
+    All,
 }
 
 /// What is asked.
@@ -40,6 +53,10 @@ pub(super) enum Ask {
     MergeOver(u32, u32),
     /// A read.
     Read,
+    /// A summary.
+    Summary,
+    /// A merge of a part of the state after vnode 0's first put, for one who holds so much of it.
+    Part(Held),
     /// A vnode is to start again.
     Restart,
 }
@@ -75,6 +92,25 @@ fn merge(alloc: Global, name: u8, from: u32, at: u32, state: KeyState) -> Result
     })
 }
 
+/// What one tells of a state who holds so much of it.
+fn summary_of(alloc: Global, state: &KeyState, held: Held) -> Result<Summary, AllocError> {
+    match held {
+        Held::Nothing => KeyState::new(alloc).summary(alloc),
+        Held::All => state.summary(alloc),
+    }
+}
+
+/// A merge of a part.
+fn part(alloc: Global, name: u8, state: &KeyState, held: Held) -> Result<Request, AllocError> {
+    let part = state.part(alloc, &summary_of(alloc, state, held)?)?;
+    Ok(Request::Part {
+        key: key_of(alloc, &[name])?,
+        from: 0,
+        at: 1,
+        part,
+    })
+}
+
 /// A request of the key with this name.
 fn request_of(alloc: Global, name: u8, ask: Ask) -> Result<Request, Fail> {
     match ask {
@@ -90,6 +126,10 @@ fn request_of(alloc: Global, name: u8, ask: Ask) -> Result<Request, Fail> {
         Ask::Read => Ok(Request::Read {
             key: key_of(alloc, &[name])?,
         }),
+        Ask::Summary => Ok(Request::Summary {
+            key: key_of(alloc, &[name])?,
+        }),
+        Ask::Part(held) => Ok(part(alloc, name, &first_state(alloc)?, held)?),
         Ask::Restart => Ok(Request::Restart),
     }
 }
@@ -106,6 +146,11 @@ fn outcome_of(reply: &Reply) -> Came {
                 .map(|sibling| (sibling.dot.vnode, sibling.dot.n));
             Came::State(siblings.len(), last)
         }
+        Reply::Summary(summary) => {
+            let dots = summary.dots();
+            Came::Summary(dots.len(), dots.last().map(|dot| (dot.vnode, dot.n)))
+        }
+        Reply::Built { changed, .. } => Came::Built(*changed),
         Reply::Done => Came::Done,
     }
 }
@@ -122,6 +167,7 @@ fn came_of<B: Room, R: Wait + Abort>(
     match cluster.call(rt, pass, vnode, request, &Open) {
         Ok((reply, receipt)) => (outcome_of(&reply), Some(receipt)),
         Err(CallFault::PassSpent) => (Came::Spent, None),
+        Err(CallFault::Missing) => (Came::Missing, None),
         Err(CallFault::Refused(fault)) => (Came::Refused(fault), None),
     }
 }
@@ -173,8 +219,10 @@ pub(super) fn rows_are<B: Room, R: Wait + Abort>(
 }
 
 /// Vnode 0 takes a put and reads it. Vnode 1 merges that twice, and takes a put that had seen it. Then vnode 0 starts again, refuses
-/// a put that had seen too much, whose stamp is drawn, and has two siblings after a put that had seen nothing.
-const ROWS: [Row; 11] = [
+/// a put that had seen too much, whose stamp is drawn, and has two siblings after a put that had seen nothing. Of a key that vnode 1
+/// doesn't hold it refuses a part without a content, whose stamp is drawn; it merges the part with it, and then that without it, and tells
+/// what it holds. Of the key where its own put took the content's place it refuses the part.
+const ROWS: &[Row] = &[
     (0, b'k', Ask::Put(0, 0), Came::Put(0, 1), Some((0, 0, 0))),
     (
         0,
@@ -228,6 +276,29 @@ const ROWS: [Row; 11] = [
         Came::State(2, Some((0, 2))),
         Some((0, 5, 10)),
     ),
+    (1, b'p', Ask::Part(Held::All), Came::Missing, None),
+    (
+        1,
+        b'p',
+        Ask::Part(Held::Nothing),
+        Came::Built(true),
+        Some((1, 4, 12)),
+    ),
+    (
+        1,
+        b'p',
+        Ask::Part(Held::All),
+        Came::Built(false),
+        Some((1, 5, 13)),
+    ),
+    (
+        1,
+        b'p',
+        Ask::Summary,
+        Came::Summary(1, Some((0, 1))),
+        Some((1, 6, 14)),
+    ),
+    (1, b'k', Ask::Part(Held::All), Came::Missing, None),
 ];
 
 /// Each request, by one pass.
@@ -241,11 +312,11 @@ impl Trial for Requests {
         cluster: &Cluster<B>,
         pass: &mut Pass<B>,
     ) -> Result<(), Fail> {
-        rows_are(rt, alloc, cluster, pass, &ROWS)
+        rows_are(rt, alloc, cluster, pass, ROWS)
     }
 }
 
-/// Puts, reads, merges and a restart: replies and receipts.
+/// Puts, reads, merges, summaries, parts and a restart: replies and receipts.
 #[test]
 fn each_request_is_answered(rt: HostRuntime) -> Result<(), Fail> {
     tried(&rt, rt.alloc(), 0, 2, &Requests)
