@@ -95,6 +95,22 @@ fn is_told(out: &[u8], err: &[u8], done: Result<u8, AllocError>, want: Want<'_>)
     out == want.out.as_bytes() && err == want.err.as_bytes() && done == Ok(want.status)
 }
 
+/// Whether words come to that on files and with a server of any kind.
+fn ends_so<F: Files, S: Server>(
+    alloc: Global,
+    words: &[&str],
+    files: &mut F,
+    server: &mut S,
+    want: Want<'_>,
+) -> bool
+    requires { S.ready }
+{
+    let mut out = Vec::new(alloc);
+    let mut err = Vec::new(alloc);
+    let done = command_with_helpers(alloc, words, files, server, &mut out, &mut err);
+    is_told(&out, &err, done, want)
+}
+
 /// Whether words come to that on these files and with this server.
 fn served_so<S: Server>(
     alloc: Global,
@@ -105,11 +121,7 @@ fn served_so<S: Server>(
 ) -> bool
     requires { S.ready }
 {
-    let mut shelf = Shelf { files };
-    let mut out = Vec::new(alloc);
-    let mut err = Vec::new(alloc);
-    let done = command_with_helpers(alloc, words, &mut shelf, server, &mut out, &mut err);
-    is_told(&out, &err, done, want)
+    ends_so(alloc, words, &mut Shelf { files }, server, want)
 }
 
 /// Whether words that serve nothing come to that on these files.

@@ -3,9 +3,7 @@ use Rattle.std.proofs.Common.{◌≡◌, ℕ, ◌<◌, ◌≤◌, inl, inr, List
 use Rattle.std.specs.Prelude.{Bool, MatchBool, true, false, Option, None, Some, IfSome}
 use Rattle.std.specs.Io.KnownBytes.{Appends}
 use Rattle.std.proofs.lemmas.List.{take_all, take-take, length-take}
-use Rattle.insn.specs.declared.Insn.{Insn}
 use Rattle.bpfimage.specs.Image.{number_at, IsImage, IsRaw, is_marked}
-use Rattle.bpfimage.specs.declared.image.ImageKind.{ImageKind}
 use Rattle.bpfimage.specs.declared.image.ImageFault.TheVariants.{Window, NoMemory}
 use Rattle.helpers.specs.declared.sig.Entry.{Entry}
 use Rattle.verifier.specs.Program.{Program}
@@ -25,7 +23,7 @@ use Rattle.commands.specs.declared.verify.Verdict.TheVariants.{Accepted, Refused
 -- ---- programs
 
 program_of_all : (some all : List ℕ) (sigs : List Entry) (p : Program) → AreReadAlike some all → IsProgramOf some sigs p → IsProgramOf all sigs p
-program_of_all some all sigs p alike x = record { program = (alike.programs p.kind p.in_len p.out_len p.code).0 x.program; profile_is = x.profile_is; sigs_are = x.sigs_are }
+program_of_all some all sigs p alike x = record { program = (alike.programs p.kind p.profile p.in_len p.out_len p.code).0 x.program; sigs_are = x.sigs_are }
 
 let_in_of_all : (some all : List ℕ) (sigs : List Entry) (p : Program) → AreReadAlike some all → IsLetIn sigs some p → IsLetIn sigs all p
 let_in_of_all some all sigs p alike x = (program_of_all some all sigs p alike x.0, x.1)
@@ -44,14 +42,14 @@ verdict_of_all sigs some all (Refused r) alike x = not_run_of_all some all sigs 
 
 -- ---- inputs
 
-image_window : (bytes : List ℕ) (kind : ImageKind) (in_len out_len : ℕ) (code : List Insn) → IsImage bytes kind in_len out_len code → in_len ≤ 65536
-image_window bytes kind in_len out_len code x =
+image_window : (bytes : List ℕ) (p : Program) → IsImage bytes p.kind p.profile p.in_len p.out_len p.code → p.in_len ≤ 65536
+image_window bytes p x =
     let small : ¬ (65536 < number_at bytes 8) = λ past. x.head Window (omega arith) (inl past) in
-    let is : in_len ≡ number_at bytes 8 = x.in_len_is in
+    let is : p.in_len ≡ number_at bytes 8 = x.in_len_is in
     omega arith
 
-raw_window : (bytes : List ℕ) (kind : ImageKind) (in_len out_len : ℕ) (code : List Insn) → IsRaw bytes kind in_len out_len code → in_len ≤ 65536
-raw_window bytes kind in_len out_len code x = let is : in_len ≡ 4096 = x.in_len_is in omega arith
+raw_window : (bytes : List ℕ) (p : Program) → IsRaw bytes p.kind p.profile p.in_len p.out_len p.code → p.in_len ≤ 65536
+raw_window bytes p x = let is : p.in_len ≡ 4096 = x.in_len_is in omega arith
 
 either : (b : Bool) {X Y Z : Type 0} → (X → Z) → (Y → Z) → MatchBool b X Y → Z
 either true f g x = f x
@@ -59,7 +57,7 @@ either false f g y = g y
 
 window : (bytes : List ℕ) (sigs : List Entry) (p : Program) → IsLetIn sigs bytes p → p.in_len ≤ 65536
 window bytes sigs p x =
-    either (is_marked bytes) (image_window bytes p.kind p.in_len p.out_len p.code) (raw_window bytes p.kind p.in_len p.out_len p.code) x.0.program
+    either (is_marked bytes) (image_window bytes p) (raw_window bytes p) x.0.program
 
 -- an input that has room is not cut
 whole_input : (part input : List ℕ) (in_len : ℕ) → part ≡ take 65537 input → length part ≤ in_len → in_len ≤ 65536 → part ≡ input

@@ -14,7 +14,7 @@ use Rattle.helpers.specs.declared.sig.Entry.{Entry}
 use Rattle.events.specs.declared.script.Script.{Script}
 use Rattle.events.specs.declared.script.Answered.{Answered}
 use Rattle.events.specs.Scripts.{IsRunnableFrom, IsOneMore, tells_event}
-use Rattle.world.specs.declared.event.Event.TheVariants.{Put, Get, Send, Deliver, Restart, Dump, Load, ResolveRead, ResolveWrite}
+use Rattle.world.specs.declared.event.Event.TheVariants.{Put, Get, Summarize, Send, SendPart, Deliver, Restart, Dump, Load, ResolveRead, ResolveWrite}
 use Rattle.verifier.specs.Program.{Program}
 use Rattle.world.specs.Resolving.{MayRun}
 use Rattle.world.specs.Running.{AreRunnableFrom, MayComeFrom}
@@ -69,7 +69,9 @@ stands_in_whole events n place event h =
 none_comes : (used : List ℕ) (listed : List Entry) (events : List Event) (place : ℕ) (event : Event) → AreRunnableFrom used 0 listed events → MayComeFrom used 0 listed (take place events) event → ⊥
 none_comes used listed events place (Put v key seen content) runnable h = let lt = h.0 in omega arith
 none_comes used listed events place (Get v key) runnable h = omega (arith, h)
+none_comes used listed events place (Summarize v key) runnable h = omega (arith, h)
 none_comes used listed events place (Send v key) runnable h = omega (arith, h)
+none_comes used listed events place (SendPart v key summary) runnable h = let lt = h.0 in omega arith
 none_comes used listed events place (Deliver message v) runnable h = let lt = h.0 in omega arith
 none_comes used listed events place (Restart v) runnable h = omega (arith, h)
 none_comes used listed events place (Dump v) runnable h = omega (arith, h)

@@ -6,7 +6,7 @@ ghost use Rattle.lines.specs.Lines.{lines_in};
 ghost use Rattle.events.specs.Scripts.{IsRunnable, IsRunnableFrom, IsOneMore, tells_event, lines_of, asks, AnswersFor, AnswersUpTo};
 ghost use Rattle.helpers.specs.Entries.{AgreesWith};
 ghost use Rattle.world.specs.Resolving.{MayRun};
-ghost use Rattle.world.specs.Running.{IsGetAt, IsSendAt, IsDumpAt, IsRunAt, IsUsed, IsEarlierContext};
+ghost use Rattle.world.specs.Running.{IsGetAt, IsSummaryAt, IsMessageAt, IsDumpAt, IsRunAt, IsUsed, IsEarlierContext};
 
 use crate::check::Check;
 use crate::images::{Images, NoHook};
@@ -60,7 +60,7 @@ type Places<'a> = BTreeMap<&'a [u8], usize>;
 // What names stand for.
 #[derive(Drop)]
 struct Names<'a> {
-    /// The latest get, send or dump.
+    /// The latest get, summary, send or dump.
     events: Places<'a>,
     /// The latest run of a resolver on a get of that name, where no later one was refused.
     runs: Places<'a>,
@@ -183,6 +183,13 @@ fn read_line<'a, I: Images>(
         } => read_put(alloc, script, names, vnode, key, value, context),
         Line::Get { vnode, key, name } => read_get(alloc, script, names, vnode, key, name),
         Line::Send { vnode, key, name } => read_send(alloc, script, names, vnode, key, name),
+        Line::Sum { vnode, key, name } => read_sum(alloc, script, names, vnode, key, name),
+        Line::Part {
+            vnode,
+            key,
+            summary,
+            name,
+        } => read_part(alloc, script, names, vnode, key, summary, name),
         Line::Deliver { name, vnode } => read_deliver(script, names, name, vnode),
         Line::Restart { vnode } => read_restart(script, vnode),
         Line::Dump { vnode, name } => read_dump(script, names, vnode, name),
@@ -246,7 +253,76 @@ fn read_send<'a>(
     Ok(None)
 }
 
-// A delivery of what the latest send of a name sent.
+// A summary, and its place under its name.
+fn read_sum<'a>(
+    alloc: Global,
+    script: &mut Script,
+    names: &mut Names<'a>,
+    vnode: usize,
+    key: &[u8],
+    name: &'a [u8],
+) -> Result<Option<BadLine<'a>>, AllocError>
+    ensures runnable { (used : List ℕ) (listed : List Entry) → IsRunnableFrom used listed script.old → OnOk result (IsRunnableFrom used listed script.new) }
+    ensures answers { IfOk result (λ bad. MatchOption bad (lines_of script.new ≡ lines_of script.old + 1) (λ _. lines_of script.new ≡ lines_of script.old)) }
+{
+    if vnode >= script.vnodes {
+        return Ok(Some(BadLine::NoVnode(vnode)));
+    }
+    let place = script.events.len();
+    let key = key_of(alloc, key)?;
+    push(script, Event::Summarize { vnode, key })?;
+    names.events.insert(name, place)?;
+    Ok(None)
+}
+
+// A send of a part for the latest summary of a name, and its place under its own name.
+fn read_part<'a>(
+    alloc: Global,
+    script: &mut Script,
+    names: &mut Names<'a>,
+    vnode: usize,
+    key: &[u8],
+    summary: &'a [u8],
+    name: &'a [u8],
+) -> Result<Option<BadLine<'a>>, AllocError>
+    ensures runnable { (used : List ℕ) (listed : List Entry) → IsRunnableFrom used listed script.old → OnOk result (IsRunnableFrom used listed script.new) }
+    ensures answers { IfOk result (λ bad. MatchOption bad (lines_of script.new ≡ lines_of script.old + 1) (λ _. lines_of script.new ≡ lines_of script.old)) }
+{
+    if vnode >= script.vnodes {
+        return Ok(Some(BadLine::NoVnode(vnode)));
+    }
+    let Some(summary) = summed(&script.events, &names.events, summary) else {
+        return Ok(Some(BadLine::NoSummary(summary)));
+    };
+    let place = script.events.len();
+    push_part(alloc, script, vnode, key, summary)?;
+    names.events.insert(name, place)?;
+    Ok(None)
+}
+
+// Adds a send of a part for an earlier summary.
+fn push_part(
+    alloc: Global,
+    script: &mut Script,
+    vnode: usize,
+    key: &[u8],
+    summary: usize,
+) -> Result<(), AllocError>
+    requires within { vnode < script.old.vnodes }
+    requires earlier { IsSummaryAt script.old.events.items summary }
+    ensures runnable { (used : List ℕ) (listed : List Entry) → IsRunnableFrom used listed script.old → OnOk result (IsRunnableFrom used listed script.new) }
+    ensures answers { OnOk result (lines_of script.new ≡ lines_of script.old + 1) }
+{
+    let key = key_of(alloc, key)?;
+    let part = Event::SendPart {
+        vnode,
+        key,
+        summary,
+    };
+    push(script, part)
+}
+
+// A delivery of what the latest send of a name sent, of all or of a part.
 fn read_deliver<'a>(
     script: &mut Script,
     names: &Names<'a>,
@@ -656,13 +732,25 @@ fn found(events: &[Event], places: &Places<'_>, name: &[u8]) -> Option<usize>
     }
 }
 
-// The place of the latest event of a name, where that is a send.
+// The place of the latest event of a name, where that is a summary.
+fn summed(events: &[Event], places: &Places<'_>, name: &[u8]) -> Option<usize>
+    ensures { IfSome result (IsSummaryAt events.now) }
+{
+    let place = *places.get(name)?;
+    match events.get(place) {
+        Some(Event::Summarize { .. }) => Some(place),
+        _ => None,
+    }
+}
+
+// The place of the latest event of a name, where that is a send, of all or of a part.
 fn sent(events: &[Event], places: &Places<'_>, name: &[u8]) -> Option<usize>
-    ensures { IfSome result (IsSendAt events.now) }
+    ensures { IfSome result (IsMessageAt events.now) }
 {
     let place = *places.get(name)?;
     match events.get(place) {
         Some(Event::Send { .. }) => Some(place),
+        Some(Event::SendPart { .. }) => Some(place),
         _ => None,
     }
 }

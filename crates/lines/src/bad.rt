@@ -27,7 +27,9 @@ pub enum BadLine<'a> {
     NoVnode(usize),
     /// The latest line of this name is no get, or there is none.
     NoGet(&'a [u8]),
-    /// The latest line of this name is no send, or there is none.
+    /// The latest line of this name is no summary, or there is none.
+    NoSummary(&'a [u8]),
+    /// The latest line of this name is no send, neither of all nor of a part, or there is none.
     NoSend(&'a [u8]),
     /// The latest line of this name is no dump, or there is none.
     NoDump(&'a [u8]),
@@ -53,6 +55,7 @@ impl fmt::Display for BadLine<'_> {
             BadLine::VnodesAgain => f.write_str("vnodes stands once"),
             BadLine::NoVnode(vnode) => write!(f, "no vnode {vnode}"),
             BadLine::NoGet(name) => write_named(f, "get", name),
+            BadLine::NoSummary(name) => write_named(f, "sum", name),
             BadLine::NoSend(name) => write_named(f, "send", name),
             BadLine::NoDump(name) => write_named(f, "dump", name),
             BadLine::NoIncarnation => f.write_str("an incarnation is at most 65535"),

@@ -39,6 +39,17 @@ pub enum Line<'a> {
         key: &'a [u8],
         name: &'a [u8],
     },
+    Sum {
+        vnode: usize,
+        key: &'a [u8],
+        name: &'a [u8],
+    },
+    Part {
+        vnode: usize,
+        key: &'a [u8],
+        summary: &'a [u8],
+        name: &'a [u8],
+    },
     Deliver {
         name: &'a [u8],
         vnode: usize,
@@ -121,6 +132,8 @@ fn spelled<'a>(words: &[&'a [u8]]) -> Result<Line<'a>, BadLine<'a>> {
         b"del" => del(arguments),
         b"get" => get(arguments),
         b"send" => send(arguments),
+        b"sum" => sum(arguments),
+        b"part" => part(arguments),
         b"deliver" => deliver(arguments),
         b"restart" => restart(arguments),
         b"dump" => dump(arguments),
@@ -181,6 +194,29 @@ fn send<'a>(arguments: &[&'a [u8]]) -> Result<Line<'a>, BadLine<'a>> {
     Ok(Line::Send {
         vnode: number_of(vnode)?,
         key: name_of(key)?,
+        name: name_of(message)?,
+    })
+}
+
+fn sum<'a>(arguments: &[&'a [u8]]) -> Result<Line<'a>, BadLine<'a>> {
+    let [vnode, key, summary] = arguments else {
+        return Err(BadLine::WordCount);
+    };
+    Ok(Line::Sum {
+        vnode: number_of(vnode)?,
+        key: name_of(key)?,
+        name: name_of(summary)?,
+    })
+}
+
+fn part<'a>(arguments: &[&'a [u8]]) -> Result<Line<'a>, BadLine<'a>> {
+    let [vnode, key, summary, message] = arguments else {
+        return Err(BadLine::WordCount);
+    };
+    Ok(Line::Part {
+        vnode: number_of(vnode)?,
+        key: name_of(key)?,
+        summary: name_of(summary)?,
         name: name_of(message)?,
     })
 }

@@ -5,10 +5,10 @@ use Rattle.helpers.specs.declared.sig.Entry.{Entry}
 use Rattle.vnode.specs.declared.fault.VnodeFault.{VnodeFault}
 use Rattle.vnode.specs.declared.fault.VnodeFault.TheVariants.{JournalFull, NoMemory}
 use Rattle.world.specs.declared.event.Event.{Event}
-use Rattle.world.specs.declared.event.Event.TheVariants.{Put, Get, Send, Deliver, Restart, Dump, Load, ResolveRead, ResolveWrite}
+use Rattle.world.specs.declared.event.Event.TheVariants.{Put, Get, Summarize, Send, SendPart, Deliver, Restart, Dump, Load, ResolveRead, ResolveWrite}
 use Rattle.world.specs.declared.event.Reply.{Reply}
 use Rattle.world.specs.declared.event.Reply.TheVariants.{Refused}
-use Rattle.world.specs.Happening.{Run, Happens, wants_memory, refused_alike, stored, put_refused, found, sent, delivered, delivery_refused, restarted, dumped, dump_refused, loaded, full, resolved, choice_stored, choice_refused, nothing_chosen}
+use Rattle.world.specs.Happening.{Run, Happens, wants_memory, refused_alike, stored, put_refused, found, summarized, sent, part_sent, whole_sent, part_refused, delivered, delivery_refused, missing, restarted, dumped, dump_refused, loaded, full, resolved, choice_stored, choice_refused, nothing_chosen}
 use Rattle.world.specs.Knowledge.{Knowledge, start}
 use Rattle.world.specs.Running.{Ran, IsWorldOf}
 use Rattle.events.specs.declared.script.Answered.{Answered}
@@ -23,7 +23,9 @@ abbrev MayAnswer : Event → Reply → Type 0
 MayAnswer (Dump vnode) reply = IsDumpReply reply
 MayAnswer (Put vnode key seen content) reply = Unit {0}
 MayAnswer (Get vnode key) reply = Unit {0}
+MayAnswer (Summarize vnode key) reply = Unit {0}
 MayAnswer (Send vnode key) reply = Unit {0}
+MayAnswer (SendPart vnode key summary) reply = Unit {0}
 MayAnswer (Deliver message vnode) reply = Unit {0}
 MayAnswer (Restart vnode) reply = Unit {0}
 MayAnswer (Load dump vnode incarnation) reply = Unit {0}
@@ -35,7 +37,9 @@ refusal_may : (event : Event) (reply : Reply) (why : VnodeFault) → reply ≡ R
 refusal_may (Dump vnode) reply why is = refused why is
 refusal_may (Put vnode key seen content) reply why is = tt
 refusal_may (Get vnode key) reply why is = tt
+refusal_may (Summarize vnode key) reply why is = tt
 refusal_may (Send vnode key) reply why is = tt
+refusal_may (SendPart vnode key summary) reply why is = tt
 refusal_may (Deliver message vnode) reply why is = tt
 refusal_may (Restart vnode) reply why is = tt
 refusal_may (Load dump vnode incarnation) reply why is = tt
@@ -52,9 +56,14 @@ answers listed old event reply new (refused_alike name refusal n l r e) = refusa
 answers listed old event reply new (stored v key seen content clock is means may r e) = other_may event (Put v key seen content) reply is tt
 answers listed old event reply new (put_refused v key seen content clock refusal is means why r e) = refusal_may event reply refusal r
 answers listed old event reply new (found v key state is shows place r e) = other_may event (Get v key) reply is tt
+answers listed old event reply new (summarized v key state is shows place r e) = other_may event (Summarize v key) reply is tt
 answers listed old event reply new (sent v key message is carries place r e) = other_may event (Send v key) reply is tt
+answers listed old event reply new (part_sent v key summary other held message is l carries place r e) = other_may event (SendPart v key summary) reply is tt
+answers listed old event reply new (whole_sent v key summary other held message is l carries place r e) = other_may event (SendPart v key summary) reply is tt
+answers listed old event reply new (part_refused v key summary other held is l f r e) = refusal_may event reply JournalFull r
 answers listed old event reply new (delivered message v key writes changed is l may c r e) = other_may event (Deliver message v) reply is tt
 answers listed old event reply new (delivery_refused message v key writes refusal is l why r e) = refusal_may event reply refusal r
+answers listed old event reply new (missing message v key writes held is l lacks r e) = other_may event (Deliver message v) reply is tt
 answers listed old event reply new (restarted v is place r e) = other_may event (Restart v) reply is tt
 answers listed old event reply new (dumped v keys copies is known places carries r e) = other_may event (Dump v) reply is (copied copies r)
 answers listed old event reply new (dump_refused v keys is known many r e) = refusal_may event reply JournalFull r

@@ -29,8 +29,11 @@ module _ (listed : List Entry) where
   abbrev pub TellsCheck : Check → Reply → List ℕ → Type 0
   TellsCheck check (reply.Found state) text = (decided : Result Meaning RunFault) × Decides check state decided × (text ≡ decision_text decided)
   TellsCheck check (reply.Stored dot) text = text ≡ reply_text (reply.Stored dot)
+  TellsCheck check (reply.Summarized summary) text = text ≡ reply_text (reply.Summarized summary)
   TellsCheck check (reply.Sent message) text = text ≡ reply_text (reply.Sent message)
+  TellsCheck check (reply.SentPart message) text = text ≡ reply_text (reply.SentPart message)
   TellsCheck check (reply.Changed changed) text = text ≡ reply_text (reply.Changed changed)
+  TellsCheck check reply.Missing text = text ≡ reply_text reply.Missing
   TellsCheck check reply.Restarted text = text ≡ reply_text reply.Restarted
   TellsCheck check (reply.Dumped copies) text = text ≡ reply_text (reply.Dumped copies)
   TellsCheck check (reply.Loaded count) text = text ≡ reply_text (reply.Loaded count)

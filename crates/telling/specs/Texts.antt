@@ -8,6 +8,7 @@ use Rattle.object.specs.declared.content.Content.{Content}
 use Rattle.object.specs.declared.content.Content.TheVariants.{Value, Tombstone}
 use Rattle.object.specs.declared.content.Sibling.{Sibling}
 use Rattle.object.specs.State.{State}
+use Rattle.object.specs.Parts.{Partial, contents_in}
 use Rattle.abi.specs.Verdicts.{Meaning}
 use Rattle.abi.specs.Verdicts as meaning
 use Rattle.hookrun.specs.declared.deciding.RunFault.{RunFault}
@@ -81,12 +82,19 @@ resolution_text (resolution.Bad why) = line (codes "bad " ++ bad_answer_number w
 
 -- ---- what events replied
 
+-- how many contents a part has, of how many siblings
+abbrev pub part_text : Partial → List ℕ
+part_text part = line (codes "sent " ++ decimal (contents_in part) ++ codes " of " ++ decimal (length part.siblings))
+
 abbrev pub reply_text : Reply → List ℕ
 reply_text (reply.Stored dot) = line (dot_text dot)
 reply_text (reply.Found state) = state_text state
+reply_text (reply.Summarized summary) = line (codes "ok")
 reply_text (reply.Sent message) = line (codes "ok")
+reply_text (reply.SentPart message) = part_text message.part
 reply_text (reply.Changed true) = line (codes "changed")
 reply_text (reply.Changed false) = line (codes "same")
+reply_text reply.Missing = line (codes "M2")
 reply_text reply.Restarted = line (codes "ok")
 reply_text (reply.Dumped copies) = line (codes "dumped " ++ decimal (length copies.held.items))
 reply_text (reply.Loaded count) = line (codes "loaded " ++ decimal count)

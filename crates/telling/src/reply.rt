@@ -1,12 +1,12 @@
 //! What events replied, as text.
 
 ghost use Rattle.std.specs.Prelude.{◌≡◌, ◌++◌, OnOk, string_bytes};
-ghost use Rattle.telling.specs.Texts.{reply_text, resolution_text};
+ghost use Rattle.telling.specs.Texts.{reply_text, part_text, resolution_text};
 
 use crate::decision::print_write;
 use crate::number::{bad_answer_number, refusal_number};
 use crate::state::{print_dot, print_state};
-use object::Content;
+use object::{Content, Part};
 use std::alloc::{AllocError, Global};
 use world::{Reply, Resolution};
 
@@ -20,9 +20,12 @@ pub fn print_reply(alloc: Global, reply: &Reply, text: &mut String) -> Result<()
             text.push_str("\n")
         }
         Reply::Found(state) => print_state(alloc, state, text),
+        Reply::Summarized(_) => text.push_str("ok\n"),
         Reply::Sent(_) => text.push_str("ok\n"),
+        Reply::SentPart(message) => print_part(&message.part, text),
         Reply::Changed(true) => text.push_str("changed\n"),
         Reply::Changed(false) => text.push_str("same\n"),
+        Reply::Missing => text.push_str("M2\n"),
         Reply::Restarted => text.push_str("ok\n"),
         Reply::Dumped(copies) => {
             let count = copies.held.len();
@@ -36,6 +39,15 @@ pub fn print_reply(alloc: Global, reply: &Reply, text: &mut String) -> Result<()
             writeln!(text, "{number}")
         }
     }
+}
+
+// Adds the line of a part: how many contents it has, of how many siblings.
+fn print_part(part: &Part, text: &mut String) -> Result<(), AllocError>
+    ensures { OnOk result (string_bytes text.new ≡ string_bytes text.old ++ part_text part.now) }
+{
+    let contents = part.contents();
+    let siblings = part.siblings().len();
+    writeln!(text, "sent {contents} of {siblings}")
 }
 
 // Adds the line of what a resolver decided.

@@ -15,10 +15,10 @@ use Rattle.std.specs.Prelude.{Option}
 use Rattle.world.specs.declared.event.Event.{Event}
 use Rattle.vnode.specs.declared.fault.VnodeFault.{VnodeFault}
 use Rattle.world.specs.declared.event.Reply.{Reply}
-use Rattle.world.specs.Knowledge.{Knowledge, KeyedWrite, Copy, Left, Nothing, Copied, CopiedAll, Chosen, Failed, opened, known_at, under, all_copied, copies_at, is_of, write_of, after_refusal, after_put, after_copy, after_delivery, after_restart, after_dump, after_load, after_run, after_nothing}
-use Rattle.world.specs.Happening.{Happens, wants_memory, refused_alike, stored, put_refused, found, sent, delivered, delivery_refused, restarted, dumped, dump_refused, loaded, full, resolved, choice_stored, choice_refused, nothing_chosen, Run, IsKnown}
+use Rattle.world.specs.Knowledge.{Knowledge, KeyedWrite, Copy, Left, Nothing, Copied, Parted, CopiedAll, Chosen, Failed, opened, known_at, under, all_copied, copies_at, is_of, write_of, after_refusal, after_put, after_copy, after_part, after_delivery, after_restart, after_dump, after_load, after_run, after_nothing}
+use Rattle.world.specs.Happening.{Happens, wants_memory, refused_alike, stored, put_refused, found, summarized, sent, part_sent, whole_sent, part_refused, delivered, delivery_refused, missing, restarted, dumped, dump_refused, loaded, full, resolved, choice_stored, choice_refused, nothing_chosen, Run, IsKnown, IsBrought, whole, part}
 use Rattle.world.specs.Causality.{IsCausal, IsFresh, EachAfter}
-use Rattle.world.specs.Numbering.{IsNumbered, IsLawful}
+use Rattle.world.specs.Numbering.{IsNumbered, IsLawful, WerePut}
 use Rattle.dvv.specs.Clock.{covers}
 use Rattle.world.proofs.Lists.{covers-true, same_key-same, from_of_key, from_under, Contains-nil, EachAfter-push, EachAfter-at, set_cases, push_cases}
 
@@ -68,13 +68,18 @@ causal before (p ∷ ps) first each = (fresh before p first each.0, causal (befo
 
 -- an event that leaves puts and what is known as they were
 leaves_lawful : (old new : Knowledge) (left : Left) → IsLawful old → new.puts ≡ old.puts → new.known ≡ old.known → new.left ≡ old.left ++ left ∷ [] → ((key : Key) (writes : List Write) → left ≡ Copied key writes → (w : Write) → Contains writes w → Contains old.puts (record { key = key; write = w }))
+    → ((key : Key) (writes held : List Write) → left ≡ Parted key writes held → (w : Write) → Contains writes w → Contains old.puts (record { key = key; write = w }))
     → ((copies : List Copy) → left ≡ CopiedAll copies → (s : KeyedWrite) → Contains (all_copied copies) s → Contains old.puts s) → IsLawful new
-leaves_lawful old new left lawful puts known lefts copied all = record {
+leaves_lawful old new left lawful puts known lefts copied parted all = record {
   puts = subst (λ ps. EachAfter IsNumbered [] ps) (sym puts) lawful.puts;
   known = λ v s c. subst (λ ps. Contains ps s) (sym puts) (lawful.known v s (subst (λ (ks : List (List KeyedWrite)). Contains (get_or ks v []) s) known c));
   copied = λ e key writes is w c. subst (λ ps. Contains ps (let s : KeyedWrite = record { key = key; write = w } in s)) (sym puts) (elim (push_cases old.left left e Nothing) [
     | inl same ↦ lawful.copied e key writes (sym same ∙ ap (λ ls. get_or ls e Nothing) (sym lefts) ∙ is) w c
     | inr last ↦ copied key writes (sym last ∙ ap (λ ls. get_or ls e Nothing) (sym lefts) ∙ is) w c
+  ]);
+  parted = λ e key writes held is w c. subst (λ ps. Contains ps (let s : KeyedWrite = record { key = key; write = w } in s)) (sym puts) (elim (push_cases old.left left e Nothing) [
+    | inl same ↦ lawful.parted e key writes held (sym same ∙ ap (λ ls. get_or ls e Nothing) (sym lefts) ∙ is) w c
+    | inr last ↦ parted key writes held (sym last ∙ ap (λ ls. get_or ls e Nothing) (sym lefts) ∙ is) w c
   ]);
   copied_all = λ e copies is s c. subst (λ ps. Contains ps s) (sym puts) (elim (push_cases old.left left e Nothing) [
     | inl same ↦ lawful.copied_all e copies (sym same ∙ ap (λ ls. get_or ls e Nothing) (sym lefts) ∙ is) s c
@@ -83,22 +88,30 @@ leaves_lawful old new left lawful puts known lefts copied all = record {
 }
 
 pub lawful_refusal : (old : Knowledge) (r : VnodeFault) → IsLawful old → IsLawful (after_refusal old r)
-lawful_refusal old r lawful = leaves_lawful old (after_refusal old r) (Failed r) lawful refl refl refl (λ key writes e. absurd (cc)) (λ copies e. absurd (cc))
+lawful_refusal old r lawful = leaves_lawful old (after_refusal old r) (Failed r) lawful refl refl refl (λ key writes e. absurd (cc)) (λ key writes held e. absurd (cc)) (λ copies e. absurd (cc))
 
 pub lawful_restart : (old : Knowledge) (v : ℕ) → IsLawful old → IsLawful (after_restart old v)
-lawful_restart old v lawful = leaves_lawful old (after_restart old v) Nothing lawful refl refl refl (λ key writes e. absurd (cc)) (λ copies e. absurd (cc))
+lawful_restart old v lawful = leaves_lawful old (after_restart old v) Nothing lawful refl refl refl (λ key writes e. absurd (cc)) (λ key writes held e. absurd (cc)) (λ copies e. absurd (cc))
 
 pub lawful_run : (old : Knowledge) (key : Key) (writes : List Write) (content : Option Content) → IsLawful old → IsLawful (after_run old key writes content)
-lawful_run old key writes content lawful = leaves_lawful old (after_run old key writes content) (Chosen key writes content) lawful refl refl refl (λ k ws e. absurd (cc)) (λ copies e. absurd (cc))
+lawful_run old key writes content lawful = leaves_lawful old (after_run old key writes content) (Chosen key writes content) lawful refl refl refl (λ k ws e. absurd (cc)) (λ k ws held e. absurd (cc)) (λ copies e. absurd (cc))
 
 pub lawful_nothing : (old : Knowledge) → IsLawful old → IsLawful (after_nothing old)
-lawful_nothing old lawful = leaves_lawful old (after_nothing old) Nothing lawful refl refl refl (λ key writes e. absurd (cc)) (λ copies e. absurd (cc))
+lawful_nothing old lawful = leaves_lawful old (after_nothing old) Nothing lawful refl refl refl (λ key writes e. absurd (cc)) (λ key writes held e. absurd (cc)) (λ copies e. absurd (cc))
 
 pub known_put : (old : Knowledge) (v : ℕ) (key : Key) → IsLawful old → (w : Write) → Contains (known_at old v key) w → Contains old.puts (record { key = key; write = w })
 known_put old v key lawful w c = lawful.known v (record { key = key; write = w }) (from_of_key key (get_or old.known v []) w c)
 
 pub lawful_copy : (old : Knowledge) (v : ℕ) (key : Key) → IsLawful old → IsLawful (after_copy old v key)
 lawful_copy old v key lawful = leaves_lawful old (after_copy old v key) (Copied key (known_at old v key)) lawful refl refl refl (λ k writes e w c.
+    let ek : key ≡ k = cc in let ew : known_at old v key ≡ writes = cc in
+    subst (λ (x : Key). Contains old.puts (let s : KeyedWrite = record { key = x; write = w } in s)) ek (known_put old v key lawful w (subst (λ (ws : List Write). Contains ws w) (sym ew) c)))
+    (λ k writes held e. absurd (cc))
+    (λ copies e. absurd (cc))
+
+pub lawful_part : (old : Knowledge) (v : ℕ) (key : Key) (held : List Write) → IsLawful old → IsLawful (after_part old v key held)
+lawful_part old v key held lawful = leaves_lawful old (after_part old v key held) (Parted key (known_at old v key) held) lawful refl refl refl (λ k writes e. absurd (cc))
+    (λ k writes others e w c.
     let ek : key ≡ k = cc in let ew : known_at old v key ≡ writes = cc in
     subst (λ (x : Key). Contains old.puts (let s : KeyedWrite = record { key = x; write = w } in s)) ek (known_put old v key lawful w (subst (λ (ws : List Write). Contains ws w) (sym ew) c)))
     (λ copies e. absurd (cc))
@@ -122,6 +135,10 @@ lawful_put old v key seen content lawful accepts = record {
   copied = λ e k writes is w c. elim (push_cases old.left Nothing e Nothing) [
     | inl same ↦ Contains-append_left old.puts (put ∷ []) (record { key = k; write = w }) (lawful.copied e k writes (sym same ∙ is) w c)
     | inr last ↦ absurd (let h : Nothing ≡ Copied k writes = sym last ∙ is in cc)
+  ];
+  parted = λ e k writes held is w c. elim (push_cases old.left Nothing e Nothing) [
+    | inl same ↦ Contains-append_left old.puts (put ∷ []) (record { key = k; write = w }) (lawful.parted e k writes held (sym same ∙ is) w c)
+    | inr last ↦ absurd (let h : Nothing ≡ Parted k writes held = sym last ∙ is in cc)
   ];
   copied_all = λ e copies is s c. elim (push_cases old.left Nothing e Nothing) [
     | inl same ↦ Contains-append_left old.puts (put ∷ []) s (lawful.copied_all e copies (sym same ∙ is) s c)
@@ -158,6 +175,10 @@ lawful_delivery old v key writes lawful was_put = record {
     | inl same ↦ lawful.copied e k ws (sym same ∙ is) w c
     | inr last ↦ absurd (let h : Nothing ≡ Copied k ws = sym last ∙ is in cc)
   ];
+  parted = λ e k ws held is w c. elim (push_cases old.left Nothing e Nothing) [
+    | inl same ↦ lawful.parted e k ws held (sym same ∙ is) w c
+    | inr last ↦ absurd (let h : Nothing ≡ Parted k ws held = sym last ∙ is in cc)
+  ];
   copied_all = λ e copies is s c. elim (push_cases old.left Nothing e Nothing) [
     | inl same ↦ lawful.copied_all e copies (sym same ∙ is) s c
     | inr last ↦ absurd (let h : Nothing ≡ CopiedAll copies = sym last ∙ is in cc)
@@ -174,7 +195,7 @@ copied_known old v (key ∷ keys) s c = elim (Contains-append_cases (under key (
 ]
 
 pub lawful_dump : (old : Knowledge) (v : ℕ) (keys : List Key) → IsLawful old → IsLawful (after_dump old v keys)
-lawful_dump old v keys lawful = leaves_lawful old (after_dump old v keys) (CopiedAll (copies_at old v keys)) lawful refl refl refl (λ key writes e. absurd (cc))
+lawful_dump old v keys lawful = leaves_lawful old (after_dump old v keys) (CopiedAll (copies_at old v keys)) lawful refl refl refl (λ key writes e. absurd (cc)) (λ key writes held e. absurd (cc))
     (λ copies e s c. let is : copies_at old v keys ≡ copies = cc in lawful.known v s (copied_known old v keys s (subst (λ (cs : List Copy). Contains (all_copied cs) s) (sym is) c)))
 
 -- what a load leaves known at an index: what was copied, what was known there, or at the end what the closed identifier knew
@@ -195,11 +216,20 @@ lawful_load old v id copies lawful were_put = record {
     | inl same ↦ lawful.copied e key writes (sym same ∙ is) w c
     | inr last ↦ absurd (let h : Nothing ≡ Copied key writes = sym last ∙ is in cc)
   ];
+  parted = λ e key writes held is w c. elim (push_cases old.left Nothing e Nothing) [
+    | inl same ↦ lawful.parted e key writes held (sym same ∙ is) w c
+    | inr last ↦ absurd (let h : Nothing ≡ Parted key writes held = sym last ∙ is in cc)
+  ];
   copied_all = λ e cs is s c. elim (push_cases old.left Nothing e Nothing) [
     | inl same ↦ lawful.copied_all e cs (sym same ∙ is) s c
     | inr last ↦ absurd (let h : Nothing ≡ CopiedAll cs = sym last ∙ is in cc)
   ];
 }
+
+-- what a message brings was put
+pub brought_put : (w : Knowledge) (message v : ℕ) (key : Key) (writes : List Write) → IsLawful w → IsBrought w message v key writes → WerePut w key writes
+brought_put w message v key writes lawful (whole l) = lawful.copied message key writes l
+brought_put w message v key writes lawful (part held l holds) = lawful.parted message key writes held l
 
 -- an event keeps it
 pub happens_lawful : (listed : List Helper) (old : Knowledge) (event : Event) (reply : Reply) (new : Knowledge) → IsLawful old → Happens listed old event reply new → IsLawful new
@@ -208,8 +238,13 @@ happens_lawful listed old event reply new lawful (refused_alike name refusal n l
 happens_lawful listed old event reply new lawful (stored v key seen content clock is means may r e) = subst IsLawful (sym e) (lawful_put old v key clock content lawful may.context)
 happens_lawful listed old event reply new lawful (put_refused v key seen content clock refusal is means why r e) = subst IsLawful (sym e) (lawful_refusal old refusal lawful)
 happens_lawful listed old event reply new lawful (found v key state is shows place r e) = subst IsLawful (sym e) (lawful_copy old v key lawful)
+happens_lawful listed old event reply new lawful (summarized v key state is shows place r e) = subst IsLawful (sym e) (lawful_copy old v key lawful)
 happens_lawful listed old event reply new lawful (sent v key message is carries place r e) = subst IsLawful (sym e) (lawful_copy old v key lawful)
-happens_lawful listed old event reply new lawful (delivered message v key writes changed is l may c r e) = subst IsLawful (sym e) (lawful_delivery old v key writes lawful (lawful.copied message key writes l))
+happens_lawful listed old event reply new lawful (part_sent v key summary other held message is l carries place r e) = subst IsLawful (sym e) (lawful_part old v key held lawful)
+happens_lawful listed old event reply new lawful (whole_sent v key summary other held message is l carries place r e) = subst IsLawful (sym e) (lawful_copy old v key lawful)
+happens_lawful listed old event reply new lawful (part_refused v key summary other held is l f r e) = subst IsLawful (sym e) (lawful_refusal old _ lawful)
+happens_lawful listed old event reply new lawful (delivered message v key writes changed is brought may c r e) = subst IsLawful (sym e) (lawful_delivery old v key writes lawful (brought_put old message v key writes lawful brought))
+happens_lawful listed old event reply new lawful (missing message v key writes held is l lacks r e) = subst IsLawful (sym e) (lawful_nothing old lawful)
 happens_lawful listed old event reply new lawful (delivery_refused message v key writes refusal is l why r e) = subst IsLawful (sym e) (lawful_refusal old refusal lawful)
 happens_lawful listed old event reply new lawful (restarted v is place r e) = subst IsLawful (sym e) (lawful_restart old v lawful)
 happens_lawful listed old event reply new lawful (dumped v keys copies is known places carries r e) = subst IsLawful (sym e) (lawful_dump old v keys lawful)
@@ -238,6 +273,7 @@ lawful_opened ids = record {
   puts = tt;
   known = λ v s c. absurd (Contains-nil s (subst (λ (xs : List KeyedWrite). Contains xs s) (none_known (length ids) v) c));
   copied = λ e key writes is w c. absurd (cc);
+  parted = λ e key writes held is w c. absurd (cc);
   copied_all = λ e copies is s c. absurd (cc);
 }
 

@@ -59,7 +59,7 @@ equal_states w key mine theirs a b lawful put_mine put_theirs is_a is_b dots clo
         sym p.3 ∙ ap (λ (z : Write). z.content) (one_write w key p.0 q.0 lawful (put_mine p.0 p.1.is_known) (put_theirs q.0 q.1.is_known) (p.2 ∙ d ∙ sym q.2)) ∙ q.3
 
 -- the state of some writes is a state
-whole_state : (known : List Write) (state : State) → IsStateOf known state → IsState state
+pub whole_state : (known : List Write) (state : State) → IsStateOf known state → IsState state
 whole_state known state is = record {
   in_order = is.in_order;
   covered = found_covers state.clock state.siblings (λ d c e. let r = (is.shows.siblings d c).0 e in (is.shows.clock d).1 (r.0, r.1.is_known, inl r.2));

@@ -5,6 +5,7 @@ pub mod Numbers
 pub mod Steps
 pub mod Loads
 pub mod Equal
+pub mod Parted
 pub mod Stamped
 pub mod StampRows
 pub mod Merging

@@ -10,9 +10,9 @@ use Rattle.object.specs.declared.content.Key.{Key}
 use Rattle.object.specs.Known.{Write}
 use Rattle.journal.specs.Logs.{Log}
 use Rattle.world.specs.declared.event.Event.{Event}
-use Rattle.world.specs.declared.event.Event.TheVariants.{Put, Get, Send, Deliver, Restart, Dump, Load, ResolveRead, ResolveWrite}
+use Rattle.world.specs.declared.event.Event.TheVariants.{Put, Get, Summarize, Send, SendPart, Deliver, Restart, Dump, Load, ResolveRead, ResolveWrite}
 use Rattle.world.specs.declared.event.Reply.{Reply}
-use Rattle.world.specs.Happening.{Happens, wants_memory, refused_alike, stored, put_refused, found, sent, delivered, delivery_refused, restarted, dumped, dump_refused, loaded, full, resolved, choice_stored, choice_refused, nothing_chosen, IsNewId}
+use Rattle.world.specs.Happening.{Happens, wants_memory, refused_alike, stored, put_refused, found, summarized, sent, part_sent, whole_sent, part_refused, delivered, delivery_refused, missing, restarted, dumped, dump_refused, loaded, full, resolved, choice_stored, choice_refused, nothing_chosen, IsNewId}
 use Rattle.world.specs.Knowledge.{Knowledge, KeyedWrite, Copy, below, start, id_of, id_under, write_of, after_put, after_load}
 use Rattle.world.specs.Represents.{Represents}
 use Rattle.world.specs.Running.{MayComeFrom, AreRunnable, AreRunnableFrom, AreNewFrom, is_loaded}
@@ -24,7 +24,9 @@ abbrev pub IsPutAt : Event → ℕ → Type 0
 IsPutAt (Put at key seen content) vnode = at ≡ vnode
 IsPutAt (ResolveWrite run at) vnode = at ≡ vnode
 IsPutAt (Get at key) vnode = ⊥
+IsPutAt (Summarize at key) vnode = ⊥
 IsPutAt (Send at key) vnode = ⊥
+IsPutAt (SendPart at key summary) vnode = ⊥
 IsPutAt (Deliver message at) vnode = ⊥
 IsPutAt (Restart at) vnode = ⊥
 IsPutAt (Dump at) vnode = ⊥
@@ -46,9 +48,14 @@ grows listed old event reply new (refused_alike name refusal n l r e) = left_so 
 grows listed old event reply new (stored v key seen content clock is means may r e) = one_put v key (write_of old v key clock content) (subst (λ (x : Event). IsPutAt x v) (sym is) refl) (ap is_loaded r) refl e
 grows listed old event reply new (put_refused v key seen content clock refusal is means why r e) = left_so old event reply new _ (ap is_loaded r) e refl refl refl
 grows listed old event reply new (found v key state is shows place r e) = left_so old event reply new _ (ap is_loaded r) e refl refl refl
+grows listed old event reply new (summarized v key state is shows place r e) = left_so old event reply new _ (ap is_loaded r) e refl refl refl
 grows listed old event reply new (sent v key message is carries place r e) = left_so old event reply new _ (ap is_loaded r) e refl refl refl
+grows listed old event reply new (part_sent v key summary other held message is l carries place r e) = left_so old event reply new _ (ap is_loaded r) e refl refl refl
+grows listed old event reply new (whole_sent v key summary other held message is l carries place r e) = left_so old event reply new _ (ap is_loaded r) e refl refl refl
+grows listed old event reply new (part_refused v key summary other held is l f r e) = left_so old event reply new _ (ap is_loaded r) e refl refl refl
 grows listed old event reply new (delivered message v key writes changed is l may c r e) = left_so old event reply new _ (ap is_loaded r) e refl refl (length-set old.known v _)
 grows listed old event reply new (delivery_refused message v key writes refusal is l why r e) = left_so old event reply new _ (ap is_loaded r) e refl refl refl
+grows listed old event reply new (missing message v key writes held is l lacks r e) = left_so old event reply new _ (ap is_loaded r) e refl refl refl
 grows listed old event reply new (restarted v is place r e) = left_so old event reply new _ (ap is_loaded r) e refl refl refl
 grows listed old event reply new (dumped v keys copies is known places carries r e) = left_so old event reply new _ (ap is_loaded r) e refl refl refl
 grows listed old event reply new (dump_refused v keys is known many r e) = left_so old event reply new _ (ap is_loaded r) e refl refl refl
@@ -111,7 +118,9 @@ put_inside : (used : List ℕ) (n : ℕ) (listed : List Helper) (before : List E
 put_inside used n listed before (Put at key seen content) v come is = subst (λ (u : ℕ). u < n) is come.0
 put_inside used n listed before (ResolveWrite run at) v come is = subst (λ (u : ℕ). u < n) is come.0
 put_inside used n listed before (Get at key) v come is = absurd is
+put_inside used n listed before (Summarize at key) v come is = absurd is
 put_inside used n listed before (Send at key) v come is = absurd is
+put_inside used n listed before (SendPart at key summary) v come is = absurd is
 put_inside used n listed before (Deliver message at) v come is = absurd is
 put_inside used n listed before (Restart at) v come is = absurd is
 put_inside used n listed before (Dump at) v come is = absurd is

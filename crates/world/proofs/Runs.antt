@@ -7,16 +7,19 @@ use Rattle.dvv.specs.declared.Dot.{Dot}
 use Rattle.object.specs.declared.content.Key.{Key}
 use Rattle.object.specs.Known.{Write}
 use Rattle.object.specs.State.{State, kept, next}
+use Rattle.object.specs.Parts.{Summarized as Summary, summary_of, part_of, whole_of}
 use Rattle.journal.specs.Logs.{Log}
 use Rattle.object.specs.declared.content.Content.{Content}
 use Rattle.journal.specs.Entry.{Entry}
 use Rattle.journal.specs.Entry as entry
 use Rattle.journal.specs.Answers.{TellsChange}
 use Rattle.journal.specs.Journals.{MayFollow}
-use Rattle.journal.specs.Replay.{IsReplay}
+use Rattle.journal.specs.Replay.{IsReplay, Leaves}
 use Rattle.vnode.specs.Refusals.{RefusesPutAt as StateRefusesPut, RefusesMergeAt as StateRefusesMerge, RefusesPut as RefusesPutAt, RefusesMerge as RefusesMergeAt, RefusesEntry as RefusesEntryAt}
-use Rattle.world.specs.Appending.{Appends}
-use Rattle.world.proofs.Steps.{put_step, copy_step, restart_step, refusal_step, run_step, nothing_step, delivery_step, state_shown, state_next_is, may_deliver, were_put}
+use Rattle.vnode.specs.declared.fault.PartFault.TheVariants as part_fault
+use Rattle.vnode.specs.Parts.{RefusesPart}
+use Rattle.world.specs.Appending.{Appends, IsCopyOf, without, MergesPart}
+use Rattle.world.proofs.Steps.{put_step, copy_step, part_step, restart_step, refusal_step, run_step, nothing_step, delivery_step, state_shown, state_next_is, may_deliver, were_put}
 use Rattle.std.proofs.lemmas.Bool.{cases_lt}
 use Rattle.dvv.specs.Clock.{HasRoom, Within, vnodes_together}
 use Rattle.journal.specs.Limits.{TakesDot}
@@ -24,21 +27,23 @@ use Rattle.helpers.specs.declared.sig.Entry.{Entry as Helper}
 use Rattle.verifier.specs.Program.{Program}
 use Rattle.std.specs.Prelude.{None}
 use Rattle.world.specs.declared.event.Event.{Event}
-use Rattle.world.specs.declared.event.Event.TheVariants.{Put, Get, Send, Deliver, Restart, Dump, Load, ResolveRead, ResolveWrite}
+use Rattle.world.specs.declared.event.Event.TheVariants.{Put, Get, Summarize, Send, SendPart, Deliver, Restart, Dump, Load, ResolveRead, ResolveWrite}
 use Rattle.vnode.specs.declared.fault.VnodeFault.TheVariants.{ContextAhead, TooManySiblings, ClockFull, MergedClockFull, JournalFull, NoMemory}
 use Rattle.world.specs.declared.event.Message.{Message}
+use Rattle.world.specs.declared.event.PartMessage.{PartMessage}
 use Rattle.vnode.specs.declared.fault.VnodeFault.{VnodeFault}
 use Rattle.world.specs.declared.event.Seen.{Seen}
 use Rattle.world.specs.declared.event.Seen.TheVariants.{Clock as Given, Get as ContextOf}
 use Rattle.hookrun.specs.declared.resolving.Resolution.{Resolution}
 use Rattle.world.specs.declared.event.Reply.{Reply}
-use Rattle.world.specs.declared.event.Reply.TheVariants.{Stored, Found, Sent, Changed, Restarted, Resolved, Nothing, Refused}
-use Rattle.world.specs.Knowledge.{Knowledge, Copied, Chosen, Failed, below, left_by, known_at, id_of, next_dot, write_of, after_refusal, after_put, after_copy, after_delivery, after_restart, after_run, after_nothing, IsStateOf, id_under, ids_under}
+use Rattle.world.specs.declared.event.Reply.TheVariants.{Stored, Found, Summarized, Sent, SentPart, Changed, Missing, Restarted, Resolved, Nothing, Refused}
+use Rattle.world.specs.Knowledge.{Knowledge, Copied, Chosen, Failed, below, left_by, known_at, id_of, next_dot, write_of, after_refusal, after_put, after_copy, after_part, after_delivery, after_restart, after_run, after_nothing, IsStateOf, id_under, ids_under}
 use Rattle.hookrun.specs.Resolving.{IsResolution, chosen_by}
 use Rattle.world.proofs.Equal.{one_state}
-use Rattle.world.specs.Happening.{Means, Happens, wants_memory, refused_alike, stored, put_refused, found, sent, delivered, delivery_refused, restarted, full, resolved, choice_stored, choice_refused, nothing_chosen, RefusesPut, RefusesDelivery, IsAt, IsKnown, CountTogether, HasPlace, MayPut, MayDeliver, MayHappen}
+use Rattle.world.proofs.Parted.{lacks_there, holds_there, stands_for}
+use Rattle.world.specs.Happening.{Means, Happens, wants_memory, refused_alike, stored, put_refused, found, summarized, sent, part_sent, whole_sent, part_refused, whole, part, delivered, delivery_refused, missing, restarted, full, resolved, choice_stored, choice_refused, nothing_chosen, RefusesPut, RefusesDelivery, IsAt, IsKnown, CountTogether, HasPlace, MayPut, MayDeliver, MayHappen}
 use Rattle.world.specs.Represents.{Represents, log_at, empty_logs}
-use Rattle.world.specs.Running.{Remember, Holds, Recall, ReplyAt, IsFoundOrRefused, IsSentOrRefused, IsRefusedContext, IsMessageOf, IsChoiceOf}
+use Rattle.world.specs.Running.{Remember, Holds, Recall, ReplyAt, IsFoundOrRefused, IsRefusedContext, IsMessageOf, IsPartMessageOf, IsMessageOrRefused, IsChoiceOf}
 
 -- one vnode more
 pub opened_more : (incarnation n : ℕ) → empty_logs (ids_under incarnation (n + 1)) ≡ empty_logs (ids_under incarnation n) ++ record { vnode = id_under incarnation n; entries = [] } ∷ []
@@ -61,8 +66,11 @@ pub refusal_held : (replies : List Reply) (old : Knowledge) (place : ℕ) (r : R
 refusal_held replies old place r refusal P remember at is refused = subst (λ (x : Reply). Holds x (left_by old place)) refused (remember.each place r (read_at replies place r at.0 at.1 is))
 
 -- a send's reply holds what it copied
-pub message_held : (replies : List Reply) (old : Knowledge) (place : ℕ) (r : Reply) (message : Message) → Remember replies old → ReplyAt replies place IsSentOrRefused → r ≡ get_or replies place r → r ≡ Sent message → IsMessageOf old place message
-message_held replies old place r message remember at is is_sent = subst (λ (x : Reply). Holds x (left_by old place)) is_sent (remember.each place r (read_at replies place r at.0 at.1 is))
+pub message_held : (replies : List Reply) (old : Knowledge) (place : ℕ) (r : Reply) (message : Message) (P : Reply → Type 0) → Remember replies old → ReplyAt replies place P → r ≡ get_or replies place r → r ≡ Sent message → IsMessageOf old place message
+message_held replies old place r message P remember at is is_sent = subst (λ (x : Reply). Holds x (left_by old place)) is_sent (remember.each place r (read_at replies place r at.0 at.1 is))
+
+pub part_held : (replies : List Reply) (old : Knowledge) (place : ℕ) (r : Reply) (message : PartMessage) (P : Reply → Type 0) → Remember replies old → ReplyAt replies place P → r ≡ get_or replies place r → r ≡ SentPart message → IsPartMessageOf old place message
+part_held replies old place r message P remember at is is_sent = subst (λ (x : Reply). Holds x (left_by old place)) is_sent (remember.each place r (read_at replies place r at.0 at.1 is))
 
 -- an entry that a vnode appended may follow under its identifier
 appended_follows : (logs new : List Log) (w : Knowledge) (v : ℕ) (e : Entry) → Represents logs w → v < length logs → Appends logs new v e → MayFollow (id_of w v) (log_at logs v).entries e
@@ -150,10 +158,79 @@ send_happened listed logs new w v stamp key message rep inside appends replay ke
     let r = copy_step logs w v stamp key rep inside appends.follows in
     (after_copy w v key, sent v key message refl (record { key_is = key_is; from_is = from ∙ rep.ids v inside; at_is = at ∙ rep.accepted v inside; state_is = state_shown logs w v key message.state rep inside replay }) r.0 refl refl, subst (λ (ls : List Log). Represents ls (after_copy w v key)) (sym appends.entries) r.1)
 
--- a get, a send and a restart may happen where their journal has a place
+pub summary_happened : (listed : List Helper) (logs new : List Log) (w : Knowledge) (v stamp : ℕ) (key : Key) (summary : Summary) → Represents logs w → v < length logs → Appends logs new v (entry.Read stamp key) → Leaves (log_at logs v).entries key (λ state. summary ≡ summary_of state)
+    → (after : Knowledge) × Happens listed w (Summarize v key) (Summarized summary) after × Represents new after
+summary_happened listed logs new w v stamp key summary rep inside appends (state, replay, is) =
+    let r = copy_step logs w v stamp key rep inside appends.follows in
+    (after_copy w v key, summarized v key state refl (state_shown logs w v key state rep inside replay) r.0 (ap (λ (s : Summary). Summarized s) is) refl, subst (λ (ls : List Log). Represents ls (after_copy w v key)) (sym appends.entries) r.1)
+
+-- A send of a part, or of the whole where there is no memory for that.
+pub part_sent_so : (listed : List Helper) (logs new : List Log) (w : Knowledge) (replies : List Reply) (v stamp summary : ℕ) (key : Key) (told : Summary) (message : Message) → Represents logs w → v < length logs → Remember replies w → slice_get replies summary ≡ Some (Summarized told)
+    → Appends logs new v (entry.Read stamp key) → IsCopyOf (log_at logs v) key message
+    → (after : Knowledge) × Happens listed w (SendPart v key summary) (SentPart (without message told)) after × Represents new after
+part_sent_so listed logs new w replies v stamp summary key told message rep inside remember at appends copy =
+    let h : Holds (Summarized told) (left_by w summary) = remember.each summary (Summarized told) at in
+    let r = part_step logs w v stamp key h.1 rep inside appends.follows in (
+      after_part w v key h.1,
+      part_sent v key summary h.0 h.1 (without message told) refl h.2 (record {
+        key_is = copy.key_is;
+        from_is = copy.from ∙ rep.ids v inside;
+        at_is = copy.at ∙ rep.accepted v inside;
+        part_is = (message.state, h.3.0, state_shown logs w v key message.state rep inside copy.state, h.3.1, ap (part_of message.state) h.3.2);
+      }) r.0 refl refl,
+      subst (λ (ls : List Log). Represents ls (after_part w v key h.1)) (sym appends.entries) r.1,
+    )
+
+pub whole_sent_so : (listed : List Helper) (logs new : List Log) (w : Knowledge) (replies : List Reply) (v stamp summary : ℕ) (key : Key) (told : Summary) (message : Message) → Represents logs w → v < length logs → Remember replies w → slice_get replies summary ≡ Some (Summarized told)
+    → Appends logs new v (entry.Read stamp key) → IsCopyOf (log_at logs v) key message
+    → (after : Knowledge) × Happens listed w (SendPart v key summary) (Sent message) after × Represents new after
+whole_sent_so listed logs new w replies v stamp summary key told message rep inside remember at appends copy =
+    let h : Holds (Summarized told) (left_by w summary) = remember.each summary (Summarized told) at in
+    let r = copy_step logs w v stamp key rep inside appends.follows in (
+      after_copy w v key,
+      whole_sent v key summary h.0 h.1 message refl h.2 (record { key_is = copy.key_is; from_is = copy.from ∙ rep.ids v inside; at_is = copy.at ∙ rep.accepted v inside; state_is = state_shown logs w v key message.state rep inside copy.state }) r.0 refl refl,
+      subst (λ (ls : List Log). Represents ls (after_copy w v key)) (sym appends.entries) r.1,
+    )
+
+pub part_or_whole : (listed : List Helper) (logs new : List Log) (w : Knowledge) (replies : List Reply) (v stamp summary : ℕ) (key : Key) (told : Summary) (message : Message) (reply : Reply) → Represents logs w → v < length logs → Remember replies w → slice_get replies summary ≡ Some (Summarized told)
+    → Appends logs new v (entry.Read stamp key) → IsCopyOf (log_at logs v) key message → (reply ≡ SentPart (without message told)) ⊎ (reply ≡ Sent message)
+    → (after : Knowledge) × Happens listed w (SendPart v key summary) reply after × Represents new after
+part_or_whole listed logs new w replies v stamp summary key told message reply rep inside remember at appends copy (inl is) =
+    subst (λ (r : Reply). (after : Knowledge) × Happens listed w (SendPart v key summary) r after × Represents new after) (sym is) (part_sent_so listed logs new w replies v stamp summary key told message rep inside remember at appends copy)
+part_or_whole listed logs new w replies v stamp summary key told message reply rep inside remember at appends copy (inr is) =
+    subst (λ (r : Reply). (after : Knowledge) × Happens listed w (SendPart v key summary) r after × Represents new after) (sym is) (whole_sent_so listed logs new w replies v stamp summary key told message rep inside remember at appends copy)
+
+-- it is a message
+pub part_is_message : (message : Message) (told : Summary) (reply : Reply) → (reply ≡ SentPart (without message told)) ⊎ (reply ≡ Sent message) → IsMessageOrRefused reply
+part_is_message message told reply (inl is) = subst IsMessageOrRefused (sym is) tt
+part_is_message message told reply (inr is) = subst IsMessageOrRefused (sym is) tt
+
+-- why a vnode refuses the read of a part is why the world does
+pub part_send_refused : (listed : List Helper) (logs : List Log) (w : Knowledge) (replies : List Reply) (v summary : ℕ) (key : Key) (told : Summary) (r : VnodeFault) → Represents logs w → v < length logs → Remember replies w → slice_get replies summary ≡ Some (Summarized told) → RefusesEntryAt (log_at logs v) r
+    → (after : Knowledge) × Happens listed w (SendPart v key summary) (Refused r) after × Represents logs after
+part_send_refused listed logs w replies v summary key told r rep inside remember at why = by_cause r why
+  where
+    h : Holds (Summarized told) (left_by w summary)
+    h = remember.each summary (Summarized told) at
+
+    by_cause : (r : VnodeFault) → RefusesEntryAt (log_at logs v) r → (after : Knowledge) × Happens listed w (SendPart v key summary) (Refused r) after × Represents logs after
+    by_cause JournalFull why = refused_so listed logs w (SendPart v key summary) JournalFull rep (part_refused v key summary h.0 h.1 refl h.2 (sym (rep.accepted v inside) ∙ why) refl refl)
+    by_cause NoMemory why = refused_so listed logs w (SendPart v key summary) NoMemory rep (wants_memory (h.0, h.1, h.2, subst (λ (n : ℕ). n < 2 ^ 32) (rep.accepted v inside) why) refl refl)
+    by_cause ContextAhead why = absurd why
+    by_cause TooManySiblings why = absurd why
+    by_cause ClockFull why = absurd why
+    by_cause MergedClockFull why = absurd why
+
+pub summary_was_refused : (listed : List Helper) (logs : List Log) (w : Knowledge) (replies : List Reply) (v summary : ℕ) (key : Key) (r : VnodeFault) → Represents logs w → Remember replies w → slice_get replies summary ≡ Some (Refused r)
+    → (after : Knowledge) × Happens listed w (SendPart v key summary) (Refused r) after × Represents logs after
+summary_was_refused listed logs w replies v summary key r rep remember at = refused_so listed logs w (SendPart v key summary) r rep (refused_alike summary r refl (remember.each summary (Refused r) at) refl refl)
+
+-- a get, a summary, a send and a restart may happen where their journal has a place
 place_may : (w : Knowledge) (what : Event) (v : ℕ) → IsAt what v → HasPlace w v → MayHappen w what
 place_may w (Get u key) v at place = subst (HasPlace w) (sym at) place
+place_may w (Summarize u key) v at place = subst (HasPlace w) (sym at) place
 place_may w (Send u key) v at place = subst (HasPlace w) (sym at) place
+place_may w (SendPart u key summary) v at place = absurd at
 place_may w (Restart u) v at place = subst (HasPlace w) (sym at) place
 place_may w (Put u key seen content) v at place = absurd at
 place_may w (Deliver message u) v at place = absurd at
@@ -208,14 +285,43 @@ pub delivery_happened : (listed : List Helper) (logs new : List Log) (w : Knowle
     → (after : Knowledge) × Happens listed w (Deliver place v) (Changed changed) after × Represents new after
 delivery_happened listed logs new w v stamp place message changed rep inside is appends tells =
     let r = delivery_step logs w v stamp message.key message.from message.at message.state is.0 rep inside (appended_follows logs new w v (entry.Merge stamp message.key message.from message.at message.state) rep inside appends) (were_put w place message.key is.0 rep.lawful is.1) is.2 in
-    (after_delivery w v message.key is.0, delivered place v message.key is.0 changed refl is.1 r.0 (tell_so changed r.2 tells) refl refl, subst (λ (ls : List Log). Represents ls (after_delivery w v message.key is.0)) (sym appends.entries) r.1)
+    (after_delivery w v message.key is.0, delivered place v message.key is.0 changed refl (whole is.1) r.0 (tell_so changed r.2 tells) refl refl, subst (λ (ls : List Log). Represents ls (after_delivery w v message.key is.0)) (sym appends.entries) r.1)
 
 pub delivery_was_refused : (listed : List Helper) (logs : List Log) (w : Knowledge) (v place : ℕ) (message : Message) (r : VnodeFault) → Represents logs w → v < length logs → IsMessageOf w place message → RefusesMergeAt (log_at logs v) message.key message.state r
     → (after : Knowledge) × Happens listed w (Deliver place v) (Refused r) after × Represents logs after
 delivery_was_refused listed logs w v place message r rep inside is why = refused_so listed logs w (Deliver place v) r rep (elim (merge_refusal logs w v message.key message.state is.0 r rep inside is.2 why) [
-  | inl memory ↦ wants_memory (message.key, is.0, is.1, memory.1) (ap (λ (x : VnodeFault). Refused x) memory.0) (ap (λ (x : VnodeFault). after_refusal w x) memory.0)
-  | inr refuses ↦ delivery_refused place v message.key is.0 r refl is.1 refuses refl refl
+  | inl memory ↦ wants_memory (message.key, is.0, whole is.1, memory.1) (ap (λ (x : VnodeFault). Refused x) memory.0) (ap (λ (x : VnodeFault). after_refusal w x) memory.0)
+  | inr refuses ↦ delivery_refused place v message.key is.0 r refl (whole is.1) refuses refl refl
 ])
+
+-- A delivery of a part.
+pub part_happened : (listed : List Helper) (logs new : List Log) (w : Knowledge) (v stamp place : ℕ) (message : PartMessage) (changed : Bool) (own : State) → Represents logs w → v < length logs → IsPartMessageOf w place message → MergesPart logs new v stamp message changed own
+    → (after : Knowledge) × Happens listed w (Deliver place v) (Changed changed) after × Represents new after
+part_happened listed logs new w v stamp place message changed own rep inside (writes, held, left, is) merges =
+    let mine : IsStateOf (known_at w v message.key) own = state_shown logs w v message.key own rep inside merges.own_is in
+    let stands : IsStateOf writes (whole_of message.part own) = stands_for w v message.key writes held own message.part rep.lawful (rep.lawful.parted place message.key writes held left) mine is merges.held in
+    let r = delivery_step logs w v stamp message.key message.from message.at (whole_of message.part own) writes rep inside (appended_follows logs new w v (entry.Merge stamp message.key message.from message.at (whole_of message.part own)) rep inside merges.entry) (rep.lawful.parted place message.key writes held left) stands in (
+      after_delivery w v message.key writes,
+      delivered place v message.key writes changed refl (part held left (holds_there (known_at w v message.key) writes held own message.part mine is merges.held)) r.0 (tell_so changed r.2 merges.tells) refl refl,
+      subst (λ (ls : List Log). Represents ls (after_delivery w v message.key writes)) (sym merges.entry.entries) r.1,
+    )
+
+pub part_was_missing : (listed : List Helper) (logs : List Log) (w : Knowledge) (v place : ℕ) (message : PartMessage) → Represents logs w → v < length logs → IsPartMessageOf w place message → RefusesPart (log_at logs v) message.key message.part part_fault.Missing
+    → (after : Knowledge) × Happens listed w (Deliver place v) Missing after × Represents logs after
+part_was_missing listed logs w v place message rep inside (writes, held, left, is) (own, replay, lacks) =
+    let mine : IsStateOf (known_at w v message.key) own = state_shown logs w v message.key own rep inside replay in
+    (after_nothing w, missing place v message.key writes held refl left (lacks_there (known_at w v message.key) writes held own message.part mine is lacks) refl refl, nothing_step logs w rep)
+
+pub part_was_refused : (listed : List Helper) (logs : List Log) (w : Knowledge) (v place : ℕ) (message : PartMessage) (r : VnodeFault) → Represents logs w → v < length logs → IsPartMessageOf w place message → RefusesPart (log_at logs v) message.key message.part (part_fault.Refused r)
+    → (after : Knowledge) × Happens listed w (Deliver place v) (Refused r) after × Represents logs after
+part_was_refused listed logs w v place message r rep inside (writes, held, left, is) (own, replay, why) =
+    let mine : IsStateOf (known_at w v message.key) own = state_shown logs w v message.key own rep inside replay in
+    let stands : IsStateOf writes (whole_of message.part own) = stands_for w v message.key writes held own message.part rep.lawful (rep.lawful.parted place message.key writes held left) mine is why.0 in
+    let brought = part held left (holds_there (known_at w v message.key) writes held own message.part mine is why.0) in
+    refused_so listed logs w (Deliver place v) r rep (elim (merge_refusal logs w v message.key (whole_of message.part own) writes r rep inside stands (own, replay, why.1)) [
+      | inl memory ↦ wants_memory (message.key, writes, brought, memory.1) (ap (λ (x : VnodeFault). Refused x) memory.0) (ap (λ (x : VnodeFault). after_refusal w x) memory.0)
+      | inr refuses ↦ delivery_refused place v message.key writes r refl brought refuses refl refl
+    ])
 
 pub message_was_refused : (listed : List Helper) (logs : List Log) (w : Knowledge) (v place : ℕ) (r : VnodeFault) → Represents logs w → left_by w place ≡ Failed r
     → (after : Knowledge) × Happens listed w (Deliver place v) (Refused r) after × Represents logs after

@@ -21,13 +21,13 @@ use Rattle.object.specs.Known.{ShowsKnown}
 use Rattle.journal.specs.Brought.{Brings, BringsAll, nothing, one_more}
 use Rattle.journal.proofs.Keyed.{one_key}
 use Rattle.journal.proofs.Replayed.{journal_end}
-use Rattle.world.specs.Knowledge.{Knowledge, opened, KeyedWrite, Copied, known_at, of_key, under, learns, accepts, accepted_at, id_of, next_dot, write_of, left_by, IsStateOf, after_refusal, after_put, after_copy, after_delivery, after_restart, after_run, after_nothing}
+use Rattle.world.specs.Knowledge.{Knowledge, opened, KeyedWrite, Copied, known_at, of_key, under, learns, accepts, accepted_at, id_of, next_dot, write_of, left_by, IsStateOf, after_refusal, after_put, after_copy, after_part, after_delivery, after_restart, after_run, after_nothing}
 use Rattle.world.specs.Happening.{MayPut, IsKnown, MayDeliver, LookAlike, HasPlace}
 use Rattle.vnode.specs.declared.fault.VnodeFault.{VnodeFault}
 use Rattle.world.specs.Numbering.{IsLawful, KnowOwn, WerePut}
 use Rattle.world.specs.Represents.{ShowsAt, Represents, AreDistinct, log_at, with_entry_at, empty_logs}
 use Rattle.world.proofs.Lists.{same_key-same, Contains-nil}
-use Rattle.world.proofs.Causal.{lawful_put, lawful_copy, lawful_delivery, lawful_restart, lawful_refusal, lawful_run, lawful_nothing, lawful_opened, none_known, known_put}
+use Rattle.world.proofs.Causal.{lawful_put, lawful_copy, lawful_part, lawful_delivery, lawful_restart, lawful_refusal, lawful_run, lawful_nothing, lawful_opened, none_known, known_put}
 use Rattle.world.proofs.Shown.{shows_at, replay_is, shows_known, same_options, same_tests}
 use Rattle.world.proofs.Numbers.{next_is, known_unique, none_itself, one_write, learned, known_other, grows}
 
@@ -174,6 +174,13 @@ copy_step logs w v stamp key rep inside place = (
   grown logs w (after_copy w v key) v (Read stamp key) rep inside place (lawful_copy w v key rep.lawful) rep.own refl refl refl (λ k. ([], refl, sym (append-nil (known_at w v k)))) (λ u k other. refl),
 )
 
+-- so is a part
+pub part_step : (logs : List Log) (w : Knowledge) (v stamp : ℕ) (key : Key) (held : List Write) → Represents logs w → v < length logs → TakesEntry (log_at logs v).entries → HasPlace w v × Represents (with_entry_at logs v (Read stamp key)) (after_part w v key held)
+part_step logs w v stamp key held rep inside place = (
+  subst (λ (n : ℕ). n < 2 ^ 32) (rep.accepted v inside) place,
+  grown logs w (after_part w v key held) v (Read stamp key) rep inside place (lawful_part w v key held rep.lawful) rep.own refl refl refl (λ k. ([], refl, sym (append-nil (known_at w v k)))) (λ u k other. refl),
+)
+
 pub restart_step : (logs : List Log) (w : Knowledge) (v stamp : ℕ) → Represents logs w → v < length logs → TakesEntry (log_at logs v).entries → HasPlace w v × Represents (with_entry_at logs v (Restart stamp)) (after_restart w v)
 restart_step logs w v stamp rep inside place = (
   subst (λ (n : ℕ). n < 2 ^ 32) (rep.accepted v inside) place,
@@ -199,7 +206,7 @@ were_put w message key writes lawful left x c = lawful.copied message key writes
 pub one_of : (w : Knowledge) (key : Key) (xs ys : List Write) → IsLawful w → WerePut w key xs → WerePut w key ys → (a b : Write) → Contains xs a → Contains ys b → a.dot ≡ b.dot → a ≡ b
 one_of w key xs ys lawful pa pb a b ca cb d = one_write w key a b lawful (pa a ca) (pb b cb) d
 
-together : (w : Knowledge) (key : Key) (xs ys : List Write) → WerePut w key xs → WerePut w key ys → WerePut w key (xs ++ ys)
+pub together : (w : Knowledge) (key : Key) (xs ys : List Write) → WerePut w key xs → WerePut w key ys → WerePut w key (xs ++ ys)
 together w key xs ys px py a c = elim (Contains-append_cases xs ys a c) [ inl x ↦ px a x | inr y ↦ py a y ]
 
 -- two journals that show writes leave alike exactly where these look alike

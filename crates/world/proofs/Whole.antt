@@ -15,19 +15,19 @@ use Rattle.object.specs.declared.content.Key.{Key}
 use Rattle.object.specs.Known.{Write}
 use Rattle.object.specs.State.{State}
 use Rattle.world.specs.declared.event.Event.{Event}
-use Rattle.world.specs.declared.event.Event.TheVariants.{Put, Get, Send, Deliver, Restart, Dump, Load, ResolveRead, ResolveWrite}
+use Rattle.world.specs.declared.event.Event.TheVariants.{Put, Get, Summarize, Send, SendPart, Deliver, Restart, Dump, Load, ResolveRead, ResolveWrite}
 use Rattle.vnode.specs.declared.fault.VnodeFault.{VnodeFault}
 use Rattle.vnode.specs.declared.fault.VnodeFault.TheVariants.{NoMemory, JournalFull}
 use Rattle.hookrun.specs.declared.resolving.Resolution.{Resolution}
 use Rattle.world.specs.declared.event.Reply.{Reply}
-use Rattle.world.specs.declared.event.Reply.TheVariants.{Restarted, Dumped, Found, Sent, Resolved, Refused}
+use Rattle.world.specs.declared.event.Reply.TheVariants.{Restarted, Dumped, Found, Stored, Summarized, Sent, SentPart, Changed, Missing, Loaded, Resolved, Nothing as NothingToPut, Refused}
 use Rattle.world.specs.declared.event.Seen.{Seen}
 use Rattle.world.specs.declared.event.Seen.TheVariants.{Clock as Given, Get as ContextOf}
-use Rattle.world.specs.Knowledge.{Knowledge, KeyedWrite, Copy, Left, Nothing, Copied, CopiedAll, Chosen, Failed, below, start, known_at, left_by, copies_at, id_under, ids_under, IsStateOf}
+use Rattle.world.specs.Knowledge.{Knowledge, KeyedWrite, Copy, Left, Nothing, Copied, Parted, CopiedAll, Chosen, Failed, below, start, known_at, left_by, copies_at, id_under, ids_under, IsStateOf}
 use Rattle.hookrun.specs.Resolving.{chosen_by}
-use Rattle.world.specs.Happening.{Run, Happens, wants_memory, refused_alike, stored, put_refused, found, sent, delivered, delivery_refused, restarted, dumped, dump_refused, loaded, full, resolved, choice_stored, choice_refused, nothing_chosen}
+use Rattle.world.specs.Happening.{Run, Happens, wants_memory, refused_alike, stored, put_refused, found, summarized, sent, part_sent, whole_sent, part_refused, delivered, delivery_refused, missing, restarted, dumped, dump_refused, loaded, full, resolved, choice_stored, choice_refused, nothing_chosen}
 use Rattle.world.specs.Represents.{Represents, AreDistinct, empty_logs}
-use Rattle.world.specs.Running.{Holds, Remember, Recall, MayReply, MayComeFrom, IsReady, IsReadyContext, IsGetAt, IsEarlierContext, ReplyAt, ShowCopies, AreRunnable, AreRunnableFrom, AreNewFrom, IsNewFor, IsNoLoad, Begins, IsRunSoFar, IsKnownSoFar, IsAnswered, found as was_found, copied as was_copied, dumped as was_dumped, kept as was_kept, IsWorldFrom, is_loaded, max_vnodes}
+use Rattle.world.specs.Running.{Holds, Remember, Recall, MayReply, MayComeFrom, IsReady, IsReadyContext, IsGetAt, IsMessageAt, IsEarlierContext, IsSentOrRefused, IsMessageOrRefused, ReplyAt, ShowCopies, AreRunnable, AreRunnableFrom, AreNewFrom, IsNewFor, IsNoLoad, Begins, IsRunSoFar, IsKnownSoFar, IsAnswered, found as was_found, copied as was_copied, dumped as was_dumped, kept as was_kept, IsWorldFrom, is_loaded, max_vnodes}
 use Rattle.world.specs.Stamped.{AreStamped}
 use Rattle.world.specs.Numbering.{WerePut}
 use Rattle.world.proofs.Causal.{lawful_causal, known_put}
@@ -97,6 +97,15 @@ what_left listed old event reply new (found v key state is shows place r e) = (
     choice = λ get hook resolution e' h. absurd (let d : Get v key ≡ ResolveRead get hook = sym is ∙ e' in cc);
   },
 )
+what_left listed old event reply new (summarized v key state is shows place r e) = (
+  Copied key (known_at old v key),
+  ap (λ (w : Knowledge). w.left) e,
+  record {
+    holds = subst (λ (x : Reply). Holds x (Copied key (known_at old v key))) (sym r) (key, known_at old v key, refl, (state, shows, refl));
+    key = λ v' k other writes e' l. absurd (let d : Summarize v key ≡ Get v' k = sym is ∙ e' in cc);
+    choice = λ get hook resolution e' h. absurd (let d : Summarize v key ≡ ResolveRead get hook = sym is ∙ e' in cc);
+  },
+)
 what_left listed old event reply new (sent v key message is carries place r e) = (
   Copied key (known_at old v key),
   ap (λ (w : Knowledge). w.left) e,
@@ -106,6 +115,26 @@ what_left listed old event reply new (sent v key message is carries place r e) =
     choice = λ get hook resolution e' h. absurd (let d : Send v key ≡ ResolveRead get hook = sym is ∙ e' in cc);
   },
 )
+what_left listed old event reply new (part_sent v key summary other held message is l carries place r e) = (
+  Parted key (known_at old v key) held,
+  ap (λ (w : Knowledge). w.left) e,
+  record {
+    holds = subst (λ (x : Reply). Holds x (Parted key (known_at old v key) held)) (sym r) (known_at old v key, held, ap (λ k. Parted k (known_at old v key) held) (sym carries.key_is), carries.part_is);
+    key = λ v' k o writes e' h. absurd (let d : SendPart v key summary ≡ Get v' k = sym is ∙ e' in cc);
+    choice = λ get hook resolution e' h. absurd (let d : SendPart v key summary ≡ ResolveRead get hook = sym is ∙ e' in cc);
+  },
+)
+what_left listed old event reply new (whole_sent v key summary other held message is l carries place r e) = (
+  Copied key (known_at old v key),
+  ap (λ (w : Knowledge). w.left) e,
+  record {
+    holds = subst (λ (x : Reply). Holds x (Copied key (known_at old v key))) (sym r) (known_at old v key, ap (λ k. Copied k (known_at old v key)) (sym carries.key_is), carries.state_is);
+    key = λ v' k o writes e' h. absurd (let d : SendPart v key summary ≡ Get v' k = sym is ∙ e' in cc);
+    choice = λ get hook resolution e' h. absurd (let d : SendPart v key summary ≡ ResolveRead get hook = sym is ∙ e' in cc);
+  },
+)
+what_left listed old event reply new (part_refused v key summary other held is l f r e) = (Failed JournalFull, ap (λ (w : Knowledge). w.left) e, failed_left old event reply JournalFull r)
+what_left listed old event reply new (missing message v key writes held is l lacks r e) = (Nothing, ap (λ (w : Knowledge). w.left) e, nothing_left old event reply (subst (λ (x : Reply). Holds x Nothing) (sym r) tt) (λ resolution h. absurd (cc)))
 what_left listed old event reply new (delivered message v key writes changed is l may c r e) = (Nothing, ap (λ (w : Knowledge). w.left) e, nothing_left old event reply (subst (λ (x : Reply). Holds x Nothing) (sym r) tt) (λ resolution h. absurd (cc)))
 what_left listed old event reply new (delivery_refused message v key writes refusal is l why r e) = (Failed refusal, ap (λ (w : Knowledge). w.left) e, failed_left old event reply refusal r)
 what_left listed old event reply new (restarted v is place r e) = (Nothing, ap (λ (w : Knowledge). w.left) e, nothing_left old event reply (subst (λ (x : Reply). Holds x Nothing) (sym r) tt) (λ resolution h. absurd (cc)))
@@ -209,6 +238,22 @@ replied n all count replies logs made place event so_far at =
     let is : slice_get replies place ≡ Some r = slice_get_read replies (length replies) place (get_or replies place Restarted) refl lt (get_or_default replies place Restarted (get_or replies place Restarted) lt) in
     (get_or replies place Restarted, is, so_far.kinds place event (get_or replies place Restarted) at is)
 
+-- what a send replies is a message, or a refusal
+sent_is_message : (reply : Reply) → IsSentOrRefused reply → IsMessageOrRefused reply
+sent_is_message (Sent message) h = tt
+sent_is_message (Refused refusal) h = tt
+sent_is_message (SentPart message) h = tt
+sent_is_message (Stored dot) h = absurd h
+sent_is_message (Found state) h = absurd h
+sent_is_message (Summarized summary) h = absurd h
+sent_is_message (Changed changed) h = absurd h
+sent_is_message Missing h = absurd h
+sent_is_message Restarted h = absurd h
+sent_is_message (Dumped copies) h = absurd h
+sent_is_message (Loaded count) h = absurd h
+sent_is_message (Resolved resolution) h = absurd h
+sent_is_message NothingToPut h = absurd h
+
 -- an event that may come is ready
 pub is_ready : (used : List ℕ) (n : ℕ) (listed : List Helper) (all : List Event) (count : ℕ) (replies : List Reply) (logs : List Log) (made : ℕ) (event : Event) → n ≤ max_vnodes → IsRunSoFar n all count replies logs made → MayComeFrom used n listed (take count all) event → IsReady (length logs) listed (take count all) replies event
 is_ready used n listed all count replies logs made event few so_far come = ready event come
@@ -223,11 +268,17 @@ is_ready used n listed all count replies logs made event few so_far come = ready
     context (Given clock) h = tt
     context (ContextOf get) h = at_place get (Get h.0 h.1) h.2
 
+    message_at : (place : ℕ) → IsMessageAt (take count all) place → ReplyAt replies place IsMessageOrRefused
+    message_at place (inl h) = let r = at_place place (Send h.0 h.1) h.2 in (r.0, r.1, sent_is_message r.0 r.2)
+    message_at place (inr h) = at_place place (SendPart h.0 h.1 h.2) h.3
+
     ready : (event : Event) → MayComeFrom used n listed (take count all) event → IsReady (length logs) listed (take count all) replies event
     ready (Put v key seen content) come = (inside v come.0, context seen come.1)
     ready (Get v key) come = inside v come
     ready (Send v key) come = inside v come
-    ready (Deliver message v) come = (inside v come.0, let h = come.1 in at_place message (Send h.0 h.1) h.2)
+    ready (Summarize v key) come = inside v come
+    ready (SendPart v key summary) come = (inside v come.0, let h = come.1 in at_place summary (Summarize h.0 h.1) h.2)
+    ready (Deliver message v) come = (inside v come.0, message_at message come.1)
     ready (Restart v) come = inside v come
     ready (Dump v) come = inside v come
     ready (Load dump v incarnation) come = (inside v come.0, (let lt = come.0 in omega (arith, lt, few)), let h = come.1 in at_place dump (Dump h.0) h.1)
@@ -254,7 +305,9 @@ one_more_event events place event lt is = take_more events place event lt ∙ ap
 new_for : (known : Knowledge) (all : List Event) (count : ℕ) (event : Event) → AreNewFrom known all count → slice_get all count ≡ Some event → IsNewFor known event
 new_for known all count (Put v key seen content) fresh at = tt
 new_for known all count (Get v key) fresh at = tt
+new_for known all count (Summarize v key) fresh at = tt
 new_for known all count (Send v key) fresh at = tt
+new_for known all count (SendPart v key summary) fresh at = tt
 new_for known all count (Deliver message v) fresh at = tt
 new_for known all count (Restart v) fresh at = tt
 new_for known all count (Dump v) fresh at = tt
@@ -330,7 +383,9 @@ whole_back new items n same len = ap (λ (xs : List Log). take n (new ++ xs)) (d
 pub no_load : (event : Event) → ((dump vnode incarnation : ℕ) → event ≡ Load dump vnode incarnation → ⊥) → IsNoLoad event
 no_load (Put v key seen content) other = tt
 no_load (Get v key) other = tt
+no_load (Summarize v key) other = tt
 no_load (Send v key) other = tt
+no_load (SendPart v key summary) other = tt
 no_load (Deliver message v) other = tt
 no_load (Restart v) other = tt
 no_load (Dump v) other = tt

@@ -1,8 +1,12 @@
 -- Entries more at one of the vnodes.
-use Rattle.std.specs.Prelude.{◌≡◌, ℕ, ◌+◌, ◌≤◌, List, [], ◌∷◌, ◌++◌, length, slice_set}
+use Rattle.std.specs.Prelude.{◌≡◌, ℕ, ◌+◌, ◌≤◌, Bool, false, List, [], ◌∷◌, ◌++◌, length, slice_set}
 use Rattle.std.specs.List.{All}
 use Rattle.std.specs.List.Sorted.{IsStrictlySortedBy}
+use Rattle.object.specs.Parts.{part_of, whole_of, lacks_some, Summarized}
+use Rattle.object.specs.State.{State}
+use Rattle.journal.specs.Answers.{TellsChange}
 use Rattle.journal.specs.Entry.{Entry, Merge}
+use Rattle.object.specs.declared.content.Key.{Key}
 use Rattle.journal.specs.Journals.{MayFollow, IsJournal}
 use Rattle.journal.specs.Keys.{key_cmp}
 use Rattle.journal.specs.Logs.{Log, with_entries, max_entries}
@@ -11,12 +15,32 @@ use Rattle.vnode.specs.declared.steps.Copied.{Copied}
 use Rattle.vnode.specs.Keys.{AreKeys, reads_of}
 use Rattle.vnode.specs.States.{keys_of}
 use Rattle.world.specs.declared.event.Copies.{Copies}
+use Rattle.world.specs.declared.event.Message.{Message}
+use Rattle.world.specs.declared.event.PartMessage.{PartMessage}
 use Rattle.world.specs.Represents.{log_at, with_entry_at}
 
 -- a vnode has an entry more, which may follow its others
 pub record Appends (old new : List Log) (at : ℕ) (entry : Entry) : Type 0 where
   pub entries : new ≡ with_entry_at old at entry
   pub follows : MayFollow (log_at old at).vnode (log_at old at).entries entry
+
+-- the state of a key as a vnode's next entry copies it
+pub record IsCopyOf (log : Log) (key : Key) (message : Message) : Type 0 where
+  pub key_is : message.key ≡ key
+  pub from : message.from ≡ log.vnode
+  pub at : message.at ≡ length log.entries
+  pub state : IsReplay log.entries key message.state
+
+-- a message without the contents of the dots that a summary holds
+abbrev pub without : Message → Summarized → PartMessage
+without message summary = record { key = message.key; from = message.from; at = message.at; part = part_of message.state summary }
+
+-- a vnode that has this state of a key has merged the whole state that a part stands for beside it, and a bool tells whether that changed something
+pub record MergesPart (old new : List Log) (at stamp : ℕ) (message : PartMessage) (changed : Bool) (own : State) : Type 0 where
+  pub own_is : IsReplay (log_at old at).entries message.key own
+  pub held : lacks_some own message.part ≡ false
+  pub entry : Appends old new at (Merge stamp message.key message.from message.at (whole_of message.part own))
+  pub tells : TellsChange (log_at old at).entries (Merge stamp message.key message.from message.at (whole_of message.part own)) message.key changed
 
 -- copies of rising keys, each by an entry that has a place
 pub record AreCopies (copies : Copies) : Type 0 where

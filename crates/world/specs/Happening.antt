@@ -8,6 +8,7 @@ use Rattle.object.specs.declared.content.Content.{Content}
 use Rattle.object.specs.declared.content.Key.{Key}
 use Rattle.object.specs.State.{State, kept}
 use Rattle.object.specs.Known.{Write, InContext, IsCurrent}
+use Rattle.object.specs.Parts.{summary_of}
 use Rattle.std.specs.List.{All}
 use Rattle.vnode.specs.States.{keys_of}
 use Rattle.world.specs.declared.event.Copies.{Copies}
@@ -15,16 +16,17 @@ use Rattle.std.specs.List.Sorted.{IsStrictlySortedBy}
 use Rattle.journal.specs.Keys.{key_cmp}
 use Rattle.journal.specs.Logs.{max_entries}
 use Rattle.world.specs.declared.event.Event.{Event}
-use Rattle.world.specs.declared.event.Event.TheVariants.{Put, Get, Send, Deliver, Restart, Dump, Load, ResolveRead, ResolveWrite}
+use Rattle.world.specs.declared.event.Event.TheVariants.{Put, Get, Summarize, Send, SendPart, Deliver, Restart, Dump, Load, ResolveRead, ResolveWrite}
 use Rattle.world.specs.declared.event.Message.{Message}
+use Rattle.world.specs.declared.event.PartMessage.{PartMessage}
 use Rattle.hookrun.specs.declared.resolving.Resolution.{Resolution}
 use Rattle.world.specs.declared.event.Seen.{Seen}
 use Rattle.world.specs.declared.event.Seen.TheVariants.{Clock as Given, Get as ContextOf}
 use Rattle.vnode.specs.declared.fault.VnodeFault.{VnodeFault}
 use Rattle.vnode.specs.declared.fault.VnodeFault.TheVariants.{ContextAhead, TooManySiblings, ClockFull, MergedClockFull, JournalFull, NoMemory}
 use Rattle.world.specs.declared.event.Reply.{Reply}
-use Rattle.world.specs.declared.event.Reply.TheVariants.{Stored, Found, Sent, Changed, Restarted, Dumped, Loaded, Resolved, Nothing, Refused}
-use Rattle.world.specs.Knowledge.{Knowledge, KeyedWrite, Copy, Copied, CopiedAll, Chosen, Failed, left_by, known_at, id_of, accepted_at, IsContext, IsStateOf, write_of, next_dot, after_refusal, after_put, after_copy, after_delivery, after_restart, after_dump, after_load, after_run, after_nothing, id_under}
+use Rattle.world.specs.declared.event.Reply.TheVariants.{Stored, Found, Summarized, Sent, SentPart, Changed, Missing, Restarted, Dumped, Loaded, Resolved, Nothing, Refused}
+use Rattle.world.specs.Knowledge.{Knowledge, KeyedWrite, Copy, Copied, Parted, CopiedAll, Chosen, Failed, left_by, known_at, id_of, accepted_at, IsContext, IsStateOf, IsPartOf, write_of, next_dot, after_refusal, after_put, after_copy, after_part, after_delivery, after_restart, after_dump, after_load, after_run, after_nothing, id_under}
 use Rattle.hookrun.specs.Resolving.{IsResolution, chosen_by}
 
 -- the earlier event that an event names, by its place
@@ -32,7 +34,9 @@ abbrev pub named : Event → Option ℕ
 named (Put vnode key (ContextOf get) content) = Some get
 named (Put vnode key (Given clock) content) = None
 named (Get vnode key) = None
+named (Summarize vnode key) = None
 named (Send vnode key) = None
+named (SendPart vnode key summary) = Some summary
 named (Deliver message vnode) = Some message
 named (Restart vnode) = None
 named (Dump vnode) = None
@@ -90,6 +94,27 @@ RefusesPut world vnode key seen JournalFull =
 RefusesPut world vnode key seen MergedClockFull = ⊥
 RefusesPut world vnode key seen NoMemory = ⊥
 
+-- a dot is that of a current write
+abbrev pub HasCurrent : List Write → Dot → Type 0
+HasCurrent known dot = (write : Write) × IsCurrent known write × (write.dot ≡ dot)
+
+-- a part leaves the content of a dot out: that of a current write whose dot is also that of a current write of one who told what it held
+abbrev pub IsLeftOut : List Write → List Write → Dot → Type 0
+IsLeftOut writes held dot = HasCurrent writes dot × HasCurrent held dot
+
+-- each dot whose content was left out of a part is that of a current write of those that are known
+abbrev pub HoldsLeftOut : List Write → List Write → List Write → Type 0
+HoldsLeftOut known writes held = (dot : Dot) → IsLeftOut writes held dot → HasCurrent known dot
+
+-- some dot whose content was left out of a part is that of no current write of those that are known
+abbrev pub LacksLeftOut : List Write → List Write → List Write → Type 0
+LacksLeftOut known writes held = (dot : Dot) × IsLeftOut writes held dot × (HasCurrent known dot → ⊥)
+
+-- an event's message brings some writes of a key to a vnode: those that a send copied, or those of a part whose left out contents are all held there
+pub data IsBrought (world : Knowledge) (message vnode : ℕ) (key : Key) (writes : List Write) : Type 0 where
+  whole : left_by world message ≡ Copied key writes → IsBrought world message vnode key writes
+  part : (held : List Write) → left_by world message ≡ Parted key writes held → HoldsLeftOut (known_at world vnode key) writes held → IsBrought world message vnode key writes
+
 -- how many vnodes the clocks of two sets of writes count together
 abbrev pub CountTogether : List Write → List Write → ℕ → Type 0
 CountTogether mine theirs count = (own other : List Dot) × IsContext mine own × IsContext theirs other × (vnodes_together own other ≡ count)
@@ -120,6 +145,13 @@ pub record Carries (world : Knowledge) (vnode : ℕ) (key : Key) (message : Mess
   pub at_is : message.at ≡ accepted_at world vnode
   pub state_is : IsStateOf (known_at world vnode key) message.state
 
+-- what a part copies: the part of the key's state for one who held some writes, and the place of the entry that copied it
+pub record CarriesPart (world : Knowledge) (vnode : ℕ) (key : Key) (held : List Write) (message : PartMessage) : Type 0 where
+  pub key_is : message.key ≡ key
+  pub from_is : message.from ≡ id_of world vnode
+  pub at_is : message.at ≡ accepted_at world vnode
+  pub part_is : IsPartOf (known_at world vnode key) held message.part
+
 -- what a dump copies: the state of each of these keys, by an entry each, from the vnode's next one on
 pub record CarriesAll (world : Knowledge) (vnode : ℕ) (keys : List Key) (copies : Copies) : Type 0 where
   pub from_is : copies.from ≡ id_of world vnode
@@ -141,12 +173,14 @@ pub record IsNewId (world : Knowledge) (id : ℕ) : Type 0 where
   pub vnodes : (vnode : ℕ) → vnode < length world.ids → id_of world vnode ≢ id
   pub puts : (put : KeyedWrite) → Contains world.puts put → put.write.dot.vnode ≢ id
 
--- a get, a send or a restart at a vnode
+-- a get, a summary, a send or a restart at a vnode
 abbrev pub IsAt : Event → ℕ → Type 0
 IsAt (Get at key) vnode = at ≡ vnode
+IsAt (Summarize at key) vnode = at ≡ vnode
 IsAt (Send at key) vnode = at ≡ vnode
 IsAt (Restart at) vnode = at ≡ vnode
 IsAt (Put at key seen content) vnode = ⊥
+IsAt (SendPart at key summary) vnode = ⊥
 IsAt (Deliver message at) vnode = ⊥
 IsAt (Dump at) vnode = ⊥
 IsAt (Load dump at incarnation) vnode = ⊥
@@ -157,8 +191,10 @@ IsAt (ResolveWrite run at) vnode = ⊥
 abbrev pub MayHappen : Knowledge → Event → Type 0
 MayHappen world (Put vnode key seen content) = (clock : List Dot) × Means world seen clock × MayPut world vnode key clock
 MayHappen world (Get vnode key) = HasPlace world vnode
+MayHappen world (Summarize vnode key) = HasPlace world vnode
 MayHappen world (Send vnode key) = HasPlace world vnode
-MayHappen world (Deliver message vnode) = (key : Key) × (writes : List Write) × (left_by world message ≡ Copied key writes) × MayDeliver world vnode key writes
+MayHappen world (SendPart vnode key summary) = (other : Key) × (held : List Write) × (left_by world summary ≡ Copied other held) × HasPlace world vnode
+MayHappen world (Deliver message vnode) = (key : Key) × (writes : List Write) × IsBrought world message vnode key writes × MayDeliver world vnode key writes
 MayHappen world (Restart vnode) = HasPlace world vnode
 MayHappen world (Dump vnode) = (keys : List Key) × AreKnownKeys world vnode keys × HasPlaces world vnode (length keys)
 MayHappen world (Load dump vnode incarnation) = (copies : List Copy) × (left_by world dump ≡ CopiedAll copies)
@@ -183,18 +219,37 @@ pub data Happens (listed : List Entry) (old : Knowledge) (event : Event) (reply 
   found : (vnode : ℕ) (key : Key) (state : State) → event ≡ Get vnode key
       → IsStateOf (known_at old vnode key) state → HasPlace old vnode
       → reply ≡ Found state → new ≡ after_copy old vnode key → Happens listed old event reply new
+  -- a summary is a get that answers dots and clock alone
+  summarized : (vnode : ℕ) (key : Key) (state : State) → event ≡ Summarize vnode key
+      → IsStateOf (known_at old vnode key) state → HasPlace old vnode
+      → reply ≡ Summarized (summary_of state) → new ≡ after_copy old vnode key → Happens listed old event reply new
   sent : (vnode : ℕ) (key : Key) (message : Message) → event ≡ Send vnode key
       → Carries old vnode key message → HasPlace old vnode
       → reply ≡ Sent message → new ≡ after_copy old vnode key → Happens listed old event reply new
+  -- a part is a send that leaves out the contents of the dots that a summary told, whatever key that was of
+  part_sent : (vnode : ℕ) (key : Key) (summary : ℕ) (other : Key) (held : List Write) (message : PartMessage) → event ≡ SendPart vnode key summary
+      → left_by old summary ≡ Copied other held → CarriesPart old vnode key held message → HasPlace old vnode
+      → reply ≡ SentPart message → new ≡ after_part old vnode key held → Happens listed old event reply new
+  -- where no memory is found for the part alone, the whole state is sent
+  whole_sent : (vnode : ℕ) (key : Key) (summary : ℕ) (other : Key) (held : List Write) (message : Message) → event ≡ SendPart vnode key summary
+      → left_by old summary ≡ Copied other held → Carries old vnode key message → HasPlace old vnode
+      → reply ≡ Sent message → new ≡ after_copy old vnode key → Happens listed old event reply new
+  part_refused : (vnode : ℕ) (key : Key) (summary : ℕ) (other : Key) (held : List Write) → event ≡ SendPart vnode key summary
+      → left_by old summary ≡ Copied other held → IsFull old vnode
+      → reply ≡ Refused JournalFull → new ≡ after_refusal old JournalFull → Happens listed old event reply new
   -- a delivery unites what its vnode knows with the message's writes, and tells whether current writes or context became others
   delivered : (message vnode : ℕ) (key : Key) (writes : List Write) (changed : Bool) → event ≡ Deliver message vnode
-      → left_by old message ≡ Copied key writes
+      → IsBrought old message vnode key writes
       → MayDeliver old vnode key writes
       → MatchBool changed (LookAlike (known_at old vnode key) (known_at old vnode key ++ writes) → ⊥) (LookAlike (known_at old vnode key) (known_at old vnode key ++ writes))
       → reply ≡ Changed changed → new ≡ after_delivery old vnode key writes → Happens listed old event reply new
   delivery_refused : (message vnode : ℕ) (key : Key) (writes : List Write) (refusal : VnodeFault) → event ≡ Deliver message vnode
-      → left_by old message ≡ Copied key writes → RefusesDelivery old vnode key writes refusal
+      → IsBrought old message vnode key writes → RefusesDelivery old vnode key writes refusal
       → reply ≡ Refused refusal → new ≡ after_refusal old refusal → Happens listed old event reply new
+  -- a part of which a left out content lacks at its vnode isn't delivered, and nothing happened
+  missing : (message vnode : ℕ) (key : Key) (writes held : List Write) → event ≡ Deliver message vnode
+      → left_by old message ≡ Parted key writes held → LacksLeftOut (known_at old vnode key) writes held
+      → reply ≡ Missing → new ≡ after_nothing old → Happens listed old event reply new
   -- a restart changes nothing
   restarted : (vnode : ℕ) → event ≡ Restart vnode → HasPlace old vnode
       → reply ≡ Restarted → new ≡ after_restart old vnode → Happens listed old event reply new
@@ -210,7 +265,7 @@ pub data Happens (listed : List Entry) (old : Knowledge) (event : Event) (reply 
   loaded : (dump vnode incarnation : ℕ) (copies : List Copy) → event ≡ Load dump vnode incarnation
       → left_by old dump ≡ CopiedAll copies → IsNewId old (id_under incarnation vnode)
       → reply ≡ Loaded (length copies) → new ≡ after_load old vnode (id_under incarnation vnode) copies → Happens listed old event reply new
-  -- a full journal takes no get, send or restart
+  -- a full journal takes no get, summary, send or restart
   full : (vnode : ℕ) → IsAt event vnode → IsFull old vnode
       → reply ≡ Refused JournalFull → new ≡ after_refusal old JournalFull → Happens listed old event reply new
   -- a resolver decides on the current writes that a get answered, and changes nothing

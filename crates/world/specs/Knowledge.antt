@@ -1,5 +1,5 @@
 -- What the vnodes of a world know: sets of writes, by causal histories (Preguiça, Baquero, Almeida, Fonte, Gonçalves, 2010).
-use Rattle.std.specs.Prelude.{ℕ, zero, suc, ◌+◌, ◌*◌, ◌==◌, ◌&&◌, ◌↔◌, Bool, Option, List, [], ◌∷◌, ◌++◌, length, map, filter, count_by, replicate, slice_set, slice_index_or}
+use Rattle.std.specs.Prelude.{◌≡◌, ℕ, zero, suc, ◌+◌, ◌*◌, ◌==◌, ◌&&◌, ◌↔◌, Bool, Option, List, [], ◌∷◌, ◌++◌, length, map, filter, count_by, replicate, slice_set, slice_index_or}
 use Rattle.std.specs.List.{flat_map}
 use Rattle.dvv.specs.declared.Dot.{Dot}
 use Rattle.dvv.specs.Clock.{Covers, covers, IsClock}
@@ -7,6 +7,7 @@ use Rattle.object.specs.declared.content.Content.{Content}
 use Rattle.object.specs.declared.content.Key.{Key}
 use Rattle.object.specs.State.{State, AreInOrder}
 use Rattle.object.specs.Known.{Write, InContext, Shows}
+use Rattle.object.specs.Parts.{Partial, summary_of, part_of}
 use Rattle.journal.specs.Keys.{same_key}
 use Rattle.vnode.specs.declared.fault.VnodeFault.{VnodeFault}
 
@@ -20,11 +21,12 @@ pub record Copy : Type 0 where
   pub key : Key
   pub writes : List Write
 
--- what an event left for later ones that name it: nothing, the writes of a key that it copied, those of each key, the writes among which a resolver
--- chose and the content that is to be written, if any, or its refusal
+-- what an event left for later ones that name it: nothing, the writes of a key that it copied, those that it copied for a side that told what it held,
+-- those of each key, the writes among which a resolver chose and the content that is to be written, if any, or its refusal
 pub data Left : Type 0 where
   Nothing : Left
   Copied : (key : Key) (writes : List Write) → Left
+  Parted : (key : Key) (writes held : List Write) → Left
   CopiedAll : (copies : List Copy) → Left
   Chosen : (key : Key) (writes : List Write) (content : Option Content) → Left
   Failed : (refusal : VnodeFault) → Left
@@ -89,6 +91,11 @@ pub record IsStateOf (known : List Write) (state : State) : Type 0 where
   pub clock : IsClock state.clock
   pub shows : Shows known state
 
+-- the part of a state that shows some writes, for one who told the summary of a state that shows others: clock and dots, and the contents of those dots
+-- that the other state doesn't hold
+abbrev pub IsPartOf : List Write → List Write → Partial → Type 0
+IsPartOf writes held part = (state told : State) × IsStateOf writes state × IsStateOf held told × (part ≡ part_of state (summary_of told))
+
 -- these writes under their key
 abbrev pub under : Key → List Write → List KeyedWrite
 under key writes = map (λ w. record { key = key; write = w }) writes
@@ -125,7 +132,7 @@ after_put world vnode key write = record {
   left = world.left ++ Nothing ∷ [];
 }
 
--- a get or a send copies what its vnode knows of the key
+-- a get, a summary or a send copies what its vnode knows of the key
 abbrev pub after_copy : Knowledge → ℕ → Key → Knowledge
 after_copy world vnode key = record {
   ids = world.ids;
@@ -133,6 +140,16 @@ after_copy world vnode key = record {
   known = world.known;
   accepted = accepts world vnode;
   left = world.left ++ Copied key (known_at world vnode key) ∷ [];
+}
+
+-- so does a send that leaves out the contents of what others held
+abbrev pub after_part : Knowledge → ℕ → Key → List Write → Knowledge
+after_part world vnode key held = record {
+  ids = world.ids;
+  puts = world.puts;
+  known = world.known;
+  accepted = accepts world vnode;
+  left = world.left ++ Parted key (known_at world vnode key) held ∷ [];
 }
 
 -- a delivery unites: the vnode knows the message's writes too
@@ -202,7 +219,7 @@ after_load world vnode id copies = record {
   left = world.left ++ Nothing ∷ [];
 }
 
--- where nothing was chosen nothing is put
+-- where nothing was chosen nothing is put, and where a part lacks a content nothing is delivered
 abbrev pub after_nothing : Knowledge → Knowledge
 after_nothing world = record {
   ids = world.ids;

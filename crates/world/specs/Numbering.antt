@@ -4,7 +4,7 @@ use Rattle.dvv.specs.declared.Dot.{Dot}
 use Rattle.object.specs.declared.content.Key.{Key}
 use Rattle.object.specs.Known.{Write, Saw}
 use Rattle.world.specs.Causality.{EachAfter}
-use Rattle.world.specs.Knowledge.{Knowledge, KeyedWrite, Copy, Copied, CopiedAll, all_copied, id_of, is_of, left_by}
+use Rattle.world.specs.Knowledge.{Knowledge, KeyedWrite, Copy, Copied, Parted, CopiedAll, all_copied, id_of, is_of, left_by}
 
 -- a put has the next number of its vnode and key, and had seen only earlier ones of its key
 pub record IsNumbered (before : List KeyedWrite) (put : KeyedWrite) : Type 0 where
@@ -16,6 +16,7 @@ pub record IsLawful (world : Knowledge) : Type 0 where
   pub puts : EachAfter IsNumbered [] world.puts
   pub known : (vnode : ℕ) (s : KeyedWrite) → Contains (slice_index_or world.known vnode []) s → Contains world.puts s
   pub copied : (event : ℕ) (key : Key) (writes : List Write) → left_by world event ≡ Copied key writes → (w : Write) → Contains writes w → Contains world.puts (record { key = key; write = w })
+  pub parted : (event : ℕ) (key : Key) (writes held : List Write) → left_by world event ≡ Parted key writes held → (w : Write) → Contains writes w → Contains world.puts (record { key = key; write = w })
   pub copied_all : (event : ℕ) (copies : List Copy) → left_by world event ≡ CopiedAll copies → (s : KeyedWrite) → Contains (all_copied copies) s → Contains world.puts s
 
 -- each vnode knows what it has written

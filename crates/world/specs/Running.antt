@@ -11,20 +11,22 @@ use Rattle.object.specs.declared.content.Key.{Key}
 use Rattle.object.specs.declared.content.Sibling.{Sibling}
 use Rattle.object.specs.Known.{Write}
 use Rattle.object.specs.State.{State}
+use Rattle.object.specs.Parts.{Summarized as Summary, summary_of}
 use Rattle.journal.specs.Logs.{Log}
 use Rattle.journal.specs.Replay.{IsReplay}
 use Rattle.world.specs.declared.event.Event.{Event}
-use Rattle.world.specs.declared.event.Event.TheVariants.{Put, Get, Send, Deliver, Restart, Dump, Load, ResolveRead, ResolveWrite}
+use Rattle.world.specs.declared.event.Event.TheVariants.{Put, Get, Summarize, Send, SendPart, Deliver, Restart, Dump, Load, ResolveRead, ResolveWrite}
 use Rattle.world.specs.declared.event.Seen.{Seen}
 use Rattle.world.specs.declared.event.Seen.TheVariants.{Clock as Given, Get as ContextOf}
 use Rattle.world.specs.declared.event.Message.{Message}
+use Rattle.world.specs.declared.event.PartMessage.{PartMessage}
 use Rattle.vnode.specs.declared.fault.VnodeFault.{VnodeFault}
 use Rattle.hookrun.specs.declared.resolving.Resolution.{Resolution}
 use Rattle.world.specs.declared.event.Reply.{Reply}
-use Rattle.world.specs.declared.event.Reply.TheVariants.{Stored, Found, Sent, Changed, Restarted, Dumped, Loaded, Resolved, Nothing, Refused}
+use Rattle.world.specs.declared.event.Reply.TheVariants.{Stored, Found, Summarized, Sent, SentPart, Changed, Missing, Restarted, Dumped, Loaded, Resolved, Nothing, Refused}
 use Rattle.world.specs.Causality.{IsCausal}
 use Rattle.world.specs.Happening.{Run, IsNewId}
-use Rattle.world.specs.Knowledge.{Knowledge, Copy, Left, Copied, CopiedAll, Chosen, Failed, start, left_by, id_under, known_at, IsContext, IsStateOf}
+use Rattle.world.specs.Knowledge.{Knowledge, Copy, Left, Copied, Parted, CopiedAll, Chosen, Failed, start, left_by, id_under, known_at, IsContext, IsStateOf, IsPartOf}
 use Rattle.hookrun.specs.Resolving.{chosen_by}
 use Rattle.world.specs.Resolving.{MayRun}
 use Rattle.world.specs.Appending.{AreCopies}
@@ -44,9 +46,21 @@ max_vnodes = 65536
 abbrev pub IsGetAt : List Event → ℕ → Type 0
 IsGetAt events place = (vnode : ℕ) × (key : Key) × (slice_get events place ≡ Some (Get vnode key))
 
+-- the event at a place is a summary
+abbrev pub IsSummaryAt : List Event → ℕ → Type 0
+IsSummaryAt events place = (vnode : ℕ) × (key : Key) × (slice_get events place ≡ Some (Summarize vnode key))
+
 -- the event at a place is a send
 abbrev pub IsSendAt : List Event → ℕ → Type 0
 IsSendAt events place = (vnode : ℕ) × (key : Key) × (slice_get events place ≡ Some (Send vnode key))
+
+-- the event at a place is a send of a part
+abbrev pub IsPartAt : List Event → ℕ → Type 0
+IsPartAt events place = (vnode : ℕ) × (key : Key) × (summary : ℕ) × (slice_get events place ≡ Some (SendPart vnode key summary))
+
+-- the event at a place is a send, of all or of a part
+abbrev pub IsMessageAt : List Event → ℕ → Type 0
+IsMessageAt events place = IsSendAt events place ⊎ IsPartAt events place
 
 -- the event at a place is a resolver's run
 abbrev pub IsRunAt : List Event → ℕ → Type 0
@@ -65,13 +79,15 @@ abbrev pub IsEarlierContext : List Event → Seen → Type 0
 IsEarlierContext before (Given clock) = Unit {0}
 IsEarlierContext before (ContextOf get) = IsGetAt before get
 
--- an event may come after these: its vnode exists, what it names is an earlier get, send, dump or run, an incarnation was not in use at its index, and what
+-- an event may come after these: its vnode exists, what it names is an earlier get, summary, send, dump or run, an incarnation was not in use at its index, and what
 -- is to be run may run as a resolver
 abbrev pub MayComeFrom : List ℕ → ℕ → List Entry → List Event → Event → Type 0
 MayComeFrom used vnodes listed before (Put vnode key seen content) = (vnode < vnodes) × IsEarlierContext before seen
 MayComeFrom used vnodes listed before (Get vnode key) = vnode < vnodes
+MayComeFrom used vnodes listed before (Summarize vnode key) = vnode < vnodes
 MayComeFrom used vnodes listed before (Send vnode key) = vnode < vnodes
-MayComeFrom used vnodes listed before (Deliver message vnode) = (vnode < vnodes) × IsSendAt before message
+MayComeFrom used vnodes listed before (SendPart vnode key summary) = (vnode < vnodes) × IsSummaryAt before summary
+MayComeFrom used vnodes listed before (Deliver message vnode) = (vnode < vnodes) × IsMessageAt before message
 MayComeFrom used vnodes listed before (Restart vnode) = vnode < vnodes
 MayComeFrom used vnodes listed before (Dump vnode) = vnode < vnodes
 MayComeFrom used vnodes listed before (Load dump vnode incarnation) = (vnode < vnodes) × IsDumpAt before dump × (IsUsed used before vnode incarnation → ⊥)
@@ -93,13 +109,20 @@ AreRunnable vnodes listed events = AreRunnableFrom (0 ∷ []) vnodes listed even
 abbrev pub ShowCopies : List Copy → List Held → Type 0
 ShowCopies copies held = AllZip (λ copy one. (one.key ≡ copy.key) × IsStateOf copy.writes one.state) copies held
 
+-- a summary tells of a state that shows some writes
+abbrev pub IsSummaryOf : List Write → Summary → Type 0
+IsSummaryOf writes summary = (state : State) × IsStateOf writes state × (summary ≡ summary_of state)
+
 -- a reply holds what its event left
 abbrev pub Holds : Reply → Left → Type 0
 Holds (Found state) left = (key : Key) × (writes : List Write) × (left ≡ Copied key writes) × IsStateOf writes state
+Holds (Summarized summary) left = (key : Key) × (writes : List Write) × (left ≡ Copied key writes) × IsSummaryOf writes summary
 Holds (Sent message) left = (writes : List Write) × (left ≡ Copied message.key writes) × IsStateOf writes message.state
+Holds (SentPart message) left = (writes held : List Write) × (left ≡ Parted message.key writes held) × IsPartOf writes held message.part
 Holds (Refused refusal) left = left ≡ Failed refusal
 Holds (Stored dot) left = Unit {0}
 Holds (Changed changed) left = Unit {0}
+Holds Missing left = Unit {0}
 Holds Restarted left = Unit {0}
 Holds (Dumped copies) left = (all : List Copy) × (left ≡ CopiedAll all) × ShowCopies all copies.held.items
 Holds (Loaded count) left = Unit {0}
@@ -126,13 +149,32 @@ abbrev pub IsFoundOrRefused : Reply → Type 0
 IsFoundOrRefused (Found state) = Unit {0}
 IsFoundOrRefused (Refused refusal) = Unit {0}
 IsFoundOrRefused (Stored dot) = ⊥
+IsFoundOrRefused (Summarized summary) = ⊥
 IsFoundOrRefused (Sent message) = ⊥
+IsFoundOrRefused (SentPart message) = ⊥
 IsFoundOrRefused (Changed changed) = ⊥
+IsFoundOrRefused Missing = ⊥
 IsFoundOrRefused Restarted = ⊥
 IsFoundOrRefused (Dumped copies) = ⊥
 IsFoundOrRefused (Loaded count) = ⊥
 IsFoundOrRefused (Resolved resolution) = ⊥
 IsFoundOrRefused Nothing = ⊥
+
+-- the reply is a summary's, or a refusal
+abbrev pub IsSummarizedOrRefused : Reply → Type 0
+IsSummarizedOrRefused (Summarized summary) = Unit {0}
+IsSummarizedOrRefused (Refused refusal) = Unit {0}
+IsSummarizedOrRefused (Stored dot) = ⊥
+IsSummarizedOrRefused (Found state) = ⊥
+IsSummarizedOrRefused (Sent message) = ⊥
+IsSummarizedOrRefused (SentPart message) = ⊥
+IsSummarizedOrRefused (Changed changed) = ⊥
+IsSummarizedOrRefused Missing = ⊥
+IsSummarizedOrRefused Restarted = ⊥
+IsSummarizedOrRefused (Dumped copies) = ⊥
+IsSummarizedOrRefused (Loaded count) = ⊥
+IsSummarizedOrRefused (Resolved resolution) = ⊥
+IsSummarizedOrRefused Nothing = ⊥
 
 -- the reply is a send's, or a refusal
 abbrev pub IsSentOrRefused : Reply → Type 0
@@ -140,12 +182,31 @@ IsSentOrRefused (Sent message) = Unit {0}
 IsSentOrRefused (Refused refusal) = Unit {0}
 IsSentOrRefused (Stored dot) = ⊥
 IsSentOrRefused (Found state) = ⊥
+IsSentOrRefused (Summarized summary) = ⊥
+IsSentOrRefused (SentPart message) = ⊥
 IsSentOrRefused (Changed changed) = ⊥
+IsSentOrRefused Missing = ⊥
 IsSentOrRefused Restarted = ⊥
 IsSentOrRefused (Dumped copies) = ⊥
 IsSentOrRefused (Loaded count) = ⊥
 IsSentOrRefused (Resolved resolution) = ⊥
 IsSentOrRefused Nothing = ⊥
+
+-- the reply is a send's, of all or of a part, or a refusal
+abbrev pub IsMessageOrRefused : Reply → Type 0
+IsMessageOrRefused (Sent message) = Unit {0}
+IsMessageOrRefused (SentPart message) = Unit {0}
+IsMessageOrRefused (Refused refusal) = Unit {0}
+IsMessageOrRefused (Stored dot) = ⊥
+IsMessageOrRefused (Found state) = ⊥
+IsMessageOrRefused (Summarized summary) = ⊥
+IsMessageOrRefused (Changed changed) = ⊥
+IsMessageOrRefused Missing = ⊥
+IsMessageOrRefused Restarted = ⊥
+IsMessageOrRefused (Dumped copies) = ⊥
+IsMessageOrRefused (Loaded count) = ⊥
+IsMessageOrRefused (Resolved resolution) = ⊥
+IsMessageOrRefused Nothing = ⊥
 
 -- the reply is a run's, or a refusal
 abbrev pub IsResolvedOrRefused : Reply → Type 0
@@ -153,8 +214,11 @@ IsResolvedOrRefused (Resolved resolution) = Unit {0}
 IsResolvedOrRefused (Refused refusal) = Unit {0}
 IsResolvedOrRefused (Stored dot) = ⊥
 IsResolvedOrRefused (Found state) = ⊥
+IsResolvedOrRefused (Summarized summary) = ⊥
 IsResolvedOrRefused (Sent message) = ⊥
+IsResolvedOrRefused (SentPart message) = ⊥
 IsResolvedOrRefused (Changed changed) = ⊥
+IsResolvedOrRefused Missing = ⊥
 IsResolvedOrRefused Restarted = ⊥
 IsResolvedOrRefused (Dumped copies) = ⊥
 IsResolvedOrRefused (Loaded count) = ⊥
@@ -166,8 +230,11 @@ IsDumpedOrRefused (Dumped copies) = AreCopies copies
 IsDumpedOrRefused (Refused refusal) = Unit {0}
 IsDumpedOrRefused (Stored dot) = ⊥
 IsDumpedOrRefused (Found state) = ⊥
+IsDumpedOrRefused (Summarized summary) = ⊥
 IsDumpedOrRefused (Sent message) = ⊥
+IsDumpedOrRefused (SentPart message) = ⊥
 IsDumpedOrRefused (Changed changed) = ⊥
+IsDumpedOrRefused Missing = ⊥
 IsDumpedOrRefused Restarted = ⊥
 IsDumpedOrRefused (Loaded count) = ⊥
 IsDumpedOrRefused (Resolved resolution) = ⊥
@@ -176,7 +243,9 @@ IsDumpedOrRefused Nothing = ⊥
 -- an event may have this reply
 abbrev pub MayReply : Event → Reply → Type 0
 MayReply (Get vnode key) reply = IsFoundOrRefused reply
+MayReply (Summarize vnode key) reply = IsSummarizedOrRefused reply
 MayReply (Send vnode key) reply = IsSentOrRefused reply
+MayReply (SendPart vnode key summary) reply = IsMessageOrRefused reply
 MayReply (Put vnode key seen content) reply = Unit {0}
 MayReply (Deliver message vnode) reply = Unit {0}
 MayReply (Restart vnode) reply = Unit {0}
@@ -205,8 +274,10 @@ pub record IsReadyRun (events : List Event) (replies : List Reply) (run : ℕ) :
 abbrev pub IsReady : ℕ → List Entry → List Event → List Reply → Event → Type 0
 IsReady vnodes listed events replies (Put vnode key seen content) = (vnode < vnodes) × IsReadyContext replies seen
 IsReady vnodes listed events replies (Get vnode key) = vnode < vnodes
+IsReady vnodes listed events replies (Summarize vnode key) = vnode < vnodes
 IsReady vnodes listed events replies (Send vnode key) = vnode < vnodes
-IsReady vnodes listed events replies (Deliver message vnode) = (vnode < vnodes) × ReplyAt replies message IsSentOrRefused
+IsReady vnodes listed events replies (SendPart vnode key summary) = (vnode < vnodes) × ReplyAt replies summary IsSummarizedOrRefused
+IsReady vnodes listed events replies (Deliver message vnode) = (vnode < vnodes) × ReplyAt replies message IsMessageOrRefused
 IsReady vnodes listed events replies (Restart vnode) = vnode < vnodes
 IsReady vnodes listed events replies (Dump vnode) = vnode < vnodes
 IsReady vnodes listed events replies (Load dump vnode incarnation) = (vnode < vnodes) × (vnode < max_vnodes) × ReplyAt replies dump IsDumpedOrRefused
@@ -217,7 +288,9 @@ IsReady vnodes listed events replies (ResolveWrite run vnode) = (vnode < vnodes)
 abbrev pub IsNoLoad : Event → Type 0
 IsNoLoad (Put vnode key seen content) = Unit {0}
 IsNoLoad (Get vnode key) = Unit {0}
+IsNoLoad (Summarize vnode key) = Unit {0}
 IsNoLoad (Send vnode key) = Unit {0}
+IsNoLoad (SendPart vnode key summary) = Unit {0}
 IsNoLoad (Deliver message vnode) = Unit {0}
 IsNoLoad (Restart vnode) = Unit {0}
 IsNoLoad (Dump vnode) = Unit {0}
@@ -229,7 +302,9 @@ IsNoLoad (ResolveWrite run vnode) = Unit {0}
 abbrev pub IsNewFor : Knowledge → Event → Type 0
 IsNewFor world (Put vnode key seen content) = Unit {0}
 IsNewFor world (Get vnode key) = Unit {0}
+IsNewFor world (Summarize vnode key) = Unit {0}
 IsNewFor world (Send vnode key) = Unit {0}
+IsNewFor world (SendPart vnode key summary) = Unit {0}
 IsNewFor world (Deliver message vnode) = Unit {0}
 IsNewFor world (Restart vnode) = Unit {0}
 IsNewFor world (Dump vnode) = Unit {0}
@@ -240,6 +315,10 @@ IsNewFor world (ResolveWrite run vnode) = Unit {0}
 -- a send copied a message's writes
 abbrev pub IsMessageOf : Knowledge → ℕ → Message → Type 0
 IsMessageOf world place message = (writes : List Write) × (left_by world place ≡ Copied message.key writes) × IsStateOf writes message.state
+
+-- a part was sent of a message's writes
+abbrev pub IsPartMessageOf : Knowledge → ℕ → PartMessage → Type 0
+IsPartMessageOf world place message = (writes held : List Write) × (left_by world place ≡ Parted message.key writes held) × IsPartOf writes held message.part
 
 -- a context that is named was refused
 abbrev pub IsRefusedContext : Knowledge → Seen → VnodeFault → Type 0
@@ -255,8 +334,11 @@ abbrev pub is_loaded : Reply → Bool
 is_loaded (Loaded count) = true
 is_loaded (Stored dot) = false
 is_loaded (Found state) = false
+is_loaded (Summarized summary) = false
 is_loaded (Sent message) = false
+is_loaded (SentPart message) = false
 is_loaded (Changed changed) = false
+is_loaded Missing = false
 is_loaded Restarted = false
 is_loaded (Dumped copies) = false
 is_loaded (Resolved resolution) = false

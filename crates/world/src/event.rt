@@ -3,7 +3,7 @@
 use crate::hook::Hook;
 use dvv::{Clock, Dot};
 use hookrun::Resolution;
-use object::{Content, Key, KeyState};
+use object::{Content, Key, KeyState, Part, Summary};
 use vnode::{Copied, VnodeFault};
 
 /// What a put had seen.
@@ -30,12 +30,24 @@ pub enum Event {
         vnode: usize,
         key: Key,
     },
+    /// A read of the dots and the clock that a vnode holds under a key, for parts.
+    Summarize {
+        vnode: usize,
+        key: Key,
+    },
     /// A copy of a key's state, as a message to any vnode.
     Send {
         vnode: usize,
         key: Key,
     },
-    /// An earlier message reaches a vnode. It may reach any vnode, at any time, any number of times, or none.
+    /// A copy of a key's state without the contents of those dots that an earlier summary told, whatever vnode and key that was of, as a
+    /// message to any vnode.
+    SendPart {
+        vnode: usize,
+        key: Key,
+        summary: usize,
+    },
+    /// An earlier message, of all or of a part, reaches a vnode. It may reach any vnode, at any time, any number of times, or none.
     Deliver {
         message: usize,
         vnode: usize,
@@ -78,6 +90,17 @@ pub struct Message {
     pub state: KeyState,
 }
 
+/// A part of the state of a key as an entry of a vnode's journal copied it.
+#[derive(Drop)]
+pub struct PartMessage {
+    pub key: Key,
+    /// The vnode's identifier.
+    pub from: u32,
+    /// The place of the entry in its journal.
+    pub at: u32,
+    pub part: Part,
+}
+
 /// Copies of the states of a vnode's keys, in the order of the keys' bytes, each by an entry of its journal.
 #[derive(Drop)]
 pub struct Copies {
@@ -95,10 +118,16 @@ pub enum Reply {
     Stored(Dot),
     /// What a get answers: siblings, and the clock that stands for their context.
     Found(KeyState),
-    /// What a send copied.
+    /// What a summary tells: dots, and the clock that stands for their context.
+    Summarized(Summary),
+    /// What a send copied. It is also what a part's send replies that finds no memory for the part alone: the whole state is sent.
     Sent(Message),
+    /// What a part's send copied.
+    SentPart(PartMessage),
     /// Whether a delivery changed siblings or clock.
     Changed(bool),
+    /// A content that was left out of a delivered part isn't held at its vnode (M2), and nothing happened.
+    Missing,
     /// A vnode has started again.
     Restarted,
     /// What a dump copied, in the order of the keys' bytes.

@@ -1,12 +1,13 @@
 //! Laws of the definitions.
 
-ghost use Rattle.std.specs.Prelude.{◌≡◌, ℕ, ◌<◌, ◌≤◌, ◌↔◌, ◌++◌, ◌∷◌, [], List, length, map};
+ghost use Rattle.std.specs.Prelude.{◌≡◌, ℕ, ◌<◌, ◌≤◌, ◌↔◌, ◌++◌, ◌∷◌, [], false, IsTrue, List, length, map};
 ghost use Rattle.dvv.specs.declared.Dot.{Dot};
 ghost use Rattle.helpers.specs.declared.sig.Entry.{Entry as Helper};
 ghost use Rattle.object.specs.declared.content.Content.{Content};
 ghost use Rattle.object.specs.declared.content.Key.{Key};
 ghost use Rattle.object.specs.declared.content.Sibling.{Sibling};
 ghost use Rattle.object.specs.Known.{Write};
+ghost use Rattle.object.specs.Parts.{Partial, lacks_some, whole_of};
 ghost use Rattle.object.specs.State.{State};
 ghost use Rattle.journal.specs.Entry.{Entry, Put, Merge, Read, Restart};
 ghost use Rattle.journal.specs.Journals.{MayFollow};
@@ -16,8 +17,8 @@ ghost use Rattle.journal.specs.Replay.{IsReplay, LeaveAlike};
 ghost use Rattle.world.specs.declared.event.Event.{Event};
 ghost use Rattle.world.specs.declared.event.Reply.{Reply};
 ghost use Rattle.world.specs.Causality.{IsCausal};
-ghost use Rattle.world.specs.Happening.{Run, MayPut, HasPlace, MayDeliver, LookAlike};
-ghost use Rattle.world.specs.Knowledge.{Knowledge, opened, known_at, id_of, next_dot, write_of, after_put, after_copy, after_delivery, after_restart, IsStateOf};
+ghost use Rattle.world.specs.Happening.{Run, MayPut, HasPlace, MayDeliver, LookAlike, LacksLeftOut};
+ghost use Rattle.world.specs.Knowledge.{Knowledge, opened, known_at, id_of, next_dot, write_of, after_put, after_copy, after_delivery, after_restart, IsStateOf, IsPartOf};
 ghost use Rattle.world.specs.Numbering.{IsLawful, WerePut};
 ghost use Rattle.world.specs.Represents.{ShowsAt, Represents, AreDistinct, log_at, with_entry_at, empty_logs};
 
@@ -56,6 +57,15 @@ pub fn merges_are_of_world()
         → MayDeliver world vnode key writes
         × Represents (with_entry_at logs vnode (Merge stamp key from at state)) (after_delivery world vnode key writes)
         × (LeaveAlike (log_at logs vnode).entries ((log_at logs vnode).entries ++ Merge stamp key from at state ∷ []) key ↔ LookAlike (known_at world vnode key) (known_at world vnode key ++ writes)) }
+{}
+
+/// Beside what a vnode has of a key, a part of the state of a world's writes stands for that state, unless it lacks a content there; and it does so
+/// exactly where a dot whose content was left out is that of no current write there.
+pub fn parts_are_of_world()
+    ensures whole { (logs : List Log) (world : Knowledge) (vnode : ℕ) (key : Key) (own : State) (writes held : List Write) (part : Partial) → Represents logs world → vnode < length logs → IsReplay (log_at logs vnode).entries key own → WerePut world key writes → IsPartOf writes held part
+        → lacks_some own part ≡ false → IsStateOf writes (whole_of part own) }
+    ensures lacks { (logs : List Log) (world : Knowledge) (vnode : ℕ) (key : Key) (own : State) (writes held : List Write) (part : Partial) → Represents logs world → vnode < length logs → IsReplay (log_at logs vnode).entries key own → IsPartOf writes held part
+        → IsTrue (lacks_some own part) ↔ LacksLeftOut (known_at world vnode key) writes held }
 {}
 
 /// An entry of a restart is a restart.

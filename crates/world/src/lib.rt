@@ -8,8 +8,9 @@ pub mod laws;
 mod world;
 
 pub use beginning::BeginFault;
-pub use event::{Copies, Event, Message, Reply, Seen};
+pub use event::{Copies, Event, Message, PartMessage, Reply, Seen};
 pub use hook::Hook;
 pub use hookrun::Resolution;
+pub use object::{Part, Summary};
 pub use vnode::Copied;
 pub use world::{MAX_VNODES, World};

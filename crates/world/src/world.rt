@@ -9,36 +9,38 @@ ghost use Rattle.object.specs.declared.content.Key.{Key as StoredKey};
 ghost use Rattle.journal.specs.Entry.{Put, Merge, Read, Restart};
 ghost use Rattle.world.specs.declared.event.Event.TheVariants as event;
 ghost use Rattle.journal.specs.Logs.{Log, with_entry, max_entries};
-ghost use Rattle.journal.specs.Replay.{IsReplay};
+ghost use Rattle.journal.specs.Replay.{IsReplay, Leaves};
 ghost use Rattle.journal.specs.Answers.{TellsChange};
 ghost use Rattle.journal.specs.Journals.{IsJournal};
 ghost use Rattle.world.specs.Knowledge.{Knowledge, left_by, Failed, id_under, ids_under};
 ghost use Rattle.world.specs.Happening.{Happens, Means, IsNewId};
 ghost use Rattle.world.specs.Represents.{Represents, log_at, with_entry_at, empty_logs};
 ghost use Rattle.vnode.specs.Refusals.{RefusesPut, RefusesMerge, RefusesEntry};
-ghost use Rattle.world.specs.Appending.{Appends, AreCopies, CopiesAll, LoadsAll, merges_of_copies};
+ghost use Rattle.world.specs.Appending.{Appends, IsCopyOf, without, MergesPart, AreCopies, CopiesAll, LoadsAll, merges_of_copies};
 ghost use Rattle.vnode.specs.Keys.{AreKeys};
 ghost use Rattle.vnode.specs.States.{keys_of};
 ghost use Rattle.journal.specs.Keys.{key_cmp};
 ghost use Rattle.std.specs.List.Sorted.{IsStrictlySortedBy};
-ghost use Rattle.object.specs.State.{empty};
+ghost use Rattle.object.specs.State.{State, empty};
+ghost use Rattle.object.specs.Parts.{summary_of};
+ghost use Rattle.vnode.specs.Parts.{RefusesPart};
 ghost use Rattle.journal.specs.Limits.{TakesEntry};
 ghost use Rattle.world.specs.Stamped.{AreStamped};
-ghost use Rattle.world.specs.Running.{IsMessageOf, Remember, IsReady, IsReadyContext, ReplyAt, IsSentOrRefused, IsRefusedContext, AreRunnable, AreRunnableFrom, MayReply, Recall, IsReadyRun, IsGetAt, IsRunAt, IsChoiceOf, IsFoundOrRefused, IsResolvedOrRefused, IsDumpedOrRefused, IsNoLoad, IsNewFor, Begins, IsWorldFrom, max_vnodes};
+ghost use Rattle.world.specs.Running.{IsMessageOf, IsPartMessageOf, Remember, IsReady, IsReadyContext, ReplyAt, IsSummarizedOrRefused, IsSentOrRefused, IsMessageOrRefused, IsRefusedContext, AreRunnable, AreRunnableFrom, MayReply, Recall, IsReadyRun, IsGetAt, IsRunAt, IsChoiceOf, IsFoundOrRefused, IsResolvedOrRefused, IsDumpedOrRefused, IsNoLoad, IsNewFor, Begins, IsWorldFrom, max_vnodes};
 ghost use Rattle.world.specs.Resolving.{MayRun};
 ghost use Rattle.world.specs.Beginning.{BeginsWith, RefusesRecords, merges_of};
 
 use crate::beginning::{BeginFault, merge_all};
-use crate::event::{Copies, Event, Message, Reply, Seen};
+use crate::event::{Copies, Event, Message, PartMessage, Reply, Seen};
 use crate::hook::Hook;
 use dvv::{Clock, Dot};
 use helpers::Table;
 use hookrun::{Resolution, Room, Unresolved, resolve};
-use object::{Content, Key, KeyState};
+use object::{Content, Key, KeyState, Summary};
 use std::alloc::{AllocError, Global};
 use std::marker::Model;
 use std::mem;
-use vnode::{Copied, Vnode, VnodeFault};
+use vnode::{Copied, PartFault, Vnode, VnodeFault};
 use wire::Record;
 
 /// A world after a run: its vnodes, each seen as its journal, and what each event replied.
@@ -70,8 +72,8 @@ impl World {
     /// stamp of an entry is the number of entries that all journals had before it: stamps rise in each journal, and no two
     /// journals share one. An event that is refused makes no entry, and draws no stamp.
     ///
-    /// Each event's vnode exists, and what it names is an earlier get (of a context or an answer), send (of a message), dump (of
-    /// copies) or resolver's run (of a choice). A load's incarnation was not in use at its index, where 0 is from the start. What
+    /// Each event's vnode exists, and what it names is an earlier get (of a context or an answer), summary (of dots), send (of a
+    /// message, whole or in part), dump (of copies) or resolver's run (of a choice). A load's incarnation was not in use at its index, where 0 is from the start. What
     /// runs as a resolver is a resolver's program, and the table has the helpers that it was verified with. The only error is want
     /// of memory for the vnodes and the list of replies; within an event it is that event's reply.
     pub fn run(
@@ -216,14 +218,14 @@ fn context<'a>(replies: &'a [Reply], seen: &'a Seen) -> Result<&'a Clock, VnodeF
     }
 }
 
-// An earlier message, or why its send was refused.
-fn message_of(replies: &[Reply], message: usize) -> Result<&Message, VnodeFault>
-    requires sent { ReplyAt replies.now message IsSentOrRefused }
-    ensures copied { IfOk result (λ found. (old : Knowledge) → Remember replies.now old → IsMessageOf old message found.now) }
-    ensures refused { IfErr result (λ refusal. (old : Knowledge) → Remember replies.now old → left_by old message ≡ Failed refusal) }
+// What an earlier summary told, or why it was refused.
+fn told_by(replies: &[Reply], summary: usize) -> Result<&Summary, VnodeFault>
+    requires replied { ReplyAt replies.now summary IsSummarizedOrRefused }
+    ensures told { IfOk result (λ told. slice_get replies.now summary ≡ Some (Reply.Summarized told.now)) }
+    ensures refused { IfErr result (λ refusal. slice_get replies.now summary ≡ Some (Reply.Refused refusal)) }
 {
-    match &replies[message] {
-        Reply::Sent(message) => Ok(message),
+    match &replies[summary] {
+        Reply::Summarized(summary) => Ok(summary),
         Reply::Refused(refusal) => Err(*refusal),
         _ => unreachable!(),
     }
@@ -288,6 +290,31 @@ fn merge_at(
     }
 }
 
+// Merges a part at a vnode.
+fn merge_part_at(
+    vnodes: &mut [Vnode],
+    made: &mut u64,
+    at: usize,
+    message: &PartMessage,
+) -> Result<bool, PartFault>
+    requires inside { at < length vnodes.old }
+    requires room { made.old + 1 < 2 ^ 64 }
+    ensures merged { IfOk result (λ changed. (own : State) × MergesPart vnodes.old vnodes.new at made.old message.now changed own) }
+    ensures refused { IfErr result (RefusesPart (log_at vnodes.old at) message.now.key message.now.part) }
+    ensures err { OnErr result (vnodes.new ≡ vnodes.old) }
+    ensures stamps { AreStamped vnodes.old made.old → AreStamped vnodes.new made.new }
+    ensures few { made.new ≤ made.old + 1 }
+{
+    let vnode = &mut vnodes[at];
+    match vnode.merge_part(*made, &message.key, message.from, message.at, &message.part) {
+        Ok((changed, _)) => {
+            *made += 1;
+            Ok(changed)
+        }
+        Err(fault) => Err(fault),
+    }
+}
+
 // Reads a key at a vnode. The place of the entry is that of the answer.
 fn read_at(
     vnodes: &mut [Vnode],
@@ -310,6 +337,32 @@ fn read_at(
         Ok(found) => {
             *made += 1;
             Ok(found)
+        }
+        Err(fault) => Err(fault),
+    }
+}
+
+// Reads the summary of a key at a vnode.
+fn summary_at(
+    vnodes: &mut [Vnode],
+    made: &mut u64,
+    at: usize,
+    key: &Key,
+) -> Result<Summary, VnodeFault>
+    requires inside { at < length vnodes.old }
+    requires room { made.old + 1 < 2 ^ 64 }
+    ensures read { OnOk result (Appends vnodes.old vnodes.new at (Read made.old key.now)) }
+    ensures summary { IfOk result (λ summary. Leaves (log_at vnodes.old at).entries key.now (λ state. summary ≡ summary_of state)) }
+    ensures refused { IfErr result (RefusesEntry (log_at vnodes.old at)) }
+    ensures err { OnErr result (vnodes.new ≡ vnodes.old) }
+    ensures stamps { AreStamped vnodes.old made.old → AreStamped vnodes.new made.new }
+    ensures few { made.new ≤ made.old + 1 }
+{
+    let vnode = &mut vnodes[at];
+    match vnode.summary(*made, key) {
+        Ok((summary, _)) => {
+            *made += 1;
+            Ok(summary)
         }
         Err(fault) => Err(fault),
     }
@@ -377,6 +430,52 @@ fn get(vnodes: &mut [Vnode], made: &mut u64, vnode: usize, key: &Key) -> Reply
     }
 }
 
+// A summary, and its reply.
+fn summarize(vnodes: &mut [Vnode], made: &mut u64, vnode: usize, key: &Key) -> Reply
+    requires inside { vnode < length vnodes.old }
+    requires room { made.old + 1 < 2 ^ 64 }
+    ensures step { (listed : List Helper) (old : Knowledge) → Represents vnodes.old old → (new : Knowledge) × Happens listed old (event.Summarize vnode key.now) result new × Represents vnodes.new new }
+    ensures kind { IsSummarizedOrRefused result }
+    ensures stamps { AreStamped vnodes.old made.old → AreStamped vnodes.new made.new }
+    ensures few { made.new ≤ made.old + 1 }
+{
+    match summary_at(vnodes, made, vnode, key) {
+        Ok(summary) => Reply::Summarized(summary),
+        Err(refusal) => Reply::Refused(refusal),
+    }
+}
+
+// Reads a key at a vnode, as a message.
+fn message_at(
+    vnodes: &mut [Vnode],
+    made: &mut u64,
+    at: usize,
+    key: &Key,
+) -> Result<Message, VnodeFault>
+    requires inside { at < length vnodes.old }
+    requires room { made.old + 1 < 2 ^ 64 }
+    ensures read { OnOk result (Appends vnodes.old vnodes.new at (Read made.old key.now)) }
+    ensures copy { IfOk result (λ message. IsCopyOf (log_at vnodes.old at) key.now message) }
+    ensures refused { IfErr result (RefusesEntry (log_at vnodes.old at)) }
+    ensures err { OnErr result (vnodes.new ≡ vnodes.old) }
+    ensures stamps { AreStamped vnodes.old made.old → AreStamped vnodes.new made.new }
+    ensures few { made.new ≤ made.old + 1 }
+{
+    let Ok(copy) = key.copy() else {
+        return Err(want_of_memory(&vnodes[at]));
+    };
+    let from = vnodes[at].id();
+    match read_at(vnodes, made, at, key) {
+        Ok((state, place)) => Ok(Message {
+            key: copy,
+            from,
+            at: place,
+            state,
+        }),
+        Err(refusal) => Err(refusal),
+    }
+}
+
 // A send, and its reply.
 fn send(vnodes: &mut [Vnode], made: &mut u64, vnode: usize, key: &Key) -> Reply
     requires inside { vnode < length vnodes.old }
@@ -386,17 +485,51 @@ fn send(vnodes: &mut [Vnode], made: &mut u64, vnode: usize, key: &Key) -> Reply
     ensures stamps { AreStamped vnodes.old made.old → AreStamped vnodes.new made.new }
     ensures few { made.new ≤ made.old + 1 }
 {
-    let Ok(copy) = key.copy() else {
-        return Reply::Refused(want_of_memory(&vnodes[vnode]));
-    };
-    let from = vnodes[vnode].journal().vnode();
-    match read_at(vnodes, made, vnode, key) {
-        Ok((state, at)) => Reply::Sent(Message {
-            key: copy,
-            from,
-            at,
-            state,
+    match message_at(vnodes, made, vnode, key) {
+        Ok(message) => Reply::Sent(message),
+        Err(refusal) => Reply::Refused(refusal),
+    }
+}
+
+// A message without the contents of the dots that a summary holds; the whole message where there is no memory for that.
+fn sent_without(alloc: Global, message: Message, summary: &Summary) -> Reply
+    ensures { (result ≡ Reply.SentPart (without message summary.now)) ⊎ (result ≡ Reply.Sent message) }
+{
+    match message.state.part(alloc, summary) {
+        Ok(part) => Reply::SentPart(PartMessage {
+            key: message.key,
+            from: message.from,
+            at: message.at,
+            part,
         }),
+        Err(_) => Reply::Sent(message),
+    }
+}
+
+// A send of a part, and its reply.
+fn send_part(
+    alloc: Global,
+    vnodes: &mut [Vnode],
+    made: &mut u64,
+    replies: &[Reply],
+    vnode: usize,
+    key: &Key,
+    summary: usize,
+) -> Reply
+    requires inside { vnode < length vnodes.old }
+    requires room { made.old + 1 < 2 ^ 64 }
+    requires told { ReplyAt replies.now summary IsSummarizedOrRefused }
+    ensures step { (listed : List Helper) (old : Knowledge) → Represents vnodes.old old → Remember replies.now old → (new : Knowledge) × Happens listed old (event.SendPart vnode key.now summary) result new × Represents vnodes.new new }
+    ensures kind { IsMessageOrRefused result }
+    ensures stamps { AreStamped vnodes.old made.old → AreStamped vnodes.new made.new }
+    ensures few { made.new ≤ made.old + 1 }
+{
+    let told = match told_by(replies, summary) {
+        Ok(told) => told,
+        Err(refusal) => return Reply::Refused(refusal),
+    };
+    match message_at(vnodes, made, vnode, key) {
+        Ok(message) => sent_without(alloc, message, told),
         Err(refusal) => Reply::Refused(refusal),
     }
 }
@@ -422,18 +555,45 @@ fn deliver(
 ) -> Reply
     requires inside { vnode < length vnodes.old }
     requires room { made.old + 1 < 2 ^ 64 }
-    requires sent { ReplyAt replies.now message IsSentOrRefused }
+    requires sent { ReplyAt replies.now message IsMessageOrRefused }
     ensures step { (listed : List Helper) (old : Knowledge) → Represents vnodes.old old → Remember replies.now old → (new : Knowledge) × Happens listed old (event.Deliver message vnode) result new × Represents vnodes.new new }
     ensures stamps { AreStamped vnodes.old made.old → AreStamped vnodes.new made.new }
     ensures few { made.new ≤ made.old + 1 }
 {
-    let sent = match message_of(replies, message) {
-        Ok(sent) => sent,
-        Err(refusal) => return Reply::Refused(refusal),
-    };
+    match &replies[message] {
+        Reply::Sent(sent) => deliver_whole(vnodes, made, vnode, sent),
+        Reply::SentPart(sent) => deliver_part(vnodes, made, vnode, sent),
+        Reply::Refused(refusal) => Reply::Refused(*refusal),
+        _ => unreachable!(),
+    }
+}
+
+// A delivery of a message, and its reply.
+fn deliver_whole(vnodes: &mut [Vnode], made: &mut u64, vnode: usize, sent: &Message) -> Reply
+    requires inside { vnode < length vnodes.old }
+    requires room { made.old + 1 < 2 ^ 64 }
+    ensures step { (listed : List Helper) (old : Knowledge) (place : ℕ) → Represents vnodes.old old → IsMessageOf old place sent.now → (new : Knowledge) × Happens listed old (event.Deliver place vnode) result new × Represents vnodes.new new }
+    ensures stamps { AreStamped vnodes.old made.old → AreStamped vnodes.new made.new }
+    ensures few { made.new ≤ made.old + 1 }
+{
     match merge_at(vnodes, made, vnode, sent) {
         Ok(changed) => Reply::Changed(changed),
         Err(refusal) => Reply::Refused(refusal),
+    }
+}
+
+// A delivery of a part, and its reply.
+fn deliver_part(vnodes: &mut [Vnode], made: &mut u64, vnode: usize, sent: &PartMessage) -> Reply
+    requires inside { vnode < length vnodes.old }
+    requires room { made.old + 1 < 2 ^ 64 }
+    ensures step { (listed : List Helper) (old : Knowledge) (place : ℕ) → Represents vnodes.old old → IsPartMessageOf old place sent.now → (new : Knowledge) × Happens listed old (event.Deliver place vnode) result new × Represents vnodes.new new }
+    ensures stamps { AreStamped vnodes.old made.old → AreStamped vnodes.new made.new }
+    ensures few { made.new ≤ made.old + 1 }
+{
+    match merge_part_at(vnodes, made, vnode, sent) {
+        Ok(changed) => Reply::Changed(changed),
+        Err(PartFault::Missing) => Reply::Missing,
+        Err(PartFault::Refused(refusal)) => Reply::Refused(refusal),
     }
 }
 
@@ -817,7 +977,13 @@ fn happen_at(
             content,
         } => put(vnodes, made, replies, *vnode, key, seen, content),
         Event::Get { vnode, key } => get(vnodes, made, *vnode, key),
+        Event::Summarize { vnode, key } => summarize(vnodes, made, *vnode, key),
         Event::Send { vnode, key } => send(vnodes, made, *vnode, key),
+        Event::SendPart {
+            vnode,
+            key,
+            summary,
+        } => send_part(alloc, vnodes, made, replies, *vnode, key, *summary),
         Event::Deliver { message, vnode } => deliver(vnodes, made, replies, *message, *vnode),
         Event::Restart { vnode } => restart(vnodes, made, *vnode),
         Event::Dump { vnode } => dump(vnodes, made, *vnode),

@@ -1,7 +1,6 @@
 //! Scripts that end in a dump into a file, and scripts that begin with what was dumped.
-use super::{Shelf, Want, expect, is_told};
+use super::{Shelf, Want, ends_so, expect};
 use commands::files::{Files, Part};
-use commands::own::command_with_helpers;
 use commands::server::Offline;
 use sha1::Sha1;
 use std::alloc::{AllocError, Global};
@@ -56,10 +55,8 @@ fn done(
         old,
         new: None,
     };
-    let mut out = Vec::new(alloc);
-    let mut err = Vec::new(alloc);
-    let done = command_with_helpers(alloc, words, &mut desk, &mut Offline, &mut out, &mut err);
-    (is_told(&out, &err, done, want), desk.new)
+    let is_told = ends_so(alloc, words, &mut desk, &mut Offline, want);
+    (is_told, desk.new)
 }
 
 /// Two siblings of a key at vnode 0, copied by the entry 3 of its journal.

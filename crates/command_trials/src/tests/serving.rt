@@ -132,7 +132,7 @@ const FOUND: &[(FollowCode, u32, usize, &str)] = &[
 ];
 
 /// Whether that is printed, with this status, where that is said of the journals.
-fn ends_so(alloc: Global, says: Followed, out: &str, status: u8) -> bool {
+fn ends_with(alloc: Global, says: Followed, out: &str, status: u8) -> bool {
     let words = ["serve", "here", "4", "3"];
     let mut server = Deserted { says, asked: None };
     let want = Want {
@@ -163,7 +163,7 @@ const SAID: &[(Followed, &str, u8)] = &[
 #[test]
 fn the_end_is_told(rt: HostRuntime) {
     for (says, told, status) in SAID {
-        expect(&rt, ends_so(rt.alloc(), *says, told, *status), told);
+        expect(&rt, ends_with(rt.alloc(), *says, told, *status), told);
     }
 }
 
@@ -171,6 +171,6 @@ fn the_end_is_told(rt: HostRuntime) {
 fn what_was_found_is_told(rt: HostRuntime) {
     for &(code, vnode, place, told) in FOUND {
         let found = WatchFault::Found(FollowFault::Found { code, vnode, place });
-        expect(&rt, ends_so(rt.alloc(), Err(found), told, 1), &told);
+        expect(&rt, ends_with(rt.alloc(), Err(found), told, 1), &told);
     }
 }

@@ -69,7 +69,8 @@ fn is_refused_as(alloc: Global, version: u8, len: usize, out: &str) -> Result<bo
 fn long_images(rt: HostRuntime) -> Result<(), Fail> {
     for (len, want) in LONG_IMAGES {
         let told = is_refused_as(rt.alloc(), 1, *len, want)?
-            && is_refused_as(rt.alloc(), 2, *len, "refused I3\n")?;
+            && is_refused_as(rt.alloc(), 2, *len, want)?
+            && is_refused_as(rt.alloc(), 3, *len, "refused I3\n")?;
         expect(&rt, told, len);
     }
     Ok(())

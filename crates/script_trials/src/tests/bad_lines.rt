@@ -146,6 +146,37 @@ const REASONS: &[(&str, &str)] = &[
     ("load 0 1 d\n", "no dump named d\n"),
     ("load 0 1 g\n", "no dump named g\n"),
     ("load 0 1 m\n", "no dump named m\n"),
+    ("sum 0 k\n", "too many or too few words\n"),
+    ("sum 0 k s s\n", "too many or too few words\n"),
+    ("sum 00 k s\n", "a number that is no decimal\n"),
+    (
+        "sum 0 k- s\n",
+        "a word that is not 1 to 64 letters and digits\n",
+    ),
+    (
+        "sum 0 k s-\n",
+        "a word that is not 1 to 64 letters and digits\n",
+    ),
+    ("sum 1 k s\n", "no vnode 1\n"),
+    ("part 0 k s\n", "too many or too few words\n"),
+    ("part 0 k s p p\n", "too many or too few words\n"),
+    ("part 00 k s p\n", "a number that is no decimal\n"),
+    (
+        "part 0 k- s p\n",
+        "a word that is not 1 to 64 letters and digits\n",
+    ),
+    (
+        "part 0 k s- p\n",
+        "a word that is not 1 to 64 letters and digits\n",
+    ),
+    (
+        "part 0 k s p-\n",
+        "a word that is not 1 to 64 letters and digits\n",
+    ),
+    ("part 1 k s p\n", "no vnode 1\n"),
+    ("part 0 k s p\n", "no sum named s\n"),
+    ("part 0 k g p\n", "no sum named g\n"),
+    ("part 0 k m p\n", "no sum named m\n"),
 ];
 
 /// A line behind a get and a send.
@@ -165,6 +196,31 @@ const WHOLE: &[(&[u8], &str, &str)] = &[
         "a file name that is no text\n",
     ),
     (b"dump 0 d\n", "bad line 1\n", "no vnode 0\n"),
+    (
+        b"vnodes 1\nsum 0 k s\nput 0 k a @s\n",
+        "ok\nbad line 3\n",
+        "no get named s\n",
+    ),
+    (
+        b"vnodes 1\nsum 0 k s\ndeliver s 0\n",
+        "ok\nbad line 3\n",
+        "no send named s\n",
+    ),
+    (
+        b"vnodes 1\nsum 0 k s\nload 0 1 s\n",
+        "ok\nbad line 3\n",
+        "no dump named s\n",
+    ),
+    (
+        b"vnodes 1\nsum 0 k s\npart 0 k s s\npart 0 k s p\n",
+        "ok\nsent 0 of 0\nbad line 4\n",
+        "no sum named s\n",
+    ),
+    (
+        b"vnodes 1\nsum 0 k s\npart 0 k s p\ndeliver p 1\n",
+        "ok\nsent 0 of 0\nbad line 4\n",
+        "no vnode 1\n",
+    ),
     (
         b"vnodes 1\ndump 0 d\nload 1 1 d\n",
         "dumped 0\nbad line 3\n",

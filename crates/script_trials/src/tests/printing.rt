@@ -128,6 +128,31 @@ const SCRIPTS: &[(&str, &str, &str)] = &[
         "vnodes 1\ndump 0 d\nput 0 k a -\ndump 0 d\nget 0 k d\ndump 0 d\nload 0 9 d\nload 0 3 d\nget 0 k g\n",
         "dumped 0\n0-1\ndumped 1\n0-1=a AQABAAAAAAAAAAAAAAAB\ndumped 1\nloaded 1\nloaded 1\n0-1=a AQABAAAAAAAAAAAAAAAB\n",
     ),
+    (
+        "a part brings what is lacking",
+        "vnodes 2\nput 0 k a -\nsend 0 k m\ndeliver m 1\nput 0 k b -\nsum 1 k s\npart 0 k s p\ndeliver p 1\nget 1 k g\n",
+        "0-1\nok\nchanged\n0-2\nok\nsent 1 of 2\nchanged\n0-1=a 0-2=b AQABAAAAAAAAAAAAAAAC\n",
+    ),
+    (
+        "a part whose left out content is held no more",
+        "vnodes 2\nput 0 k a -\nsend 0 k m\ndeliver m 1\nsum 1 k s\nget 1 k g\nput 1 k c @g\npart 0 k s p\ndeliver p 1\nget 1 k h\n",
+        "0-1\nok\nchanged\nok\n0-1=a AQABAAAAAAAAAAAAAAAB\n1-1\nsent 0 of 1\nM2\n1-1=c AQACAAAAAAAAAAAAAAABAAAAAQAAAAAAAAAB\n",
+    ),
+    (
+        "a part is delivered twice, and elsewhere once its contents are held there",
+        "vnodes 3\nput 0 k a -\nsend 0 k m\ndeliver m 1\nput 0 k b -\nsum 1 k s\npart 0 k s p\ndeliver p 1\ndeliver p 1\ndeliver p 2\nget 2 k g\ndeliver m 2\ndeliver p 2\nget 2 k h\ndeliver p 0\n",
+        "0-1\nok\nchanged\n0-2\nok\nsent 1 of 2\nchanged\nsame\nM2\nnone AQAA\nchanged\nchanged\n0-1=a 0-2=b AQABAAAAAAAAAAAAAAAC\nsame\n",
+    ),
+    (
+        "parts for summaries of another vnode and of another key",
+        "vnodes 2\nput 0 k a -\nput 0 l x -\nsum 1 k s\npart 0 k s p\nsum 0 l t\npart 0 k t q\ndeliver q 1\ndeliver p 1\ndeliver q 1\nsum 0 k s\npart 0 k s r\npart 0 n s o\ndeliver o 1\nget 1 k g\n",
+        "0-1\n0-1\nok\nsent 1 of 1\nok\nsent 0 of 1\nM2\nchanged\nsame\nok\nsent 0 of 1\nsent 0 of 0\nsame\n0-1=a AQABAAAAAAAAAAAAAAAB\n",
+    ),
+    (
+        "a tombstone is left out as a value is",
+        "vnodes 2\nput 0 k a -\ndel 0 k -\nsend 0 k m\ndeliver m 1\nput 1 k b -\nsum 0 k s\npart 1 k s p\ndeliver p 0\nget 0 k g\n",
+        "0-1\n0-2\nok\nchanged\n1-1\nok\nsent 1 of 3\nchanged\n0-1=a 0-2! 1-1=b AQACAAAAAAAAAAAAAAACAAAAAQAAAAAAAAAB\n",
+    ),
     ("nothing at all", "", ""),
     ("no line that counts", "\n# nothing\n\n", ""),
 ];

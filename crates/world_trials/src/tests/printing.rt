@@ -1,6 +1,6 @@
 //! The text of replies.
 
-use object::{Content, KeyState};
+use object::{Content, KeyState, Part};
 use std::alloc::{AllocError, Global};
 use std::fmt::Write as _;
 use world::{Copies, Reply, Resolution};
@@ -35,6 +35,18 @@ fn print_state(text: &mut String, state: &KeyState) -> Result<(), AllocError> {
     Ok(())
 }
 
+fn print_part(text: &mut String, part: &Part) -> Result<(), AllocError> {
+    write!(text, "part ")?;
+    for sibling in part.siblings() {
+        write!(text, "{}-{}", sibling.dot.vnode, sibling.dot.n)?;
+        if let Some(content) = &sibling.content {
+            print_content(text, content)?;
+        }
+        write!(text, " ")?;
+    }
+    Ok(())
+}
+
 fn print_copies(text: &mut String, copies: &Copies) -> Result<(), AllocError> {
     write!(text, "dumped {} from {}: ", copies.from, copies.first)?;
     for one in &copies.held {
@@ -65,9 +77,12 @@ fn print(text: &mut String, reply: &Reply) -> Result<(), AllocError> {
     match reply {
         Reply::Stored(dot) => write!(text, "{}-{}", dot.vnode, dot.n)?,
         Reply::Found(state) => print_state(text, state)?,
+        Reply::Summarized(_) => write!(text, "ok")?,
         Reply::Sent(_) => write!(text, "ok")?,
+        Reply::SentPart(message) => print_part(text, &message.part)?,
         Reply::Changed(true) => write!(text, "changed")?,
         Reply::Changed(false) => write!(text, "same")?,
+        Reply::Missing => write!(text, "M2")?,
         Reply::Restarted => write!(text, "ok")?,
         Reply::Dumped(copies) => print_copies(text, copies)?,
         Reply::Loaded(count) => write!(text, "loaded {count}")?,

@@ -150,6 +150,7 @@ fn may_come(vnodes: usize, table: &Table, before: &[Event], event: &Event) -> bo
         Event::Deliver { message, vnode } => *vnode < vnodes && is_send(before, *message),
         Event::Restart { vnode } => *vnode < vnodes,
         // There are none among the steps.
+        Event::Summarize { .. } | Event::SendPart { .. } => false,
         Event::Dump { .. } | Event::Load { .. } => false,
         Event::ResolveRead { get, hook } => {
             is_get(before, *get) && may_run(table, hook.program())

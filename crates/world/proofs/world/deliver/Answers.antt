@@ -1,13 +1,12 @@
-use Rattle.world.specs.declared.event.Event.TheVariants as event
-use Rattle.world.specs.declared.event.Reply.TheVariants as reply
-use Rattle.world.proofs.Runs.{delivery_happened, delivery_was_refused, message_was_refused, with_same}
+use Rattle.world.specs.Running.{IsMessageOrRefused}
+use Rattle.world.proofs.Runs.{message_was_refused, message_held, part_held, refusal_held}
 use Rattle.world.proofs.world.deliver.Goals as goal
 
-pub returns-in-Err-clause-step : goal.returns-in-Err-clause-step
-returns-in-Err-clause-step c = λ listed old rep remember. message_was_refused listed c.args.vnodes.now old c.args.vnode c.args.message c.in-Err.refusal rep (c.in-Err.ensures.refused old remember)
+pub returns-in-Sent-clause-step : goal.returns-in-Sent-clause-step
+returns-in-Sent-clause-step c = λ listed old rep remember. c.deliver_whole.ensures.step listed old c.args.message rep (message_held c.args.replies.now old c.args.message c.index-replies-message.result c.in-Sent.sent IsMessageOrRefused remember c.requires.sent c.index-replies-message.is c.in-Sent.is)
 
-pub returns-in-Ok-merge_at-clause-step : goal.returns-in-Ok-merge_at-clause-step
-returns-in-Ok-merge_at-clause-step c = λ listed old rep remember. delivery_happened listed c.args.vnodes.now c.merge_at.new.vnodes old c.args.vnode c.args.made.now c.args.message c.in-Ok.sent.now c.in-Ok-merge_at.changed rep c.requires.inside (c.in-Ok.ensures.copied old remember) c.in-Ok-merge_at.ensures.merged c.in-Ok-merge_at.ensures.changed
+pub returns-in-SentPart-clause-step : goal.returns-in-SentPart-clause-step
+returns-in-SentPart-clause-step c = λ listed old rep remember. c.deliver_part.ensures.step listed old c.args.message rep (part_held c.args.replies.now old c.args.message c.index-replies-message.result c.in-SentPart.sent IsMessageOrRefused remember c.requires.sent c.index-replies-message.is c.in-SentPart.is)
 
-pub returns-in-Err-merge_at-clause-step : goal.returns-in-Err-merge_at-clause-step
-returns-in-Err-merge_at-clause-step c = λ listed old rep remember. with_same listed c.args.vnodes.now c.merge_at.new.vnodes old (event.Deliver c.args.message c.args.vnode) (reply.Refused c.in-Err-merge_at.refusal) c.in-Err-merge_at.ensures.err (delivery_was_refused listed c.args.vnodes.now old c.args.vnode c.args.message c.in-Ok.sent.now c.in-Err-merge_at.refusal rep c.requires.inside (c.in-Ok.ensures.copied old remember) c.in-Err-merge_at.ensures.refused)
+pub returns-in-Refused-clause-step : goal.returns-in-Refused-clause-step
+returns-in-Refused-clause-step c = λ listed old rep remember. message_was_refused listed c.args.vnodes.now old c.args.vnode c.args.message c.in-Refused.refusal rep (refusal_held c.args.replies.now old c.args.message c.index-replies-message.result c.in-Refused.refusal IsMessageOrRefused remember c.requires.sent c.index-replies-message.is c.in-Refused.is)

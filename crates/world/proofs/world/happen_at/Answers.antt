@@ -28,3 +28,9 @@ returns-in-ResolveWrite-clause-step o c = λ old rep remember recall. subst (λ 
 
 pub returns-in-Dump-clause-step : goal.returns-in-Dump-clause-step
 returns-in-Dump-clause-step o c = λ old rep remember recall. subst (λ (e : Event). (x : Knowledge) × Happens c.args.table.now.listed old e c.dump.result x × Represents c.dump.new.vnodes x) (sym c.in-Dump.is) (c.dump.ensures.step c.args.table.now.listed old rep)
+
+pub returns-in-Summarize-clause-step : goal.returns-in-Summarize-clause-step
+returns-in-Summarize-clause-step o c = λ old rep remember recall. subst (λ (e : Event). (x : Knowledge) × Happens c.args.table.now.listed old e c.summarize.result x × Represents c.summarize.new.vnodes x) (sym c.in-Summarize.is) (c.summarize.ensures.step c.args.table.now.listed old rep)
+
+pub returns-in-SendPart-clause-step : goal.returns-in-SendPart-clause-step
+returns-in-SendPart-clause-step o c = λ old rep remember recall. subst (λ (e : Event). (x : Knowledge) × Happens c.args.table.now.listed old e c.send_part.result x × Represents c.send_part.new.vnodes x) (sym c.in-SendPart.is) (c.send_part.ensures.step c.args.table.now.listed old rep remember)

@@ -1,0 +1,10 @@
+use Rattle.world.specs.declared.event.Event.TheVariants as event
+use Rattle.world.specs.declared.event.Reply.TheVariants as reply
+use Rattle.world.proofs.Runs.{delivery_happened, delivery_was_refused, with_same}
+use Rattle.world.proofs.world.deliver_whole.Goals as goal
+
+pub returns-in-Ok-clause-step : goal.returns-in-Ok-clause-step
+returns-in-Ok-clause-step c = λ listed old place rep is. delivery_happened listed c.args.vnodes.now c.merge_at.new.vnodes old c.args.vnode c.args.made.now place c.args.sent.now c.in-Ok.changed rep c.requires.inside is c.in-Ok.ensures.merged c.in-Ok.ensures.changed
+
+pub returns-in-Err-clause-step : goal.returns-in-Err-clause-step
+returns-in-Err-clause-step c = λ listed old place rep is. with_same listed c.args.vnodes.now c.merge_at.new.vnodes old (event.Deliver place c.args.vnode) (reply.Refused c.in-Err.refusal) c.in-Err.ensures.err (delivery_was_refused listed c.args.vnodes.now old c.args.vnode place c.args.sent.now c.in-Err.refusal rep c.requires.inside is c.in-Err.ensures.refused)

@@ -1,0 +1,30 @@
+use Rattle.std.proofs.Common.{List, [], ap, refl, sym, subst, ◌∙◌}
+use Rattle.std.specs.Prelude.{slice_set}
+use Rattle.std.proofs.lemmas.List.{get_or_default, set-get_or}
+use Rattle.object.specs.Parts.{whole_of}
+use Rattle.journal.specs.Entry.{Merge}
+use Rattle.journal.specs.Logs.{Log}
+use Rattle.vnode.specs.Parts.{RefusesPart}
+use Rattle.world.specs.Stamped.{AreStamped}
+use Rattle.world.proofs.Parted.{part_merged}
+use Rattle.world.proofs.Stamped.{stamped_at}
+use Rattle.world.proofs.world.merge_part_at.Goals as goal
+
+pub returns-in-Ok-clause-merged : goal.returns-in-Ok-clause-merged
+returns-in-Ok-clause-merged c = part_merged c.args.vnodes.now c.args.at c.args.made.now c.index-vnodes-at.result c.merge_part.new.self c.args.message.now c.in-Ok.changed c.requires.inside c.in-Ok.ensures.held c.in-Ok.ensures.changed c.in-Ok.ensures.entry c.in-Ok.ensures.accepts
+
+pub returns-in-Ok-clause-stamps : goal.returns-in-Ok-clause-stamps
+returns-in-Ok-clause-stamps c =
+    let own = c.in-Ok.ensures.entry in
+    stamped_at c.args.vnodes.now c.args.made.now c.args.at (Merge c.args.made.now c.args.message.now.key c.args.message.now.from c.args.message.now.at (whole_of c.args.message.now.part own.0)) c.index-vnodes-at.result c.merge_part.new.self c.requires.inside own.2 refl
+
+pub returns-in-Err-clause-refused : goal.returns-in-Err-clause-refused
+returns-in-Err-clause-refused c =
+    subst (λ (l : Log). RefusesPart l c.args.message.now.key c.args.message.now.part c.in-Err.fault)
+    (get_or_default c.args.vnodes.now c.args.at c.index-vnodes-at.result (record { vnode = 0; entries = [] }) c.requires.inside) c.in-Err.ensures.why
+
+pub returns-in-Err-clause-err : goal.returns-in-Err-clause-err
+returns-in-Err-clause-err c = ap (λ (l : Log). slice_set c.args.vnodes.now c.args.at l) c.in-Err.ensures.err ∙ set-get_or c.args.vnodes.now c.args.at c.index-vnodes-at.result
+
+pub returns-in-Err-clause-stamps : goal.returns-in-Err-clause-stamps
+returns-in-Err-clause-stamps c = λ stamped. subst (λ (ls : List Log). AreStamped ls c.args.made.now) (sym (ap (λ (l : Log). slice_set c.args.vnodes.now c.args.at l) c.in-Err.ensures.err ∙ set-get_or c.args.vnodes.now c.args.at c.index-vnodes-at.result)) stamped

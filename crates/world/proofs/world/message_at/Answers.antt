@@ -1,0 +1,16 @@
+use Rattle.std.proofs.Common.{[], ap, subst, ◌∙◌}
+use Rattle.std.proofs.lemmas.List.{get_or_default}
+use Rattle.journal.specs.Logs.{Log}
+use Rattle.vnode.specs.Refusals.{RefusesEntry}
+use Rattle.world.proofs.world.message_at.Goals as goal
+
+pub returns-in_default-clause-refused : goal.returns-in_default-clause-refused
+returns-in_default-clause-refused c = subst (λ (l : Log). RefusesEntry l c.want_of_memory.result) (get_or_default c.args.vnodes.now c.args.at c.index-vnodes-at.result (record { vnode = 0; entries = [] }) c.requires.inside) c.want_of_memory.ensures
+
+pub returns-in-Ok-read_at-clause-copy : goal.returns-in-Ok-read_at-clause-copy
+returns-in-Ok-read_at-clause-copy c = record {
+  key_is = c.in-Ok.ensures;
+  from = c.id-from.ensures ∙ ap (λ (l : Log). l.vnode) (get_or_default c.args.vnodes.now c.args.at c.index-vnodes-at-2.result (record { vnode = 0; entries = [] }) c.requires.inside);
+  at = c.in-Ok-read_at.ensures.place;
+  state = c.in-Ok-read_at.ensures.state;
+}

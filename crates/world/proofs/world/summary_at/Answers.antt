@@ -1,0 +1,22 @@
+use Rattle.std.proofs.Common.{◌≡◌, [], refl, subst}
+use Rattle.std.proofs.lemmas.List.{get_or_default}
+use Rattle.object.specs.Parts.{summary_of}
+use Rattle.journal.specs.Entry.{Read}
+use Rattle.journal.specs.Logs.{Log}
+use Rattle.journal.specs.Replay.{Leaves}
+use Rattle.vnode.specs.Refusals.{RefusesEntry}
+use Rattle.world.proofs.Stamped.{stamped_at}
+use Rattle.world.proofs.world.summary_at.Goals as goal
+
+pub returns-in-Ok-clause-stamps : goal.returns-in-Ok-clause-stamps
+returns-in-Ok-clause-stamps c = stamped_at c.args.vnodes.now c.args.made.now c.args.at (Read c.args.made.now c.args.key.now) c.index-vnodes-at.result c.summary.new.self c.requires.inside c.in-Ok.ensures.entry refl
+
+pub returns-in-Ok-clause-summary : goal.returns-in-Ok-clause-summary
+returns-in-Ok-clause-summary c =
+    subst (λ (l : Log). Leaves l.entries c.args.key.now (λ state. c.in-Ok.summary ≡ summary_of state))
+    (get_or_default c.args.vnodes.now c.args.at c.index-vnodes-at.result (record { vnode = 0; entries = [] }) c.requires.inside) c.in-Ok.ensures.summary
+
+pub returns-in-Err-clause-refused : goal.returns-in-Err-clause-refused
+returns-in-Err-clause-refused c =
+    subst (λ (l : Log). RefusesEntry l c.in-Err.fault)
+    (get_or_default c.args.vnodes.now c.args.at c.index-vnodes-at.result (record { vnode = 0; entries = [] }) c.requires.inside) c.in-Err.ensures.why
