@@ -14,6 +14,7 @@ use Rattle.insn.specs.declared.decode.Refusal.TheVariants as why
 use Rattle.bpfimage.specs.Image.{number_at, Breaks, IsCodeFault, IsFirstFault, IsImage, IsRaw, IsProgram, IsNoProgram, is_marked}
 use Rattle.bpfimage.specs.declared.image.ImageKind.{ImageKind}
 use Rattle.bpfimage.specs.declared.image.ImageFault.{ImageFault}
+use Rattle.ranges.specs.declared.profile.Profile.{Profile}
 use Rattle.bpfimage.specs.declared.image.ImageFault.TheVariants.{Short, Mark, Version, Kind, Window, Code, NoMemory}
 use Rattle.admission.specs.Enough.{AreReadAlike}
 
@@ -111,7 +112,7 @@ same_code_fault a b f h x =
 breaks : (a b : List ℕ) (f : ImageFault) → AreLong a b → Breaks f a → Breaks f b
 breaks a b Short h x = let la : 16 + 8 * 4096 < length a = h.long in absurd (omega arith)
 breaks a b Mark h x = λ e. x (same_mark a b h ∙ e)
-breaks a b Version h x = λ e. x (same_byte a b 4 h (omega arith) ∙ e)
+breaks a b Version h x = (λ e. x.0 (same_byte a b 4 h (omega arith) ∙ e), λ e. x.1 (same_byte a b 4 h (omega arith) ∙ e))
 breaks a b Kind h x =
     elim x [
       | inl past ↦ inl (subst (λ n. 2 < n) (same_byte a b 5 h (omega arith)) past)
@@ -148,25 +149,25 @@ no_program a b f h x =
     let lb : 16 + 8 * 4096 < length b = h.other_long in
     matched (is_marked a) (is_marked b) (same_kind a b h) (first_fault a b f h) (long_fault a b f (omega arith) (omega arith) h.left_over) x
 
-no_image : (a : List ℕ) (kind : ImageKind) (in_len out_len : ℕ) (code : List Insn) → 16 + 8 * 4096 < length a → IsImage a kind in_len out_len code → ⊥
-no_image a kind in_len out_len code long x = too_long code (drop 16 a) x.code_is (omega (arith, length-drop 16 a))
+no_image : (a : List ℕ) (kind : ImageKind) (profile : Profile) (in_len out_len : ℕ) (code : List Insn) → 16 + 8 * 4096 < length a → IsImage a kind profile in_len out_len code → ⊥
+no_image a kind profile in_len out_len code long x = too_long code (drop 16 a) x.code_is (omega (arith, length-drop 16 a))
 
-no_raw : (a : List ℕ) (kind : ImageKind) (in_len out_len : ℕ) (code : List Insn) → 16 + 8 * 4096 < length a → IsRaw a kind in_len out_len code → ⊥
-no_raw a kind in_len out_len code long x = too_long code a x.code_is (omega arith)
+no_raw : (a : List ℕ) (kind : ImageKind) (profile : Profile) (in_len out_len : ℕ) (code : List Insn) → 16 + 8 * 4096 < length a → IsRaw a kind profile in_len out_len code → ⊥
+no_raw a kind profile in_len out_len code long x = too_long code a x.code_is (omega arith)
 
 none : (c : Bool) {X Y : Type 0} → (X → ⊥) → (Y → ⊥) → MatchBool c X Y → ⊥
 none true f g x = f x
 none false f g y = g y
 
-no_long : (a : List ℕ) (kind : ImageKind) (in_len out_len : ℕ) (code : List Insn) → 16 + 8 * 4096 < length a → IsProgram a kind in_len out_len code → ⊥
-no_long a kind in_len out_len code long x =
-    none (is_marked a) (no_image a kind in_len out_len code long) (no_raw a kind in_len out_len code long) x
+no_long : (a : List ℕ) (kind : ImageKind) (profile : Profile) (in_len out_len : ℕ) (code : List Insn) → 16 + 8 * 4096 < length a → IsProgram a kind profile in_len out_len code → ⊥
+no_long a kind profile in_len out_len code long x =
+    none (is_marked a) (no_image a kind profile in_len out_len code long) (no_raw a kind profile in_len out_len code long) x
 
 long_alike : (a b : List ℕ) → AreLong a b → AreReadAlike a b
 long_alike a b h = record {
-  programs = λ kind in_len out_len code. (λ x. absurd (no_long a kind in_len out_len code h.long x), λ x. absurd (no_long b kind in_len out_len code h.other_long x));
+  programs = λ kind profile in_len out_len code. (λ x. absurd (no_long a kind profile in_len out_len code h.long x), λ x. absurd (no_long b kind profile in_len out_len code h.other_long x));
   no_programs = λ fault. (no_program a b fault h, no_program b a fault (turned a b h));
-  images = λ kind in_len out_len code. (λ x. absurd (no_image a kind in_len out_len code h.long x), λ x. absurd (no_image b kind in_len out_len code h.other_long x));
+  images = λ kind profile in_len out_len code. (λ x. absurd (no_image a kind profile in_len out_len code h.long x), λ x. absurd (no_image b kind profile in_len out_len code h.other_long x));
   no_images = λ fault. (first_fault a b fault h, first_fault b a fault (turned a b h));
 }
 

@@ -5,7 +5,6 @@ use Rattle.bpfimage.specs.declared.image.ImageFault.{ImageFault}
 use Rattle.bpfimage.specs.declared.image.ImageFault.TheVariants as image
 use Rattle.bpfimage.specs.declared.image.ImageKind.{ImageKind}
 use Rattle.helpers.specs.declared.sig.Entry.{Entry}
-use Rattle.ranges.specs.declared.profile.Profile.TheVariants.{First}
 use Rattle.verifier.specs.Program.{Program}
 use Rattle.verifier.specs.Table.{IsAccepted}
 use Rattle.verifier.specs.Verdict.{IsRefused}
@@ -45,16 +44,14 @@ of_rule refused = by_rule refused refused.rule
 
 -- ---- what is let in
 
--- the bytes are those of the image of a program, with these helpers; the one version of images is verified by the first table of kinds
+-- the bytes are those of the image of a program, with these helpers, verified by the table of kinds that the image's version says
 pub record IsImageOf (bytes : List ℕ) (sigs : List Entry) (p : Program) : Type 0 where
-  pub image : IsImage bytes p.kind p.in_len p.out_len p.code
-  pub profile_is : p.profile ≡ First
+  pub image : IsImage bytes p.kind p.profile p.in_len p.out_len p.code
   pub sigs_are : p.sigs ≡ sigs
 
--- the same of an image or raw code
+-- the same of an image or raw code, which is verified by the second table
 pub record IsProgramOf (bytes : List ℕ) (sigs : List Entry) (p : Program) : Type 0 where
-  pub program : IsProgram bytes p.kind p.in_len p.out_len p.code
-  pub profile_is : p.profile ≡ First
+  pub program : IsProgram bytes p.kind p.profile p.in_len p.out_len p.code
   pub sigs_are : p.sigs ≡ sigs
 
 -- the bytes are an image, which the verifier accepts

@@ -4,9 +4,10 @@ use Rattle.insn.specs.declared.Insn.{Insn}
 use Rattle.bpfimage.specs.Image.{IsImage, IsFirstFault, IsProgram, IsNoProgram}
 use Rattle.bpfimage.specs.declared.image.ImageKind.{ImageKind}
 use Rattle.bpfimage.specs.declared.image.ImageFault.{ImageFault}
+use Rattle.ranges.specs.declared.profile.Profile.{Profile}
 
 pub record AreReadAlike (some all : List ℕ) : Type 0 where
-  pub programs : (kind : ImageKind) (in_len out_len : ℕ) (code : List Insn) → IsProgram some kind in_len out_len code ↔ IsProgram all kind in_len out_len code
+  pub programs : (kind : ImageKind) (profile : Profile) (in_len out_len : ℕ) (code : List Insn) → IsProgram some kind profile in_len out_len code ↔ IsProgram all kind profile in_len out_len code
   pub no_programs : (fault : ImageFault) → IsNoProgram some fault ↔ IsNoProgram all fault
-  pub images : (kind : ImageKind) (in_len out_len : ℕ) (code : List Insn) → IsImage some kind in_len out_len code ↔ IsImage all kind in_len out_len code
+  pub images : (kind : ImageKind) (profile : Profile) (in_len out_len : ℕ) (code : List Insn) → IsImage some kind profile in_len out_len code ↔ IsImage all kind profile in_len out_len code
   pub no_images : (fault : ImageFault) → IsFirstFault some fault ↔ IsFirstFault all fault

@@ -8,6 +8,8 @@ use Rattle.insn.specs.declared.Insn.{Insn}
 use Rattle.insn.specs.declared.decode.Refusal.{Refusal}
 use Rattle.insn.specs.declared.decode.Refusal.TheVariants.{Memory}
 use Rattle.insn.specs.declared.decode.DecodeFault.{DecodeFault}
+use Rattle.ranges.specs.declared.profile.Profile.{Profile}
+use Rattle.ranges.specs.declared.profile.Profile.TheVariants.{First, Second}
 use Rattle.bpfimage.specs.declared.image.ImageKind.{ImageKind}
 use Rattle.bpfimage.specs.declared.image.ImageKind.TheVariants.{Plain, PreCommit, Resolver}
 use Rattle.bpfimage.specs.declared.image.ImageFault.{ImageFault}
@@ -18,6 +20,11 @@ abbrev pub kind_number : ImageKind → ℕ
 kind_number Plain = 0
 kind_number PreCommit = 1
 kind_number Resolver = 2
+
+-- the version of an image, by the table of kinds by which its program is verified
+abbrev pub version_number : Profile → ℕ
+version_number First = 1
+version_number Second = 2
 
 -- the number in the four bytes from a place on, the lowest first
 abbrev pub number_at : List ℕ → ℕ → ℕ
@@ -62,7 +69,7 @@ IsCodeFault bytes other = ⊥
 abbrev pub Breaks : ImageFault → List ℕ → Type 0
 Breaks Short bytes = length bytes < 16
 Breaks Mark bytes = take 4 bytes ≢ 82 ∷ 66 ∷ 80 ∷ 70 ∷ []
-Breaks Version bytes = slice_index bytes 4 ≢ 1
+Breaks Version bytes = (slice_index bytes 4 ≢ 1) × (slice_index bytes 4 ≢ 2)
 Breaks Kind bytes = (2 < slice_index bytes 5) ⊎ (slice_index bytes 6 ≢ 0) ⊎ (slice_index bytes 7 ≢ 0)
 Breaks Window bytes = (longest_window < number_at bytes 8) ⊎ (longest_window < number_at bytes 12)
 Breaks other bytes = IsCodeFault (drop 16 bytes) other
@@ -76,9 +83,10 @@ pub record IsFirstFault (bytes : List ℕ) (fault : ImageFault) : Type 0 where
 abbrev pub HasHead : List ℕ → Type 0
 HasHead bytes = (other : ImageFault) → rank other < 5 → ¬ Breaks other bytes
 
--- the bytes are those of an image of this kind, with windows of these lengths, and of this code
-pub record IsImage (bytes : List ℕ) (kind : ImageKind) (in_len out_len : ℕ) (code : List Insn) : Type 0 where
+-- the bytes are those of an image of this kind, verified by this table, with windows of these lengths, and of this code
+pub record IsImage (bytes : List ℕ) (kind : ImageKind) (profile : Profile) (in_len out_len : ℕ) (code : List Insn) : Type 0 where
   pub head : HasHead bytes
+  pub version_is : slice_index bytes 4 ≡ version_number profile
   pub kind_is : slice_index bytes 5 ≡ kind_number kind
   pub in_len_is : in_len ≡ number_at bytes 8
   pub out_len_is : out_len ≡ number_at bytes 12
@@ -86,9 +94,10 @@ pub record IsImage (bytes : List ℕ) (kind : ImageKind) (in_len out_len : ℕ) 
 
 -- ---- programs
 
--- raw code is a plain program with two windows of 4,096 bytes
-pub record IsRaw (bytes : List ℕ) (kind : ImageKind) (in_len out_len : ℕ) (code : List Insn) : Type 0 where
+-- raw code is a plain program, verified by the second table, with two windows of 4,096 bytes
+pub record IsRaw (bytes : List ℕ) (kind : ImageKind) (profile : Profile) (in_len out_len : ℕ) (code : List Insn) : Type 0 where
   pub kind_is : kind ≡ Plain
+  pub profile_is : profile ≡ Second
   pub in_len_is : in_len ≡ 4096
   pub out_len_is : out_len ≡ 4096
   pub code_is : Spells code bytes
@@ -98,8 +107,9 @@ abbrev pub is_marked : List ℕ → Bool
 is_marked bytes = starts_with nat_eq bytes (82 ∷ 66 ∷ 80 ∷ 70 ∷ [])
 
 -- the bytes are those of this program
-abbrev pub IsProgram : List ℕ → ImageKind → ℕ → ℕ → List Insn → Type 0
-IsProgram bytes kind in_len out_len code = MatchBool (is_marked bytes) (IsImage bytes kind in_len out_len code) (IsRaw bytes kind in_len out_len code)
+abbrev pub IsProgram : List ℕ → ImageKind → Profile → ℕ → ℕ → List Insn → Type 0
+IsProgram bytes kind profile in_len out_len code =
+    MatchBool (is_marked bytes) (IsImage bytes kind profile in_len out_len code) (IsRaw bytes kind profile in_len out_len code)
 
 -- the bytes are those of no program, and why, or memory ran out
 abbrev pub IsNoProgram : List ℕ → ImageFault → Type 0

@@ -43,7 +43,7 @@ pub enum ImageFault {
     Short,
     /// The first four bytes are not those of an image.
     Mark,
-    /// The version is not 1.
+    /// The version is neither 1 nor 2.
     Version,
     /// The kind is none of the three, or one of the two bytes after it is not zero.
     Kind,

@@ -1,10 +1,10 @@
 //! Reading images.
 
-ghost use Rattle.std.specs.Prelude.{◌≡◌, ◌+◌, ◌<◌, ◌≤◌, length, drop, slice_index, List, IfOk, IfErr, MatchResult};
+ghost use Rattle.std.specs.Prelude.{◌≡◌, ◌+◌, ◌<◌, ◌≤◌, length, drop, slice_index, List, IfOk, IfErr, IfSome, IsNone, MatchResult, ◌↔◌, ◌≢◌};
 ghost use Rattle.insn.specs.declared.Insn.{Insn};
 ghost use Rattle.insn.specs.Refusal.{Spells, IsRefused};
 ghost use Rattle.memory.specs.Windows.{longest_window};
-ghost use Rattle.bpfimage.specs.Image.{kind_number, number_at, rank, fault_of, HasHead, IsFirstFault, IsCodeFault, IsImage, IsProgram, IsNoProgram};
+ghost use Rattle.bpfimage.specs.Image.{kind_number, version_number, number_at, rank, fault_of, HasHead, IsFirstFault, IsCodeFault, IsImage, IsRaw, IsProgram, IsNoProgram};
 
 use crate::image::{Image, ImageFault, ImageKind};
 use insn::decode::decode;
@@ -22,13 +22,11 @@ const MARK: &[u8; 4] = b"RBPF";
 /// How many bytes each window of raw code has.
 const RAW_WINDOW: u32 = 4096;
 
-/// The version that is read.
-const VERSION: u8 = 1;
-
 /// What a head says.
 #[derive(Clone, Copy)]
 struct Head {
     kind: ImageKind,
+    profile: Profile,
     in_len: u32,
     out_len: u32,
 }
@@ -41,9 +39,21 @@ fn read_number(bytes: &[u8], at: usize) -> u32
     u32::from_le_bytes([bytes[at], bytes[at + 1], bytes[at + 2], bytes[at + 3]])
 }
 
+/// The table by which an image of this version is verified.
+fn profile_of(version: u8) -> Option<Profile>
+    ensures found { IfSome result (λ profile. version ≡ version_number profile) }
+    ensures none { IsNone result ↔ (version ≢ 1) × (version ≢ 2) }
+{
+    match version {
+        1 => Some(Profile::First),
+        2 => Some(Profile::Second),
+        _ => None,
+    }
+}
+
 /// The head of an image.
 fn read_head(bytes: &[u8]) -> Result<Head, ImageFault>
-    ensures found { IfOk result (λ head. HasHead bytes.now × (slice_index bytes.now 5 ≡ kind_number head.kind) × (head.in_len ≡ number_at bytes.now 8) × (head.out_len ≡ number_at bytes.now 12)) }
+    ensures found { IfOk result (λ head. HasHead bytes.now × (slice_index bytes.now 4 ≡ version_number head.profile) × (slice_index bytes.now 5 ≡ kind_number head.kind) × (head.in_len ≡ number_at bytes.now 8) × (head.out_len ≡ number_at bytes.now 12)) }
     ensures small { IfOk result (λ head. (16 ≤ length bytes.now) × (head.in_len ≤ longest_window) × (head.out_len ≤ longest_window)) }
     ensures refused { IfErr result (λ fault. IsFirstFault bytes.now fault × (rank fault < 5)) }
 {
@@ -53,9 +63,9 @@ fn read_head(bytes: &[u8]) -> Result<Head, ImageFault>
     if &bytes[..4] != MARK.as_slice() {
         return Err(ImageFault::Mark);
     }
-    if bytes[4] != VERSION {
+    let Some(profile) = profile_of(bytes[4]) else {
         return Err(ImageFault::Version);
-    }
+    };
     let kind = match ImageKind::from_number(bytes[5]) {
         Some(kind) if bytes[6] == 0 && bytes[7] == 0 => kind,
         _ => return Err(ImageFault::Kind),
@@ -67,6 +77,7 @@ fn read_head(bytes: &[u8]) -> Result<Head, ImageFault>
     }
     Ok(Head {
         kind,
+        profile,
         in_len,
         out_len,
     })
@@ -93,9 +104,7 @@ fn code_fault(fault: DecodeFault) -> ImageFault
 /// The image that the bytes spell. The first fault that stands is told; those of the head take no memory.
 pub fn read_image(alloc: Global, bytes: &[u8]) -> Result<Image, ImageFault>
     // What is read is what the bytes spell.
-    ensures found { IfOk result (λ image. IsImage bytes.now image.kind image.in_len image.out_len image.code.items) }
-    // The one version is verified by the first table of kinds.
-    ensures profile { IfOk result (λ image. image.profile ≡ Profile.First) }
+    ensures found { IfOk result (λ image. IsImage bytes.now image.kind image.profile image.in_len image.out_len image.code.items) }
     // What is spelled is read, unless memory runs out.
     ensures only { (code : List Insn) → HasHead bytes.now → Spells code (drop 16 bytes.now) → MatchResult result (λ image. image.code.items ≡ code) (λ fault. fault ≡ ImageFault.NoMemory) }
     // A fault is the first that stands.
@@ -105,7 +114,7 @@ pub fn read_image(alloc: Global, bytes: &[u8]) -> Result<Image, ImageFault>
     match decode(alloc, after_head(bytes)) {
         Ok(code) => Ok(Image {
             kind: head.kind,
-            profile: Profile::First,
+            profile: head.profile,
             in_len: head.in_len,
             out_len: head.out_len,
             code,
@@ -114,17 +123,16 @@ pub fn read_image(alloc: Global, bytes: &[u8]) -> Result<Image, ImageFault>
     }
 }
 
-/// The image of code that has no head: a plain program with windows of the greatest length that raw code has.
+/// The image of code that has no head: a plain program, verified by the second table, with windows of the greatest length that raw code has.
 pub fn raw_image(alloc: Global, bytes: &[u8]) -> Result<Image, ImageFault>
-    ensures found { IfOk result (λ image. (image.kind ≡ ImageKind.Plain) × (image.in_len ≡ 4096) × (image.out_len ≡ 4096) × Spells image.code.items bytes.now) }
-    ensures profile { IfOk result (λ image. image.profile ≡ Profile.First) }
+    ensures found { IfOk result (λ image. IsRaw bytes.now image.kind image.profile image.in_len image.out_len image.code.items) }
     ensures only { (code : List Insn) → Spells code bytes.now → MatchResult result (λ image. image.code.items ≡ code) (λ fault. fault ≡ ImageFault.NoMemory) }
     ensures refused { IfErr result (λ fault. IsCodeFault bytes.now fault) }
 {
     match decode(alloc, bytes) {
         Ok(code) => Ok(Image {
             kind: ImageKind::Plain,
-            profile: Profile::First,
+            profile: Profile::Second,
             in_len: RAW_WINDOW,
             out_len: RAW_WINDOW,
             code,
@@ -135,8 +143,7 @@ pub fn raw_image(alloc: Global, bytes: &[u8]) -> Result<Image, ImageFault>
 
 /// The program that bytes are: an image where they begin with its mark, which is no opcode, and else raw code.
 pub fn read_program(alloc: Global, bytes: &[u8]) -> Result<Image, ImageFault>
-    ensures found { IfOk result (λ image. IsProgram bytes.now image.kind image.in_len image.out_len image.code.items) }
-    ensures profile { IfOk result (λ image. image.profile ≡ Profile.First) }
+    ensures found { IfOk result (λ image. IsProgram bytes.now image.kind image.profile image.in_len image.out_len image.code.items) }
     ensures refused { IfErr result (λ fault. IsNoProgram bytes.now fault) }
 {
     if bytes.starts_with(MARK) {

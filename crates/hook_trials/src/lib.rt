@@ -1,5 +1,5 @@
-//! Tests of the registry of hooks, of puts with pre-commit hooks, of gets with resolvers, and of hooks whose helpers a table lacks, over
-//! the vnodes of one thread.
+//! Tests of what hooks read, write and decide, of the registry of hooks, and, over the vnodes of one thread, of puts with pre-commit hooks, of
+//! gets with resolvers, and of hooks whose helpers a table lacks.
 #![tactic(auto)]
 
 #[cfg(test)]

@@ -1,10 +1,10 @@
 -- Calls: what is given to one that breaks no rule fits, and what it answers is admitted.
-use Rattle.std.proofs.Common.{◌≡◌, ◌≢◌, ℕ, zero, suc, pos, ◌-◌, ◌%◌, ◌^◌, ◌<◌, ◌≤◌, true, false, cond, not, leb, List, [], ◌∷◌, length, drop, replicate, Option, Some, None, refl, sym, ap, ◌∙◌, subst, inl, inr, ⊎_elim, arith, length-take, length-drop}
+use Rattle.std.proofs.Common.{◌≡◌, ◌≢◌, ℕ, zero, suc, pos, ◌-◌, ◌%◌, ◌^◌, ◌<◌, ◌≤◌, true, false, cond, not, leb, List, [], ◌∷◌, ◌++◌, length, drop, replicate, Option, Some, None, refl, sym, ap, ◌∙◌, subst, inl, inr, ⊎_elim, arith, length-take, length-drop}
 use Rattle.std.specs.Prelude.{◌⊎◌, ◌+ℤ◌, map, slice_get}
 use Rattle.std.proofs.Math.Nat.{mod-lt}
 use Rattle.std.proofs.lemmas.Int.{ints}
 use Rattle.std.proofs.lemmas.Bool.{cases_eq, cases_Bool, and_parts, not-true, leb-true}
-use Rattle.std.proofs.lemmas.List.{length-replicate}
+use Rattle.std.proofs.lemmas.List.{length-replicate, drop-append-le}
 use Rattle.alu.specs.Value.{wrapped}
 use Rattle.insn.specs.declared.Register.{Register}
 use Rattle.insn.specs.declared.Register.TheVariants.{R1, R2, R3, R4, R5}
@@ -26,13 +26,17 @@ use Rattle.helpers.specs.Rules.{reads_of}
 use Rattle.helpers.specs.Answers.{Given, FitsRules, FitsReads, Fits}
 use Rattle.helpers.specs.Calls.{argument_registers, Spans, bytes_at, Copies, Fills, Compares, HasAnswer, numbers_of, places_of, HoldsAll, Gives, Callee, Copy, Fill, Same, Helper, Unknown, fits_with, answers_with}
 use Rattle.verifier.specs.Program.{Program, HasLimits}
-use Rattle.verifier.specs.Registers.{Row, kind_at, is_inside, is_input_pointer}
-use Rattle.verifier.specs.CallKinds.{number_up_to, has_bytes, reaches, is_number, is_within, are_arguments, argument_kinds, is_read, is_written, is_given, answer_kind}
+use Rattle.verifier.specs.Registers.{Row, cell_count, IsLong, kind_at, is_inside, is_input_pointer}
+use Rattle.verifier.specs.CallKinds.{number_up_to, has_bytes, reaches, is_number, is_within, are_arguments, argument_kinds, is_read, is_written, is_given}
+use Rattle.verifier.specs.Cells.{span_of, row_touched, bytes_named, span_given, row_written}
+use Rattle.verifier.specs.Answered.{answer_kind, row_after_call}
 use Rattle.verifier.specs.Lowered.{pieces_of, LiesIn, HasPieces, read_kinds, piece_kinds, region_of, region_at}
 use Rattle.lows.specs.Lows.{first_of, second_of}
 use Rattle.lows.specs.declared.pieces.Pieces.{Pieces}
 use Rattle.verifier.proofs.Words.{wrapped_small, bytes_take, bytes_drop, bytes_replicate}
 use Rattle.verifier.proofs.Fits.{FitsRow}
+use Rattle.verifier.proofs.StackCells.{words, values_of, values, has_eleven}
+use Rattle.verifier.proofs.CellSteps.{touched_fits}
 use Rattle.verifier.proofs.Places.{IsMemory, place_in, covers_less, not_input, window_bytes, written_kept}
 
 -- ---- kinds and numbers
@@ -139,7 +143,7 @@ never e = cc
 no_length : (p : Program) (limit : ℕ) (k : Kind) (a : ℕ) → Admits k (Some a) → reaches p limit k Unset ≡ true → ⊥
 no_length p limit k a h t = never (sym (reaches_bytes p limit k Unset a a h tt) ∙ t)
 
-module _ (sound : (profile : Profile) → IsSoundTable profile) (p : Program) (row : Row) (s : State) (limits : HasLimits p) (fits : FitsRow row s.registers) (memory : IsMemory p s.memory) (at : (r : Register) → FitsAt row s r) where
+module _ (sound : (profile : Profile) → IsSoundTable profile) (p : Program) (row : Row) (s : State) (limits : HasLimits p) (long : IsLong p.profile row) (fits : FitsRow row (values p.profile s)) (memory : IsMemory p s.memory) (at : (r : Register) → FitsAt row s r) where
   -- a place that is known to lie in a window
   inside : (k : Kind) (a n size : ℕ) → Admits k (Some a) → a < 2 ^ 64 → n ≤ size → is_inside p k (pos 0) size ≡ true → (region : Region) × Covers s.memory region a n × (is_input_pointer k ≡ false → region ≢ Input)
   inside Unset a n size h w le t = cc
@@ -328,6 +332,47 @@ module _ (sound : (profile : Profile) → IsSoundTable profile) (p : Program) (r
       ((sound p.profile).range (range sig.lo sig.hi) answer sig.word (h.3.0, h.3.1), omega (arith, h.3.1, sig.word), subst (IsMemory p) (sym h.4) memory)
   answered n Unknown answer after h = absurd h
 
-  -- the registers after a call
-  pub row_fits : (k : Kind) (answer : ℕ) → Admits k (Some answer) → answer < 2 ^ 64 → FitsRow (k ∷ Unset ∷ Unset ∷ Unset ∷ Unset ∷ Unset ∷ drop 6 row) (Some answer ∷ None ∷ None ∷ None ∷ None ∷ None ∷ drop 6 s.registers)
-  row_fits k answer a w = (a, w, (tt, tt, (tt, tt, (tt, tt, (tt, tt, (tt, tt, fits_drop 6 row s.registers fits))))))
+  -- the cells after a call's writes
+  span_fits : (limit : ℕ) (k len : Kind) (a n : ℕ) (to : Region) (new : List ℕ) → Admits k (Some a) → a < 2 ^ 64 → Admits len (Some n) → reaches p limit k len ≡ true → Covers s.memory to a n → length new ≡ n → AreBytes new → FitsRow (row_touched p.profile (span_given limit k len) row) (values_of p.profile s.registers (written s.memory to (a - base to) new).stack)
+  span_fits limit k Dead a n to new h w l t c e bytes = absurd l
+  span_fits limit k Unset a n to new h w l t c e bytes = absurd (no_length p limit k a h t)
+  span_fits limit k (Ptr q lo hi) a n to new h w l t c e bytes = absurd (never (sym (reaches_bytes p limit k (Ptr q lo hi) a n h l) ∙ t))
+  span_fits limit k (Num b) a n to new h w l t c e bytes =
+      let hi = b.range.hi in
+      let u = sym (reaches_bytes p limit k (Num b) a n h l) ∙ t in
+      let same : wrapped 64 (pos a +ℤ pos 0) ≡ a = ap (wrapped 64) (plus_none a) ∙ wrapped_small 64 a w in
+      let V : ℕ → List (Option ℕ) = λ x. values_of p.profile s.registers (written s.memory to (x - base to) new).stack in
+      ⊎_elim
+      (λ yes. subst (λ t'. FitsRow (row_touched p.profile (bytes_named k (cond t' (Some hi) None)) row) (V a)) (sym yes)
+      (subst (λ x. FitsRow (row_touched p.profile (span_of k (pos 0) hi) row) (V x)) same
+      (touched_fits sound p row s limits long fits memory k a (pos 0) hi to new h (ap (λ t'. has_bytes p k (cond t' (Some hi) None)) (sym yes) ∙ u) (subst (λ x. Covers s.memory to x (length new)) (sym same) (subst (Covers s.memory to a) (sym e) c)) (omega (arith, e, l.within.1)) bytes)))
+      (λ no. absurd (never (ap (λ t'. has_bytes p k (cond t' (Some hi) None)) (sym no) ∙ u)))
+      (cases_Bool (leb hi limit))
+    where
+      plus_none : (a : ℕ) → (pos a +ℤ pos 0) ≡ pos a
+      plus_none a = omega (arith, ints)
+
+  write_fits : (to : Region) (new : List ℕ) → is_written p row (kind_at row R1) ≡ true → Covers s.memory to (number_in s R1) (number_in s R3) → length new ≡ number_in s R3 → AreBytes new → FitsRow (row_touched p.profile (span_given 65536 (kind_at row R1) (kind_at row R3)) row) (values_of p.profile s.registers (written s.memory to (number_in s R1 - base to) new).stack)
+  write_fits to new t c e bytes =
+      span_fits 65536 (kind_at row R1) (kind_at row R3) (number_in s R1) (number_in s R3) to new (at R1).0 (at R1).1 (at R3).0 (and_parts (is_read p row (kind_at row R1)) (not (is_input_pointer (kind_at row R1))) t).0 c e bytes
+
+  cells_after : (n : ℕ) (callee : Callee) (answer : ℕ) (after : Memory) → is_given p callee row ≡ true → answers_with n callee s answer after → FitsRow (row_written p.profile callee row) (values_of p.profile s.registers after.stack)
+  cells_after n Copy answer after t h =
+      subst (λ (m : Memory). FitsRow (row_written p.profile Copy row) (values_of p.profile s.registers m.stack)) (sym h.6)
+      (write_fits h.0 (bytes_at s.memory h.1 (number_in s R2) (number_in s R3)) (and_parts (is_written p row (kind_at row R1)) (is_read p row (kind_at row R2)) t).0 h.2.0 (length_bytes s.memory h.1 (number_in s R2) (number_in s R3) h.3.0) (bytes_there h.1 (number_in s R2) (number_in s R3)))
+  cells_after n Fill answer after t h =
+      subst (λ (m : Memory). FitsRow (row_written p.profile Fill row) (values_of p.profile s.registers m.stack)) (sym h.4)
+      (write_fits h.0 (replicate (number_in s R3) (number_in s R2 % 256)) (and_parts (is_written p row (kind_at row R1)) (is_number (kind_at row R2)) t).0 h.1.0 (length-replicate {A = ℕ} (number_in s R3) (number_in s R2 % 256)) (bytes_replicate (number_in s R3) (number_in s R2 % 256) (mod-lt (number_in s R2) (omega arith))))
+  cells_after n Same answer after t h = subst (λ (m : Memory). FitsRow row (values_of p.profile s.registers m.stack)) (sym h.4) fits
+  cells_after n (Helper sig) answer after t h = subst (λ (m : Memory). FitsRow row (values_of p.profile s.registers m.stack)) (sym h.4) fits
+  cells_after n Unknown answer after t h = absurd h
+
+  -- the registers and the cells after a call
+  pub row_fits : (n : ℕ) (callee : Callee) (answer : ℕ) (after : Memory) → is_given p callee row ≡ true → answers_with n callee s answer after → FitsRow (row_after_call p.profile callee row) (values_of p.profile (Some answer ∷ None ∷ None ∷ None ∷ None ∷ None ∷ drop 6 s.registers) after.stack)
+  row_fits n callee answer after t h =
+      let a = answered n callee answer after h in
+      let cells = words (cell_count p.profile) after.stack in
+      let row' = row_written p.profile callee row in
+      let kept = fits_drop 6 row' (s.registers ++ cells) (cells_after n callee answer after t h) in
+      let rest = subst (FitsRow (drop 6 row')) (drop-append-le 6 s.registers cells (omega (arith, has_eleven p.profile row s long fits))) kept in
+      (a.0, a.1, (tt, tt, (tt, tt, (tt, tt, (tt, tt, (tt, tt, rest))))))

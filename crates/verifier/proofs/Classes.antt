@@ -1,11 +1,10 @@
 -- Each class of instructions: where no rule is broken it does not fault, and what follows is admitted by an edge.
-use Rattle.std.proofs.Common.{◌≡◌, ◌≢◌, ℕ, ℤ, pos, ◌+◌, ◌-◌, ◌*◌, ◌%◌, ◌^◌, ◌<◌, Bool, true, false, not, ◌||◌, eqb, List, [], ◌∷◌, set, Option, Some, None, Result, Ok, Err, refl, sym, ap, ◌∙◌, subst, inl, inr, arith}
+use Rattle.std.proofs.Common.{◌≡◌, ◌≢◌, ℕ, ℤ, pos, ◌+◌, ◌-◌, ◌*◌, ◌%◌, ◌^◌, ◌<◌, Bool, true, false, not, ◌||◌, eqb, List, [], ◌∷◌, length, set, Option, Some, None, Result, Ok, Err, refl, sym, ap, ◌∙◌, subst, inl, inr, arith}
 use Rattle.std.specs.Prelude.{IfOk, ◌+ℤ◌, unwrap_or}
 use Rattle.std.proofs.Math.Nat.{mod-lt, mod-eq_of_lt}
 use Rattle.std.proofs.lemmas.Nat.{pow_pos}
 use Rattle.std.proofs.lemmas.Int.{ints}
 use Rattle.std.proofs.lemmas.Bool.{cond_both, cond-true, eq-eqb}
-use Rattle.std.proofs.lemmas.Option.{unwrap_or-slice_get}
 use Rattle.alu.specs.Value.{bits, wrapped, signed, value, swapped, byte_count, compares, condition}
 use Rattle.alu.specs.declared.Op.{Op}
 use Rattle.alu.specs.declared.Width.{Width}
@@ -19,12 +18,13 @@ use Rattle.insn.specs.declared.Register.TheVariants.{R10}
 use Rattle.insn.specs.declared.Operand.{Operand}
 use Rattle.insn.specs.declared.Operand.TheVariants as operand
 use Rattle.insn.specs.declared.Size.{Size}
+use Rattle.insn.specs.declared.Size.TheVariants.{Byte, Half, Word, Double}
 use Rattle.insn.specs.declared.Extend.{Extend}
 use Rattle.insn.specs.declared.Extend.TheVariants.{Zero, Sign}
 use Rattle.insn.specs.declared.Distance.TheVariants as distance
 use Rattle.insn.specs.declared.Insn.{Insn}
 use Rattle.insn.specs.declared.Insn.TheVariants as insn
-use Rattle.memory.specs.Windows.{Covers, base, read, little_endian}
+use Rattle.memory.specs.Windows.{Covers, base, read, written, little_endian, low_bytes}
 use Rattle.memory.specs.State.{State, register, number_in, operand_in, with_register, jumped, advanced, writes, operand_reads, address, SomeUnset, MissesWindows, StoresToInput, Breaks, extended, Row as Does}
 use Rattle.memory.specs.declared.Region.{Region}
 use Rattle.memory.specs.declared.Region.TheVariants.{Input}
@@ -46,13 +46,15 @@ use Rattle.helpers.specs.Calls.{Callee, Unknown, callee_of, calls_of}
 use Rattle.verifier.specs.Program.{Program, HasLimits}
 use Rattle.verifier.specs.declared.rule.KindRule.{KindRule}
 use Rattle.verifier.specs.declared.rule.KindRule.TheVariants.{UnsetRead, FrameWritten, OutsideWindow, InputStored, ArgumentRule}
-use Rattle.verifier.specs.Registers.{Row, kind_at, with_kind, one_number, kind_from, is_unset, is_input_pointer, any_unset, is_inside}
-use Rattle.verifier.specs.CallKinds.{answer_kind}
+use Rattle.verifier.specs.Registers.{Row, IsLong, kind_at, with_kind, one_number, kind_from, is_unset, is_input_pointer, any_unset, is_inside}
+use Rattle.verifier.specs.Cells.{span_of, whole_cell, cell_kind, row_stored_in, read_kind}
 use Rattle.verifier.specs.Rules.{callee_in, reads_by, broken_if, is_frame, bad_result, class_rules, rules_of, first_of, result_kind, loaded, refined}
 use Rattle.verifier.specs.Table.{target_edge, edges_from, AreKinds}
 use Rattle.verifier.proofs.SameReads.{reads_called}
-use Rattle.verifier.proofs.Words.{wrapped_below, size_fits, some_bytes}
-use Rattle.verifier.proofs.Fits.{IsWord, FitsRow, at_register, at_write, at_learn, SomeEdge}
+use Rattle.verifier.proofs.Words.{wrapped_below, size_fits, some_bytes, bytes_low, length_low, low_whole}
+use Rattle.verifier.proofs.Fits.{IsWord, FitsRow, at_learn, SomeEdge}
+use Rattle.verifier.proofs.StackCells.{values_of, values, value_at, register_fits, written_register}
+use Rattle.verifier.proofs.CellSteps.{whole_is, touched_fits, stored_fits, loaded_fits}
 use Rattle.verifier.proofs.Shape.{target_edge_at}
 use Rattle.verifier.proofs.CallSteps.{given_fits, answered, row_fits}
 use Rattle.verifier.proofs.Places.{IsMemory, place_in, not_input, not_in_input, load_small, store_kept}
@@ -141,13 +143,21 @@ pub cut_word : (w : Width) (x : ℕ) → x % 2 ^ bits w < 2 ^ 64
 cut_word W32 x = let h : x % 2 ^ 32 < 2 ^ 32 = mod-lt x (omega arith) in omega (arith, h)
 cut_word W64 x = mod-lt x (omega arith)
 
-module _ (sound : (profile : Profile) → IsSoundTable profile) (p : Program) (i : ℕ) (row : Row) (s : State) (limits : HasLimits p) (kinds : AreKinds row) (fits : FitsRow row s.registers) (at : s.slot ≡ pos i) (memory : IsMemory p s.memory) where
+-- a whole word is the number that it spells
+extended_is : (size : Size) (extend : Extend) (dst r : Register) (offset : ℤ) (n : ℕ) → size_bytes size ≡ 8 → IsInstruction (insn.Load size extend dst r offset) → extended extend size n ≡ n
+extended_is Byte Zero dst r offset n e is = refl
+extended_is Half Zero dst r offset n e is = refl
+extended_is Word Zero dst r offset n e is = refl
+extended_is Double Zero dst r offset n e is = refl
+extended_is Byte Sign dst r offset n e is = absurd (omega arith)
+extended_is Half Sign dst r offset n e is = absurd (omega arith)
+extended_is Word Sign dst r offset n e is = absurd (omega arith)
+extended_is Double Sign dst r offset n e is = absurd is
+
+module _ (sound : (profile : Profile) → IsSoundTable profile) (p : Program) (i : ℕ) (row : Row) (s : State) (limits : HasLimits p) (kinds : AreKinds row) (long : IsLong p.profile row) (fits : FitsRow row (values p.profile s)) (at : s.slot ≡ pos i) (memory : IsMemory p s.memory) where
   -- ---- registers
   at_reg : (r : Register) → Admits (kind_at row r) (register s r) × IsWord (register s r)
-  at_reg r =
-      let h = at_register row s.registers (number r) fits in
-      let e = sym (unwrap_or-slice_get s.registers (number r) None) in
-      (subst (Admits (kind_at row r)) e h.0, subst IsWord e h.1)
+  at_reg r = register_fits p.profile row s long fits r
 
   at_kind : (r : Register) → IsKind (kind_at row r)
   at_kind r = kinds (number r)
@@ -208,7 +218,7 @@ module _ (sound : (profile : Profile) → IsSoundTable profile) (p : Program) (i
   no_input callee insn.Tail h c = c
 
   no_bad_call : (x : Insn) → AllNone (class_rules p (callee_in p.sigs x) row x) → ¬ Breaks (calls_of p.sigs) x s fault.Helper
-  no_bad_call (insn.Call n) h c = c (given_fits sound p row s limits fits memory at_number (callee_of p.sigs n) (untold_not _ ArgumentRule h.1.0))
+  no_bad_call (insn.Call n) h c = c (given_fits sound p row s limits long fits memory at_number (callee_of p.sigs n) (untold_not _ ArgumentRule h.1.0))
   no_bad_call (insn.Store size r offset src) h c = c
   no_bad_call (insn.Load size extend d r offset) h c = c
   no_bad_call (insn.Alu o w d src) h c = c
@@ -230,13 +240,13 @@ module _ (sound : (profile : Profile) → IsSoundTable profile) (p : Program) (i
   -- ---- what follows
   -- an edge that admits the state, and a memory as it was laid out
   abbrev pub Lands : Insn → State → Type 0
-  Lands x t = SomeEdge t.slot t.registers (edges_from p.profile (callee_in p.sigs x) i row x) × IsMemory p t.memory
+  Lands x t = SomeEdge t.slot (values p.profile t) (edges_from p.profile (callee_in p.sigs x) i row x) × IsMemory p t.memory
 
   -- a number written into a register, whose kind is told by an edge to the next slot
   written_lands : (x : Insn) (r : Register) (k : Kind) (v : ℕ) (t : State) → edges_from p.profile (callee_in p.sigs x) i row x ≡ (i + 1, with_kind row r k) ∷ [] → Admits k (Some v) → v < 2 ^ 64 → t ≡ advanced (with_register r v s) → Lands x t
   written_lands x r k v t es a w e =
-      let P : State → Type 0 = λ u. SomeEdge u.slot u.registers (edges_from p.profile (callee_in p.sigs x) i row x) × IsMemory p u.memory in
-      subst P (sym e) (subst (SomeEdge (s.slot +ℤ pos 1) (set s.registers (number r) (Some v))) (sym es) (inl (one_on s.slot i at, at_write row s.registers (number r) k (Some v) fits a w)), memory)
+      let P : State → Type 0 = λ u. SomeEdge u.slot (values p.profile u) (edges_from p.profile (callee_in p.sigs x) i row x) × IsMemory p u.memory in
+      subst P (sym e) (subst (SomeEdge (s.slot +ℤ pos 1) (values_of p.profile (set s.registers (number r) (Some v)) s.memory.stack)) (sym es) (inl (one_on s.slot i at, written_register p.profile row s long fits r k (Some v) a w)), memory)
 
   alu_lands : (o : Op) (w : Width) (dst : Register) (src : Operand) (t : State) → AllNone (class_rules p Unknown row (insn.Alu o w dst src)) → Does (calls_of p.sigs) (insn.Alu o w dst src) s t → Lands (insn.Alu o w dst src) t
   alu_lands o w dst src t h d =
@@ -264,46 +274,73 @@ module _ (sound : (profile : Profile) → IsSoundTable profile) (p : Program) (i
       let b = wrapped_below 64 (signed (8 * size_bytes size) n) in
       ((sound p.profile).range (full 64) (wrapped 64 (signed (8 * size_bytes size) n)) (omega arith) (omega arith, omega arith), b)
 
-  load_lands : (size : Size) (extend : Extend) (dst r : Register) (offset : ℤ) (t : State) → Does (calls_of p.sigs) (insn.Load size extend dst r offset) s t → Lands (insn.Load size extend dst r offset) t
-  load_lands size extend dst r offset t d =
-      let n = little_endian (read s.memory d.0 (address s r offset - base d.0) (size_bytes size)) in
-      let k = in_loaded size extend n (load_small p s.memory d.0 (address s r offset) size memory d.1) in
-      written_lands (insn.Load size extend dst r offset) dst (loaded p.profile size extend) (extended extend size n) t refl k.0 k.1 d.2
+  read_admits : (size : Size) (extend : Extend) (dst r : Register) (offset : ℤ) (region : Region) (o : Option ℕ) → IsInstruction (insn.Load size extend dst r offset) → is_inside p (kind_at row r) offset (size_bytes size) ≡ true → Covers s.memory region (address s r offset) (size_bytes size) → whole_cell p.profile (kind_at row r) offset (size_bytes size) ≡ o → let n = extended extend size (little_endian (read s.memory region (address s r offset - base region) (size_bytes size))) in Admits (read_kind o (loaded p.profile size extend) row) (Some n) × (n < 2 ^ 64)
+  read_admits size extend dst r offset region None is t c e =
+      in_loaded size extend (little_endian (read s.memory region (address s r offset - base region) (size_bytes size))) (load_small p s.memory region (address s r offset) size memory c)
+  read_admits size extend dst r offset region (Some i) is t c e =
+      let n = little_endian (read s.memory region (address s r offset - base region) (size_bytes size)) in
+      let cell = loaded_fits sound p row s limits long fits memory (kind_at row r) (number_in s r) offset (size_bytes size) i region e (at_number r).0 t c in
+      let same = extended_is size extend dst r offset n cell.1 is in
+      (subst (λ m. Admits (cell_kind row i) (Some m)) (sym same) cell.0, (in_loaded size extend n (load_small p s.memory region (address s r offset) size memory c)).1)
 
-  store_lands : (size : Size) (r : Register) (offset : ℤ) (src : Operand) (t : State) → Does (calls_of p.sigs) (insn.Store size r offset src) s t → Lands (insn.Store size r offset src) t
-  store_lands size r offset src t d =
-      let P : State → Type 0 = λ u. SomeEdge u.slot u.registers (edges_from p.profile Unknown i row (insn.Store size r offset src)) × IsMemory p u.memory in
-      subst P (sym d.2) (inl (one_on s.slot i at, fits), store_kept p s.memory d.0 (address s r offset) size (operand_in s src) memory d.1)
+  load_lands : (size : Size) (extend : Extend) (dst r : Register) (offset : ℤ) (t : State) → IsInstruction (insn.Load size extend dst r offset) → AllNone (class_rules p Unknown row (insn.Load size extend dst r offset)) → Does (calls_of p.sigs) (insn.Load size extend dst r offset) s t → Lands (insn.Load size extend dst r offset) t
+  load_lands size extend dst r offset t is h d =
+      let n = little_endian (read s.memory d.0 (address s r offset - base d.0) (size_bytes size)) in
+      let o = whole_cell p.profile (kind_at row r) offset (size_bytes size) in
+      let k = read_admits size extend dst r offset d.0 o is (untold_not _ OutsideWindow h.0) d.1 refl in
+      written_lands (insn.Load size extend dst r offset) dst (read_kind o (loaded p.profile size extend) row) (extended extend size n) t refl k.0 k.1 d.2
+
+  store_fits : (size : Size) (r : Register) (offset : ℤ) (src : Operand) (region : Region) (o : Option ℕ) → is_inside p (kind_at row r) offset (size_bytes size) ≡ true → Covers s.memory region (address s r offset) (size_bytes size) → whole_cell p.profile (kind_at row r) offset (size_bytes size) ≡ o → FitsRow (row_stored_in p.profile o (span_of (kind_at row r) offset (size_bytes size)) (kind_from p.profile row src) row) (values_of p.profile s.registers (written s.memory region (address s r offset - base region) (low_bytes (size_bytes size) (operand_in s src))).stack)
+  store_fits size r offset src region o t c e = from o e
+    where
+      covers : Covers s.memory region (address s r offset) (length (low_bytes (size_bytes size) (operand_in s src)))
+      covers = subst (Covers s.memory region (address s r offset)) (sym (length_low (size_bytes size) (operand_in s src))) c
+
+      from : (o : Option ℕ) → whole_cell p.profile (kind_at row r) offset (size_bytes size) ≡ o → FitsRow (row_stored_in p.profile o (span_of (kind_at row r) offset (size_bytes size)) (kind_from p.profile row src) row) (values_of p.profile s.registers (written s.memory region (address s r offset - base region) (low_bytes (size_bytes size) (operand_in s src))).stack)
+      from None e =
+          let l = length_low (size_bytes size) (operand_in s src) in
+          touched_fits sound p row s limits long fits memory (kind_at row r) (number_in s r) offset (size_bytes size) region (low_bytes (size_bytes size) (operand_in s src)) (at_number r).0 t covers (omega (arith, l)) (bytes_low (size_bytes size) (operand_in s src))
+      from (Some i) e =
+          let a = at_operand src in
+          let eight = (whole_is p.profile (kind_at row r) offset (size_bytes size) i e).eight in
+          let spelled : little_endian (low_bytes (size_bytes size) (operand_in s src)) ≡ operand_in s src = ap (λ n. little_endian (low_bytes n (operand_in s src))) eight ∙ low_whole 8 (operand_in s src) a.1 in
+          stored_fits sound p row s limits long fits memory (kind_at row r) (number_in s r) offset (size_bytes size) i region (low_bytes (size_bytes size) (operand_in s src)) (kind_from p.profile row src) (operand_in s src) e (at_number r).0 t covers (length_low (size_bytes size) (operand_in s src)) (bytes_low (size_bytes size) (operand_in s src)) spelled a.0
+
+  store_lands : (size : Size) (r : Register) (offset : ℤ) (src : Operand) (t : State) → AllNone (class_rules p Unknown row (insn.Store size r offset src)) → Does (calls_of p.sigs) (insn.Store size r offset src) s t → Lands (insn.Store size r offset src) t
+  store_lands size r offset src t h d =
+      let P : State → Type 0 = λ u. SomeEdge u.slot (values p.profile u) (edges_from p.profile Unknown i row (insn.Store size r offset src)) × IsMemory p u.memory in
+      let kept = store_fits size r offset src d.0 (whole_cell p.profile (kind_at row r) offset (size_bytes size)) (untold_not _ OutsideWindow h.0) d.1 refl in
+      subst P (sym d.2) (inl (one_on s.slot i at, kept), store_kept p s.memory d.0 (address s r offset) size (operand_in s src) memory d.1)
 
   -- ---- jumps
-  jump_edge : (z : ℤ) (k : ℕ) (r : Row) (u : ℤ) → z ≡ pos k → u ≡ z → FitsRow r s.registers → SomeEdge u s.registers (target_edge (Some z) r)
-  jump_edge z k r u e f h = subst (SomeEdge u s.registers) (sym (target_edge_at z k r e)) (inl (sym (f ∙ e), h))
+  jump_edge : (z : ℤ) (k : ℕ) (r : Row) (u : ℤ) → z ≡ pos k → u ≡ z → FitsRow r (values p.profile s) → SomeEdge u (values p.profile s) (target_edge (Some z) r)
+  jump_edge z k r u e f h = subst (SomeEdge u (values p.profile s)) (sym (target_edge_at z k r e)) (inl (sym (f ∙ e), h))
 
   landed : (o : ℤ) → (s.slot +ℤ pos 1 +ℤ o) ≡ landing i o
   landed o = ap (λ y. y +ℤ pos 1 +ℤ o) at
 
   near_lands : (o : ℤ) (k : ℕ) (t : State) → landing i o ≡ pos k → Does (calls_of p.sigs) (insn.Jump (distance.Near o)) s t → Lands (insn.Jump (distance.Near o)) t
   near_lands o k t e d =
-      let P : State → Type 0 = λ u. SomeEdge u.slot u.registers (target_edge (Some (landing i o)) row) × IsMemory p u.memory in
+      let P : State → Type 0 = λ u. SomeEdge u.slot (values p.profile u) (target_edge (Some (landing i o)) row) × IsMemory p u.memory in
       subst P (sym d) (jump_edge (landing i o) k row (s.slot +ℤ pos 1 +ℤ o) e (landed o) fits, memory)
 
   far_lands : (o : ℤ) (k : ℕ) (t : State) → landing i o ≡ pos k → Does (calls_of p.sigs) (insn.Jump (distance.Far o)) s t → Lands (insn.Jump (distance.Far o)) t
   far_lands o k t e d =
-      let P : State → Type 0 = λ u. SomeEdge u.slot u.registers (target_edge (Some (landing i o)) row) × IsMemory p u.memory in
+      let P : State → Type 0 = λ u. SomeEdge u.slot (values p.profile u) (target_edge (Some (landing i o)) row) × IsMemory p u.memory in
       subst P (sym d) (jump_edge (landing i o) k row (s.slot +ℤ pos 1 +ℤ o) e (landed o) fits, memory)
 
   -- the kinds of two compared operands, narrowed, still admit them
-  branch_fits : (c : Cond) (w : Width) (left : Register) (right : Operand) (taken : Bool) → any_unset row (left ∷ operand_reads right) ≡ false → condition c w (number_in s left) (operand_in s right) ≡ taken → FitsRow (refined p.profile c w left right taken row) s.registers
+  branch_fits : (c : Cond) (w : Width) (left : Register) (right : Operand) (taken : Bool) → any_unset row (left ∷ operand_reads right) ≡ false → condition c w (number_in s left) (operand_in s right) ≡ taken → FitsRow (refined p.profile c w left right taken row) (values p.profile s)
   branch_fits c w left (operand.Register right) taken h t =
       let a = at_reg left in
       let b = at_reg right in
       let ha = is_set _ _ (or_left (is_unset (kind_at row left)) _ h) a.0 in
       let hb = is_set _ _ (or_left (is_unset (kind_at row right)) _ (or_right (is_unset (kind_at row left)) _ h)) b.0 in
       let r = (sound p.profile).comparison c w (kind_at row left) (kind_at row right) taken (number_in s left) (number_in s right) (at_kind left) (at_kind right) (admits_number _ _ a.0) (admits_number _ _ b.0) t in
-      let ea = unwrap_or-slice_get s.registers (number left) None in
-      let eb = unwrap_or-slice_get s.registers (number right) None in
-      cond_both (eqb (number left) (number right)) _ _ (λ q. FitsRow q s.registers) (λ _. fits)
-      (λ _. at_learn _ s.registers (number right) _ (at_learn row s.registers (number left) _ fits (subst (Admits _) ea (back _ _ ha r.0))) (subst (Admits _) eb (back _ _ hb r.1)))
+      let ea = value_at p.profile row s long fits left in
+      let eb = value_at p.profile row s long fits right in
+      cond_both (eqb (number left) (number right)) _ _ (λ q. FitsRow q (values p.profile s)) (λ _. fits)
+      (λ _. at_learn _ (values p.profile s) (number right) _ (at_learn row (values p.profile s) (number left) _ fits (subst (Admits _) ea (back _ _ ha r.0))) (subst (Admits _) eb (back _ _ hb r.1)))
   branch_fits c w left (operand.Immediate n) taken h t =
       let a = at_reg left in
       let ha = is_set _ _ (or_left (is_unset (kind_at row left)) _ h) a.0 in
@@ -312,11 +349,11 @@ module _ (sound : (profile : Profile) → IsSoundTable profile) (p : Program) (i
       let same : condition c w (number_in s left) m ≡ taken = ap (λ j. compares c (bits w) (number_in s left % 2 ^ bits w) j) again ∙ t in
       let word = cut_word w (wrapped 64 n) in
       let r = (sound p.profile).comparison c w (kind_at row left) (one_number p.profile m) taken (number_in s left) m (at_kind left) ((sound p.profile).range_kind (single m) (omega arith) word) (admits_number _ _ a.0) ((sound p.profile).range (single m) m word (omega arith, omega arith)) same in
-      at_learn row s.registers (number left) _ fits (subst (Admits _) (unwrap_or-slice_get s.registers (number left) None) (back _ _ ha r.0))
+      at_learn row (values p.profile s) (number left) _ fits (subst (Admits _) (value_at p.profile row s long fits left) (back _ _ ha r.0))
 
   branch_lands : (c : Cond) (w : Width) (left : Register) (right : Operand) (o : ℤ) (k : ℕ) (t : State) → landing i o ≡ pos k → any_unset row (left ∷ operand_reads right) ≡ false → Does (calls_of p.sigs) (insn.JumpIf c w left right o) s t → Lands (insn.JumpIf c w left right o) t
   branch_lands c w left right o k t e h d =
-      let P : State → Type 0 = λ u. SomeEdge u.slot u.registers (edges_from p.profile Unknown i row (insn.JumpIf c w left right o)) × IsMemory p u.memory in
+      let P : State → Type 0 = λ u. SomeEdge u.slot (values p.profile u) (edges_from p.profile Unknown i row (insn.JumpIf c w left right o)) × IsMemory p u.memory in
       subst P (sym d)
       (cond_both (condition c w (number_in s left) (operand_in s right)) (jumped o s) (advanced s) P
       (λ yes. (inr (jump_edge (landing i o) k (refined p.profile c w left right true row) (s.slot +ℤ pos 1 +ℤ o) e (landed o) (branch_fits c w left right true h yes)), memory))
@@ -324,27 +361,27 @@ module _ (sound : (profile : Profile) → IsSoundTable profile) (p : Program) (i
 
   wide_lands : (dst : Register) (n : ℕ) (t : State) → n < 2 ^ 64 → Does (calls_of p.sigs) (insn.Wide dst n) s t → Lands (insn.Wide dst n) t
   wide_lands dst n t small d =
-      let P : State → Type 0 = λ u. SomeEdge u.slot u.registers (edges_from p.profile Unknown i row (insn.Wide dst n)) × IsMemory p u.memory in
+      let P : State → Type 0 = λ u. SomeEdge u.slot (values p.profile u) (edges_from p.profile Unknown i row (insn.Wide dst n)) × IsMemory p u.memory in
       let two : pos (i + 2) ≡ (s.slot +ℤ pos 1 +ℤ pos 1) = two_on s.slot i at in
-      subst P (sym d) (inl (two, at_write row s.registers (number dst) (one_number p.profile n) (Some n) fits ((sound p.profile).range (single n) n small (omega arith, omega arith)) small), memory)
+      subst P (sym d) (inl (two, written_register p.profile row s long fits dst (one_number p.profile n) (Some n) ((sound p.profile).range (single n) n small (omega arith, omega arith)) small), memory)
 
-  call_lands : (n : ℕ) (t : State) → Does (calls_of p.sigs) (insn.Call n) s t → Lands (insn.Call n) t
-  call_lands n t d =
+  call_lands : (n : ℕ) (t : State) → AllNone (class_rules p (callee_of p.sigs n) row (insn.Call n)) → Does (calls_of p.sigs) (insn.Call n) s t → Lands (insn.Call n) t
+  call_lands n t h d =
       let callee = callee_of p.sigs n in
-      let P : State → Type 0 = λ u. SomeEdge u.slot u.registers (edges_from p.profile callee i row (insn.Call n)) × IsMemory p u.memory in
-      let a = answered sound p row s limits fits memory at_number n callee d.0 d.1 d.2 in
-      subst P (sym d.3) (inl (one_on s.slot i at, row_fits sound p row s limits fits memory at_number (answer_kind p.profile callee) d.0 a.0 a.1), a.2)
+      let P : State → Type 0 = λ u. SomeEdge u.slot (values p.profile u) (edges_from p.profile callee i row (insn.Call n)) × IsMemory p u.memory in
+      let a = answered sound p row s limits long fits memory at_number n callee d.0 d.1 d.2 in
+      subst P (sym d.3) (inl (one_on s.slot i at, row_fits sound p row s limits long fits memory at_number n callee d.0 d.1 (untold_not _ ArgumentRule h.1.0) d.2), a.2)
 
   -- ---- any instruction
   pub lands : (x : Insn) (t : State) → IsInstruction x → ((z : ℤ) → target_of i x ≡ Some z → (k : ℕ) × (z ≡ pos k)) → AllNone (rules_of p row x) → Does (calls_of p.sigs) x s t → Lands x t
   lands (insn.Alu o w dst src) t is to h d = alu_lands o w dst src t h.1.1 d
   lands (insn.Swap kind n dst) t is to h d = swap_lands kind n dst t h.1.1 d
-  lands (insn.Load size extend dst r offset) t is to h d = load_lands size extend dst r offset t d
-  lands (insn.Store size r offset src) t is to h d = store_lands size r offset src t d
+  lands (insn.Load size extend dst r offset) t is to h d = load_lands size extend dst r offset t is h.1.1 d
+  lands (insn.Store size r offset src) t is to h d = store_lands size r offset src t h.1.1 d
   lands (insn.Jump (distance.Near o)) t is to h d = let k = to (landing i o) refl in near_lands o k.0 t k.1 d
   lands (insn.Jump (distance.Far o)) t is to h d = let k = to (landing i o) refl in far_lands o k.0 t k.1 d
   lands (insn.JumpIf c w left right o) t is to h d = let k = to (landing i o) refl in branch_lands c w left right o k.0 t k.1 (untold _ UnsetRead h.0) d
-  lands (insn.Call n) t is to h d = call_lands n t d
+  lands (insn.Call n) t is to h d = call_lands n t h.1.1 d
   lands insn.Exit t is to h d = absurd d
   lands (insn.Wide dst n) t is to h d = wide_lands dst n t is d
   lands insn.Tail t is to h d = absurd d

@@ -7,7 +7,7 @@ use Rattle.ranges.specs.declared.kind.Kind.{Kind}
 use Rattle.ranges.specs.declared.kind.Kind.TheVariants.{Unset}
 use Rattle.ranges.specs.Kinds.{Admits}
 use Rattle.ranges.specs.Laws.{IsSoundTable}
-use Rattle.verifier.specs.Registers.{Row}
+use Rattle.verifier.specs.Registers.{Row, IsLong}
 use Rattle.verifier.specs.Table.{Edge, join_rows, joined, into, AreKinds}
 
 -- a register holds a number of 64 bits, or nothing
@@ -59,13 +59,9 @@ length_join profile [] b e = refl
 length_join profile (k ∷ ks) [] e = absurd (omega arith)
 length_join profile (k ∷ ks) (l ∷ ls) e = let h : length (join_rows profile ks ls) ≡ length ks = length_join profile ks ls (omega arith) in omega arith
 
--- every row has the registers' number of kinds
-abbrev pub IsLong : Row → Type 0
-IsLong row = length row ≡ 11
-
--- and kinds that may stand in it
-pub record IsRow (row : Row) : Type 0 where
-  pub long : IsLong row
+-- every row has a kind for each register and cell, and kinds that may stand in it
+pub record IsRow (profile : Profile) (row : Row) : Type 0 where
+  pub long : IsLong profile row
   pub kinds : AreKinds row
 
 same_length : (a b : Row) → length a ≡ length b → SameLength a b
@@ -74,13 +70,13 @@ same_length [] (l ∷ ls) e = absurd (omega arith)
 same_length (k ∷ ks) [] e = absurd (omega arith)
 same_length (k ∷ ks) (l ∷ ls) e = same_length ks ls (omega arith)
 
-abbrev pub IsRowIfAny : Option Row → Type 0
-IsRowIfAny None = Unit {0}
-IsRowIfAny (Some row) = IsRow row
+abbrev pub IsRowIfAny : Profile → Option Row → Type 0
+IsRowIfAny profile None = Unit {0}
+IsRowIfAny profile (Some row) = IsRow profile row
 
-abbrev pub AreRows : List Edge → Type 0
-AreRows [] = Unit {0}
-AreRows (e ∷ es) = IsRow e.1 × AreRows es
+abbrev pub AreRows : Profile → List Edge → Type 0
+AreRows profile [] = Unit {0}
+AreRows profile (e ∷ es) = IsRow profile e.1 × AreRows profile es
 
 -- some row, which admits the registers
 abbrev pub FitsSome : Option Row → List (Option ℕ) → Type 0
@@ -118,32 +114,32 @@ module _ (profile : Profile) (sound : IsSoundTable profile) where
   kinds_join (k ∷ ks) (l ∷ ls) ka kb zero = sound.join_kind k l (ka zero) (kb zero)
   kinds_join (k ∷ ks) (l ∷ ls) ka kb (suc r) = kinds_join ks ls (λ n. ka (suc n)) (λ n. kb (suc n)) r
 
-  joined_is_row : (o : Option Row) (row : Row) → IsRowIfAny o → IsRow row → IsRowIfAny (joined profile o row)
+  joined_is_row : (o : Option Row) (row : Row) → IsRowIfAny profile o → IsRow profile row → IsRowIfAny profile (joined profile o row)
   joined_is_row None row h r = r
   joined_is_row (Some old) row h r =
       record { long = length_join profile old row (h.long ∙ sym r.long) ∙ h.long; kinds = kinds_join old row h.kinds r.kinds }
 
-  joined_old : (o : Option Row) (row : Row) (vs : List (Option ℕ)) → IsRowIfAny o → IsRow row → FitsSome o vs → FitsSome (joined profile o row) vs
+  joined_old : (o : Option Row) (row : Row) (vs : List (Option ℕ)) → IsRowIfAny profile o → IsRow profile row → FitsSome o vs → FitsSome (joined profile o row) vs
   joined_old None row vs h r f = absurd f
   joined_old (Some old) row vs h r f = rows_left old row vs (same_length old row (h.long ∙ sym r.long)) h.kinds r.kinds f
 
-  joined_new : (o : Option Row) (row : Row) (vs : List (Option ℕ)) → IsRowIfAny o → IsRow row → FitsRow row vs → FitsSome (joined profile o row) vs
+  joined_new : (o : Option Row) (row : Row) (vs : List (Option ℕ)) → IsRowIfAny profile o → IsRow profile row → FitsRow row vs → FitsSome (joined profile o row) vs
   joined_new None row vs h r f = f
   joined_new (Some old) row vs h r f = rows_right old row vs (same_length old row (h.long ∙ sym r.long)) h.kinds r.kinds f
 
-  step_is_row : (k : ℕ) (e : Edge) (o : Option Row) → IsRow e.1 → IsRowIfAny o → IsRowIfAny (cond (eqb e.0 k) (joined profile o e.1) o)
-  step_is_row k e o a h = cond_both (eqb e.0 k) _ _ IsRowIfAny (λ _. joined_is_row o e.1 h a) (λ _. h)
+  step_is_row : (k : ℕ) (e : Edge) (o : Option Row) → IsRow profile e.1 → IsRowIfAny profile o → IsRowIfAny profile (cond (eqb e.0 k) (joined profile o e.1) o)
+  step_is_row k e o a h = cond_both (eqb e.0 k) _ _ (IsRowIfAny profile) (λ _. joined_is_row o e.1 h a) (λ _. h)
 
-  pub into_is_row : (k : ℕ) (es : List Edge) (o : Option Row) → AreRows es → IsRowIfAny o → IsRowIfAny (into profile k es o)
+  pub into_is_row : (k : ℕ) (es : List Edge) (o : Option Row) → AreRows profile es → IsRowIfAny profile o → IsRowIfAny profile (into profile k es o)
   into_is_row k [] o a h = h
   into_is_row k (e ∷ es) o a h = into_is_row k es _ a.1 (step_is_row k e o a.0 h)
 
-  pub into_old : (k : ℕ) (es : List Edge) (o : Option Row) (vs : List (Option ℕ)) → AreRows es → IsRowIfAny o → FitsSome o vs → FitsSome (into profile k es o) vs
+  pub into_old : (k : ℕ) (es : List Edge) (o : Option Row) (vs : List (Option ℕ)) → AreRows profile es → IsRowIfAny profile o → FitsSome o vs → FitsSome (into profile k es o) vs
   into_old k [] o vs a h f = f
   into_old k (e ∷ es) o vs a h f =
       into_old k es _ vs a.1 (step_is_row k e o a.0 h) (cond_both (eqb e.0 k) _ _ (λ p. FitsSome p vs) (λ _. joined_old o e.1 vs h a.0 f) (λ _. f))
 
-  pub into_new : (k : ℕ) (es : List Edge) (o : Option Row) (vs : List (Option ℕ)) → AreRows es → IsRowIfAny o → SomeEdge (pos k) vs es → FitsSome (into profile k es o) vs
+  pub into_new : (k : ℕ) (es : List Edge) (o : Option Row) (vs : List (Option ℕ)) → AreRows profile es → IsRowIfAny profile o → SomeEdge (pos k) vs es → FitsSome (into profile k es o) vs
   into_new k [] o vs a h s = absurd s
   into_new k (e ∷ es) o vs a h (inr s) = into_new k es _ vs a.1 (step_is_row k e o a.0 h) s
   into_new k (e ∷ es) o vs a h (inl s) =

@@ -3,7 +3,9 @@ pub mod Words
 pub mod SameReads
 pub mod Fits
 pub mod Shape
+pub mod StackCells
 pub mod Places
+pub mod CellSteps
 pub mod CallSteps
 pub mod Classes
 pub mod Counting

@@ -39,10 +39,10 @@ inside_is p region lo hi offset size kind first low off high off' z end b t k f 
     ∙ ap (λ y. int_le (first_offset region) (lo +ℤ offset) && int_le (hi +ℤ offset +ℤ pos size) y) e
     ∙ ap (λ y. is_inside p y offset size) (sym k)
 
-int_le_true : (a b : ℤ) → int_le a b ≡ true → a ≤ℤ b
+pub int_le_true : (a b : ℤ) → int_le a b ≡ true → a ≤ℤ b
 int_le_true a b t = grind (arith, ints)
 
-natural : (z : ℤ) → pos 0 ≤ℤ z → (a : ℕ) × (z ≡ pos a)
+pub natural : (z : ℤ) → pos 0 ≤ℤ z → (a : ℕ) × (z ≡ pos a)
 natural (pos a) h = (a, refl)
 natural (negsuc m) h = absurd (omega (arith, ints))
 

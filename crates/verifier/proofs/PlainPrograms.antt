@@ -1,6 +1,7 @@
 -- A plain program that is well behaved is accepted.
 use Rattle.std.proofs.Common.{◌≡◌, ◌≢◌, ℕ, zero, suc, ℤ, pos, negsuc, ◌<◌, ◌≤◌, Bool, true, false, cond, not, eqb, ◌||◌, List, [], ◌∷◌, ◌++◌, length, Option, Some, None, refl, sym, ap, ◌∙◌, subst, inl, inr, ⊎_elim, arith}
-use Rattle.std.specs.Prelude.{◌≤ℤ◌, ◌+ℤ◌, int_le, slice_get}
+use Rattle.std.specs.Prelude.{◌≤ℤ◌, ◌+ℤ◌, ◌&&◌, int_le, slice_get, replicate}
+use Rattle.std.proofs.lemmas.List.{length-replicate}
 use Rattle.std.proofs.lemmas.Int.{ints}
 use Rattle.std.proofs.lemmas.Bool.{cond_both, cases_lt, cases_Bool, eqb-true, and_from}
 use Rattle.std.proofs.lemmas.Option.{slice_get_past}
@@ -18,73 +19,76 @@ use Rattle.ranges.specs.declared.profile.Profile.{Profile}
 use Rattle.bpfimage.specs.Form.{next_of, target_of, GoesTo, IsSuccessor, IsPath, IsFormed}
 use Rattle.verifier.specs.Program.{Program}
 use Rattle.verifier.specs.declared.rule.KindRule.{KindRule}
-use Rattle.verifier.specs.declared.rule.KindRule.TheVariants.{UnsetRead, FrameWritten, PointerOperand, OutsideWindow, InputStored, PointerStored, PointerAnswer}
-use Rattle.verifier.specs.Registers.{Row, kind_at, entry, is_unset, is_pointer, is_input_pointer, any_unset, first_offset, end_offset, is_inside}
+use Rattle.verifier.specs.declared.rule.KindRule.TheVariants.{UnsetRead, FrameWritten, PointerOperand, OutsideWindow, InputStored, PointerStored, PointerAnswer, StackRead}
+use Rattle.verifier.specs.Cells.{span_of, whole_cell}
+use Rattle.verifier.specs.Registers.{Row, cell_count, IsLong, kind_at, one_number, entry, is_unset, is_pointer, is_input_pointer, any_unset, first_offset, end_offset, is_inside}
 use Rattle.helpers.specs.Calls.{Callee}
 use Rattle.verifier.specs.Rules.{callee_in, compares_pointer, is_frame, broken_if, bad_result, class_rules, rules_of, first_of, row_after, row_taken}
 use Rattle.verifier.specs.Table.{Edge, next_edge, target_edge, edges_from, join_rows, joined, into, edges_of, arrivals, table, broken_with, IsAccepted}
 use Rattle.verifier.specs.Plain.{IsIn, WrittenOn, SetAtStart, window_of, IsPlainInsn, IsPlain, InWindow, StaysInside, IsWellBehaved}
-use Rattle.verifier.proofs.Fits.{IsLong, length_join}
+use Rattle.verifier.proofs.Fits.{length_join}
 use Rattle.verifier.proofs.Shape.{Leads, NextStarts, next_leads, target_leads}
 use Rattle.verifier.proofs.Classes.{AllNone, or_right}
 use Rattle.verifier.proofs.Soundness.{after_is_long, taken_is_long}
 use Rattle.verifier.proofs.SameReads.{reads_plain}
 use Rattle.verifier.proofs.Tables.{length_rows, table_at}
-use Rattle.verifier.proofs.PlainRows.{plain_number, IsNum, IsNumOrUnset, left_number, not_number, PlainAt, PlainRow, GivesNumber, operand_number, register_number, alu_number, swap_result, Follows, after_follows, taken_follows, join_plain, unset_of_one}
+use Rattle.verifier.proofs.PlainRows.{plain_number, IsNum, IsNumOrUnset, left_number, not_number, PlainAt, PlainRow, AllNum, PlainCells, readable, join_cells, GivesNumber, operand_number, register_number, alu_number, swap_result, Follows, after_follows, taken_follows, join_plain, unset_of_one}
 
 -- on some path to slot k the register is not written, and it is not set at the start
 abbrev pub Unwritten : List Insn → ℕ → Register → Type 0
 Unwritten code k r = (path : List ℕ) × IsPath code (k ∷ path) × (WrittenOn code path r → ⊥) × (SetAtStart r → ⊥)
 
 -- what is known of the row of slot k
-pub record IsPlainAt (code : List Insn) (k : ℕ) (row : Row) : Type 0 where
-  pub long : IsLong row
+pub record IsPlainAt (profile : Profile) (code : List Insn) (k : ℕ) (row : Row) : Type 0 where
+  pub long : IsLong profile row
   pub plain : PlainRow row
+  pub cells : PlainCells row
   pub unset : (r : Register) → kind_at row r ≡ Unset → Unwritten code k r
 
-abbrev pub PlainIfAny : List Insn → ℕ → Option Row → Type 0
-PlainIfAny code k None = Unit {0}
-PlainIfAny code k (Some row) = IsPlainAt code k row
+abbrev pub PlainIfAny : Profile → List Insn → ℕ → Option Row → Type 0
+PlainIfAny profile code k None = Unit {0}
+PlainIfAny profile code k (Some row) = IsPlainAt profile code k row
 
-abbrev pub PlainSlot : List Insn → ℕ → Option (Option Row) → Type 0
-PlainSlot code k None = Unit {0}
-PlainSlot code k (Some o) = PlainIfAny code k o
+abbrev pub PlainSlot : Profile → List Insn → ℕ → Option (Option Row) → Type 0
+PlainSlot profile code k None = Unit {0}
+PlainSlot profile code k (Some o) = PlainIfAny profile code k o
 
 -- ---- joins
 
-joined_rows : (profile : Profile) (code : List Insn) (k : ℕ) (a b : Row) → IsPlainAt code k a → IsPlainAt code k b → IsPlainAt code k (join_rows profile a b)
+joined_rows : (profile : Profile) (code : List Insn) (k : ℕ) (a b : Row) → IsPlainAt profile code k a → IsPlainAt profile code k b → IsPlainAt profile code k (join_rows profile a b)
 joined_rows profile code k a b ha hb = record {
   long = length_join profile a b (ha.long ∙ sym hb.long) ∙ ha.long;
   plain = join_plain profile a b ha.plain hb.plain;
+  cells = join_cells profile a b ha.cells hb.cells;
   unset = λ r u. ⊎_elim (λ e. ha.unset r e) (λ e. hb.unset r e) (unset_of_one profile a b r ha.plain hb.plain u);
 }
 
-joined_plain : (profile : Profile) (code : List Insn) (k : ℕ) (o : Option Row) (row : Row) → PlainIfAny code k o → IsPlainAt code k row → PlainIfAny code k (joined profile o row)
+joined_plain : (profile : Profile) (code : List Insn) (k : ℕ) (o : Option Row) (row : Row) → PlainIfAny profile code k o → IsPlainAt profile code k row → PlainIfAny profile code k (joined profile o row)
 joined_plain profile code k None row h g = g
 joined_plain profile code k (Some old) row h g = joined_rows profile code k old row h g
 
-abbrev AllPlain : List Insn → List Edge → Type 0
-AllPlain code [] = Unit {0}
-AllPlain code (e ∷ es) = IsPlainAt code e.0 e.1 × AllPlain code es
+abbrev AllPlain : Profile → List Insn → List Edge → Type 0
+AllPlain profile code [] = Unit {0}
+AllPlain profile code (e ∷ es) = IsPlainAt profile code e.0 e.1 × AllPlain profile code es
 
-into_plain : (profile : Profile) (code : List Insn) (k : ℕ) (es : List Edge) (o : Option Row) → AllPlain code es → PlainIfAny code k o → PlainIfAny code k (into profile k es o)
+into_plain : (profile : Profile) (code : List Insn) (k : ℕ) (es : List Edge) (o : Option Row) → AllPlain profile code es → PlainIfAny profile code k o → PlainIfAny profile code k (into profile k es o)
 into_plain profile code k [] o a h = h
 into_plain profile code k (e ∷ es) o a h =
     into_plain profile code k es _ a.1
-    (cond_both (eqb e.0 k) _ _ (PlainIfAny code k) (λ t. joined_plain profile code k o e.1 h (subst (λ n. IsPlainAt code n e.1) (eqb-true e.0 k t) a.0)) (λ _. h))
+    (cond_both (eqb e.0 k) _ _ (PlainIfAny profile code k) (λ t. joined_plain profile code k o e.1 h (subst (λ n. IsPlainAt profile code n e.1) (eqb-true e.0 k t) a.0)) (λ _. h))
 
-all_append : (code : List Insn) (es fs : List Edge) → AllPlain code es → AllPlain code fs → AllPlain code (es ++ fs)
-all_append code [] fs a b = b
-all_append code (e ∷ es) fs a b = (a.0, all_append code es fs a.1 b)
+all_append : (profile : Profile) (code : List Insn) (es fs : List Edge) → AllPlain profile code es → AllPlain profile code fs → AllPlain profile code (es ++ fs)
+all_append profile code [] fs a b = b
+all_append profile code (e ∷ es) fs a b = (a.0, all_append profile code es fs a.1 b)
 
-next_plain : (code : List Insn) (o : Option ℕ) (row : Row) → ((k : ℕ) → o ≡ Some k → IsPlainAt code k row) → AllPlain code (next_edge o row)
-next_plain code None row h = tt
-next_plain code (Some k) row h = (h k refl, tt)
+next_plain : (profile : Profile) (code : List Insn) (o : Option ℕ) (row : Row) → ((k : ℕ) → o ≡ Some k → IsPlainAt profile code k row) → AllPlain profile code (next_edge o row)
+next_plain profile code None row h = tt
+next_plain profile code (Some k) row h = (h k refl, tt)
 
-target_plain : (code : List Insn) (o : Option ℤ) (row : Row) → ((k : ℕ) → o ≡ Some (pos k) → IsPlainAt code k row) → AllPlain code (target_edge o row)
-target_plain code None row h = tt
-target_plain code (Some (pos k)) row h = (h k refl, tt)
-target_plain code (Some (negsuc k)) row h = tt
+target_plain : (profile : Profile) (code : List Insn) (o : Option ℤ) (row : Row) → ((k : ℕ) → o ≡ Some (pos k) → IsPlainAt profile code k row) → AllPlain profile code (target_edge o row)
+target_plain profile code None row h = tt
+target_plain profile code (Some (pos k)) row h = (h k refl, tt)
+target_plain profile code (Some (negsuc k)) row h = tt
 
 -- ---- the entry
 
@@ -101,6 +105,13 @@ entry_plain p R8 = tt
 entry_plain p R9 = tt
 entry_plain p R10 = refl
 
+entry_cells : (p : Program) → PlainCells (entry p)
+entry_cells p = zeros (cell_count p.profile)
+  where
+    zeros : (n : ℕ) → AllNum (replicate n (one_number p.profile 0))
+    zeros zero = tt
+    zeros (suc n) = (left_number _, zeros n)
+
 entry_unset : (p : Program) (r : Register) → kind_at (entry p) r ≡ Unset → SetAtStart r → ⊥
 entry_unset p R0 u s = s
 entry_unset p R1 u s = cc
@@ -114,10 +125,11 @@ entry_unset p R8 u s = s
 entry_unset p R9 u s = s
 entry_unset p R10 u s = cc
 
-entry_at : (p : Program) (k : ℕ) → k ≡ 0 → IsPlainAt p.code k (entry p)
+entry_at : (p : Program) (k : ℕ) → k ≡ 0 → IsPlainAt p.profile p.code k (entry p)
 entry_at p k e = record {
-  long = refl;
+  long = let l = length-replicate {A = Kind} (cell_count p.profile) (one_number p.profile 0) in omega (arith, l);
   plain = entry_plain p;
+  cells = entry_cells p;
   unset = λ r u. ([], e, (λ w. w), entry_unset p r u);
 }
 
@@ -125,51 +137,52 @@ same_insn : (o : Option Insn) (x y : Insn) → o ≡ Some x → o ≡ Some y →
 same_insn o x y e f = cc
 
 -- an edge carries on what is known
-carried : (code : List Insn) (i k : ℕ) (x : Insn) (row next : Row) → slice_get code i ≡ Some x → IsPlainAt code i row → IsSuccessor code i k → IsLong next → Follows row next x → IsPlainAt code k next
-carried code i k x row next at here leads long follows = record {
+carried : (profile : Profile) (code : List Insn) (i k : ℕ) (x : Insn) (row next : Row) → slice_get code i ≡ Some x → IsPlainAt profile code i row → IsSuccessor code i k → IsLong profile next → Follows row next x → IsPlainAt profile code k next
+carried profile code i k x row next at here leads long follows = record {
   long = long;
   plain = follows.plain;
+  cells = follows.cells;
   unset = λ r u.
       let before = follows.unset r u in
       let path = here.unset r before.0 in
       (i ∷ path.0, (leads, path.1), ⊎_elim (λ w. before.1 (ap writes (same_insn (slice_get code i) x w.0 at w.1) ∙ w.2)) path.2, path.3);
 }
 
-module _ (p : Program) (some : 1 ≤ length p.code) (formed : IsFormed p.code) (starts : NextStarts p.code) (plain : IsPlain p.code) (reads_set : (i : ℕ) (x : Insn) (row : Row) → slice_get p.code i ≡ Some x → slice_get (table p) i ≡ Some (Some row) → IsPlainAt p.code i row → any_unset row (reads no_calls x) ≡ false) where
+module _ (p : Program) (some : 1 ≤ length p.code) (formed : IsFormed p.code) (starts : NextStarts p.code) (plain : IsPlain p.code) (reads_set : (i : ℕ) (x : Insn) (row : Row) → slice_get p.code i ≡ Some x → slice_get (table p) i ≡ Some (Some row) → IsPlainAt p.profile p.code i row → any_unset row (reads no_calls x) ≡ false) where
   successor : (i k : ℕ) (x : Insn) → slice_get p.code i ≡ Some x → GoesTo i x k → Leads p.code i k → IsSuccessor p.code i k
   successor i k x at goes l = (x, at, goes, l.above, (l.to, l.there, l.starts))
 
   same_slot : (j k : ℕ) → pos k ≡ pos j → j ≡ k
   same_slot j k e = cc
 
-  edges_plain : (i : ℕ) (x : Insn) (row : Row) → slice_get p.code i ≡ Some x → slice_get (table p) i ≡ Some (Some row) → IsPlainAt p.code i row → AllPlain p.code (edges_from p.profile (callee_in p.sigs x) i row x)
+  edges_plain : (i : ℕ) (x : Insn) (row : Row) → slice_get p.code i ≡ Some x → slice_get (table p) i ≡ Some (Some row) → IsPlainAt p.profile p.code i row → AllPlain p.profile p.code (edges_from p.profile (callee_in p.sigs x) i row x)
   edges_plain i x row at here is =
       let set = reads_set i x row at here is in
-      all_append p.code _ _
-      (next_plain p.code (next_of i x) (row_after p.profile (callee_in p.sigs x) row x) (λ k e. carried p.code i k x row (row_after p.profile (callee_in p.sigs x) row x) at is (successor i k x at (inl e) (next_leads p.code i x k formed starts at e)) (after_is_long p.profile (callee_in p.sigs x) row x is.long) (after_follows p.profile (callee_in p.sigs x) row x is.long is.plain (plain i x at) set)))
-      (target_plain p.code (target_of i x) (row_taken p.profile row x) (λ k e. let l = target_leads p.code i x (pos k) formed at e in
-      carried p.code i k x row (row_taken p.profile row x) at is (successor i k x at (inr e) (subst (Leads p.code i) (same_slot l.0 k l.1) l.2)) (taken_is_long p.profile row x is.long) (taken_follows p.profile row x (pos k) i e is.long is.plain (plain i x at) set)))
+      all_append p.profile p.code _ _
+      (next_plain p.profile p.code (next_of i x) (row_after p.profile (callee_in p.sigs x) row x) (λ k e. carried p.profile p.code i k x row (row_after p.profile (callee_in p.sigs x) row x) at is (successor i k x at (inl e) (next_leads p.code i x k formed starts at e)) (after_is_long p.profile (callee_in p.sigs x) row x is.long) (after_follows p.profile (callee_in p.sigs x) row x is.long is.plain is.cells (plain i x at) set)))
+      (target_plain p.profile p.code (target_of i x) (row_taken p.profile row x) (λ k e. let l = target_leads p.code i x (pos k) formed at e in
+      carried p.profile p.code i k x row (row_taken p.profile row x) at is (successor i k x at (inr e) (subst (Leads p.code i) (same_slot l.0 k l.1) l.2)) (taken_is_long p.profile row x is.long) (taken_follows p.profile row x (pos k) i e is.long is.plain is.cells (plain i x at) set)))
 
-  edges_of_plain : (i : ℕ) (x : Option Insn) (o : Option (Option Row)) → slice_get p.code i ≡ x → slice_get (table p) i ≡ o → PlainSlot p.code i o → AllPlain p.code (edges_of p i x o)
+  edges_of_plain : (i : ℕ) (x : Option Insn) (o : Option (Option Row)) → slice_get p.code i ≡ x → slice_get (table p) i ≡ o → PlainSlot p.profile p.code i o → AllPlain p.profile p.code (edges_of p i x o)
   edges_of_plain i None o at here h = tt
   edges_of_plain i (Some x) None at here h = tt
   edges_of_plain i (Some x) (Some None) at here h = tt
   edges_of_plain i (Some x) (Some (Some row)) at here h = edges_plain i x row at here h
 
-  first_plain : (k : ℕ) → PlainIfAny p.code k (cond (eqb k 0) (Some (entry p)) None)
-  first_plain k = cond_both (eqb k 0) _ _ (PlainIfAny p.code k) (λ t. entry_at p k (eqb-true k 0 t)) (λ _. tt)
+  first_plain : (k : ℕ) → PlainIfAny p.profile p.code k (cond (eqb k 0) (Some (entry p)) None)
+  first_plain k = cond_both (eqb k 0) _ _ (PlainIfAny p.profile p.code k) (λ t. entry_at p k (eqb-true k 0 t)) (λ _. tt)
 
-  arrivals_plain : (n k : ℕ) → ((i : ℕ) → i < n → PlainSlot p.code i (slice_get (table p) i)) → PlainIfAny p.code k (arrivals p (table p) n k)
+  arrivals_plain : (n k : ℕ) → ((i : ℕ) → i < n → PlainSlot p.profile p.code i (slice_get (table p) i)) → PlainIfAny p.profile p.code k (arrivals p (table p) n k)
   arrivals_plain zero k h = first_plain k
   arrivals_plain (suc n) k h =
       into_plain p.profile p.code k _ _ (edges_of_plain n (slice_get p.code n) (slice_get (table p) n) refl refl (h n (omega arith))) (arrivals_plain n k (λ i lt. h i (omega arith)))
 
-  pub table_plain : (n k : ℕ) → k < n → PlainSlot p.code k (slice_get (table p) k)
+  pub table_plain : (n k : ℕ) → k < n → PlainSlot p.profile p.code k (slice_get (table p) k)
   table_plain zero k h = absurd (omega arith)
   table_plain (suc n) k h =
       ⊎_elim
-      (λ lt. subst (PlainSlot p.code k) (sym (table_at p k lt)) (arrivals_plain k k (λ i l. table_plain n i (omega arith))))
-      (λ le. subst (PlainSlot p.code k) (sym (slice_get_past (table p) k (omega (arith, length_rows p (length p.code))))) tt)
+      (λ lt. subst (PlainSlot p.profile p.code k) (sym (table_at p k lt)) (arrivals_plain k k (λ i l. table_plain n i (omega arith))))
+      (λ le. subst (PlainSlot p.profile p.code k) (sym (slice_get_past (table p) k (omega (arith, length_rows p (length p.code))))) tt)
       (cases_lt k (length p.code))
 
 -- ---- no rule is broken
@@ -286,27 +299,30 @@ kind_no_pointer Dead h = refl
 kind_no_pointer (Num a) h = refl
 kind_no_pointer (Ptr q lo hi) h = absurd h
 
-class_kept : (p : Program) (callee : Callee) (row : Row) (x : Insn) → PlainRow row → IsPlainInsn x → StaysInside p x → any_unset row (reads no_calls x) ≡ false → AllNone (class_rules p callee row x)
-class_kept p callee row (insn.Alu o w dst src) plain is inside u = (no_bad _ (alu_number p.profile row plain w dst src is.no_address o u), tt)
-class_kept p callee row (insn.Swap kind n dst) plain is inside u = (no_bad _ (swap_result p.profile kind n (kind_at row dst) (register_number row dst [] plain (is.no_address dst (inl refl)) u)), tt)
-class_kept p callee row (insn.Load size extend dst base offset) plain is inside u = (not_told _ OutsideWindow (not_true _ (inside_at p base (kind_at row base) offset (size_bytes size) (plain base) inside)), tt)
-class_kept p callee row (insn.Store size base offset src) plain is inside u = (
+no_store : (k : Kind) (b : Bool) → IsNum k → (is_pointer k && b) ≡ false
+no_store k b h = ap (λ t. t && b) (no_pointer k h)
+
+class_kept : (p : Program) (callee : Callee) (row : Row) (x : Insn) → IsLong p.profile row → PlainCells row → PlainRow row → IsPlainInsn x → StaysInside p x → any_unset row (reads no_calls x) ≡ false → AllNone (class_rules p callee row x)
+class_kept p callee row (insn.Alu o w dst src) long cells plain is inside u = (no_bad _ (alu_number p.profile row plain w dst src is.no_address o u), tt)
+class_kept p callee row (insn.Swap kind n dst) long cells plain is inside u = (no_bad _ (swap_result p.profile kind n (kind_at row dst) (register_number row dst [] plain (is.no_address dst (inl refl)) u)), tt)
+class_kept p callee row (insn.Load size extend dst base offset) long cells plain is inside u = (not_told _ OutsideWindow (not_true _ (inside_at p base (kind_at row base) offset (size_bytes size) (plain base) inside)), (not_told _ StackRead (not_true _ (readable p.profile row (kind_at row base) offset (size_bytes size) (whole_cell p.profile (kind_at row base) offset (size_bytes size)) (span_of (kind_at row base) offset (size_bytes size)) long refl cells)), tt))
+class_kept p callee row (insn.Store size base offset src) long cells plain is inside u = (
   not_told _ OutsideWindow (not_true _ (inside_at p base (kind_at row base) offset (size_bytes size) (plain base) inside.0)),
   (
     not_told _ InputStored (not_input_at p base (kind_at row base) offset (size_bytes size) (plain base) inside.0 inside.1),
-    (not_told _ PointerStored (no_pointer _ (operand_number p.profile row src plain is.no_address (or_right (is_unset (kind_at row base)) (any_unset row (operand_reads src)) u))), tt),
+    (not_told _ PointerStored (no_store _ _ (operand_number p.profile row src plain is.no_address (or_right (is_unset (kind_at row base)) (any_unset row (operand_reads src)) u))), tt),
   ),
 )
-class_kept p callee row (insn.Jump d) plain is inside u = tt
-class_kept p callee row (insn.JumpIf c w left right o) plain is inside u = (
+class_kept p callee row (insn.Jump d) long cells plain is inside u = tt
+class_kept p callee row (insn.JumpIf c w left right o) long cells plain is inside u = (
   not_told _ PointerOperand
       (no_compared _ _ (register_number row left (operand_reads right) plain (is.no_address left (inl refl)) u) (operand_number p.profile row right plain (λ r h. is.no_address r (inr h)) (or_right (is_unset (kind_at row left)) (any_unset row (operand_reads right)) u))),
   tt,
 )
-class_kept p callee row (insn.Call h) plain is inside u = absurd (is.no_call h refl)
-class_kept p callee row insn.Exit plain is inside u = (not_told _ PointerAnswer (kind_no_pointer (kind_at row R0) (plain R0)), tt)
-class_kept p callee row (insn.Wide dst n) plain is inside u = tt
-class_kept p callee row insn.Tail plain is inside u = tt
+class_kept p callee row (insn.Call h) long cells plain is inside u = absurd (is.no_call h refl)
+class_kept p callee row insn.Exit long cells plain is inside u = (not_told _ PointerAnswer (kind_no_pointer (kind_at row R0) (plain R0)), tt)
+class_kept p callee row (insn.Wide dst n) long cells plain is inside u = tt
+class_kept p callee row insn.Tail long cells plain is inside u = tt
 
 none_first : {A : Type 0} (xs : List (Option A)) → AllNone xs → first_of xs ≡ None
 none_first [] h = refl
@@ -316,7 +332,7 @@ none_first (Some x ∷ xs) h = cc
 -- ---- the theorem
 
 module _ (p : Program) (some : 1 ≤ length p.code) (starts : NextStarts p.code) (plain : IsPlain p.code) (good : IsWellBehaved p) where
-  reads_are_set : (i : ℕ) (x : Insn) (row : Row) → slice_get p.code i ≡ Some x → slice_get (table p) i ≡ Some (Some row) → IsPlainAt p.code i row → any_unset row (reads no_calls x) ≡ false
+  reads_are_set : (i : ℕ) (x : Insn) (row : Row) → slice_get p.code i ≡ Some x → slice_get (table p) i ≡ Some (Some row) → IsPlainAt p.profile p.code i row → any_unset row (reads no_calls x) ≡ false
   reads_are_set i x row at here is =
       ⊎_elim
       (λ t. let r = some_unset row (reads no_calls x) t in
@@ -325,13 +341,13 @@ module _ (p : Program) (some : 1 ≤ length p.code) (starts : NextStarts p.code)
       (λ f. f)
       (cases_Bool (any_unset row (reads no_calls x)))
 
-  kept_here : (k : ℕ) (x : Option Insn) (o : Option (Option Row)) → slice_get p.code k ≡ x → slice_get (table p) k ≡ o → PlainSlot p.code k o → broken_with p x o ≡ None
+  kept_here : (k : ℕ) (x : Option Insn) (o : Option (Option Row)) → slice_get p.code k ≡ x → slice_get (table p) k ≡ o → PlainSlot p.profile p.code k o → broken_with p x o ≡ None
   kept_here k None o at here h = refl
   kept_here k (Some x) None at here h = refl
   kept_here k (Some x) (Some None) at here h = refl
   kept_here k (Some x) (Some (Some row)) at here h =
       let u = reads_are_set k x row at here h in
-      none_first (rules_of p row x) (not_told _ UnsetRead (ap (any_unset row) (reads_plain (callee_in p.sigs x) x (plain k x at).no_call) ∙ u), (not_told _ FrameWritten (no_frame x (plain k x at)), class_kept p (callee_in p.sigs x) row x h.plain (plain k x at) (good.inside k x at) u))
+      none_first (rules_of p row x) (not_told _ UnsetRead (ap (any_unset row) (reads_plain (callee_in p.sigs x) x (plain k x at).no_call) ∙ u), (not_told _ FrameWritten (no_frame x (plain k x at)), class_kept p (callee_in p.sigs x) row x h.long h.cells h.plain (plain k x at) (good.inside k x at) u))
 
   pub well_behaved_accepted : IsAccepted p
   well_behaved_accepted = record {

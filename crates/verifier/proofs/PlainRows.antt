@@ -1,14 +1,15 @@
 -- The rows of plain programs: the addresses stay as they were at the start, and every other register is a number or unset.
-use Rattle.std.proofs.Common.{◌≡◌, ◌≢◌, ℕ, zero, suc, ℤ, pos, ◌<◌, Bool, true, false, eqb, List, [], ◌∷◌, length, length-set, get_or, set, ◌%◌, ◌^◌, Option, Some, None, Result, Ok, refl, sym, ap, ◌∙◌, subst, inl, inr, ⊎_elim, arith}
+use Rattle.std.proofs.Common.{◌≡◌, ◌≢◌, ℕ, zero, suc, ℤ, pos, ◌+◌, ◌<◌, ◌≤◌, Bool, true, false, cond, eqb, List, [], ◌∷◌, length, length-set, length-drop, get_or, set, take, drop, ◌%◌, ◌^◌, Option, Some, None, Result, Ok, refl, sym, ap, ◌∙◌, subst, inl, inr, ⊎_elim, arith}
 use Rattle.std.specs.Prelude.{◌⊎◌}
-use Rattle.std.proofs.lemmas.Bool.{cond_both, cases_eq}
+use Rattle.std.proofs.lemmas.Bool.{cond_both, cases_eq, and_from}
+use Rattle.std.proofs.lemmas.List.{get_or-drop, length-take-le}
 use Rattle.alu.specs.Value.{wrapped, bits}
 use Rattle.alu.specs.declared.Op.{Op}
 use Rattle.alu.specs.declared.Op.TheVariants as op
 use Rattle.alu.specs.declared.Width.{Width}
 use Rattle.alu.specs.declared.Width.TheVariants.{W32, W64}
 use Rattle.alu.specs.declared.Cond.{Cond}
-use Rattle.insn.specs.Encoding.{number}
+use Rattle.insn.specs.Encoding.{number, size_bytes}
 use Rattle.insn.specs.declared.Size.{Size}
 use Rattle.insn.specs.declared.Extend.{Extend}
 use Rattle.insn.specs.declared.Register.{Register}
@@ -28,10 +29,14 @@ use Rattle.ranges.specs.Comparisons.{compared}
 use Rattle.ranges.specs.Transfer.{kind_of, transfer_of, of_one, of_two, swap_of, kinds_of, refine_of, join_of}
 use Rattle.bpfimage.specs.Form.{target_of}
 use Rattle.helpers.specs.Calls.{Callee}
-use Rattle.verifier.specs.Registers.{Row, kind_at, with_kind, kind_from, one_number, is_unset, any_unset}
+use Rattle.verifier.specs.Registers.{Row, cell_count, IsLong, kind_at, with_kind, kind_from, one_number, is_unset, any_unset}
+use Rattle.verifier.specs.Cells.{span_of, whole_cell, is_touched, cell_kind, touched, cells_touched, row_stored_in, row_stored, read_kind, is_known, is_numeric, are_numeric, is_readable}
+use Rattle.verifier.specs.declared.span.Span.{Span}
 use Rattle.verifier.specs.Rules.{result_kind, loaded, refined, row_after, row_taken}
 use Rattle.verifier.specs.Table.{join_rows}
 use Rattle.verifier.specs.Plain.{IsIn, window_of, IsPlainInsn}
+use Rattle.verifier.proofs.StackCells.{number_small, stored_register, seam}
+use Rattle.verifier.proofs.CellSteps.{whole_is}
 use Rattle.verifier.proofs.Classes.{or_left, or_right}
 
 -- ---- kinds
@@ -64,6 +69,14 @@ PlainAt other k = IsNumOrUnset k
 
 abbrev pub PlainRow : Row → Type 0
 PlainRow row = (r : Register) → PlainAt r (kind_at row r)
+
+-- every cell holds a number
+abbrev pub AllNum : List Kind → Type 0
+AllNum [] = Unit {0}
+AllNum (k ∷ ks) = IsNum k × AllNum ks
+
+abbrev pub PlainCells : Row → Type 0
+PlainCells row = AllNum (drop 11 row)
 
 register_of : ℕ → Register
 register_of zero = R0
@@ -248,96 +261,177 @@ set_aside (x ∷ row) zero (suc j) k ne = refl
 set_aside (x ∷ row) (suc i) zero k ne = refl
 set_aside (x ∷ row) (suc i) (suc j) k ne = set_aside row i j k (λ e. ne (ap suc e))
 
-number_small : (r : Register) → number r < 11
-number_small R0 = omega arith
-number_small R1 = omega arith
-number_small R2 = omega arith
-number_small R3 = omega arith
-number_small R4 = omega arith
-number_small R5 = omega arith
-number_small R6 = omega arith
-number_small R7 = omega arith
-number_small R8 = omega arith
-number_small R9 = omega arith
-number_small R10 = omega arith
-
 pub not_number : (k : Kind) → IsNum k → k ≡ Unset → ⊥
 not_number k h e = subst IsNum e h
 
 -- what is unset there was unset before, and is another register
-pub unset_before : (row : Row) (d r : Register) (k : Kind) → length row ≡ 11 → IsNum k → kind_at (with_kind row d k) r ≡ Unset → (kind_at row r ≡ Unset) × (r ≢ d)
+pub unset_before : (row : Row) (d r : Register) (k : Kind) → 11 ≤ length row → IsNum k → kind_at (with_kind row d k) r ≡ Unset → (kind_at row r ≡ Unset) × (r ≢ d)
 unset_before row d r k long h u =
     ⊎_elim
     (λ same. absurd (not_number k h (sym (set_there row (number d) k (omega (arith, long, number_small d))) ∙ ap (λ j. get_or (set row (number d) k) j Unset) (sym same) ∙ u)))
     (λ other. (sym (set_aside row (number d) (number r) k other) ∙ u, λ e. other (ap number e)))
     (cases_eq (number r) (number d))
 
+-- ---- cells
+
+drop_set : (m : ℕ) (row : Row) (j : ℕ) (k : Kind) → j < m → drop m (set row j k) ≡ drop m row
+drop_set zero row j k h = absurd (omega arith)
+drop_set (suc m) [] j k h = refl
+drop_set (suc m) (x ∷ row) zero k h = refl
+drop_set (suc m) (x ∷ row) (suc j) k h = drop_set m row j k (omega arith)
+
+pub cells_with_kind : (row : Row) (r : Register) (k : Kind) → PlainCells row → PlainCells (with_kind row r k)
+cells_with_kind row r k h = subst AllNum (sym (drop_set 11 row (number r) k (number_small r))) h
+
+drop_set_behind : (m : ℕ) (row : Row) (i : ℕ) (k : Kind) → drop m (set row (m + i) k) ≡ set (drop m row) i k
+drop_set_behind zero row i k = ap (λ n. set row n k) (omega arith)
+drop_set_behind (suc m) [] i k = refl
+drop_set_behind (suc m) (x ∷ row) i k = let e : suc m + i ≡ suc (m + i) = omega arith in ap (λ n. drop (suc m) (set (x ∷ row) n k)) e ∙ drop_set_behind m row i k
+
+num_set : (ks : List Kind) (i : ℕ) (k : Kind) → AllNum ks → IsNum k → AllNum (set ks i k)
+num_set [] i k h g = h
+num_set (x ∷ ks) zero k h g = (g, h.1)
+num_set (x ∷ ks) (suc i) k h g = (h.0, num_set ks i k h.1 g)
+
+num_at : (ks : List Kind) (i : ℕ) → i < length ks → AllNum ks → IsNum (get_or ks i Unset)
+num_at [] i l h = absurd (omega arith)
+num_at (k ∷ ks) zero l h = h.0
+num_at (k ∷ ks) (suc i) l h = num_at ks i (omega arith) h.1
+
+touched_num : (profile : Profile) (k : Kind) → IsNum k → IsNum (touched profile k)
+touched_num profile Unset h = absurd h
+touched_num profile Dead h = left_number _
+touched_num profile (Num a) h = left_number _
+touched_num profile (Ptr q lo hi) h = absurd h
+
+num_touched : (profile : Profile) (span : Span) (place : ℕ) (ks : List Kind) → AllNum ks → AllNum (cells_touched profile span place ks)
+num_touched profile span place [] h = tt
+num_touched profile span place (k ∷ ks) h =
+    (cond_both (is_touched span place) (touched profile k) k IsNum (λ _. touched_num profile k h.0) (λ _. h.0), num_touched profile span (place + 8) ks h.1)
+
+stored_num : (profile : Profile) (o : Option ℕ) (span : Option Span) (k : Kind) (row : Row) → 11 ≤ length row → IsNum k → PlainCells row → PlainCells (row_stored_in profile o span k row)
+stored_num profile (Some i) span k row l h cells = subst AllNum (sym (drop_set_behind 11 row i k)) (num_set (drop 11 row) i k cells h)
+stored_num profile None None k row l h cells = cells
+stored_num profile None (Some span) k row l h cells =
+    subst AllNum (sym (seam (take 11 row) (cells_touched profile span 0 (drop 11 row)) 11 (length-take-le 11 row l))) (num_touched profile span 0 (drop 11 row) cells)
+
+cell_num : (profile : Profile) (row : Row) (i : ℕ) → IsLong profile row → i < cell_count profile → PlainCells row → IsNum (cell_kind row i)
+cell_num profile row i long within cells =
+    subst IsNum (get_or-drop 11 row i Unset) (num_at (drop 11 row) i (omega (arith, long, within, length-drop 11 row)) cells)
+
+-- a load gives a number, and may be made
+read_num : (profile : Profile) (row : Row) (address : Kind) (offset : ℤ) (size : ℕ) (o : Option ℕ) (k : Kind) → IsLong profile row → whole_cell profile address offset size ≡ o → IsNum k → PlainCells row → IsNum (read_kind o k row)
+read_num profile row address offset size None k long e h cells = h
+read_num profile row address offset size (Some i) k long e h cells = cell_num profile row i long (whole_is profile address offset size i e).within cells
+
+known_num : (k : Kind) → IsNum k → is_known k ≡ true
+known_num Unset h = absurd h
+known_num Dead h = refl
+known_num (Num a) h = refl
+known_num (Ptr q lo hi) h = absurd h
+
+numeric_num : (k : Kind) → IsNum k → is_numeric k ≡ true
+numeric_num Unset h = absurd h
+numeric_num Dead h = refl
+numeric_num (Num a) h = refl
+numeric_num (Ptr q lo hi) h = absurd h
+
+all_numeric : (span : Span) (place : ℕ) (ks : List Kind) → AllNum ks → are_numeric span place ks ≡ true
+all_numeric span place [] h = refl
+all_numeric span place (k ∷ ks) h =
+    and_from (cond (is_touched span place) (is_numeric k) true) (are_numeric span (place + 8) ks)
+    (cond_both (is_touched span place) (is_numeric k) true (λ b. b ≡ true) (λ _. numeric_num k h.0) (λ _. refl))
+    (all_numeric span (place + 8) ks h.1)
+
+pub readable : (profile : Profile) (row : Row) (address : Kind) (offset : ℤ) (size : ℕ) (o : Option ℕ) (span : Option Span) → IsLong profile row → whole_cell profile address offset size ≡ o → PlainCells row → is_readable o span row ≡ true
+readable profile row address offset size (Some i) span long e cells = known_num (cell_kind row i) (cell_num profile row i long (whole_is profile address offset size i e).within cells)
+readable profile row address offset size None None long e cells = refl
+readable profile row address offset size None (Some span) long e cells = all_numeric span 0 (drop 11 row) cells
+
+pub some_registers : (profile : Profile) (row : Row) → IsLong profile row → 11 ≤ length row
+some_registers profile row long = omega (arith, long)
+
 -- ---- a plain instruction whose reads are set
 
 -- the row after it: the addresses stay, and what is unset was unset before, and is not written
 pub record Follows (row next : Row) (x : Insn) : Type 0 where
   pub plain : PlainRow next
+  pub cells : PlainCells next
   pub unset : (r : Register) → kind_at next r ≡ Unset → (kind_at row r ≡ Unset) × (writes x ≢ Some r)
 
-written_follows : (row : Row) (x : Insn) (d : Register) (k : Kind) → length row ≡ 11 → PlainRow row → window_of d ≡ None → IsNum k → writes x ≡ Some d → Follows row (with_kind row d k) x
-written_follows row x d k long plain w h e = record {
+written_follows : (row : Row) (x : Insn) (d : Register) (k : Kind) → 11 ≤ length row → PlainRow row → PlainCells row → window_of d ≡ None → IsNum k → writes x ≡ Some d → Follows row (with_kind row d k) x
+written_follows row x d k long plain cells w h e = record {
   plain = set_plain row d k plain w h;
+  cells = cells_with_kind row d k cells;
   unset = λ r u. let b = unset_before row d r k long h u in (b.0, λ q. b.1 (same_some r d (sym q ∙ e)));
 }
   where
     same_some : (r d : Register) → Some r ≡ Some d → r ≡ d
     same_some r d e = cc
 
-same_follows : (row : Row) (x : Insn) → PlainRow row → writes x ≡ None → Follows row row x
-same_follows row x plain e = record { plain = plain; unset = λ r u. (u, λ q. no_some r (sym e ∙ q)) }
+same_follows : (row : Row) (x : Insn) → PlainRow row → PlainCells row → writes x ≡ None → Follows row row x
+same_follows row x plain cells e = record { plain = plain; cells = cells; unset = λ r u. (u, λ q. no_some r (sym e ∙ q)) }
   where
     no_some : (r : Register) → None ≡ Some r → ⊥
     no_some r e = cc
 
-refined_follows : (profile : Profile) (row : Row) (c : Cond) (w : Width) (left : Register) (right : Operand) (o : ℤ) (t : Bool) → length row ≡ 11 → PlainRow row → NoAddress (left ∷ operand_reads right) → any_unset row (left ∷ operand_reads right) ≡ false → Follows row (refined profile c w left right t row) (insn.JumpIf c w left right o)
-refined_follows profile row c w left (operand.Register right) o t long plain na u =
+refined_follows : (profile : Profile) (row : Row) (c : Cond) (w : Width) (left : Register) (right : Operand) (o : ℤ) (t : Bool) → 11 ≤ length row → PlainRow row → PlainCells row → NoAddress (left ∷ operand_reads right) → any_unset row (left ∷ operand_reads right) ≡ false → Follows row (refined profile c w left right t row) (insn.JumpIf c w left right o)
+refined_follows profile row c w left (operand.Register right) o t long plain cells na u =
     let a = register_number row left (right ∷ []) plain (na left (inl refl)) u in
     let b = register_number row right [] plain (na right (inr (inl refl))) (or_right (is_unset (kind_at row left)) (any_unset row (right ∷ [])) u) in
     let k = refine_of profile c w (kind_at row left) (kind_at row right) t in
     let n = refined_numbers profile c w (kind_at row left) (kind_at row right) t a b in
-    cond_both (eqb (number left) (number right)) _ _ (λ q. Follows row q (insn.JumpIf c w left (operand.Register right) o)) (λ _. same_follows row _ plain refl)
+    cond_both (eqb (number left) (number right)) _ _ (λ q. Follows row q (insn.JumpIf c w left (operand.Register right) o)) (λ _. same_follows row _ plain cells refl)
     (λ _. record {
       plain = set_plain (with_kind row left k.0) right k.1 (set_plain row left k.0 plain (na left (inl refl)) n.0) (na right (inr (inl refl))) n.1;
-      unset = λ r e. let one = unset_before (with_kind row left k.0) right r k.1 (length-set row (number left) k.0 ∙ long) n.1 e in
+      cells = cells_with_kind (with_kind row left k.0) right k.1 (cells_with_kind row left k.0 cells);
+      unset = λ r e. let one = unset_before (with_kind row left k.0) right r k.1 (subst (λ m. 11 ≤ m) (sym (length-set row (number left) k.0)) long) n.1 e in
           let two = unset_before row left r k.0 long n.0 one.0 in (two.0, λ q. cc);
     })
-refined_follows profile row c w left (operand.Immediate i) o t long plain na u =
+refined_follows profile row c w left (operand.Immediate i) o t long plain cells na u =
     let a = register_number row left [] plain (na left (inl refl)) u in
     let m = wrapped 64 i % 2 ^ bits w in
     let n = refined_numbers profile c w (kind_at row left) (one_number profile m) t a (left_number _) in
     record {
       plain = set_plain row left _ plain (na left (inl refl)) n.0;
+      cells = cells_with_kind row left _ cells;
       unset = λ r e. let one = unset_before row left r _ long n.0 e in (one.0, λ q. cc);
     }
 
-pub after_follows : (profile : Profile) (callee : Callee) (row : Row) (x : Insn) → length row ≡ 11 → PlainRow row → IsPlainInsn x → any_unset row (reads no_calls x) ≡ false → Follows row (row_after profile callee row x) x
-after_follows profile callee row (insn.Alu o w dst src) long plain is u = written_follows row _ dst _ long plain (is.no_address dst (inl refl)) (result_number _ (alu_number profile row plain w dst src is.no_address o u)) refl
-after_follows profile callee row (insn.Swap kind n dst) long plain is u = written_follows row _ dst _ long plain (is.no_address dst (inl refl)) (result_number _ (swap_result profile kind n (kind_at row dst) (register_number row dst [] plain (is.no_address dst (inl refl)) u))) refl
-after_follows profile callee row (insn.Load size extend dst base offset) long plain is u = written_follows row _ dst _ long plain (is.no_address dst (inl refl)) (loaded_number profile size extend) refl
-after_follows profile callee row (insn.Store size base offset src) long plain is u = same_follows row _ plain refl
-after_follows profile callee row (insn.Jump distance) long plain is u = same_follows row _ plain refl
-after_follows profile callee row (insn.JumpIf c w left right o) long plain is u = refined_follows profile row c w left right o false long plain is.no_address u
-after_follows profile callee row (insn.Call helper) long plain is u = absurd (is.no_call helper refl)
-after_follows profile callee row insn.Exit long plain is u = same_follows row _ plain refl
-after_follows profile callee row (insn.Wide dst n) long plain is u = written_follows row _ dst _ long plain (is.no_address dst (inl refl)) (left_number _) refl
-after_follows profile callee row insn.Tail long plain is u = same_follows row _ plain refl
+stored_follows : (profile : Profile) (row : Row) (size : Size) (base : Register) (offset : ℤ) (src : Operand) → IsLong profile row → PlainRow row → PlainCells row → IsNum (kind_from profile row src) → Follows row (row_stored profile (kind_at row base) offset (size_bytes size) (kind_from profile row src) row) (insn.Store size base offset src)
+stored_follows profile row size base offset src long plain cells h =
+    let o = whole_cell profile (kind_at row base) offset (size_bytes size) in
+    let span = span_of (kind_at row base) offset (size_bytes size) in
+    let k = kind_from profile row src in
+    record {
+      plain = λ r. subst (PlainAt r) (sym (stored_register profile o span k row r)) (plain r);
+      cells = stored_num profile o span k row (some_registers profile row long) h cells;
+      unset = λ r u. (sym (stored_register profile o span k row r) ∙ u, λ q. cc);
+    }
 
-pub taken_follows : (profile : Profile) (row : Row) (x : Insn) (z : ℤ) (i : ℕ) → target_of i x ≡ Some z → length row ≡ 11 → PlainRow row → IsPlainInsn x → any_unset row (reads no_calls x) ≡ false → Follows row (row_taken profile row x) x
-taken_follows profile row (insn.Alu o w dst src) z i e long plain is u = cc
-taken_follows profile row (insn.Swap kind n dst) z i e long plain is u = cc
-taken_follows profile row (insn.Load size extend dst base offset) z i e long plain is u = cc
-taken_follows profile row (insn.Store size base offset src) z i e long plain is u = cc
-taken_follows profile row (insn.Jump distance) z i e long plain is u = same_follows row _ plain refl
-taken_follows profile row (insn.JumpIf c w left right o) z i e long plain is u = refined_follows profile row c w left right o true long plain is.no_address u
-taken_follows profile row (insn.Call helper) z i e long plain is u = cc
-taken_follows profile row insn.Exit z i e long plain is u = cc
-taken_follows profile row (insn.Wide dst n) z i e long plain is u = cc
-taken_follows profile row insn.Tail z i e long plain is u = cc
+pub after_follows : (profile : Profile) (callee : Callee) (row : Row) (x : Insn) → IsLong profile row → PlainRow row → PlainCells row → IsPlainInsn x → any_unset row (reads no_calls x) ≡ false → Follows row (row_after profile callee row x) x
+after_follows profile callee row (insn.Alu o w dst src) long plain cells is u = written_follows row _ dst _ (some_registers profile row long) plain cells (is.no_address dst (inl refl)) (result_number _ (alu_number profile row plain w dst src is.no_address o u)) refl
+after_follows profile callee row (insn.Swap kind n dst) long plain cells is u = written_follows row _ dst _ (some_registers profile row long) plain cells (is.no_address dst (inl refl)) (result_number _ (swap_result profile kind n (kind_at row dst) (register_number row dst [] plain (is.no_address dst (inl refl)) u))) refl
+after_follows profile callee row (insn.Load size extend dst base offset) long plain cells is u = written_follows row _ dst _ (some_registers profile row long) plain cells (is.no_address dst (inl refl)) (read_num profile row (kind_at row base) offset (size_bytes size) (whole_cell profile (kind_at row base) offset (size_bytes size)) (loaded profile size extend) long refl (loaded_number profile size extend) cells) refl
+after_follows profile callee row (insn.Store size base offset src) long plain cells is u = stored_follows profile row size base offset src long plain cells (operand_number profile row src plain is.no_address (or_right (is_unset (kind_at row base)) (any_unset row (operand_reads src)) u))
+after_follows profile callee row (insn.Jump distance) long plain cells is u = same_follows row _ plain cells refl
+after_follows profile callee row (insn.JumpIf c w left right o) long plain cells is u = refined_follows profile row c w left right o false (some_registers profile row long) plain cells is.no_address u
+after_follows profile callee row (insn.Call helper) long plain cells is u = absurd (is.no_call helper refl)
+after_follows profile callee row insn.Exit long plain cells is u = same_follows row _ plain cells refl
+after_follows profile callee row (insn.Wide dst n) long plain cells is u = written_follows row _ dst _ (some_registers profile row long) plain cells (is.no_address dst (inl refl)) (left_number _) refl
+after_follows profile callee row insn.Tail long plain cells is u = same_follows row _ plain cells refl
+
+pub taken_follows : (profile : Profile) (row : Row) (x : Insn) (z : ℤ) (i : ℕ) → target_of i x ≡ Some z → IsLong profile row → PlainRow row → PlainCells row → IsPlainInsn x → any_unset row (reads no_calls x) ≡ false → Follows row (row_taken profile row x) x
+taken_follows profile row (insn.Alu o w dst src) z i e long plain cells is u = cc
+taken_follows profile row (insn.Swap kind n dst) z i e long plain cells is u = cc
+taken_follows profile row (insn.Load size extend dst base offset) z i e long plain cells is u = cc
+taken_follows profile row (insn.Store size base offset src) z i e long plain cells is u = cc
+taken_follows profile row (insn.Jump distance) z i e long plain cells is u = same_follows row _ plain cells refl
+taken_follows profile row (insn.JumpIf c w left right o) z i e long plain cells is u = refined_follows profile row c w left right o true (some_registers profile row long) plain cells is.no_address u
+taken_follows profile row (insn.Call helper) z i e long plain cells is u = cc
+taken_follows profile row insn.Exit z i e long plain cells is u = cc
+taken_follows profile row (insn.Wide dst n) z i e long plain cells is u = cc
+taken_follows profile row insn.Tail z i e long plain cells is u = cc
 
 -- ---- joins
 
@@ -416,3 +510,31 @@ module _ (profile : Profile) where
 
   pub unset_of_one : (a b : Row) (r : Register) → PlainRow a → PlainRow b → kind_at (join_rows profile a b) r ≡ Unset → (kind_at a r ≡ Unset) ⊎ (kind_at b r ≡ Unset)
   unset_of_one a b r h g e = one_unset_at r (kind_at a r) (kind_at b r) (h r) (g r) (sym (at_join profile a b (number r)) ∙ e)
+
+  -- the cells of a join
+  drop_join : (m : ℕ) (a b : Row) → drop m (join_rows profile a b) ≡ join_rows profile (drop m a) (drop m b)
+  drop_join zero a b = refl
+  drop_join (suc m) [] b = refl
+  drop_join (suc m) (x ∷ a) [] = sym (join_none (drop m a))
+    where
+      join_none : (ks : Row) → join_rows profile ks [] ≡ []
+      join_none [] = refl
+      join_none (k ∷ ks) = refl
+  drop_join (suc m) (x ∷ a) (y ∷ b) = drop_join m a b
+
+  num_join : (a b : Kind) → IsNum a → IsNum b → IsNum (join_of profile a b)
+  num_join Unset b h g = absurd h
+  num_join Dead b h g = g
+  num_join (Num a) Unset h g = absurd g
+  num_join (Num a) Dead h g = tt
+  num_join (Num a) (Num b) h g = left_number _
+  num_join (Num a) (Ptr q bl bh) h g = absurd g
+  num_join (Ptr q al ah) b h g = absurd h
+
+  all_join : (a b : Row) → AllNum a → AllNum b → AllNum (join_rows profile a b)
+  all_join [] b h g = tt
+  all_join (x ∷ a) [] h g = tt
+  all_join (x ∷ a) (y ∷ b) h g = (num_join x y h.0 g.0, all_join a b h.1 g.1)
+
+  pub join_cells : (a b : Row) → PlainCells a → PlainCells b → PlainCells (join_rows profile a b)
+  join_cells a b h g = subst AllNum (sym (drop_join 11 a b)) (all_join (drop 11 a) (drop 11 b) h g)

@@ -24,12 +24,14 @@ use Rattle.bpfimage.specs.declared.form.FormRule.TheVariants.{Unreachable}
 use Rattle.bpfimage.specs.Form.{next_of, GoesTo, IsPath}
 use Rattle.verifier.specs.Program.{Program}
 use Rattle.verifier.specs.declared.rule.KindRule.TheVariants.{UnsetRead, OutsideWindow, InputStored}
-use Rattle.verifier.specs.Registers.{Row, kind_at, with_kind, entry, is_unset, is_input_pointer, any_unset, first_offset, end_offset, is_inside}
+use Rattle.verifier.specs.Cells.{span_of, whole_cell}
+use Rattle.verifier.specs.Registers.{Row, kind_at, kind_from, with_kind, entry, is_unset, is_input_pointer, any_unset, first_offset, end_offset, is_inside}
 use Rattle.helpers.specs.Calls.{Callee}
 use Rattle.verifier.specs.Rules.{callee_in, rules_of, class_rules, refined, row_after, row_taken}
 use Rattle.verifier.specs.Table.{Edge, next_edge, target_edge, edges_from, join_rows, joined, into, edges_of, arrivals, table, broken_with, IsAccepted}
 use Rattle.verifier.specs.Plain.{IsIn, WrittenOn, SetAtStart, SetOnPaths, IsPlain, InWindow, StaysInside, IsWellBehaved}
 use Rattle.verifier.proofs.Shape.{keeps, NextStarts}
+use Rattle.verifier.proofs.StackCells.{stored_register}
 use Rattle.verifier.proofs.Classes.{AllNone, none_each, untold, untold_not, or_left, or_right}
 use Rattle.verifier.proofs.SameReads.{reads_less}
 use Rattle.verifier.proofs.Tables.{table_at}
@@ -139,7 +141,8 @@ after_unset : (profile : Profile) (callee : Callee) (row : Row) (x : Insn) (r : 
 after_unset profile callee row (insn.Alu o w dst src) r other h u = written_or_unset row (insn.Alu o w dst src) dst r _ refl u
 after_unset profile callee row (insn.Swap kind n dst) r other h u = written_or_unset row (insn.Swap kind n dst) dst r _ refl u
 after_unset profile callee row (insn.Load size extend dst base offset) r other h u = written_or_unset row (insn.Load size extend dst base offset) dst r _ refl u
-after_unset profile callee row (insn.Store size base offset src) r other h u = inr u
+after_unset profile callee row (insn.Store size base offset src) r other h u =
+    inr (stored_register profile (whole_cell profile (kind_at row base) offset (size_bytes size)) (span_of (kind_at row base) offset (size_bytes size)) (kind_from profile row src) row r ∙ u)
 after_unset profile callee row (insn.Jump d) r other h u = inr u
 after_unset profile callee row (insn.JumpIf c w left right o) r other h u = inr (refined_unset profile row c w left right false r h u)
 after_unset profile callee row (insn.Call n) r other h u = absurd (other n refl)
@@ -301,7 +304,7 @@ module _ (p : Program) (some : 1 ≤ length p.code) (starts : NextStarts p.code)
   inside_of k x at begins =
       let row = row_of p some accepted k x at begins in
       let known = table_plain p some accepted.formed starts plain (λ i y q at' here is. reads_set p some accepted i y q at' here) (suc k) k (omega arith) in
-      let is : IsPlainAt p.code k row.0 = subst (PlainSlot p.code k) row.1 known in
+      let is : IsPlainAt p.profile p.code k row.0 = subst (PlainSlot p.profile p.code k) row.1 known in
       stays p (callee_in p.sigs x) row.0 x is.plain (rules_at p some accepted k x row.0 at row.1).1.1
 
   inside_each : (k : ℕ) (x : Insn) → slice_get p.code k ≡ Some x → StaysInside p x

@@ -1,6 +1,5 @@
 -- Rows that change at one register, and rows joined from the front.
 use Rattle.std.proofs.Common.{◌≡◌, ℕ, zero, suc, ◌+◌, ◌<◌, ◌≤◌, List, [], ◌∷◌, ◌++◌, length, get_or, set, take, drop, Option, Some, refl, sym, ap, ◌∙◌, subst, arith, add-one}
-use Rattle.std.proofs.Math.Seq.{drop-cons}
 use Rattle.std.specs.Prelude.{slice_get}
 use Rattle.ranges.specs.Kinds.{IsKind}
 use Rattle.ranges.specs.Transfer.{join_of}
@@ -32,25 +31,15 @@ kinds_take (suc n) [] h r = tt
 kinds_take (suc n) (x ∷ row) h zero = h zero
 kinds_take (suc n) (x ∷ row) h (suc r) = kinds_take n row (λ i. h (suc i)) r
 
--- the registers that a call leaves
-drop_none : (n : ℕ) (row : Row) → length row ≤ n → drop n row ≡ []
-drop_none zero [] h = refl
-drop_none zero (x ∷ row) h = absurd (omega arith)
-drop_none (suc n) [] h = refl
-drop_none (suc n) (x ∷ row) h = drop_none n row (omega arith)
-
-pub rest_of_row : (row : Row) → length row ≡ 11 → get_or row 6 Unset ∷ get_or row 7 Unset ∷ get_or row 8 Unset ∷ get_or row 9 Unset ∷ get_or row 10 Unset ∷ [] ≡ drop 6 row
-rest_of_row row long =
-    sym
-    (drop-cons row 6 Unset (omega (arith, long))
-    ∙ ap (λ ks. get_or row 6 Unset ∷ ks)
-    (drop-cons row 7 Unset (omega (arith, long))
-    ∙ ap (λ ks. get_or row 7 Unset ∷ ks)
-    (drop-cons row 8 Unset (omega (arith, long))
-    ∙ ap (λ ks. get_or row 8 Unset ∷ ks)
-    (drop-cons row 9 Unset (omega (arith, long))
-    ∙ ap (λ ks. get_or row 9 Unset ∷ ks)
-    (drop-cons row 10 Unset (omega (arith, long)) ∙ ap (λ ks. get_or row 10 Unset ∷ ks) (drop_none 11 row (omega (arith, long))))))))
+-- after a call
+pub call_sets : (row : Row) (k : Kind) → 11 ≤ length row → set (set (set (set (set (set row 0 k) 1 Unset) 2 Unset) 3 Unset) 4 Unset) 5 Unset ≡ k ∷ Unset ∷ Unset ∷ Unset ∷ Unset ∷ Unset ∷ drop 6 row
+call_sets [] k h = absurd (omega arith)
+call_sets (a ∷ []) k h = absurd (omega arith)
+call_sets (a ∷ b ∷ []) k h = absurd (omega arith)
+call_sets (a ∷ b ∷ c ∷ []) k h = absurd (omega arith)
+call_sets (a ∷ b ∷ c ∷ d ∷ []) k h = absurd (omega arith)
+call_sets (a ∷ b ∷ c ∷ d ∷ e ∷ []) k h = absurd (omega arith)
+call_sets (a ∷ b ∷ c ∷ d ∷ e ∷ f ∷ row) k h = refl
 
 pub row_kinds_set : (rows : List (Option Row)) (i : ℕ) (next : Option Row) → AreRowKinds rows → HasKinds next → AreRowKinds (set rows i next)
 row_kinds_set [] i next h hn k o e = h k o e

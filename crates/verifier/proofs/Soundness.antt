@@ -1,6 +1,6 @@
 -- A formed program of which no slot breaks a rule is safe.
 use Rattle.std.proofs.Common.{◌≡◌, ◌≢◌, ℕ, zero, suc, ℤ, pos, negsuc, ◌*◌, ◌%◌, ◌^◌, ◌<◌, ◌≤◌, Bool, true, false, eqb, List, [], ◌∷◌, ◌++◌, length, take, drop, Option, Some, None, refl, sym, ap, ◌∙◌, subst, inl, inr, ⊎_elim, arith, length-set, length-drop}
-use Rattle.std.specs.Prelude.{slice_get}
+use Rattle.std.specs.Prelude.{slice_get, slice_index_or, replicate}
 use Rattle.std.proofs.lemmas.List.{length-replicate}
 use Rattle.std.proofs.lemmas.Int.{ints}
 use Rattle.std.proofs.lemmas.Bool.{cond_both, cases_lt, cases_eq}
@@ -31,13 +31,15 @@ use Rattle.ranges.specs.Laws.{IsSoundTable}
 use Rattle.bpfimage.specs.Form.{next_of, target_of}
 use Rattle.helpers.specs.Calls.{Callee, Copy, Fill, Same, Helper, Unknown, calls_of}
 use Rattle.verifier.specs.Program.{Program, HasLimits, IsSafeProgram}
-use Rattle.verifier.specs.Registers.{Row, kind_at, kind_from, one_number, entry}
-use Rattle.verifier.specs.CallKinds.{answer_kind}
+use Rattle.verifier.specs.Registers.{Row, cell_count, IsLong, kind_at, kind_from, one_number, entry}
+use Rattle.verifier.specs.Cells.{span_of, whole_cell, row_written}
+use Rattle.verifier.specs.Answered.{answer_kind}
 use Rattle.verifier.specs.Rules.{callee_in, loaded, refined, row_after, row_taken, rules_of}
 use Rattle.verifier.specs.Table.{Edge, next_edge, target_edge, edges_from, edges_of, arrivals, table, broken_with, IsAccepted, AreKinds}
 use Rattle.verifier.proofs.Words.{wrapped_below, size_fits, bytes_zero}
 use Rattle.verifier.proofs.RowSteps.{kinds_set, kinds_drop}
-use Rattle.verifier.proofs.Fits.{FitsRow, IsLong, IsRow, IsRowIfAny, AreRows, FitsSome, SomeEdge, into_is_row, into_old, into_new}
+use Rattle.verifier.proofs.StackCells.{values, stored_long, written_long, stored_kinds, written_kinds, read_kinds, zero_cells, zero_bytes}
+use Rattle.verifier.proofs.Fits.{FitsRow, IsRow, IsRowIfAny, AreRows, FitsSome, SomeEdge, into_is_row, into_old, into_new}
 use Rattle.verifier.proofs.Shape.{IsPaired, Leads, AllLead, paired_starts, edges_lead, target_leads}
 use Rattle.verifier.proofs.Places.{IsMemory}
 use Rattle.verifier.proofs.Classes.{AllNone, none_each, cut_word, result_is_kind, no_fault, lands}
@@ -46,24 +48,24 @@ use Rattle.verifier.proofs.Tables.{length_rows, table_at}
 
 -- ---- rows of the table
 
-refined_is_long : (profile : Profile) (c : Cond) (w : Width) (l : Register) (r : Operand) (t : Bool) (row : Row) → IsLong row → IsLong (refined profile c w l r t row)
+refined_is_long : (profile : Profile) (c : Cond) (w : Width) (l : Register) (r : Operand) (t : Bool) (row : Row) → IsLong profile row → IsLong profile (refined profile c w l r t row)
 refined_is_long profile c w l (operand.Register r) t row h =
-    cond_both (eqb (number l) (number r)) _ _ IsLong (λ _. h) (λ _. length-set _ _ _ ∙ length-set _ _ _ ∙ h)
+    cond_both (eqb (number l) (number r)) _ _ (IsLong profile) (λ _. h) (λ _. length-set _ _ _ ∙ length-set _ _ _ ∙ h)
 refined_is_long profile c w l (operand.Immediate n) t row h = length-set _ _ _ ∙ h
 
-pub after_is_long : (profile : Profile) (callee : Callee) (row : Row) (x : Insn) → IsLong row → IsLong (row_after profile callee row x)
+pub after_is_long : (profile : Profile) (callee : Callee) (row : Row) (x : Insn) → IsLong profile row → IsLong profile (row_after profile callee row x)
 after_is_long profile callee row (insn.Alu o w d src) h = length-set _ _ _ ∙ h
 after_is_long profile callee row (insn.Swap k n d) h = length-set _ _ _ ∙ h
 after_is_long profile callee row (insn.Load size x d r o) h = length-set _ _ _ ∙ h
-after_is_long profile callee row (insn.Store size r o src) h = h
+after_is_long profile callee row (insn.Store size r o src) h = stored_long profile (whole_cell profile (kind_at row r) o (size_bytes size)) (span_of (kind_at row r) o (size_bytes size)) (kind_from profile row src) row ∙ h
 after_is_long profile callee row (insn.Jump d) h = h
 after_is_long profile callee row (insn.JumpIf c w l r o) h = refined_is_long profile c w l r false row h
-after_is_long profile callee row (insn.Call n) h = simp (length-drop) (omega (arith, h))
+after_is_long profile callee row (insn.Call n) h = let e = length-drop 6 (row_written profile callee row) in let w = written_long profile callee row in omega (arith, h, e, w)
 after_is_long profile callee row insn.Exit h = h
 after_is_long profile callee row (insn.Wide d n) h = length-set _ _ _ ∙ h
 after_is_long profile callee row insn.Tail h = h
 
-pub taken_is_long : (profile : Profile) (row : Row) (x : Insn) → IsLong row → IsLong (row_taken profile row x)
+pub taken_is_long : (profile : Profile) (row : Row) (x : Insn) → IsLong profile row → IsLong profile (row_taken profile row x)
 taken_is_long profile row (insn.Alu o w d src) h = h
 taken_is_long profile row (insn.Swap k n d) h = h
 taken_is_long profile row (insn.Load size x d r o) h = h
@@ -113,11 +115,11 @@ module _ (profile : Profile) (sound : IsSoundTable profile) where
   after_kinds callee row (insn.Alu o w d src) is h =
       kinds_set row (number d) _ h (result_is_kind (transfer_of profile o w (kind_at row d) (kind_from profile row src)) (sound.operation_kind o w (kind_at row d) (kind_from profile row src) (h (number d)) (from_kind row src h)))
   after_kinds callee row (insn.Swap k n d) is h = kinds_set row (number d) _ h (result_is_kind (swap_of profile k n (kind_at row d)) (sound.swap_kind k n (kind_at row d)))
-  after_kinds callee row (insn.Load size x d r o) is h = kinds_set row (number d) _ h (loaded_kind size x)
-  after_kinds callee row (insn.Store size r o src) is h = h
+  after_kinds callee row (insn.Load size x d r o) is h = kinds_set row (number d) _ h (read_kinds (whole_cell profile (kind_at row r) o (size_bytes size)) (loaded profile size x) row h (loaded_kind size x))
+  after_kinds callee row (insn.Store size r o src) is h = stored_kinds profile (whole_cell profile (kind_at row r) o (size_bytes size)) (span_of (kind_at row r) o (size_bytes size)) (kind_from profile row src) row h (from_kind row src h)
   after_kinds callee row (insn.Jump d) is h = h
   after_kinds callee row (insn.JumpIf c w l r o) is h = refined_kinds c w l r false row h
-  after_kinds callee row (insn.Call n) is h = call_kinds (answer_kind profile callee) row (answer_is_kind callee) h
+  after_kinds callee row (insn.Call n) is h = call_kinds (answer_kind profile callee) (row_written profile callee row) (answer_is_kind callee) (written_kinds profile callee row h)
   after_kinds callee row insn.Exit is h = h
   after_kinds callee row (insn.Wide d n) is h = kinds_set row (number d) _ h (sound.range_kind (single n) (omega arith) (is (λ e. cc)))
   after_kinds callee row insn.Tail is h = h
@@ -134,38 +136,38 @@ module _ (profile : Profile) (sound : IsSoundTable profile) where
   taken_kinds row (insn.Wide d n) h = h
   taken_kinds row insn.Tail h = h
 
-rows_append : (es fs : List Edge) → AreRows es → AreRows fs → AreRows (es ++ fs)
-rows_append [] fs a b = b
-rows_append (e ∷ es) fs a b = (a.0, rows_append es fs a.1 b)
+rows_append : (profile : Profile) (es fs : List Edge) → AreRows profile es → AreRows profile fs → AreRows profile (es ++ fs)
+rows_append profile [] fs a b = b
+rows_append profile (e ∷ es) fs a b = (a.0, rows_append profile es fs a.1 b)
 
-next_rows : (o : Option ℕ) (row : Row) → IsRow row → AreRows (next_edge o row)
-next_rows None row h = tt
-next_rows (Some k) row h = (h, tt)
+next_rows : (profile : Profile) (o : Option ℕ) (row : Row) → IsRow profile row → AreRows profile (next_edge o row)
+next_rows profile None row h = tt
+next_rows profile (Some k) row h = (h, tt)
 
-target_rows : (o : Option ℤ) (row : Row) → IsRow row → AreRows (target_edge o row)
-target_rows None row h = tt
-target_rows (Some (pos k)) row h = (h, tt)
-target_rows (Some (negsuc k)) row h = tt
+target_rows : (profile : Profile) (o : Option ℤ) (row : Row) → IsRow profile row → AreRows profile (target_edge o row)
+target_rows profile None row h = tt
+target_rows profile (Some (pos k)) row h = (h, tt)
+target_rows profile (Some (negsuc k)) row h = tt
 
-abbrev IsRowAt : Option (Option Row) → Type 0
-IsRowAt None = Unit {0}
-IsRowAt (Some o) = IsRowIfAny o
+abbrev IsRowAt : Profile → Option (Option Row) → Type 0
+IsRowAt profile None = Unit {0}
+IsRowAt profile (Some o) = IsRowIfAny profile o
 
 module _ (sound : (profile : Profile) → IsSoundTable profile) (p : Program) (limits : HasLimits p) (paired : IsPaired p.code) where
-  edge_rows : (i : ℕ) (row : Row) (x : Insn) → (x ≢ insn.Tail → IsInstruction x) → IsRow row → AreRows (edges_from p.profile (callee_in p.sigs x) i row x)
+  edge_rows : (i : ℕ) (row : Row) (x : Insn) → (x ≢ insn.Tail → IsInstruction x) → IsRow p.profile row → AreRows p.profile (edges_from p.profile (callee_in p.sigs x) i row x)
   edge_rows i row x is h =
-      rows_append _ _
-      (next_rows (next_of i x) (row_after p.profile (callee_in p.sigs x) row x) (record { long = after_is_long p.profile (callee_in p.sigs x) row x h.long; kinds = after_kinds p.profile (sound p.profile) (callee_in p.sigs x) row x is h.kinds }))
-      (target_rows (target_of i x) (row_taken p.profile row x) (record { long = taken_is_long p.profile row x h.long; kinds = taken_kinds p.profile (sound p.profile) row x h.kinds }))
+      rows_append p.profile _ _
+      (next_rows p.profile (next_of i x) (row_after p.profile (callee_in p.sigs x) row x) (record { long = after_is_long p.profile (callee_in p.sigs x) row x h.long; kinds = after_kinds p.profile (sound p.profile) (callee_in p.sigs x) row x is h.kinds }))
+      (target_rows p.profile (target_of i x) (row_taken p.profile row x) (record { long = taken_is_long p.profile row x h.long; kinds = taken_kinds p.profile (sound p.profile) row x h.kinds }))
 
-  edges_are_rows : (i : ℕ) (x : Option Insn) (row : Option (Option Row)) → slice_get p.code i ≡ x → IsRowAt row → AreRows (edges_of p i x row)
+  edges_are_rows : (i : ℕ) (x : Option Insn) (row : Option (Option Row)) → slice_get p.code i ≡ x → IsRowAt p.profile row → AreRows p.profile (edges_of p i x row)
   edges_are_rows i None row at h = tt
   edges_are_rows i (Some x) None at h = tt
   edges_are_rows i (Some x) (Some None) at h = tt
   edges_are_rows i (Some x) (Some (Some row)) at h = edge_rows i row x (paired.instructions i x at) h
 
-  entry_is_row : IsRow (entry p)
-  entry_is_row = record { long = refl; kinds = from }
+  entry_is_row : IsRow p.profile (entry p)
+  entry_is_row = record { long = let e = length-replicate {A = Kind} (cell_count p.profile) (one_number p.profile 0) in omega (arith, e); kinds = from }
     where
       from : AreKinds (entry p)
       from zero = tt
@@ -179,30 +181,38 @@ module _ (sound : (profile : Profile) → IsSoundTable profile) (p : Program) (l
       from (suc (suc (suc (suc (suc (suc (suc (suc zero)))))))) = tt
       from (suc (suc (suc (suc (suc (suc (suc (suc (suc zero))))))))) = tt
       from (suc (suc (suc (suc (suc (suc (suc (suc (suc (suc zero)))))))))) = (omega (arith, ints), omega (arith, ints), omega (arith, ints))
-      from (suc (suc (suc (suc (suc (suc (suc (suc (suc (suc (suc r))))))))))) = tt
+      from (suc (suc (suc (suc (suc (suc (suc (suc (suc (suc (suc r))))))))))) = cells (cell_count p.profile) r
+        where
+          cells : (n r : ℕ) → IsKind (slice_index_or (replicate n (one_number p.profile 0)) r Unset)
+          cells zero r = tt
+          cells (suc n) zero = (sound p.profile).range_kind (single 0) (omega arith) (omega arith)
+          cells (suc n) (suc r) = cells n r
 
-  arrival_rows : (rows : List (Option Row)) (n k : ℕ) → ((i : ℕ) → i < n → IsRowAt (slice_get rows i)) → IsRowIfAny (arrivals p rows n k)
-  arrival_rows rows zero k h = cond_both (eqb k 0) _ _ IsRowIfAny (λ _. entry_is_row) (λ _. tt)
+  arrival_rows : (rows : List (Option Row)) (n k : ℕ) → ((i : ℕ) → i < n → IsRowAt p.profile (slice_get rows i)) → IsRowIfAny p.profile (arrivals p rows n k)
+  arrival_rows rows zero k h = cond_both (eqb k 0) _ _ (IsRowIfAny p.profile) (λ _. entry_is_row) (λ _. tt)
   arrival_rows rows (suc n) k h =
       into_is_row p.profile (sound p.profile) k _ _ (edges_are_rows n (slice_get p.code n) (slice_get rows n) refl (h n (omega arith))) (arrival_rows rows n k (λ i lt. h i (omega arith)))
 
-  table_rows : (n k : ℕ) → k < n → IsRowAt (slice_get (table p) k)
+  table_rows : (n k : ℕ) → k < n → IsRowAt p.profile (slice_get (table p) k)
   table_rows zero k h = absurd (omega arith)
   table_rows (suc n) k h =
       ⊎_elim
-      (λ lt. subst IsRowAt (sym (table_at p k lt)) (arrival_rows (table p) k k (λ i l. table_rows n i (omega arith))))
-      (λ le. subst IsRowAt (sym (slice_get_past (table p) k (omega (arith, length_rows p (length p.code))))) tt)
+      (λ lt. subst (IsRowAt p.profile) (sym (table_at p k lt)) (arrival_rows (table p) k k (λ i l. table_rows n i (omega arith))))
+      (λ le. subst (IsRowAt p.profile) (sym (slice_get_past (table p) k (omega (arith, length_rows p (length p.code))))) tt)
       (cases_lt k (length p.code))
 
   pub row_kinds : (k : ℕ) (row : Row) → slice_get (table p) k ≡ Some (Some row) → AreKinds row
-  row_kinds k row e = let h : IsRowAt (Some (Some row)) = subst IsRowAt e (table_rows (suc k) k (omega arith)) in h.kinds
+  row_kinds k row e = let h : IsRowAt p.profile (Some (Some row)) = subst (IsRowAt p.profile) e (table_rows (suc k) k (omega arith)) in h.kinds
+
+  pub row_long : (k : ℕ) (row : Row) → slice_get (table p) k ≡ Some (Some row) → IsLong p.profile row
+  row_long k row e = let h : IsRowAt p.profile (Some (Some row)) = subst (IsRowAt p.profile) e (table_rows (suc k) k (omega arith)) in h.long
 
   -- ---- an edge is joined into its slot's row
 
   arrives : (i n k : ℕ) (x : Insn) (row : Row) (vs : List (Option ℕ)) → i < n → slice_get p.code i ≡ Some x → slice_get (table p) i ≡ Some (Some row) → SomeEdge (pos k) vs (edges_from p.profile (callee_in p.sigs x) i row x) → FitsSome (arrivals p (table p) n k) vs
   arrives i zero k x row vs lt at here e = absurd (omega arith)
   arrives i (suc n) k x row vs lt at here e =
-      let all : (m : ℕ) → IsRowAt (slice_get (table p) m) = λ m. table_rows (suc m) m (omega arith) in
+      let all : (m : ℕ) → IsRowAt p.profile (slice_get (table p) m) = λ m. table_rows (suc m) m (omega arith) in
       let edges = edges_are_rows n (slice_get p.code n) (slice_get (table p) n) refl (all n) in
       let before = arrival_rows (table p) n k (λ m _. all m) in
       ⊎_elim
@@ -224,7 +234,7 @@ pub record Stands (p : Program) (n : ℕ) (s : State) : Type 0 where
   pub starts : here ≢ insn.Tail
   pub row : Row
   pub kinds : slice_get (table p) at ≡ Some (Some row)
-  pub fits : FitsRow row s.registers
+  pub fits : FitsRow row (values p.profile s)
   pub memory : IsMemory p s.memory
   pub steps : n ≤ instruction_count (take at p.code)
 
@@ -257,16 +267,16 @@ module _ (sound : (profile : Profile) → IsSoundTable profile) (p : Program) (l
       none_there o x e h = cc
   faultless n s g f (inr e) =
       let same : e.0 ≡ g.here = same_Some _ _ (sym e.1 ∙ there n s g) in
-      no_fault sound p g.at g.row s limits (row_kinds sound p limits paired g.at g.row g.kinds) g.fits g.slot g.memory e.0 (subst (λ x. AllNone (rules_of p g.row x)) (sym same) (rules_kept n s g)) f e.2.stands
+      no_fault sound p g.at g.row s limits (row_kinds sound p limits paired g.at g.row g.kinds) (row_long sound p limits paired g.at g.row g.kinds) g.fits g.slot g.memory e.0 (subst (λ x. AllNone (rules_of p g.row x)) (sym same) (rules_kept n s g)) f e.2.stands
 
-  goes_on : (n : ℕ) (s : State) (g : Stands p n s) (t : State) → SomeEdge t.slot t.registers (edges_from p.profile (callee_in p.sigs g.here) g.at g.row g.here) → IsMemory p t.memory → Stands p (suc n) t
+  goes_on : (n : ℕ) (s : State) (g : Stands p n s) (t : State) → SomeEdge t.slot (values p.profile t) (edges_from p.profile (callee_in p.sigs g.here) g.at g.row g.here) → IsMemory p t.memory → Stands p (suc n) t
   goes_on n s g t e m =
-      let to = lead_any p g.at (edges_from p.profile (callee_in p.sigs g.here) g.at g.row g.here) t.slot t.registers (edges_lead p.profile (callee_in p.sigs g.here) p.code g.at g.here g.row accepted.formed (paired_starts p.code paired) g.found) e in
+      let to = lead_any p g.at (edges_from p.profile (callee_in p.sigs g.here) g.at g.row g.here) t.slot (values p.profile t) (edges_lead p.profile (callee_in p.sigs g.here) p.code g.at g.here g.row accepted.formed (paired_starts p.code paired) g.found) e in
       let k = to.0 in
       let l = to.2 in
       let within = slice_get_within p.code k l.to l.there in
-      let arrived = arrives sound p limits paired g.at k k g.here g.row t.registers l.above g.found g.kinds (subst (λ z. SomeEdge z t.registers (edges_from p.profile (callee_in p.sigs g.here) g.at g.row g.here)) to.1 e) in
-      let next = stand_at p k (arrivals p (table p) k k) t.registers (table_at p k within) arrived in
+      let arrived = arrives sound p limits paired g.at k k g.here g.row (values p.profile t) l.above g.found g.kinds (subst (λ z. SomeEdge z (values p.profile t) (edges_from p.profile (callee_in p.sigs g.here) g.at g.row g.here)) to.1 e) in
+      let next = stand_at p k (arrivals p (table p) k k) (values p.profile t) (table_at p k within) arrived in
       record {
         at = k;
         slot = to.1;
@@ -285,7 +295,7 @@ module _ (sound : (profile : Profile) → IsSoundTable profile) (p : Program) (l
       let same : d.0 ≡ g.here = same_Some _ _ (sym d.1 ∙ there n s g) in
       let row = subst (λ x. Row_of (calls_of p.sigs) x s t) same d.2.row in
       let to : (z : ℤ) → target_of g.at g.here ≡ Some z → (k : ℕ) × (z ≡ pos k) = λ z e. let l = target_leads p.code g.at g.here z accepted.formed g.found e in (l.0, l.1) in
-      let l = lands sound p g.at g.row s limits (row_kinds sound p limits paired g.at g.row g.kinds) g.fits g.slot g.memory g.here t (paired.instructions g.at g.here g.found g.starts) to (rules_kept n s g) row in
+      let l = lands sound p g.at g.row s limits (row_kinds sound p limits paired g.at g.row g.kinds) (row_long sound p limits paired g.at g.row g.kinds) g.fits g.slot g.memory g.here t (paired.instructions g.at g.here g.found g.starts) to (rules_kept n s g) row in
       goes_on n s g t l.0 l.1
 
   -- the state before the first slot
@@ -302,7 +312,7 @@ module _ (sound : (profile : Profile) → IsSoundTable profile) (p : Program) (l
         starts = λ tail. paired.no_tail_first (first.1 ∙ ap Some tail);
         row = entry p;
         kinds = table_at p 0 some;
-        fits = (tt, tt, ((omega (arith, ints), omega (arith, ints)), omega arith, ((sound p.profile).range (up_to p.in_len) used (omega arith) (omega arith, h.within), omega (arith, h.within), ((omega (arith, ints), omega (arith, ints)), omega arith, ((sound p.profile).range (single p.out_len) p.out_len (omega arith) (omega arith, omega arith), omega arith, (tt, tt, (tt, tt, (tt, tt, (tt, tt, (tt, tt, ((omega (arith, ints), omega (arith, ints)), omega arith, tt)))))))))));
+        fits = (tt, tt, ((omega (arith, ints), omega (arith, ints)), omega arith, ((sound p.profile).range (up_to p.in_len) used (omega arith) (omega arith, h.within), omega (arith, h.within), ((omega (arith, ints), omega (arith, ints)), omega arith, ((sound p.profile).range (single p.out_len) p.out_len (omega arith) (omega arith, omega arith), omega arith, (tt, tt, (tt, tt, (tt, tt, (tt, tt, (tt, tt, ((omega (arith, ints), omega (arith, ints)), omega arith, zero_cells (cell_count p.profile) (one_number p.profile 0) (replicate 512 0) ((sound p.profile).range (single 0) 0 (omega arith) (omega arith, omega arith)) (zero_bytes 512))))))))))));
         memory = record { stack_length = length-replicate {A = ℕ} 512 0; input_length = h.whole; output_length = length-replicate {A = ℕ} p.out_len 0; stack_bytes = bytes_zero 512; input_bytes = h.bytes; output_bytes = bytes_zero p.out_len };
         steps = omega arith;
       }

@@ -7,7 +7,7 @@ use Rattle.std.proofs.lemmas.Option.{same_Some}
 use Rattle.ranges.specs.declared.profile.Profile.{Profile}
 use Rattle.verifier.specs.Program.{Program}
 use Rattle.verifier.specs.Registers.{Row, entry}
-use Rattle.verifier.specs.Rows.{row_at, push_one, pushed, Misses, IsPass}
+use Rattle.verifier.specs.Rows.{row_at, push_one, pushed, Misses, HasKinds, AreRowKinds, IsPass}
 use Rattle.verifier.specs.Table.{Edge, joined, into, edges_of, arrivals, rows_before, table}
 
 -- ---- the table's rows
@@ -138,3 +138,8 @@ pass_first p rows n m e =
       here_is = refl;
       rows_are = λ k above within. ap (λ xs. slice_get xs k) e ∙ get_replicate n k None (omega (arith, len)) ∙ ap Some (sym (cond-false (eqb k 0) (Some (entry p)) None (ne_eqb k 0 (λ q. omega (arith, q)))));
     }
+
+pub none_kinds : (n : ℕ) → AreRowKinds (replicate n None)
+none_kinds zero k o e = cc
+none_kinds (suc n) zero o e = subst HasKinds (same_Some _ _ e) tt
+none_kinds (suc n) (suc k) o e = none_kinds n k o e

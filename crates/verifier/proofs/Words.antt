@@ -1,5 +1,5 @@
 -- Words and bytes.
-use Rattle.std.proofs.Common.{◌≡◌, ℕ, zero, suc, ◌+◌, ◌*◌, ◌/◌, ◌^◌, ◌<◌, ◌≤◌, ℤ, pos, negsuc, List, [], ◌∷◌, ◌++◌, length, take, drop, refl, ap, ◌∙◌, subst, arith, length-append, length-take, length-drop}
+use Rattle.std.proofs.Common.{◌≡◌, ℕ, zero, suc, ◌+◌, ◌*◌, ◌/◌, ◌%◌, ◌^◌, ◌<◌, ◌≤◌, ℤ, pos, negsuc, List, [], ◌∷◌, ◌++◌, length, take, drop, refl, ap, ◌∙◌, subst, arith, length-append, length-take, length-drop}
 use Rattle.std.specs.Prelude.{replicate}
 use Rattle.std.proofs.Math.Nat.{mod-lt, mod-eq_of_lt, pow-succ'}
 use Rattle.std.proofs.lemmas.Nat.{pow_pos}
@@ -58,6 +58,16 @@ length_low (suc n) v = ap suc (length_low n (v / 256))
 
 pub length_overwritten : (bytes : List ℕ) (at : ℕ) (new : List ℕ) → at + length new ≤ length bytes → length (overwritten bytes at new) ≡ length bytes
 length_overwritten bytes at new h = simp (length-append, length-take, length-drop) (omega arith)
+
+-- the low bytes of a number that has no more spell it
+pub low_whole : (n v : ℕ) → v < 256 ^ n → little_endian (low_bytes n v) ≡ v
+low_whole zero v h = omega arith
+low_whole (suc n) v h =
+    let rest = low_whole n (v / 256) (above n v h) in
+    ap (λ m. v % 256 + 256 * m) rest ∙ omega arith
+  where
+    above : (n v : ℕ) → v < 256 ^ suc n → v / 256 < 256 ^ n
+    above n v h = let e : 256 ^ suc n ≡ 256 * 256 ^ n = pow-succ' 256 n in omega (arith, e, h)
 
 -- the number that bytes spell
 digit : (b l p : ℕ) → b < 256 → l < p → b + 256 * l < 256 * p

@@ -1,9 +1,6 @@
 -- What a call must be given, and what is known after it (this store's profile).
 use Rattle.std.specs.Prelude.{ℕ, pos, nat_le, Bool, true, false, not, ◌&&◌, if◌then◌else◌, Option, None, Some, List, [], ◌∷◌, take, drop}
 use Rattle.insn.specs.declared.Register.TheVariants.{R1, R2, R3}
-use Rattle.ranges.specs.Numbers.{range, single}
-use Rattle.ranges.specs.Transfer.{kind_in}
-use Rattle.ranges.specs.declared.profile.Profile.{Profile}
 use Rattle.ranges.specs.declared.kind.Kind.{Kind}
 use Rattle.ranges.specs.declared.kind.Kind.TheVariants.{Unset, Dead, Num}
 use Rattle.memory.specs.Windows.{longest_window}
@@ -89,15 +86,3 @@ is_given p Unknown row = false
 abbrev pub is_unknown : Callee → Bool
 is_unknown Unknown = true
 is_unknown other = false
-
--- ---- after a call: R0 holds the answer, and R1 to R5 are unset
-
-abbrev pub answer_kind : Profile → Callee → Kind
-answer_kind profile Copy = kind_in profile (single 0)
-answer_kind profile Fill = kind_in profile (single 0)
-answer_kind profile Same = kind_in profile (range 0 1)
-answer_kind profile (Helper sig) = kind_in profile (range sig.lo sig.hi)
-answer_kind profile Unknown = Unset
-
-abbrev pub row_after_call : Profile → Callee → Row → Row
-row_after_call profile callee row = answer_kind profile callee ∷ Unset ∷ Unset ∷ Unset ∷ Unset ∷ Unset ∷ drop 6 row

@@ -3,6 +3,8 @@ pub mod Program
 pub mod Candidates
 pub mod Registers
 pub mod CallKinds
+pub mod Cells
+pub mod Answered
 pub mod Rules
 pub mod Table
 pub mod Rows

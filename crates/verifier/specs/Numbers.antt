@@ -2,7 +2,7 @@
 use Rattle.std.specs.Prelude.{ℕ, ◌+◌, Option, None, Some}
 use Rattle.bpfimage.specs.Form.{rank}
 use Rattle.verifier.specs.declared.rule.KindRule.{KindRule}
-use Rattle.verifier.specs.declared.rule.KindRule.TheVariants.{UnsetRead, FrameWritten, PointerOperand, FarOffset, OutsideWindow, InputStored, PointerStored, UnknownHelper, ArgumentRule, PointerAnswer}
+use Rattle.verifier.specs.declared.rule.KindRule.TheVariants.{UnsetRead, FrameWritten, PointerOperand, FarOffset, OutsideWindow, InputStored, PointerStored, UnknownHelper, ArgumentRule, PointerAnswer, StackRead}
 use Rattle.verifier.specs.declared.rule.Rule.{Rule}
 use Rattle.verifier.specs.declared.rule.Rule.TheVariants.{Form, Kinds, NoMemory}
 
@@ -17,6 +17,7 @@ kind_rule_number PointerStored = 26
 kind_rule_number UnknownHelper = 27
 kind_rule_number ArgumentRule = 28
 kind_rule_number PointerAnswer = 29
+kind_rule_number StackRead = 30
 
 abbrev pub rule_number : Rule → Option ℕ
 rule_number (Form rule) = Some (10 + rank rule)

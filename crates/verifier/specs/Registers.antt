@@ -1,5 +1,5 @@
--- What is known of the registers, and of the bytes to which a pointer leads (this store's profile).
-use Rattle.std.specs.Prelude.{ℕ, ℤ, pos, negsuc, ◌+ℤ◌, int_le, Bool, true, false, ◌&&◌, ◌||◌, List, [], ◌∷◌, slice_index_or, slice_set}
+-- What is known of the registers and of the stack, and of the bytes to which a pointer leads (this store's profiles).
+use Rattle.std.specs.Prelude.{◌≡◌, ℕ, ◌+◌, ℤ, pos, negsuc, ◌+ℤ◌, int_le, Bool, true, false, ◌&&◌, ◌||◌, List, [], ◌∷◌, length, replicate, slice_index_or, slice_set}
 use Rattle.alu.specs.Value.{wrapped}
 use Rattle.insn.specs.Encoding.{number}
 use Rattle.insn.specs.declared.Register.{Register}
@@ -10,13 +10,22 @@ use Rattle.memory.specs.declared.Region.TheVariants.{Stack, Input, Output}
 use Rattle.ranges.specs.Numbers.{single, up_to}
 use Rattle.ranges.specs.Transfer.{kind_in}
 use Rattle.ranges.specs.declared.profile.Profile.{Profile}
+use Rattle.ranges.specs.declared.profile.Profile.TheVariants.{First, Second}
 use Rattle.ranges.specs.declared.kind.Kind.{Kind}
 use Rattle.ranges.specs.declared.kind.Kind.TheVariants.{Unset, Ptr}
 use Rattle.verifier.specs.Program.{Program}
 
--- the kinds of R0 to R10
+-- the kinds of R0 to R10, and behind them those of the stack's cells, its whole words of 8 bytes, from the lowest on
 abbrev pub Row : Type 0
 Row = List Kind
+
+-- how many cells a table knows: the first one none, the second one all 64
+abbrev pub cell_count : Profile → ℕ
+cell_count First = 0
+cell_count Second = 64
+
+abbrev pub IsLong : Profile → Row → Type 0
+IsLong profile row = length row ≡ 11 + cell_count profile
 
 abbrev pub kind_at : Row → Register → Kind
 kind_at row r = slice_index_or row (number r) Unset
@@ -32,10 +41,11 @@ abbrev pub kind_from : Profile → Row → Operand → Kind
 kind_from profile row (operand.Register r) = kind_at row r
 kind_from profile row (operand.Immediate n) = one_number profile (wrapped 64 n)
 
--- the kinds before the first slot: R1 the input, R2 its used length, R3 the output, R4 its length, R10 the stack's end
+-- the kinds before the first slot: R1 the input, R2 its used length, R3 the output, R4 its length, R10 the stack's end, and
+-- in each cell the number 0
 abbrev pub entry : Program → Row
 entry p =
-    Unset ∷ Ptr Input (pos 0) (pos 0) ∷ kind_in p.profile (up_to p.in_len) ∷ Ptr Output (pos 0) (pos 0) ∷ one_number p.profile p.out_len ∷ Unset ∷ Unset ∷ Unset ∷ Unset ∷ Unset ∷ Ptr Stack (pos 0) (pos 0) ∷ []
+    Unset ∷ Ptr Input (pos 0) (pos 0) ∷ kind_in p.profile (up_to p.in_len) ∷ Ptr Output (pos 0) (pos 0) ∷ one_number p.profile p.out_len ∷ Unset ∷ Unset ∷ Unset ∷ Unset ∷ Unset ∷ Ptr Stack (pos 0) (pos 0) ∷ replicate (cell_count p.profile) (one_number p.profile 0)
 
 abbrev pub is_unset : Kind → Bool
 is_unset Unset = true

@@ -1,5 +1,5 @@
 -- The verifier's rules over kinds, and what it knows after an instruction (this store's profile).
-use Rattle.std.specs.Prelude.{◌*◌, ◌%◌, ◌^◌, ◌==◌, Bool, true, false, not, ◌||◌, if◌then◌else◌, Option, None, Some, Result, Ok, Err, List, [], ◌∷◌}
+use Rattle.std.specs.Prelude.{◌*◌, ◌%◌, ◌^◌, ◌==◌, Bool, true, false, not, ◌||◌, ◌&&◌, if◌then◌else◌, Option, None, Some, Result, Ok, Err, List, [], ◌∷◌}
 use Rattle.alu.specs.Value.{bits, wrapped}
 use Rattle.alu.specs.declared.Cond.{Cond}
 use Rattle.alu.specs.declared.Width.{Width}
@@ -26,9 +26,11 @@ use Rattle.helpers.specs.declared.sig.Entry.{Entry}
 use Rattle.helpers.specs.Calls.{Callee, Unknown, callee_of, arguments_with}
 use Rattle.verifier.specs.Program.{Program}
 use Rattle.verifier.specs.Registers.{Row, kind_at, with_kind, one_number, kind_from, is_pointer, is_input_pointer, any_unset, is_inside}
-use Rattle.verifier.specs.CallKinds.{is_unknown, is_given, row_after_call}
+use Rattle.verifier.specs.CallKinds.{is_unknown, is_given}
+use Rattle.verifier.specs.Cells.{span_of, whole_cell, row_stored, is_cell, read_kind, is_readable, call_reads_numbers}
+use Rattle.verifier.specs.Answered.{row_after_call}
 use Rattle.verifier.specs.declared.rule.KindRule.{KindRule}
-use Rattle.verifier.specs.declared.rule.KindRule.TheVariants.{UnsetRead, FrameWritten, PointerOperand, FarOffset, OutsideWindow, InputStored, PointerStored, UnknownHelper, ArgumentRule, PointerAnswer}
+use Rattle.verifier.specs.declared.rule.KindRule.TheVariants.{UnsetRead, FrameWritten, PointerOperand, FarOffset, OutsideWindow, InputStored, PointerStored, UnknownHelper, ArgumentRule, PointerAnswer, StackRead}
 
 -- what an instruction calls: nothing, unless it is a call
 abbrev pub callee_in : List Entry → Insn → Callee
@@ -58,17 +60,20 @@ compares_pointer j k = is_pointer j || is_pointer k
 
 -- the rules on a call, each where it is broken, the lowest number first
 abbrev pub call_rules : Program → Callee → Row → List (Option KindRule)
-call_rules p callee row = broken_if (is_unknown callee) UnknownHelper ∷ broken_if (not (is_given p callee row)) ArgumentRule ∷ []
+call_rules p callee row = broken_if (is_unknown callee) UnknownHelper ∷ broken_if (not (is_given p callee row)) ArgumentRule ∷ broken_if (not (call_reads_numbers callee row)) StackRead ∷ []
 
 -- the rules on an instruction of each class, each where it is broken, the lowest number first
 abbrev pub class_rules : Program → Callee → Row → Insn → List (Option KindRule)
 class_rules p callee row (insn.Alu op width dst src) = bad_result (transfer_of p.profile op width (kind_at row dst) (kind_from p.profile row src)) ∷ []
 class_rules p callee row (insn.Swap kind n dst) = bad_result (swap_of p.profile kind n (kind_at row dst)) ∷ []
-class_rules p callee row (insn.Load size extend dst base offset) = broken_if (not (is_inside p (kind_at row base) offset (size_bytes size))) OutsideWindow ∷ []
+class_rules p callee row (insn.Load size extend dst base offset) =
+    broken_if (not (is_inside p (kind_at row base) offset (size_bytes size))) OutsideWindow
+    ∷ broken_if (not (is_readable (whole_cell p.profile (kind_at row base) offset (size_bytes size)) (span_of (kind_at row base) offset (size_bytes size)) row)) StackRead
+    ∷ []
 class_rules p callee row (insn.Store size base offset src) =
     broken_if (not (is_inside p (kind_at row base) offset (size_bytes size))) OutsideWindow
     ∷ broken_if (is_input_pointer (kind_at row base)) InputStored
-    ∷ broken_if (is_pointer (kind_from p.profile row src)) PointerStored
+    ∷ broken_if (is_pointer (kind_from p.profile row src) && not (is_cell (whole_cell p.profile (kind_at row base) offset (size_bytes size)))) PointerStored
     ∷ []
 class_rules p callee row (insn.JumpIf c width left right offset) =
     broken_if (compares_pointer (kind_at row left) (kind_from p.profile row right)) PointerOperand ∷ []
@@ -125,7 +130,10 @@ refined profile c width left (operand.Immediate n) taken row =
 abbrev pub row_after : Profile → Callee → Row → Insn → Row
 row_after profile callee row (insn.Alu op width dst src) = with_kind row dst (result_kind (transfer_of profile op width (kind_at row dst) (kind_from profile row src)))
 row_after profile callee row (insn.Swap kind n dst) = with_kind row dst (result_kind (swap_of profile kind n (kind_at row dst)))
-row_after profile callee row (insn.Load size extend dst base offset) = with_kind row dst (loaded profile size extend)
+row_after profile callee row (insn.Load size extend dst base offset) =
+    with_kind row dst (read_kind (whole_cell profile (kind_at row base) offset (size_bytes size)) (loaded profile size extend) row)
+row_after profile callee row (insn.Store size base offset src) =
+    row_stored profile (kind_at row base) offset (size_bytes size) (kind_from profile row src) row
 row_after profile callee row (insn.JumpIf c width left right offset) = refined profile c width left right false row
 row_after profile callee row (insn.Call helper) = row_after_call profile callee row
 row_after profile callee row (insn.Wide dst n) = with_kind row dst (one_number profile n)

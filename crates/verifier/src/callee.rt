@@ -1,16 +1,18 @@
 //! What calls call, and what is known of them.
 
-ghost use Rattle.std.specs.Prelude.{◌≡◌};
+ghost use Rattle.std.specs.Prelude.{◌≡◌, ◌≤◌, length};
 ghost use Rattle.helpers.specs.Calls.{callee_of, arguments_with, used_of};
 ghost use Rattle.ranges.specs.Kinds.{IsKind};
 ghost use Rattle.verifier.specs.Candidates.{program_in};
 ghost use Rattle.verifier.specs.Registers.{any_unset};
-ghost use Rattle.verifier.specs.CallKinds.{callee_from, reaches, is_within, is_argument, are_arguments, is_read, is_written, is_given, answer_kind, row_after_call, first_kind};
+ghost use Rattle.verifier.specs.CallKinds.{callee_from, reaches, is_within, is_argument, are_arguments, is_read, is_written, is_given, first_kind};
+ghost use Rattle.verifier.specs.Answered.{answer_kind, row_after_call};
 ghost use Rattle.verifier.specs.Rules.{callee_in};
 ghost use Rattle.verifier.specs.Table.{AreKinds};
 
 use crate::candidate::Candidate;
-use crate::kinds::{Row, kind_of};
+use crate::cells::write_by_call;
+use crate::kinds::{kind_of, set_kind};
 use crate::windows::is_inside;
 use helpers::{ARGUMENT_REGISTERS, ArgRule, Sig, Sigs};
 use insn::{Insn, Register};
@@ -58,7 +60,7 @@ pub fn callee_in(sigs: &Sigs, insn: Insn) -> Called
 }
 
 /// Whether a register that these rules use is not known to be set.
-fn is_used_unset(row: &Row, rules: &[ArgRule], registers: &[Register]) -> bool
+fn is_used_unset(row: &[Kind], rules: &[ArgRule], registers: &[Register]) -> bool
     ensures { result ≡ any_unset row.now (used_of rules.now registers.now) }
 {
     match rules {
@@ -74,7 +76,7 @@ fn is_used_unset(row: &Row, rules: &[ArgRule], registers: &[Register]) -> bool
 }
 
 /// Whether a register that a call reads is not known to be set.
-pub fn is_argument_unset(row: &Row, callee: &Called) -> bool
+pub fn is_argument_unset(row: &[Kind], callee: &Called) -> bool
     ensures { result ≡ any_unset row.now (arguments_with (callee_from callee.now)) }
 {
     match callee {
@@ -129,7 +131,7 @@ fn is_argument(program: &Candidate, rule: ArgRule, kind: Kind, next: Kind) -> bo
 }
 
 /// The first kind of some.
-fn first_kind(kinds: &[Kind]) -> Kind
+pub fn first_kind(kinds: &[Kind]) -> Kind
     ensures { result ≡ first_kind kinds.now }
 {
     match kinds {
@@ -156,7 +158,7 @@ fn are_arguments(program: &Candidate, rules: &[ArgRule], kinds: &[Kind]) -> bool
 }
 
 /// Whether a call of the machine's own may read from there.
-fn is_read(program: &Candidate, row: &Row, address: Kind) -> bool
+fn is_read(program: &Candidate, row: &[Kind], address: Kind) -> bool
     requires { IsKind address }
     ensures { result ≡ is_read (program_in program.now) row.now address }
 {
@@ -164,7 +166,7 @@ fn is_read(program: &Candidate, row: &Row, address: Kind) -> bool
 }
 
 /// Whether a call of the machine's own may write there.
-fn is_written(program: &Candidate, row: &Row, address: Kind) -> bool
+fn is_written(program: &Candidate, row: &[Kind], address: Kind) -> bool
     requires { IsKind address }
     ensures { result ≡ is_written (program_in program.now) row.now address }
 {
@@ -179,7 +181,8 @@ fn is_written(program: &Candidate, row: &Row, address: Kind) -> bool
 }
 
 /// Whether a call fits, whatever the registers hold.
-pub fn is_given(program: &Candidate, callee: &Called, row: &Row) -> bool
+pub fn is_given(program: &Candidate, callee: &Called, row: &[Kind]) -> bool
+    requires long { 11 ≤ length row.now }
     requires kinds { AreKinds row.now }
     ensures { result ≡ is_given (program_in program.now) (callee_from callee.now) row.now }
 {
@@ -214,22 +217,19 @@ fn answer_kind(profile: Profile, callee: &Called) -> Kind
     }
 }
 
-/// The kinds after a call.
-pub fn row_after_call(profile: Profile, row: &Row, callee: &Called) -> Row
-    ensures table { result ≡ row_after_call profile (callee_from callee.now) row.now }
-    ensures kinds { AreKinds row.now → AreKinds result }
+/// Goes over a call.
+pub fn leave_call(profile: Profile, callee: &Called, row: &mut [Kind])
+    requires long { 11 ≤ length row.old }
+    requires short { length row.old ≤ 75 }
+    requires kinds { AreKinds row.old }
+    ensures table { row.new ≡ row_after_call profile (callee_from callee.now) row.old }
+    ensures kinds { AreKinds row.new }
 {
-    [
-        answer_kind(profile, callee),
-        Kind::Unset,
-        Kind::Unset,
-        Kind::Unset,
-        Kind::Unset,
-        Kind::Unset,
-        kind_of(row, Register::R6),
-        kind_of(row, Register::R7),
-        kind_of(row, Register::R8),
-        kind_of(row, Register::R9),
-        kind_of(row, Register::R10),
-    ]
+    write_by_call(profile, callee, row);
+    set_kind(row, Register::R0, answer_kind(profile, callee));
+    set_kind(row, Register::R1, Kind::Unset);
+    set_kind(row, Register::R2, Kind::Unset);
+    set_kind(row, Register::R3, Kind::Unset);
+    set_kind(row, Register::R4, Kind::Unset);
+    set_kind(row, Register::R5, Kind::Unset);
 }

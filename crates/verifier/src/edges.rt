@@ -6,25 +6,25 @@ ghost use Rattle.verifier.specs.Rules.{row_taken};
 ghost use Rattle.verifier.specs.Table.{join_rows, joined, next_edge, target_edge, AreKinds};
 ghost use Rattle.verifier.specs.Rows.{push_one, pushed, edge_list, LeadBelow, HaveKinds, Misses, HasKinds, AreRowKinds};
 
-use crate::kinds::{Row, write_taken};
+use crate::kinds::write_taken;
 use bpfimage::form::{next_of, target_of};
 use insn::Insn;
-use ranges::{Profile, join};
+use ranges::{Kind, Profile, join};
 
 /// Joins a row into one that was there before.
-fn join_row(profile: Profile, kept: &mut Row, new: &Row)
+fn join_row<const N: usize>(profile: Profile, kept: &mut [Kind; N], new: &[Kind; N])
     requires old { AreKinds kept.old }
     requires kinds { AreKinds new.now }
     ensures table { kept.new ≡ join_rows profile kept.old new.now }
     ensures kinds { AreKinds kept.new }
 {
-    for i in 0..11 {
+    for i in 0..N {
         kept[i] = join(profile, kept[i], new[i]);
     }
 }
 
 /// Joins an edge's kinds into what was there before, if anything was.
-fn join_edge(profile: Profile, kept: &mut Option<Row>, row: &Row)
+fn join_edge<const N: usize>(profile: Profile, kept: &mut Option<[Kind; N]>, row: &[Kind; N])
     requires old { HasKinds kept.old }
     requires kinds { AreKinds row.now }
     ensures row { kept.new ≡ joined profile kept.old row.now }
@@ -37,7 +37,12 @@ fn join_edge(profile: Profile, kept: &mut Option<Row>, row: &Row)
 }
 
 /// Joins an edge's kinds into its target's row.
-fn push_edge(profile: Profile, rows: &mut Vec<Option<Row>>, to: usize, row: &Row)
+fn push_edge<const N: usize>(
+    profile: Profile,
+    rows: &mut Vec<Option<[Kind; N]>>,
+    to: usize,
+    row: &[Kind; N],
+)
     requires within { to < vec_len rows.old }
     requires kinds { AreKinds row.now }
     requires old { AreRowKinds rows.old.items }
@@ -49,12 +54,12 @@ fn push_edge(profile: Profile, rows: &mut Vec<Option<Row>>, to: usize, row: &Row
 }
 
 /// The edge of a jump: where it leads. The kinds that it brings there are written over a row.
-pub fn taken_edge(
+pub fn taken_edge<const N: usize>(
     profile: Profile,
     at: usize,
-    row: &Row,
+    row: &[Kind; N],
     insn: Insn,
-    taken: &mut Row,
+    taken: &mut [Kind; N],
 ) -> Option<usize>
     requires small { at < 4096 }
     requires ahead { (z : ℤ) → target_of at insn ≡ Some z → (k : ℕ) × (z ≡ pos k) }
@@ -72,7 +77,12 @@ pub fn taken_edge(
 }
 
 /// Joins a jump's edge, if there is one, into its target's row.
-fn push_taken(profile: Profile, rows: &mut Vec<Option<Row>>, target: Option<usize>, taken: &Row)
+fn push_taken<const N: usize>(
+    profile: Profile,
+    rows: &mut Vec<Option<[Kind; N]>>,
+    target: Option<usize>,
+    taken: &[Kind; N],
+)
     requires within { LeadBelow (vec_len rows.old) (edge_list target taken.now) }
     requires kinds { HaveKinds (edge_list target taken.now) }
     requires old { AreRowKinds rows.old.items }
@@ -87,14 +97,14 @@ fn push_taken(profile: Profile, rows: &mut Vec<Option<Row>>, target: Option<usiz
 
 /// Joins an instruction's edges into the rows of their targets: that of its jump, and that of its own row after it. Where this
 /// row is all that reaches the next slot, its edge is left out, and the answer is true: the row goes on as it stands.
-pub fn lead_on(
+pub fn lead_on<const N: usize>(
     profile: Profile,
-    rows: &mut Vec<Option<Row>>,
+    rows: &mut Vec<Option<[Kind; N]>>,
     at: usize,
-    row: &Row,
+    row: &[Kind; N],
     insn: Insn,
     target: Option<usize>,
-    taken: &Row,
+    taken: &[Kind; N],
 ) -> bool
     requires small { at < 4096 }
     requires next { (k : ℕ) → next_of at insn ≡ Some k → k < vec_len rows.old }

@@ -1,6 +1,7 @@
-//! What is known of the registers, from slot to slot.
+//! What is known of the registers, from slot to slot. A row has the kinds of R0 to R10, and behind them those of the stack's
+//! cells, from the lowest on.
 
-ghost use Rattle.std.specs.Prelude.{◌≡◌, ◌≤◌, ◌%◌, ◌^◌};
+ghost use Rattle.std.specs.Prelude.{◌≡◌, ◌≤◌, ◌%◌, ◌^◌, slice_set};
 ghost use Rattle.alu.specs.Value.{bits, wrapped};
 ghost use Rattle.insn.specs.Encoding.{size_bytes};
 ghost use Rattle.ranges.specs.Kinds.{IsKind};
@@ -12,15 +13,15 @@ use alu::{Cond, Width};
 use insn::{Extend, Insn, Operand, Register, Size};
 use ranges::{Kind, Profile, Range, kind_in, refine};
 
-/// The kinds of R0 to R10.
-pub type Row = [Kind; 11];
-
 /// The kind of a register.
-pub fn kind_of(row: &Row, register: Register) -> Kind
+pub fn kind_of(row: &[Kind], register: Register) -> Kind
     ensures table { result ≡ kind_at row.now register }
     ensures kind { AreKinds row.now → IsKind result }
 {
-    row[register.number() as usize]
+    match row.get(register.number() as usize) {
+        Some(kind) => *kind,
+        None => Kind::Unset,
+    }
 }
 
 /// The kind of one number.
@@ -32,7 +33,7 @@ pub fn one_number(profile: Profile, n: u64) -> Kind
 }
 
 /// The kind of an operand.
-pub fn kind_of_operand(profile: Profile, row: &Row, operand: Operand) -> Kind
+pub fn kind_of_operand(profile: Profile, row: &[Kind], operand: Operand) -> Kind
     ensures table { result ≡ kind_from profile row.now operand }
     ensures kind { AreKinds row.now → IsKind result }
 {
@@ -42,12 +43,22 @@ pub fn kind_of_operand(profile: Profile, row: &Row, operand: Operand) -> Kind
     }
 }
 
+/// Puts a kind into a row, where it has that place.
+pub fn put(row: &mut [Kind], at: usize, kind: Kind)
+    ensures table { row.new ≡ slice_set row.old at kind }
+    ensures kinds { AreKinds row.old → IsKind kind → AreKinds row.new }
+{
+    if at < row.len() {
+        row[at] = kind;
+    }
+}
+
 /// Gives one register another kind.
-pub fn set_kind(row: &mut Row, register: Register, kind: Kind)
+pub fn set_kind(row: &mut [Kind], register: Register, kind: Kind)
     ensures table { row.new ≡ with_kind row.old register kind }
     ensures kinds { AreKinds row.old → IsKind kind → AreKinds row.new }
 {
-    row[register.number() as usize] = kind;
+    put(row, register.number() as usize, kind);
 }
 
 /// The numbers that a load gives.
@@ -91,7 +102,7 @@ pub fn refine_row(
     left: Register,
     right: Operand,
     taken: bool,
-    row: &mut Row,
+    row: &mut [Kind],
 )
     requires { AreKinds row.old }
     ensures table { row.new ≡ refined profile cond width left right taken row.old }
@@ -115,7 +126,12 @@ pub fn refine_row(
 }
 
 /// Writes the kinds where a jump is taken.
-pub fn write_taken(profile: Profile, row: &Row, insn: Insn, taken: &mut Row)
+pub fn write_taken<const N: usize>(
+    profile: Profile,
+    row: &[Kind; N],
+    insn: Insn,
+    taken: &mut [Kind; N],
+)
     requires { AreKinds row.now }
     ensures table { taken.new ≡ row_taken profile row.now insn }
     ensures kinds { AreKinds taken.new }

@@ -3,12 +3,14 @@
 
 mod callee;
 mod candidate;
+mod cells;
 mod edges;
 mod kinds;
 mod pieces;
 pub mod rule;
 mod rules;
 mod slots;
+mod span;
 pub mod verified;
 pub mod verifying;
 mod windows;

@@ -4,7 +4,7 @@ ghost use Rattle.std.specs.Prelude.{◌≡◌};
 
 use bpfimage::FormRule;
 
-/// A rule over the kinds of the registers before a slot.
+/// A rule over the kinds of the registers, and of the stack's cells, before a slot.
 #[derive(Clone, Copy, Debug, PartialEq, Eq)]
 pub enum KindRule {
     /// V20: a register is read that is not set on every path, or not of one kind.
@@ -19,7 +19,7 @@ pub enum KindRule {
     OutsideWindow,
     /// V25: a store to the input.
     InputStored,
-    /// V26: a pointer is stored.
+    /// V26: a pointer is stored, by the second table otherwise than into one whole cell of the stack.
     PointerStored,
     /// V27: no helper has the number.
     UnknownHelper,
@@ -27,6 +27,9 @@ pub enum KindRule {
     ArgumentRule,
     /// V29: the answer is a pointer.
     PointerAnswer,
+    /// V30: what is read of the stack may be part of a pointer, or is a whole cell of which nothing is known. By the first table
+    /// never.
+    StackRead,
 }
 
 /// Why a program is not accepted.
@@ -34,7 +37,7 @@ pub enum KindRule {
 pub enum Rule {
     /// A rule of form, V10 to V14.
     Form(FormRule),
-    /// A rule over kinds, V20 to V29.
+    /// A rule over kinds, V20 to V30.
     Kinds(KindRule),
     /// Memory ran out.
     NoMemory,
@@ -51,7 +54,7 @@ impl KindRule {
     ghost use Rattle.std.specs.Prelude.{◌≡◌};
     ghost use Rattle.verifier.specs.Numbers.{kind_rule_number};
 
-    /// The rule's number, 20 to 29.
+    /// The rule's number, 20 to 30.
     pub fn number(self) -> u8
         ensures { result ≡ kind_rule_number self }
     {
@@ -66,6 +69,7 @@ impl KindRule {
             KindRule::UnknownHelper => 27,
             KindRule::ArgumentRule => 28,
             KindRule::PointerAnswer => 29,
+            KindRule::StackRead => 30,
         }
     }
 }

@@ -1,6 +1,6 @@
 //! The rules over kinds, at one slot.
 
-ghost use Rattle.std.specs.Prelude.{◌≡◌, ◌||◌, false, not, IfOk, IfNone};
+ghost use Rattle.std.specs.Prelude.{◌≡◌, ◌≤◌, false, length, IfOk, IfNone};
 ghost use Rattle.insn.specs.Encoding.{size_bytes};
 ghost use Rattle.insn.specs.declared.Insn.TheVariants as insn;
 ghost use Rattle.memory.specs.State.{writes, operand_reads};
@@ -8,14 +8,17 @@ ghost use Rattle.helpers.specs.Calls.{Unknown};
 ghost use Rattle.ranges.specs.Kinds.{IsKind};
 ghost use Rattle.verifier.specs.Candidates.{program_in};
 ghost use Rattle.verifier.specs.Registers.{kind_at, with_kind, kind_from, is_unset, any_unset, is_inside};
-ghost use Rattle.verifier.specs.CallKinds.{callee_from, row_after_call};
-ghost use Rattle.verifier.specs.Rules.{is_frame, bad_result, result_kind, broken_if, first_of, compares_pointer, reads_by, call_rules, class_rules, rules_by, loaded, refined, row_after};
+ghost use Rattle.verifier.specs.CallKinds.{callee_from};
+ghost use Rattle.verifier.specs.Answered.{row_after_call};
+ghost use Rattle.verifier.specs.Cells.{span_of, whole_cell};
+ghost use Rattle.verifier.specs.Rules.{is_frame, bad_result, result_kind, broken_if, first_of, compares_pointer, reads_by, call_rules, class_rules, rules_by, refined, row_after};
 ghost use Rattle.verifier.specs.Table.{AreKinds};
-ghost use Rattle.verifier.specs.declared.rule.KindRule.TheVariants.{PointerOperand, OutsideWindow};
+ghost use Rattle.verifier.specs.declared.rule.KindRule.TheVariants.{PointerOperand};
 
-use crate::callee::{Called, is_argument_unset, is_given, row_after_call};
+use crate::callee::{Called, is_argument_unset, is_given, leave_call};
 use crate::candidate::Candidate;
-use crate::kinds::{Row, kind_of, kind_of_operand, loaded, one_number, refine_row, set_kind};
+use crate::cells::{call_reads_numbers, is_readable, read_kind, span_of, store_kind, whole_cell};
+use crate::kinds::{kind_of, kind_of_operand, loaded, one_number, refine_row, set_kind};
 use crate::rule::KindRule;
 use crate::windows::is_inside;
 use alu::{Cond, Op, Width};
@@ -24,14 +27,14 @@ use memory::Region;
 use ranges::{Bad, Kind, Profile, transfer, transfer_swap};
 
 /// Whether the kind of a register is unset.
-fn is_unset(row: &Row, register: Register) -> bool
+fn is_unset(row: &[Kind], register: Register) -> bool
     ensures { result ≡ is_unset (kind_at row.now register) }
 {
     kind_of(row, register) == Kind::Unset
 }
 
 /// Whether an operand reads an unset register.
-fn is_operand_unset(row: &Row, operand: Operand) -> bool
+fn is_operand_unset(row: &[Kind], operand: Operand) -> bool
     ensures { result ≡ any_unset row.now (operand_reads operand) }
 {
     match operand {
@@ -41,7 +44,7 @@ fn is_operand_unset(row: &Row, operand: Operand) -> bool
 }
 
 /// Whether an instruction reads a register that is not known to be set.
-fn reads_unset(callee: &Called, row: &Row, insn: Insn) -> bool
+fn reads_unset(callee: &Called, row: &[Kind], insn: Insn) -> bool
     ensures { result ≡ any_unset row.now (reads_by (callee_from callee.now) insn) }
 {
     match insn {
@@ -83,7 +86,7 @@ fn is_access_inside(program: &Candidate, kind: Kind, offset: i16, size: Size) ->
 }
 
 /// Gives a register what an operation leaves in it, or tells the rule that the operation breaks.
-fn settle(row: &mut Row, dst: Register, outcome: Result<Kind, Bad>) -> Option<KindRule>
+fn settle(row: &mut [Kind], dst: Register, outcome: Result<Kind, Bad>) -> Option<KindRule>
     requires old { AreKinds row.old }
     requires kind { IfOk outcome IsKind }
     ensures rule { result ≡ bad_result outcome }
@@ -100,16 +103,18 @@ fn settle(row: &mut Row, dst: Register, outcome: Result<Kind, Bad>) -> Option<Ki
     }
 }
 
-/// The first rule that a store breaks, of those that only it can break.
+/// The first rule that a store breaks, of those that only it can break, by the cell that it writes as a whole, if it does.
 fn store_rule(
     program: &Candidate,
-    row: &Row,
+    row: &[Kind],
     size: Size,
     base: Register,
     offset: i16,
     src: Operand,
+    cell: Option<usize>,
 ) -> Option<KindRule>
     requires kinds { AreKinds row.now }
+    requires cell { cell ≡ whole_cell program.now.image.profile (kind_at row.now base) offset (size_bytes size) }
     ensures { result ≡ first_of (class_rules (program_in program.now) Unknown row.now (Insn.Store size base offset src)) }
 {
     let address = kind_of(row, base);
@@ -126,23 +131,56 @@ fn store_rule(
         return Some(KindRule::InputStored);
     }
     match kind_of_operand(program.image.profile, row, src) {
-        Kind::Ptr { .. } => Some(KindRule::PointerStored),
+        Kind::Ptr { .. } if cell.is_none() => Some(KindRule::PointerStored),
         _ => None,
     }
 }
 
+/// Goes over a store, or tells the first rule that it breaks.
+fn store(
+    program: &Candidate,
+    row: &mut [Kind],
+    size: Size,
+    base: Register,
+    offset: i16,
+    src: Operand,
+) -> Option<KindRule>
+    requires long { 11 ≤ length row.old }
+    requires short { length row.old ≤ 75 }
+    requires kinds { AreKinds row.old }
+    ensures rule { result ≡ first_of (class_rules (program_in program.now) Unknown row.old (Insn.Store size base offset src)) }
+    ensures row { IfNone result (row.new ≡ row_after program.now.image.profile Unknown row.old (Insn.Store size base offset src)) }
+    ensures kinds { IfNone result (AreKinds row.new) }
+{
+    let profile = program.image.profile;
+    let address = kind_of(row, base);
+    let cell = whole_cell(profile, address, offset, size.bytes() as u32);
+    if let Some(rule) = store_rule(program, row, size, base, offset, src, cell) {
+        return Some(rule);
+    }
+    let kind = kind_of_operand(profile, row, src);
+    let span = span_of(address, offset, size.bytes() as u32);
+    store_kind(profile, cell, span, kind, row);
+    None
+}
+
 /// The first rule that a call breaks, of those that only it can break.
-fn call_rule(program: &Candidate, callee: &Called, row: &Row) -> Option<KindRule>
+fn call_rule(program: &Candidate, callee: &Called, row: &[Kind]) -> Option<KindRule>
+    requires long { 11 ≤ length row.now }
+    requires short { length row.now ≤ 75 }
     requires kinds { AreKinds row.now }
     ensures { result ≡ first_of (call_rules (program_in program.now) (callee_from callee.now) row.now) }
 {
     if matches!(callee, Called::Unknown) {
         return Some(KindRule::UnknownHelper);
     }
-    if is_given(program, callee, row) {
+    if !is_given(program, callee, row) {
+        return Some(KindRule::ArgumentRule);
+    }
+    if call_reads_numbers(callee, row) {
         None
     } else {
-        Some(KindRule::ArgumentRule)
+        Some(KindRule::StackRead)
     }
 }
 
@@ -164,7 +202,7 @@ fn compare(
     width: Width,
     left: Register,
     right: Operand,
-    row: &mut Row,
+    row: &mut [Kind],
 ) -> Option<KindRule>
     requires kinds { AreKinds row.old }
     ensures rule { result ≡ broken_if (compares_pointer (kind_at row.old left) (kind_from profile row.old right)) PointerOperand }
@@ -178,31 +216,42 @@ fn compare(
     None
 }
 
-/// Goes over a load, or tells the rule that it breaks.
+/// Goes over a load, or tells the first rule that it breaks.
 fn load(
     program: &Candidate,
-    row: &mut Row,
+    row: &mut [Kind],
     size: Size,
     extend: Extend,
     dst: Register,
     base: Register,
     offset: i16,
 ) -> Option<KindRule>
+    requires long { 11 ≤ length row.old }
+    requires short { length row.old ≤ 75 }
     requires kinds { AreKinds row.old }
-    ensures rule { result ≡ broken_if (not (is_inside (program_in program.now) (kind_at row.old base) offset (size_bytes size))) OutsideWindow }
-    ensures row { IfNone result (row.new ≡ with_kind row.old dst (loaded program.now.image.profile size extend)) }
+    ensures rule { result ≡ first_of (class_rules (program_in program.now) Unknown row.old (Insn.Load size extend dst base offset)) }
+    ensures row { IfNone result (row.new ≡ row_after program.now.image.profile Unknown row.old (Insn.Load size extend dst base offset)) }
     ensures kinds { IfNone result (AreKinds row.new) }
 {
-    if is_access_inside(program, kind_of(row, base), offset, size) {
-        set_kind(row, dst, loaded(program.image.profile, size, extend));
-        None
-    } else {
-        Some(KindRule::OutsideWindow)
+    let profile = program.image.profile;
+    let address = kind_of(row, base);
+    if !is_access_inside(program, address, offset, size) {
+        return Some(KindRule::OutsideWindow);
     }
+    let cell = whole_cell(profile, address, offset, size.bytes() as u32);
+    let span = span_of(address, offset, size.bytes() as u32);
+    if !is_readable(cell, span, row) {
+        return Some(KindRule::StackRead);
+    }
+    let kind = read_kind(cell, loaded(profile, size, extend), row);
+    set_kind(row, dst, kind);
+    None
 }
 
 /// Goes over a call, or tells the first rule that it breaks.
-fn call(program: &Candidate, callee: &Called, row: &mut Row) -> Option<KindRule>
+fn call(program: &Candidate, callee: &Called, row: &mut [Kind]) -> Option<KindRule>
+    requires long { 11 ≤ length row.old }
+    requires short { length row.old ≤ 75 }
     requires kinds { AreKinds row.old }
     ensures rule { result ≡ first_of (call_rules (program_in program.now) (callee_from callee.now) row.old) }
     ensures row { IfNone result (row.new ≡ row_after_call program.now.image.profile (callee_from callee.now) row.old) }
@@ -211,12 +260,19 @@ fn call(program: &Candidate, callee: &Called, row: &mut Row) -> Option<KindRule>
     if let Some(rule) = call_rule(program, callee, row) {
         return Some(rule);
     }
-    *row = row_after_call(program.image.profile, row, callee);
+    leave_call(program.image.profile, callee, row);
     None
 }
 
 /// Goes over an instruction that reads what is set, or tells the first rule that it breaks of those that its class can break.
-fn class_step(program: &Candidate, callee: &Called, row: &mut Row, insn: Insn) -> Option<KindRule>
+fn class_step(
+    program: &Candidate,
+    callee: &Called,
+    row: &mut [Kind],
+    insn: Insn,
+) -> Option<KindRule>
+    requires long { 11 ≤ length row.old }
+    requires short { length row.old ≤ 75 }
     requires kinds { AreKinds row.old }
     ensures rule { result ≡ first_of (class_rules (program_in program.now) (callee_from callee.now) row.old insn) }
     ensures row { IfNone result (row.new ≡ row_after program.now.image.profile (callee_from callee.now) row.old insn) }
@@ -250,7 +306,7 @@ fn class_step(program: &Candidate, callee: &Called, row: &mut Row, insn: Insn) -
             base,
             offset,
             src,
-        } => store_rule(program, row, size, base, offset, src),
+        } => store(program, row, size, base, offset, src),
         Insn::JumpIf {
             cond,
             width,
@@ -273,7 +329,14 @@ fn class_step(program: &Candidate, callee: &Called, row: &mut Row, insn: Insn) -
 
 /// Goes over an instruction, with what it calls, in a row of kinds: to the kinds where it goes on to the next slot. What it
 /// breaks, the lowest rule, is told.
-pub fn advance(program: &Candidate, callee: &Called, row: &mut Row, insn: Insn) -> Option<KindRule>
+pub fn advance(
+    program: &Candidate,
+    callee: &Called,
+    row: &mut [Kind],
+    insn: Insn,
+) -> Option<KindRule>
+    requires long { 11 ≤ length row.old }
+    requires short { length row.old ≤ 75 }
     requires kinds { AreKinds row.old }
     ensures rule { result ≡ first_of (rules_by (program_in program.now) (callee_from callee.now) row.old insn) }
     ensures row { IfNone result (row.new ≡ row_after program.now.image.profile (callee_from callee.now) row.old insn) }

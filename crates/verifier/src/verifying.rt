@@ -5,7 +5,7 @@ ghost use Rattle.helpers.specs.declared.sig.Entry.{Entry};
 ghost use Rattle.bpfimage.specs.Form.{IsFormed};
 ghost use Rattle.verifier.specs.Program.{program_of, IsSafeProgram};
 ghost use Rattle.verifier.specs.Candidates.{program_in};
-ghost use Rattle.verifier.specs.Registers.{entry};
+ghost use Rattle.verifier.specs.Registers.{cell_count, entry};
 ghost use Rattle.verifier.specs.Table.{IsAccepted, IsFirstRule, broken_at, AreKinds};
 ghost use Rattle.verifier.specs.Rows.{HasKinds, AreRowKinds, IsPass};
 ghost use Rattle.verifier.specs.Lowered.{AreSlots};
@@ -15,7 +15,7 @@ ghost use Rattle.verifier.specs.Plain.{IsPlain, IsWellBehaved};
 use crate::callee::callee_in;
 use crate::candidate::Candidate;
 use crate::edges::{lead_on, taken_edge};
-use crate::kinds::{Row, one_number};
+use crate::kinds::one_number;
 use crate::rule::{KindRule, Refused, Rule};
 use crate::rules::advance;
 use crate::slots::lower_slot;
@@ -25,7 +25,7 @@ use helpers::Sigs;
 use insn::code_is_paired;
 use lows::{Low, tail};
 use memory::Region;
-use ranges::{Kind, Range, kind_in, kinds_are_sound};
+use ranges::{Kind, Profile, Range, kind_in, kinds_are_sound};
 use std::alloc::Global;
 
 /// The kind of the address of a window: of its first byte, or of the stack's end.
@@ -40,35 +40,38 @@ fn address_of(region: Region) -> Kind
 }
 
 /// The kinds before the first slot.
-fn entry(program: &Candidate) -> Row
+fn entry<const N: usize>(program: &Candidate) -> [Kind; N]
+    requires long { N ≡ 11 + cell_count program.now.image.profile }
     ensures table { result ≡ entry (program_in program.now) }
     ensures kinds { AreKinds result }
 {
     let image = &program.image;
-    [
-        Kind::Unset,
-        address_of(Region::Input),
-        kind_in(image.profile, Range::up_to(u64::from(image.in_len))),
-        address_of(Region::Output),
-        one_number(image.profile, u64::from(image.out_len)),
-        Kind::Unset,
-        Kind::Unset,
-        Kind::Unset,
-        Kind::Unset,
-        Kind::Unset,
-        address_of(Region::Stack),
-    ]
+    let mut row = [one_number(image.profile, 0); N];
+    row[0] = Kind::Unset;
+    row[1] = address_of(Region::Input);
+    row[2] = kind_in(image.profile, Range::up_to(u64::from(image.in_len)));
+    row[3] = address_of(Region::Output);
+    row[4] = one_number(image.profile, u64::from(image.out_len));
+    row[5] = Kind::Unset;
+    row[6] = Kind::Unset;
+    row[7] = Kind::Unset;
+    row[8] = Kind::Unset;
+    row[9] = Kind::Unset;
+    row[10] = address_of(Region::Stack);
+    row
 }
 
 /// Tests a slot, by the kinds that reach it, and goes over it: to those that reach the next slot. Its jump's edge is joined into
 /// the row of its target; a row is lent to write this edge's kinds to.
-fn visit(
+fn visit<const N: usize>(
     program: &Candidate,
     at: usize,
-    rows: &mut Vec<Option<Row>>,
-    here: &mut Option<Row>,
-    taken: &mut Row,
+    rows: &mut Vec<Option<[Kind; N]>>,
+    here: &mut Option<[Kind; N]>,
+    taken: &mut [Kind; N],
 ) -> Option<KindRule>
+    requires long { 11 ≤ N }
+    requires short { N ≤ 75 }
     requires formed { IsFormed program.now.image.code.items }
     requires within { at < length program.now.image.code.items }
     requires pass { IsPass (program_in program.now) rows.old.items here.old at }
@@ -98,8 +101,11 @@ fn visit(
 }
 
 /// The lowered code of a program that breaks no rule over kinds, or else the first rule that a slot breaks.
-fn check_kinds(alloc: Global, program: &Candidate) -> Result<Vec<Low>, Refused>
-    requires { IsFormed program.now.image.code.items }
+fn check_rows<const N: usize>(alloc: Global, program: &Candidate) -> Result<Vec<Low>, Refused>
+    requires formed { IsFormed program.now.image.code.items }
+    requires long { N ≡ 11 + cell_count program.now.image.profile }
+    requires some { 11 ≤ N }
+    requires short { N ≤ 75 }
     ensures ok { OnOk result (IsAccepted (program_in program.now)) }
     ensures lowered { IfOk result (λ lows. AreSlots (program_in program.now) lows.items (length program.now.image.code.items)) }
     ensures refused { IfErr result (λ refused. IsRefused (program_in program.now) refused.rule refused.slot) }
@@ -118,7 +124,7 @@ fn check_kinds(alloc: Global, program: &Candidate) -> Result<Vec<Low>, Refused>
             slot: 0,
         });
     };
-    let first = entry(program);
+    let first: [Kind; N] = entry(program);
     let mut here = Some(first);
     let mut taken = first;
     for at in 0..slots {
@@ -131,6 +137,19 @@ fn check_kinds(alloc: Global, program: &Candidate) -> Result<Vec<Low>, Refused>
         }
     }
     Ok(lows)
+}
+
+/// The lowered code of a program that breaks no rule over kinds, by its table, or else the first rule that a slot breaks.
+fn check_kinds(alloc: Global, program: &Candidate) -> Result<Vec<Low>, Refused>
+    requires { IsFormed program.now.image.code.items }
+    ensures ok { OnOk result (IsAccepted (program_in program.now)) }
+    ensures lowered { IfOk result (λ lows. AreSlots (program_in program.now) lows.items (length program.now.image.code.items)) }
+    ensures refused { IfErr result (λ refused. IsRefused (program_in program.now) refused.rule refused.slot) }
+{
+    match program.image.profile {
+        Profile::First => check_rows::<11>(alloc, program),
+        Profile::Second => check_rows::<75>(alloc, program),
+    }
 }
 
 /// The first rule of form that an image breaks.

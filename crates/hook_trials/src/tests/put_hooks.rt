@@ -1,40 +1,55 @@
 //! Pre-commit hooks of puts.
 
 use abi::BadAnswer;
+use bpfimage::ImageKind;
 use code_parts::expect;
 use dvv::{Clock, Dot};
 use helpers::Table;
-use object::Content;
+use hooks::Hooks;
+use local::Local;
+use object::{Content, Key};
 use peers::Peers;
 use quorum::{Hooking, QuorumFault};
-use std::alloc::Global;
+use std::alloc::{AllocError, Global};
 use std::test::Fail;
 use trial_parts::building::{content_of, is_value, key_of, lengths, three_losing};
 use trial_parts::calling::{get, put, put_hooked};
-use trial_parts::hooking::{Hidden, program};
+use trial_parts::hooking::{Hidden, program, registry_of};
 use trial_parts::programs::{EXIT, PRE_COMMIT, WRITE_X, answer};
 
 /// What a put at vnode 0 answered, how many entries the vnodes' journals have after it, and how many calls failed.
 type Outcome = (Result<Dot, QuorumFault>, [usize; 3], u64);
 
-/// What a put of `a` comes to under a pre-commit hook with this code, these calls lost.
-fn put_under(alloc: Global, in_len: u16, code: &[[u8; 8]], lost: &[u64]) -> Result<Outcome, Fail> {
+/// What a put of `a` at vnode 0 answers, of which so many copies are asked for.
+pub(crate) fn put_a<H: Hooks>(
+    alloc: Global,
+    local: &mut Local,
+    hooking: &mut Hooking<H>,
+    w: usize,
+) -> Result<Result<Dot, QuorumFault>, AllocError> {
     let key = key_of(alloc, b"k")?;
     let content = content_of(alloc, b"a")?;
-    let hook = program(alloc, PRE_COMMIT, in_len, code)?;
-    let mut local = three_losing(alloc, lost)?;
     let seen = Clock::new(alloc);
-    let back = put_hooked(
-        alloc,
-        &mut local,
-        hook,
-        0,
-        &[1, 2],
-        &key,
-        &seen,
-        &content,
-        2,
-    )?;
+    Ok(put(local, hooking, 0, &[1, 2], &key, &seen, &content, w))
+}
+
+/// The same under a pre-commit hook with this code.
+fn put_by(
+    alloc: Global,
+    local: &mut Local,
+    in_len: u16,
+    code: &[[u8; 8]],
+) -> Result<Result<Dot, QuorumFault>, Fail> {
+    let hook = program(alloc, PRE_COMMIT, in_len, code)?;
+    let registry = registry_of(alloc, ImageKind::PreCommit, hook)?;
+    let mut hooking = Hooking::new(alloc, registry, Table::new(alloc));
+    Ok(put_a(alloc, local, &mut hooking, 2)?)
+}
+
+/// What a put of `a` comes to under a pre-commit hook with this code, these calls lost.
+fn put_under(alloc: Global, in_len: u16, code: &[[u8; 8]], lost: &[u64]) -> Result<Outcome, Fail> {
+    let mut local = three_losing(alloc, lost)?;
+    let back = put_by(alloc, &mut local, in_len, code)?;
     Ok((back, lengths(&local), local.failures()))
 }
 
@@ -113,21 +128,9 @@ fn lost_before_the_hook_runs(rt: HostRuntime) -> Result<(), Fail> {
 
 /// What a put of `a` comes to where the hooks can't be seen.
 fn put_unseen(alloc: Global) -> Result<Outcome, Fail> {
-    let key = key_of(alloc, b"k")?;
-    let content = content_of(alloc, b"a")?;
     let mut local = three_losing(alloc, &[])?;
     let mut hidden = Hooking::new(alloc, Hidden, Table::new(alloc));
-    let seen = Clock::new(alloc);
-    let back = put(
-        &mut local,
-        &mut hidden,
-        0,
-        &[1, 2],
-        &key,
-        &seen,
-        &content,
-        1,
-    );
+    let back = put_a(alloc, &mut local, &mut hidden, 1)?;
     Ok((back, lengths(&local), local.failures()))
 }
 
@@ -138,15 +141,26 @@ fn a_hook_that_is_not_seen(rt: HostRuntime) -> Result<(), Fail> {
     Ok(())
 }
 
+/// Puts a content under a hook that writes `x`.
+fn put_x(alloc: Global, local: &mut Local, key: &Key, content: &Content) -> Result<(), Fail> {
+    let hook = program(alloc, PRE_COMMIT, 128, &WRITE_X)?;
+    let seen = Clock::new(alloc);
+    put_hooked(alloc, local, hook, 0, &[1, 2], key, &seen, content, 2)??;
+    Ok(())
+}
+
+/// Whether vnode 2 holds the value `x` of a media type.
+fn holds_x(alloc: Global, local: &mut Local, key: &Key, media: &[u8]) -> Result<bool, QuorumFault> {
+    let (state, _) = get(alloc, local, key, &[2], 1)?;
+    Ok(is_value(&state, media, b"x"))
+}
+
 /// Whether vnode 2 holds the value `x` of a media type after a put of a content under a hook that writes it.
 fn is_changed(alloc: Global, content: &Content, media: &[u8]) -> Result<bool, Fail> {
     let key = key_of(alloc, b"k")?;
-    let hook = program(alloc, PRE_COMMIT, 128, &WRITE_X)?;
     let mut local = three_losing(alloc, &[])?;
-    let seen = Clock::new(alloc);
-    put_hooked(alloc, &mut local, hook, 0, &[1, 2], &key, &seen, content, 2)??;
-    let (state, _) = get(alloc, &mut local, &key, &[2], 1)?;
-    Ok(is_value(&state, media, b"x"))
+    put_x(alloc, &mut local, &key, content)?;
+    Ok(holds_x(alloc, &mut local, &key, media)?)
 }
 
 /// Whether a put of the value `a` is so changed, and one of a tombstone.

@@ -120,16 +120,25 @@ fn is_as_told(
     Ok(back == row.back && before == row.before && resolver == row.resolver && takes == row.takes)
 }
 
-/// How many rows, from the first on, come to what they say in a registry of their own.
-fn told_rightly(alloc: Global, rows: &[Row]) -> Result<usize, Fail> {
-    let mut registry = Registry::new(alloc);
-    let bucket = name(alloc, b"b")?;
+/// How many rows, from the first on, come to what they say in a registry.
+fn told_in(
+    alloc: Global,
+    registry: &mut Registry,
+    bucket: &Bytes,
+    rows: &[Row],
+) -> Result<usize, Fail> {
     for (place, row) in rows.iter().enumerate() {
-        if !is_as_told(alloc, &mut registry, &bucket, row)? {
+        if !is_as_told(alloc, registry, bucket, row)? {
             return Ok(place);
         }
     }
     Ok(rows.len())
+}
+
+/// The same in a registry of their own.
+fn told_rightly(alloc: Global, rows: &[Row]) -> Result<usize, Fail> {
+    let bucket = name(alloc, b"b")?;
+    told_in(alloc, &mut Registry::new(alloc), &bucket, rows)
 }
 
 const BEFORE: ImageKind = ImageKind::PreCommit;

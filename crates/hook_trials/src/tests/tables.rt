@@ -1,7 +1,8 @@
 //! Hooks that call a helper, with a table that lacks it and with one that has it.
 
+use crate::tests::put_hooks::put_a;
 use bpfimage::ImageKind;
-use dvv::{Clock, Dot};
+use dvv::Dot;
 use helper_parts::first_sibling;
 use helpers::{ArgRule, Body, Helper, Sig, Table};
 use hookrun::Unresolved;
@@ -10,11 +11,11 @@ use local::Local;
 use object::{Key, KeyState};
 use peers::Answer;
 use quorum::{Hooking, QuorumFault, ResolveFault, Resolved};
-use std::alloc::Global;
+use std::alloc::{AllocError, Global};
 use std::sync::Arc;
 use std::test::Fail;
-use trial_parts::building::{content_of, key_of, lengths, shows, three_losing};
-use trial_parts::calling::{put, two_siblings};
+use trial_parts::building::{key_of, lengths, shows, three_losing};
+use trial_parts::calling::two_siblings;
 use trial_parts::hooking::bind;
 use trial_parts::programs::{CALLS_64, PRE_COMMIT, RESOLVER, hook};
 
@@ -51,12 +52,8 @@ fn put_once(
     alloc: Global,
     local: &mut Local,
     hooking: &mut Hooking<Registry>,
-) -> Result<Put, Fail> {
-    let key = key_of(alloc, b"k")?;
-    let content = content_of(alloc, b"a")?;
-    let seen = Clock::new(alloc);
-    let back = put(local, hooking, 0, &[1, 2], &key, &seen, &content, 2);
-    Ok((back, lengths(local)))
+) -> Result<Put, AllocError> {
+    Ok((put_a(alloc, local, hooking, 2)?, lengths(local)))
 }
 
 /// What a put comes to as things are, and one with this table after it.
@@ -64,7 +61,7 @@ fn put_twice(
     alloc: Global,
     hooking: &mut Hooking<Registry>,
     table: Table,
-) -> Result<[Put; 2], Fail> {
+) -> Result<[Put; 2], AllocError> {
     let mut local = three_losing(alloc, &[])?;
     let without = put_once(alloc, &mut local, hooking)?;
     hooking.table = table;
@@ -76,7 +73,7 @@ fn put_twice(
 fn puts(alloc: Global) -> Result<[Put; 2], Fail> {
     let table = table_of_64(alloc)?;
     let mut hooking = lacking(alloc, &table, ImageKind::PreCommit, PRE_COMMIT, 40)?;
-    put_twice(alloc, &mut hooking, table)
+    Ok(put_twice(alloc, &mut hooking, table)?)
 }
 
 /// The table is looked at before the window's length, which is too short for any content.

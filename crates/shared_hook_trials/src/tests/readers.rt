@@ -1,26 +1,23 @@
-//! Places of readers, notes that come late, and readers whose installer is gone.
+//! Places of readers, and notes that come late.
 
-use crate::tests::parts::{BEFORE, Change, Trouble, answer_of, is_bound, kind_of};
+use crate::tests::parts::{BEFORE, Change, Trouble, answer_of, kind_of};
 use crate::tests::trials::{Trial, tried};
 use fronts::Naming;
 use shared_hooks::{HookReader, Installer, Rack};
 use std::alloc::Global;
-use std::sync::{Mutex, Wait};
+use std::sync::Wait;
 use std::test::Fail;
-use std::thread::Threads;
 
 /// There are as many readers as there is room for. A place that is given back is taken again.
 struct Places;
 
 impl Trial for Places {
-    fn goes<'r, J: Naming + Send + Sync, T: Rack<J> + Drop + Send + Sync, R: Threads + Wait + Sync>(
+    fn goes<J: Naming, T: Rack<J> + Drop, W: Wait + Drop>(
         &self,
         _alloc: Global,
-        _rt: &'r R,
-        mut installer: Mutex<Installer<J, T, &'r R>>,
-        mut readers: Vec<HookReader<J, T>>,
+        installer: &mut Installer<J, T, W>,
+        readers: &mut Vec<HookReader<J, T>>,
     ) -> Result<bool, Trouble> {
-        let installer = installer.get_mut();
         let full = installer.reader().is_err();
         drop(readers.pop());
         let again = installer.reader().is_ok();
@@ -48,44 +45,14 @@ fn keeps_the_newer<J: Naming, T: Rack<J> + Drop, R: Wait + Drop>(
 }
 
 impl Trial for OldNote {
-    fn goes<'r, J: Naming + Send + Sync, T: Rack<J> + Drop + Send + Sync, R: Threads + Wait + Sync>(
+    fn goes<J: Naming, T: Rack<J> + Drop, W: Wait + Drop>(
         &self,
         alloc: Global,
-        _rt: &'r R,
-        mut installer: Mutex<Installer<J, T, &'r R>>,
-        mut readers: Vec<HookReader<J, T>>,
+        installer: &mut Installer<J, T, W>,
+        readers: &mut Vec<HookReader<J, T>>,
     ) -> Result<bool, Trouble> {
         match readers.first_mut() {
-            Some(reader) => keeps_the_newer(alloc, installer.get_mut(), reader),
-            None => Err(Trouble::NoReader),
-        }
-    }
-}
-
-/// Nothing is seen where the installer is gone.
-struct Gone;
-
-/// Whether nothing is seen.
-fn sees_nothing<J: Naming, T: Rack<J> + Drop>(
-    alloc: Global,
-    reader: &mut HookReader<J, T>,
-) -> bool {
-    let hook = kind_of(alloc, reader, BEFORE).err();
-    let name = is_bound(alloc, reader, BEFORE, b"no").err();
-    hook == Some(Trouble::NotSeen) && name == Some(Trouble::NotSeen)
-}
-
-impl Trial for Gone {
-    fn goes<'r, J: Naming + Send + Sync, T: Rack<J> + Drop + Send + Sync, R: Threads + Wait + Sync>(
-        &self,
-        alloc: Global,
-        _rt: &'r R,
-        installer: Mutex<Installer<J, T, &'r R>>,
-        mut readers: Vec<HookReader<J, T>>,
-    ) -> Result<bool, Trouble> {
-        drop(installer);
-        match readers.first_mut() {
-            Some(reader) => Ok(sees_nothing(alloc, reader)),
+            Some(reader) => keeps_the_newer(alloc, installer, reader),
             None => Err(Trouble::NoReader),
         }
     }
@@ -100,11 +67,5 @@ fn places_of_readers(rt: HostRuntime) -> Result<(), Fail> {
 #[test]
 fn an_old_note(rt: HostRuntime) -> Result<(), Fail> {
     assert!(rt; tried(rt.alloc(), &rt, 1, &OldNote)?);
-    Ok(())
-}
-
-#[test]
-fn installer_is_gone(rt: HostRuntime) -> Result<(), Fail> {
-    assert!(rt; tried(rt.alloc(), &rt, 1, &Gone)?);
     Ok(())
 }

@@ -7,9 +7,8 @@ use fronts::Naming;
 use hooks::HookFault;
 use shared_hooks::{HookReader, Installer, Rack};
 use std::alloc::Global;
-use std::sync::{Mutex, Wait};
+use std::sync::Wait;
 use std::test::Fail;
-use std::thread::Threads;
 
 /// A step, with what it is to come to.
 enum Step {
@@ -74,14 +73,13 @@ fn all_go<J: Naming, T: Rack<J> + Drop, R: Wait + Drop>(
 }
 
 impl Trial for Script<'_> {
-    fn goes<'r, J: Naming + Send + Sync, T: Rack<J> + Drop + Send + Sync, R: Threads + Wait + Sync>(
+    fn goes<J: Naming, T: Rack<J> + Drop, W: Wait + Drop>(
         &self,
         alloc: Global,
-        _rt: &'r R,
-        mut installer: Mutex<Installer<J, T, &'r R>>,
-        mut readers: Vec<HookReader<J, T>>,
+        installer: &mut Installer<J, T, W>,
+        readers: &mut Vec<HookReader<J, T>>,
     ) -> Result<bool, Trouble> {
-        all_go(alloc, self.0, installer.get_mut(), readers.as_mut_slice())
+        all_go(alloc, self.0, installer, readers.as_mut_slice())
     }
 }
 

@@ -3,29 +3,28 @@
 ghost use Rattle.std.specs.Prelude.{◌≡◌, ◌<◌, ◌^◌, []};
 ghost use Rattle.shared_hooks.specs.Lists.{list_of};
 
-use crate::tests::parts::Trouble;
+use crate::tests::parts::{BEFORE, Trouble, is_bound, kind_of};
 use fronts::Naming;
+use hooks::Hooks;
 use shared_hooks::{Ground, HookReader, Installer, Opening, Rack};
 use std::alloc::Global;
 use std::marker::Brand;
-use std::sync::{Mutex, Wait};
-use std::thread::Threads;
+use std::sync::Wait;
 use worker_hooks::{OpenFault, open};
 
 /// What is tried on an installer and its readers.
 pub trait Trial {
     /// Whether it comes to what it should.
-    fn goes<'r, J: Naming + Send + Sync, T: Rack<J> + Drop + Send + Sync, R: Threads + Wait + Sync>(
+    fn goes<J: Naming, T: Rack<J> + Drop, W: Wait + Drop>(
         &self,
         alloc: Global,
-        rt: &'r R,
-        installer: Mutex<Installer<J, T, &'r R>>,
-        readers: Vec<HookReader<J, T>>,
+        installer: &mut Installer<J, T, W>,
+        readers: &mut Vec<HookReader<J, T>>,
     ) -> Result<bool, Trouble>;
 }
 
-/// Whether a trial comes to what it should with so many readers.
-pub fn tried<X: Trial, R: Threads + Wait + Sync>(
+/// Whether a trial comes to what it should with so many readers, who see nothing once the installer is gone.
+pub fn tried<X: Trial, R: Wait>(
     alloc: Global,
     rt: &R,
     readers: usize,
@@ -33,13 +32,13 @@ pub fn tried<X: Trial, R: Threads + Wait + Sync>(
 ) -> Result<bool, Trouble>
     requires { (0 < readers) × (readers < 2 ^ 32) }
 {
-    tried_under::<Brand, X, R>(alloc, rt, readers, trial, Opening::new())
+    tried_under::<Brand, X, &R>(alloc, rt, readers, trial, Opening::new())
 }
 
 /// The same, under a name.
-fn tried_under<J: Naming + Send + Sync, X: Trial, R: Threads + Wait + Sync>(
+fn tried_under<J: Naming, X: Trial, W: Wait + Drop>(
     alloc: Global,
-    rt: &R,
+    rt: W,
     readers: usize,
     trial: &X,
     opening: Opening,
@@ -51,17 +50,41 @@ fn tried_under<J: Naming + Send + Sync, X: Trial, R: Threads + Wait + Sync>(
 }
 
 /// The same, over what an installer begins with.
-fn tried_on<
-    J: Naming + Send + Sync,
-    T: Rack<J> + Drop + Send + Sync,
-    X: Trial,
-    R: Threads + Wait + Sync,
->(alloc: Global, rt: &R, readers: usize, trial: &X, ground: Ground<J, T>) -> Result<bool, Trouble>
+fn tried_on<J: Naming, T: Rack<J> + Drop, X: Trial, W: Wait + Drop>(
+    alloc: Global,
+    rt: W,
+    readers: usize,
+    trial: &X,
+    ground: Ground<J, T>,
+) -> Result<bool, Trouble>
     requires ground { (ground.front ≡ []) × (T.state ground.first ≡ []) × (T.state ground.second ≡ []) }
     requires readers { (0 < readers) × (readers < 2 ^ 32) }
 {
     match open(alloc, rt, ground, readers) {
-        Ok((installer, readers)) => trial.goes(alloc, rt, installer, readers),
+        Ok((mut installer, mut readers)) => {
+            let goes = trial.goes(alloc, installer.get_mut(), &mut readers);
+            drop(installer);
+            Ok(goes? && see_nothing(alloc, readers.as_mut_slice()))
+        }
         Err(OpenFault::NoReader) | Err(OpenFault::NoMemory) => Err(Trouble::NotOpened),
     }
+}
+
+/// Whether these readers see nothing.
+fn see_nothing<J: Naming, T: Rack<J> + Drop>(
+    alloc: Global,
+    readers: &mut [HookReader<J, T>],
+) -> bool {
+    let mut nothing = true;
+    for reader in readers {
+        nothing = sees_nothing(alloc, reader) && nothing;
+    }
+    nothing
+}
+
+/// Whether this one sees nothing.
+fn sees_nothing<H: Hooks>(alloc: Global, reader: &mut H) -> bool {
+    let hook = kind_of(alloc, reader, BEFORE).err();
+    let name = is_bound(alloc, reader, BEFORE, b"no").err();
+    hook == Some(Trouble::NotSeen) && name == Some(Trouble::NotSeen)
 }

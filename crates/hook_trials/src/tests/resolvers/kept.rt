@@ -3,14 +3,18 @@
 use crate::tests::resolvers::outcomes::{BOTH, Only, Outcome, Want, has, resolved_by};
 use code_parts::expect;
 use helpers::Table;
+use local::Local;
+use object::Key;
 use peers::PeerFault;
 use quorum::{Hooking, ResolveFault, Resolved};
 use std::alloc::Global;
+use std::sync::Arc;
 use std::test::Fail;
 use trial_parts::building::{key_of, lengths};
 use trial_parts::calling::{get, resolve_hooked, two_siblings};
 use trial_parts::hooking::{Hidden, program};
 use trial_parts::programs::{RESOLVER, answer};
+use verifier::Verified;
 
 const ALONE: Want = Want {
     dots: &[(0, 1)],
@@ -18,13 +22,23 @@ const ALONE: Want = Want {
 };
 
 /// What a resolve comes to of a get at vnode 0 alone.
+fn resolve_alone(
+    alloc: Global,
+    local: &mut Local,
+    key: &Key,
+    hook: Arc<Verified>,
+) -> Result<Outcome, Fail> {
+    let (got, answers) = get(alloc, local, key, &[0], 1)?;
+    let Resolved { state, cut } = resolve_hooked(alloc, local, hook, 0, key, got, &answers)?;
+    Ok((cut, has(&state, &ALONE), lengths(local)))
+}
+
+/// The same behind a get at all of them.
 fn resolve_one(alloc: Global) -> Result<Outcome, Fail> {
     let key = key_of(alloc, b"k")?;
     let hook = program(alloc, RESOLVER, 128, &answer(2))?;
     let (mut local, _, _) = two_siblings(alloc, &key)?;
-    let (got, answers) = get(alloc, &mut local, &key, &[0], 1)?;
-    let Resolved { state, cut } = resolve_hooked(alloc, &mut local, hook, 0, &key, got, &answers)?;
-    Ok((cut, has(&state, &ALONE), lengths(&local)))
+    resolve_alone(alloc, &mut local, &key, hook)
 }
 
 #[test]

@@ -1,13 +1,15 @@
 //! What resolves of two siblings come to.
 
-use object::{Content, KeyState};
+use object::{Content, Key, KeyState};
 use quorum::{ResolveFault, Resolved};
 use std::alloc::Global;
+use std::sync::Arc;
 use std::test::Fail;
 use trial_parts::building::{is_value, key_of, lengths, shows};
 use trial_parts::calling::{resolve_hooked, two_siblings};
 use trial_parts::hooking::program;
 use trial_parts::programs::RESOLVER;
+use verifier::Verified;
 
 /// What a state should have: siblings of these dots, and of a single one this content.
 pub struct Want {
@@ -43,9 +45,21 @@ pub fn resolved_by(
 ) -> Result<Outcome, Fail> {
     let key = key_of(alloc, b"k")?;
     let hook = program(alloc, RESOLVER, in_len, code)?;
-    let (mut local, got, answers) = two_siblings(alloc, &key)?;
-    local.lose(Vec::from_slice(alloc, lost)?);
-    let Resolved { state, cut } = resolve_hooked(alloc, &mut local, hook, 0, &key, got, &answers)?;
+    let lost = Vec::from_slice(alloc, lost)?;
+    resolved_with(alloc, &key, hook, lost, want)
+}
+
+/// The same under this resolver, of this key.
+fn resolved_with(
+    alloc: Global,
+    key: &Key,
+    hook: Arc<Verified>,
+    lost: Vec<u64>,
+    want: &Want,
+) -> Result<Outcome, Fail> {
+    let (mut local, got, answers) = two_siblings(alloc, key)?;
+    local.lose(lost);
+    let Resolved { state, cut } = resolve_hooked(alloc, &mut local, hook, 0, key, got, &answers)?;
     Ok((cut, has(&state, want), lengths(&local)))
 }
 

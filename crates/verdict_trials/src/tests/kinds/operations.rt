@@ -267,7 +267,7 @@ fn operations(_rt: HostRuntime) -> Result<(), Fail> {
 }
 
 /// A byte swap, what is known before it, and what after it.
-type Swapped = (SwapKind, SwapBits, Known, Result<Known, Bad>);
+pub type Swapped = (SwapKind, SwapBits, Known, Result<Known, Bad>);
 
 const SWAPS: &[Swapped] = &[
     (ToBig, B16, One(0x1234), Ok(One(0x3412))),
@@ -282,17 +282,21 @@ const SWAPS: &[Swapped] = &[
 ];
 
 /// Whether a byte swap leaves what its row says.
-fn is_swapped(row: &Swapped) -> bool {
+fn is_swapped(profile: Profile, row: &Swapped) -> bool {
     let (kind, bits, a, want) = *row;
-    let first = Profile::First;
-    let a = a.kind(first);
-    is_kind(a) && is_known(first, transfer_swap(first, kind, bits, a), want)
+    let a = a.kind(profile);
+    is_kind(a) && is_known(profile, transfer_swap(profile, kind, bits, a), want)
+}
+
+/// Tells what byte swaps leave.
+pub fn tell_swaps(profile: Profile, rows: &[Swapped]) -> Result<(), Fail> {
+    for row in rows {
+        expect(is_swapped(profile, row), &(row.0, row.1))?;
+    }
+    Ok(())
 }
 
 #[test]
 fn swaps(_rt: HostRuntime) -> Result<(), Fail> {
-    for row in SWAPS {
-        expect(is_swapped(row), &(row.0, row.1))?;
-    }
-    Ok(())
+    tell_swaps(Profile::First, SWAPS)
 }

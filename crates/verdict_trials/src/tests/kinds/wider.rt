@@ -4,11 +4,13 @@ use super::comparisons::{Pair, Row as Compared, narrow};
 use super::joins::{Joined, are_joined};
 use super::known::Known::{Bits, Dead, Num, One, Stack, Unset};
 use super::known::{FULL, Known};
-use super::operations::{Row, leave};
+use super::operations::{Row, Swapped, leave, tell_swaps};
 use super::{HALF, HALF_32, MAX, MAX_32};
 use alu::Cond::*;
 use alu::Op;
 use alu::Op::*;
+use alu::SwapBits::*;
+use alu::SwapKind::*;
 use alu::Width::*;
 use code_parts::expect;
 use ranges::Profile::Second;
@@ -70,11 +72,13 @@ const PRODUCTS: &[Row] = &[
 const AND: &[Row] = &[
     (W64, FULL, One(0xf0), Ok(NIBBLES)),
     (W64, FULL, One(!7), Ok(EIGHTS)),
+    (W32, FULL, One(!7), Ok(Bits(0, MAX_32 - 7, HIGH | 7, 0))),
 ];
 
 const OR: &[Row] = &[
     (W64, FULL, One(0xf0), Ok(Bits(0xf0, MAX, 0, 0xf0))),
     (W64, BYTE, One(1), Ok(Bits(1, 255, !255, 1))),
+    (W32, FULL, One(0xf0), Ok(Bits(0xf0, MAX_32, HIGH, 0xf0))),
 ];
 
 const XOR: &[Row] = &[(
@@ -88,6 +92,12 @@ const LEFT_SHIFTS: &[Row] = &[
     (W64, BYTE, One(4), Ok(Bits(0, 0xff0, !0xff0, 0))),
     (W64, FULL, One(4), Ok(Bits(0, MAX - 15, 15, 0))),
     (W64, BYTE, BYTE, Ok(FULL)),
+    (
+        W32,
+        BYTE,
+        One(28),
+        Ok(Bits(0, 0xf000_0000, HIGH | 0xfff_ffff, 0)),
+    ),
 ];
 
 const RIGHT_SHIFTS: &[Row] = &[
@@ -100,7 +110,21 @@ const SIGNED_SHIFTS: &[Row] = &[
     (W64, EIGHTS, One(3), Ok(FULL)),
 ];
 
+const QUOTIENTS: &[Row] = &[
+    (W64, BYTE, One(16), Ok(Bits(0, 15, !15, 0))),
+    (W64, BYTE, One(0), Ok(BYTE)),
+];
+
 const REMAINDERS: &[Row] = &[(W64, FULL, One(10), Ok(Bits(0, 9, !15, 0)))];
+
+/// Of signed quotients and remainders, and of numbers whose sign is extended, no bits are known but by their width.
+const SIGNED: &[Row] = &[(W64, BYTE, BYTE, Ok(FULL)), (W32, BYTE, BYTE, Ok(WORD))];
+
+const NEGATIONS: &[Row] = &[
+    (W64, BYTE, Unset, Ok(FULL)),
+    (W32, BYTE, Unset, Ok(WORD)),
+    (W64, Dead, Unset, Ok(Dead)),
+];
 
 /// Operations, and what they leave.
 const OPERATIONS: &[(Op, &[Row])] = &[
@@ -114,7 +138,21 @@ const OPERATIONS: &[(Op, &[Row])] = &[
     (Lsh, LEFT_SHIFTS),
     (Rsh, RIGHT_SHIFTS),
     (Arsh, SIGNED_SHIFTS),
+    (Div, QUOTIENTS),
     (Mod, REMAINDERS),
+    (SignedDiv, SIGNED),
+    (SignedMod, SIGNED),
+    (Movsx8, SIGNED),
+    (Movsx16, SIGNED),
+    (Neg, NEGATIONS),
+];
+
+const SWAPS: &[Swapped] = &[
+    (ToBig, B16, BYTE, Ok(Bits(0, 0xffff, !0xffff, 0))),
+    (ToLittle, B32, BYTE, Ok(WORD)),
+    (Swap, B64, BYTE, Ok(FULL)),
+    (ToBig, B64, One(1), Ok(One(1 << 56))),
+    (ToBig, B16, Dead, Ok(Dead)),
 ];
 
 #[test]
@@ -122,7 +160,7 @@ fn wider_operations(_rt: HostRuntime) -> Result<(), Fail> {
     for (op, rows) in OPERATIONS {
         leave(Second, *op, rows)?;
     }
-    Ok(())
+    tell_swaps(Second, SWAPS)
 }
 
 const NONE: Pair = (Dead, Dead);
@@ -150,6 +188,12 @@ const EQUALITY: &[Compared] = &[
         W64,
         (One(255), BYTE),
         ((One(255), Bits(0, 254, !255, 0)), (One(255), One(255))),
+    ),
+    (
+        NotEqual,
+        W64,
+        (BYTE, One(0)),
+        ((Bits(1, 255, !255, 0), One(0)), (One(0), One(0))),
     ),
     (
         Equal,
@@ -198,7 +242,25 @@ const MASKS: &[Compared] = &[
     ),
 ];
 
+const UNDER_TEN: Pair = (Bits(0, 9, !15, 0), One(10));
+
+const FROM_TEN: Pair = (Num(10, MAX), One(10));
+
+const UP_TO_TEN: Pair = (Bits(0, 10, !15, 0), One(10));
+
+const ABOVE_TEN: Pair = (Num(11, MAX), One(10));
+
 const ORDER: &[Compared] = &[
+    (GreaterEqual, W64, ANY, (FROM_TEN, UNDER_TEN)),
+    (Less, W64, ANY, (UNDER_TEN, FROM_TEN)),
+    (LessEqual, W64, ANY, (UP_TO_TEN, ABOVE_TEN)),
+    (Greater, W64, ANY, (ABOVE_TEN, UP_TO_TEN)),
+    (
+        SignedLessEqual,
+        W64,
+        ANY,
+        (ANY, (Bits(11, HALF - 1, HALF, 0), One(10))),
+    ),
     (Greater, W64, ONES, (NONE, ONES)),
     (Greater, W32, WIDE, (WIDE, WIDE)),
     (

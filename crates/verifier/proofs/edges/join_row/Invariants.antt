@@ -3,7 +3,7 @@ use Rattle.verifier.specs.Table.{join_rows, AreKinds}
 use Rattle.verifier.proofs.edges.join_row.Given as goal
 
 abbrev pub invariant-loop-i : goal.invariant-loop-i
-invariant-loop-i l = record {
+invariant-loop-i g l = record {
   joined : l.kept ≡ join_rows l.profile (take l.i l.initial.kept) (take l.i l.new) ++ drop l.i l.initial.kept;
   kinds : AreKinds l.kept;
 }

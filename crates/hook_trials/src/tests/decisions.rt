@@ -6,7 +6,7 @@ mod pre_commits;
 mod resolvers;
 mod windows;
 
-use crate::tests::{sibling, tombstones, value};
+use crate::tests::shown::{sibling, tombstones, value};
 use abi::Verdict;
 use admission::admit_image;
 use code_parts::{Slot, expect, hook_image_of};

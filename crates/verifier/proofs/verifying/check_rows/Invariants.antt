@@ -3,10 +3,10 @@ use Rattle.verifier.specs.Candidates.{program_in}
 use Rattle.verifier.specs.Rows.{HasKinds, AreRowKinds, IsPass}
 use Rattle.verifier.specs.Table.{broken_at}
 use Rattle.verifier.specs.Lowered.{AreSlots}
-use Rattle.verifier.proofs.verifying.check_kinds.Given as goal
+use Rattle.verifier.proofs.verifying.check_rows.Given as goal
 
 abbrev pub invariant-loop-at : goal.invariant-loop-at
-invariant-loop-at l = record {
+invariant-loop-at g l = record {
   pass : IsPass (program_in l.program) l.rows.items l.here l.at;
   kinds : AreRowKinds l.rows.items;
   here : HasKinds l.here;

@@ -1,14 +1,11 @@
-//! The tests by what they try, and the contents that hooks are shown.
-
-mod decisions;
-mod layouts;
+//! The contents and siblings that hooks are shown.
 
 use dvv::Dot;
 use object::{Bytes, Content, Sibling};
 use std::alloc::{AllocError, Global};
 
 /// A value with these bytes.
-fn value(alloc: Global, bytes: &[u8]) -> Result<Content, AllocError> {
+pub(crate) fn value(alloc: Global, bytes: &[u8]) -> Result<Content, AllocError> {
     Ok(Content::Value {
         media: Bytes::from_slice(alloc, b"text/plain")?,
         bytes: Bytes::from_slice(alloc, bytes)?,
@@ -16,7 +13,7 @@ fn value(alloc: Global, bytes: &[u8]) -> Result<Content, AllocError> {
 }
 
 /// A sibling with this dot.
-fn sibling(vnode: u32, n: u64, content: Content) -> Sibling {
+pub(crate) fn sibling(vnode: u32, n: u64, content: Content) -> Sibling {
     Sibling {
         dot: Dot { vnode, n },
         content,
@@ -24,7 +21,7 @@ fn sibling(vnode: u32, n: u64, content: Content) -> Sibling {
 }
 
 /// So many tombstones as siblings, of vnode 0.
-fn tombstones(alloc: Global, count: u64) -> Result<Vec<Sibling>, AllocError> {
+pub(crate) fn tombstones(alloc: Global, count: u64) -> Result<Vec<Sibling>, AllocError> {
     let mut siblings = Vec::new(alloc);
     for n in 0..count {
         siblings.push(sibling(0, n.saturating_add(1), Content::Tombstone))?;

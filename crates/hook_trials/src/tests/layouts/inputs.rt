@@ -2,7 +2,7 @@
 
 ghost use Rattle.std.specs.Prelude.{◌<◌, ◌^◌, length};
 
-use crate::tests::{sibling, tombstones, value};
+use crate::tests::shown::{sibling, tombstones, value};
 use abi::{TooLarge, fill_input};
 use bpfimage::ImageKind;
 use object::Content;

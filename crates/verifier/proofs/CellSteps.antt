@@ -1,0 +1,175 @@
+-- Reads and writes of the stack by a pointer: what the rules of cells leave fits what was read and written.
+use Rattle.std.proofs.Common.{◌≡◌, ◌≢◌, ℕ, ℤ, pos, negsuc, ◌+◌, ◌-◌, ◌*◌, ◌/◌, ◌%◌, ◌^◌, ◌<◌, ◌≤◌, true, ◌&&◌, eqb, List, length, take, drop, Some, None, refl, sym, ap, ◌∙◌, subst, inl, inr, ⊎_elim, arith}
+use Rattle.std.specs.Prelude.{◌≤ℤ◌, ◌+ℤ◌, int_le, nat_lt}
+use Rattle.std.proofs.lemmas.Int.{ints}
+use Rattle.std.proofs.lemmas.Bool.{cond_both, and_parts, eqb-true}
+use Rattle.alu.specs.Value.{wrapped}
+use Rattle.memory.specs.Windows.{Memory, Covers, base, written, little_endian, read}
+use Rattle.memory.specs.State.{State}
+use Rattle.memory.specs.Step.{AreBytes}
+use Rattle.memory.specs.declared.Region.{Region}
+use Rattle.memory.specs.declared.Region.TheVariants.{Stack, Input, Output}
+use Rattle.ranges.specs.declared.profile.Profile.{Profile}
+use Rattle.ranges.specs.declared.kind.Kind.{Kind}
+use Rattle.ranges.specs.declared.kind.Kind.TheVariants.{Unset, Dead, Num, Ptr}
+use Rattle.ranges.specs.Kinds.{Admits, InRegion}
+use Rattle.ranges.specs.Laws.{IsSoundTable}
+use Rattle.verifier.specs.Program.{Program, HasLimits}
+use Rattle.verifier.specs.Registers.{Row, cell_count, IsLong, is_inside}
+use Rattle.verifier.specs.Cells.{span_of, cell_from, whole_cell, cell_kind, with_cell, row_touched}
+use Rattle.verifier.specs.declared.span.Span.{Span}
+use Rattle.verifier.proofs.Words.{wrapped_small}
+use Rattle.verifier.proofs.Fits.{FitsRow}
+use Rattle.verifier.proofs.Places.{IsMemory, int_le_true, natural, place_in, written_kept}
+use Rattle.verifier.proofs.StackCells.{values_of, values, few_cells, KeepsWords, keeps_words, overwritten_keeps, row_kept, whole_read, cell_kept, cell_fits}
+
+-- ---- whole cells
+
+some_same : (m i : ℕ) → Some m ≡ Some i → m ≡ i
+some_same m i e = cc
+
+from_is : (count : ℕ) (z : ℤ) (i : ℕ) → cell_from count z ≡ Some i → (z ≡ pos (8 * i)) × (i < count)
+from_is count (pos n) i = cond_both (eqb (n % 8) 0 && nat_lt n (8 * count)) (Some (n / 8)) None (λ o. o ≡ Some i → (pos n ≡ pos (8 * i)) × (i < count))
+    (λ t e.
+    let parts = and_parts (eqb (n % 8) 0) (nat_lt n (8 * count)) t in
+    let even = eqb-true (n % 8) 0 parts.0 in
+    let same = some_same (n / 8) i e in
+    let below : n < 8 * count = lower n (8 * count) parts.1 in
+    (ap pos (eight n i even same), few n i count even same below))
+    (λ f e. cc)
+  where
+    lower : (a b : ℕ) → nat_lt a b ≡ true → a < b
+    lower a b t = grind arith
+
+    eight : (n i : ℕ) → n % 8 ≡ 0 → n / 8 ≡ i → n ≡ 8 * i
+    eight n i e f = omega arith
+
+    few : (n i count : ℕ) → n % 8 ≡ 0 → n / 8 ≡ i → n < 8 * count → i < count
+    few n i count e f h = omega arith
+from_is count (negsuc n) i = λ e. cc
+
+-- an access that reads or writes cell i as a whole
+pub record IsWhole (profile : Profile) (k : Kind) (offset : ℤ) (size i : ℕ) : Type 0 where
+  pub lo : ℤ
+  pub hi : ℤ
+  pub is : k ≡ Ptr Stack lo hi
+  pub one : hi ≤ℤ lo
+  pub eight : size ≡ 8
+  pub place : (lo +ℤ offset +ℤ pos 512) ≡ pos (8 * i)
+  pub within : i < cell_count profile
+
+pub whole_is : (profile : Profile) (k : Kind) (offset : ℤ) (size i : ℕ) → whole_cell profile k offset size ≡ Some i → IsWhole profile k offset size i
+whole_is profile Unset offset size i e = cc
+whole_is profile Dead offset size i e = cc
+whole_is profile (Num a) offset size i e = cc
+whole_is profile (Ptr Input lo hi) offset size i e = cc
+whole_is profile (Ptr Output lo hi) offset size i e = cc
+whole_is profile (Ptr Stack lo hi) offset size i e =
+    cond_both (int_le hi lo && eqb size 8) (cell_from (cell_count profile) (lo +ℤ offset +ℤ pos 512)) None (λ o. o ≡ Some i → IsWhole profile (Ptr Stack lo hi) offset size i)
+    (λ t f.
+    let parts = and_parts (int_le hi lo) (eqb size 8) t in
+    let h = from_is (cell_count profile) (lo +ℤ offset +ℤ pos 512) i f in
+    record { lo = lo; hi = hi; is = refl; one = int_le_true hi lo parts.0; eight = eqb-true size 8 parts.1; place = h.0; within = h.1 })
+    (λ t f. cc)
+    e
+
+-- ---- one window
+
+-- an address tells its window
+pub one_region : (p : Program) (m : Memory) (q r : Region) (a n l : ℕ) → HasLimits p → IsMemory p m → Covers m q a n → Covers m r a l → q ≡ r
+one_region p m Stack Stack a n l limits im c d = refl
+one_region p m Input Input a n l limits im c d = refl
+one_region p m Output Output a n l limits im c d = refl
+one_region p m Stack Input a n l limits im c d = absurd (omega (arith, c.1, d.0, im.stack_length))
+one_region p m Stack Output a n l limits im c d = absurd (omega (arith, c.1, d.0, im.stack_length))
+one_region p m Input Stack a n l limits im c d = absurd (omega (arith, d.1, c.0, im.stack_length))
+one_region p m Output Stack a n l limits im c d = absurd (omega (arith, d.1, c.0, im.stack_length))
+one_region p m Input Output a n l limits im c d = absurd (omega (arith, c.1, d.0, im.input_length, limits.input))
+one_region p m Output Input a n l limits im c d = absurd (omega (arith, d.1, c.0, im.input_length, limits.input))
+
+-- the address of an access to the stack does not wrap
+stack_address : (p : Program) (lo hi : ℤ) (n : ℕ) (offset : ℤ) (size : ℕ) → InRegion Stack lo hi n → is_inside p (Ptr Stack lo hi) offset size ≡ true → pos (wrapped 64 (pos n +ℤ offset)) ≡ (pos n +ℤ offset)
+stack_address p lo hi n offset size h t =
+    let parts = and_parts (int_le (negsuc 511) (lo +ℤ offset)) (int_le (hi +ℤ offset +ℤ pos size) (pos 0)) t in
+    let low = int_le_true (negsuc 511) (lo +ℤ offset) parts.0 in
+    let high = int_le_true (hi +ℤ offset +ℤ pos size) (pos 0) parts.1 in
+    let at = natural (pos n +ℤ offset) (omega (arith, ints)) in
+    let e = at.1 in
+    let last : at.0 ≤ 2 ^ 40 = omega (arith, ints) in
+    ap (λ z. pos (wrapped 64 z)) e ∙ ap pos (wrapped_small 64 at.0 (omega (arith, last))) ∙ sym e
+
+clash : (q : Region) → q ≡ Stack → q ≢ Stack → ⊥
+clash q e n = n e
+
+module _ (sound : (profile : Profile) → IsSoundTable profile) (p : Program) (row : Row) (s : State) (limits : HasLimits p) (long : IsLong p.profile row) (fits : FitsRow row (values p.profile s)) (memory : IsMemory p s.memory) where
+  -- the stack after a write into it keeps the words that aren't touched
+  stack_keeps : (span : Span) (a : ℕ) (new : List ℕ) → Covers s.memory Stack a (length new) → AreBytes new → span.from ≤ℤ pos (a - base Stack) → pos (a - base Stack + length new) ≤ℤ span.to → KeepsWords span 0 (cell_count p.profile) s.memory.stack (written s.memory Stack (a - base Stack) new).stack
+  stack_keeps span a new c bytes low high =
+      let after = written_kept p s.memory Stack a new memory c bytes in
+      let at = a - base Stack in
+      let long = memory.stack_length in
+      let fit : at + length new ≤ length s.memory.stack = omega (arith, c.0, c.1) in
+      keeps_words span (cell_count p.profile) 0 at (at + length new) s.memory.stack _ low high after.stack_bytes (after.stack_length ∙ sym long) (omega (arith, after.stack_length, few_cells p.profile))
+      (λ j h. overwritten_keeps s.memory.stack at new j fit (⊎_elim (λ g. inl (omega (arith, g))) (λ g. inr (omega (arith, g))) h))
+
+  -- a write of at most so many bytes
+  pub touched_fits : (k : Kind) (n : ℕ) (offset : ℤ) (size : ℕ) (region : Region) (new : List ℕ) → Admits k (Some n) → is_inside p k offset size ≡ true → Covers s.memory region (wrapped 64 (pos n +ℤ offset)) (length new) → length new ≤ size → AreBytes new → FitsRow (row_touched p.profile (span_of k offset size) row) (values_of p.profile s.registers (written s.memory region (wrapped 64 (pos n +ℤ offset) - base region) new).stack)
+  touched_fits Unset n offset size region new a t c few bytes = cc
+  touched_fits Dead n offset size region new a t c few bytes = absurd a
+  touched_fits (Num b) n offset size region new a t c few bytes = cc
+  touched_fits (Ptr Stack lo hi) n offset size Stack new a t c few bytes =
+      let is = stack_address p lo hi n offset size a t in
+      let at = wrapped 64 (pos n +ℤ offset) in
+      let span : Span = record { from = lo +ℤ offset +ℤ pos 512; to = hi +ℤ offset +ℤ pos 512 +ℤ pos size } in
+      let keep = stack_keeps span at new c bytes (omega (arith, ints, is, c.0, a.0, a.1)) (omega (arith, ints, is, c.0, a.0, a.1, few)) in
+      row_kept p.profile (sound p.profile) span row s.registers s.memory.stack _ long keep fits
+  touched_fits (Ptr Input lo hi) n offset size Input new a t c few bytes = fits
+  touched_fits (Ptr Input lo hi) n offset size Output new a t c few bytes = fits
+  touched_fits (Ptr Output lo hi) n offset size Input new a t c few bytes = fits
+  touched_fits (Ptr Output lo hi) n offset size Output new a t c few bytes = fits
+  touched_fits (Ptr Stack lo hi) n offset size Input new a t c few bytes =
+      let e : Stack ≡ Input = one_region p s.memory Stack Input _ size _ limits memory (place_in p s.memory Stack lo hi n offset size limits memory a t) c in cc
+  touched_fits (Ptr Stack lo hi) n offset size Output new a t c few bytes =
+      let e : Stack ≡ Output = one_region p s.memory Stack Output _ size _ limits memory (place_in p s.memory Stack lo hi n offset size limits memory a t) c in cc
+  touched_fits (Ptr Input lo hi) n offset size Stack new a t c few bytes =
+      let e : Input ≡ Stack = one_region p s.memory Input Stack _ size _ limits memory (place_in p s.memory Input lo hi n offset size limits memory a t) c in cc
+  touched_fits (Ptr Output lo hi) n offset size Stack new a t c few bytes =
+      let e : Output ≡ Stack = one_region p s.memory Output Stack _ size _ limits memory (place_in p s.memory Output lo hi n offset size limits memory a t) c in cc
+
+  -- where an access to a whole cell stands
+  whole_place : (k : Kind) (n : ℕ) (offset : ℤ) (size i : ℕ) (region : Region) (l : ℕ) (w : IsWhole p.profile k offset size i) → Admits k (Some n) → is_inside p k offset size ≡ true → Covers s.memory region (wrapped 64 (pos n +ℤ offset)) l → (region ≡ Stack) × (wrapped 64 (pos n +ℤ offset) - base Stack ≡ 8 * i) × (base Stack ≤ wrapped 64 (pos n +ℤ offset))
+  whole_place k n offset size i region l w a t c =
+      let a' : InRegion Stack w.lo w.hi n = subst (λ x. Admits x (Some n)) w.is a in
+      let t' = subst (λ x. is_inside p x offset size ≡ true) w.is t in
+      let c' = place_in p s.memory Stack w.lo w.hi n offset size limits memory a' t' in
+      let same = one_region p s.memory Stack region _ size l limits memory c' c in
+      let is = stack_address p w.lo w.hi n offset size a' t' in
+      (sym same, omega (arith, ints, is, c'.0, a'.0, a'.1, w.one, w.place), c'.0)
+
+  -- a store into a whole cell
+  pub stored_fits : (k : Kind) (n : ℕ) (offset : ℤ) (size i : ℕ) (region : Region) (new : List ℕ) (kind : Kind) (v : ℕ) → whole_cell p.profile k offset size ≡ Some i → Admits k (Some n) → is_inside p k offset size ≡ true → Covers s.memory region (wrapped 64 (pos n +ℤ offset)) (length new) → length new ≡ size → AreBytes new → little_endian new ≡ v → Admits kind (Some v) → FitsRow (with_cell row i kind) (values_of p.profile s.registers (written s.memory region (wrapped 64 (pos n +ℤ offset) - base region) new).stack)
+  stored_fits k n offset size i region new kind v e a t c len bytes is admits =
+      let w = whole_is p.profile k offset size i e in
+      let h = whole_place k n offset size i region (length new) w a t c in
+      let at = wrapped 64 (pos n +ℤ offset) in
+      let c' : Covers s.memory Stack at (length new) = subst (λ r. Covers s.memory r at (length new)) h.0 c in
+      let span : Span = record { from = pos (8 * i); to = pos (8 * i + 8) } in
+      let size_is = w.eight in
+      let there = h.1 in
+      let keep = stack_keeps span at new c' bytes (omega (arith, ints, there)) (omega (arith, ints, there, len, size_is)) in
+      let all : 8 * i ≤ length s.memory.stack = omega (arith, memory.stack_length, few_cells p.profile, w.within) in
+      let reads : take 8 (drop (8 * i) (written s.memory Stack (at - base Stack) new).stack) ≡ new =
+      ap (λ m. take 8 (drop (8 * i) (written s.memory Stack m new).stack)) there ∙ whole_read s.memory.stack (8 * i) new all (len ∙ size_is) in
+      subst (λ r. FitsRow (with_cell row i kind) (values_of p.profile s.registers (written s.memory r (at - base r) new).stack)) (sym h.0)
+      (cell_kept p.profile (sound p.profile) span i kind v row s.registers s.memory.stack _ long refl refl w.within keep (ap little_endian reads ∙ is) admits fits)
+
+  -- a load of a whole cell
+  pub loaded_fits : (k : Kind) (n : ℕ) (offset : ℤ) (size i : ℕ) (region : Region) → whole_cell p.profile k offset size ≡ Some i → Admits k (Some n) → is_inside p k offset size ≡ true → Covers s.memory region (wrapped 64 (pos n +ℤ offset)) size → Admits (cell_kind row i) (Some (little_endian (read s.memory region (wrapped 64 (pos n +ℤ offset) - base region) size))) × (size ≡ 8)
+  loaded_fits k n offset size i region e a t c =
+      let w = whole_is p.profile k offset size i e in
+      let h = whole_place k n offset size i region size w a t c in
+      let at = wrapped 64 (pos n +ℤ offset) in
+      let cell = cell_fits p.profile row s.registers s.memory.stack i long fits w.within in
+      let same : read s.memory region (at - base region) size ≡ take 8 (drop (8 * i) s.memory.stack) =
+      ap (λ r. read s.memory r (at - base r) size) h.0 ∙ ap (λ m. take m (drop (at - base Stack) s.memory.stack)) w.eight ∙ ap (λ m. take 8 (drop m s.memory.stack)) h.1 in
+      (subst (λ bs. Admits (cell_kind row i) (Some (little_endian bs))) (sym same) cell.0, w.eight)

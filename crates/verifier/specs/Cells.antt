@@ -1,0 +1,146 @@
+-- What is known of the stack's cells, which the second table of kinds has, and the first one not (this store's profiles).
+use Rattle.std.specs.Prelude.{ℕ, ◌+◌, ◌*◌, ◌/◌, ◌%◌, ◌==◌, ℤ, pos, negsuc, ◌+ℤ◌, int_le, int_lt, nat_lt, Bool, true, false, ◌&&◌, if◌then◌else◌, Option, None, Some, List, [], ◌∷◌, ◌++◌, take, drop, slice_index_or, slice_set}
+use Rattle.memory.specs.Windows.{longest_window}
+use Rattle.memory.specs.declared.Region.TheVariants.{Stack}
+use Rattle.insn.specs.declared.Register.TheVariants.{R1, R2, R3}
+use Rattle.ranges.specs.Numbers.{full}
+use Rattle.ranges.specs.Transfer.{kind_in}
+use Rattle.ranges.specs.declared.profile.Profile.{Profile}
+use Rattle.ranges.specs.declared.kind.Kind.{Kind}
+use Rattle.ranges.specs.declared.kind.Kind.TheVariants.{Unset, Dead, Num, Ptr}
+use Rattle.helpers.specs.declared.sig.ArgRule.{ArgRule}
+use Rattle.helpers.specs.declared.sig.ArgRule.TheVariants as rule
+use Rattle.helpers.specs.Calls.{Callee, Copy, Fill, Same, Helper, Unknown}
+use Rattle.verifier.specs.Registers.{Row, cell_count, kind_at}
+use Rattle.verifier.specs.CallKinds.{number_up_to, first_kind, argument_kinds}
+use Rattle.verifier.specs.declared.span.Span.{Span}
+
+-- ---- places on the stack, counted from its lowest byte
+
+-- that of an offset from an offset into the stack, which count from its end
+abbrev pub place_of : ℤ → ℤ → ℤ
+place_of at offset = at +ℤ offset +ℤ pos 512
+
+-- The places that an access of a size may touch, from one on, below another, by the kind of its address: any between its
+-- lowest and its greatest offset. Through what is no pointer into the stack none.
+abbrev pub span_of : Kind → ℤ → ℕ → Option Span
+span_of (Ptr Stack lo hi) offset size = Some (record { from = place_of lo offset; to = place_of hi offset +ℤ pos size })
+span_of k offset size = None
+
+-- the cell, of so many, that begins at a place
+abbrev pub cell_from : ℕ → ℤ → Option ℕ
+cell_from count (pos n) = if n % 8 == 0 && nat_lt n (8 * count) then Some (n / 8) else None
+cell_from count (negsuc n) = None
+
+-- the cell that an access reads or writes as a whole, if it does: its 8 bytes at one offset that is known
+abbrev pub whole_cell : Profile → Kind → ℤ → ℕ → Option ℕ
+whole_cell profile (Ptr Stack lo hi) offset size =
+    if int_le hi lo && size == 8 then cell_from (cell_count profile) (place_of lo offset) else None
+whole_cell profile k offset size = None
+
+-- whether the cell that begins at a place has a byte of a span, which may be empty
+abbrev pub is_touched : Span → ℕ → Bool
+is_touched span place = int_lt span.from (pos (place + 8)) && int_lt (pos place) span.to && int_lt span.from span.to
+
+-- ---- the kinds of cells
+
+abbrev pub cell_kind : Row → ℕ → Kind
+cell_kind row i = slice_index_or row (11 + i) Unset
+
+abbrev pub with_cell : Row → ℕ → Kind → Row
+with_cell row i k = slice_set row (11 + i) k
+
+-- Of a cell that may have been written to in part, or as a part of more: where it held a number it holds some number, and
+-- else nothing is known.
+abbrev pub touched : Profile → Kind → Kind
+touched profile (Num a) = kind_in profile (full 64)
+touched profile Dead = kind_in profile (full 64)
+touched profile k = Unset
+
+-- the kinds of cells, of which the first begins at a place, after a write to some byte or all of a span
+abbrev pub cells_touched : Profile → Span → ℕ → List Kind → List Kind
+cells_touched profile span place [] = []
+cells_touched profile span place (k ∷ ks) =
+    (if is_touched span place then touched profile k else k) ∷ cells_touched profile span (place + 8) ks
+
+abbrev pub row_touched : Profile → Option Span → Row → Row
+row_touched profile None row = row
+row_touched profile (Some span) row = take 11 row ++ cells_touched profile span 0 (drop 11 row)
+
+-- ---- stores: a cell that is written as a whole has the kind that is stored
+
+abbrev pub row_stored_in : Profile → Option ℕ → Option Span → Kind → Row → Row
+row_stored_in profile (Some i) span k row = with_cell row i k
+row_stored_in profile None span k row = row_touched profile span row
+
+abbrev pub row_stored : Profile → Kind → ℤ → ℕ → Kind → Row → Row
+row_stored profile address offset size k row =
+    row_stored_in profile (whole_cell profile address offset size) (span_of address offset size) k row
+
+-- a pointer may be stored where it fills a cell, and nowhere else
+abbrev pub is_cell : Option ℕ → Bool
+is_cell None = false
+is_cell (Some i) = true
+
+-- ---- loads: of a cell that is read as a whole they give its kind, else what is known by their size
+
+abbrev pub read_kind : Option ℕ → Kind → Row → Kind
+read_kind (Some i) by_size row = cell_kind row i
+read_kind None by_size row = by_size
+
+-- a cell that is read as a whole must be known
+abbrev pub is_known : Kind → Bool
+is_known Unset = false
+is_known k = true
+
+-- and each that any other read may touch must hold a number
+abbrev pub is_numeric : Kind → Bool
+is_numeric (Num a) = true
+is_numeric Dead = true
+is_numeric k = false
+
+abbrev pub are_numeric : Span → ℕ → List Kind → Bool
+are_numeric span place [] = true
+are_numeric span place (k ∷ ks) =
+    (if is_touched span place then is_numeric k else true) && are_numeric span (place + 8) ks
+
+abbrev pub has_numbers : Row → Option Span → Bool
+has_numbers row None = true
+has_numbers row (Some span) = are_numeric span 0 (drop 11 row)
+
+abbrev pub is_readable : Option ℕ → Option Span → Row → Bool
+is_readable (Some i) span row = is_known (cell_kind row i)
+is_readable None span row = has_numbers row span
+
+-- ---- calls: they read and write bytes that a pointer and a number name, up to a limit, and no cell as a whole
+
+abbrev pub bytes_named : Kind → Option ℕ → Option Span
+bytes_named address None = None
+bytes_named address (Some n) = span_of address (pos 0) n
+
+abbrev pub span_given : ℕ → Kind → Kind → Option Span
+span_given limit address len = bytes_named address (number_up_to limit len)
+
+-- whether the cells that each Read of a helper may touch hold numbers, by the kinds of its arguments
+abbrev pub reads_numbers : Row → List ArgRule → List Kind → Bool
+reads_numbers row [] ks = true
+reads_numbers row (r ∷ rules) [] = true
+reads_numbers row (rule.Read max ∷ rules) (k ∷ ks) = has_numbers row (span_given max k (first_kind ks)) && reads_numbers row rules ks
+reads_numbers row (other ∷ rules) (k ∷ ks) = reads_numbers row rules ks
+
+-- and so of the machine's own calls, by R3, the number of their bytes
+abbrev pub own_numbers : Row → Kind → Bool
+own_numbers row address = has_numbers row (span_given longest_window address (kind_at row R3))
+
+abbrev pub call_reads_numbers : Callee → Row → Bool
+call_reads_numbers Copy row = own_numbers row (kind_at row R2)
+call_reads_numbers Fill row = true
+call_reads_numbers Same row = own_numbers row (kind_at row R1) && own_numbers row (kind_at row R2)
+call_reads_numbers (Helper sig) row = reads_numbers row sig.args (argument_kinds row)
+call_reads_numbers Unknown row = true
+
+-- the kinds after the writes of a call: copy and fill write where R1 points
+abbrev pub row_written : Profile → Callee → Row → Row
+row_written profile Copy row = row_touched profile (span_given longest_window (kind_at row R1) (kind_at row R3)) row
+row_written profile Fill row = row_touched profile (span_given longest_window (kind_at row R1) (kind_at row R3)) row
+row_written profile other row = row
