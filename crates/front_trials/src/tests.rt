@@ -1,5 +1,7 @@
-//! The tests of connections.
+//! The tests by what is tried.
 
 mod connections;
+mod listening;
 mod opening;
+mod requests;
 mod rows;

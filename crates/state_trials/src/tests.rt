@@ -2,5 +2,6 @@
 
 mod clocks;
 mod contexts;
+mod records;
 mod states;
 mod vnodes;

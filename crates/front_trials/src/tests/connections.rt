@@ -24,7 +24,7 @@ fn connect(
     source: &mut FailSource<'_>,
     sink: &mut FailSink,
 ) -> Result<Result<u64, FrontFault>, AllocError> {
-    let mut store = open(alloc)?;
+    let mut store = open(alloc, 0)?;
     Ok(serving::serve(front, source, sink, &mut store))
 }
 

@@ -7,8 +7,8 @@ use serving::one_thread;
 use std::alloc::{AllocError, Global};
 use store::Store;
 
-/// Three vnodes of one thread, the first of which is each key's place, and no hook.
-pub(crate) fn open(alloc: Global) -> Result<Store<Local, Registry>, AllocError> {
-    let vnodes = Local::open_first(alloc, 3, 0, 0)?;
+/// Three vnodes of an incarnation, of one thread, the first of which is each key's place, and no hook.
+pub(crate) fn open(alloc: Global, incarnation: u16) -> Result<Store<Local, Registry>, AllocError> {
+    let vnodes = Local::open_first(alloc, 3, incarnation, 0)?;
     Ok(one_thread(alloc, vnodes, Table::new(alloc)))
 }

@@ -2,7 +2,7 @@
 
 use super::value;
 use dvv::Clock;
-use object::{KeyState, PartFault};
+use object::{KeyState, Part, PartFault};
 use std::alloc::Global;
 use std::test::Fail;
 
@@ -27,20 +27,34 @@ fn older_and_newer(alloc: Global) -> Result<(KeyState, KeyState), Fail> {
 /// How many contents and siblings the part of a state has, and what its merge answers.
 type Sent = (usize, usize, Result<bool, PartFault>);
 
+/// The part of a state for one who tells its summary.
+fn part_for(alloc: Global, from: &KeyState, to: &KeyState) -> Result<Part, Fail> {
+    Ok(from.part(alloc, &to.summary(alloc)?)?)
+}
+
 /// Sends the part of a state to one who tells its summary.
 fn send(alloc: Global, from: &KeyState, to: &mut KeyState) -> Result<Sent, Fail> {
-    let part = from.part(alloc, &to.summary(alloc)?)?;
+    let part = part_for(alloc, from, to)?;
     let merged = to.merge_part(&part);
     Ok((part.contents(), part.siblings().len(), merged))
 }
 
-/// What is sent to one who lacks one of 64 siblings, then and once more, and whether both are the same from then on.
+/// What is sent to one who lacks something, then and once more, and whether both are the same from then on.
+fn send_twice(
+    alloc: Global,
+    from: &KeyState,
+    to: &mut KeyState,
+) -> Result<(Sent, Sent, bool), Fail> {
+    let first = send(alloc, from, to)?;
+    let second = send(alloc, from, to)?;
+    let same = to.is_same(from) && to.summary(alloc)?.is_of(from);
+    Ok((first, second, same))
+}
+
+/// The same of one who lacks one of 64 siblings.
 fn sent_twice(alloc: Global) -> Result<(Sent, Sent, bool), Fail> {
     let (mut older, newer) = older_and_newer(alloc)?;
-    let first = send(alloc, &newer, &mut older)?;
-    let second = send(alloc, &newer, &mut older)?;
-    let same = older.is_same(&newer) && older.summary(alloc)?.is_of(&newer);
-    Ok((first, second, same))
+    send_twice(alloc, &newer, &mut older)
 }
 
 #[test]
@@ -50,14 +64,38 @@ fn one_content_of_64_is_sent(rt: HostRuntime) -> Result<(), Fail> {
     Ok(())
 }
 
-/// What a part comes to where its siblings were replaced after the summary was told, and whether the state stays as it was.
+/// Replaces all siblings by a value.
+fn replace(alloc: Global, state: &mut KeyState) -> Result<(), Fail> {
+    let seen = state.clock().copy(alloc)?;
+    let _ = state.put(1, &seen, value(alloc, 9)?)?;
+    Ok(())
+}
+
+/// What a part comes to, and whether the state stays as it was.
+fn merged(
+    alloc: Global,
+    state: &mut KeyState,
+    part: &Part,
+) -> Result<(Result<bool, PartFault>, bool), Fail> {
+    let before = state.copy(alloc)?;
+    Ok((state.merge_part(part), state.is_same(&before)))
+}
+
+/// The same where the state's siblings were replaced after the summary was told.
+fn send_late(
+    alloc: Global,
+    from: &KeyState,
+    to: &mut KeyState,
+) -> Result<(Result<bool, PartFault>, bool), Fail> {
+    let part = part_for(alloc, from, to)?;
+    replace(alloc, to)?;
+    merged(alloc, to, &part)
+}
+
+/// The same of one who lacks one of 64 siblings.
 fn sent_late(alloc: Global) -> Result<(Result<bool, PartFault>, bool), Fail> {
     let (mut older, newer) = older_and_newer(alloc)?;
-    let part = newer.part(alloc, &older.summary(alloc)?)?;
-    let seen = older.clock().copy(alloc)?;
-    let _ = older.put(1, &seen, value(alloc, 9)?)?;
-    let before = older.copy(alloc)?;
-    Ok((older.merge_part(&part), older.is_same(&before)))
+    send_late(alloc, &newer, &mut older)
 }
 
 #[test]

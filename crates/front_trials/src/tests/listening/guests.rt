@@ -1,6 +1,6 @@
 //! Connections in memory.
 
-use crate::tests::stores::open;
+use crate::tests::opening::open;
 use httpfront::{Backend, FailSink, FailSource, Front};
 use listener::{Door, NoConnection, Stopped, serve_all};
 use std::alloc::Global;

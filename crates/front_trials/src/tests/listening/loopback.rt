@@ -1,6 +1,6 @@
 //! A connection over loopback.
 
-use crate::tests::stores::open;
+use crate::tests::opening::open;
 use httpfront::Front;
 use listener::{Stopped, serve_all};
 use std::alloc::Global;

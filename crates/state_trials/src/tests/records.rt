@@ -3,8 +3,8 @@
 mod clocks;
 mod faults;
 mod limits;
-mod records;
 mod siblings;
+mod whole;
 
 use sha1::Sha1;
 use std::alloc::{AllocError, Global};

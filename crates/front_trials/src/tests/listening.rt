@@ -1,0 +1,5 @@
+//! Connections one after the other, over a door in memory and over loopback.
+
+mod guests;
+mod loopback;
+mod resting;

@@ -1,6 +1,0 @@
-//! The tests of connections, one after the other.
-
-mod guests;
-mod loopback;
-mod resting;
-mod stores;
