@@ -5,6 +5,7 @@
 mod clusters;
 mod connections;
 mod programs;
+mod publishing;
 mod quorums;
 mod records;
 mod refusing;

@@ -69,16 +69,14 @@ fn is_answered(
     Ok(count == 1 && sink.bytes.as_slice() == told)
 }
 
-/// A store on which these requests were answered.
-fn store_after(alloc: Global, exchanges: &[Exchange]) -> Result<Three, Fail> {
-    let vnodes = Local::open_first(alloc, 3, 0, 0)?;
-    let mut store = one_thread(alloc, vnodes, Table::new(alloc));
+/// These requests are answered, one after the other.
+fn answer_all(alloc: Global, store: &mut Three, exchanges: &[Exchange]) -> Result<(), Fail> {
     for (request, told) in exchanges {
-        if !is_answered(alloc, &mut store, request, told)? {
+        if !is_answered(alloc, store, request, told)? {
             return Err(Fail::new("another answer"));
         }
     }
-    Ok(store)
+    Ok(())
 }
 
 /// Whether the key is found; or, before its write was answered, isn't.
@@ -104,26 +102,50 @@ struct Serve {
     exchange: Exchange,
 }
 
-impl Trial for Serve {
-    fn goes<R: Env + Wait>(&self, rt: &R, alloc: Global) -> Result<(bool, End), Fail> {
-        let (request, told) = self.exchange;
-        let mut store = store_after(alloc, self.before)?;
-        let mut front = Front::new(alloc)?;
-        let mut source = FailSource::new(request, usize::MAX, None);
-        let mut sink = FailSink::new(alloc, usize::MAX, None);
-        sink.bytes.reserve(256)?;
-        begin(rt);
-        let back = serve(&mut front, &mut source, &mut sink, &mut store);
-        let met = was_met(rt);
-        let written = sink.bytes.as_slice();
-        let is_told = back == Ok(1) && written == told;
+impl Serve {
+    /// What was written to this request, by what `serve` gave back, and what stands then.
+    fn end(
+        &self,
+        alloc: Global,
+        store: &mut Three,
+        met: bool,
+        back: Result<u64, FrontFault>,
+        written: &[u8],
+    ) -> Result<(bool, End), Fail> {
+        let is_told = back == Ok(1) && written == self.exchange.1;
         let is_written = is_told || !self.before.is_empty();
-        let stands = stands(alloc, &mut store, is_written)?;
+        let stands = stands(alloc, store, is_written)?;
         // A vnode's want of memory shows in no answer while enough others have it.
         Ok((
             met,
             end_beside(met, stands && is_told, stands && is_refusal(back, written)),
         ))
+    }
+
+    /// The request on this store.
+    fn goes_on<R: Env>(
+        &self,
+        rt: &R,
+        alloc: Global,
+        store: &mut Three,
+    ) -> Result<(bool, End), Fail> {
+        answer_all(alloc, store, self.before)?;
+        let mut front = Front::new(alloc)?;
+        let mut source = FailSource::new(self.exchange.0, usize::MAX, None);
+        let mut sink = FailSink::new(alloc, usize::MAX, None);
+        sink.bytes.reserve(256)?;
+        begin(rt);
+        let back = serve(&mut front, &mut source, &mut sink, store);
+        let met = was_met(rt);
+        self.end(alloc, store, met, back, sink.bytes.as_slice())
+    }
+}
+
+impl Trial for Serve {
+    fn goes<R: Env + Wait>(&self, rt: &R, alloc: Global) -> Result<(bool, End), Fail> {
+        let vnodes = Local::open_first(alloc, 3, 0, 0)?;
+        let mut store = one_thread(alloc, vnodes, Table::new(alloc));
+        self.goes_on(rt, alloc, &mut store)
     }
 }
 

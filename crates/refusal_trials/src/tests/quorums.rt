@@ -153,8 +153,8 @@ fn known(local: &Local) -> Result<usize, AllocError> {
     Ok(known)
 }
 
-/// An exchange between two vnodes of which each has a key that the other hasn't. A state for which there is no memory isn't brought; one that
-/// was brought there already needn't be.
+/// An exchange between two vnodes of which each has a key that the other hasn't. A state for which there is no memory isn't brought, and
+/// goes whole where there is none for its part; one that was brought there already needn't be.
 struct Exchange;
 
 impl Trial for Exchange {
@@ -163,7 +163,7 @@ impl Trial for Exchange {
         put_alone(alloc, &mut local, 0, &key_of(alloc, b"k")?, b"a")?;
         put_alone(alloc, &mut local, 1, &key_of(alloc, b"l")?, b"b")?;
         begin(rt);
-        let taken = repair::exchange(&mut local, 0, 1);
+        let taken = repair::exchange(alloc, &mut local, 0, 1);
         let met = was_met(rt);
         let came = (taken, known(&local)?);
         Ok((

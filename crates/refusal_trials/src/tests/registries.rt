@@ -19,38 +19,53 @@ fn bound(alloc: Global, registry: &Registry) -> Result<(bool, bool), AllocError>
     Ok((before.is_some(), resolver.is_some()))
 }
 
-/// An install in an empty registry.
+/// An install of a hook that isn't there.
 struct Install;
 
-impl Trial for Install {
-    fn goes<R: Env + Wait>(&self, rt: &R, alloc: Global) -> Result<(bool, End), Fail> {
-        let mut registry = Registry::new(alloc);
+impl Install {
+    /// Whether there is a hook of this name.
+    fn stands(alloc: Global, registry: &Registry) -> Result<bool, AllocError> {
+        Ok(registry.has(&Bytes::from_slice(alloc, b"new")?))
+    }
+
+    /// The install in a registry.
+    fn goes_on<R: Env>(
+        rt: &R,
+        alloc: Global,
+        registry: &mut Registry,
+    ) -> Result<(bool, End), Fail> {
         let name = Bytes::from_slice(alloc, b"new")?;
         let hook = program(alloc, PRE_COMMIT, 128, &answer(257))?;
         begin(rt);
-        let back = registry.install(name, hook);
+        let is_told = registry.install(name, hook).is_ok();
         let met = was_met(rt);
-        let has = registry.has(&Bytes::from_slice(alloc, b"new")?);
-        Ok((met, end_of(has && back.is_ok(), !has && back.is_err())))
+        let has = Install::stands(alloc, registry)?;
+        Ok((met, end_of(has && is_told, !has && !is_told)))
     }
 }
 
-/// A registry with a hook of each kind, `p` and `r`.
-fn registry_of_two(alloc: Global) -> Result<Registry, Fail> {
-    let mut registry = Registry::new(alloc);
-    let before = program(alloc, PRE_COMMIT, 128, &answer(257))?;
-    registry.install(Bytes::from_slice(alloc, b"p")?, before)?;
-    let resolver = program(alloc, RESOLVER, 128, &answer(256))?;
-    registry.install(Bytes::from_slice(alloc, b"r")?, resolver)?;
-    Ok(registry)
+impl Trial for Install {
+    fn goes<R: Env + Wait>(&self, rt: &R, alloc: Global) -> Result<(bool, End), Fail> {
+        Install::goes_on(rt, alloc, &mut Registry::new(alloc))
+    }
 }
 
-/// A bind of both to a bucket, that has both then, or neither.
+/// Gives a hook of a kind a name.
+fn give(alloc: Global, registry: &mut Registry, kind: u8, name: &[u8]) -> Result<(), Fail> {
+    let hook = program(alloc, kind, 128, &answer(256))?;
+    Ok(registry.install(Bytes::from_slice(alloc, name)?, hook)?)
+}
+
+/// A bind of a hook of each kind to a bucket, that has both then, or neither.
 struct Bind;
 
-impl Trial for Bind {
-    fn goes<R: Env + Wait>(&self, rt: &R, alloc: Global) -> Result<(bool, End), Fail> {
-        let mut registry = registry_of_two(alloc)?;
+impl Bind {
+    /// What the bind comes to.
+    fn goes_on<R: Env>(
+        rt: &R,
+        alloc: Global,
+        registry: &mut Registry,
+    ) -> Result<(bool, End), Fail> {
         let bucket = Bytes::from_slice(alloc, b"b")?;
         let before = (ImageKind::PreCommit, Some(Bytes::from_slice(alloc, b"p")?));
         let resolver = (ImageKind::Resolver, Some(Bytes::from_slice(alloc, b"r")?));
@@ -58,10 +73,27 @@ impl Trial for Bind {
         begin(rt);
         let back = registry.bind(&bucket, &bindings);
         let met = was_met(rt);
-        let bound = bound(alloc, &registry)?;
+        let bound = bound(alloc, registry)?;
         let is_whole = back == Ok(()) && bound == (true, true);
         let is_refused = back == Err(HookFault::NoMemory) && bound == (false, false);
         Ok((met, end_of(is_whole, is_refused)))
+    }
+
+    /// The hooks `p` and `r`, and the bind.
+    fn prepared<R: Env>(
+        rt: &R,
+        alloc: Global,
+        registry: &mut Registry,
+    ) -> Result<(bool, End), Fail> {
+        give(alloc, registry, PRE_COMMIT, b"p")?;
+        give(alloc, registry, RESOLVER, b"r")?;
+        Bind::goes_on(rt, alloc, registry)
+    }
+}
+
+impl Trial for Bind {
+    fn goes<R: Env + Wait>(&self, rt: &R, alloc: Global) -> Result<(bool, End), Fail> {
+        Bind::prepared(rt, alloc, &mut Registry::new(alloc))
     }
 }
 
