@@ -3,10 +3,10 @@
 ghost use Rattle.std.specs.Prelude.{◌≤◌, length};
 ghost use Rattle.helpers.specs.Entries.{AgreesWith};
 
+use crate::asking::ask;
 use admission::admit_program;
 use closing::Followed;
 use commands::files::Files;
-use commands::own::command_with_helpers;
 use commands::server::{Server, Unserved};
 use helpers::Table;
 use machine::{State, Stop, drive, padded, run};
@@ -45,9 +45,7 @@ impl Counts {
             is_alike: None,
         };
         let words = ["serve", "memory", "1", "1"];
-        let mut out = Vec::new(alloc);
-        let mut err = Vec::new(alloc);
-        command_with_helpers(alloc, &words, files, &mut both, &mut out, &mut err)?;
+        ask(alloc, &words, files, &mut both)?;
         match both.is_alike {
             Some(true) => self.alike = self.alike.saturating_add(1),
             Some(false) => self.apart = self.apart.saturating_add(1),

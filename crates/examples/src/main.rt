@@ -3,6 +3,7 @@
 //! programs of rows and functions in C are told so. Each program that is let in is run and driven, which has to come to the same.
 #![tactic(auto)]
 
+mod asking;
 mod both;
 mod dialogue;
 mod folder;

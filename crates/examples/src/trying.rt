@@ -1,11 +1,11 @@
 //! What each example comes to.
 
+use crate::asking::ask;
 use crate::both::Counts;
 use crate::dialogue::Dialogue;
 use crate::folder::{Folder, read_ending};
 use crate::rows::try_rows;
 use commands::files::Files;
-use commands::own::command_with_helpers;
 use commands::server::Offline;
 use std::alloc::Global;
 use std::io::Write;
@@ -23,11 +23,14 @@ const PROGRAMS: &[&str] = &[
     "hooks/at_most_32.img",
     "hooks/delete_wins.img",
     "hooks/digits_only.img",
+    "hooks/ends_in_digit.img",
     "hooks/first_sixteen.img",
     "hooks/largest_counter.img",
+    "hooks/last_sibling.img",
     "hooks/last_writer.img",
     "hooks/like_a_row.img",
     "hooks/union_of_records.img",
+    "hooks/whole_words.img",
 ];
 
 /// Functions of data/c/: images, each with its input, and beside them what the function answers where it is compiled for the machine itself.
@@ -43,18 +46,21 @@ const SCRIPTS: &[Script] = &[
     ("hooks/", &["sim", "at_most_32.script"], "at_most_32"),
     ("hooks/", &["sim", "delete_wins.script"], "delete_wins"),
     ("hooks/", &["sim", "digits_only.script"], "digits_only"),
+    ("hooks/", &["sim", "ends_in_digit.script"], "ends_in_digit"),
     ("hooks/", &["sim", "first_sixteen.script"], "first_sixteen"),
     (
         "hooks/",
         &["sim", "largest_counter.script"],
         "largest_counter",
     ),
+    ("hooks/", &["sim", "last_sibling.script"], "last_sibling"),
     ("hooks/", &["sim", "last_writer.script"], "last_writer"),
     (
         "hooks/",
         &["sim", "union_of_records.script"],
         "union_of_records",
     ),
+    ("hooks/", &["sim", "whole_words.script"], "whole_words"),
     ("scripts/", &["sim", "lost_vnode.script"], "lost_vnode"),
     ("scripts/", &["sim", "deletes.script"], "deletes"),
     (
@@ -89,6 +95,7 @@ const RUNS: &[&str] = &[
     "jumps",
     "operations",
     "runs",
+    "tables",
 ];
 
 /// Tells of each example what it comes to.
@@ -111,10 +118,10 @@ pub fn tell_command<F: Files>(
     files: &mut F,
     told: &mut Vec<u8>,
 ) -> io::Result<u8> {
-    let mut err = Vec::new(alloc);
-    let status = command_with_helpers(alloc, words, files, &mut Offline, told, &mut err)?;
-    told.write_all(&err)?;
-    Ok(status)
+    let said = ask(alloc, words, files, &mut Offline)?;
+    told.write_all(&said.out)?;
+    told.write_all(&said.err)?;
+    Ok(said.status)
 }
 
 fn try_programs<R: rt::Files + AllocGlobal>(
@@ -218,10 +225,11 @@ fn begins_as_written<F: Files>(
     name: &str,
 ) -> io::Result<bool> {
     let answer = read_ending(alloc, &*files, name, "answer")?;
-    let mut out = Vec::new(alloc);
-    let mut err = Vec::new(alloc);
-    command_with_helpers(alloc, words, files, &mut Offline, &mut out, &mut err)?;
-    Ok(out.starts_with(&answer))
+    Ok(
+        ask(alloc, words, files, &mut Offline)?
+            .out
+            .starts_with(&answer),
+    )
 }
 
 fn try_scripts<R: rt::Files + AllocGlobal>(rt: &R, told: &mut Vec<u8>) -> io::Result<()> {
@@ -267,10 +275,11 @@ fn prints_so<F: Files>(
     files: &mut F,
     want: &[u8],
 ) -> io::Result<(bool, u8)> {
-    let mut out = Vec::new(alloc);
-    let mut err = Vec::new(alloc);
-    let status = command_with_helpers(alloc, words, files, &mut Offline, &mut out, &mut err)?;
-    Ok((out.as_slice() == want && err.is_empty(), status))
+    let said = ask(alloc, words, files, &mut Offline)?;
+    Ok((
+        said.out.as_slice() == want && said.err.is_empty(),
+        said.status,
+    ))
 }
 
 fn try_dialogues<R: rt::Files + AllocGlobal>(rt: &R, told: &mut Vec<u8>) -> io::Result<()> {
@@ -331,10 +340,7 @@ fn answered_otherwise<F: Files>(
         requests,
         answers: Vec::new(alloc),
     };
-    let mut out = Vec::new(alloc);
-    let mut err = Vec::new(alloc);
-    let words = ["serve", "memory", "1", "1"];
-    command_with_helpers(alloc, &words, files, &mut dialogue, &mut out, &mut err)?;
+    ask(alloc, &["serve", "memory", "1", "1"], files, &mut dialogue)?;
     Ok(first_difference(&dialogue.answers, want))
 }
 

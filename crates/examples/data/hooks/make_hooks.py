@@ -19,6 +19,7 @@ from pathlib import Path
 
 HERE = Path(__file__).resolve().parent
 KINDS = {"plain": 0, "pre-commit": 1, "resolver": 2}
+VERSION = 2  # verified by the second table of kinds, which knows what the stack holds
 SLOT = 8
 MOST_SLOTS = 4096
 MOST_WINDOW = 65536
@@ -32,7 +33,10 @@ HOOKS = {
     "largest_counter": ("resolver", 4096, 0),
     "like_a_row": ("resolver", 4096, 28),
     "delete_wins": ("resolver", 4096, 0),
-    "union_of_records": ("resolver", 4096, 128),
+    "union_of_records": ("resolver", 4096, 196),
+    "last_sibling": ("resolver", 4096, 0),
+    "ends_in_digit": ("pre-commit", 4096, 0),
+    "whole_words": ("pre-commit", 4096, 124),
 }
 
 # -g adds sections beside the code, and leaves the code as it is.
@@ -234,7 +238,7 @@ def compile_hook(source):
 
 
 def head(kind, in_len, out_len):
-    return b"RBPF" + bytes([1, KINDS[kind], 0, 0]) + struct.pack("<II", in_len, out_len)
+    return b"RBPF" + bytes([VERSION, KINDS[kind], 0, 0]) + struct.pack("<II", in_len, out_len)
 
 
 def program():

@@ -666,7 +666,8 @@ INDEXED_BYTE = bytes.fromhex(
 HEADS = [
     (0, 0x53, "I2"),
     (3, 0x47, "I2"),
-    (4, 2, "I3"),
+    (4, 0, "I3"),
+    (4, 3, "I3"),
     (5, 3, "I4"),
     (6, 1, "I4"),
     (7, 1, "I4"),
@@ -693,6 +694,7 @@ def images():
     for length in range(len(INDEXED_BYTE)):
         yield install(INDEXED_BYTE[:length]), told(422, cut(length))
     yield install(INDEXED_BYTE), done()
+    yield install(INDEXED_BYTE[:4] + bytes([2]) + INDEXED_BYTE[5:]), done()
     for place, byte, why in HEADS:
         yield install(INDEXED_BYTE[:place] + bytes([byte]) + INDEXED_BYTE[place + 1 :]), told(422, why)
     # Another kind: a plain image is bound to nothing, a resolver is.

@@ -78,9 +78,9 @@ def code_of(slots):
     return b"".join(code for code, _ in slots)
 
 
-def image(in_len, out_len, slots):
+def image(in_len, out_len, slots, version=1):
     """A plain image with windows of these lengths."""
-    return b"RBPF" + bytes([1, 0, 0, 0]) + struct.pack("<II", in_len, out_len) + code_of(slots)
+    return b"RBPF" + bytes([version, 0, 0, 0]) + struct.pack("<II", in_len, out_len) + code_of(slots)
 
 
 # What is told
@@ -113,8 +113,10 @@ def raw_rows(rows):
 
 
 def image_rows(in_len, out_len, rows):
+    """Rows of images, of each version: either table of kinds tells the same."""
     for name, slots, told in rows:
         yield row(name, image(in_len, out_len, slots), told, slots)
+        yield row(f"{name}, version 2", image(in_len, out_len, slots, 2), told, slots)
 
 
 def run_rows(rows, windows=None):
@@ -750,6 +752,156 @@ def inputs():
     yield row("indexed_byte: two bytes", image(256, 0, INDEXED_TWO), refused(24, 3), INDEXED_TWO, bytes(257))
 
 
+# The two tables of kinds
+
+
+def store(base, offset, src):
+    return named(f"dword r{base}{offset:+} = r{src}", 0x7B, base, src, offset, 0)
+
+
+def store_number(base, offset, n):
+    return named(f"dword r{base}{offset:+} = {n}", 0x7A, base, 0, offset, n)
+
+
+def load(dst, base, offset):
+    return named(f"r{dst} = dword r{base}{offset:+}", 0x79, dst, base, offset, 0)
+
+
+def masked(dst, n):
+    return named(f"r{dst} &= {n}", 0x57, dst, 0, 0, n)
+
+
+def taken_from(dst, src):
+    return named(f"r{dst} -= r{src}", 0x1F, dst, src, 0, 0)
+
+
+# Goes round the next slot if the input is empty.
+ROUND_IF_EMPTY = named("if r2 == 0 goto +1", 0x15, 2, 0, 1, 0)
+
+# A pointer to the input in the cell at -8, and its return.
+SPILL = store(10, -8, 1)
+RELOAD = load(6, 10, -8)
+
+# The byte of the input that the cell at -8 names.
+INDEX = [RELOAD, added(1, 6), load_byte(0, 1, 0), EXIT]
+
+# The sixth byte of what the cell at -8 points to.
+FIFTH = [RELOAD, load_byte(0, 6, 5), EXIT]
+
+# R7 is the stack's end, or 8 bytes below it.
+ONE_OF_TWO = [copied(6, 2), masked(6, 8), copied(7, 10), taken_from(7, 6)]
+
+# Each byte of the input is its place.
+PLACES = bytes(range(256))
+
+# Programs with an input of 256 bytes and an output of 8, their input, and what they come to by the second table and by the first.
+# A cell is one of the 64 whole words of the stack.
+CELLS = [
+    # what a cell holds
+    ("a cell at the start", INDEX, PLACES, comes_to(0, 4), refused(23, 1)),
+    ("a number of a range", [load_byte(6, 1, 9), store(10, -8, 6), *INDEX], PLACES, comes_to(9, 6), refused(23, 3)),
+    ("one number", [store_number(10, -8, 9), *INDEX], PLACES, comes_to(9, 5), refused(23, 2)),
+    ("a pointer to the input", [SPILL, *FIFTH], PLACES, comes_to(5, 4), refused(26, 0)),
+    ("a pointer that was moved", [raised(1, 4), SPILL, *FIFTH], PLACES, comes_to(9, 5), refused(26, 1)),
+    ("a pointer to the output", [store(10, -8, 3), RELOAD, store_byte(6, 1, 7), CLEAR, EXIT], PLACES, comes_to(0, 5, [0, 7]), refused(26, 0)),
+    ("a pointer to the stack", [store(10, -512, 10), load(6, 10, -512), store_number(6, -16, 5), load(0, 10, -16), EXIT], PLACES, comes_to(5, 5), refused(26, 0)),
+    ("the last of two stores", [SPILL, store_number(10, -8, 9), *INDEX], PLACES, comes_to(9, 6), refused(26, 0)),
+    # where a pointer may not be stored
+    ("a pointer across two cells", [store(10, -12, 1), CLEAR, EXIT], PLACES, refused(26, 0), refused(26, 0)),
+    ("four bytes of a pointer", [fields(0x63, 10, 1, -8, 0), CLEAR, EXIT], PLACES, refused(26, 0), refused(26, 0)),
+    ("a pointer stored to the output", [store(3, 0, 1), CLEAR, EXIT], PLACES, refused(26, 0), refused(26, 0)),
+    ("a pointer in one of two cells", [*ONE_OF_TWO, store(7, -8, 1), CLEAR, EXIT], PLACES, refused(26, 4), refused(26, 4)),
+    ("a pointer below the stack", [store(10, -520, 1), CLEAR, EXIT], PLACES, refused(24, 0), refused(24, 0)),
+    ("a pointer stored to the input", [store(1, 0, 1), CLEAR, EXIT], PLACES, refused(25, 0), refused(25, 0)),
+    ("an unset register stored", [store(10, -8, 5), CLEAR, EXIT], PLACES, refused(20, 0), refused(20, 0)),
+    # reads of a cell that holds a pointer
+    ("a pointer's last byte", [SPILL, load_byte(0, 10, -1), EXIT], PLACES, refused(30, 1), refused(26, 0)),
+    ("a pointer's last byte with its sign", [SPILL, fields(0x91, 0, 10, -1, 0), EXIT], PLACES, refused(30, 1), refused(26, 0)),
+    ("half a pointer", [SPILL, fields(0x61, 0, 10, -8, 0), EXIT], PLACES, refused(30, 1), refused(26, 0)),
+    ("across a pointer and the cell before", [SPILL, load(0, 10, -12), EXIT], PLACES, refused(30, 1), refused(26, 0)),
+    ("across a pointer and the cell behind", [store(10, -16, 1), load(0, 10, -12), EXIT], PLACES, refused(30, 1), refused(26, 0)),
+    ("one of two cells, a pointer in one", [SPILL, *ONE_OF_TWO, load(0, 7, -8), EXIT], PLACES, refused(30, 5), refused(26, 0)),
+    ("the byte before a pointer", [SPILL, load_byte(0, 10, -9), EXIT], PLACES, comes_to(0, 3), refused(26, 0)),
+    ("the byte behind a pointer", [store(10, -16, 1), load_byte(0, 10, -8), EXIT], PLACES, comes_to(0, 3), refused(26, 0)),
+    ("past a pointer and the stack", [SPILL, load(0, 10, -4), EXIT], PLACES, refused(24, 1), refused(26, 0)),
+    # reads of numbers
+    ("a number's second byte", [store_number(10, -8, 0x0201), load_byte(0, 10, -7), EXIT], PLACES, comes_to(2, 3), comes_to(2, 3)),
+    ("one of two cells", [*ONE_OF_TWO, load(0, 7, -8), EXIT], PLACES, comes_to(0, 6), comes_to(0, 6)),
+    ("across two numbers", [store_number(10, -8, 9), load(6, 10, -12), added(1, 6), EXIT], PLACES, refused(23, 2), refused(23, 2)),
+    # stores that touch a cell
+    ("a byte into a pointer", [SPILL, store_byte(10, -1, 1), RELOAD, CLEAR, EXIT], PLACES, refused(30, 2), refused(26, 0)),
+    ("a byte before a pointer", [SPILL, store_byte(10, -9, 1), *FIFTH], PLACES, comes_to(5, 5), refused(26, 0)),
+    ("a byte behind a pointer", [store(10, -16, 1), store_byte(10, -8, 1), load(6, 10, -16), load_byte(0, 6, 5), EXIT], PLACES, comes_to(5, 5), refused(26, 0)),
+    ("a number across a pointer and the cell before", [SPILL, store_number(10, -12, 0), RELOAD, CLEAR, EXIT], PLACES, refused(30, 2), refused(26, 0)),
+    ("a number across a pointer and the cell behind", [store(10, -16, 1), store_number(10, -12, 0), load(6, 10, -16), CLEAR, EXIT], PLACES, refused(30, 2), refused(26, 0)),
+    ("a byte into one of two cells, a pointer in one", [SPILL, *ONE_OF_TWO, store_byte(7, -8, 1), RELOAD, CLEAR, EXIT], PLACES, refused(30, 6), refused(26, 0)),
+    ("a byte into one of two cells before a pointer", [SPILL, *ONE_OF_TWO, store_byte(7, -9, 1), *FIFTH], PLACES, comes_to(5, 9), refused(26, 0)),
+    ("a byte into a number", [store_number(10, -8, 9), store_byte(10, -8, 1), *INDEX], PLACES, refused(23, 3), refused(23, 3)),
+    ("a byte into a number that is masked then", [store_number(10, -8, 9), store_byte(10, -8, 1), RELOAD, masked(6, 255), *INDEX[1:]], PLACES, comes_to(1, 7), comes_to(1, 7)),
+    ("a pointer's cell, spoiled and written anew", [SPILL, store_byte(10, -8, 0), store_number(10, -8, 9), *INDEX], PLACES, comes_to(9, 7), refused(26, 0)),
+    # where ways meet
+    ("a pointer on one way", [ROUND_IF_EMPTY, SPILL, RELOAD, CLEAR, EXIT], PLACES, refused(30, 2), refused(26, 1)),
+    ("pointers into two windows", [SPILL, ROUND_IF_EMPTY, store(10, -8, 3), RELOAD, CLEAR, EXIT], PLACES, refused(30, 3), refused(26, 0)),
+    ("two pointers into one window", [SPILL, raised(1, 3), ROUND_IF_EMPTY, SPILL, RELOAD, load_byte(0, 6, 252), EXIT], PLACES, comes_to(255, 7), refused(26, 0)),
+    ("two pointers, a byte too far", [SPILL, raised(1, 3), ROUND_IF_EMPTY, SPILL, RELOAD, load_byte(0, 6, 253), EXIT], PLACES, refused(24, 5), refused(26, 0)),
+    ("two numbers", [store_number(10, -8, 3), ROUND_IF_EMPTY, store_number(10, -8, 7), RELOAD, added(1, 6), load_byte(0, 1, 248), EXIT], PLACES, comes_to(255, 7), refused(23, 4)),
+    ("two numbers, a byte too far", [store_number(10, -8, 3), ROUND_IF_EMPTY, store_number(10, -8, 7), RELOAD, added(1, 6), load_byte(0, 1, 249), EXIT], PLACES, refused(24, 5), refused(23, 4)),
+    # calls that read
+    ("a copy of a pointer", [SPILL, copied(1, 3), copied(2, 10), raised(2, -8), put(3, 8), call(1), EXIT], PLACES, refused(30, 5), refused(26, 0)),
+    ("a copy up to a pointer's first byte", [SPILL, copied(1, 3), copied(2, 10), raised(2, -15), put(3, 8), call(1), EXIT], PLACES, refused(30, 5), refused(26, 0)),
+    ("a copy from before a pointer", [SPILL, copied(1, 3), copied(2, 10), raised(2, -16), put(3, 8), call(1), EXIT], PLACES, comes_to(0, 7), refused(26, 0)),
+    ("a copy of no byte of a pointer", [SPILL, copied(1, 3), copied(2, 10), raised(2, -8), put(3, 0), call(1), EXIT], PLACES, comes_to(0, 7), refused(26, 0)),
+    ("a copy of up to 15 bytes", [SPILL, copied(3, 2), masked(3, 15), copied(2, 10), raised(2, -16), copied(1, 10), raised(1, -32), call(1), EXIT], PLACES, refused(30, 7), refused(26, 0)),
+    ("a copy of too many bytes", [SPILL, copied(1, 3), copied(2, 10), raised(2, -9), put(3, 9), call(1), EXIT], PLACES, refused(28, 5), refused(26, 0)),
+    ("a pointer first under same", [SPILL, copied(1, 10), raised(1, -8), copied(2, 3), put(3, 8), call(3), EXIT], PLACES, refused(30, 5), refused(26, 0)),
+    ("a pointer second under same", [SPILL, copied(2, 10), raised(2, -8), copied(1, 3), put(3, 8), call(3), EXIT], PLACES, refused(30, 5), refused(26, 0)),
+    ("a pointer as a text", [SPILL, copied(1, 10), raised(1, -8), put(2, 8), call(18), EXIT], PLACES, refused(30, 4), refused(26, 0)),
+    ("a text before a pointer", [SPILL, copied(1, 10), raised(1, -16), put(2, 8), call(18), EXIT], PLACES, comes_to(MAX, 6), refused(26, 0)),
+    ("a pointer as the second text", [SPILL, put(2, 8), copied(3, 10), raised(3, -8), put(4, 8), call(16), EXIT], PLACES, refused(30, 5), refused(26, 0)),
+    # calls that write
+    ("a copy into a pointer", [SPILL, copied(2, 1), copied(1, 10), raised(1, -8), put(3, 1), call(1), RELOAD, CLEAR, EXIT], PLACES, refused(30, 6), refused(26, 0)),
+    ("a copy before a pointer", [SPILL, copied(2, 1), copied(1, 10), raised(1, -16), put(3, 8), call(1), *FIFTH], PLACES, comes_to(5, 9), refused(26, 0)),
+    ("a copy of nothing into a pointer", [SPILL, copied(2, 1), copied(1, 10), raised(1, -8), put(3, 0), call(1), *FIFTH], PLACES, comes_to(5, 9), refused(26, 0)),
+    ("a copy into a number", [store_number(10, -8, 9), copied(7, 1), copied(2, 1), copied(1, 10), raised(1, -8), put(3, 1), call(1), RELOAD, added(7, 6), EXIT], PLACES, refused(23, 8), refused(23, 8)),
+    ("a fill of a pointer's cell", [SPILL, copied(1, 10), raised(1, -8), put(2, 0), put(3, 8), call(2), RELOAD, CLEAR, EXIT], PLACES, refused(30, 6), refused(26, 0)),
+    ("a fill of a number's cell", [copied(7, 1), copied(1, 10), raised(1, -8), put(2, 0), put(3, 8), call(2), RELOAD, added(7, 6), EXIT], PLACES, refused(23, 7), refused(23, 7)),
+    ("a fill behind a pointer", [store(10, -16, 1), copied(1, 10), raised(1, -8), put(2, 1), put(3, 8), call(2), load(6, 10, -16), load_byte(0, 6, 5), EXIT], PLACES, comes_to(5, 9), refused(26, 0)),
+    # calls that only read leave the cells as they are
+    ("a pointer kept over a call", [SPILL, call(18), *FIFTH], PLACES, comes_to(5, 5), refused(26, 0)),
+    ("a number kept over a call", [load_byte(6, 1, 9), store(10, -8, 6), copied(7, 1), call(18), RELOAD, added(7, 6), load_byte(0, 7, 0), EXIT], PLACES, comes_to(9, 8), refused(23, 5)),
+]
+
+# Numbers, with an input of 256 bytes: bits that are known, sums and differences that wrap, conditions with a sign, and where nothing is left.
+NUMBERS = [
+    ("a bound by a mask", [CLEAR, load(6, 1, 0), fields(0x45, 6, 0, 2, -256), added(1, 6), load_byte(0, 1, 0), EXIT], bytes([9] + [0] * 7 + [42] * 248), comes_to(42, 6), refused(23, 3)),
+    ("a mask of the low bits", [load_byte(6, 1, 0), masked(6, -8), added(1, 6), load(0, 1, 0), EXIT], bytes([15] + [0] * 7 + [1]), comes_to(1, 5), refused(24, 3)),
+    ("one less than a number that isn't 0", [CLEAR, load_byte(6, 1, 0), fields(0x15, 6, 0, 3, 0), raised(6, -1), added(1, 6), load_byte(0, 1, 0), EXIT], bytes([9]) + PLACES[1:], comes_to(8, 7), refused(23, 4)),
+    ("one less, and tested behind", [CLEAR, load_byte(6, 1, 0), fields(0x17, 6, 0, 0, 1), fields(0x25, 6, 0, 2, 254), added(1, 6), load_byte(0, 1, 0), EXIT], bytes(256), comes_to(0, 5), comes_to(0, 5)),
+    ("an index with a sign", [CLEAR, fields(0x81, 6, 1, 0, 0), fields(0xC5, 6, 0, 3, 0), fields(0x65, 6, 0, 2, 63), added(1, 6), load_byte(0, 1, 0), EXIT], bytes([9, 0, 0, 0]) + PLACES[4:], comes_to(9, 7), refused(23, 4)),
+    ("an index below 0", [CLEAR, fields(0x81, 6, 1, 0, 0), fields(0xC5, 6, 0, 3, 0), fields(0x65, 6, 0, 2, 63), added(1, 6), load_byte(0, 1, 0), EXIT], bytes([255] * 256), comes_to(0, 4), refused(23, 4)),
+    ("a way that is never gone", [load_byte(6, 1, 0), fields(0x55, 6, 0, 1, 300), raised(6, 1000), added(1, 6), load_byte(0, 1, 0), EXIT], bytes([9]) + PLACES[1:], comes_to(9, 5), refused(24, 4)),
+    ("an access on a way that is never gone", [put(0, 5), fields(0x15, 0, 0, 1, 6), EXIT, load_byte(0, 0, 0), EXIT], b"", refused(24, 3), refused(24, 3)),
+    ("an access by a dead register", [put(6, 5), fields(0x15, 6, 0, 2, 6), CLEAR, EXIT, added(1, 6), load_byte(0, 1, 0), EXIT], b"", refused(24, 5), comes_to(0, 4)),
+    ("a narrow condition on a wide number", [CLEAR, load(6, 1, 0), fields(0x26, 6, 0, 2, 255), added(1, 6), load_byte(0, 1, 0), EXIT], PLACES, refused(23, 3), refused(23, 3)),
+]
+
+# A pointer that goes over the stack, with an input of 256 bytes.
+SPILLED = [SPILL, RELOAD, load_byte(0, 6, 0), EXIT]
+SPILLS = [
+    ("a pointer spilled", SPILLED, [42] * 256, comes_to(42, 4), refused(26, 0)),
+    ("a pointer's first byte", [SPILL, load_byte(0, 10, -8), EXIT], [42] * 256, refused(30, 1), refused(26, 0)),
+    ("a byte into a pointer's first", [SPILL, store_byte(10, -8, 1), RELOAD, CLEAR, EXIT], [42] * 256, refused(30, 2), refused(26, 0)),
+]
+
+
+def tables():
+    for windows, rows in [((256, 0), SPILLS), ((256, 8), CELLS), ((256, 0), NUMBERS)]:
+        for name, slots, given, second, first in rows:
+            yield row(name, image(*windows, slots, 2), second, slots, given)
+            yield row(f"{name}, version 1", image(*windows, slots), first, slots, given)
+    yield row("a pointer spilled by raw code", code_of(SPILLED), comes_to(42, 4), SPILLED, [42])
+
+
 # Programs that are verified
 
 # Raw programs.
@@ -877,8 +1029,13 @@ RAW = [
         refused(25, 1),
     ),
     (
-        "pointer stored",
+        "pointer stored in a cell",
         [CLEAR, fields(0x7b, 10, 1, -8, 0), NOTHING, NOTHING, EXIT],
+        accepted(5),
+    ),
+    (
+        "pointer stored across cells",
+        [CLEAR, fields(0x7b, 10, 1, -12, 0), NOTHING, NOTHING, EXIT],
         refused(26, 1),
     ),
     (
@@ -1411,7 +1568,7 @@ CUTS = [
 ]
 
 # A byte of its head that is changed, what it is changed to, and the verdict.
-HEADS = [(4, 2, "I3"), (5, 3, "I4"), (6, 1, "I4"), (7, 1, "I4"), (10, 2, "I5"), (14, 2, "I5")]
+HEADS = [(4, 0, "I3"), (4, 3, "I3"), (5, 3, "I4"), (6, 1, "I4"), (7, 1, "I4"), (10, 2, "I5"), (14, 2, "I5")]
 
 
 def images():
@@ -1421,6 +1578,7 @@ def images():
     yield row("all", whole, accepted(5), INDEXED)
     for place, byte, why in HEADS:
         yield row(f"byte {place}", whole[:place] + bytes([byte]) + whole[place + 1 :], f"refused {why}\n")
+    yield row("version 2", whole[:4] + bytes([2]) + whole[5:], accepted(5), INDEXED)
     yield row("a resolver", whole[:5] + bytes([2]) + whole[6:], accepted(5), INDEXED)
 
 
@@ -1439,6 +1597,7 @@ RUNS = {
     "jumps": jumps,
     "operations": operations,
     "runs": runs,
+    "tables": tables,
 }
 
 
