@@ -5,8 +5,8 @@ ghost use Rattle.std.specs.Prelude.{◌≡◌};
 use abi::BadAnswer;
 use code_parts::expect;
 use dvv::{Clock, ClockFault, Dot};
-use object::{Content, Key, KeyState};
-use peers::{Answer, PeerFault, Peers};
+use object::{Content, Key, KeyState, Part};
+use peers::{Answer, PartAnswer, PeerFault, Peers, SummaryAnswer};
 use quorum::QuorumFault;
 use std::alloc::{AllocError, Global};
 use std::test::Fail;
@@ -120,6 +120,23 @@ impl<'a> Peers for Scripted<'a> {
         };
         self.count(back.is_err());
         back
+    }
+
+    fn summary_at(&mut self, _i: usize, _key: &Key) -> Result<SummaryAnswer, PeerFault> {
+        self.count(true);
+        Err(PeerFault::Lost)
+    }
+
+    fn merge_part_at(
+        &mut self,
+        _i: usize,
+        _key: &Key,
+        _from: u32,
+        _at: u32,
+        _part: &Part,
+    ) -> Result<PartAnswer, PeerFault> {
+        self.count(true);
+        Err(PeerFault::Lost)
     }
 
     fn keys_of(&mut self, _i: usize) -> Result<Vec<Key>, PeerFault> {
