@@ -1,29 +1,29 @@
 //! A text as a clock.
 
 ghost use Rattle.std.specs.Prelude.{◌≡◌, ◌≢◌, ◌*◌, ◌<◌, ◌≤◌, ◌⊎◌, List, ℕ, length, take, drop, IsTrue, IfOk, IfErr, Ok, Err};
-ghost use Rattle.std.specs.Int.{w16, w32, w64, from_be_bytes};
 ghost use Rattle.base64.specs.Engines.{standard};
 ghost use Rattle.base64.specs.GeneralPurpose.{encode_of, decode_of, IsBytes};
 ghost use Rattle.dvv.specs.declared.Dot.{Dot as Entry};
 ghost use Rattle.dvv.specs.Clock.{IsClock};
-ghost use Rattle.token.specs.Token.{token, entries_of, rises, counts, checked, read_entries, read_bytes, read_text, HasToken, Fails, Gives};
+ghost use Rattle.token.specs.Layouts.{layout};
+ghost use Rattle.token.specs.Token.{IsToken, entries_of, counts, checked, read_entries, read_bytes, read_text, HasToken, Fails, Gives};
 
 use crate::fault::TokenFault;
-use crate::{ENTRY_LEN, VERSION};
+use crate::version::{FIRST_MARK, SECOND_MARK, Version};
 use base64::DecodeAllocError;
 use base64::engine::general_purpose::STANDARD;
 use dvv::{Clock, Dot, MAX_COUNTER, MAX_ENTRIES};
 use std::alloc::{AllocError, Global};
 
-/// The clock of a text, or the first fault in the order of [`TokenFault`]. Each clock has one text, and no other text
-/// is read as it.
+/// The clock of a text, or the first fault in the order of [`TokenFault`]. Each clock has one text of version 1, and one
+/// of version 2 where no index is above 254; no other text is read as it.
 pub fn read(alloc: Global, text: &str) -> Result<Clock, TokenFault>
     // Which answer it is.
     ensures exact { Gives result (read_text text.now) }
     // What is read is spelled so.
-    ensures canonical { IfOk result (λ clock. HasToken clock × (text.now ≡ token clock)) }
+    ensures canonical { IfOk result (λ clock. HasToken clock × IsToken text.now clock) }
     // What is spelled so is read, unless memory runs out.
-    ensures reads { (clock : List Entry) → HasToken clock → text.now ≡ token clock → Gives result (Ok clock) }
+    ensures reads { (clock : List Entry) → HasToken clock → IsToken text.now clock → Gives result (Ok clock) }
     // What is no base64 is no bytes' base64.
     ensures base64 { result ≡ Err TokenFault.NotBase64 → (bytes : List ℕ) → IsBytes bytes → text.now ≢ encode_of standard bytes }
 {
@@ -36,9 +36,9 @@ pub fn read_bytes(alloc: Global, text: &[u8]) -> Result<Clock, TokenFault>
     // Which answer it is.
     ensures exact { Gives result (read_text text.now) }
     // What is read is spelled so.
-    ensures canonical { IfOk result (λ clock. HasToken clock × (text.now ≡ token clock)) }
+    ensures canonical { IfOk result (λ clock. HasToken clock × IsToken text.now clock) }
     // What is spelled so is read, unless memory runs out.
-    ensures reads { (clock : List Entry) → HasToken clock → text.now ≡ token clock → Gives result (Ok clock) }
+    ensures reads { (clock : List Entry) → HasToken clock → IsToken text.now clock → Gives result (Ok clock) }
     // What is no base64 is no bytes' base64.
     ensures base64 { result ≡ Err TokenFault.NotBase64 → (bytes : List ℕ) → IsBytes bytes → text.now ≢ encode_of standard bytes }
 {
@@ -67,18 +67,19 @@ fn decoded(alloc: Global, text: &[u8]) -> Result<Vec<u8>, TokenFault>
 fn clock_of(alloc: Global, bytes: &[u8]) -> Result<Clock, TokenFault>
     ensures { Gives result (read_bytes bytes.now) }
 {
-    let [version, rest @ ..] = bytes else {
+    let [mark, rest @ ..] = bytes else {
         return Err(TokenFault::Cut);
     };
-    match *version {
-        VERSION => counted_entries(alloc, rest),
+    match *mark {
+        FIRST_MARK => counted_entries(alloc, Version::First, rest),
+        SECOND_MARK => counted_entries(alloc, Version::Second, rest),
         _ => Err(TokenFault::Version),
     }
 }
 
 // The clock of a count and that many entries.
-fn counted_entries(alloc: Global, bytes: &[u8]) -> Result<Clock, TokenFault>
-    ensures { Gives result (read_entries bytes.now) }
+fn counted_entries(alloc: Global, version: Version, bytes: &[u8]) -> Result<Clock, TokenFault>
+    ensures { Gives result (read_entries (layout version) bytes.now) }
 {
     if bytes.len() < 2 {
         return Err(TokenFault::Cut);
@@ -88,74 +89,46 @@ fn counted_entries(alloc: Global, bytes: &[u8]) -> Result<Clock, TokenFault>
     if count > MAX_ENTRIES {
         return Err(TokenFault::PastLimit);
     }
-    if rest.len() != ENTRY_LEN * count {
+    if rest.len() != version.entry_len() * count {
         return Err(TokenFault::Cut);
     }
-    checked(entries_of(alloc, count, rest)?)
+    checked(version, entries_of(alloc, version, count, rest)?)
 }
 
 // So many entries.
-fn entries_of(alloc: Global, count: usize, bytes: &[u8]) -> Result<Vec<Dot>, AllocError>
-    requires len { length bytes.now ≡ 12 * count }
+fn entries_of(
+    alloc: Global,
+    version: Version,
+    count: usize,
+    bytes: &[u8],
+) -> Result<Vec<Dot>, AllocError>
+    requires len { length bytes.now ≡ (layout version).entry_len * count }
     requires limit { count ≤ 1024 }
-    ensures entries { IfOk result (λ entries. entries.items ≡ entries_of count bytes.now) }
+    ensures entries { IfOk result (λ entries. entries.items ≡ entries_of (layout version) count bytes.now) }
 {
     let mut entries = Vec::with_capacity(alloc, count)?;
     let mut rest = bytes;
     for _ in 0..count {
-        let (vnode, after) = u32_at(rest);
-        let (n, after) = u64_at(after);
-        entries.push(Dot { vnode, n })?;
+        let (entry, after) = rest.split_at(version.entry_len());
+        entries.push(version.entry(entry))?;
         rest = after;
     }
     Ok(entries)
 }
 
-// The number of the first 4 bytes, and what follows.
-fn u32_at(bytes: &[u8]) -> (u32, &[u8])
-    requires { 4 ≤ length bytes.now }
-    ensures number { result.0 ≡ from_be_bytes w32 (take 4 bytes.now) }
-    ensures rest { result.1.now ≡ drop 4 bytes.now }
-{
-    let (front, rest) = bytes.split_at(4);
-    (
-        u32::from_be_bytes([front[0], front[1], front[2], front[3]]),
-        rest,
-    )
-}
-
-// The number of the first 8 bytes, and what follows.
-fn u64_at(bytes: &[u8]) -> (u64, &[u8])
-    requires { 8 ≤ length bytes.now }
-    ensures number { result.0 ≡ from_be_bytes w64 (take 8 bytes.now) }
-    ensures rest { result.1.now ≡ drop 8 bytes.now }
-{
-    let (front, rest) = bytes.split_at(8);
-    let number = u64::from_be_bytes([
-        front[0], front[1], front[2], front[3], front[4], front[5], front[6], front[7],
-    ]);
-    (number, rest)
-}
-
 // The clock of entries that rise and are within their limits.
-fn checked(entries: Vec<Dot>) -> Result<Clock, TokenFault>
-    requires { length entries.items ≤ 1024 }
-    ensures { Gives result (checked entries.items) }
+fn checked(version: Version, mut entries: Vec<Dot>) -> Result<Clock, TokenFault>
+    requires len { length entries.items ≤ 1024 }
+    ensures { Gives result (checked (layout version) entries.items) }
 {
-    if !are_rising(&entries) {
+    if !version.are_rising(&entries) {
         return Err(TokenFault::NotRising);
     }
-    if !are_within(&entries) {
+    if !are_within(&entries) || !version.tells_all(&entries) {
         return Err(TokenFault::PastLimit);
     }
+    entries.sort_unstable_by_key(|entry| entry.vnode);
     Ok(Clock::from_entries(entries))
-}
-
-// Whether each vnode is above the one before it.
-fn are_rising(entries: &[Dot]) -> bool
-    ensures { result ≡ rises entries.now }
-{
-    entries.is_sorted_by(|first, second| first.vnode < second.vnode)
 }
 
 // Whether each counter is from 1 to the limit.
