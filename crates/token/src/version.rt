@@ -1,7 +1,7 @@
 //! The versions of a token: how each spells the entries of a clock.
 
-ghost use Rattle.std.specs.Prelude.{◌≡◌, length};
-ghost use Rattle.std.specs.Int.{w64, from_be_bytes};
+ghost use Rattle.std.specs.Prelude.{◌≡◌, ◌+◌, ◌++◌, length};
+ghost use Rattle.std.specs.Int.{w64, to_be_bytes, from_be_bytes};
 ghost use Rattle.token.specs.Layouts.{layout};
 ghost use Rattle.token.specs.Token.{rises, tells_all};
 
@@ -75,16 +75,13 @@ impl Version {
         requires { length bytes.old ≡ (layout self).entry_len }
         ensures { bytes.new ≡ (layout self).bytes entry }
     {
-        let [high, low, upper, index] = entry.vnode.to_be_bytes();
-        let (vnode, counter) = match self {
-            Version::First => bytes.split_at_mut(4),
-            Version::Second => bytes.split_at_mut(3),
-        };
         match self {
-            Version::First => vnode.copy_from_slice(&[high, low, upper, index]),
-            Version::Second => vnode.copy_from_slice(&[index, high, low]),
+            Version::First => join(&entry.vnode.to_be_bytes(), entry.n, bytes),
+            Version::Second => {
+                let [high, low, _, index] = entry.vnode.to_be_bytes();
+                join(&[index, high, low], entry.n, bytes);
+            }
         }
-        counter.copy_from_slice(&entry.n.to_be_bytes());
     }
 
     // The entry that the bytes spell.
@@ -123,6 +120,16 @@ impl Version {
     {
         entries.iter().all(|entry| self.tells(entry.vnode))
     }
+}
+
+// Writes a vnode's bytes and those of a number.
+fn join(vnode: &[u8], n: u64, bytes: &mut [u8])
+    requires { length bytes.old ≡ length vnode.now + 8 }
+    ensures { bytes.new ≡ vnode.now ++ to_be_bytes w64 n }
+{
+    let (front, back) = bytes.split_at_mut(vnode.len());
+    front.copy_from_slice(vnode);
+    back.copy_from_slice(&n.to_be_bytes());
 }
 
 // The number of 8 bytes.
