@@ -1,6 +1,6 @@
 //! The versions of a token: how each spells the entries of a clock.
 
-ghost use Rattle.std.specs.Prelude.{◌≡◌, ◌+◌, ◌++◌, length};
+ghost use Rattle.std.specs.Prelude.{◌≡◌, ◌+◌, ◌^◌, ◌<◌, ◌++◌, length};
 ghost use Rattle.std.specs.Int.{w64, to_be_bytes, from_be_bytes};
 ghost use Rattle.token.specs.Layouts.{layout};
 ghost use Rattle.token.specs.Token.{rises, tells_all};
@@ -73,7 +73,8 @@ impl Version {
     // Writes the bytes of an entry.
     pub(crate) fn spell(self, entry: Dot, bytes: &mut [u8])
         requires { length bytes.old ≡ (layout self).entry_len }
-        ensures { bytes.new ≡ (layout self).bytes entry }
+        ensures bytes { bytes.new ≡ (layout self).bytes entry }
+        ensures vnode { entry.vnode < 2 ^ 32 }
     {
         match self {
             Version::First => join(&entry.vnode.to_be_bytes(), entry.n, bytes),
