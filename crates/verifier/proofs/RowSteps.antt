@@ -74,10 +74,39 @@ join_more profile i a b row k h g ek e =
     let ek' : k ≡ join_of profile (get_or a i Unset) (get_or b i Unset) = ek ∙ ap (λ x. join_of profile x (get_or b i Unset)) here in
     rw (e, ek', add-one) (join_suc profile i a b Unset h g)
 
+-- the same, joined into the second
+onto : Profile → ℕ → Row → Row → Row
+onto profile i a b = join_rows profile (take i a) (take i b) ++ drop i b
+
+onto_suc : (profile : Profile) (i : ℕ) (a b : Row) (d : Kind) → i < length a → i < length b → set (onto profile i a b) i (join_of profile (get_or a i d) (get_or b i d)) ≡ onto profile (suc i) a b
+unfolding onto
+onto_suc profile i [] b d h g = absurd (omega arith)
+onto_suc profile i (x ∷ xs) [] d h g = absurd (omega arith)
+onto_suc profile zero (x ∷ xs) (y ∷ ys) d h g = refl
+onto_suc profile (suc i) (x ∷ xs) (y ∷ ys) d h g = ap (λ zs. join_of profile x y ∷ zs) (onto_suc profile i xs ys d (omega arith) (omega arith))
+
+onto_at : (profile : Profile) (i : ℕ) (a b : Row) (d : Kind) → i < length a → i < length b → get_or (onto profile i a b) i d ≡ get_or b i d
+unfolding onto
+onto_at profile i [] b d h g = absurd (omega arith)
+onto_at profile i (x ∷ xs) [] d h g = absurd (omega arith)
+onto_at profile zero (x ∷ xs) (y ∷ ys) d h g = refl
+onto_at profile (suc i) (x ∷ xs) (y ∷ ys) d h g = onto_at profile i xs ys d (omega arith) (omega arith)
+
+pub join_onto_more : (profile : Profile) (i : ℕ) (a b row : Row) (k : Kind) → i < length a → i < length b → k ≡ join_of profile (get_or a i Unset) (get_or row i Unset) → row ≡ join_rows profile (take i a) (take i b) ++ drop i b → set row i k ≡ join_rows profile (take (i + 1) a) (take (i + 1) b) ++ drop (i + 1) b
+unfolding onto
+join_onto_more profile i a b row k h g ek e =
+    let here : get_or row i Unset ≡ get_or b i Unset = ap (λ r. get_or r i Unset) e ∙ onto_at profile i a b Unset h g in
+    let ek' : k ≡ join_of profile (get_or a i Unset) (get_or b i Unset) = ek ∙ ap (join_of profile (get_or a i Unset)) here in
+    rw (e, ek', add-one) (onto_suc profile i a b Unset h g)
+
 row_is : (rows : List (Option Row)) (k : ℕ) (d : Option Row) → k < length rows → get_or rows k d ≡ row_at rows k
 row_is [] k d h = absurd (omega arith)
 row_is (r ∷ rows) zero d h = refl
 row_is (r ∷ rows) (suc k) d h = row_is rows k d (omega arith)
+
+-- a row that is read is the row there
+pub read_row : (rows : List (Option Row)) (k : ℕ) (o : Option Row) → k < length rows → o ≡ get_or rows k o → o ≡ row_at rows k
+read_row rows k o h e = e ∙ row_is rows k o h
 
 pub pushed_at : (profile : Profile) (rows : List (Option Row)) (k : ℕ) (o next : Option Row) (row : Row) → k < length rows → o ≡ get_or rows k o → next ≡ joined profile o row → set rows k next ≡ set rows k (joined profile (row_at rows k) row)
 pushed_at profile rows k o next row h e n = ap (set rows k) (n ∙ ap (λ q. joined profile q row) (e ∙ row_is rows k o h))

@@ -83,6 +83,11 @@ length_pushed profile (e ∷ es) rows = length_pushed profile es (push_one profi
 pub row_here : (p : Program) (rows : List (Option Row)) (here : Option Row) (i : ℕ) → IsPass p rows here i → i < length p.code → slice_get (table p) i ≡ Some here
 row_here p rows here i h lt = table_at p i lt ∙ ap Some (sym h.here_is)
 
+pub row_there : (rows : List (Option Row)) (k : ℕ) → k < length rows → slice_get rows k ≡ Some (row_at rows k)
+row_there [] k h = absurd (omega arith)
+row_there (r ∷ rows) zero h = refl
+row_there (r ∷ rows) (suc k) h = row_there rows k (omega arith)
+
 missed : (profile : Profile) (k : ℕ) (es : List Edge) (o : Option Row) → Misses k es → into profile k es o ≡ o
 missed profile k [] o m = refl
 missed profile k (e ∷ es) o m = ap (into profile k es) (cond-false (eqb e.0 k) (joined profile o e.1) o (ne_eqb e.0 k m.0)) ∙ missed profile k es o m.1
@@ -103,23 +108,23 @@ module _ (p : Program) (rows : List (Option Row)) (here : Option Row) (i : ℕ) 
         rows_are = λ k above within. all_edges p.profile rows es k _ (h.rows_are k (omega arith) (omega (arith, len))) ∙ ap Some (arrive k);
       }
 
-  -- where its row goes on as it stands
-  pub pass_alone : (row : Row) (fs : List Edge) → es ≡ (i + 1, row) ∷ fs → slice_get rows (i + 1) ≡ Some None → Misses (i + 1) fs → IsPass p (pushed p.profile rows fs) (Some row) (i + 1)
-  pass_alone row fs e none m =
+  -- where what waits for the next slot is joined into its row, which goes on
+  pub pass_alone : (row next : Row) (o : Option Row) (fs : List Edge) → es ≡ (i + 1, row) ∷ fs → slice_get rows (i + 1) ≡ Some o → Some next ≡ joined p.profile o row → Misses (i + 1) fs → IsPass p (pushed p.profile rows fs) (Some next) (i + 1)
+  pass_alone row next o fs e kept on m =
       let len = length_pushed p.profile fs rows in
-      let empty : arrivals p (table p) i (i + 1) ≡ None = same_Some _ _ (sym (h.rows_are (i + 1) (omega arith) (omega (arith, h.long, lt))) ∙ none) in
+      let was : arrivals p (table p) i (i + 1) ≡ o = same_Some _ _ (sym (h.rows_are (i + 1) (omega arith) (omega (arith, h.long, lt))) ∙ kept) in
       record {
         long = len ∙ h.long;
         here_is =
             sym
             (sym (arrive (i + 1))
             ∙ ap (λ xs. into p.profile (i + 1) xs (arrivals p (table p) i (i + 1))) e
-            ∙ ap (into p.profile (i + 1) ((i + 1, row) ∷ fs)) empty
-            ∙ ap (into p.profile (i + 1) fs) (cond-true (eqb (i + 1) (i + 1)) (Some row) None (eq-eqb (i + 1) (i + 1) refl))
-            ∙ missed p.profile (i + 1) fs (Some row) m);
+            ∙ ap (into p.profile (i + 1) ((i + 1, row) ∷ fs)) was
+            ∙ ap (into p.profile (i + 1) fs) (cond-true (eqb (i + 1) (i + 1)) (joined p.profile o row) o (eq-eqb (i + 1) (i + 1) refl) ∙ sym on)
+            ∙ missed p.profile (i + 1) fs (Some next) m);
         rows_are = λ k above within.
             all_edges p.profile rows fs k _ (h.rows_are k (omega arith) (omega (arith, len)))
-            ∙ ap (λ o. Some (into p.profile k fs o)) (sym (cond-false (eqb (i + 1) k) (joined p.profile (arrivals p (table p) i k) row) (arrivals p (table p) i k) (ne_eqb (i + 1) k (λ q. omega (arith, q)))))
+            ∙ ap (λ q. Some (into p.profile k fs q)) (sym (cond-false (eqb (i + 1) k) (joined p.profile (arrivals p (table p) i k) row) (arrivals p (table p) i k) (ne_eqb (i + 1) k (λ q. omega (arith, q)))))
             ∙ ap (λ xs. Some (into p.profile k xs (arrivals p (table p) i k))) (sym e)
             ∙ ap Some (arrive k);
       }

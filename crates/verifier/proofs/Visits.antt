@@ -15,10 +15,10 @@ use Rattle.verifier.specs.Registers.{Row}
 use Rattle.helpers.specs.Calls.{Callee}
 use Rattle.bpfimage.specs.Form.{next_of, target_of}
 use Rattle.verifier.specs.Rules.{callee_in, broken_in, row_after, row_taken}
-use Rattle.verifier.specs.Rows.{pushed, Misses, IsPass}
-use Rattle.verifier.specs.Table.{Edge, next_edge, target_edge, edges_from, edges_of, table, broken_with, broken_at, IsAccepted}
+use Rattle.verifier.specs.Rows.{row_at, pushed, Misses, IsPass}
+use Rattle.verifier.specs.Table.{Edge, joined, next_edge, target_edge, edges_from, edges_of, table, broken_with, broken_at, IsAccepted}
 use Rattle.verifier.specs.declared.rule.KindRule.{KindRule}
-use Rattle.verifier.proofs.Tables.{row_here, pass_all, pass_alone}
+use Rattle.verifier.proofs.Tables.{row_here, row_there, pass_all, pass_alone}
 
 no_rule : (p : Program) (o : Option Insn) → broken_with p o (Some None) ≡ None
 no_rule p None = refl
@@ -55,11 +55,11 @@ module _ (p : Program) (rows : List (Option Row)) (i : ℕ) (within : i < length
           subst (λ xs. IsPass p xs next (i + 1)) (sym are)
           (pass_all p rows (Some row) i es pass within (edges_are ∙ edges_here) next (ap (λ xs. slice_get xs (i + 1)) (sym are) ∙ e))
 
-      pub alone_here : (rows' : List (Option Row)) → rows' ≡ pushed p.profile rows fs → next_of i x ≡ Some (i + 1) → slice_get rows (i + 1) ≡ Some None → Misses (i + 1) fs → IsPass p rows' (Some after) (i + 1)
-      alone_here rows' are on none m =
+      pub alone_here : (rows' : List (Option Row)) (next : Row) → rows' ≡ pushed p.profile rows fs → next_of i x ≡ Some (i + 1) → Some next ≡ joined p.profile (row_at rows (i + 1)) after → Misses (i + 1) fs → IsPass p rows' (Some next) (i + 1)
+      alone_here rows' next are on kept m =
           let es = next_edge (next_of i x) after ++ fs in
-          subst (λ xs. IsPass p xs (Some after) (i + 1)) (sym are)
-          (pass_alone p rows (Some row) i es pass within (edges_are ∙ edges_here) after fs (ap (λ o. next_edge o after ++ fs) on) none m)
+          subst (λ xs. IsPass p xs (Some next) (i + 1)) (sym are)
+          (pass_alone p rows (Some row) i es pass within (edges_are ∙ edges_here) after next (row_at rows (i + 1)) fs (ap (λ o. next_edge o after ++ fs) on) (row_there rows (i + 1) (omega (arith, pass.long, within))) kept m)
 
 past_code : (p : Program) (k : ℕ) → length p.code ≤ k → broken_at p k ≡ None
 past_code p k h = ap (λ o. broken_with p o (slice_get (table p) k)) (slice_get_past p.code k h)

@@ -96,5 +96,4 @@ returns-else-not-lead_on-clause-pass g c =
     let p = program_in c.args.program.now in
     let rows = c.args.rows.now.items in
     let insn = slice_get_read c.args.program.now.image.code.items c.args.program.now.image.code.len c.args.at c.index-insn.result.now c.args.program.now.image.code.ok.0 (omega (arith, c.requires.within, c.args.program.now.image.code.ok.0)) c.index-insn.ensures in
-    let alone = c.if-not-lead_on.ensures.alone refl in
-    alone_here p rows c.args.at c.requires.within c.in-Some.row c.index-insn.result.now (subst (λ o. IsPass p rows o c.args.at) c.in-Some.is c.requires.pass) insn (callee_from c.callee_in-callee.result) c.advance.new.row (edge_list c.taken_edge-target.result c.taken_edge-target.new.taken) c.callee_in-callee.ensures c.in_default-advance.ensures.row c.taken_edge-target.ensures.edge c.lead_on.new.rows.items (c.if-not-lead_on.ensures.rest refl) alone.0 alone.1 alone.2
+    alone_here p rows c.args.at c.requires.within c.in-Some.row c.index-insn.result.now (subst (λ o. IsPass p rows o c.args.at) c.in-Some.is c.requires.pass) insn (callee_from c.callee_in-callee.result) c.advance.new.row (edge_list c.taken_edge-target.result c.taken_edge-target.new.taken) c.callee_in-callee.ensures c.in_default-advance.ensures.row c.taken_edge-target.ensures.edge c.lead_on.new.rows.items c.lead_on.new.row (c.if-not-lead_on.ensures.rest refl) (c.if-not-lead_on.ensures.on refl) (c.if-not-lead_on.ensures.joined refl) (c.if-not-lead_on.ensures.misses refl)
