@@ -120,6 +120,13 @@ const REMAINDERS: &[Row] = &[(W64, FULL, One(10), Ok(Bits(0, 9, !15, 0)))];
 /// Of signed quotients and remainders, and of numbers whose sign is extended, no bits are known but by their width.
 const SIGNED: &[Row] = &[(W64, BYTE, BYTE, Ok(FULL)), (W32, BYTE, BYTE, Ok(WORD))];
 
+/// A word whose sign is extended, which an instruction of 64 bits alone does.
+const WORDS_EXTENDED: &[Row] = &[
+    (W64, Unset, BYTE, Ok(FULL)),
+    (W64, Unset, One(HALF_32), Ok(One(MAX - HALF_32 + 1))),
+    (W64, Unset, Dead, Ok(Dead)),
+];
+
 const NEGATIONS: &[Row] = &[
     (W64, BYTE, Unset, Ok(FULL)),
     (W32, BYTE, Unset, Ok(WORD)),
@@ -144,6 +151,7 @@ const OPERATIONS: &[(Op, &[Row])] = &[
     (SignedMod, SIGNED),
     (Movsx8, SIGNED),
     (Movsx16, SIGNED),
+    (Movsx32, WORDS_EXTENDED),
     (Neg, NEGATIONS),
 ];
 
