@@ -21,7 +21,7 @@ count_of word = if is_count word && nat_lt (digits_value 10 word) (2 ^ 32) then 
 abbrev pub number_of : List ℕ → Option ℕ
 number_of word = if pointwise nat_eq word (codes "0") then Some 0 else count_of word
 
--- the index of a vnode that one spells, of whatever length: a script has 64 vnodes at most, so that one past 2^32 - 1 names no vnode, as 2^32 - 1 itself
+-- the index of a vnode that one spells, of whatever length: a script has 255 vnodes at most, so that one past 2^32 - 1 names no vnode, as 2^32 - 1 itself
 abbrev pub vnode_of : List ℕ → Option ℕ
 vnode_of word =
     if pointwise nat_eq word (codes "0") then Some 0 else (if is_count word then Some (min (digits_value 10 word) (2 ^ 32 - 1)) else None)

@@ -51,7 +51,7 @@ count_yes p xs x passes = sum_by-append (λ y. cond (p y) 1 0) xs (x ∷ []) ∙
 -- a script that can be run still can with one event more that may come
 pub one_more : (used : List ℕ) (listed : List Entry) (old new : Script) (event : Event) (answered : Answered) → IsRunnableFrom used listed old → MayComeFrom used old.vnodes listed old.events.items event → IsOneMore old event answered new → tells_event answered ≡ true → IsRunnableFrom used listed new
 one_more used listed old new event answered runnable comes more tells = record {
-  few = subst (λ (n : ℕ). n ≤ 64) (sym more.vnodes) runnable.few;
+  few = subst (λ (n : ℕ). n ≤ 255) (sym more.vnodes) runnable.few;
   events = subst (λ (n : ℕ). AreRunnableFrom used n listed new.events.items) (sym more.vnodes) (subst (λ (es : List Event). AreRunnableFrom used old.vnodes listed es) (sym more.events) (runnable_more used old.vnodes listed old.events.items event runnable.events comes));
   told = ap (λ (lines : List Answered). count_by tells_event lines) more.answered ∙ count_yes tells_event old.answered.items answered tells ∙ ap (λ (n : ℕ). n + 1) runnable.told ∙ sym (length-append old.events.items (event ∷ [])) ∙ sym (ap (λ (es : List Event). length es) more.events);
 }

@@ -16,10 +16,10 @@ tells_event (answered.Refused fault) = false
 tells_event (answered.NotLetIn refusal) = false
 tells_event answered.Nothing = false
 
--- there are at most 64 vnodes, each event's vnode is one of them, what it names is an earlier get, summary, send, dump or run, no index had a load's incarnation
+-- there are at most 255 vnodes, each event's vnode is one of them, what it names is an earlier get, summary, send, dump or run, no index had a load's incarnation
 -- before, where these are in use from the start on, and a table of these helpers runs its hook; as many lines tell of an event as there are events
 pub record IsRunnableFrom (used : List ℕ) (listed : List Entry) (script : Script) : Type 0 where
-  pub few : script.vnodes ≤ 64
+  pub few : script.vnodes ≤ 255
   pub events : AreRunnableFrom used script.vnodes listed script.events.items
   pub told : count_by tells_event script.answered.items ≡ length script.events.items
 

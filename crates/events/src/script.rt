@@ -22,7 +22,7 @@ use token::TokenFault;
 use world::{Event, Hook, Seen};
 
 /// The most vnodes of a script.
-pub const MAX_VNODES: usize = 64;
+pub const MAX_VNODES: usize = 255;
 
 /// What a line that was read prints.
 #[derive(Drop)]

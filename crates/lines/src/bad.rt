@@ -19,7 +19,7 @@ pub enum BadLine<'a> {
     NoContext,
     /// The name of a file is no text.
     NoFileName,
-    /// A script has 1 to 64 vnodes.
+    /// A script has 1 to 255 vnodes.
     VnodeCount,
     /// There is a line `vnodes` already.
     VnodesAgain,
@@ -51,7 +51,7 @@ impl fmt::Display for BadLine<'_> {
             BadLine::NoWord => f.write_str("a word that is not 1 to 64 letters and digits"),
             BadLine::NoContext => f.write_str("a context that is none of -, @NAME and =TOKEN"),
             BadLine::NoFileName => f.write_str("a file name that is no text"),
-            BadLine::VnodeCount => f.write_str("vnodes are 1 to 64"),
+            BadLine::VnodeCount => f.write_str("vnodes are 1 to 255"),
             BadLine::VnodesAgain => f.write_str("vnodes stands once"),
             BadLine::NoVnode(vnode) => write!(f, "no vnode {vnode}"),
             BadLine::NoGet(name) => write_named(f, "get", name),

@@ -107,7 +107,7 @@ fn want_of(told: Told) -> Want<'static> {
     Want { out, err, status }
 }
 
-const SIBLINGS: &str = "0-1\n0-2\n0-1=a 0-2=b AQABAAAAAAAAAAAAAAAC\n";
+const SIBLINGS: &str = "0-1\n0-2\n0-1=a 0-2=b AgABAAAAAAAAAAAAAAI=\n";
 
 const KEYS: &str = "1-1\n1-1\n1-2\n0-1\n";
 
@@ -231,7 +231,7 @@ const LOADS: &[Load] = &[
         damage: Damage::None,
         words: ["load", "old", "7", "get"],
         told: (
-            "loaded 2\n1-1! 1-2=y AQABAAAAAQAAAAAAAAAC\n1-1=x AQABAAAAAQAAAAAAAAAB\nnone AQAA\n458753-1\n",
+            "loaded 2\n1-1! 1-2=y AgABAQAAAAAAAAAAAAI=\n1-1=x AgABAQAAAAAAAAAAAAE=\nnone AgAA\n458753-1\n",
             "",
             0,
         ),
@@ -432,7 +432,7 @@ fn many_keys(alloc: Global) -> Result<(String, String), AllocError> {
         out.push_str("0-1\n")?;
     }
     lines.push_str("get 0 k10000 g\n")?;
-    out.push_str("0-1=v10000 AQABAAAAAAAAAAAAAAAB\n")?;
+    out.push_str("0-1=v10000 AgABAAAAAAAAAAAAAAE=\n")?;
     Ok((lines, out))
 }
 

@@ -9,9 +9,27 @@ const PLAIN: &[(&str, &str, Want<'static>)] = &[
         "two siblings",
         "vnodes 1\nput 0 k a -\nput 0 k b -\nget 0 k g\n",
         Want {
-            out: "0-1\n0-2\n0-1=a 0-2=b AQABAAAAAAAAAAAAAAAC\n",
+            out: "0-1\n0-2\n0-1=a 0-2=b AgABAAAAAAAAAAAAAAI=\n",
             err: "",
             status: 0,
+        },
+    ),
+    (
+        "255 vnodes",
+        "vnodes 255\nput 254 k a -\nget 254 k g\n",
+        Want {
+            out: "254-1\n254-1=a AgAB/gAAAAAAAAAAAAE=\n",
+            err: "",
+            status: 0,
+        },
+    ),
+    (
+        "256 vnodes",
+        "vnodes 256\n",
+        Want {
+            out: "bad line 1\n",
+            err: "vnodes are 1 to 255\n",
+            status: 2,
         },
     ),
     (
@@ -140,7 +158,7 @@ const SCRIPTS: &[Script] = &[
     (
         "resolver_takes_first",
         "vnodes 3\nput 0 k a -\nput 1 k b -\nsend 1 k m\ndeliver m 0\nget 0 k g\nresolve g take.img\nput 2 k c -\nsend 2 k n\ndeliver n 0\ncommit 0 g\nget 0 k h\n",
-        "0-1\n1-1\nok\nchanged\n0-1=a 1-1=b AQACAAAAAAAAAAAAAAABAAAAAQAAAAAAAAAB\ntake 0\n2-1\nok\nchanged\n0-2\n0-2=a 2-1=c AQADAAAAAAAAAAAAAAACAAAAAQAAAAAAAAABAAAAAgAAAAAAAAAB\n",
+        "0-1\n1-1\nok\nchanged\n0-1=a 1-1=b AgACAAAAAAAAAAAAAAEBAAAAAAAAAAAAAQ==\ntake 0\n2-1\nok\nchanged\n0-2\n0-2=a 2-1=c AgADAAAAAAAAAAAAAAIBAAAAAAAAAAAAAQIAAAAAAAAAAAAB\n",
         0,
     ),
     (
@@ -152,7 +170,7 @@ const SCRIPTS: &[Script] = &[
     (
         "the newest sibling, by helper 19",
         "vnodes 2\nget 0 k e\nresolve e newest.img\nput 0 k a -\nput 1 k b -\nput 1 k c -\nsend 1 k m\ndeliver m 0\nget 0 k g\nresolve g newest.img\nresolve g keep.img\ncommit 0 g\nresolve g take.img\nresolve g newest.img\ncommit 0 g\nget 0 k h\n",
-        "none AQAA\nbad B3\n0-1\n1-1\n1-2\nok\nchanged\n0-1=a 1-1=b 1-2=c AQACAAAAAAAAAAAAAAABAAAAAQAAAAAAAAAC\ntake 2\nkeep\nnothing\ntake 0\ntake 2\n0-2\n0-2=c AQACAAAAAAAAAAAAAAACAAAAAQAAAAAAAAAC\n",
+        "none AgAA\nbad B3\n0-1\n1-1\n1-2\nok\nchanged\n0-1=a 1-1=b 1-2=c AgACAAAAAAAAAAAAAAEBAAAAAAAAAAAAAg==\ntake 2\nkeep\nnothing\ntake 0\ntake 2\n0-2\n0-2=c AgACAAAAAAAAAAAAAAIBAAAAAAAAAAAAAg==\n",
         0,
     ),
     (
@@ -164,25 +182,25 @@ const SCRIPTS: &[Script] = &[
     (
         "images of another kind",
         "vnodes 1\nget 0 k g\nresolve g no.img\nresolve g plain.img\ncheck 0 k a take.img\ncheck 0 k a plain.img\ncommit 0 g\n",
-        "none AQAA\nrefused G2\nrefused G2\nrefused G2\nrefused G2\nnothing\n",
+        "none AgAA\nrefused G2\nrefused G2\nrefused G2\nrefused G2\nnothing\n",
         0,
     ),
     (
         "damaged heads and code",
         "vnodes 1\nget 0 k g\nresolve g short.img\nresolve g mark.img\nresolve g version.img\nresolve g kind.img\nresolve g window.img\nresolve g cut.img\ncheck 0 k a mark.img\ncommit 0 g\n",
-        "none AQAA\nrefused I1\nrefused I2\nrefused I3\nrefused I4\nrefused I5\nrefused D7 0\nrefused I2\nnothing\n",
+        "none AgAA\nrefused I1\nrefused I2\nrefused I3\nrefused I4\nrefused I5\nrefused D7 0\nrefused I2\nnothing\n",
         0,
     ),
     (
         "images that the verifier refuses",
         "vnodes 1\nget 0 k g\nresolve g outside.img\nresolve g unknown.img\ncommit 0 g\n",
-        "none AQAA\nrefused V24 1\nrefused V27 0\nnothing\n",
+        "none AgAA\nrefused V24 1\nrefused V27 0\nnothing\n",
         0,
     ),
     (
         "no file to resolve by",
         "vnodes 1\nget 0 k g\nresolve g take.img\nresolve g absent.img\nput 0 k a -\n",
-        "none AQAA\nbad B3\nbad line 4\n",
+        "none AgAA\nbad B3\nbad line 4\n",
         2,
     ),
     (

@@ -63,15 +63,25 @@ def tag(dot):
     return f"{vnode}-{counter}"
 
 
-def token(entries, version=1, count=None):
+def index_first(vnode):
+    """A vnode's number as its index and its incarnation."""
+    return vnode % 65536, vnode // 65536
+
+
+def token(entries, version=2, count=None):
     """A context as text, from its entries, pairs of a vnode and a counter; one that doesn't read has another version or count."""
     head = struct.pack(">BH", version, len(entries) if count is None else count)
-    return base64.b64encode(head + b"".join(struct.pack(">IQ", *entry) for entry in entries)).decode()
+    if version == 1:
+        rows = [struct.pack(">IQ", vnode, counter) for vnode, counter in entries]
+    else:
+        rows = [struct.pack(">BHQ", *index_first(vnode), counter) for vnode, counter in entries]
+    return base64.b64encode(head + b"".join(rows)).decode()
 
 
-def context(clock):
-    """The context of a clock, a dictionary from vnodes to counters."""
-    return token(sorted(clock.items()))
+def context(clock, version=2):
+    """The context of a clock, a dictionary from vnodes to counters. Answers have version 2, since all indexes are below 255."""
+    order = index_first if version == 2 else None
+    return token([(vnode, clock[vnode]) for vnode in sorted(clock, key=order)], version)
 
 
 # Requests
@@ -91,8 +101,8 @@ def typed(media):
     return f"Content-Type: {media}"
 
 
-def seen(clock):
-    return f"X-Riak-Vclock: {context(clock)}"
+def seen(clock, version=2):
+    return f"X-Riak-Vclock: {context(clock, version)}"
 
 
 # Answers
@@ -170,11 +180,11 @@ def cart():
     yield request(f"PUT {ann.target}", typed(TEXT), body="milk"), written(one, 1)
     yield request(f"GET {ann.target}"), value({one: 1}, "milk")
 
-    # A write that has seen the first, and two that have seen the second, at two vnodes.
+    # A write that has seen the first, and two that have seen the second, at two vnodes. Contexts of version 1 are read too.
     yield request(f"PUT {ann.target}", typed(TEXT), seen({one: 1}), body="milk, bread"), written(one, 2)
     yield request(f"GET {ann.target}"), value({one: 2}, "milk, bread")
     yield request(f"PUT {ann.target}", typed(TEXT), seen({one: 2}), body="milk, bread, eggs"), written(one, 3)
-    yield request(f"PUT {ann.target}?at=1", typed(TEXT), seen({one: 2}), body="milk, rye --s0"), written(two, 1)
+    yield request(f"PUT {ann.target}?at=1", typed(TEXT), seen({one: 2}, version=1), body="milk, rye --s0"), written(two, 1)
     both = {one: 3, two: 1}
     yield request(f"GET {ann.target}"), choices(both, (one, 3), (two, 1))
     siblings = {(one, 3): "milk, bread, eggs", (two, 1): "milk, rye --s0"}
@@ -185,7 +195,7 @@ def cart():
     # What has seen both takes their place, and so does the delete of that.
     yield request(f"POST {ann.target}", typed(TEXT), seen(both), body="milk, rye, eggs"), written(one, 4)
     yield request(f"GET {ann.target}"), value({one: 4, two: 1}, "milk, rye, eggs")
-    yield request(f"DELETE {ann.target}", seen({one: 4, two: 1})), written(one, 5)
+    yield request(f"DELETE {ann.target}", seen({one: 4, two: 1}, version=1)), written(one, 5)
     gone = {one: 5, two: 1}
     yield request(f"GET {ann.target}"), not_found(gone)
     yield request(f"GET {ann.target}?vtag={tag((one, 5))}"), not_found(gone)
@@ -302,15 +312,28 @@ def refused():
     yield request(f"PUT /buckets/{'b' * 65}/keys/k", "X-Riak-Vclock: none", body="a"), told(400, "bad name")
 
     yield spoiled("no context"), told(400, "K1")
-    yield spoiled(token([(0, 1)]) + "="), told(400, "K1")
     yield spoiled(""), told(400, "K4")
-    yield spoiled(token([], version=2)), told(400, "K2")
-    yield spoiled(token([(0, 1)], count=2)), told(400, "K4")
-    yield spoiled(token([], count=1025)), told(400, "K5")
-    yield spoiled(token([(1, 1), (1, 2)])), told(400, "K3")
-    yield spoiled(token([(0, 0)])), told(400, "K5")
-    yield spoiled(token([(0, 2**62 + 1)])), told(400, "K5")
-    yield spoiled(token([(key.vnode(), 1)])), told(412, "P1")
+    for version in 0, 3:
+        yield spoiled(token([], version)), told(400, "K2")
+    for version in 1, 2:
+        yield spoiled(token([(0, 1)], version) + "="), told(400, "K1")
+        yield spoiled(token([(0, 1)], version, count=2)), told(400, "K4")
+        yield spoiled(token([], version, count=1025)), told(400, "K5")
+        yield spoiled(token([(1, 1), (1, 2)], version)), told(400, "K3")
+        yield spoiled(token([(0, 0)], version)), told(400, "K5")
+        yield spoiled(token([(0, 2**62 + 1)], version)), told(400, "K5")
+        yield spoiled(token([(key.vnode(), 1)], version)), told(412, "P1")
+    # Version 2 is padded where it has one entry.
+    yield spoiled(token([(0, 1)]).rstrip("=")), told(400, "K1")
+    # Version 1 rises by number, version 2 by index.
+    by_index = [(65536, 1), (1, 1)]
+    yield spoiled(token(by_index, 1)), told(400, "K3")
+    yield spoiled(token(by_index, 2)), told(412, "P1")
+    yield spoiled(token(by_index[::-1], 1)), told(412, "P1")
+    yield spoiled(token(by_index[::-1], 2)), told(400, "K3")
+    # An index of 255 has version 1 alone.
+    yield spoiled(token([(255, 1)], 1)), told(412, "P1")
+    yield spoiled(token([(255, 1)], 2)), told(400, "K5")
     yield request(f"PUT {key.target}", typed("t" * 128), body="a"), told(400, "bad type")
     yield request(f"PUT {key.target}", "Content-Type:", body="a"), told(400, "bad type")
     for props in ["", "props", '{"props":[]}', '{"props":{"precommit":1}}', '{"props":{"allow_mult":false}}']:
@@ -430,7 +453,7 @@ REFUSED = [
     ("DELETE /hooks/a%20b HTTP/1.1", "", BAD_NAME),
     ("PUT /hooks/%C3%BC HTTP/1.1", "", BAD_NAME),
     ("PUT /buckets/b/keys/k HTTP/1.1\r\nX-Riak-Vclock: AQA", "a", (400, "K1")),
-    ("PUT /buckets/b/keys/k HTTP/1.1\r\nX-Riak-Vclock: AgAA", "a", (400, "K2")),
+    ("PUT /buckets/b/keys/k HTTP/1.1\r\nX-Riak-Vclock: AwAA", "a", (400, "K2")),
     ("POST /buckets/b/keys/k HTTP/1.1\r\nx-riak-vclock: AQACAAAAAAAAAAAAAAABAAAAAAAAAAAAAAAB", "a", (400, "K3")),
     ("DELETE /buckets/b/keys/k HTTP/1.1\r\nX-Riak-Vclock:", "", (400, "K4")),
     ("DELETE /buckets/b/keys/k HTTP/1.1\r\nX-Riak-Vclock: Af//\r\nX-Riak-Vclock: AQAA", "", (400, "K5")),
@@ -584,7 +607,7 @@ def reads():
     yield request(f"{by_tag}{two}-10"), not_found(both)
 
     # A delete that has seen the first.
-    yield request(f"DELETE {key.target}", seen({one: 1})), written(one, 2)
+    yield request(f"DELETE {key.target}", seen({one: 1}, version=1)), written(one, 2)
     beside = {one: 2, two: 1}
     yield request(f"GET {key.target}"), choices(beside, (one, 2), (two, 1))
     yield request(f"{by_tag}{one}-2"), not_found(beside)

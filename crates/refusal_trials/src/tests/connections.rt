@@ -23,7 +23,7 @@ const NOTHING: &[u8] =
     b"HTTP/1.1 404 Not Found\r\nContent-Type: text/plain\r\nContent-Length: 10\r\n\r\nnot found\n";
 
 const FOUND: &[u8] =
-    b"HTTP/1.1 200 OK\r\nContent-Type: text/plain\r\nX-Riak-Vclock: AQABAAAAAAAAAAAAAAAB\r\nContent-Length: 1\r\n\r\na";
+    b"HTTP/1.1 200 OK\r\nContent-Type: text/plain\r\nX-Riak-Vclock: AgABAAAAAAAAAAAAAAE=\r\nContent-Length: 1\r\n\r\na";
 
 /// A write, a hook that refuses all and is bound, a write that it refuses, and a read, one after the other on one store.
 const EXCHANGES: [Exchange; 5] = [

@@ -10,7 +10,7 @@ use std::test::Fail;
 const BAD_LINES: &[(&str, &str)] = &[
     ("vnodes 1", "bad line 1\n"),
     ("vnodes 0\n", "bad line 1\n"),
-    ("vnodes 65\n", "bad line 1\n"),
+    ("vnodes 256\n", "bad line 1\n"),
     ("vnodes 01\n", "bad line 1\n"),
     ("vnodes +1\n", "bad line 1\n"),
     ("vnodes 18446744073709551617\n", "bad line 1\n"),
@@ -34,17 +34,17 @@ const BAD_LINES: &[(&str, &str)] = &[
     ("vnodes 1\nput 0  a -\n", "bad line 2\n"),
     (
         "vnodes 1\nget 0 1234567890123456789012345678901234567890123456789012345678901234 g\nget 0 12345678901234567890123456789012345678901234567890123456789012345 g\n",
-        "none AQAA\nbad line 3\n",
+        "none AgAA\nbad line 3\n",
     ),
     ("vnodes 1\ndel 0 k a -\n", "bad line 2\n"),
     ("vnodes 1\nsend 0 k m\nput 0 k a @m\n", "ok\nbad line 3\n"),
     (
         "vnodes 1\nget 0 k g\ndeliver g 0\n",
-        "none AQAA\nbad line 3\n",
+        "none AgAA\nbad line 3\n",
     ),
     (
         "vnodes 1\nget 0 k g\nsend 0 k g\nput 0 k a @g\n",
-        "none AQAA\nok\nbad line 4\n",
+        "none AgAA\nok\nbad line 4\n",
     ),
     ("vnodes 1\ndeliver m 0\n", "bad line 2\n"),
     ("vnodes 1\nsend 0 k m\ndeliver m 1\n", "ok\nbad line 3\n"),
@@ -57,15 +57,15 @@ const BAD_LINES: &[(&str, &str)] = &[
     ),
     (
         "vnodes 1\nget 0 k g\nresolve g absent.img\n",
-        "none AQAA\nbad line 3\n",
+        "none AgAA\nbad line 3\n",
     ),
     (
         "vnodes 1\nget 0 k g\nresolve g\n",
-        "none AQAA\nbad line 3\n",
+        "none AgAA\nbad line 3\n",
     ),
     (
         "vnodes 1\nget 0 k g\nresolve g take.img x\n",
-        "none AQAA\nbad line 3\n",
+        "none AgAA\nbad line 3\n",
     ),
     ("vnodes 1\ncommit 1 g\n", "bad line 2\n"),
     ("vnodes 1\ncommit 0\n", "bad line 2\n"),
@@ -188,11 +188,11 @@ fn behind(alloc: Global, line: &str) -> Result<String, AllocError> {
 
 /// Whole scripts, what they print, and why their last line is bad.
 const WHOLE: &[(&[u8], &str, &str)] = &[
-    (b"vnodes 0\n", "bad line 1\n", "vnodes are 1 to 64\n"),
-    (b"vnodes 65\n", "bad line 1\n", "vnodes are 1 to 64\n"),
+    (b"vnodes 0\n", "bad line 1\n", "vnodes are 1 to 255\n"),
+    (b"vnodes 256\n", "bad line 1\n", "vnodes are 1 to 255\n"),
     (
         b"vnodes 1\nget 0 k g\nresolve g \xff.img\n",
-        "none AQAA\nbad line 3\n",
+        "none AgAA\nbad line 3\n",
         "a file name that is no text\n",
     ),
     (b"dump 0 d\n", "bad line 1\n", "no vnode 0\n"),
@@ -228,12 +228,12 @@ const WHOLE: &[(&[u8], &str, &str)] = &[
     ),
     (
         b"vnodes 1\ndump 0 d\nget 0 k d\nload 0 1 d\n",
-        "dumped 0\nnone AQAA\nbad line 4\n",
+        "dumped 0\nnone AgAA\nbad line 4\n",
         "no dump named d\n",
     ),
     (
         b"vnodes 1\nget 0 k d\ndump 0 d\nput 0 k a @d\n",
-        "none AQAA\ndumped 0\nbad line 4\n",
+        "none AgAA\ndumped 0\nbad line 4\n",
         "no get named d\n",
     ),
     (
@@ -270,7 +270,7 @@ fn ends_for(alloc: Global, script: &[u8], want: &str, why: &str) -> io::Result<b
 fn reasons(rt: HostRuntime) -> Result<(), Fail> {
     for (line, why) in REASONS {
         let script = behind(rt.alloc(), line)?;
-        let want = "none AQAA\nok\nbad line 4\n";
+        let want = "none AgAA\nok\nbad line 4\n";
         expect(ends_for(rt.alloc(), script.as_bytes(), want, why)?, why)?;
     }
     Ok(())

@@ -17,7 +17,7 @@ fn read(alloc: Global, bytes: &[u8]) -> Result<([usize; 3], Option<BadAt<'_>>), 
 fn parses(rt: HostRuntime) -> Result<(), Fail> {
     let (counts, bad) = read(
         rt.alloc(),
-        b"vnodes 2\nput 1 k a -\nput 0 k a =AgAA\nget 1 k g\ncommit 1 g\nresolve g take.img\ncommit 1 g\ncheck 0 k a no.img\nrestart 2\n",
+        b"vnodes 2\nput 1 k a -\nput 0 k a =AwAA\nget 1 k g\ncommit 1 g\nresolve g take.img\ncommit 1 g\ncheck 0 k a no.img\nrestart 2\n",
     )?;
     let why = BadLine::NoVnode(2);
     assert!(rt; counts == [2, 5, 7] && bad == Some(BadAt { line: 9, why }));

@@ -59,7 +59,7 @@ const COMING: [&[u8]; 4] = [
 
 /// The answers to all of them.
 const TOLD: &[u8] =
-    b"HTTP/1.1 204 No Content\r\nX-Riak-Tag: 458752-1\r\n\r\nHTTP/1.1 204 No Content\r\nX-Riak-Tag: 458753-1\r\n\r\nHTTP/1.1 300 Multiple Choices\r\nContent-Type: text/plain\r\nX-Riak-Vclock: AQACAAcAAAAAAAAAAAABAAcAAQAAAAAAAAAB\r\nContent-Length: 28\r\n\r\nSiblings:\n458752-1\n458753-1\n";
+    b"HTTP/1.1 204 No Content\r\nX-Riak-Tag: 458752-1\r\n\r\nHTTP/1.1 204 No Content\r\nX-Riak-Tag: 458753-1\r\n\r\nHTTP/1.1 300 Multiple Choices\r\nContent-Type: text/plain\r\nX-Riak-Vclock: AgACAAAHAAAAAAAAAAEBAAcAAAAAAAAAAQ==\r\nContent-Length: 28\r\n\r\nSiblings:\n458752-1\n458753-1\n";
 
 /// How the server ends over these connections, and what it answered.
 fn over(

@@ -142,11 +142,11 @@ pub(super) const REQUESTS: &[(&str, &str)] = &[
     // two siblings that did not see each other, and reads of them
     (
         "PUT /buckets/b/keys/k?at=0 HTTP/1.1\r\nHost: h\r\nContent-Type: text/plain\r\nContent-Length: 1\r\n\r\na",
-        "94: put b k AQAA text/plain a 2 0",
+        "94: put b k AgAA text/plain a 2 0",
     ),
     (
         "PUT /buckets/b/keys/k?at=1 HTTP/1.1\r\nHost: h\r\nContent-Type: text/plain\r\nContent-Length: 1\r\n\r\nb",
-        "94: put b k AQAA text/plain b 2 1",
+        "94: put b k AgAA text/plain b 2 1",
     ),
     (
         "GET /buckets/b/keys/k HTTP/1.1\r\nHost: h\r\n\r\n",
@@ -171,16 +171,16 @@ pub(super) const REQUESTS: &[(&str, &str)] = &[
     // a context that is ahead of the store, and one beside another
     (
         "PUT /buckets/b/keys/k HTTP/1.1\r\nContent-Length: 1\r\nX-Riak-Vclock: AQABAAAAAQAAAAAAAAPo\r\n\r\nx",
-        "91: put b k AQABAAAAAQAAAAAAAAPo application/octet-stream x 2 0",
+        "91: put b k AgABAQAAAAAAAAAAA+g= application/octet-stream x 2 0",
     ),
     (
-        "DELETE /buckets/b/keys/k HTTP/1.1\r\nContent-Type:\r\nx-riak-vclock: AQABAAAAAAAAAAAAAAAB\r\nX-Riak-Vclock: AQA\r\n\r\n",
-        "109: put b k AQABAAAAAAAAAAAAAAAB ! 2 0",
+        "DELETE /buckets/b/keys/k HTTP/1.1\r\nContent-Type:\r\nx-riak-vclock: AgABAAAAAAAAAAAAAAE=\r\nX-Riak-Vclock: AQA\r\n\r\n",
+        "109: put b k AgABAAAAAAAAAAAAAAE= ! 2 0",
     ),
     // words of a query
     (
         "POST /buckets/b/keys/k?r=all&w=one&at=2&r=0&x=y HTTP/1.1\r\nContent-Length: 0\r\n\r\n",
-        "79: put b k AQAA application/octet-stream  1 2",
+        "79: put b k AgAA application/octet-stream  1 2",
     ),
     (
         "GET /buckets/b/keys/k?r=all&w=quorum&at=1 HTTP/1.1\r\n\r\n",
