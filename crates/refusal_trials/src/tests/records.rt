@@ -8,13 +8,13 @@ use std::test::Fail;
 use token::{TokenFault, read};
 use wire::{WireFault, read_record};
 
-/// `token::read` of the clock 0:1, 1:1.
-struct ReadContext;
+/// `token::read` of a text of the clock 1:1, 65536:2.
+struct ReadContext(&'static str);
 
 impl Trial for ReadContext {
     fn goes<R: Env + Wait>(&self, rt: &R, alloc: Global) -> Result<(bool, End), Fail> {
         begin(rt);
-        let back = read(alloc, "AQACAAAAAAAAAAAAAAABAAAAAQAAAAAAAAAB");
+        let back = read(alloc, self.0);
         let met = was_met(rt);
         let end = match back {
             Ok(clock) => end_of(clock.entries().len() == 2, false),
@@ -55,9 +55,18 @@ impl Trial for ReadRecord {
     }
 }
 
+/// The texts of version 1 and of version 2.
+const CONTEXTS: [&str; 2] = [
+    "AQACAAAAAQAAAAAAAAABAAEAAAAAAAAAAAAC",
+    "AgACAAABAAAAAAAAAAIBAAAAAAAAAAAAAQ==",
+];
+
 #[test]
 fn token_is_refused(rt: HostRuntime) -> Result<(), Fail> {
-    in_turn(&rt, rt.alloc(), &ReadContext)
+    for text in CONTEXTS {
+        in_turn(&rt, rt.alloc(), &ReadContext(text))?;
+    }
+    Ok(())
 }
 
 #[test]
