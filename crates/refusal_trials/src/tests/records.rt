@@ -9,6 +9,7 @@ use token::{TokenFault, read};
 use wire::{WireFault, read_record};
 
 /// `token::read` of a text of the clock 1:1, 65536:2.
+#[derive(Clone, Copy)]
 struct ReadContext(&'static str);
 
 impl Trial for ReadContext {
