@@ -12,6 +12,7 @@ const PLACES: &[Place] = &[
     (b"b", b"k", 3, 0),
     (b"b", b"k", 1, 0),
     (b"b", b"k", 64, 2),
+    (b"b", b"k", 255, 90),
     (b"bk", b"", 3, 0),
     (b"", b"bk", 64, 14),
     (b"bk", b"", 64, 40),
@@ -41,7 +42,7 @@ fn places(rt: HostRuntime) -> Result<(), Fail> {
 }
 
 /// How many vnodes there are, how many copies, and how many of these are a quorum.
-const QUORUMS: &[[u32; 3]] = &[[1, 1, 1], [2, 2, 2], [3, 3, 2], [4, 3, 2], [64, 3, 2]];
+const QUORUMS: &[[u32; 3]] = &[[1, 1, 1], [2, 2, 2], [3, 3, 2], [4, 3, 2], [255, 3, 2]];
 
 /// A place, how many vnodes there are, and the list that begins at it.
 const LISTS: &[(u32, u32, &[usize])] = &[
@@ -49,8 +50,8 @@ const LISTS: &[(u32, u32, &[usize])] = &[
     (1, 2, &[1, 0]),
     (0, 3, &[0, 1, 2]),
     (2, 3, &[2, 0, 1]),
-    (62, 64, &[62, 63, 0]),
-    (63, 64, &[63, 0, 1]),
+    (253, 255, &[253, 254, 0]),
+    (254, 255, &[254, 0, 1]),
     (u32::MAX - 1, u32::MAX, &[4_294_967_294, 0, 1]),
 ];
 
@@ -61,7 +62,7 @@ const OTHERS: &[(u32, u32, u32, &[usize])] = &[
     (2, 0, 3, &[0, 1]),
     (2, 1, 3, &[2, 1]),
     (2, 2, 3, &[2, 0]),
-    (63, 1, 64, &[63, 1]),
+    (254, 1, 255, &[254, 1]),
 ];
 
 #[test]
