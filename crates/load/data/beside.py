@@ -1,11 +1,12 @@
 #!/usr/bin/env python3
 """Asks this store, etcd (its v2 interface) and redis in turn, and tells the requests a second of each and their ratios.
 
-    beside.py DVVSTORE [ROUNDS [SECONDS]]
+    beside.py DVVSTORE [ROUNDS [SECONDS [THREADS]]]
 
 Values of 100 bytes under 1,000 keys, over loopback, at 1, 2 and 4 connections that are asked at the same time, one request at a time each.
-The store has as many workers as there are connections. All three are asked by one client, asker.c, which cc compiles, on one thread. etcd's data
-lie in memory, and redis saves nothing. What is told is the middle of the rounds. Debian: etcd-server redis-server gcc.
+The store has as many workers as there are connections. All three are asked by one client, asker.c, which cc compiles, on one thread, or, where THREADS
+is said, on so many at most: 4 gives each connection its own. etcd's data lie in memory, and redis saves nothing. What is told is the middle of the
+rounds. Debian: etcd-server redis-server gcc.
 """
 import os
 import statistics
@@ -25,22 +26,22 @@ def compile_asker(folder):
     subprocess.run(["cc", "-O2", "-pthread", "-o", folder / "asker", source], check=True)
 
 
-def ask(folder, who, method, port, connections, seconds):
+def ask(folder, who, method, port, connections, seconds, threads):
     """Requests a second."""
-    words = [folder / "asker", who, method, str(port), str(connections), str(seconds)]
+    words = [folder / "asker", who, method, str(port), str(connections), str(seconds), str(min(connections, threads))]
     asked = subprocess.run(words, stdout=subprocess.PIPE, stderr=subprocess.PIPE, text=True, timeout=seconds + 30)
     if asked.returncode:
         sys.exit(f"{who} {method}: {asked.stderr}")
     return float(asked.stdout.split()[0])
 
 
-def of_store(program, folder, port, connections, seconds):
+def of_store(program, folder, port, connections, seconds, threads):
     """Requests a second, of writes and of reads, by a server of their own whose journals are one run at the end."""
     words = [program, "serve", f"127.0.0.1:{port}", str(connections), str(connections * 2)]
     with subprocess.Popen(words, stdout=subprocess.PIPE, text=True) as server:
         try:
             time.sleep(0.3)
-            rates = [ask(folder, "store", method, port, connections, seconds) for method in ("PUT", "GET")]
+            rates = [ask(folder, "store", method, port, connections, seconds, threads) for method in ("PUT", "GET")]
             said = server.communicate(timeout=60)[0]
         finally:
             server.kill()
@@ -65,7 +66,7 @@ def load():
     return os.getloadavg()[0]
 
 
-def main(program, rounds=3, seconds=2):
+def main(program, rounds=3, seconds=2, threads=1):
     rates = {}
     with tempfile.TemporaryDirectory(dir="/dev/shm") as name:
         folder = Path(name)
@@ -74,14 +75,14 @@ def main(program, rounds=3, seconds=2):
         try:
             time.sleep(3)
             urllib.request.urlopen(f"http://127.0.0.1:{ETCD}/v2/keys/", timeout=5).read()
-            print(f"{os.cpu_count()} processors, load {load():.1f}; {rounds} rounds of {seconds} seconds", flush=True)
+            print(f"{os.cpu_count()} processors, load {load():.1f}; {rounds} rounds of {seconds} seconds, a client of at most {threads} threads", flush=True)
             port = STORE
             for _ in range(rounds):
                 for connections in CONNECTIONS:
                     port += 1
-                    given = {"store": of_store(program, folder, port, connections, seconds)}
+                    given = {"store": of_store(program, folder, port, connections, seconds, threads)}
                     for who, at in (("etcd", ETCD), ("redis", REDIS)):
-                        given[who] = [ask(folder, who, method, at, connections, seconds) for method in ("PUT", "GET")]
+                        given[who] = [ask(folder, who, method, at, connections, seconds, threads) for method in ("PUT", "GET")]
                     for who, both in given.items():
                         for method, rate in zip(("PUT", "GET"), both):
                             rates.setdefault((who, method, connections), []).append(rate)
