@@ -2,7 +2,7 @@ use Rattle.std.proofs.Common.{rules}
 use Rattle.std.specs.Prelude.{nat_lt}
 use Rattle.std.proofs.lemmas.Fn.{always_returns_same}
 use Rattle.token.specs.Layouts.{layout}
-use Rattle.token.proofs.Tokens.{adjacent_answer}
+use Rattle.token.proofs.Tests.{adjacent_answer}
 use Rattle.token.proofs.version.Version.are_rising.Goals as goal
 
 -- the closure compares the numbers of neighbours
