@@ -1,4 +1,4 @@
-use Rattle.std.proofs.Common.{List, true, sym, subst, arith, refl}
+use Rattle.std.proofs.Common.{List, sym, subst, arith, refl}
 use Rattle.world.specs.declared.event.Event.{Event}
 use Rattle.world.specs.Running.{IsDumpAt, IsUsed}
 use Rattle.events.proofs.Growing.{one_more}
