@@ -1,4 +1,5 @@
 pub mod RowSteps
+pub mod Waits
 pub mod Words
 pub mod SameReads
 pub mod Fits

@@ -8,6 +8,7 @@ pub mod Answered
 pub mod Rules
 pub mod Table
 pub mod Rows
+pub mod Waiting
 pub mod Verdict
 pub mod Plain
 pub mod Lowered

@@ -1,18 +1,21 @@
-//! Rows that wait for the slots to which jumps lead.
+//! Edges, which are joined into what waits for their targets.
 
-ghost use Rattle.std.specs.Prelude.{◌≡◌, ◌<◌, ◌+◌, ◌++◌, ℕ, ℤ, true, false, pos, Some, None, slice_get, vec_len};
+ghost use Rattle.std.specs.Prelude.{◌≡◌, ◌<◌, ◌+◌, ◌++◌, ℕ, ℤ, IfOk, true, false, pos, Some, None, length, slice_set};
 ghost use Rattle.bpfimage.specs.Form.{next_of, target_of};
 ghost use Rattle.verifier.specs.Rules.{row_taken};
 ghost use Rattle.verifier.specs.Table.{join_rows, joined, next_edge, target_edge, AreKinds};
 ghost use Rattle.verifier.specs.Registers.{one_number};
 ghost use Rattle.ranges.specs.Kinds.{IsKind};
 ghost use Rattle.ranges.specs.Transfer.{join_of};
-ghost use Rattle.verifier.specs.Rows.{row_at, push_one, pushed, edge_list, LeadBelow, HaveKinds, Misses, HasKinds, AreRowKinds};
+ghost use Rattle.verifier.specs.Rows.{row_at, push_one, pushed, edge_list, LeadBelow, HaveKinds, Misses, AreRowKinds};
+ghost use Rattle.verifier.specs.Waiting.{waiting};
 
 use crate::kinds::{one_number, write_taken};
+use crate::waiting::{Waiting, free, place_of, wait};
 use bpfimage::form::{next_of, target_of};
 use insn::Insn;
 use ranges::{Kind, Profile, join};
+use std::alloc::AllocError;
 
 /// Joins a kind into one that was there before. Two that are the zero with which a cell of the stack begins, as most cells do, are
 /// joined without more ado.
@@ -69,46 +72,69 @@ fn join_row_onto<const N: usize>(profile: Profile, kept: &[Kind; N], new: &mut [
     }
 }
 
-/// Joins an edge's kinds onto what was there before, if anything was.
-fn join_onto<const N: usize>(profile: Profile, kept: &Option<[Kind; N]>, row: &mut [Kind; N])
-    requires kept { HasKinds kept.now }
+/// Joins what waits for a slot, if anything does, onto an edge's kinds. It waits no more.
+fn join_waiting<const N: usize>(
+    profile: Profile,
+    rows: &mut Waiting<N>,
+    slot: usize,
+    row: &mut [Kind; N],
+)
+    requires within { slot < length (waiting rows.old) }
+    requires old { AreRowKinds (waiting rows.old) }
     requires kinds { AreKinds row.old }
-    ensures row { Some row.new ≡ joined profile kept.now row.old }
+    ensures row { Some row.new ≡ joined profile (row_at (waiting rows.old) slot) row.old }
+    ensures rows { waiting rows.new ≡ slice_set (waiting rows.old) slot None }
     ensures kinds { AreKinds row.new }
 {
-    if let Some(kept) = kept {
-        join_row_onto(profile, kept, row);
+    if let Some(place) = place_of(rows, slot) {
+        join_row_onto(profile, &rows.held[place].kinds, row);
+        free(rows, slot, place);
     }
 }
 
-/// Joins an edge's kinds into what was there before, if anything was.
-fn join_edge<const N: usize>(profile: Profile, kept: &mut Option<[Kind; N]>, row: &[Kind; N])
-    requires old { HasKinds kept.old }
-    requires kinds { AreKinds row.now }
-    ensures row { kept.new ≡ joined profile kept.old row.now }
-    ensures kinds { HasKinds kept.new }
+/// Takes a copy of what waits for a slot, if anything does. It waits no more.
+pub fn take_waiting<const N: usize>(
+    rows: &mut Waiting<N>,
+    slot: usize,
+    here: &mut Option<[Kind; N]>,
+)
+    requires within { slot < length (waiting rows.old) }
+    ensures here { here.new ≡ row_at (waiting rows.old) slot }
+    ensures rows { waiting rows.new ≡ slice_set (waiting rows.old) slot None }
 {
-    match kept {
-        Some(kept) => join_row(profile, kept, row),
-        None => *kept = Some(*row),
+    match place_of(rows, slot) {
+        Some(place) => {
+            let kinds = &rows.held[place].kinds;
+            match here {
+                Some(row) => row.copy_from_slice(kinds),
+                None => *here = Some(*kinds),
+            }
+            free(rows, slot, place);
+        }
+        None => *here = None,
     }
 }
 
-/// Joins an edge's kinds into its target's row.
+/// Joins an edge's kinds into what waits for its target.
 fn push_edge<const N: usize>(
     profile: Profile,
-    rows: &mut Vec<Option<[Kind; N]>>,
+    rows: &mut Waiting<N>,
     to: usize,
     row: &[Kind; N],
-)
-    requires within { to < vec_len rows.old }
+) -> Result<(), AllocError>
+    requires within { to < length (waiting rows.old) }
     requires kinds { AreKinds row.now }
-    requires old { AreRowKinds rows.old.items }
-    ensures items { rows.new.items ≡ push_one profile rows.old.items (to, row.now) }
-    ensures len { vec_len rows.new ≡ vec_len rows.old }
-    ensures kinds { AreRowKinds rows.new.items }
+    requires old { AreRowKinds (waiting rows.old) }
+    ensures rows { IfOk result (λ _. waiting rows.new ≡ push_one profile (waiting rows.old) (to, row.now)) }
+    ensures kinds { IfOk result (λ _. AreRowKinds (waiting rows.new)) }
 {
-    join_edge(profile, &mut rows[to], row);
+    match place_of(rows, to) {
+        Some(place) => {
+            join_row(profile, &mut rows.held[place].kinds, row);
+            Ok(())
+        }
+        None => wait(rows, to, row),
+    }
 }
 
 /// The edge of a jump: where it leads. The kinds that it brings there are written over a row.
@@ -134,61 +160,60 @@ pub fn taken_edge<const N: usize>(
     }
 }
 
-/// Joins a jump's edge, if there is one, into its target's row.
+/// Joins a jump's edge, if there is one, into what waits for its target.
 fn push_taken<const N: usize>(
     profile: Profile,
-    rows: &mut Vec<Option<[Kind; N]>>,
+    rows: &mut Waiting<N>,
     target: Option<usize>,
     taken: &[Kind; N],
-)
-    requires within { LeadBelow (vec_len rows.old) (edge_list target taken.now) }
+) -> Result<(), AllocError>
+    requires within { LeadBelow (length (waiting rows.old)) (edge_list target taken.now) }
     requires kinds { HaveKinds (edge_list target taken.now) }
-    requires old { AreRowKinds rows.old.items }
-    ensures items { rows.new.items ≡ pushed profile rows.old.items (edge_list target taken.now) }
-    ensures len { vec_len rows.new ≡ vec_len rows.old }
-    ensures kinds { AreRowKinds rows.new.items }
+    requires old { AreRowKinds (waiting rows.old) }
+    ensures rows { IfOk result (λ _. waiting rows.new ≡ pushed profile (waiting rows.old) (edge_list target taken.now)) }
+    ensures kinds { IfOk result (λ _. AreRowKinds (waiting rows.new)) }
 {
-    if let Some(target) = target {
-        push_edge(profile, rows, target, taken);
+    match target {
+        Some(target) => push_edge(profile, rows, target, taken),
+        None => Ok(()),
     }
 }
 
-/// Joins an instruction's edges into the rows of their targets: that of its jump, and that of its own row after it. Where it goes on
-/// to the next slot and no jump of its own leads there, the answer is true: what waits for that slot is joined into this row, which
-/// goes on in its place.
+/// Joins an instruction's edges into what waits for their targets: that of its jump, and that of its own row after it. Where it goes
+/// on to the next slot and no jump of its own leads there, the answer is true: what waits for that slot is joined into this row,
+/// which goes on in its place. A row that waits for a slot for which none did may find no memory.
 pub fn lead_on<const N: usize>(
     profile: Profile,
-    rows: &mut Vec<Option<[Kind; N]>>,
+    rows: &mut Waiting<N>,
     at: usize,
     row: &mut [Kind; N],
     insn: Insn,
     target: Option<usize>,
     taken: &[Kind; N],
-) -> bool
+) -> Result<bool, AllocError>
     requires small { at < 4096 }
-    requires next { (k : ℕ) → next_of at insn ≡ Some k → k < vec_len rows.old }
-    requires within { LeadBelow (vec_len rows.old) (edge_list target taken.now) }
+    requires next { (k : ℕ) → next_of at insn ≡ Some k → k < length (waiting rows.old) }
+    requires within { LeadBelow (length (waiting rows.old)) (edge_list target taken.now) }
     requires kinds { AreKinds row.old }
     requires taken_kinds { HaveKinds (edge_list target taken.now) }
-    requires old { AreRowKinds rows.old.items }
-    ensures on { result ≡ true → next_of at insn ≡ Some (at + 1) }
-    ensures joined { result ≡ true → Some row.new ≡ joined profile (row_at rows.old.items (at + 1)) row.old }
-    ensures misses { result ≡ true → Misses (at + 1) (edge_list target taken.now) }
-    ensures rest { result ≡ true → rows.new.items ≡ pushed profile rows.old.items (edge_list target taken.now) }
-    ensures all { result ≡ false → rows.new.items ≡ pushed profile rows.old.items (next_edge (next_of at insn) row.old ++ edge_list target taken.now) }
-    ensures len { vec_len rows.new ≡ vec_len rows.old }
-    ensures kinds { AreRowKinds rows.new.items }
-    ensures row { AreKinds row.new }
+    requires old { AreRowKinds (waiting rows.old) }
+    ensures on { IfOk result (λ on. on ≡ true → next_of at insn ≡ Some (at + 1)) }
+    ensures joined { IfOk result (λ on. on ≡ true → Some row.new ≡ joined profile (row_at (waiting rows.old) (at + 1)) row.old) }
+    ensures misses { IfOk result (λ on. on ≡ true → Misses (at + 1) (edge_list target taken.now)) }
+    ensures rest { IfOk result (λ on. on ≡ true → waiting rows.new ≡ pushed profile (slice_set (waiting rows.old) (at + 1) None) (edge_list target taken.now)) }
+    ensures all { IfOk result (λ on. on ≡ false → waiting rows.new ≡ pushed profile (waiting rows.old) (next_edge (next_of at insn) row.old ++ edge_list target taken.now)) }
+    ensures kinds { IfOk result (λ _. AreRowKinds (waiting rows.new)) }
+    ensures row { IfOk result (λ _. AreKinds row.new) }
 {
     let next = next_of(at, insn);
     if next == Some(at + 1) && target != Some(at + 1) {
-        join_onto(profile, &rows[at + 1], row);
-        push_taken(profile, rows, target, taken);
-        return true;
+        join_waiting(profile, rows, at + 1, row);
+        push_taken(profile, rows, target, taken)?;
+        return Ok(true);
     }
     if let Some(next) = next {
-        push_edge(profile, rows, next, row);
+        push_edge(profile, rows, next, row)?;
     }
-    push_taken(profile, rows, target, taken);
-    false
+    push_taken(profile, rows, target, taken)?;
+    Ok(false)
 }

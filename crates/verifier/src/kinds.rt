@@ -136,7 +136,7 @@ pub fn write_taken<const N: usize>(
     ensures table { taken.new ≡ row_taken profile row.now insn }
     ensures kinds { AreKinds taken.new }
 {
-    *taken = *row;
+    taken.copy_from_slice(row);
     if let Insn::JumpIf {
         cond,
         width,

@@ -13,6 +13,7 @@ mod slots;
 mod span;
 pub mod verified;
 pub mod verifying;
+mod waiting;
 mod windows;
 
 pub use bpfimage::{FormRule, Image, ImageFault, ImageKind, raw_image, read_image};

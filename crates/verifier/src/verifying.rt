@@ -8,18 +8,20 @@ ghost use Rattle.verifier.specs.Candidates.{program_in};
 ghost use Rattle.verifier.specs.Registers.{cell_count, entry};
 ghost use Rattle.verifier.specs.Table.{IsAccepted, IsFirstRule, broken_at, AreKinds};
 ghost use Rattle.verifier.specs.Rows.{HasKinds, AreRowKinds, IsPass};
+ghost use Rattle.verifier.specs.Waiting.{waiting};
 ghost use Rattle.verifier.specs.Lowered.{AreSlots};
 ghost use Rattle.verifier.specs.Verdict.{IsRefused};
 ghost use Rattle.verifier.specs.Plain.{IsPlain, IsWellBehaved};
 
 use crate::callee::callee_in;
 use crate::candidate::Candidate;
-use crate::edges::{lead_on, taken_edge};
+use crate::edges::{lead_on, take_waiting, taken_edge};
 use crate::kinds::one_number;
 use crate::rule::{KindRule, Refused, Rule};
 use crate::rules::advance;
 use crate::slots::lower_slot;
 use crate::verified::Verified;
+use crate::waiting::{Waiting, none_waiting};
 use bpfimage::{Image, form_fault};
 use helpers::Sigs;
 use insn::code_is_paired;
@@ -61,43 +63,60 @@ fn entry<const N: usize>(program: &Candidate) -> [Kind; N]
     row
 }
 
+/// Want of memory.
+fn no_memory() -> Refused
+    ensures { result ≡ record { rule = Rule.NoMemory; slot = 0; } }
+{
+    Refused {
+        rule: Rule::NoMemory,
+        slot: 0,
+    }
+}
+
 /// Tests a slot, by the kinds that reach it, and goes over it: to those that reach the next slot. Its jump's edge is joined into
-/// the row of its target; a row is lent to write this edge's kinds to.
+/// what waits for its target; a row is lent to write this edge's kinds to.
 fn visit<const N: usize>(
     program: &Candidate,
     at: usize,
-    rows: &mut Vec<Option<[Kind; N]>>,
+    rows: &mut Waiting<N>,
     here: &mut Option<[Kind; N]>,
     taken: &mut [Kind; N],
-) -> Option<KindRule>
+) -> Result<(), Refused>
     requires long { 11 ≤ N }
     requires short { N ≤ 75 }
     requires formed { IsFormed program.now.image.code.items }
+    requires before { (k : ℕ) → k < at → broken_at (program_in program.now) k ≡ None }
     requires within { at < length program.now.image.code.items }
-    requires pass { IsPass (program_in program.now) rows.old.items here.old at }
-    requires kinds { AreRowKinds rows.old.items }
+    requires pass { IsPass (program_in program.now) (waiting rows.old) here.old at }
+    requires kinds { AreRowKinds (waiting rows.old) }
     requires here { HasKinds here.old }
-    ensures broken { IfSome result (λ rule. broken_at (program_in program.now) at ≡ Some rule) }
-    ensures unbroken { IfNone result (broken_at (program_in program.now) at ≡ None) }
-    ensures pass { IfNone result (IsPass (program_in program.now) rows.new.items here.new (at + 1)) }
-    ensures kinds { IfNone result (AreRowKinds rows.new.items) }
-    ensures here { IfNone result (HasKinds here.new) }
+    ensures refused { IfErr result (λ refused. IsRefused (program_in program.now) refused.rule refused.slot) }
+    ensures unbroken { IfOk result (λ _. broken_at (program_in program.now) at ≡ None) }
+    ensures pass { IfOk result (λ _. IsPass (program_in program.now) (waiting rows.new) here.new (at + 1)) }
+    ensures kinds { IfOk result (λ _. AreRowKinds (waiting rows.new)) }
+    ensures here { IfOk result (λ _. HasKinds here.new) }
 {
     let Some(row) = here else {
-        *here = rows[at + 1];
-        return None;
+        take_waiting(rows, at + 1, here);
+        return Ok(());
     };
     let insn = program.image.code[at];
     let callee = callee_in(&program.sigs, insn);
     let profile = program.image.profile;
     let target = taken_edge(profile, at, row, insn, taken);
     if let Some(rule) = advance(program, &callee, row, insn) {
-        return Some(rule);
+        return Err(Refused {
+            rule: Rule::Kinds(rule),
+            slot: at as u32,
+        });
     }
-    if !lead_on(profile, rows, at, row, insn, target, taken) {
-        *here = rows[at + 1];
+    let Ok(on) = lead_on(profile, rows, at, row, insn, target, taken) else {
+        return Err(no_memory());
+    };
+    if !on {
+        take_waiting(rows, at + 1, here);
     }
-    None
+    Ok(())
 }
 
 /// The lowered code of a program that breaks no rule over kinds, or else the first rule that a slot breaks.
@@ -111,30 +130,19 @@ fn check_rows<const N: usize>(alloc: Global, program: &Candidate) -> Result<Vec<
     ensures refused { IfErr result (λ refused. IsRefused (program_in program.now) refused.rule refused.slot) }
 {
     let slots = program.image.code.len();
-    // The row of slot i is kept at i until the pass gets there; nothing is kept past the last.
-    let Ok(mut rows) = vec![in alloc; None; slots + 1] else {
-        return Err(Refused {
-            rule: Rule::NoMemory,
-            slot: 0,
-        });
+    // A row waits for slot i until the pass gets there; none waits past the last.
+    let Ok(mut rows) = none_waiting(alloc, slots + 1) else {
+        return Err(no_memory());
     };
     let Ok(mut lows) = vec![in alloc; tail(); slots] else {
-        return Err(Refused {
-            rule: Rule::NoMemory,
-            slot: 0,
-        });
+        return Err(no_memory());
     };
     let first: [Kind; N] = entry(program);
     let mut here = Some(first);
     let mut taken = first;
     for at in 0..slots {
         lows[at] = lower_slot(program, at, &here);
-        if let Some(rule) = visit(program, at, &mut rows, &mut here, &mut taken) {
-            return Err(Refused {
-                rule: Rule::Kinds(rule),
-                slot: at as u32,
-            });
-        }
+        visit(program, at, &mut rows, &mut here, &mut taken)?;
     }
     Ok(lows)
 }
@@ -184,10 +192,7 @@ pub fn verify(alloc: Global, image: Image, sigs: &Sigs) -> Result<Verified, Refu
     code_is_paired();
     check_form(&image)?;
     let Ok(sigs) = sigs.copy(alloc) else {
-        return Err(Refused {
-            rule: Rule::NoMemory,
-            slot: 0,
-        });
+        return Err(no_memory());
     };
     let program = Candidate { image, sigs };
     let lows = check_kinds(alloc, &program)?;

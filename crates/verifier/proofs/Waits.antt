@@ -1,0 +1,152 @@
+-- What waits for the slots, as rows change.
+use Rattle.std.proofs.Common.{◌≡◌, ◌≢◌, ℕ, zero, suc, ◌+◌, ◌<◌, ◌≤◌, cond, eqb, List, [], ◌∷◌, ◌++◌, length, get_or, set, replicate, true, false, Option, Some, None, refl, sym, ap, ◌∙◌, subst, arith}
+use Rattle.std.specs.Prelude.{slice_get}
+use Rattle.std.specs.Option.{option_eq}
+use Rattle.std.proofs.lemmas.Bool.{cond-true, cond-false, eqb-true, eq-eqb, ne_eqb}
+use Rattle.std.proofs.lemmas.Option.{same_Some}
+use Rattle.verifier.specs.declared.waiting.Held.{Held}
+use Rattle.verifier.specs.Registers.{Row}
+use Rattle.verifier.specs.Rows.{row_at}
+use Rattle.verifier.specs.Waiting.{owner_of, owner_at, owned_by, held_for, waiting_from}
+
+pub length_waiting : {N : ℕ} (s : ℕ) (places : List ℕ) (rows : List (Held N)) → length (waiting_from s places rows) ≡ length places
+length_waiting s [] rows = refl
+length_waiting s (p ∷ places) rows = ap suc (length_waiting (suc s) places rows)
+
+-- what waits for a slot is the row at its place, where it is the slot's
+pub row_waiting : {N : ℕ} (s k slot : ℕ) (places : List ℕ) (rows : List (Held N)) (place : ℕ) → slot ≡ s + k → slice_get places k ≡ Some place → row_at (waiting_from s places rows) k ≡ held_for slot (slice_get rows place)
+row_waiting s k slot [] rows place e h = cc
+row_waiting s zero slot (p ∷ places) rows place e h = let same : s ≡ slot = omega (arith, e) in ap (λ q. held_for q (slice_get rows p)) same ∙ ap (λ q. held_for slot (slice_get rows q)) (same_Some _ _ h)
+row_waiting s (suc k) slot (p ∷ places) rows place e h = row_waiting (suc s) k slot places rows place (omega (arith, e)) h
+
+pub owned : (slot : ℕ) (o : Option ℕ) (kinds : Row) → o ≡ Some slot → owned_by slot o kinds ≡ Some kinds
+owned slot None kinds e = cc
+owned slot (Some k) kinds e = cond-true (eqb k slot) (Some kinds) None (eq-eqb k slot (same_Some _ _ e))
+
+pub not_owned : (slot : ℕ) (o : Option ℕ) (kinds : Row) → ((k : ℕ) → o ≡ Some k → k ≢ slot) → owned_by slot o kinds ≡ None
+not_owned slot None kinds h = refl
+not_owned slot (Some k) kinds h = cond-false (eqb k slot) (Some kinds) None (ne_eqb k slot (h k refl))
+
+pub not_held : {N : ℕ} (slot : ℕ) (o : Option (Held N)) → ((k : ℕ) → owner_of o ≡ Some k → k ≢ slot) → held_for slot o ≡ None
+not_held slot None h = refl
+not_held slot (Some r) h = not_owned slot r.owner r.kinds h
+
+-- rows that are the same for each slot but one
+abbrev pub SameBut : {N : ℕ} → ℕ → List (Held N) → List (Held N) → Type 0
+SameBut slot rows rows' = (j i : ℕ) → j ≢ slot → held_for j (slice_get rows' i) ≡ held_for j (slice_get rows i)
+
+above : {N : ℕ} (s slot : ℕ) (places : List ℕ) (rows rows' : List (Held N)) → SameBut slot rows rows' → slot < s → waiting_from s places rows' ≡ waiting_from s places rows
+above s slot [] rows rows' h lt = refl
+above s slot (p ∷ places) rows rows' h lt =
+    ap (λ r. r ∷ waiting_from (suc s) places rows') (h s p (λ e. omega (arith, e, lt)))
+    ∙ ap (λ rs. held_for s (slice_get rows p) ∷ rs) (above (suc s) slot places rows rows' h (omega (arith, lt)))
+
+-- a slot's place changes, and no row but the slot's
+pub placed : {N : ℕ} (s k slot : ℕ) (places : List ℕ) (rows rows' : List (Held N)) (place : ℕ) → SameBut slot rows rows' → slot ≡ s + k → k < length places → waiting_from s (set places k place) rows' ≡ set (waiting_from s places rows) k (held_for slot (slice_get rows' place))
+placed s k slot [] rows rows' place h e lt = absurd (omega (arith, lt))
+placed s zero slot (p ∷ places) rows rows' place h e lt =
+    let same : s ≡ slot = omega (arith, e) in
+    ap (λ q. held_for q (slice_get rows' place) ∷ waiting_from (suc s) places rows') same
+    ∙ ap (λ rs. held_for slot (slice_get rows' place) ∷ rs) (above (suc s) slot places rows rows' h (omega (arith, e)))
+placed s (suc k) slot (p ∷ places) rows rows' place h e lt =
+    ap (λ r. r ∷ waiting_from (suc s) (set places k place) rows') (h s p (λ q. omega (arith, e, q)))
+    ∙ ap (λ rs. held_for s (slice_get rows p) ∷ rs) (placed (suc s) k slot places rows rows' place h (omega (arith, e)) (omega (arith, lt)))
+
+set_same : (places : List ℕ) (k place : ℕ) → slice_get places k ≡ Some place → set places k place ≡ places
+set_same [] k place e = refl
+set_same (p ∷ places) zero place e = ap (λ q. q ∷ places) (sym (same_Some _ _ e))
+set_same (p ∷ places) (suc k) place e = ap (λ ps. p ∷ ps) (set_same places k place e)
+
+got_below : (places : List ℕ) (k place : ℕ) → slice_get places k ≡ Some place → k < length places
+got_below [] k place e = cc
+got_below (p ∷ places) zero place e = omega arith
+got_below (p ∷ places) (suc k) place e = let h = got_below places k place e in omega (arith, h)
+
+-- a slot's place stays, and no row changes but the slot's
+pub kept_place : {N : ℕ} (slot : ℕ) (places : List ℕ) (rows rows' : List (Held N)) (place : ℕ) → SameBut slot rows rows' → slice_get places slot ≡ Some place → waiting_from 0 places rows' ≡ set (waiting_from 0 places rows) slot (held_for slot (slice_get rows' place))
+kept_place slot places rows rows' place h e =
+    ap (λ ps. waiting_from 0 ps rows') (sym (set_same places slot place e)) ∙ placed 0 slot slot places rows rows' place h (omega arith) (got_below places slot place e)
+
+-- the row at a place, of that slot or free, becomes another of that slot, or free
+pub one_row : {N : ℕ} (slot : ℕ) (rows : List (Held N)) (place : ℕ) (held : Held N) → ((k : ℕ) → owner_at rows place ≡ Some k → k ≡ slot) → ((k : ℕ) → held.owner ≡ Some k → k ≡ slot) → SameBut slot rows (set rows place held)
+one_row slot [] place held was is j i ne = refl
+one_row slot (r ∷ rows) zero held was is j zero ne =
+    not_owned j held.owner held.kinds (λ k e q. ne (sym q ∙ is k e)) ∙ sym (not_owned j r.owner r.kinds (λ k e q. ne (sym q ∙ was k e)))
+one_row slot (r ∷ rows) zero held was is j (suc i) ne = refl
+one_row slot (r ∷ rows) (suc place) held was is j zero ne = refl
+one_row slot (r ∷ rows) (suc place) held was is j (suc i) ne = one_row slot rows place held was is j i ne
+
+-- a row more, of that slot
+pub row_more : {N : ℕ} (slot : ℕ) (rows : List (Held N)) (held : Held N) → ((k : ℕ) → held.owner ≡ Some k → k ≡ slot) → SameBut slot rows (rows ++ held ∷ [])
+row_more slot [] held is j zero ne = not_owned j held.owner held.kinds (λ k e q. ne (sym q ∙ is k e))
+row_more slot [] held is j (suc i) ne = refl
+row_more slot (r ∷ rows) held is j zero ne = refl
+row_more slot (r ∷ rows) held is j (suc i) ne = row_more slot rows held is j i ne
+
+pub got_set : {N : ℕ} (rows : List (Held N)) (place : ℕ) (held : Held N) → place < length rows → slice_get (set rows place held) place ≡ Some held
+got_set [] place held h = absurd (omega (arith, h))
+got_set (r ∷ rows) zero held h = refl
+got_set (r ∷ rows) (suc place) held h = got_set rows place held (omega (arith, h))
+
+pub got_more : {N : ℕ} (rows : List (Held N)) (place : ℕ) (held : Held N) → place ≡ length rows → slice_get (rows ++ held ∷ []) place ≡ Some held
+got_more [] zero held h = refl
+got_more [] (suc place) held h = absurd (omega (arith, h))
+got_more (r ∷ rows) zero held h = absurd (omega (arith, h))
+got_more (r ∷ rows) (suc place) held h = got_more rows place held (omega (arith, h))
+
+-- nothing waits at first
+none_from : {N : ℕ} (s n place : ℕ) (rows : List (Held N)) → rows ≡ [] → waiting_from s (replicate n place) rows ≡ replicate n None
+none_from s zero place rows e = refl
+none_from s (suc n) place rows e = ap (λ rs. held_for s (slice_get rs place) ∷ waiting_from (suc s) (replicate n place) rows) e ∙ ap (λ rs. None ∷ rs) (none_from (suc s) n place rows e)
+
+pub none_at_first : {N : ℕ} (places : List ℕ) (n place : ℕ) (rows : List (Held N)) → places ≡ replicate n place → rows ≡ [] → waiting_from 0 places rows ≡ replicate n None
+none_at_first places n place rows p e = ap (λ ps. waiting_from 0 ps rows) p ∙ none_from 0 n place rows e
+
+pub is_owner : (o : Option ℕ) (slot : ℕ) → true ≡ option_eq eqb o (Some slot) → o ≡ Some slot
+is_owner None slot e = cc
+is_owner (Some k) slot e = ap Some (eqb-true k slot (sym e))
+
+pub no_owner : (o : Option ℕ) (slot : ℕ) → false ≡ option_eq eqb o (Some slot) → (k : ℕ) → o ≡ Some k → k ≢ slot
+no_owner o slot e k is same = let yes : option_eq eqb o (Some slot) ≡ true = ap (λ q. option_eq eqb q (Some slot)) is ∙ eq-eqb k slot same in let clash : false ≡ true = e ∙ yes in cc
+
+-- a slot's row, where the row at its place is the slot's
+pub row_is_held : {N : ℕ} (slot : ℕ) (places : List ℕ) (rows : List (Held N)) (place : ℕ) (held : Held N) → slice_get places slot ≡ Some place → slice_get rows place ≡ Some held → held.owner ≡ Some slot → row_at (waiting_from 0 places rows) slot ≡ Some held.kinds
+row_is_held slot places rows place held p r o =
+    row_waiting 0 slot slot places rows place (omega arith) p ∙ ap (held_for slot) r ∙ owned slot held.owner held.kinds o
+
+-- and none, where it isn't
+pub row_is_none : {N : ℕ} (slot : ℕ) (places : List ℕ) (rows : List (Held N)) (place : ℕ) → slice_get places slot ≡ Some place → ((k : ℕ) → owner_at rows place ≡ Some k → k ≢ slot) → row_at (waiting_from 0 places rows) slot ≡ None
+row_is_none slot places rows place p h = row_waiting 0 slot slot places rows place (omega arith) p ∙ not_held slot (slice_get rows place) h
+
+pub none_some : (k : ℕ) → None ≡ Some k → ⊥
+none_some k e = cc
+
+pub only_some : (o : Option ℕ) (slot : ℕ) → o ≡ Some slot → (k : ℕ) → o ≡ Some k → k ≡ slot
+only_some o slot e k f = same_Some _ _ (sym f ∙ e)
+
+pub only_none : (o : Option ℕ) (slot : ℕ) → o ≡ None → (k : ℕ) → o ≡ Some k → k ≡ slot
+only_none o slot e k f = let clash : None ≡ Some k = sym e ∙ f in cc
+
+-- a slot's row is let go
+pub let_go : {N : ℕ} (slot : ℕ) (places : List ℕ) (rows : List (Held N)) (place : ℕ) (held : Held N) → slice_get places slot ≡ Some place → owner_at rows place ≡ Some slot → place < length rows → held.owner ≡ None → waiting_from 0 places (set rows place held) ≡ set (waiting_from 0 places rows) slot None
+let_go slot places rows place held p o lt none =
+    kept_place slot places rows (set rows place held) place (one_row slot rows place held (only_some _ slot o) (only_none _ slot none)) p
+    ∙ ap (set (waiting_from 0 places rows) slot) (ap (held_for slot) (got_set rows place held lt) ∙ not_owned slot held.owner held.kinds (λ k e. absurd (none_some k (sym none ∙ e))))
+
+-- a slot's row changes
+pub changed : {N : ℕ} (slot : ℕ) (places : List ℕ) (rows : List (Held N)) (place : ℕ) (held : Held N) → slice_get places slot ≡ Some place → owner_at rows place ≡ Some slot → place < length rows → held.owner ≡ Some slot → waiting_from 0 places (set rows place held) ≡ set (waiting_from 0 places rows) slot (Some held.kinds)
+changed slot places rows place held p o lt is =
+    kept_place slot places rows (set rows place held) place (one_row slot rows place held (only_some _ slot o) (only_some _ slot is)) p
+    ∙ ap (set (waiting_from 0 places rows) slot) (ap (held_for slot) (got_set rows place held lt) ∙ owned slot held.owner held.kinds is)
+
+-- a free row becomes a slot's
+pub taken_up : {N : ℕ} (slot : ℕ) (places : List ℕ) (rows : List (Held N)) (place : ℕ) (held : Held N) → slot < length places → owner_at rows place ≡ None → place < length rows → held.owner ≡ Some slot → waiting_from 0 (set places slot place) (set rows place held) ≡ set (waiting_from 0 places rows) slot (Some held.kinds)
+taken_up slot places rows place held s o lt is =
+    placed 0 slot slot places rows (set rows place held) place (one_row slot rows place held (only_none _ slot o) (only_some _ slot is)) (omega arith) s
+    ∙ ap (set (waiting_from 0 places rows) slot) (ap (held_for slot) (got_set rows place held lt) ∙ owned slot held.owner held.kinds is)
+
+-- a row more, which is a slot's
+pub one_more : {N : ℕ} (slot : ℕ) (places : List ℕ) (rows : List (Held N)) (place : ℕ) (held : Held N) → slot < length places → place ≡ length rows → held.owner ≡ Some slot → waiting_from 0 (set places slot place) (rows ++ held ∷ []) ≡ set (waiting_from 0 places rows) slot (Some held.kinds)
+one_more slot places rows place held s e is =
+    placed 0 slot slot places rows (rows ++ held ∷ []) place (row_more slot rows held (only_some _ slot is)) (omega arith) s
+    ∙ ap (set (waiting_from 0 places rows) slot) (ap (held_for slot) (got_more rows place held e) ∙ owned slot held.owner held.kinds is)

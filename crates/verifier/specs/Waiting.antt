@@ -1,0 +1,31 @@
+-- Rows that wait for slots: a slot's row is the one at its place, where that one waits for this slot.
+use Rattle.std.specs.Prelude.{ℕ, zero, suc, ◌==◌, if◌then◌else◌, List, [], ◌∷◌, Option, Some, None, slice_get}
+use Rattle.verifier.specs.Registers.{Row}
+use Rattle.verifier.specs.declared.waiting.Held.{Held}
+use Rattle.verifier.specs.declared.waiting.Waiting.{Waiting}
+
+abbrev pub owner_of : {N : ℕ} → Option (Held N) → Option ℕ
+owner_of None = None
+owner_of (Some held) = held.owner
+
+-- the slot for which the row at a place waits
+abbrev pub owner_at : {N : ℕ} → List (Held N) → ℕ → Option ℕ
+owner_at rows place = owner_of (slice_get rows place)
+
+-- the kinds of a row, where its owner is that slot
+abbrev pub owned_by : ℕ → Option ℕ → Row → Option Row
+owned_by slot None kinds = None
+owned_by slot (Some k) kinds = if k == slot then Some kinds else None
+
+abbrev pub held_for : {N : ℕ} → ℕ → Option (Held N) → Option Row
+held_for slot None = None
+held_for slot (Some held) = owned_by slot held.owner held.kinds
+
+-- what waits for each of some slots, from that one on, by their places
+abbrev pub waiting_from : {N : ℕ} → ℕ → List ℕ → List (Held N) → List (Option Row)
+waiting_from slot [] rows = []
+waiting_from slot (place ∷ places) rows = held_for slot (slice_get rows place) ∷ waiting_from (suc slot) places rows
+
+-- what waits for each slot
+abbrev pub waiting : {N : ℕ} → Waiting N → List (Option Row)
+waiting w = waiting_from 0 w.places.items w.held.items

@@ -1,0 +1,109 @@
+//! Rows that wait for the slots to which jumps lead.
+
+ghost use Rattle.std.specs.Prelude.{◌≡◌, ◌<◌, IfOk, IfSome, IfNone, true, Some, None, length, replicate, slice_get, slice_set, vec_len};
+ghost use Rattle.verifier.specs.Rows.{row_at};
+ghost use Rattle.verifier.specs.Waiting.{owner_at, waiting};
+
+use ranges::Kind;
+use std::alloc::{AllocError, Global};
+
+/// A row of kinds, and the slot for which it waits, if it still does.
+#[derive(Drop)]
+pub struct Held<const N: usize> {
+    pub owner: Option<usize>,
+    pub kinds: [Kind; N],
+}
+
+/// The rows that wait for slots. A slot's row is the one at its place, where that one waits for this slot: so two slots never share
+/// one, whatever their places are. The places of rows that wait no more are used again.
+#[derive(Drop)]
+pub struct Waiting<const N: usize> {
+    pub places: Vec<usize>,
+    pub held: Vec<Held<N>>,
+    pub free: Vec<usize>,
+}
+
+/// Nothing waits, for any of so many slots.
+pub fn none_waiting<const N: usize>(alloc: Global, slots: usize) -> Result<Waiting<N>, AllocError>
+    ensures { IfOk result (λ rows. waiting rows ≡ replicate slots None) }
+{
+    let places = vec![in alloc; 0; slots]?;
+    Ok(Waiting {
+        places,
+        held: Vec::new(alloc),
+        free: Vec::new(alloc),
+    })
+}
+
+/// The place of the row that waits for a slot, if one does.
+pub fn place_of<const N: usize>(rows: &Waiting<N>, slot: usize) -> Option<usize>
+    requires { slot < length (waiting rows.now) }
+    ensures found { IfSome result (λ place. (slice_get rows.now.places.items slot ≡ Some place) × (owner_at rows.now.held.items place ≡ Some slot)) }
+    ensures within { IfSome result (λ place. place < vec_len rows.now.held) }
+    ensures none { IfNone result (row_at (waiting rows.now) slot ≡ None) }
+{
+    let place = rows.places[slot];
+    match rows.held.get(place) {
+        Some(held) if held.owner == Some(slot) => Some(place),
+        _ => None,
+    }
+}
+
+/// Whether a row waits for no slot.
+fn is_free<const N: usize>(rows: &Waiting<N>, place: usize) -> bool
+    ensures free { result ≡ true → owner_at rows.now.held.items place ≡ None }
+    ensures within { result ≡ true → place < vec_len rows.now.held }
+{
+    match rows.held.get(place) {
+        Some(held) => held.owner == None,
+        None => false,
+    }
+}
+
+/// A place whose row waits for no slot, if one is known.
+fn free_place<const N: usize>(rows: &mut Waiting<N>) -> Option<usize>
+    ensures free { IfSome result (λ place. owner_at rows.new.held.items place ≡ None) }
+    ensures within { IfSome result (λ place. place < vec_len rows.new.held) }
+    ensures places { rows.new.places ≡ rows.old.places }
+    ensures held { rows.new.held ≡ rows.old.held }
+{
+    let place = rows.free.pop()?;
+    if is_free(rows, place) { Some(place) } else { None }
+}
+
+/// Has a copy of a row wait for a slot.
+pub fn wait<const N: usize>(rows: &mut Waiting<N>, slot: usize, row: &[Kind; N]) -> Result<(), AllocError>
+    requires { slot < length (waiting rows.old) }
+    ensures { IfOk result (λ _. waiting rows.new ≡ slice_set (waiting rows.old) slot (Some row.now)) }
+{
+    match free_place(rows) {
+        Some(place) => {
+            let held = &mut rows.held[place];
+            held.owner = Some(slot);
+            held.kinds.copy_from_slice(row);
+            rows.places[slot] = place;
+        }
+        None => {
+            let place = rows.held.len();
+            rows.held.push(Held {
+                owner: Some(slot),
+                kinds: *row,
+            })?;
+            rows.places[slot] = place;
+        }
+    }
+    Ok(())
+}
+
+/// Has the row at a place, which is a slot's, wait no more.
+pub fn free<const N: usize>(rows: &mut Waiting<N>, slot: usize, place: usize)
+    requires within { slot < length (waiting rows.old) }
+    requires place { slice_get rows.old.places.items slot ≡ Some place }
+    requires owner { owner_at rows.old.held.items place ≡ Some slot }
+    requires row { place < vec_len rows.old.held }
+    ensures { waiting rows.new ≡ slice_set (waiting rows.old) slot None }
+{
+    rows.held[place].owner = None;
+    // A place that finds no room here isn't used again.
+    let _ = rows.free.push(place);
+}
