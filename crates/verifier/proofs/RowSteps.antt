@@ -48,6 +48,11 @@ row_kinds_set (r ∷ rows) zero next h hn (suc k) o e = h (suc k) o e
 row_kinds_set (r ∷ rows) (suc i) next h hn zero o e = h zero o e
 row_kinds_set (r ∷ rows) (suc i) next h hn (suc k) o e = row_kinds_set rows i next (λ n. h (suc n)) hn k o e
 
+pub at_kinds : (rows : List (Option Row)) (k : ℕ) → AreRowKinds rows → HasKinds (row_at rows k)
+at_kinds [] k h = tt
+at_kinds (r ∷ rows) zero h = h zero r refl
+at_kinds (r ∷ rows) (suc k) h = at_kinds rows k (λ n. h (suc n))
+
 -- ---- joins
 
 front : Profile → ℕ → Row → Row → Row

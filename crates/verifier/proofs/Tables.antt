@@ -73,7 +73,7 @@ all_edges : (profile : Profile) (rows : List (Option Row)) (es : List Edge) (k :
 all_edges profile rows [] k o e = e
 all_edges profile rows (x ∷ es) k o e = all_edges profile (push_one profile rows x) es k _ (one_edge profile rows x k o e)
 
-length_pushed : (profile : Profile) (es : List Edge) (rows : List (Option Row)) → length (pushed profile rows es) ≡ length rows
+pub length_pushed : (profile : Profile) (es : List Edge) (rows : List (Option Row)) → length (pushed profile rows es) ≡ length rows
 length_pushed profile [] rows = refl
 length_pushed profile (e ∷ es) rows = length_pushed profile es (push_one profile rows e) ∙ length-set rows e.0 _
 
@@ -108,10 +108,10 @@ module _ (p : Program) (rows : List (Option Row)) (here : Option Row) (i : ℕ) 
         rows_are = λ k above within. all_edges p.profile rows es k _ (h.rows_are k (omega arith) (omega (arith, len))) ∙ ap Some (arrive k);
       }
 
-  -- where what waits for the next slot is joined into its row, which goes on
-  pub pass_alone : (row next : Row) (o : Option Row) (fs : List Edge) → es ≡ (i + 1, row) ∷ fs → slice_get rows (i + 1) ≡ Some o → Some next ≡ joined p.profile o row → Misses (i + 1) fs → IsPass p (pushed p.profile rows fs) (Some next) (i + 1)
+  -- where what waits for the next slot is joined into its row, which goes on, and nothing waits for it any more
+  pub pass_alone : (row next : Row) (o : Option Row) (fs : List Edge) → es ≡ (i + 1, row) ∷ fs → slice_get rows (i + 1) ≡ Some o → Some next ≡ joined p.profile o row → Misses (i + 1) fs → IsPass p (pushed p.profile (set rows (i + 1) None) fs) (Some next) (i + 1)
   pass_alone row next o fs e kept on m =
-      let len = length_pushed p.profile fs rows in
+      let len = length_pushed p.profile fs (set rows (i + 1) None) ∙ length-set rows (i + 1) None in
       let was : arrivals p (table p) i (i + 1) ≡ o = same_Some _ _ (sym (h.rows_are (i + 1) (omega arith) (omega (arith, h.long, lt))) ∙ kept) in
       record {
         long = len ∙ h.long;
@@ -123,11 +123,21 @@ module _ (p : Program) (rows : List (Option Row)) (here : Option Row) (i : ℕ) 
             ∙ ap (into p.profile (i + 1) fs) (cond-true (eqb (i + 1) (i + 1)) (joined p.profile o row) o (eq-eqb (i + 1) (i + 1) refl) ∙ sym on)
             ∙ missed p.profile (i + 1) fs (Some next) m);
         rows_are = λ k above within.
-            all_edges p.profile rows fs k _ (h.rows_are k (omega arith) (omega (arith, len)))
+            all_edges p.profile (set rows (i + 1) None) fs k _ (get_set_other rows (i + 1) k None (λ q. omega (arith, q, above)) ∙ h.rows_are k (omega arith) (omega (arith, len)))
             ∙ ap (λ q. Some (into p.profile k fs q)) (sym (cond-false (eqb (i + 1) k) (joined p.profile (arrivals p (table p) i k) row) (arrivals p (table p) i k) (ne_eqb (i + 1) k (λ q. omega (arith, q)))))
             ∙ ap (λ xs. Some (into p.profile k xs (arrivals p (table p) i k))) (sym e)
             ∙ ap Some (arrive k);
       }
+
+-- what was taken for the row at hand needs to wait no more
+pub pass_taken : (p : Program) (rows rows' : List (Option Row)) (here : Option Row) (i : ℕ) → IsPass p rows here i → rows' ≡ set rows i None → IsPass p rows' here i
+pass_taken p rows rows' here i h e =
+    let len : length rows' ≡ length rows = ap length e ∙ length-set rows i None in
+    record {
+      long = len ∙ h.long;
+      here_is = h.here_is;
+      rows_are = λ k above within. ap (λ xs. slice_get xs k) e ∙ get_set_other rows i k None (λ q. omega (arith, q, above)) ∙ h.rows_are k above (omega (arith, len));
+    }
 
 get_replicate : (n k : ℕ) (o : Option Row) → k < n → slice_get (replicate n o) k ≡ Some o
 get_replicate zero k o h = absurd (omega arith)

@@ -1,5 +1,5 @@
 -- One slot of the pass.
-use Rattle.std.proofs.Common.{◌≡◌, ℕ, ◌+◌, ◌<◌, ◌≤◌, List, [], ◌++◌, length, Option, Some, None, refl, sym, ap, ◌∙◌, subst, arith}
+use Rattle.std.proofs.Common.{◌≡◌, ℕ, ◌+◌, ◌<◌, ◌≤◌, List, [], ◌++◌, length, set, Option, Some, None, refl, sym, ap, ◌∙◌, subst, arith}
 use Rattle.std.specs.Prelude.{◌⊎◌, slice_get}
 use Rattle.std.proofs.Common.{inl, inr}
 use Rattle.verifier.specs.Verdict.{IsRefused}
@@ -18,7 +18,7 @@ use Rattle.verifier.specs.Rules.{callee_in, broken_in, row_after, row_taken}
 use Rattle.verifier.specs.Rows.{row_at, pushed, Misses, IsPass}
 use Rattle.verifier.specs.Table.{Edge, joined, next_edge, target_edge, edges_from, edges_of, table, broken_with, broken_at, IsAccepted}
 use Rattle.verifier.specs.declared.rule.KindRule.{KindRule}
-use Rattle.verifier.proofs.Tables.{row_here, row_there, pass_all, pass_alone}
+use Rattle.verifier.proofs.Tables.{row_here, row_there, length_pushed, pass_all, pass_alone, pass_taken}
 
 no_rule : (p : Program) (o : Option Insn) → broken_with p o (Some None) ≡ None
 no_rule p None = refl
@@ -33,8 +33,8 @@ module _ (p : Program) (rows : List (Option Row)) (i : ℕ) (within : i < length
   pub none_unbroken : IsPass p rows None i → broken_at p i ≡ None
   none_unbroken pass = ap (broken_with p (slice_get p.code i)) (row_here p rows None i pass within) ∙ no_rule p (slice_get p.code i)
 
-  pub none_pass : (next : Option Row) → IsPass p rows None i → slice_get rows (i + 1) ≡ Some next → IsPass p rows next (i + 1)
-  none_pass next pass e = pass_all p rows None i [] pass within (no_edges p i (slice_get p.code i) ∙ ap (edges_of p i (slice_get p.code i)) (sym (row_here p rows None i pass within))) next e
+  pub none_pass : IsPass p rows None i → IsPass p rows (row_at rows (i + 1)) (i + 1)
+  none_pass pass = pass_all p rows None i [] pass within (no_edges p i (slice_get p.code i) ∙ ap (edges_of p i (slice_get p.code i)) (sym (row_here p rows None i pass within))) (row_at rows (i + 1)) (row_there rows (i + 1) (omega (arith, pass.long, within)))
 
   -- a slot that some reach
   module _ (row : Row) (x : Insn) (pass : IsPass p rows (Some row) i) (at : slice_get p.code i ≡ Some x) where
@@ -49,17 +49,23 @@ module _ (p : Program) (rows : List (Option Row)) (i : ℕ) (within : i < length
       edges_are : next_edge (next_of i x) after ++ fs ≡ edges_from p.profile (callee_in p.sigs x) i row x
       edges_are = ap (λ r. next_edge (next_of i x) r ++ fs) goes ∙ ap (λ es. next_edge (next_of i x) (row_after p.profile callee row x) ++ es) takes ∙ ap (λ y. edges_from p.profile y i row x) called
 
-      pub all_here : (rows' : List (Option Row)) (next : Option Row) → rows' ≡ pushed p.profile rows (next_edge (next_of i x) after ++ fs) → slice_get rows' (i + 1) ≡ Some next → IsPass p rows' next (i + 1)
-      all_here rows' next are e =
+      pub all_here : (rows' : List (Option Row)) → rows' ≡ pushed p.profile rows (next_edge (next_of i x) after ++ fs) → IsPass p rows' (row_at rows' (i + 1)) (i + 1)
+      all_here rows' are =
           let es = next_edge (next_of i x) after ++ fs in
-          subst (λ xs. IsPass p xs next (i + 1)) (sym are)
-          (pass_all p rows (Some row) i es pass within (edges_are ∙ edges_here) next (ap (λ xs. slice_get xs (i + 1)) (sym are) ∙ e))
+          let len : length rows' ≡ length rows = ap length are ∙ length_pushed p.profile es rows in
+          let there = row_there rows' (i + 1) (omega (arith, len, pass.long, within)) in
+          subst (λ xs. IsPass p xs (row_at rows' (i + 1)) (i + 1)) (sym are)
+          (pass_all p rows (Some row) i es pass within (edges_are ∙ edges_here) (row_at rows' (i + 1)) (ap (λ xs. slice_get xs (i + 1)) (sym are) ∙ there))
 
-      pub alone_here : (rows' : List (Option Row)) (next : Row) → rows' ≡ pushed p.profile rows fs → next_of i x ≡ Some (i + 1) → Some next ≡ joined p.profile (row_at rows (i + 1)) after → Misses (i + 1) fs → IsPass p rows' (Some next) (i + 1)
+      pub alone_here : (rows' : List (Option Row)) (next : Row) → rows' ≡ pushed p.profile (set rows (i + 1) None) fs → next_of i x ≡ Some (i + 1) → Some next ≡ joined p.profile (row_at rows (i + 1)) after → Misses (i + 1) fs → IsPass p rows' (Some next) (i + 1)
       alone_here rows' next are on kept m =
           let es = next_edge (next_of i x) after ++ fs in
           subst (λ xs. IsPass p xs (Some next) (i + 1)) (sym are)
           (pass_alone p rows (Some row) i es pass within (edges_are ∙ edges_here) after next (row_at rows (i + 1)) fs (ap (λ o. next_edge o after ++ fs) on) (row_there rows (i + 1) (omega (arith, pass.long, within))) kept m)
+
+-- what waited for a slot is taken for the row at hand
+pub here_taken : (p : Program) (rows rows' : List (Option Row)) (here : Option Row) (i : ℕ) → IsPass p rows (row_at rows i) i → here ≡ row_at rows i → rows' ≡ set rows i None → IsPass p rows' here i
+here_taken p rows rows' here i pass e is = pass_taken p rows rows' here i (subst (λ o. IsPass p rows o i) (sym e) pass) is
 
 past_code : (p : Program) (k : ℕ) → length p.code ≤ k → broken_at p k ≡ None
 past_code p k h = ap (λ o. broken_with p o (slice_get (table p) k)) (slice_get_past p.code k h)

@@ -3,11 +3,13 @@ use Rattle.std.proofs.Common.{◌≡◌, ◌≢◌, ℕ, zero, suc, ◌+◌, ◌
 use Rattle.std.specs.Prelude.{slice_get}
 use Rattle.std.specs.Option.{option_eq}
 use Rattle.std.proofs.lemmas.Bool.{cond-true, cond-false, eqb-true, eq-eqb, ne_eqb}
-use Rattle.std.proofs.lemmas.Option.{same_Some}
+use Rattle.std.proofs.lemmas.Option.{same_Some, slice_get_read}
 use Rattle.verifier.specs.declared.waiting.Held.{Held}
 use Rattle.verifier.specs.Registers.{Row}
-use Rattle.verifier.specs.Rows.{row_at}
+use Rattle.verifier.specs.Rows.{row_at, HasKinds, AreRowKinds}
+use Rattle.verifier.specs.Table.{AreKinds}
 use Rattle.verifier.specs.Waiting.{owner_of, owner_at, owned_by, held_for, waiting_from}
+use Rattle.verifier.proofs.Tables.{row_there}
 
 pub length_waiting : {N : ℕ} (s : ℕ) (places : List ℕ) (rows : List (Held N)) → length (waiting_from s places rows) ≡ length places
 length_waiting s [] rows = refl
@@ -150,3 +152,18 @@ pub one_more : {N : ℕ} (slot : ℕ) (places : List ℕ) (rows : List (Held N))
 one_more slot places rows place held s e is =
     placed 0 slot slot places rows (rows ++ held ∷ []) place (row_more slot rows held (only_some _ slot is)) (omega arith) s
     ∙ ap (set (waiting_from 0 places rows) slot) (ap (held_for slot) (got_more rows place held e) ∙ owned slot held.owner held.kinds is)
+
+-- what is read at the place of a slot's row
+pub read_held : {N : ℕ} (slot : ℕ) (places : List ℕ) (rows : List (Held N)) (place : ℕ) (held : Held N) → slice_get places slot ≡ Some place → owner_at rows place ≡ Some slot → place < length rows → held ≡ get_or rows place held → (held.owner ≡ Some slot) × (row_at (waiting_from 0 places rows) slot ≡ Some held.kinds)
+read_held slot places rows place held p o lt e =
+    let there = slice_get_read rows (length rows) place held refl lt e in
+    let is = sym (ap owner_of there) ∙ o in
+    (is, row_is_held slot places rows place held p there is)
+
+pub set_none : (rows : List (Option Row)) (slot : ℕ) → row_at rows slot ≡ None → rows ≡ set rows slot None
+set_none [] slot e = refl
+set_none (r ∷ rows) zero e = ap (λ q. q ∷ rows) e
+set_none (r ∷ rows) (suc slot) e = ap (λ rs. r ∷ rs) (set_none rows slot e)
+
+pub row_kinds : (rows : List (Option Row)) (slot : ℕ) (row : Row) → slot < length rows → row_at rows slot ≡ Some row → AreRowKinds rows → AreKinds row
+row_kinds rows slot row lt e kinds = subst HasKinds e (kinds slot (row_at rows slot) (row_there rows slot lt))

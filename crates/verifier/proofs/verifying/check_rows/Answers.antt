@@ -3,6 +3,7 @@ use Rattle.std.proofs.lemmas.Bool.{cases_eq}
 use Rattle.verifier.specs.Candidates.{program_in}
 use Rattle.verifier.specs.Table.{broken_at}
 use Rattle.verifier.specs.Rows.{AreRowKinds, IsPass}
+use Rattle.verifier.specs.Waiting.{waiting}
 use Rattle.verifier.proofs.Tables.{pass_first, none_kinds}
 use Rattle.verifier.proofs.Visits.{all_visited}
 use Rattle.verifier.proofs.Lowering.{slots_and, slot_here}
@@ -11,10 +12,11 @@ use Rattle.verifier.proofs.verifying.check_rows.Goals as goal
 pub loop-at-init : goal.loop-at-init
 loop-at-init g c =
     let p = program_in c.args.program.now in
-    let empty = c.in-Ok.ensures.items_if_clones_equal (λ y h. search rules) in
+    let rows = waiting c.in-Ok.rows in
+    let empty = c.in-Ok.ensures in
     let code = c.args.program.now.image.code in
     record {
-      pass = subst (λ r. IsPass p c.in-Ok.rows.items (Some r) 0) (sym c.entry-first.ensures.table) (pass_first p c.in-Ok.rows.items (c.len-slots.result + 1) (omega (arith, c.len-slots.ensures, code.ok.0)) empty);
+      pass = subst (λ r. IsPass p rows (Some r) 0) (sym c.entry-first.ensures.table) (pass_first p rows (c.len-slots.result + 1) (omega (arith, c.len-slots.ensures, code.ok.0)) empty);
       kinds = subst AreRowKinds (sym empty) (none_kinds (c.len-slots.result + 1));
       here = c.entry-first.ensures.kinds;
       lows = record { whole = omega (arith, c.in-Ok-vec.lows.ok.0, c.in-Ok-vec.ensures.len, c.len-slots.ensures, code.ok.0); slots = λ k low lt e. absurd (omega arith) };
@@ -23,15 +25,15 @@ loop-at-init g c =
 
 pub loop-at-preserved : goal.loop-at-preserved
 loop-at-preserved g c = record {
-  pass = c.in_default-visit.ensures.pass;
-  kinds = c.in_default-visit.ensures.kinds;
-  here = c.in_default-visit.ensures.here;
+  pass = c.in_ok-visit.ensures.pass;
+  kinds = c.in_ok-visit.ensures.kinds;
+  here = c.in_ok-visit.ensures.here;
   lows =
       let p = program_in c.args.program.now in
       let within : c.loop-at.at < length p.code = omega (arith, c.len-slots.ensures, c.args.program.now.image.code.ok.0, c.loop-at-test.true) in
       slots_and p c.loop-at.lows.items c.loop-at.at c.lower_slot.result within c.loop-at.invariant.lows
-      (slot_here p c.loop-at.rows.items c.loop-at.here c.loop-at.at c.lower_slot.result c.loop-at.invariant.pass within c.lower_slot.ensures.lowered c.lower_slot.ensures.names);
-  unbroken = λ k lt. ⊎_elim (λ same. ap (broken_at (program_in c.args.program.now)) same ∙ c.in_default-visit.ensures.unbroken) (λ other. c.loop-at.invariant.unbroken k (omega arith)) (cases_eq k c.loop-at.at);
+      (slot_here p (waiting c.loop-at.rows) c.loop-at.here c.loop-at.at c.lower_slot.result c.loop-at.invariant.pass within c.lower_slot.ensures.lowered c.lower_slot.ensures.names);
+  unbroken = λ k lt. ⊎_elim (λ same. ap (broken_at (program_in c.args.program.now)) same ∙ c.in_ok-visit.ensures.unbroken) (λ other. c.loop-at.invariant.unbroken k (omega arith)) (cases_eq k c.loop-at.at);
 }
 
 pub returns-clause-ok : goal.returns-clause-ok
