@@ -1,5 +1,5 @@
 -- Rows that wait for slots: a slot's row is the one at its place, where that one waits for this slot.
-use Rattle.std.specs.Prelude.{ℕ, zero, suc, ◌==◌, if◌then◌else◌, List, [], ◌∷◌, Option, Some, None, slice_get}
+use Rattle.std.specs.Prelude.{ℕ, suc, ◌==◌, if◌then◌else◌, List, [], ◌∷◌, Option, Some, None, slice_get}
 use Rattle.verifier.specs.Registers.{Row}
 use Rattle.verifier.specs.declared.waiting.Held.{Held}
 use Rattle.verifier.specs.declared.waiting.Waiting.{Waiting}

@@ -65,7 +65,7 @@ fn entry<const N: usize>(program: &Candidate) -> [Kind; N]
 
 /// Want of memory.
 fn no_memory() -> Refused
-    ensures { result ≡ record { rule = Rule.NoMemory; slot = 0; } }
+    ensures { result ≡ record { rule = Rule.NoMemory; slot = 0 } }
 {
     Refused {
         rule: Rule::NoMemory,

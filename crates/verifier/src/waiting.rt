@@ -68,11 +68,19 @@ fn free_place<const N: usize>(rows: &mut Waiting<N>) -> Option<usize>
     ensures held { rows.new.held ≡ rows.old.held }
 {
     let place = rows.free.pop()?;
-    if is_free(rows, place) { Some(place) } else { None }
+    if is_free(rows, place) {
+        Some(place)
+    } else {
+        None
+    }
 }
 
 /// Has a copy of a row wait for a slot.
-pub fn wait<const N: usize>(rows: &mut Waiting<N>, slot: usize, row: &[Kind; N]) -> Result<(), AllocError>
+pub fn wait<const N: usize>(
+    rows: &mut Waiting<N>,
+    slot: usize,
+    row: &[Kind; N],
+) -> Result<(), AllocError>
     requires { slot < length (waiting rows.old) }
     ensures { IfOk result (λ _. waiting rows.new ≡ slice_set (waiting rows.old) slot (Some row.now)) }
 {

@@ -1,4 +1,4 @@
-use Rattle.std.proofs.Common.{rules, ap, sym, ◌∙◌, arith, Some}
+use Rattle.std.proofs.Common.{ap, sym, ◌∙◌, arith, Some}
 use Rattle.verifier.specs.Waiting.{waiting}
 use Rattle.verifier.proofs.Waits.{read_held, set_none}
 use Rattle.verifier.proofs.edges.take_waiting.Goals as goal

@@ -1,4 +1,4 @@
-use Rattle.std.proofs.Common.{rules, ◌+◌, length, refl, sym, ap, ◌∙◌, subst, arith, None}
+use Rattle.std.proofs.Common.{rules, ◌+◌, length, sym, ap, ◌∙◌, subst, arith, None}
 use Rattle.std.proofs.lemmas.Option.{slice_get_read}
 use Rattle.verifier.specs.Candidates.{program_in}
 use Rattle.verifier.specs.CallKinds.{callee_from}

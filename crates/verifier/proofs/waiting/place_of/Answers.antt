@@ -1,4 +1,4 @@
-use Rattle.std.proofs.Common.{rules, ap, sym, ◌∙◌, refl, arith, length, get_or, subst}
+use Rattle.std.proofs.Common.{ap, sym, ◌∙◌, refl, arith, length}
 use Rattle.std.specs.Option.{is_some}
 use Rattle.std.proofs.lemmas.Bool.{ltb-false}
 use Rattle.std.proofs.lemmas.Option.{slice_get_read, slice_get_past}
