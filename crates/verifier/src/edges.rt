@@ -11,7 +11,7 @@ ghost use Rattle.verifier.specs.Rows.{row_at, push_one, pushed, edge_list, LeadB
 ghost use Rattle.verifier.specs.Waiting.{waiting};
 
 use crate::kinds::{one_number, write_taken};
-use crate::waiting::{Waiting, free, place_of, wait};
+use crate::waiting::Waiting;
 use bpfimage::form::{next_of, target_of};
 use insn::Insn;
 use ranges::{Kind, Profile, join};
@@ -86,9 +86,9 @@ fn join_waiting<const N: usize>(
     ensures rows { waiting rows.new ≡ slice_set (waiting rows.old) slot None }
     ensures kinds { AreKinds row.new }
 {
-    if let Some(place) = place_of(rows, slot) {
+    if let Some(place) = rows.place_of(slot) {
         join_row_onto(profile, &rows.held[place].kinds, row);
-        free(rows, slot, place);
+        rows.release(slot, place);
     }
 }
 
@@ -102,14 +102,14 @@ pub fn take_waiting<const N: usize>(
     ensures here { here.new ≡ row_at (waiting rows.old) slot }
     ensures rows { waiting rows.new ≡ slice_set (waiting rows.old) slot None }
 {
-    match place_of(rows, slot) {
+    match rows.place_of(slot) {
         Some(place) => {
             let kinds = &rows.held[place].kinds;
             match here {
                 Some(row) => row.copy_from_slice(kinds),
                 None => *here = Some(*kinds),
             }
-            free(rows, slot, place);
+            rows.release(slot, place);
         }
         None => *here = None,
     }
@@ -128,12 +128,12 @@ fn push_edge<const N: usize>(
     ensures rows { IfOk result (λ _. waiting rows.new ≡ push_one profile (waiting rows.old) (to, row.now)) }
     ensures kinds { IfOk result (λ _. AreRowKinds (waiting rows.new)) }
 {
-    match place_of(rows, to) {
+    match rows.place_of(to) {
         Some(place) => {
             join_row(profile, &mut rows.held[place].kinds, row);
             Ok(())
         }
-        None => wait(rows, to, row),
+        None => rows.wait(to, row),
     }
 }
 

@@ -21,7 +21,7 @@ use crate::rule::{KindRule, Refused, Rule};
 use crate::rules::advance;
 use crate::slots::lower_slot;
 use crate::verified::Verified;
-use crate::waiting::{Waiting, none_waiting};
+use crate::waiting::Waiting;
 use bpfimage::{Image, form_fault};
 use helpers::Sigs;
 use insn::code_is_paired;
@@ -131,7 +131,7 @@ fn check_rows<const N: usize>(alloc: Global, program: &Candidate) -> Result<Vec<
 {
     let slots = program.image.code.len();
     // A row waits for slot i until the pass gets there; none waits past the last.
-    let Ok(mut rows) = none_waiting(alloc, slots + 1) else {
+    let Ok(mut rows) = Waiting::new(alloc, slots + 1) else {
         return Err(no_memory());
     };
     let Ok(mut lows) = vec![in alloc; tail(); slots] else {

@@ -23,95 +23,93 @@ pub struct Waiting<const N: usize> {
     pub free: Vec<usize>,
 }
 
-/// Nothing waits, for any of so many slots.
-pub fn none_waiting<const N: usize>(alloc: Global, slots: usize) -> Result<Waiting<N>, AllocError>
-    ensures { IfOk result (λ rows. waiting rows ≡ replicate slots None) }
-{
-    let places = vec![in alloc; 0; slots]?;
-    Ok(Waiting {
-        places,
-        held: Vec::new(alloc),
-        free: Vec::new(alloc),
-    })
-}
-
-/// The place of the row that waits for a slot, if one does.
-pub fn place_of<const N: usize>(rows: &Waiting<N>, slot: usize) -> Option<usize>
-    requires { slot < length (waiting rows.now) }
-    ensures found { IfSome result (λ place. (slice_get rows.now.places.items slot ≡ Some place) × (owner_at rows.now.held.items place ≡ Some slot)) }
-    ensures within { IfSome result (λ place. place < vec_len rows.now.held) }
-    ensures none { IfNone result (row_at (waiting rows.now) slot ≡ None) }
-{
-    let place = rows.places[slot];
-    match rows.held.get(place) {
-        Some(held) if held.owner == Some(slot) => Some(place),
-        _ => None,
+impl<const N: usize> Waiting<N> {
+    /// Nothing waits, for any of so many slots.
+    pub fn new(alloc: Global, slots: usize) -> Result<Waiting<N>, AllocError>
+        ensures { IfOk result (λ rows. waiting rows ≡ replicate slots None) }
+    {
+        let places = vec![in alloc; 0; slots]?;
+        Ok(Waiting {
+            places,
+            held: Vec::new(alloc),
+            free: Vec::new(alloc),
+        })
     }
-}
 
-/// Whether a row waits for no slot.
-fn is_free<const N: usize>(rows: &Waiting<N>, place: usize) -> bool
-    ensures free { result ≡ true → owner_at rows.now.held.items place ≡ None }
-    ensures within { result ≡ true → place < vec_len rows.now.held }
-{
-    match rows.held.get(place) {
-        Some(held) => held.owner == None,
-        None => false,
-    }
-}
-
-/// A place whose row waits for no slot, if one is known.
-fn free_place<const N: usize>(rows: &mut Waiting<N>) -> Option<usize>
-    ensures free { IfSome result (λ place. owner_at rows.new.held.items place ≡ None) }
-    ensures within { IfSome result (λ place. place < vec_len rows.new.held) }
-    ensures places { rows.new.places ≡ rows.old.places }
-    ensures held { rows.new.held ≡ rows.old.held }
-{
-    let place = rows.free.pop()?;
-    if is_free(rows, place) {
-        Some(place)
-    } else {
-        None
-    }
-}
-
-/// Has a copy of a row wait for a slot.
-pub fn wait<const N: usize>(
-    rows: &mut Waiting<N>,
-    slot: usize,
-    row: &[Kind; N],
-) -> Result<(), AllocError>
-    requires { slot < length (waiting rows.old) }
-    ensures { IfOk result (λ _. waiting rows.new ≡ slice_set (waiting rows.old) slot (Some row.now)) }
-{
-    match free_place(rows) {
-        Some(place) => {
-            let held = &mut rows.held[place];
-            held.owner = Some(slot);
-            held.kinds.copy_from_slice(row);
-            rows.places[slot] = place;
-        }
-        None => {
-            let place = rows.held.len();
-            rows.held.push(Held {
-                owner: Some(slot),
-                kinds: *row,
-            })?;
-            rows.places[slot] = place;
+    /// The place of the row that waits for a slot, if one does.
+    pub fn place_of(&self, slot: usize) -> Option<usize>
+        requires { slot < length (waiting self.now) }
+        ensures found { IfSome result (λ place. (slice_get self.now.places.items slot ≡ Some place) × (owner_at self.now.held.items place ≡ Some slot)) }
+        ensures within { IfSome result (λ place. place < vec_len self.now.held) }
+        ensures none { IfNone result (row_at (waiting self.now) slot ≡ None) }
+    {
+        let place = self.places[slot];
+        match self.held.get(place) {
+            Some(held) if held.owner == Some(slot) => Some(place),
+            _ => None,
         }
     }
-    Ok(())
-}
 
-/// Has the row at a place, which is a slot's, wait no more.
-pub fn free<const N: usize>(rows: &mut Waiting<N>, slot: usize, place: usize)
-    requires within { slot < length (waiting rows.old) }
-    requires place { slice_get rows.old.places.items slot ≡ Some place }
-    requires owner { owner_at rows.old.held.items place ≡ Some slot }
-    requires row { place < vec_len rows.old.held }
-    ensures { waiting rows.new ≡ slice_set (waiting rows.old) slot None }
-{
-    rows.held[place].owner = None;
-    // A place that finds no room here isn't used again.
-    let _ = rows.free.push(place);
+    /// Whether a row waits for no slot.
+    fn is_free(&self, place: usize) -> bool
+        ensures free { result ≡ true → owner_at self.now.held.items place ≡ None }
+        ensures within { result ≡ true → place < vec_len self.now.held }
+    {
+        match self.held.get(place) {
+            Some(held) => held.owner == None,
+            None => false,
+        }
+    }
+
+    /// A place whose row waits for no slot, if one is known.
+    fn free_place(&mut self) -> Option<usize>
+        ensures free { IfSome result (λ place. owner_at self.new.held.items place ≡ None) }
+        ensures within { IfSome result (λ place. place < vec_len self.new.held) }
+        ensures places { self.new.places ≡ self.old.places }
+        ensures held { self.new.held ≡ self.old.held }
+    {
+        let place = self.free.pop()?;
+        if self.is_free(place) {
+            Some(place)
+        } else {
+            None
+        }
+    }
+
+    /// Has a copy of a row wait for a slot.
+    pub fn wait(&mut self, slot: usize, row: &[Kind; N]) -> Result<(), AllocError>
+        requires { slot < length (waiting self.old) }
+        ensures { IfOk result (λ _. waiting self.new ≡ slice_set (waiting self.old) slot (Some row.now)) }
+    {
+        match self.free_place() {
+            Some(place) => {
+                let held = &mut self.held[place];
+                held.owner = Some(slot);
+                held.kinds.copy_from_slice(row);
+                self.places[slot] = place;
+            }
+            None => {
+                let place = self.held.len();
+                self.held.push(Held {
+                    owner: Some(slot),
+                    kinds: *row,
+                })?;
+                self.places[slot] = place;
+            }
+        }
+        Ok(())
+    }
+
+    /// Has the row at a place, which is a slot's, wait no more.
+    pub fn release(&mut self, slot: usize, place: usize)
+        requires within { slot < length (waiting self.old) }
+        requires place { slice_get self.old.places.items slot ≡ Some place }
+        requires owner { owner_at self.old.held.items place ≡ Some slot }
+        requires row { place < vec_len self.old.held }
+        ensures { waiting self.new ≡ slice_set (waiting self.old) slot None }
+    {
+        self.held[place].owner = None;
+        // A place that finds no room here isn't used again.
+        let _ = self.free.push(place);
+    }
 }

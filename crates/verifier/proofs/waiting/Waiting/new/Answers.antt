@@ -1,6 +1,6 @@
 use Rattle.std.proofs.Common.{rules}
 use Rattle.verifier.proofs.Waits.{none_at_first}
-use Rattle.verifier.proofs.waiting.none_waiting.Goals as goal
+use Rattle.verifier.proofs.waiting.Waiting.new.Goals as goal
 
 pub returns : goal.returns
 returns g c = none_at_first c.in_ok-places.places.items c.args.slots 0 c.new.result.items (c.in_ok-places.ensures.items_if_clones_equal (λ y h. search rules)) c.new.ensures.items
