@@ -7,10 +7,11 @@ ghost use Rattle.verifier.specs.Waiting.{owner_at, waiting};
 use ranges::Kind;
 use std::alloc::{AllocError, Global};
 
-/// A row of kinds, and the slot for which it waits, if it still does.
+/// A row of kinds, and the slot for which it waits, if it still does: or else the next place whose row waits for none.
 #[derive(Drop)]
 pub struct Held<const N: usize> {
     pub owner: Option<usize>,
+    pub next_free: Option<usize>,
     pub kinds: [Kind; N],
 }
 
@@ -20,7 +21,7 @@ pub struct Held<const N: usize> {
 pub struct Waiting<const N: usize> {
     pub places: Vec<usize>,
     pub held: Vec<Held<N>>,
-    pub free: Vec<usize>,
+    pub free: Option<usize>,
 }
 
 impl<const N: usize> Waiting<N> {
@@ -32,7 +33,7 @@ impl<const N: usize> Waiting<N> {
         Ok(Waiting {
             places,
             held: Vec::new(alloc),
-            free: Vec::new(alloc),
+            free: None,
         })
     }
 
@@ -50,29 +51,20 @@ impl<const N: usize> Waiting<N> {
         }
     }
 
-    /// Whether a row waits for no slot.
-    fn is_free(&self, place: usize) -> bool
-        ensures free { result ≡ true → owner_at self.now.held.items place ≡ None }
-        ensures within { result ≡ true → place < vec_len self.now.held }
-    {
-        match self.held.get(place) {
-            Some(held) => held.owner == None,
-            None => false,
-        }
-    }
-
-    /// A place whose row waits for no slot, if one is known.
+    /// Takes the first of the places whose rows wait for no slot, if there is one.
     fn free_place(&mut self) -> Option<usize>
         ensures free { IfSome result (λ place. owner_at self.new.held.items place ≡ None) }
         ensures within { IfSome result (λ place. place < vec_len self.new.held) }
         ensures places { self.new.places ≡ self.old.places }
         ensures held { self.new.held ≡ self.old.held }
     {
-        let place = self.free.pop()?;
-        if self.is_free(place) {
-            Some(place)
-        } else {
-            None
+        let place = self.free?;
+        match self.held.get(place) {
+            Some(held) if held.owner == None => {
+                self.free = held.next_free;
+                Some(place)
+            }
+            _ => None,
         }
     }
 
@@ -92,6 +84,7 @@ impl<const N: usize> Waiting<N> {
                 let place = self.held.len();
                 self.held.push(Held {
                     owner: Some(slot),
+                    next_free: None,
                     kinds: *row,
                 })?;
                 self.places[slot] = place;
@@ -108,8 +101,9 @@ impl<const N: usize> Waiting<N> {
         requires row { place < vec_len self.old.held }
         ensures { waiting self.new ≡ slice_set (waiting self.old) slot None }
     {
-        self.held[place].owner = None;
-        // A place that finds no room here isn't used again.
-        let _ = self.free.push(place);
+        let held = &mut self.held[place];
+        held.owner = None;
+        held.next_free = self.free;
+        self.free = Some(place);
     }
 }

@@ -19,7 +19,7 @@ returns-in-Some-clause-rows g c =
     let found = c.in-Some.ensures.found in
     let within : c.in-Some.place < length rows.held.items = omega (arith, c.in-Some.ensures.within, rows.held.ok.0) in
     let there = read_held c.args.to rows.places.items rows.held.items c.in-Some.place c.index_mut.result.now found.0 found.1 within c.index_mut.ensures.value in
-    changed c.args.to rows.places.items rows.held.items c.in-Some.place (record { owner = c.index_mut.result.now.owner; kinds = c.join_row.new.kept }) found.0 found.1 within there.0
+    changed c.args.to rows.places.items rows.held.items c.in-Some.place (record { owner = c.index_mut.result.now.owner; next_free = c.index_mut.result.now.next_free; kinds = c.join_row.new.kept }) found.0 found.1 within there.0
     ∙ ap (set (waiting rows) c.args.to) (ap Some c.join_row.ensures.table ∙ ap (λ o. joined c.args.profile o c.args.row.now) (sym there.1))
 
 pub returns-in-Some-clause-kinds : goal.returns-in-Some-clause-kinds
@@ -29,7 +29,7 @@ returns-in-Some-clause-kinds g c =
     let within : c.in-Some.place < length rows.held.items = omega (arith, c.in-Some.ensures.within, rows.held.ok.0) in
     let there = read_held c.args.to rows.places.items rows.held.items c.in-Some.place c.index_mut.result.now found.0 found.1 within c.index_mut.ensures.value in
     subst AreRowKinds
-    (sym (changed c.args.to rows.places.items rows.held.items c.in-Some.place (record { owner = c.index_mut.result.now.owner; kinds = c.join_row.new.kept }) found.0 found.1 within there.0))
+    (sym (changed c.args.to rows.places.items rows.held.items c.in-Some.place (record { owner = c.index_mut.result.now.owner; next_free = c.index_mut.result.now.next_free; kinds = c.join_row.new.kept }) found.0 found.1 within there.0))
     (row_kinds_set (waiting rows) c.args.to (Some c.join_row.new.kept) c.requires.old c.join_row.ensures.kinds)
 
 pub returns-in-None-clause-kinds : goal.returns-in-None-clause-kinds
