@@ -28,7 +28,7 @@ asked (prepared.Put write) = request.Put write.value.key write.value.seen write.
 asked (prepared.Merge merged) = request.Merge merged.value.key merged.value.from merged.value.at merged.value.state
 asked (prepared.Read key) = request.Read key.now
 asked (prepared.Summary key) = request.Summary key.now
-asked (prepared.Part key from at part) = request.Part key.now from at part.now
+asked (prepared.Part merged part) = request.Part merged.value.key merged.value.from merged.value.at part
 asked prepared.Restart = request.Restart
 
 -- the dot that a reply tells, and none else

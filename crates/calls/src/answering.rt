@@ -37,12 +37,7 @@ pub fn answer(vnode: &mut Vnode, stamp: u64, prepared: Prepared<'_>) -> Result<R
             Ok((summary, _)) => Ok(Reply::Summary(summary)),
             Err(fault) => Err(PartFault::Refused(fault)),
         },
-        Prepared::Part {
-            key,
-            from,
-            at,
-            part,
-        } => match vnode.merge_part(stamp, key, from, at, part) {
+        Prepared::Part { merged, part } => match vnode.merge_part(stamp, merged, part) {
             Ok((changed, _)) => Ok(Reply::Built {
                 changed,
                 whole: Whole::last_of(vnode),

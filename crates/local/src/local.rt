@@ -274,7 +274,7 @@ fn merge_part_in(
     ensures { MergesPartIn stamp key.now from at part.now vnode.old result vnode.new }
 {
     journal::laws::replays_are_one();
-    match vnode.merge_part(stamp, key, from, at, part) {
+    match vnode.merge_part_lent(stamp, key, from, at, part) {
         Ok((changed, _)) => Ok(PartAnswer::Merged(changed)),
         Err(PartFault::Missing) => Ok(PartAnswer::Missing),
         Err(PartFault::Refused(fault)) => Err(PeerFault::Refused(fault)),

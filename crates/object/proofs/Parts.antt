@@ -79,6 +79,15 @@ whole_pushed own here xs i x content copy old new lt is same has copied so_far p
     pushed ∙ ap (λ (l : List Sibling). l ++ record { dot = x.dot; content = copy } ∷ []) so_far ∙ ap (λ (z : Content). whole_siblings own (take i xs) ++ record { dot = x.dot; content = z } ∷ []) copied
     ∙ sym (whole_more own xs i x content lt is (sym (has ∙ ap (λ (l : List Sibling). content_of l x) same)))
 
+-- none is lacking still, where the next has its content
+pub held_pushed : (own here : List Sibling) (xs : List PartSibling) (i : ℕ) (x : PartSibling) (content : Content) → i < length xs → x ≡ get_or xs i x → here ≡ own → Some content ≡ content_of here x → lacks_content own (take i xs) ≡ false → lacks_content own (take (i + 1) xs) ≡ false
+held_pushed own here xs i x content lt is same has none =
+    ap (lacks_content own) (take_more xs i x lt ∙ ap (λ (p : PartSibling). take i xs ++ p ∷ []) (sym is)) ∙ pushed (take i xs) (sym (has ∙ ap (λ (l : List Sibling). content_of l x) same)) none
+  where
+    pushed : (ys : List PartSibling) → content_of own x ≡ Some content → lacks_content own ys ≡ false → lacks_content own (ys ++ x ∷ []) ≡ false
+    pushed [] here none = rw here refl
+    pushed (y ∷ ys) here none = let p = or_parts (not (is_some (content_of own y))) (lacks_content own ys) none in rw p.0 (pushed ys here p.1)
+
 -- a whole state holds the dots of its part, where no content is lacking
 pub held_by_whole : (own : List Sibling) (xs : List PartSibling) (d : Dot) → lacks_content own xs ≡ false → is_some (content_at (whole_siblings own xs) d) ≡ list_any (λ s. is_dot s.dot d) xs
 held_by_whole own [] d none = refl

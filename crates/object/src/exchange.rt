@@ -9,6 +9,7 @@ ghost use Rattle.object.specs.Parts.{names, summary_of, part_of, whole_of, conte
 use crate::content::{Content, Sibling};
 use crate::fault::{MergeFault, PartFault};
 use crate::part::{Part, PartSibling, Summary};
+use crate::prepared::PreparedPart;
 use crate::state::KeyState;
 use dvv::Dot;
 use std::alloc::{AllocError, Global};
@@ -75,17 +76,7 @@ impl KeyState {
         if self.lacks(part) {
             return Err(PartFault::Missing);
         }
-        let mut siblings = Vec::with_capacity(alloc, part.siblings().len())?;
-        for sent in part.siblings() {
-            let Some(content) = content_of(self.siblings(), sent) else {
-                return Err(PartFault::Missing);
-            };
-            siblings.push(Sibling {
-                dot: sent.dot,
-                content: content.copy()?,
-            })?;
-        }
-        Ok(KeyState::from_parts(part.clock().copy(alloc)?, siblings))
+        self.whole_in(PreparedPart::new(alloc, part)?)
     }
 
     /// Merges the whole state that a part stands for, as [`merge`](KeyState::merge) does, and tells whether siblings or clock
@@ -151,7 +142,7 @@ fn drops_some(part: &Part, own: &[Sibling]) -> bool
 }
 
 // The content of a part's sibling: the one that was sent, or the own one under its dot.
-fn content_of<'a>(own: &'a [Sibling], sent: &'a PartSibling) -> Option<&'a Content>
+pub(crate) fn content_of<'a>(own: &'a [Sibling], sent: &'a PartSibling) -> Option<&'a Content>
     requires { AreInOrder own.now }
     ensures { option_copied result ≡ content_of own.now sent.now }
 {

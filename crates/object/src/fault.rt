@@ -3,7 +3,7 @@
 ghost use Rattle.std.specs.Prelude.{◌≡◌};
 
 use dvv::ClockFault;
-use std::alloc::{AllocError, AllocFailed};
+use std::alloc::AllocError;
 use thiserror::Error;
 
 /// What a put is refused for by the state alone, the first in this order.
@@ -100,17 +100,6 @@ impl From<AllocError> for PartFault {
     ghost from_gives = { λ _ fault. fault ≡ Merge NoMemory };
 
     fn from(_error: AllocError) -> Self {
-        PartFault::Merge(MergeFault::NoMemory)
-    }
-}
-
-impl<T: Drop> From<AllocFailed<T>> for PartFault {
-    ghost use Rattle.object.specs.declared.fault.MergeFault.TheVariants.{NoMemory};
-    ghost use Rattle.object.specs.declared.fault.PartFault.TheVariants.{Merge};
-
-    ghost from_gives = { λ _ fault. fault ≡ Merge NoMemory };
-
-    fn from(_error: AllocFailed<T>) -> Self {
         PartFault::Merge(MergeFault::NoMemory)
     }
 }

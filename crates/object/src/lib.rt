@@ -10,6 +10,7 @@ mod limits;
 mod merging;
 mod part;
 mod placing;
+mod prepared;
 mod state;
 
 pub use bytes::Bytes;
@@ -17,4 +18,5 @@ pub use content::{Content, Key, Sibling};
 pub use fault::{MergeFault, PartFault, PutFault, PutRefusal};
 pub use limits::{MAX_BUCKET, MAX_KEY, MAX_MEDIA, MAX_SIBLINGS, MAX_VALUE};
 pub use part::{Part, PartSibling, Summary};
+pub use prepared::PreparedPart;
 pub use state::KeyState;

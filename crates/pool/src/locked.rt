@@ -47,15 +47,7 @@ fn give_back(stamps: &Stamps, card: &mut Card, pass: &mut Card)
 fn wants_memory(fault: PartFault) -> bool
     ensures { result ≡ wants_memory fault }
 {
-    match fault {
-        PartFault::Missing => false,
-        PartFault::Refused(VnodeFault::NoMemory) => true,
-        PartFault::Refused(VnodeFault::ContextAhead) => false,
-        PartFault::Refused(VnodeFault::TooManySiblings) => false,
-        PartFault::Refused(VnodeFault::ClockFull) => false,
-        PartFault::Refused(VnodeFault::MergedClockFull) => false,
-        PartFault::Refused(VnodeFault::JournalFull) => false,
-    }
+    matches!(fault, PartFault::Refused(VnodeFault::NoMemory))
 }
 
 // Whether a request was refused for memory.

@@ -1,13 +1,13 @@
 //! Summaries of what is held, and parts of states, at the keys of a vnode.
 
-ghost use Rattle.std.specs.Prelude.{◌≡◌, OnOk, IfOk, OnSome, IfSome, false};
+ghost use Rattle.std.specs.Prelude.{◌≡◌, OnOk, IfOk, false};
 ghost use Rattle.object.specs.Parts.{summary_of, lacks_some, whole_of};
 ghost use Rattle.vnode.specs.Parts.{RefusesPartAt};
 ghost use Rattle.vnode.specs.States.{state_at};
 
 use crate::fault::{PartFault, VnodeFault};
 use journal::{Journal, Merged};
-use object::{Key, KeyState, Part, Summary};
+use object::{Key, KeyState, Part, PreparedPart, Summary};
 use std::alloc::{AllocError, Global};
 use std::collections::BTreeMap;
 
@@ -27,42 +27,42 @@ pub(crate) fn summary_at(
     }
 }
 
-// The whole state that a part stands for at a key. None where there is no memory, or where a content that was left out isn't held.
-fn whole_at(
+/// What the merge of a part takes: what its entry keeps, but for the state, and the part with memory for its whole state.
+pub fn merged_part_of<'a>(
     alloc: Global,
-    states: &BTreeMap<Key, KeyState>,
-    key: &Key,
-    part: &Part,
-) -> Result<KeyState, object::PartFault>
-    ensures held { OnOk result (lacks_some (state_at states.now key.now) part.now ≡ false) }
-    ensures whole { IfOk result (λ whole. whole ≡ whole_of part.now (state_at states.now key.now)) }
-{
-    match states.get(key) {
-        Some(state) => state.whole_of(alloc, part),
-        None => KeyState::new(alloc).whole_of(alloc, part),
-    }
-}
-
-// What the entry of a part's merge keeps: the whole state. None where there is no memory, or where a content that was left out isn't
-// held.
-pub(crate) fn whole_merged(
-    alloc: Global,
-    states: &BTreeMap<Key, KeyState>,
     key: &Key,
     from: u32,
     at: u32,
-    part: &Part,
-) -> Option<Box<Merged>>
-    ensures held { OnSome result (lacks_some (state_at states.now key.now) part.now ≡ false) }
-    ensures merged { IfSome result (λ merged. (merged.value.key ≡ key.now) × (merged.value.from ≡ from) × (merged.value.at ≡ at) × (merged.value.state ≡ whole_of part.now (state_at states.now key.now))) }
+    part: &'a Part,
+) -> Result<(Box<Merged>, PreparedPart<'a>), AllocError>
+    ensures { IfOk result (λ made. (made.0.value.key ≡ key.now) × (made.0.value.from ≡ from) × (made.0.value.at ≡ at) × (made.1 ≡ part.now)) }
 {
     let merged = Merged {
-        key: key.copy().ok()?,
+        key: key.copy()?,
         from,
         at,
-        state: whole_at(alloc, states, key, part).ok()?,
+        state: KeyState::new(alloc),
     };
-    Box::new(alloc, merged).ok()
+    Ok((Box::new(alloc, merged)?, PreparedPart::new(alloc, part)?))
+}
+
+// Gives what the entry of a part's merge keeps its state: the whole one for which the part stands at the key.
+pub(crate) fn make_whole(
+    alloc: Global,
+    states: &BTreeMap<Key, KeyState>,
+    merged: &mut Merged,
+    part: PreparedPart<'_>,
+) -> Result<(), object::PartFault>
+    ensures held { OnOk result (lacks_some (state_at states.now merged.old.key) part.entry ≡ false) }
+    ensures whole { OnOk result (merged.new.state ≡ whole_of part.entry (state_at states.now merged.old.key)) }
+    ensures same { (merged.new.key ≡ merged.old.key) × (merged.new.from ≡ merged.old.from) × (merged.new.at ≡ merged.old.at) }
+{
+    let whole = match states.get(&merged.key) {
+        Some(state) => state.whole_in(part),
+        None => KeyState::new(alloc).whole_in(part),
+    };
+    merged.state = whole?;
+    Ok(())
 }
 
 // Why a part is refused that lacks a content or finds no memory: for the first limit that it passes, or for memory. Takes none.

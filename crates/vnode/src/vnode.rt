@@ -3,14 +3,14 @@
 ghost use Rattle.std.specs.Prelude.{◌≡◌, ◌≢◌, ◌↔◌, Contains, IsTrue, OnOk, OnErr, IfOk, IfErr, [], false, length, Err, List, ◌+◌, ◌^◌, ◌≤◌, ◌<◌, ◌⊎◌, All};
 
 use crate::fault::{PartFault, VnodeFault};
-use crate::parts::{part_refusal_at, summary_at, whole_merged};
+use crate::parts::{make_whole, merged_part_of, part_refusal_at, summary_at};
 use crate::steps::{
     Copied, copies_at, has_places_for, keys_in, merge_at, merge_refusal_at, merged_of, put_at,
     put_refusal_at, read_all_at, write_of,
 };
 use dvv::{Clock, Dot};
 use journal::{Entry, Handout, Journal, Merged, Write};
-use object::{Content, Key, KeyState, Part, Summary};
+use object::{Content, Key, KeyState, Part, PreparedPart, Summary};
 use std::alloc::{AllocError, Global};
 use std::collections::BTreeMap;
 use std::marker::Model;
@@ -240,8 +240,37 @@ impl Vnode {
     }
 
     /// Merges a part of the state that the vnode `from` answered at place `at` of its journal: a content that was left out is the own
-    /// one under its dot. The entry holds the whole state. Otherwise as [`merge_lent`](Vnode::merge_lent).
+    /// one under its dot. The entry takes `merged` over, whose state becomes the whole one. Memory is asked for nothing but what the
+    /// vnode itself keeps.
     pub fn merge_part(
+        &mut self,
+        stamp: u64,
+        mut merged: Box<Merged>,
+        part: PreparedPart<'_>,
+    ) -> Result<(bool, u32), PartFault>
+        ensures held { OnOk result (Leaves self.old.entries merged.value.key (λ own. lacks_some own part.entry ≡ false)) }
+        ensures changed { IfOk result (λ merge. Leaves self.old.entries merged.value.key (λ own. TellsChange self.old.entries (Merge stamp merged.value.key merged.value.from merged.value.at (whole_of part.entry own)) merged.value.key merge.0)) }
+        ensures place { IfOk result (λ merge. merge.1 ≡ length self.old.entries) }
+        ensures entry { OnOk result (Leaves self.old.entries merged.value.key (λ own. self.new ≡ with_entry self.old (Merge stamp merged.value.key merged.value.from merged.value.at (whole_of part.entry own)))) }
+        ensures accepts { OnOk result (Leaves self.old.entries merged.value.key (λ own. AcceptsMerge self.old.entries merged.value.key (whole_of part.entry own))) }
+
+        ensures why { IfErr result (RefusesPart self.old merged.value.key part.entry) }
+        ensures exact { (fault : PartFault) → fault ≢ PartFault.Refused VnodeFault.NoMemory → RefusesPart self.old merged.value.key part.entry fault → result ≡ Err fault }
+        ensures err { OnErr result (self.new ≡ self.old) }
+        ensures legal { IsJournal self.new.vnode self.new.entries }
+    {
+        let lent = part.part();
+        match make_whole(self.alloc, &self.states, &mut merged, part) {
+            Ok(()) => match self.merge(stamp, merged) {
+                Ok(merge) => Ok(merge),
+                Err(fault) => Err(PartFault::Refused(fault)),
+            },
+            Err(_) => Err(self.part_refusal(&merged.key, lent)),
+        }
+    }
+
+    /// As [`merge_part`](Vnode::merge_part), of a key and a part that are lent: the key is copied, and the entry holds the whole state.
+    pub fn merge_part_lent(
         &mut self,
         stamp: u64,
         key: &Key,
@@ -261,12 +290,9 @@ impl Vnode {
         ensures err { OnErr result (self.new ≡ self.old) }
         ensures legal { IsJournal self.new.vnode self.new.entries }
     {
-        match whole_merged(self.alloc, &self.states, key, from, at, part) {
-            Some(merged) => match self.merge(stamp, merged) {
-                Ok(merge) => Ok(merge),
-                Err(fault) => Err(PartFault::Refused(fault)),
-            },
-            None => Err(self.part_refusal(key, part)),
+        match merged_part_of(self.alloc, key, from, at, part) {
+            Ok((merged, prepared)) => self.merge_part(stamp, merged, prepared),
+            Err(_) => Err(self.part_refusal(key, part)),
         }
     }
 

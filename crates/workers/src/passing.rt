@@ -162,6 +162,7 @@ fn summary_through<B: Room, R: Wait, G: Gate>(
 
 // Merges a part at a vnode.
 fn part_through<B: Room, R: Wait, G: Gate>(
+    alloc: Global,
     rt: &R,
     cluster: &Cluster<B>,
     pass: &mut Pass<B>,
@@ -177,11 +178,8 @@ fn part_through<B: Room, R: Wait, G: Gate>(
     if i >= cluster.count() {
         return Err(PeerFault::Lost);
     }
-    let prepared = Prepared::Part {
-        key,
-        from,
-        at,
-        part,
+    let Ok(prepared) = Prepared::part(alloc, key, from, at, part) else {
+        return Err(PeerFault::Refused(VnodeFault::NoMemory));
     };
     match cluster.call_prepared(rt, pass, i, prepared, gate) {
         Ok((Reply::Built { changed, .. }, _)) => Ok(PartAnswer::Merged(changed)),
@@ -321,6 +319,7 @@ impl<'a, B: Room, R: Wait, G: Gate> Peers for PassPeers<'a, B, R, G> {
         part: &Part,
     ) -> Result<PartAnswer, PeerFault> {
         let back = part_through(
+            self.alloc,
             self.rt,
             self.cluster,
             self.pass,

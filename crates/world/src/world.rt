@@ -306,7 +306,7 @@ fn merge_part_at(
     ensures few { made.new ≤ made.old + 1 }
 {
     let vnode = &mut vnodes[at];
-    match vnode.merge_part(*made, &message.key, message.from, message.at, &message.part) {
+    match vnode.merge_part_lent(*made, &message.key, message.from, message.at, &message.part) {
         Ok((changed, _)) => {
             *made += 1;
             Ok(changed)

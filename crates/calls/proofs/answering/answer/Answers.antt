@@ -30,12 +30,12 @@ pub returns-in-Ok-merge_part-clause-outcome : goal.returns-in-Ok-merge_part-clau
 returns-in-Ok-merge_part-clause-outcome c =
     let e = c.in-Ok-merge_part.ensures in
     subst (λ (p : Prepared). IsReply c.args.vnode.now c.args.stamp (asked p) (Built c.in-Ok-merge_part.changed c.last_of.result)) (sym c.in-Part.is)
-    (part_replied c.args.vnode.now c.merge_part.new.self c.in-Part.key.now c.args.stamp c.in-Part.from c.in-Part.at c.in-Part.part.now c.in-Ok-merge_part.changed c.last_of.result c.last_of.ensures e.entry e.held e.changed e.accepts)
+    (part_replied c.args.vnode.now c.merge_part.new.self c.in-Part.merged.value.key c.args.stamp c.in-Part.merged.value.from c.in-Part.merged.value.at c.in-Part.part c.in-Ok-merge_part.changed c.last_of.result c.last_of.ensures e.entry e.held e.changed e.accepts)
 
 pub returns-in-Ok-merge_part-clause-log : goal.returns-in-Ok-merge_part-clause-log
 returns-in-Ok-merge_part-clause-log c =
     subst (λ (p : Prepared). c.merge_part.new.self ≡ with_made c.args.vnode.now c.args.stamp (asked p) (Ok (Built c.in-Ok-merge_part.changed c.last_of.result))) (sym c.in-Part.is)
-    (part_made c.args.vnode.now c.merge_part.new.self c.in-Part.key.now c.args.stamp c.in-Part.from c.in-Part.at c.in-Part.part.now c.in-Ok-merge_part.changed c.last_of.result c.last_of.ensures c.in-Ok-merge_part.ensures.entry)
+    (part_made c.args.vnode.now c.merge_part.new.self c.in-Part.merged.value.key c.args.stamp c.in-Part.merged.value.from c.in-Part.merged.value.at c.in-Part.part c.in-Ok-merge_part.changed c.last_of.result c.last_of.ensures c.in-Ok-merge_part.ensures.entry)
 
 pub returns-in-Ok-merge_part-clause-exact : goal.returns-in-Ok-merge_part-clause-exact
 returns-in-Ok-merge_part-clause-exact c = λ fault other refuses.

@@ -33,7 +33,7 @@ fn merged(
     place: u32,
     from: u32,
 ) -> Result<Came, AllocError> {
-    let merged = second.merge_part(0, &key(alloc, b'k')?, 0, from, part);
+    let merged = second.merge_part_lent(0, &key(alloc, b'k')?, 0, from, part);
     Ok((part.contents(), place, merged))
 }
 

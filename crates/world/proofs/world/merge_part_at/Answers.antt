@@ -11,12 +11,12 @@ use Rattle.world.proofs.Stamped.{stamped_at}
 use Rattle.world.proofs.world.merge_part_at.Goals as goal
 
 pub returns-in-Ok-clause-merged : goal.returns-in-Ok-clause-merged
-returns-in-Ok-clause-merged c = part_merged c.args.vnodes.now c.args.at c.args.made.now c.index-vnodes-at.result c.merge_part.new.self c.args.message.now c.in-Ok.changed c.requires.inside c.in-Ok.ensures.held c.in-Ok.ensures.changed c.in-Ok.ensures.entry c.in-Ok.ensures.accepts
+returns-in-Ok-clause-merged c = part_merged c.args.vnodes.now c.args.at c.args.made.now c.index-vnodes-at.result c.merge_part_lent.new.self c.args.message.now c.in-Ok.changed c.requires.inside c.in-Ok.ensures.held c.in-Ok.ensures.changed c.in-Ok.ensures.entry c.in-Ok.ensures.accepts
 
 pub returns-in-Ok-clause-stamps : goal.returns-in-Ok-clause-stamps
 returns-in-Ok-clause-stamps c =
     let own = c.in-Ok.ensures.entry in
-    stamped_at c.args.vnodes.now c.args.made.now c.args.at (Merge c.args.made.now c.args.message.now.key c.args.message.now.from c.args.message.now.at (whole_of c.args.message.now.part own.0)) c.index-vnodes-at.result c.merge_part.new.self c.requires.inside own.2 refl
+    stamped_at c.args.vnodes.now c.args.made.now c.args.at (Merge c.args.made.now c.args.message.now.key c.args.message.now.from c.args.message.now.at (whole_of c.args.message.now.part own.0)) c.index-vnodes-at.result c.merge_part_lent.new.self c.requires.inside own.2 refl
 
 pub returns-in-Err-clause-refused : goal.returns-in-Err-clause-refused
 returns-in-Err-clause-refused c =

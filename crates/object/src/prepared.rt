@@ -1,0 +1,99 @@
+//! Parts with the memory that their whole states take.
+
+ghost use Rattle.std.specs.Prelude.{◌≡◌, ◌≢◌, ◌↔◌, Err, IsTrue, IfOk};
+ghost use Rattle.object.specs.Parts.{whole_of, lacks_some};
+ghost use Rattle.object.specs.State.{IsState};
+
+use crate::content::Sibling;
+use crate::exchange::content_of;
+use crate::fault::{MergeFault, PartFault};
+use crate::part::Part;
+use crate::state::KeyState;
+use dvv::Clock;
+use std::alloc::{AllocError, Global};
+use std::marker::Model;
+
+/// A part, and the memory that the whole state takes for which it stands: a copy of its clock, and room for its siblings. Whoever holds
+/// what was left out builds the whole state in it, and asks for no memory.
+#[derive(Debug, Drop)]
+pub struct PreparedPart<'a> {
+    part: &'a Part,
+    siblings: Vec<Sibling>,
+    clock: Clock,
+}
+
+impl<'a> Model for PreparedPart<'a> {
+    ghost use Rattle.std.specs.Prelude.{◌≡◌, ◌≤◌, [], length, vec_capacity};
+    ghost use Rattle.object.specs.Parts.{Partial};
+
+    ghost Value = { Partial };
+
+    ghost view = { λ p. p.part.now };
+
+    ghost invariant = { λ p. (p.clock ≡ p.part.now.clock) × (p.siblings.items ≡ []) × (length p.part.now.siblings ≤ vec_capacity p.siblings) };
+}
+
+impl<'a> PreparedPart<'a> {
+    /// Takes the memory for the whole state of a part.
+    pub fn new(alloc: Global, part: &'a Part) -> Result<Self, AllocError>
+        ensures { IfOk result (λ prepared. prepared ≡ part.now) }
+    {
+        Ok(PreparedPart {
+            part,
+            siblings: Vec::with_capacity(alloc, part.siblings().len())?,
+            clock: part.clock().copy(alloc)?,
+        })
+    }
+
+    /// The part.
+    pub fn part(&self) -> &'a Part
+        ensures { result.now ≡ self.now }
+    {
+        self.part
+    }
+}
+
+impl KeyState {
+    /// The whole state that a part stands for, in the memory that was taken for it: a content that was left out is the own one under its
+    /// dot. Each content is looked up once.
+    pub fn whole_in(&self, prepared: PreparedPart<'_>) -> Result<KeyState, PartFault>
+        ensures ok { IfOk result (λ whole. whole ≡ whole_of prepared.entry self.now) }
+        ensures state { IfOk result (λ whole. IsState whole) }
+        ensures missing { result ≡ Err PartFault.Missing ↔ IsTrue (lacks_some self.now prepared.entry) }
+        ensures full { result ≢ Err (PartFault.Merge MergeFault.ClockFull) }
+    {
+        let PreparedPart {
+            part,
+            mut siblings,
+            clock,
+        } = prepared;
+        for sent in part.siblings() {
+            let Some(content) = content_of(self.siblings(), sent) else {
+                return Err(PartFault::Missing);
+            };
+            let Ok(content) = content.copy() else {
+                return Err(self.uncopied(part));
+            };
+            let sibling = Sibling {
+                dot: sent.dot,
+                content,
+            };
+            match siblings.push(sibling) {
+                Ok(()) => {}
+                Err(_) => unreachable!(),
+            }
+        }
+        Ok(KeyState::from_parts(clock, siblings))
+    }
+
+    // Why there is no whole state of a part where a content has as many owners as can be counted: one that is missing is told first.
+    fn uncopied(&self, part: &Part) -> PartFault
+        ensures missing { result ≡ PartFault.Missing ↔ IsTrue (lacks_some self.now part.now) }
+        ensures full { result ≢ PartFault.Merge MergeFault.ClockFull }
+    {
+        if self.lacks(part) {
+            return PartFault::Missing;
+        }
+        PartFault::Merge(MergeFault::NoMemory)
+    }
+}
