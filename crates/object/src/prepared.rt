@@ -55,7 +55,7 @@ impl<'a> PreparedPart<'a> {
 
 impl KeyState {
     /// The whole state that a part stands for, in the memory that was taken for it: a content that was left out is the own one under its
-    /// dot. Each content is looked up once.
+    /// dot. Refused where such a dot isn't held, which is told first, and where a content has as many owners as can be counted.
     pub fn whole_in(&self, prepared: PreparedPart<'_>) -> Result<KeyState, PartFault>
         ensures ok { IfOk result (λ whole. whole ≡ whole_of prepared.entry self.now) }
         ensures state { IfOk result (λ whole. IsState whole) }
