@@ -1,7 +1,6 @@
 //! The tests by what they try.
 
 mod clocks;
-mod contexts;
 mod records;
 mod states;
 mod vnodes;

@@ -11,7 +11,7 @@ use dvv::{Clock, ClockFault, Dot};
 use std::alloc::Global;
 
 /// The clock that counts so many events of each vnode.
-pub fn clock_of(alloc: Global, counts: &[(u32, u64)]) -> Result<Clock, ClockFault> {
+fn clock_of(alloc: Global, counts: &[(u32, u64)]) -> Result<Clock, ClockFault> {
     let mut clock = Clock::new(alloc);
     for &(vnode, count) in counts {
         for _ in 0..count {

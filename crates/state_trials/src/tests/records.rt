@@ -1,89 +1,61 @@
-//! Worked rows of records. The whole records were computed by another program.
+//! How long a record's value may be. Shorter records, whole and damaged, are rows of `spellings`.
 
-mod clocks;
-mod faults;
-mod limits;
-mod siblings;
-mod whole;
-
-use sha1::Sha1;
+use code_parts::expect;
 use std::alloc::{AllocError, Global};
+use std::test::Fail;
 use wire::{WireFault, read_record};
 
-const NOT_CANONICAL: Option<WireFault> = Some(WireFault::NotCanonical);
+/// What stands in a body before a value's length: bucket `sim`, key `k`, from vnode 0 at place 1, the clock 0:1, and of one sibling its
+/// dot 0-1 and the media type `m`.
+const FRONT: &[u8; 50] = &[
+    0, 3, b's', b'i', b'm', 0, 1, b'k', 0, 0, 0, 0, 0, 0, 0, 1, 0, 1, 0, 0, 0, 0, 0, 0, 0, //
+    0, 0, 0, 0, 1, 0, 0, 0, 1, 0, 0, 0, 0, 0, 0, 0, 0, 0, 0, 0, 1, 1, 0, 1, b'm',
+];
 
-/// The bytes of bucket `sim`, key `k`, from vnode 0 at place 1.
-const KEY: &[u8] = &[0, 3, b's', b'i', b'm', 0, 1, b'k', 0, 0, 0, 0, 0, 0, 0, 1];
+/// How many bytes `v` a value has, the SHA-1 of its record's body, and why the record isn't read, if it isn't.
+const VALUES: &[(u32, [u8; 20], Option<WireFault>)] = &[
+    (
+        65_536,
+        [
+            0x81, 0xa3, 0x17, 0xeb, 0xfb, 0x0f, 0xc7, 0x2b, 0xb7, 0x66, 0xd1, 0x48, 0x5a, 0xd2,
+            0x70, 0xf3, 0x3c, 0x30, 0xe8, 0x2a,
+        ],
+        None,
+    ),
+    (
+        65_537,
+        [
+            0x6b, 0x13, 0x91, 0x06, 0xf5, 0x9b, 0xda, 0xba, 0x5a, 0x10, 0x3e, 0x7b, 0xe1, 0x74,
+            0x18, 0x32, 0x7c, 0xe0, 0xc1, 0x6f,
+        ],
+        Some(WireFault::NotCanonical),
+    ),
+];
 
-/// The entries of a clock, or the dots of siblings, each a vnode and a number.
-type Dots = &'static [(u32, u64)];
-
-/// Adds the bytes of a dot.
-fn push_dot(bytes: &mut Vec<u8>, vnode: u32, n: u64) -> Result<(), AllocError> {
-    bytes.extend_from_slice(&vnode.to_be_bytes())?;
-    bytes.extend_from_slice(&n.to_be_bytes())
-}
-
-/// Adds the bytes of a clock of these entries, at most 65,535.
-fn push_clock(bytes: &mut Vec<u8>, entries: &[(u32, u64)]) -> Result<(), AllocError> {
-    let count = (entries.len() % 65_536) as u16;
-    bytes.extend_from_slice(&count.to_be_bytes())?;
-    for &(vnode, n) in entries {
-        push_dot(bytes, vnode, n)?;
-    }
-    Ok(())
-}
-
-/// Adds the bytes of siblings, each a dot and its content, behind a number of them.
-fn push_siblings(
-    bytes: &mut Vec<u8>,
-    count: u32,
-    siblings: &[(u32, u64, &[u8])],
-) -> Result<(), AllocError> {
-    bytes.extend_from_slice(&count.to_be_bytes())?;
-    for &(vnode, n, content) in siblings {
-        push_dot(bytes, vnode, n)?;
-        bytes.extend_from_slice(content)?;
-    }
-    Ok(())
-}
-
-/// Adds a record with this body, under the right digest.
-fn push_record(bytes: &mut Vec<u8>, body: &[u8]) -> Result<(), AllocError> {
-    let len = (body.len() % (1 << 32)) as u32;
+/// Adds a record whose value has so many bytes, over this digest.
+fn push_record(bytes: &mut Vec<u8>, len: u32, digest: &[u8; 20]) -> Result<(), AllocError> {
     bytes.extend_from_slice(b"DVR1")?;
+    bytes.extend_from_slice(&len.saturating_add(54).to_be_bytes())?;
+    bytes.extend_from_slice(FRONT)?;
     bytes.extend_from_slice(&len.to_be_bytes())?;
-    bytes.extend_from_slice(body)?;
-    bytes.extend_from_slice(&Sha1::digest(body))
+    for _ in 0..len {
+        bytes.push(b'v')?;
+    }
+    bytes.extend_from_slice(digest)
 }
 
-/// Of a record with this body, under the right digest: why it isn't read, if it isn't.
-fn told(alloc: Global, body: &[u8]) -> Result<Option<WireFault>, AllocError> {
+/// Of a record whose value has so many bytes, over this digest: why it isn't read, if it isn't.
+fn fault_of(alloc: Global, len: u32, digest: &[u8; 20]) -> Result<Option<WireFault>, AllocError> {
     let mut bytes = Vec::new(alloc);
-    push_record(&mut bytes, body)?;
+    push_record(&mut bytes, len, digest)?;
     Ok(read_record(alloc, &bytes).err())
 }
 
-/// Adds the body of a record of the key with this clock and these siblings.
-fn push_body(
-    body: &mut Vec<u8>,
-    clock: &[(u32, u64)],
-    count: u32,
-    siblings: &[(u32, u64, &[u8])],
-) -> Result<(), AllocError> {
-    body.extend_from_slice(KEY)?;
-    push_clock(body, clock)?;
-    push_siblings(body, count, siblings)
-}
-
-/// Of a record of the key with this clock and these siblings, under the right digest: why it isn't read, if it isn't.
-fn told_of(
-    alloc: Global,
-    clock: &[(u32, u64)],
-    count: u32,
-    siblings: &[(u32, u64, &[u8])],
-) -> Result<Option<WireFault>, AllocError> {
-    let mut body = Vec::new(alloc);
-    push_body(&mut body, clock, count, siblings)?;
-    told(alloc, &body)
+/// 65,536 bytes of a value are read, one more isn't.
+#[test]
+fn longest_value(rt: HostRuntime) -> Result<(), Fail> {
+    for (len, digest, want) in VALUES {
+        expect(fault_of(rt.alloc(), *len, digest)? == *want, len)?;
+    }
+    Ok(())
 }
