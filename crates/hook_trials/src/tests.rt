@@ -1,9 +1,9 @@
 //! The tests by what is tried.
 
-mod decisions;
-mod layouts;
+mod answers;
+mod faults;
+mod images;
+mod inputs;
 mod put_hooks;
-mod registries;
 mod resolvers;
-mod shown;
 mod tables;

@@ -9,6 +9,7 @@ two connections, each of which has a store of its own, stands the separator of r
 """
 import base64
 import hashlib
+import itertools
 import struct
 from pathlib import Path
 
@@ -56,6 +57,12 @@ class Key:
     def vnode(self, at=0):
         """The vnode at an index of the key's preference list."""
         return (self.place + at) % VNODES
+
+
+def first_key(bucket, stem):
+    """A key of a bucket whose writes vnode 0 coordinates, and with `at=1` vnode 1; its name begins so."""
+    keys = (Key(bucket, f"{stem}{number}") for number in itertools.count())
+    return next(key for key in keys if key.vnode() == 0)
 
 
 def tag(dot):
@@ -217,17 +224,30 @@ def cart():
     yield request(f"GET {bob.target}"), not_found({bob.vnode(): 1})
 
 
-def hooks():
-    """Images of the folder of hooks, put under names and bound to buckets."""
+def install(name, image):
+    return request(f"PUT /hooks/{name}", body=image)
 
-    def install(name, image):
-        return request(f"PUT /hooks/{name}", body=image)
+
+def bind(bucket, props):
+    return request(f"PUT /buckets/{bucket}/props", typed(JSON), body=f'{{"props":{props}}}')
+
+
+def hooks():
+    """Hooks put under names, bound to buckets and taken away, and what they make of writes and reads."""
+    yield from hooks_of_the_folder()
+    yield NEXT
+    yield from shown_to_pre_commits()
+    yield NEXT
+    yield from written_by_hooks()
+    yield NEXT
+    yield from registry()
+
+
+def hooks_of_the_folder():
+    """Images of the folder of hooks."""
 
     def image(name):
         return (HOOKS / f"{name}.img").read_bytes()
-
-    def bind(bucket, props):
-        return request(f"PUT /buckets/{bucket}/props", typed(JSON), body=f'{{"props":{props}}}')
 
     # Values of a bucket are numbers, and of several the largest is taken.
     yield request("GET /buckets/visits/props"), properties(None, None)
@@ -286,6 +306,121 @@ def hooks():
     yield request(f"PUT {away.target}", typed(TEXT), body="many"), written(one, 1)
     yield request(f"PUT {away.target}?at=1", typed(TEXT), body="12"), written(two, 1)
     yield request(f"GET {away.target}"), choices({one: 1, two: 1}, (one, 1), (two, 1))
+
+
+# Images of a few slots.
+
+PRE_COMMIT, RESOLVER = 1, 2
+
+
+def slot(opcode, dst=0, src=0, offset=0, immediate=0):
+    return struct.pack("<BBhi", opcode, dst + 16 * src, offset, immediate)
+
+
+EXIT = slot(0x95)
+ADD_256 = slot(0x07, 0, immediate=256)
+
+
+def few_slots(kind, code, in_len=128, out_len=8):
+    """An image of a kind, with windows of these lengths and this code."""
+    return b"RBPF" + bytes([1, kind, 0, 0]) + struct.pack("<II", in_len, out_len) + code
+
+
+def answering(r0):
+    """Code that answers so."""
+    return slot(0xB7, 0, immediate=r0) + EXIT
+
+
+def writing(text):
+    """Code that writes these bytes and answers 1."""
+    stores = [slot(0x72, 3, 0, 4 + place, byte) for place, byte in enumerate(text)]
+    return slot(0x62, 3, 0, 0, len(text)) + b"".join(stores) + answering(1)
+
+
+def siblings(key):
+    """Writes the siblings 0-1 `a` and 1-1 `b`."""
+    assert (key.vnode(0), key.vnode(1)) == (0, 1)
+    yield request(f"PUT {key.target}?w=all", typed(TEXT), body="a"), written(0, 1)
+    yield request(f"PUT {key.target}?at=1&w=all", typed(TEXT), body="b"), written(1, 1)
+
+
+def shown_to_pre_commits():
+    """How much a pre-commit hook is shown: 91 bytes of a new `n` beside two values of one byte, 90 of a delete, 41 of an `n` alone."""
+    two, alone, many = (first_key("b", stem) for stem in ("two", "alone", "many"))
+    yield from siblings(two)
+    yield install("used", few_slots(PRE_COMMIT, slot(0xBF, 0, 2) + ADD_256 + EXIT)), done()
+    yield bind("b", '{"precommit":"used"}'), done()
+    yield request(f"PUT {two.target}", typed(TEXT), body="n"), told(403, "X3 91")
+    yield request(f"DELETE {two.target}"), told(403, "X3 90")
+    yield request(f"PUT {alone.target}", typed(TEXT), body="n"), told(403, "X3 41")
+    # The newest sibling by its row: the delete's own row is none, but counts.
+    yield install("used", few_slots(PRE_COMMIT, slot(0x85, immediate=19) + ADD_256 + EXIT)), done()
+    yield request(f"DELETE {two.target}"), told(403, "X3 2")
+    yield request(f"GET {two.target}"), choices({0: 1, 1: 1}, (0, 1), (1, 1))
+    yield request(f"GET {alone.target}"), not_found()
+    # A delete beside 64 tombstones is shown in 1,576 bytes.
+    yield bind("b", '{"precommit":null}'), done()
+    for n in range(1, 65):
+        yield request(f"DELETE {many.target}"), written(0, n)
+    yield bind("b", '{"precommit":"used"}'), done()
+    yield install("used", few_slots(PRE_COMMIT, answering(0), in_len=1575)), done()
+    yield request(f"DELETE {many.target}", seen({0: 64})), told(413, "X1")
+    yield request(f"GET {many.target}"), choices({0: 64}, *((0, n) for n in range(1, 65)))
+    yield install("used", few_slots(PRE_COMMIT, answering(0), in_len=1576)), done()
+    yield request(f"DELETE {many.target}", seen({0: 64})), written(0, 65)
+    yield request(f"GET {many.target}"), not_found({0: 65})
+
+
+def written_by_hooks():
+    """What hooks write is read later: a changed value keeps its type, in the place of a delete and by a resolver it is bytes."""
+    value_of, delete_of = first_key("b", "value"), first_key("b", "delete")
+    yield install("x", few_slots(PRE_COMMIT, writing(b"x"))), done()
+    yield bind("b", '{"precommit":"x"}'), done()
+    # All three vnodes have a copy.
+    yield request(f"PUT {value_of.target}?w=all", typed(TEXT), body="a"), written(0, 1)
+    yield request(f"GET {value_of.target}"), value({0: 1}, "x")
+    yield request(f"DELETE {delete_of.target}?w=all"), written(0, 1)
+    yield request(f"GET {delete_of.target}"), value({0: 1}, "x", OCTETS)
+    # Resolvers write no byte, and bytes that are no text.
+    yield bind("c", '{"resolver":"x"}'), told(422, "G2")
+    for text in b"", b"\x00\xff":
+        key = first_key("c", f"k{len(text)}n")
+        yield from siblings(key)
+        yield install("x", few_slots(RESOLVER, writing(text))), done()
+        yield bind("c", '{"resolver":"x"}'), done()
+        yield request(f"GET {key.target}"), value({0: 2, 1: 1}, text, OCTETS)
+
+
+def registry():
+    """Changes of hooks take effect at once: what a bucket's names are then, whether its writes are refused, and its reads resolved."""
+    no, take = few_slots(PRE_COMMIT, answering(256 + 1)), few_slots(RESOLVER, answering(256))
+    rows = [
+        (request("DELETE /hooks/no"), told(404, "G1"), (None, None), False, False),
+        (install("no", no), done(), (None, None), False, False),
+        (install("take", take), done(), (None, None), False, False),
+        (bind("b", '{"precommit":"no","resolver":"take"}'), done(), ("no", "take"), True, True),
+        # What is bound to a name stays bound to it.
+        (request("DELETE /hooks/take"), done(), ("no", "take"), True, False),
+        (install("take", no), done(), ("no", "take"), True, False),
+        (install("take", take), done(), ("no", "take"), True, True),
+        (bind("b", '{"resolver":null}'), done(), ("no", None), True, False),
+        (bind("b", "{}"), done(), ("no", None), True, False),
+        # All of a binding's names, or none: an unknown name is told before a kind that differs.
+        (bind("b", '{"precommit":null}'), done(), (None, None), False, False),
+        (bind("b", '{"precommit":"no","resolver":"no"}'), told(422, "G2"), (None, None), False, False),
+        (bind("b", '{"precommit":"take","resolver":"on"}'), told(422, "G1"), (None, None), False, False),
+        (bind("b", '{"precommit":"on","resolver":"no"}'), told(422, "G1"), (None, None), False, False),
+    ]
+    keys = [first_key("b", f"k{number}n") for number in range(len(rows))]
+    for key in keys:
+        yield from siblings(key)
+    for number, (change, answered, names, refuses, resolves) in enumerate(rows):
+        yield change, answered
+        yield request("GET /buckets/b/props"), properties(*names)
+        key, other = keys[number], first_key("b", f"other{number}n")
+        yield request(f"PUT {other.target}", body="c"), told(403, "X3 1") if refuses else written(0, 1)
+        both = choices({0: 1, 1: 1}, (0, 1), (1, 1))
+        yield request(f"GET {key.target}"), value({0: 2, 1: 1}, "a") if resolves else both
 
 
 def refused():

@@ -69,19 +69,24 @@ fn put_twice(
     Ok([without, with])
 }
 
-/// What puts come to under a hook whose window is too short for any content, without its helper and with it.
-fn puts(alloc: Global) -> Result<[Put; 2], Fail> {
+/// The input window of a hook, and why a put is refused with its helper: 40 bytes are too short for any content.
+const PUTS: &[(u16, QuorumFault)] = &[(41, QuorumFault::Rejected(0)), (40, QuorumFault::TooLarge)];
+
+/// What puts come to under a hook with this window, without its helper and with it.
+fn puts(alloc: Global, window: u16) -> Result<[Put; 2], Fail> {
     let table = table_of_64(alloc)?;
-    let mut hooking = lacking(alloc, &table, ImageKind::PreCommit, PRE_COMMIT, 40)?;
+    let mut hooking = lacking(alloc, &table, ImageKind::PreCommit, PRE_COMMIT, window)?;
     Ok(put_twice(alloc, &mut hooking, table)?)
 }
 
-/// The table is looked at before the window's length, which is too short for any content.
+/// The table is looked at before the window's length.
 #[test]
 fn table_without_the_helper(rt: HostRuntime) -> Result<(), Fail> {
-    let [without, with] = puts(rt.alloc())?;
-    assert_eq!(rt; without, (Err(QuorumFault::Disagrees), [1, 0, 0]));
-    assert_eq!(rt; with, (Err(QuorumFault::TooLarge), [2, 0, 0]));
+    for (window, fault) in PUTS {
+        let [without, with] = puts(rt.alloc(), *window)?;
+        assert_eq!(rt; without, (Err(QuorumFault::Disagrees), [1, 0, 0]));
+        assert_eq!(rt; with, (Err(*fault), [2, 0, 0]));
+    }
     Ok(())
 }
 

@@ -1,9 +1,8 @@
 //! The table of answers.
 
-use abi::{BadAnswer, TooLarge, Verdict, read_answer};
+use abi::{BadAnswer, Verdict, read_answer};
 use bpfimage::ImageKind;
 use code_parts::expect;
-use std::alloc::Global;
 use std::test::Fail;
 
 /// A hook's kind, its R0 and its output, and what they mean beside two siblings.
@@ -74,38 +73,5 @@ fn answers(_rt: HostRuntime) -> Result<(), Fail> {
         let (kind, r0, output, want) = row;
         expect(read_answer(*kind, *r0, 2, output) == *want, row)?;
     }
-    Ok(())
-}
-
-/// The faults of answers, by the numbers as which they are shown.
-const BAD: &[(BadAnswer, &str)] = &[
-    (BadAnswer::UnknownCode, "B1"),
-    (BadAnswer::LengthPastWindow, "B2"),
-    (BadAnswer::NoSuchSibling, "B3"),
-];
-
-/// Whether a fault is shown so.
-fn is_shown_as(alloc: Global, bad: BadAnswer, want: &str) -> Result<bool, Fail> {
-    let text = format!(in alloc; "{bad}")?;
-    Ok(text.as_str() == want)
-}
-
-/// Whether a window that is too short is told so.
-fn is_large(alloc: Global) -> Result<bool, Fail> {
-    let text = format!(in alloc; "{}", TooLarge)?;
-    Ok(text.as_str() == "large")
-}
-
-#[test]
-fn shown_as_numbers(rt: HostRuntime) -> Result<(), Fail> {
-    for (bad, want) in BAD {
-        expect(is_shown_as(rt.alloc(), *bad, want)?, want)?;
-    }
-    Ok(())
-}
-
-#[test]
-fn too_large(rt: HostRuntime) -> Result<(), Fail> {
-    assert!(rt; is_large(rt.alloc())?);
     Ok(())
 }
