@@ -41,7 +41,7 @@ const FUNCTIONS: &[&str] = &[
 /// The folder of a script, the words of its command, and its name: what is printed stands in a file beside it.
 type Script = (&'static str, &'static [&'static str], &'static str);
 
-/// Scripts of data/hooks/ and data/scripts/. A dump has to write its file as it stands.
+/// Scripts of data/hooks/, of its folder answers/, and of data/scripts/. A dump has to write its file as it stands.
 const SCRIPTS: &[Script] = &[
     ("hooks/", &["sim", "at_most_32.script"], "at_most_32"),
     ("hooks/", &["sim", "delete_wins.script"], "delete_wins"),
@@ -61,6 +61,8 @@ const SCRIPTS: &[Script] = &[
         "union_of_records",
     ),
     ("hooks/", &["sim", "whole_words.script"], "whole_words"),
+    ("hooks/answers/", &["sim", "verdicts.script"], "verdicts"),
+    ("hooks/answers/", &["sim", "choices.script"], "choices"),
     ("scripts/", &["sim", "lost_vnode.script"], "lost_vnode"),
     ("scripts/", &["sim", "deletes.script"], "deletes"),
     (

@@ -17,7 +17,7 @@ struct Row {
     kind: ImageKind,
     new: Option<&'static [u8]>,
     siblings: &'static [Shown],
-    window: usize,
+    window: u16,
     used: Result<u32, TooLarge>,
     front: &'static [u8],
 }
@@ -121,17 +121,13 @@ fn siblings_of(alloc: Global, shown: &[Shown]) -> Result<Vec<Sibling>, AllocErro
     Ok(siblings)
 }
 
-/// Whether an input is laid out as its row says, in the front of a window of 2,000 bytes.
+/// Whether an input is laid out as its row says, in a window that held other bytes.
 fn is_laid_out(alloc: Global, row: &Row) -> Result<bool, AllocError> {
-    if row.window > 2000 {
-        return Ok(false);
-    }
     let siblings = siblings_of(alloc, row.siblings)?;
     let new = new_content(alloc, row.new)?;
-    let mut room = [0xff; 2000];
-    let window = &mut room[..row.window];
-    let used = fill_input(row.kind, new.as_ref(), &siblings, window);
-    Ok(used == row.used && room.starts_with(row.front))
+    let mut window = vec![in alloc; 0xffu8; usize::from(row.window)]?;
+    let used = fill_input(row.kind, new.as_ref(), &siblings, &mut window);
+    Ok(used == row.used && window.starts_with(row.front))
 }
 
 #[test]

@@ -1,6 +1,6 @@
 #!/usr/bin/env python3
-"""Writes the images of this folder: hooks of a few slots, one for each answer that a hook may give. at_most_32.script and
-last_writer.script run them; what a hook reads and what its answers mean is in docs/FORMATS.md.
+"""Writes the images of this folder: hooks of a few slots, one for each answer that a hook may give. verdicts.script and
+choices.script run them; what a hook reads and what its answers mean is in docs/FORMATS.md.
 
     make_answers.py
 """
