@@ -22,23 +22,23 @@ pub fn tell_record(alloc: Global, bytes: &[u8], told: &mut Vec<u8>) -> io::Resul
 }
 
 /// Tells a record that these bytes spell.
-fn tell_found(alloc: Global, record: &Record, bytes: &[u8], told: &mut Vec<u8>) -> io::Result<()>
-    requires { IsRecord record.now }
+fn tell_found(alloc: Global, found: &Record, bytes: &[u8], told: &mut Vec<u8>) -> io::Result<()>
+    requires { IsRecord found.now }
 {
     let len = bytes.len();
     write!(told, "|{len} bytes")?;
-    tell_parts(record, told)?;
-    tell_spelling(alloc, record, bytes, told)
+    tell_parts(found, told)?;
+    tell_spelling(alloc, found, bytes, told)
 }
 
 /// Tells what a record carries.
-fn tell_parts(record: &Record, told: &mut Vec<u8>) -> io::Result<()> {
+fn tell_parts(found: &Record, told: &mut Vec<u8>) -> io::Result<()> {
     let Record {
         key,
         from,
         at,
         state,
-    } = record;
+    } = found;
     tell_key(key, told)?;
     write!(told, "|from {from} at {at}")?;
     tell_clock(state.clock(), told)?;
@@ -88,12 +88,12 @@ fn tell_content(content: &Content, told: &mut Vec<u8>) -> io::Result<()> {
 }
 
 /// Tells whether a record is written as these bytes.
-fn tell_spelling(alloc: Global, record: &Record, bytes: &[u8], told: &mut Vec<u8>) -> io::Result<()>
-    requires { IsRecord record.now }
+fn tell_spelling(alloc: Global, found: &Record, bytes: &[u8], told: &mut Vec<u8>) -> io::Result<()>
+    requires { IsRecord found.now }
 {
-    let spelling: &[u8] = if !has_record(&record.key, &record.state) {
+    let spelling: &[u8] = if !has_record(&found.key, &found.state) {
         b"|has no record"
-    } else if is_spelling_of(alloc, record, bytes)? {
+    } else if is_spelling_of(alloc, found, bytes)? {
         b"|written again"
     } else {
         b"|written otherwise"
@@ -102,14 +102,14 @@ fn tell_spelling(alloc: Global, record: &Record, bytes: &[u8], told: &mut Vec<u8
 }
 
 /// Whether a record is written as these bytes.
-fn is_spelling_of(alloc: Global, record: &Record, bytes: &[u8]) -> Result<bool, AllocError>
-    requires { IsRecord record.now }
+fn is_spelling_of(alloc: Global, found: &Record, bytes: &[u8]) -> Result<bool, AllocError>
+    requires { IsRecord found.now }
 {
     let Record {
         key,
         from,
         at,
         state,
-    } = record;
+    } = found;
     Ok(write_record(alloc, key, *from, *at, state)?.as_slice() == bytes)
 }
