@@ -11,7 +11,7 @@ use thiserror::Error;
 /// A plain program and a pre-commit hook may [`Pass`](Verdict::Pass); a pre-commit hook may also
 /// [`Write`](Verdict::Write) or [`Reject`](Verdict::Reject), a resolver `Write`, [`Keep`](Verdict::Keep),
 /// [`Delete`](Verdict::Delete) or [`Take`](Verdict::Take).
-#[derive(Clone, Copy, Debug, PartialEq, Eq)]
+#[derive(Clone, Copy, PartialEq, Eq)]
 pub enum Verdict<'a> {
     /// The new content is put as it is.
     Pass,

@@ -14,7 +14,7 @@ use Rattle.insn.specs.declared.decode.Refusal.TheVariants as why
 use Rattle.bpfimage.specs.Image.{number_at, Breaks, IsCodeFault, IsFirstFault, IsImage, IsRaw, IsProgram, IsNoProgram, is_marked}
 use Rattle.bpfimage.specs.declared.image.ImageKind.{ImageKind}
 use Rattle.bpfimage.specs.declared.image.ImageFault.{ImageFault}
-use Rattle.ranges.specs.declared.profile.Profile.{Profile}
+use Rattle.memory.specs.declared.profile.Profile.{Profile}
 use Rattle.bpfimage.specs.declared.image.ImageFault.TheVariants.{Short, Mark, Version, Kind, Window, Code, NoMemory}
 use Rattle.admission.specs.Enough.{AreReadAlike}
 

@@ -4,7 +4,7 @@ use Rattle.insn.specs.declared.Insn.{Insn}
 use Rattle.bpfimage.specs.Image.{IsImage, IsFirstFault, IsProgram, IsNoProgram}
 use Rattle.bpfimage.specs.declared.image.ImageKind.{ImageKind}
 use Rattle.bpfimage.specs.declared.image.ImageFault.{ImageFault}
-use Rattle.ranges.specs.declared.profile.Profile.{Profile}
+use Rattle.memory.specs.declared.profile.Profile.{Profile}
 
 pub record AreReadAlike (some all : List ℕ) : Type 0 where
   pub programs : (kind : ImageKind) (profile : Profile) (in_len out_len : ℕ) (code : List Insn) → IsProgram some kind profile in_len out_len code ↔ IsProgram all kind profile in_len out_len code

@@ -8,7 +8,7 @@ use verifier::{Refused, Rule};
 /// (`V24 3`), `G2` for another kind, or `E1 0` for want of memory.
 ///
 /// What is told of bytes as a fault or a rule is never want of memory.
-#[derive(Clone, Copy, Debug, PartialEq, Eq)]
+#[derive(Clone, Copy, PartialEq, Eq)]
 pub enum Refusal {
     /// The bytes are no image, or no code.
     Image(ImageFault),

@@ -9,14 +9,14 @@ mod laws;
 pub use laws::{by_zero, least_by_minus_one, within_width};
 
 /// How many bits an operation works on.
-#[derive(Clone, Copy, Debug, PartialEq, Eq)]
+#[derive(Clone, Copy, PartialEq, Eq)]
 pub enum Width {
     W32,
     W64,
 }
 
 /// An arithmetic operation. `Movsx` extends the sign of its operand's low bits.
-#[derive(Clone, Copy, Debug, PartialEq, Eq)]
+#[derive(Clone, Copy, PartialEq, Eq)]
 pub enum Op {
     Add,
     Sub,
@@ -39,7 +39,7 @@ pub enum Op {
 }
 
 /// A condition of a jump.
-#[derive(Clone, Copy, Debug, PartialEq, Eq)]
+#[derive(Clone, Copy, PartialEq, Eq)]
 pub enum Cond {
     Equal,
     NotEqual,
@@ -55,7 +55,7 @@ pub enum Cond {
 }
 
 /// What a byte swap does.
-#[derive(Clone, Copy, Debug, PartialEq, Eq)]
+#[derive(Clone, Copy, PartialEq, Eq)]
 pub enum SwapKind {
     ToLittle,
     ToBig,
@@ -63,7 +63,7 @@ pub enum SwapKind {
 }
 
 /// How many bits a byte swap works on.
-#[derive(Clone, Copy, Debug, PartialEq, Eq)]
+#[derive(Clone, Copy, PartialEq, Eq)]
 pub enum SwapBits {
     B16,
     B32,

@@ -5,8 +5,8 @@ use Rattle.std.proofs.lemmas.List.{length_push, get_or_push, get_or_append_left,
 use Rattle.journal.specs.Journals.{IsJournal}
 use Rattle.journal.specs.Logs.{Log}
 use Rattle.world.specs.Represents.{AreDistinct, log_at}
-use Rattle.audit.specs.Interleaved.{ids_of}
-use Rattle.audit.specs.Rerun.{AreJournals}
+use Rattle.rerun.specs.Interleaved.{ids_of}
+use Rattle.rerun.specs.Rerun.{AreJournals}
 
 before : {X : Type 0} (xs : List X) (y d : X) (i : ℕ) → i < length xs → get_or (xs ++ y ∷ []) i d ≡ get_or xs i d
 before xs y d i lt = get_or_append_left xs (y ∷ []) d i lt

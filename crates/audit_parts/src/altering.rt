@@ -1,13 +1,13 @@
 //! Journals of which one content is another, or one entry is missing.
 
 use journal::{Entry, Journal, Said};
-use object::{Bytes, Content};
+use object::{Bytes, Content, KeyState};
 use std::alloc::{AllocError, Global};
 use std::test::Fail;
 use vnode::Vnode;
 
 /// What is altered of an entry.
-#[derive(Clone, Copy, Debug)]
+#[derive(Clone, Copy)]
 pub enum Alteration {
     /// The value of the put is `x`.
     OtherContent,
@@ -71,7 +71,10 @@ fn happen(
     match alteration {
         Some(Alteration::OtherContent) => put_other(alloc, copy, entry),
         Some(Alteration::Missing) => Ok(()),
-        None => repeat(copy, entry),
+        None => {
+            let _read = repeat(copy, entry)?;
+            Ok(())
+        }
     }
 }
 
@@ -97,7 +100,8 @@ fn put_other(alloc: Global, copy: &mut Vnode, entry: &Entry) -> Result<(), Fail>
     Ok(())
 }
 
-fn repeat(copy: &mut Vnode, entry: &Entry) -> Result<(), Fail> {
+/// Has an entry happen once more, at another vnode of the same identifier. Answers the state that it read, if it is a read.
+pub fn repeat(copy: &mut Vnode, entry: &Entry) -> Result<Option<KeyState>, Fail> {
     match entry.said() {
         Said::Put {
             stamp,
@@ -118,11 +122,12 @@ fn repeat(copy: &mut Vnode, entry: &Entry) -> Result<(), Fail> {
             let _merged = copy.merge_lent(stamp, key, from, at, state)?;
         }
         Said::Read { stamp, key } => {
-            let _read = copy.read(stamp, key)?;
+            let (state, _) = copy.read(stamp, key)?;
+            return Ok(Some(state));
         }
         Said::Restart { stamp } => {
             let _place = copy.restart(stamp)?;
         }
     }
-    Ok(())
+    Ok(None)
 }

@@ -1,8 +1,8 @@
 //! The audit of vnodes' journals.
 
 ghost use Rattle.std.specs.Prelude.{◌≡◌, ◌≢◌, ◌<◌, ℕ, true, length};
-ghost use Rattle.audit.specs.Interleaved.{ids_of};
-ghost use Rattle.audit.specs.Rerun.{AreJournals};
+ghost use Rattle.rerun.specs.Interleaved.{ids_of};
+ghost use Rattle.rerun.specs.Rerun.{AreJournals};
 ghost use Rattle.world.specs.Represents.{AreDistinct, log_at};
 
 use audit::{AuditCode, AuditFault, audit};

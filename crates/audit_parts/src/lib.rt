@@ -5,5 +5,5 @@
 mod altering;
 mod judging;
 
-pub use altering::{Alteration, Altered, alter};
+pub use altering::{Alteration, Altered, alter, repeat};
 pub use judging::{Told, judge};

@@ -8,8 +8,8 @@ use Rattle.insn.specs.declared.Insn.{Insn}
 use Rattle.insn.specs.declared.decode.Refusal.{Refusal}
 use Rattle.insn.specs.declared.decode.Refusal.TheVariants.{Memory}
 use Rattle.insn.specs.declared.decode.DecodeFault.{DecodeFault}
-use Rattle.ranges.specs.declared.profile.Profile.{Profile}
-use Rattle.ranges.specs.declared.profile.Profile.TheVariants.{First, Second}
+use Rattle.memory.specs.declared.profile.Profile.{Profile}
+use Rattle.memory.specs.declared.profile.Profile.TheVariants.{First, Second}
 use Rattle.bpfimage.specs.declared.image.ImageKind.{ImageKind}
 use Rattle.bpfimage.specs.declared.image.ImageKind.TheVariants.{Plain, PreCommit, Resolver}
 use Rattle.bpfimage.specs.declared.image.ImageFault.{ImageFault}

@@ -6,7 +6,7 @@ ghost use Rattle.bpfimage.specs.Form.{target_of, next_of, slot_at, GoesTo, IsPat
 use insn::{Distance, Insn};
 
 /// A rule on the form of code.
-#[derive(Clone, Copy, Debug, PartialEq, Eq)]
+#[derive(Clone, Copy, PartialEq, Eq)]
 pub enum FormRule {
     /// V10: a jump's target is below the first slot or past the last.
     TargetOutside,
@@ -39,7 +39,7 @@ impl FormRule {
 }
 
 /// The first rule that code breaks, and the slot that breaks it.
-#[derive(Clone, Copy, Debug, PartialEq, Eq)]
+#[derive(Clone, Copy, PartialEq, Eq)]
 pub struct FormFault {
     pub rule: FormRule,
     pub slot: u32,
@@ -136,7 +136,7 @@ fn slot_rule(code: &[Insn], at: usize, insn: Insn, is_reached: bool) -> Option<F
     if runs_past(code, at, insn) {
         return Some(FormRule::RunsPast);
     }
-    if insn == Insn::Tail || is_reached {
+    if matches!(insn, Insn::Tail) || is_reached {
         None
     } else {
         Some(FormRule::Unreachable)

@@ -5,11 +5,11 @@ ghost use Rattle.insn.specs.Encoding.{IsCode};
 ghost use Rattle.memory.specs.Windows.{longest_window};
 
 use insn::{DecodeFault, Insn};
-use ranges::Profile;
+use memory::Profile;
 use std::fmt;
 
 /// What a program is for.
-#[derive(Clone, Copy, Debug, PartialEq, Eq)]
+#[derive(Clone, Copy, PartialEq, Eq)]
 pub enum ImageKind {
     /// A program of no hook.
     Plain,
@@ -37,7 +37,7 @@ pub struct Image {
 
 /// Why bytes are no image. `{}` writes the number of a fault of the head, `I1` to `I5`, and of code its refusal and slot, as
 /// `D4 7`; want of memory is `E1 0`.
-#[derive(Clone, Copy, Debug, PartialEq, Eq)]
+#[derive(Clone, Copy, PartialEq, Eq)]
 pub enum ImageFault {
     /// There are fewer than 16 bytes.
     Short,

@@ -9,8 +9,7 @@ ghost use Rattle.bpfimage.specs.Image.{kind_number, version_number, number_at, r
 use crate::image::{Image, ImageFault, ImageKind};
 use insn::decode::decode;
 use insn::{DecodeFault, Refusal};
-use memory::MAX_WINDOW;
-use ranges::Profile;
+use memory::{MAX_WINDOW, Profile};
 use std::alloc::Global;
 
 /// How many bytes stand before the code.

@@ -11,10 +11,10 @@ use Rattle.stamps.specs.declared.view.Told.{Told}
 use Rattle.stamps.specs.declared.view.View.{View}
 use Rattle.std.specs.List.{flat_map}
 use Rattle.std.proofs.lemmas.Grind.{flat_map-append}
-use Rattle.pool.specs.Gathers.{Stands, Differ, AreInTurn, all_handed}
+use Rattle.vnode_locks.specs.Gathers.{Stands, Differ, AreInTurn, all_handed}
 use Rattle.world.specs.Represents.{log_at}
 use Rattle.world.proofs.Lists.{Contains-nil, Contains-cases, Contains-first, Contains-later}
-use Rattle.audit.specs.Interleaved.{IsInterleaving}
+use Rattle.rerun.specs.Interleaved.{IsInterleaving}
 use Rattle.follow.specs.Waiting.{Taken, AreTakenAlike, taken_at, waiting_at}
 use Rattle.closing.specs.Following.{told_of, all_taken, HasTaken, AreFronts, IsTakenTo}
 

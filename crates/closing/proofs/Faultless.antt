@@ -32,14 +32,14 @@ use Rattle.world.proofs.Steps.{put_step, copy_step, restart_step, delivery_step,
 use Rattle.world.proofs.Shown.{same_options, same_tests}
 use Rattle.world.proofs.Whole.{remember_more, still_at, more_cases}
 use Rattle.stamps.specs.declared.view.Told.{Told}
-use Rattle.pool.specs.Gathers.{IsGathered, Differ, AreCounted}
-use Rattle.audit.specs.Faulty.{NoneFalls, NoneTwice, HasNoSuchSource, IsFaultless}
-use Rattle.audit.specs.Interleaved.{ids_of, IsSource, IsEventOf, Happened, nothing, one_more, IsInterleaving}
-use Rattle.audit.specs.Order.{Step, steps_of, IsInStampOrder}
-use Rattle.audit.specs.Rerun.{AreJournals}
-use Rattle.audit.specs.Turns.{EntryIn}
-use Rattle.closing.specs.declared.watch.WatchFault.{WatchFault}
-use Rattle.closing.specs.declared.watch.WatchFault.TheVariants.{Found, Lost, NoMemory}
+use Rattle.vnode_locks.specs.Gathers.{IsGathered, Differ, AreCounted}
+use Rattle.rerun.specs.Faulty.{NoneFalls, NoneTwice, HasNoSuchSource, IsFaultless}
+use Rattle.rerun.specs.Interleaved.{ids_of, IsSource, IsEventOf, Happened, nothing, one_more, IsInterleaving}
+use Rattle.rerun.specs.Order.{Step, steps_of, IsInStampOrder}
+use Rattle.rerun.specs.Rerun.{AreJournals}
+use Rattle.rerun.specs.Turns.{EntryIn}
+use Rattle.findings.specs.declared.fault.WatchFault.{WatchFault}
+use Rattle.findings.specs.declared.fault.WatchFault.TheVariants.{Found, Lost, NoMemory}
 use Rattle.closing.specs.Following.{IsFollowedTo, IsEndOf}
 use Rattle.closing.proofs.Leads.{LedTo, leads}
 use Rattle.closing.proofs.Orders.{entries_by, by_append, by_own, by_other, by_order, from_journals, in_journals, stands_where, Rises, increasing_rises, rises_next, rise_below, rise_once}

@@ -13,7 +13,7 @@ use Rattle.journal.specs.Logs.{Log}
 use Rattle.journal.specs.Stamps.{stamp_of}
 use Rattle.world.specs.Represents.{log_at}
 use Rattle.world.proofs.Lists.{Contains-nil, Contains-cases, Contains-first, Contains-later}
-use Rattle.audit.specs.Order.{Step, steps_from, steps_of, Rise, IsInStampOrder}
+use Rattle.rerun.specs.Order.{Step, steps_from, steps_of, Rise, IsInStampOrder}
 
 -- the entries of one journal among some steps
 abbrev pub entries_by : ℕ → List Step → List Entry

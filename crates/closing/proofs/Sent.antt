@@ -10,10 +10,10 @@ use Rattle.object.proofs.content.Key.TheSendSync as key
 use Rattle.object.proofs.state.KeyState.TheSendSync as state
 use Rattle.atomic_table.proofs.shared.Seat.TheSendSync as seat
 use Rattle.vnode.specs.contracts.vnode.Vnode as Vnode
-use Rattle.audit.specs.contracts.rerun.Rerun as Rerun
+use Rattle.rerun.specs.contracts.rerun.Rerun as Rerun
 use Rattle.follow.specs.contracts.follower.Follower as Follower
 use Rattle.closing.specs.contracts.watch.Watch as Watch
-use Rattle.pool.specs.declared.pass.Room as room
+use Rattle.vnode_locks.specs.declared.pass.Room as room
 use Rattle.closing.specs.declared.watch.Spot as spot
 
 journal_send : IsSend Journal.the_row

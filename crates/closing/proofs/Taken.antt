@@ -13,10 +13,10 @@ use Rattle.journal.specs.Logs.{Log}
 use Rattle.stamps.specs.Rule.{hand_out_of}
 use Rattle.stamps.specs.declared.view.Told.{Told}
 use Rattle.stamps.specs.declared.view.View.{View}
-use Rattle.pool.specs.Calls.{IsHandedOut, pass_view}
-use Rattle.pool.specs.Gathers.{handed, BeginsAt, AreInTurn, all_handed}
+use Rattle.vnode_locks.specs.Calls.{IsHandedOut, pass_view}
+use Rattle.vnode_locks.specs.Gathers.{handed, BeginsAt, AreInTurn, all_handed}
 use Rattle.world.specs.Represents.{AreDistinct, log_at, empty_logs}
-use Rattle.audit.specs.declared.fault.FollowFault.{FollowFault}
+use Rattle.findings.specs.declared.fault.FollowFault.{FollowFault}
 use Rattle.follow.specs.Waiting.{Taken, AreTakenAlike, taken_at, waiting_at}
 use Rattle.closing.specs.Following.{told_of, all_taken, IsHandedTo, HasTaken, IsTakenMore, IsToldMore}
 

@@ -1,9 +1,9 @@
 -- What the audit of gathered vnodes says (this store's profile).
 use Rattle.std.specs.Prelude.{List, Result, Ok, Err}
 use Rattle.journal.specs.Logs.{Log}
-use Rattle.audit.specs.declared.auditing.AuditFault.TheVariants.{Found, NoMemory}
-use Rattle.audit.specs.Faulty.{IsFaultAt, IsFaultless}
-use Rattle.audit.specs.Interleaved.{IsInterleaving}
+use Rattle.rerun.specs.declared.audit_fault.AuditFault.TheVariants.{Found, NoMemory}
+use Rattle.rerun.specs.Faulty.{IsFaultAt, IsFaultless}
+use Rattle.rerun.specs.Interleaved.{IsInterleaving}
 use Rattle.closing.specs.declared.closing.CloseFault.{CloseFault}
 use Rattle.closing.specs.declared.closing.CloseFault.TheVariants.{Audit, HandedOut}
 

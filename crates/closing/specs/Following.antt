@@ -3,15 +3,15 @@ use Rattle.std.specs.Prelude.{◌≡◌, ◌<◌, ◌≤◌, ◌+◌, ◌==◌, 
 use Rattle.journal.specs.Entry.{Entry}
 use Rattle.journal.specs.Logs.{Log}
 use Rattle.stamps.specs.declared.view.Told.{Told}
-use Rattle.pool.specs.Gathers.{IsGathered, AreInTurn, all_handed}
-use Rattle.audit.specs.Faulty.{IsFaultless}
-use Rattle.audit.specs.Interleaved.{IsInterleaving}
-use Rattle.audit.specs.Rerun.{AreJournals}
+use Rattle.vnode_locks.specs.Gathers.{IsGathered, AreInTurn, all_handed}
+use Rattle.rerun.specs.Faulty.{IsFaultless}
+use Rattle.rerun.specs.Interleaved.{IsInterleaving}
+use Rattle.rerun.specs.Rerun.{AreJournals}
 use Rattle.world.specs.Represents.{log_at}
 use Rattle.follow.specs.Stops.{HasStopped}
 use Rattle.follow.specs.Waiting.{Taken, taken_at, waiting_at}
-use Rattle.closing.specs.declared.watch.WatchFault.{WatchFault}
-use Rattle.closing.specs.declared.watch.WatchFault.TheVariants.{Found, Lost, NoMemory}
+use Rattle.findings.specs.declared.fault.WatchFault.{WatchFault}
+use Rattle.findings.specs.declared.fault.WatchFault.TheVariants.{Found, Lost, NoMemory}
 
 -- of so many of the last entries of each vnode answers are kept
 abbrev pub answers_kept : ℕ
@@ -80,12 +80,6 @@ pub record IsTakenTo (old new : Taken) (logs : List Log) (n : ℕ) : Type 0 wher
 -- as many entries were followed of each vnode as its journal has, which is that of a vnode
 abbrev pub IsLong : Taken → List Log → Type 0
 IsLong taken logs = (length taken.followed ≡ length logs) × ((index : ℕ) → index < length logs → length (log_at taken.followed index).entries ≡ length (log_at logs index).entries) × AreJournals logs
-
--- a fault that says nothing of the journals
-abbrev pub IsNoYes : WatchFault → Type 0
-IsNoYes (Found fault) = ⊥
-IsNoYes Lost = Unit {0}
-IsNoYes NoMemory = Unit {0}
 
 -- of these journals it is said that they are one run of the world, and each that of a vnode; or a fault that was found
 abbrev pub IsEndOf : List Log → Result (Unit {0}) WatchFault → Type 0

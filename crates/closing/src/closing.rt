@@ -1,9 +1,9 @@
 //! The audit of what gathered vnodes hold.
 
 ghost use Rattle.std.specs.Prelude.{◌≡◌, Err, IfErr, IfOk};
-ghost use Rattle.audit.specs.Rerun.{AreJournals};
+ghost use Rattle.rerun.specs.Rerun.{AreJournals};
 ghost use Rattle.closing.specs.Audits.{IsAuditOf};
-ghost use Rattle.pool.specs.Gathers.{Differ};
+ghost use Rattle.vnode_locks.specs.Gathers.{Differ};
 
 use audit::{AuditFault, audit};
 use journal::Whole;
@@ -35,7 +35,7 @@ impl From<AuditFault> for CloseFault {
 
 impl From<AllocError> for CloseFault {
     ghost use Rattle.std.specs.Prelude.{◌≡◌};
-    ghost use Rattle.audit.specs.declared.auditing.AuditFault.TheVariants.{NoMemory};
+    ghost use Rattle.rerun.specs.declared.audit_fault.AuditFault.TheVariants.{NoMemory};
     ghost use Rattle.closing.specs.declared.closing.CloseFault.TheVariants.{Audit};
 
     ghost from_gives = { λ _ fault. fault ≡ Audit NoMemory };

@@ -2,17 +2,16 @@
 
 ghost use Rattle.std.specs.Prelude.{◌≡◌, ◌≤◌, ◌+◌, ◌++◌, length, true, vec_len, None, OnOk, IfErr, IsTrue};
 ghost use Rattle.std.specs.List.{flat_map};
-ghost use Rattle.closing.specs.Following.{AreFronts, IsEndOf, IsFollowedTo, IsLong, IsNoYes, IsTakenTo, answers_kept};
+ghost use Rattle.findings.specs.Unsaid.{IsNoYes};
+ghost use Rattle.closing.specs.Following.{AreFronts, IsEndOf, IsFollowedTo, IsLong, IsTakenTo, answers_kept};
 
 use crate::copying::rest_of;
-use crate::watch::{Spot, Watch, WatchFault};
+use crate::watch::{Spot, Watch};
+use findings::{Followed, WatchFault};
 use follow::Follower;
 use pool::{Cluster, Pass, Room, hand_outs_are_a_front};
 use std::alloc::Global;
 use vnode::Vnode;
-
-/// What is said of journals that were followed: that they are one run, or the fault.
-pub type Followed = Result<(), WatchFault>;
 
 /// Gathers a cluster, all of whose passes are back, the watch's too, and has what is left of the journals of its vnodes followed.
 ///

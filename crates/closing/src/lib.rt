@@ -8,5 +8,6 @@ mod ending;
 mod watch;
 
 pub use closing::{Audited, CloseFault, audit_vnodes};
-pub use ending::{Followed, close_watched};
-pub use watch::{Alarm, Notice, RECENT, Spot, Watch, WatchFault};
+pub use ending::close_watched;
+pub use findings::{Followed, WatchFault};
+pub use watch::{Alarm, Notice, RECENT, Spot, Watch};

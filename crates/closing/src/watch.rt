@@ -1,12 +1,13 @@
 //! A follower beside a cluster that serves.
 
 ghost use Rattle.std.specs.Prelude.{◌≡◌, ◌+◌, ◌<◌, ◌≤◌, ◌^◌, ℕ, [], All, IfOk, MatchBool, OnOk, length, vec_len};
-ghost use Rattle.pool.specs.Calls.{pass_view};
+ghost use Rattle.vnode_locks.specs.Calls.{pass_view};
 ghost use Rattle.journal.specs.Blocks.{all_of};
 ghost use Rattle.follow.specs.Waiting.{count_waiting};
 ghost use Rattle.closing.specs.Following.{IsTakenMore, IsToldMore};
 
-use follow::{FollowFault, Follower, TakeFault};
+use findings::{TakeFault, WatchFault};
+use follow::Follower;
 use journal::Handout;
 use pool::{Cluster, Pass, Room};
 use std::alloc::{AllocError, Global};
@@ -27,55 +28,6 @@ pub trait Spot {
 
 impl Spot for Brand {
     ghost first = { 0 };
-}
-
-/// Why journals that were followed aren't found to be one run. What a follower found is shown as it shows it.
-#[derive(Clone, Copy, Debug, PartialEq, Eq, Drop, Error)]
-pub enum WatchFault {
-    /// The follower found it.
-    #[error("{0}")]
-    Found(FollowFault),
-    /// Entries of a journal were handed out, and not all of them were taken.
-    #[error("handed out")]
-    Lost,
-    /// A growth was refused.
-    #[error("E1")]
-    NoMemory,
-}
-
-impl From<AllocError> for WatchFault {
-    ghost use Rattle.std.specs.Prelude.{◌≡◌};
-    ghost use Rattle.closing.specs.declared.watch.WatchFault.TheVariants.{NoMemory};
-
-    ghost from_gives = { λ _ fault. fault ≡ NoMemory };
-
-    fn from(_error: AllocError) -> Self {
-        WatchFault::NoMemory
-    }
-}
-
-impl From<FollowFault> for WatchFault {
-    ghost use Rattle.std.specs.Prelude.{◌≡◌};
-    ghost use Rattle.closing.specs.declared.watch.WatchFault.TheVariants.{Found};
-
-    ghost from_gives = { λ given fault. fault ≡ Found given };
-
-    fn from(fault: FollowFault) -> Self {
-        WatchFault::Found(fault)
-    }
-}
-
-impl From<TakeFault> for WatchFault {
-    ghost use Rattle.closing.specs.Following.{IsNoYes};
-
-    ghost from_gives = { λ given fault. IsNoYes fault };
-
-    fn from(fault: TakeFault) -> Self {
-        match fault {
-            TakeFault::Unknown | TakeFault::Gap => WatchFault::Lost,
-            TakeFault::NoMemory => WatchFault::NoMemory,
-        }
-    }
 }
 
 /// What is told at once while a cluster serves.

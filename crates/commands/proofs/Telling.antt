@@ -2,7 +2,7 @@
 use Rattle.std.proofs.Common.{◌≡◌, ◌<◌, ℕ, List, ◌++◌, ap, ◌∙◌, append_assoc, Option, Some, None}
 use Rattle.std.specs.Prelude.{codes, Result, Ok, Err, OnOk, IfOk}
 use Rattle.std.specs.Io.KnownBytes.{Appends}
-use Rattle.closing.specs.declared.watch.WatchFault.{WatchFault}
+use Rattle.findings.specs.declared.fault.WatchFault.{WatchFault}
 use Rattle.commands.specs.declared.failure.Failure.{Failure}
 use Rattle.commands.specs.Outcome.{line}
 use Rattle.commands.specs.Audited.{audit_text, audit_status}

@@ -1,7 +1,7 @@
 -- What a command leaves on its output (this store's profile).
 use Rattle.std.specs.Prelude.{◌≡◌, ℕ, List, ◌++◌, codes, Option, IfSome, Result}
 use Rattle.std.specs.Io.KnownBytes.{Appends}
-use Rattle.closing.specs.declared.watch.WatchFault.{WatchFault}
+use Rattle.findings.specs.declared.fault.WatchFault.{WatchFault}
 use Rattle.helpers.specs.declared.sig.Entry.{Entry}
 use Rattle.script.specs.Printing.{Simulated}
 use Rattle.commands.specs.Audited.{audit_text, audit_status}

@@ -4,8 +4,7 @@ ghost use Rattle.std.specs.Io.KnownBytes.{Appends};
 ghost use Rattle.commands.specs.Audited.{audit_text, audit_status, code_text};
 
 use crate::failure::Failure;
-use closing::{Followed, WatchFault};
-use follow::{FollowCode, FollowFault};
+use findings::{FollowCode, FollowFault, Followed, WatchFault};
 use std::fmt;
 use std::io::Write;
 

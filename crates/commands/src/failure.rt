@@ -3,7 +3,7 @@
 use std::{fmt, io};
 
 /// Why a command told nothing on its output, or not all.
-#[derive(Clone, Copy, Debug)]
+#[derive(Clone, Copy)]
 pub enum Failure {
     /// The words are those of no command.
     Usage,

@@ -12,7 +12,7 @@ use wire::{Record, WireFault, has_record, read_record, write_record};
 use world::{Copied, Copies};
 
 /// Why bytes are not read as records.
-#[derive(Clone, Copy, Debug, PartialEq, Eq)]
+#[derive(Clone, Copy)]
 pub enum Unread {
     /// The record at this place, counted from 0, has a fault.
     Faulty { place: usize, fault: WireFault },
@@ -21,7 +21,7 @@ pub enum Unread {
 }
 
 /// Why copies have no records.
-#[derive(Clone, Copy, Debug, PartialEq, Eq)]
+#[derive(Clone, Copy)]
 pub enum Unspelled {
     /// A key, a content, a place or a body is past its limit.
     PastLimit,

@@ -2,14 +2,14 @@
 ghost use Rattle.std.specs.Prelude.{◌≡◌, ◌<◌, OnOk, IfErr, vec_len};
 ghost use Rattle.commands.specs.Command.{Listened};
 
-use closing::Followed;
+use findings::Followed;
 use helpers::Table;
 use std::alloc::Global;
 use std::io;
 use std::io::Write;
 
 /// Why the store is not served, or no longer.
-#[derive(Clone, Copy, Debug, PartialEq, Eq)]
+#[derive(Clone, Copy)]
 pub enum Unserved {
     /// Memory ran out before anything was told.
     NoMemory,
@@ -51,7 +51,7 @@ pub trait Server {
 }
 
 /// Serves nothing: no address can be bound.
-#[derive(Clone, Copy, Debug)]
+#[derive(Clone, Copy)]
 pub struct Offline;
 
 impl Server for Offline {

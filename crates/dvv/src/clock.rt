@@ -12,7 +12,7 @@ use std::marker::Model;
 
 /// A version vector: a set of events that has, with each event of a vnode, all earlier ones of that vnode. It is
 /// kept, and seen in contracts, as the greatest event of each vnode, vnodes rising.
-#[derive(Debug, Drop)]
+#[derive(Drop)]
 pub struct Clock {
     entries: Vec<Dot>,
 }

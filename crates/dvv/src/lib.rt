@@ -18,7 +18,7 @@ pub const MAX_COUNTER: u64 = 1 << 62;
 pub const MAX_ENTRIES: usize = 1024;
 
 /// One event: the n-th of a vnode, from 1. Dots are in order of vnode, then of n.
-#[derive(Clone, Copy, Debug, PartialEq, Eq, PartialOrd, Ord)]
+#[derive(Clone, Copy, PartialEq, Eq, PartialOrd, Ord)]
 pub struct Dot {
     pub vnode: u32,
     pub n: u64,

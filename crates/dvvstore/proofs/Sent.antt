@@ -6,7 +6,7 @@ use Rattle.std.specs.contracts.sync.Mutex as Mutex
 use Rattle.closing.specs.contracts.watch.Watch as Watch
 use Rattle.closing.specs.declared.watch.Spot as spot
 use Rattle.closing.proofs.Sent.{watch_send}
-use Rattle.pool.specs.declared.pass.Room as room
+use Rattle.vnode_locks.specs.declared.pass.Room as room
 use Rattle.dvvstore.specs.contracts.crew.Shared as Shared
 
 lock_sync : (B : RattleType) (g : room.Ghosts B.Denot) (h : spot.Ghosts B.Denot) → IsSend B → IsSync (Mutex.the_row (Watch.the_row B g h))

@@ -6,7 +6,9 @@ use Rattle.events.specs.declared.script.Script.{Script}
 use Rattle.events.specs.declared.script.Answered.{Answered}
 use Rattle.events.specs.declared.script.Answered.TheVariants as answered
 use Rattle.world.specs.declared.event.Event.{Event}
-use Rattle.world.specs.Running.{AreRunnableFrom}
+use Rattle.events.specs.declared.script.Sort.{Sort}
+use Rattle.events.specs.declared.script.Sort.TheVariants as sort
+use Rattle.world.specs.Running.{AreRunnableFrom, IsGetAt, IsSummaryAt, IsMessageAt, IsDumpAt, IsRunAt}
 
 -- a line tells of an event: it prints its reply, or what a hook says beside it
 abbrev pub tells_event : Answered → Bool
@@ -52,3 +54,12 @@ pub record AnswersUpTo (script : Script) (bytes : List ℕ) (number : ℕ) : Typ
   pub counted : 0 < number
   pub stands : number ≤ length (lines_in bytes)
   pub answers : AnswersFor script (take (number - 1) (lines_in bytes))
+
+-- the event at a place is of a sort
+abbrev pub IsOfSort : Sort → List Event → ℕ → Type 0
+IsOfSort sort.Get events place = IsGetAt events place
+IsOfSort sort.Summary events place = IsSummaryAt events place
+IsOfSort sort.Message events place = IsMessageAt events place
+IsOfSort sort.Dump events place = IsDumpAt events place
+IsOfSort sort.Run events place = IsRunAt events place
+IsOfSort sort.Other events place = Unit {0}

@@ -3,17 +3,18 @@
 ghost use Rattle.std.specs.Prelude.{◌≡◌, ◌+◌, ◌<◌, ◌≤◌, ℕ, true, false, List, length, Some, slice_get, if◌then◌else◌, IfOk, OnOk, IfSome, IsTrue, MatchOption, ◌↔◌, ◌∷◌, []};
 ghost use Rattle.helpers.specs.declared.sig.Entry.{Entry};
 ghost use Rattle.lines.specs.Lines.{lines_in};
-ghost use Rattle.events.specs.Scripts.{IsRunnable, IsRunnableFrom, IsOneMore, tells_event, lines_of, asks, AnswersFor, AnswersUpTo};
+ghost use Rattle.events.specs.Scripts.{IsRunnable, IsRunnableFrom, IsOneMore, IsOfSort, tells_event, lines_of, asks, AnswersFor, AnswersUpTo};
 ghost use Rattle.helpers.specs.Entries.{AgreesWith};
 ghost use Rattle.world.specs.Resolving.{MayRun};
-ghost use Rattle.world.specs.Running.{IsGetAt, IsSummaryAt, IsMessageAt, IsDumpAt, IsRunAt, IsUsed, IsEarlierContext};
+ghost use Rattle.world.specs.Running.{IsGetAt, IsSummaryAt, IsUsed, IsEarlierContext, MayComeFrom};
+ghost use Rattle.world.specs.declared.event.Event.{Event};
 
 use crate::check::Check;
 use crate::images::{Images, NoHook};
 use admission::Refusal;
 use bpfimage::ImageKind;
 use dvv::Clock;
-use lines::{BadLine, Context, Line, Spelling, first_line, line_of};
+use lines::{BadLine, Context, Line, Question, Spelling, first_line, line_of};
 use object::{Bytes, Content, Key};
 use std::alloc::{AllocError, Global};
 use std::collections::BTreeMap;
@@ -48,7 +49,7 @@ pub struct Script {
 }
 
 /// A line that may not stand where it stands, by its number from 1, and why.
-#[derive(Clone, Copy, PartialEq, Eq)]
+#[derive(Clone, Copy)]
 pub struct BadAt<'a> {
     pub line: usize,
     pub why: BadLine<'a>,
@@ -156,7 +157,7 @@ fn read<'a, I: Images>(
     match line_of(alloc, bytes)? {
         Spelling::PassedOver => Ok(None),
         Spelling::Line(line) => read_line(alloc, used, script, names, images, line),
-        Spelling::Bad(why) => Ok(Some(why)),
+        Spelling::Bad(why) => Ok(Some(BadLine::Misspelled(why))),
     }
 }
 
@@ -181,9 +182,12 @@ fn read_line<'a, I: Images>(
             value,
             context,
         } => read_put(alloc, script, names, vnode, key, value, context),
-        Line::Get { vnode, key, name } => read_get(alloc, script, names, vnode, key, name),
-        Line::Send { vnode, key, name } => read_send(alloc, script, names, vnode, key, name),
-        Line::Sum { vnode, key, name } => read_sum(alloc, script, names, vnode, key, name),
+        Line::Ask {
+            question,
+            vnode,
+            key,
+            name,
+        } => read_question(alloc, script, names, question, vnode, key, name),
         Line::Part {
             vnode,
             key,
@@ -209,33 +213,23 @@ fn read_line<'a, I: Images>(
     }
 }
 
-// A get, and its place under its name.
-fn read_get<'a>(
-    alloc: Global,
-    script: &mut Script,
-    names: &mut Names<'a>,
-    vnode: usize,
-    key: &[u8],
-    name: &'a [u8],
-) -> Result<Option<BadLine<'a>>, AllocError>
-    ensures runnable { (used : List ℕ) (listed : List Entry) → IsRunnableFrom used listed script.old → OnOk result (IsRunnableFrom used listed script.new) }
-    ensures answers { IfOk result (λ bad. MatchOption bad (lines_of script.new ≡ lines_of script.old + 1) (λ _. lines_of script.new ≡ lines_of script.old)) }
+// The event that asks a question.
+fn event_of(question: Question, vnode: usize, key: Key) -> Event
+    ensures { (used : List ℕ) (vnodes : ℕ) (listed : List Entry) (before : List Event) → vnode < vnodes → MayComeFrom used vnodes listed before result }
 {
-    if vnode >= script.vnodes {
-        return Ok(Some(BadLine::NoVnode(vnode)));
+    match question {
+        Question::Get => Event::Get { vnode, key },
+        Question::Send => Event::Send { vnode, key },
+        Question::Sum => Event::Summarize { vnode, key },
     }
-    let place = script.events.len();
-    let key = key_of(alloc, key)?;
-    push(script, Event::Get { vnode, key })?;
-    names.events.insert(name, place)?;
-    Ok(None)
 }
 
-// A send, and its place under its name.
-fn read_send<'a>(
+// A get, a send or a summary, and its place under its name.
+fn read_question<'a>(
     alloc: Global,
     script: &mut Script,
     names: &mut Names<'a>,
+    question: Question,
     vnode: usize,
     key: &[u8],
     name: &'a [u8],
@@ -248,29 +242,7 @@ fn read_send<'a>(
     }
     let place = script.events.len();
     let key = key_of(alloc, key)?;
-    push(script, Event::Send { vnode, key })?;
-    names.events.insert(name, place)?;
-    Ok(None)
-}
-
-// A summary, and its place under its name.
-fn read_sum<'a>(
-    alloc: Global,
-    script: &mut Script,
-    names: &mut Names<'a>,
-    vnode: usize,
-    key: &[u8],
-    name: &'a [u8],
-) -> Result<Option<BadLine<'a>>, AllocError>
-    ensures runnable { (used : List ℕ) (listed : List Entry) → IsRunnableFrom used listed script.old → OnOk result (IsRunnableFrom used listed script.new) }
-    ensures answers { IfOk result (λ bad. MatchOption bad (lines_of script.new ≡ lines_of script.old + 1) (λ _. lines_of script.new ≡ lines_of script.old)) }
-{
-    if vnode >= script.vnodes {
-        return Ok(Some(BadLine::NoVnode(vnode)));
-    }
-    let place = script.events.len();
-    let key = key_of(alloc, key)?;
-    push(script, Event::Summarize { vnode, key })?;
+    push(script, event_of(question, vnode, key))?;
     names.events.insert(name, place)?;
     Ok(None)
 }
@@ -291,7 +263,7 @@ fn read_part<'a>(
     if vnode >= script.vnodes {
         return Ok(Some(BadLine::NoVnode(vnode)));
     }
-    let Some(summary) = summed(&script.events, &names.events, summary) else {
+    let Some(summary) = found(&script.events, &names.events, summary, Sort::Summary) else {
         return Ok(Some(BadLine::NoSummary(summary)));
     };
     let place = script.events.len();
@@ -332,7 +304,7 @@ fn read_deliver<'a>(
     ensures runnable { (used : List ℕ) (listed : List Entry) → IsRunnableFrom used listed script.old → OnOk result (IsRunnableFrom used listed script.new) }
     ensures answers { IfOk result (λ bad. MatchOption bad (lines_of script.new ≡ lines_of script.old + 1) (λ _. lines_of script.new ≡ lines_of script.old)) }
 {
-    let Some(message) = sent(&script.events, &names.events, name) else {
+    let Some(message) = found(&script.events, &names.events, name, Sort::Message) else {
         return Ok(Some(BadLine::NoSend(name)));
     };
     if vnode >= script.vnodes {
@@ -385,7 +357,7 @@ fn read_load<'a>(
     ensures runnable { (listed : List Entry) → IsRunnableFrom used.now listed script.old → OnOk result (IsRunnableFrom used.now listed script.new) }
     ensures answers { IfOk result (λ bad. MatchOption bad (lines_of script.new ≡ lines_of script.old + 1) (λ _. lines_of script.new ≡ lines_of script.old)) }
 {
-    let Some(dump) = dumped(&script.events, &names.events, name) else {
+    let Some(dump) = found(&script.events, &names.events, name, Sort::Dump) else {
         return Ok(Some(BadLine::NoDump(name)));
     };
     if vnode >= script.vnodes {
@@ -444,22 +416,52 @@ fn read_resolve<'a, I: Images>(
     ensures runnable { (used : List ℕ) → IsRunnableFrom used (I.listed images.now) script.old → OnOk result (IsRunnableFrom used (I.listed images.now) script.new) }
     ensures answers { IfOk result (λ bad. MatchOption bad (lines_of script.new ≡ lines_of script.old + 1) (λ _. lines_of script.new ≡ lines_of script.old)) }
 {
-    let Some(get) = found(&script.events, &names.events, name) else {
+    let Some(get) = found(&script.events, &names.events, name, Sort::Get) else {
         return Ok(Some(BadLine::NoGet(name)));
     };
-    let place = script.events.len();
     match resolver(alloc, script, &mut names.resolvers, images, file) {
         Ok(hook) => {
-            push(script, Event::ResolveRead { get, hook })?;
-            names.runs.insert(name, place)?;
+            push_run(script, &mut names.runs, name, get, hook)?;
             Ok(None)
         }
-        Err(NoHook::Refused(refusal)) => {
+        Err(why) => {
             names.runs.remove(name);
+            push_no_hook(script, file, why)
+        }
+    }
+}
+
+// Adds a run of a resolver on what a get answered, and keeps its place under the get's name.
+fn push_run<'a>(
+    script: &mut Script,
+    runs: &mut Places<'a>,
+    name: &'a [u8],
+    get: usize,
+    hook: Hook,
+) -> Result<(), AllocError>
+    requires { IsGetAt script.old.events.items get }
+    ensures runnable { (used : List ℕ) (listed : List Entry) → MayRun listed hook → IsRunnableFrom used listed script.old → OnOk result (IsRunnableFrom used listed script.new) }
+    ensures answers { OnOk result (lines_of script.new ≡ lines_of script.old + 1) }
+{
+    runs.insert(name, script.events.len())?;
+    push(script, Event::ResolveRead { get, hook })
+}
+
+// Adds that a hook's image was not let in, or tells that its file can't be read.
+fn push_no_hook<'a>(
+    script: &mut Script,
+    file: &'a str,
+    why: NoHook,
+) -> Result<Option<BadLine<'a>>, AllocError>
+    ensures runnable { (used : List ℕ) (listed : List Entry) → IsRunnableFrom used listed script.old → OnOk result (IsRunnableFrom used listed script.new) }
+    ensures answers { IfOk result (λ bad. MatchOption bad (lines_of script.new ≡ lines_of script.old + 1) (λ _. lines_of script.new ≡ lines_of script.old)) }
+{
+    match why {
+        NoHook::Refused(refusal) => {
             push_told(script, Answered::NotLetIn(refusal))?;
             Ok(None)
         }
-        Err(NoHook::Unreadable) => Ok(Some(BadLine::NoFile(file))),
+        NoHook::Unreadable => Ok(Some(BadLine::NoFile(file))),
     }
 }
 
@@ -476,11 +478,11 @@ fn read_commit<'a>(
     if vnode >= script.vnodes {
         return Ok(Some(BadLine::NoVnode(vnode)));
     }
-    if let Some(run) = resolved(&script.events, &names.runs, name) {
+    if let Some(run) = found(&script.events, &names.runs, name, Sort::Run) {
         push(script, Event::ResolveWrite { run, vnode })?;
         return Ok(None);
     }
-    if found(&script.events, &names.events, name).is_none() {
+    if found(&script.events, &names.events, name, Sort::Get).is_none() {
         return Ok(Some(BadLine::NoGet(name)));
     }
     push_told(script, Answered::Nothing)?;
@@ -509,11 +511,7 @@ fn read_check<'a, I: Images>(
             push_check(alloc, script, vnode, key, value, hook)?;
             Ok(None)
         }
-        Err(NoHook::Refused(refusal)) => {
-            push_told(script, Answered::NotLetIn(refusal))?;
-            Ok(None)
-        }
-        Err(NoHook::Unreadable) => Ok(Some(BadLine::NoFile(file))),
+        Err(why) => push_no_hook(script, file, why),
     }
 }
 
@@ -547,14 +545,10 @@ fn resolver<'a, I: Images>(
 ) -> Result<Hook, NoHook>
     ensures { (used : List ℕ) → IsRunnableFrom used (I.listed images.now) script.now → IfOk result (MayRun (I.listed images.now)) }
 {
-    match asked.get(file.as_bytes()) {
-        Some(Ok(place)) => {
-            if let Some(hook) = hook_at(&script.events, *place) {
-                return Ok(hook.share()?);
-            }
+    if let Some(place) = asked_before(asked, file)? {
+        if let Some(hook) = hook_at(&script.events, place) {
+            return Ok(hook.share()?);
         }
-        Some(Err(refusal)) => return Err(NoHook::Refused(*refusal)),
-        None => {}
     }
     let place = script.events.len();
     ask(alloc, asked, place, images, file, ImageKind::Resolver)
@@ -570,17 +564,22 @@ fn pre_commit<'a, I: Images>(
 ) -> Result<Hook, NoHook>
     ensures { IfOk result (λ hook. hook.kind ≡ ImageKind.PreCommit) }
 {
-    match asked.get(file.as_bytes()) {
-        Some(Ok(place)) => {
-            if let Some(Answered::Checked(check)) = script.answered.get(*place) {
-                return Ok(check.hook.share()?);
-            }
+    if let Some(place) = asked_before(asked, file)? {
+        if let Some(Answered::Checked(check)) = script.answered.get(place) {
+            return Ok(check.hook.share()?);
         }
-        Some(Err(refusal)) => return Err(NoHook::Refused(*refusal)),
-        None => {}
     }
     let place = script.answered.len();
     ask(alloc, asked, place, images, file, ImageKind::PreCommit)
+}
+
+// Where the hook in a file is, if an earlier line asked for it and its image was let in. The error tells that it was refused.
+fn asked_before(asked: &Asked<'_>, file: &str) -> Result<Option<usize>, NoHook> {
+    match asked.get(file.as_bytes()) {
+        Some(Ok(place)) => Ok(Some(*place)),
+        Some(Err(refusal)) => Err(NoHook::Refused(*refusal)),
+        None => Ok(None),
+    }
 }
 
 // What the images answer of a file, which is kept: for a hook its place, for an image that is refused the refusal.
@@ -651,7 +650,7 @@ fn read_put<'a>(
     }
     let seen = match context {
         Context::Nothing => Seen::Clock(Clock::new(alloc)),
-        Context::OfGet(name) => match found(&script.events, &names.events, name) {
+        Context::OfGet(name) => match found(&script.events, &names.events, name, Sort::Get) {
             Some(get) => Seen::Get(get),
             None => return Ok(Some(BadLine::NoGet(name))),
         },
@@ -721,59 +720,41 @@ fn push_told(script: &mut Script, answered: Answered) -> Result<(), AllocError>
     Ok(())
 }
 
-// The place of the latest event of a name, where that is a get.
-fn found(events: &[Event], places: &Places<'_>, name: &[u8]) -> Option<usize>
-    ensures { IfSome result (IsGetAt events.now) }
+// What an event is, as far as names may ask for it.
+#[derive(Clone, Copy, PartialEq, Eq)]
+enum Sort {
+    Get,
+    Summary,
+    Message,
+    Dump,
+    Run,
+    Other,
+}
+
+// What the event at a place is.
+fn sort_at(events: &[Event], place: usize) -> Sort
+    ensures { IsOfSort result events.now place }
 {
-    let place = *places.get(name)?;
     match events.get(place) {
-        Some(Event::Get { .. }) => Some(place),
-        _ => None,
+        Some(Event::Get { .. }) => Sort::Get,
+        Some(Event::Summarize { .. }) => Sort::Summary,
+        Some(Event::Send { .. }) => Sort::Message,
+        Some(Event::SendPart { .. }) => Sort::Message,
+        Some(Event::Dump { .. }) => Sort::Dump,
+        Some(Event::ResolveRead { .. }) => Sort::Run,
+        _ => Sort::Other,
     }
 }
 
-// The place of the latest event of a name, where that is a summary.
-fn summed(events: &[Event], places: &Places<'_>, name: &[u8]) -> Option<usize>
-    ensures { IfSome result (IsSummaryAt events.now) }
+// The place of the latest event of a name, where that is of a sort.
+fn found(events: &[Event], places: &Places<'_>, name: &[u8], sort: Sort) -> Option<usize>
+    ensures { IfSome result (IsOfSort sort events.now) }
 {
     let place = *places.get(name)?;
-    match events.get(place) {
-        Some(Event::Summarize { .. }) => Some(place),
-        _ => None,
-    }
-}
-
-// The place of the latest event of a name, where that is a send, of all or of a part.
-fn sent(events: &[Event], places: &Places<'_>, name: &[u8]) -> Option<usize>
-    ensures { IfSome result (IsMessageAt events.now) }
-{
-    let place = *places.get(name)?;
-    match events.get(place) {
-        Some(Event::Send { .. }) => Some(place),
-        Some(Event::SendPart { .. }) => Some(place),
-        _ => None,
-    }
-}
-
-// The place of the latest event of a name, where that is a dump.
-fn dumped(events: &[Event], places: &Places<'_>, name: &[u8]) -> Option<usize>
-    ensures { IfSome result (IsDumpAt events.now) }
-{
-    let place = *places.get(name)?;
-    match events.get(place) {
-        Some(Event::Dump { .. }) => Some(place),
-        _ => None,
-    }
-}
-
-// The place of the latest run of a name.
-fn resolved(events: &[Event], places: &Places<'_>, name: &[u8]) -> Option<usize>
-    ensures { IfSome result (IsRunAt events.now) }
-{
-    let place = *places.get(name)?;
-    match events.get(place) {
-        Some(Event::ResolveRead { .. }) => Some(place),
-        _ => None,
+    if sort_at(events, place) == sort {
+        Some(place)
+    } else {
+        None
     }
 }
 

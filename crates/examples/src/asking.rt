@@ -2,9 +2,10 @@
 
 use commands::files::Files;
 use commands::own::command_with_helpers;
-use commands::server::Server;
+use commands::server::{Offline, Server};
 use std::alloc::Global;
 use std::io;
+use std::io::Write;
 
 /// What a command has written, and its status.
 #[derive(Drop)]
@@ -30,4 +31,23 @@ pub fn ask<F: Files, S: Server>(
     };
     said.status = command_with_helpers(alloc, words, files, server, &mut said.out, &mut said.err)?;
     Ok(said)
+}
+
+/// Does what the words ask for, without a network, and tells its output, its status and its error.
+pub fn tell_command<F: Files>(
+    alloc: Global,
+    words: &[&str],
+    files: &mut F,
+    told: &mut Vec<u8>,
+) -> io::Result<()> {
+    let said = ask(alloc, words, files, &mut Offline)?;
+    tell_said(&said, told)
+}
+
+/// Tells what a command has written, and its status.
+fn tell_said(said: &Said, told: &mut Vec<u8>) -> io::Result<()> {
+    let Said { out, err, status } = said;
+    told.write_all(out)?;
+    writeln!(told, "status {status}")?;
+    told.write_all(err)
 }

@@ -5,9 +5,9 @@ ghost use Rattle.helpers.specs.Entries.{AgreesWith};
 
 use crate::asking::ask;
 use admission::admit_program;
-use closing::Followed;
 use commands::files::Files;
 use commands::server::{Server, Unserved};
+use findings::Followed;
 use helpers::Table;
 use machine::{State, Stop, drive, padded, run};
 use memory::Windows;
@@ -31,8 +31,20 @@ impl Counts {
     /// No program yet.
     pub const NONE: Counts = Counts { alike: 0, apart: 0 };
 
-    /// Counts a program, over the helpers that dvvstore has.
+    /// Counts a program, over the helpers that dvvstore has. It and its input are files of these names.
     pub fn count<F: Files>(
+        &mut self,
+        alloc: Global,
+        files: &mut F,
+        program: &str,
+        input: &str,
+    ) -> io::Result<()> {
+        let program = files.read(alloc, program)?;
+        let input = files.read(alloc, input)?;
+        self.count_bytes(alloc, files, &program, &input)
+    }
+
+    fn count_bytes<F: Files>(
         &mut self,
         alloc: Global,
         files: &mut F,

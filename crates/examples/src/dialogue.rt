@@ -1,13 +1,21 @@
-//! The bytes of one connection, in the place of a network.
+//! The bytes of connections, in the place of a network.
 
-use closing::{Followed, WatchFault};
+use crate::asking::ask;
+use crate::folder::{Folder, read_ending};
+use crate::texts::first_difference;
+use commands::files::Files;
 use commands::server::{Server, Unserved};
+use findings::{Followed, WatchFault};
 use helpers::Table;
 use httpfront::answers_to;
 use local::Local;
 use serving::one_thread;
 use std::alloc::Global;
 use std::io::Write;
+use std::{io, rt};
+
+/// What stands between two connections of a file: the separator of records.
+const SEPARATOR: u8 = 0x1e;
 
 /// How many vnodes there are.
 const VNODES: u32 = 3;
@@ -17,11 +25,11 @@ const INCARNATION: u16 = 0;
 
 /// One connection, whose requests are all at hand.
 #[derive(Drop)]
-pub struct Dialogue<'a> {
+struct Dialogue<'a> {
     /// The bytes that the client sends.
-    pub requests: &'a [u8],
+    requests: &'a [u8],
     /// The bytes that it is answered.
-    pub answers: Vec<u8>,
+    answers: Vec<u8>,
 }
 
 impl Server for Dialogue<'_> {
@@ -48,4 +56,59 @@ impl Server for Dialogue<'_> {
             Err(_) => Err(Unserved::Unreadable),
         }
     }
+}
+
+/// Tells of how many connections the requests are answered by what stands beside them, and of each other one from which byte on
+/// they aren't.
+pub fn try_dialogue<R: rt::Files + AllocGlobal>(
+    rt: &R,
+    name: &str,
+    told: &mut Vec<u8>,
+) -> io::Result<()> {
+    let alloc = rt.alloc();
+    let mut http = Folder { rt, path: "http/" };
+    let requests = read_ending(alloc, &http, name, "requests")?;
+    let answers = read_ending(alloc, &http, name, "answers")?;
+    let as_written = try_connections(alloc, &mut http, name, &requests, &answers, told)?;
+    writeln!(told, "http/{name}.requests as written on {as_written}")
+}
+
+/// How many connections are answered as is written. Tells of each other one.
+fn try_connections<F: Files>(
+    alloc: Global,
+    files: &mut F,
+    name: &str,
+    requests: &[u8],
+    answers: &[u8],
+    told: &mut Vec<u8>,
+) -> io::Result<u32> {
+    let mut answers = answers.split(|byte| *byte == SEPARATOR);
+    let mut as_written = 0u32;
+    for requests in requests.split(|byte| *byte == SEPARATOR) {
+        let want = answers.next().unwrap_or(&[]);
+        match answered_otherwise(alloc, files, requests, want)? {
+            None => as_written = as_written.saturating_add(1),
+            Some(at) => writeln!(
+                told,
+                "http/{name}.requests something else from byte {at} on"
+            )?,
+        }
+    }
+    Ok(as_written)
+}
+
+/// From which byte on a client is answered something else to the bytes that it sends, by the store that dvvstore serves; a client that
+/// isn't served is answered nothing.
+fn answered_otherwise<F: Files>(
+    alloc: Global,
+    files: &mut F,
+    requests: &[u8],
+    want: &[u8],
+) -> io::Result<Option<usize>> {
+    let mut dialogue = Dialogue {
+        requests,
+        answers: Vec::new(alloc),
+    };
+    ask(alloc, &["serve", "memory", "1", "1"], files, &mut dialogue)?;
+    Ok(first_difference(&dialogue.answers, want))
 }

@@ -9,7 +9,7 @@ use std::{fs, io, rt};
 pub struct Folder<'a, R> {
     pub rt: &'a R,
     /// Where the folder is: nothing, or its path and a slash.
-    pub path: &'static str,
+    pub path: &'a str,
 }
 
 /// The bytes of the file of a name and an ending.
@@ -23,6 +23,13 @@ pub fn read_ending<F: Files>(
     files.read(alloc, file.as_str())
 }
 
+/// At most so many of a file's bytes, and how many it has.
+pub fn part_of(mut bytes: Vec<u8>, most: usize) -> Part {
+    let len = bytes.len() as u64;
+    bytes.truncate(most);
+    Part { bytes, len }
+}
+
 impl<R: rt::Files + AllocGlobal> Files for Folder<'_, R> {
     fn read(&self, alloc: Global, name: &str) -> io::Result<Vec<u8>> {
         let path = self.path;
@@ -30,10 +37,7 @@ impl<R: rt::Files + AllocGlobal> Files for Folder<'_, R> {
     }
 
     fn read_part(&self, alloc: Global, name: &str, most: usize) -> io::Result<Part> {
-        let mut bytes = self.read(alloc, name)?;
-        let len = bytes.len() as u64;
-        bytes.truncate(most);
-        Ok(Part { bytes, len })
+        Ok(part_of(self.read(alloc, name)?, most))
     }
 
     /// Nothing is changed: a file can be written as it stands, and not otherwise.

@@ -10,7 +10,7 @@ use Rattle.journal.specs.Stamps.{stamp_of}
 use Rattle.world.specs.Represents.{log_at, with_entry_at}
 use Rattle.follow.specs.declared.run.Head.{Head}
 use Rattle.follow.specs.Waiting.{waiting_at, count_waiting, IsNext, NoneBelow, AreTakenAlike}
-use Rattle.audit.proofs.Names.{same_ids}
+use Rattle.rerun.proofs.Names.{same_ids}
 
 -- an entry waits of a vnode that is there
 pub next_inside : (waiting : List (List Entry)) (index : ℕ) (e : Entry) → IsNext waiting index e → index < length waiting

@@ -3,9 +3,9 @@ use Rattle.std.specs.Prelude.{ℕ, ◌<◌, List, length}
 use Rattle.journal.specs.Entry.{Entry}
 use Rattle.journal.specs.Logs.{Log}
 use Rattle.journal.specs.Stamps.{stamp_of}
-use Rattle.audit.specs.Interleaved.{IsInterleaving}
-use Rattle.audit.specs.Wrong.{IsToldOf}
-use Rattle.audit.specs.declared.fault.FollowFault.{FollowFault}
+use Rattle.rerun.specs.Interleaved.{IsInterleaving}
+use Rattle.rerun.specs.Wrong.{IsToldOf}
+use Rattle.findings.specs.declared.fault.FollowFault.{FollowFault}
 use Rattle.follow.specs.Waiting.{AreTakenAlike, IsNext}
 
 -- Of what was taken, so much was followed as one run of the world, and the entry that was next then, below the bound, is the fault's.

@@ -4,7 +4,7 @@ use Rattle.journal.specs.Entry.{Entry}
 use Rattle.journal.specs.Logs.{Log}
 use Rattle.journal.specs.Stamps.{stamp_of}
 use Rattle.world.specs.Represents.{log_at}
-use Rattle.audit.specs.declared.fault.FollowFault.{FollowFault}
+use Rattle.findings.specs.declared.fault.FollowFault.{FollowFault}
 
 -- what waits of the vnode with this index
 abbrev pub waiting_at : List (List Entry) → ℕ → List Entry

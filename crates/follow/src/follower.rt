@@ -2,16 +2,16 @@
 
 ghost use Rattle.std.specs.Prelude.{◌≡◌, ◌≢◌, ◌<◌, ◌+◌, ◌++◌, ℕ, [], IfOk, IfErr, IfSome, OnOk, OnErr, Err, None, Some, length, replicate, slice_set};
 ghost use Rattle.world.specs.Represents.{AreDistinct, empty_logs, log_at};
-ghost use Rattle.audit.specs.declared.fault.FollowFault.{FollowFault as Faulted};
-ghost use Rattle.audit.specs.Interleaved.{IsInterleaving};
+ghost use Rattle.findings.specs.declared.fault.FollowFault.{FollowFault as Faulted};
+ghost use Rattle.rerun.specs.Interleaved.{IsInterleaving};
 ghost use Rattle.follow.specs.Stops.{HasStopped, IsStop};
 ghost use Rattle.follow.specs.Waiting.{AreTakenAlike, NoneBelow, taken_at, waiting_at};
 
-use crate::fault::TakeFault;
 use crate::queue::Queue;
 use crate::run::Run;
-use audit::{FollowFault, Rerun};
+use findings::{FollowFault, TakeFault};
 use journal::Entry;
+use rerun::Rerun;
 use std::alloc::{AllocError, Global};
 use std::marker::Model;
 
@@ -24,7 +24,7 @@ pub struct Follower {
 
 impl Model for Follower {
     ghost use Rattle.std.specs.Prelude.{◌≡◌, Some, length};
-    ghost use Rattle.audit.specs.declared.fault.FollowFault.{FollowFault as Faulted};
+    ghost use Rattle.findings.specs.declared.fault.FollowFault.{FollowFault as Faulted};
     ghost use Rattle.follow.specs.Stops.{HasStopped};
     ghost use Rattle.follow.specs.Waiting.{Taken};
 

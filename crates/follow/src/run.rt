@@ -4,13 +4,14 @@ ghost use Rattle.std.specs.Prelude.{◌≡◌, ◌≤◌, ◌<◌, ◌+◌, ◌�
 ghost use Rattle.journal.specs.Entry.{Entry as Entered};
 ghost use Rattle.journal.specs.Stamps.{stamp_of};
 ghost use Rattle.world.specs.Represents.{log_at, with_entry_at};
-ghost use Rattle.audit.specs.Interleaved.{IsInterleaving};
-ghost use Rattle.audit.specs.Wrong.{IsToldOf};
+ghost use Rattle.rerun.specs.Interleaved.{IsInterleaving};
+ghost use Rattle.rerun.specs.Wrong.{IsToldOf};
 ghost use Rattle.follow.specs.Stops.{IsStop};
 ghost use Rattle.follow.specs.Waiting.{AreTakenAlike, IsNext, NoneBelow, waiting_at};
 
 use crate::queue::Queue;
-use audit::{FollowFault, Rerun};
+use findings::FollowFault;
+use rerun::Rerun;
 
 /// The next entry of a vnode.
 #[derive(Clone, Copy, Drop)]

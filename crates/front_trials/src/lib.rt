@@ -1,4 +1,4 @@
-//! Tests of what requests come to and of the answers to them, of the HTTP front over sources and sinks in memory, and of the listener.
+//! Tests of the HTTP front over sources and sinks in memory, and of the listener.
 #![tactic(auto)]
 
 #[cfg(test)]

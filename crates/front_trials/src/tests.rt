@@ -1,7 +1,7 @@
-//! The tests by what is tried.
+//! The tests by what is tried. What requests come to on one store stands in the dialogues of the examples.
 
+mod commanding;
 mod connections;
 mod listening;
 mod opening;
-mod requests;
 mod rows;

@@ -16,7 +16,7 @@ const MAX_ROWS: u32 = 64;
 const NO_SIBLING: u64 = 64;
 
 /// What the order of siblings goes by, of a row of a hook's input. A row with `n` 0 is no sibling.
-#[derive(Clone, Copy, PartialEq, Eq, Debug)]
+#[derive(Clone, Copy, PartialEq, Eq)]
 pub struct Row {
     pub vnode: u32,
     pub n: u64,

@@ -16,7 +16,7 @@ pub const ARGUMENT_REGISTERS: [Register; 5] = [
 ];
 
 /// What an argument register of a call holds.
-#[derive(Clone, Copy, PartialEq, Eq, Debug)]
+#[derive(Clone, Copy, PartialEq, Eq)]
 pub enum ArgRule {
     /// Anything: it is not read.
     Unused,
@@ -30,7 +30,7 @@ pub enum ArgRule {
 
 /// What the five argument registers of a helper hold, and the range of its answers, both ends included. Each Read is
 /// followed by its Len, and no range is empty.
-#[derive(Clone, Copy, PartialEq, Eq, Debug)]
+#[derive(Clone, Copy, PartialEq, Eq)]
 pub struct Sig {
     pub args: [ArgRule; 5],
     pub lo: u64,
@@ -41,7 +41,7 @@ pub struct Sig {
 }
 
 /// A helper's number and its Sig.
-#[derive(Clone, Copy, PartialEq, Eq, Debug)]
+#[derive(Clone, Copy, PartialEq, Eq)]
 pub struct Entry {
     pub number: u32,
     pub sig: Sig,

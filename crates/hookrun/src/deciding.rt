@@ -22,7 +22,7 @@ use std::marker::Model;
 use verifier::Verified;
 
 /// Why a hook decides nothing.
-#[derive(Clone, Copy, Debug, PartialEq, Eq, Drop)]
+#[derive(Clone, Copy, PartialEq, Eq, Drop)]
 pub enum RunFault {
     /// The table doesn't have each helper that the program was verified with, under the same Sig.
     Disagrees,

@@ -17,7 +17,7 @@ use object::{Content, Sibling};
 use std::alloc::Global;
 
 /// Why the bytes of an image decide nothing.
-#[derive(Clone, Copy, Debug, PartialEq, Eq, Drop)]
+#[derive(Clone, Copy, PartialEq, Eq, Drop)]
 pub enum Undecided {
     /// They are no image, the verifier doesn't accept it, or it is of another kind.
     Refused(Refusal),

@@ -31,7 +31,7 @@ pub enum Resolution {
 }
 
 /// Why a resolver came to nothing.
-#[derive(Clone, Copy, Debug, PartialEq, Eq, Drop)]
+#[derive(Clone, Copy, PartialEq, Eq, Drop)]
 pub enum Unresolved {
     /// The table doesn't have each helper that the program was verified with, under the same Sig.
     Disagrees,

@@ -11,7 +11,7 @@ use object::Bytes;
 use std::alloc::AllocError;
 
 /// A name for each kind, or none.
-#[derive(Debug, Drop)]
+#[derive(Drop)]
 pub(crate) struct Bindings {
     pub(crate) plain: Option<Bytes>,
     pub(crate) pre_commit: Option<Bytes>,

@@ -6,7 +6,7 @@ use token::TokenFault;
 
 /// Why a request is answered without the store, in the order in which the faults are told: the first that stands is told,
 /// and no other. After each of the first five the connection ends.
-#[derive(Clone, Copy, Debug, PartialEq, Eq)]
+#[derive(Clone, Copy, PartialEq, Eq)]
 pub enum Refusal {
     /// No head of at most [`MAX_HEAD`](crate::MAX_HEAD) bytes and [`MAX_LINES`](crate::MAX_LINES) field lines can come of
     /// the bytes, or its target is no path with a query that begins with `/`.
@@ -37,7 +37,7 @@ pub enum Refusal {
 }
 
 /// What becomes of one property of a bucket.
-#[derive(Debug, Drop)]
+#[derive(Drop)]
 pub enum Change {
     /// It stays as it is.
     Kept,
@@ -48,7 +48,7 @@ pub enum Change {
 }
 
 /// How the answer to a read is shown.
-#[derive(Debug, Drop)]
+#[derive(Drop)]
 pub enum Form {
     /// One value as it is, several as a list of their tags.
     Text,
@@ -59,7 +59,7 @@ pub enum Form {
 }
 
 /// A call of the store. Its words are within their limits (`Fits` of `specs/Fits.antt`).
-#[derive(Debug, Drop)]
+#[derive(Drop)]
 pub enum Call {
     /// Reads a key: `r` copies have to answer, 1 to all, and the coordinator is the vnode at the index `at` of the preference
     /// list, from 0.
@@ -99,7 +99,7 @@ pub enum Call {
 }
 
 /// What a request asks for.
-#[derive(Debug, Drop)]
+#[derive(Drop)]
 pub enum Ask {
     /// Whether anyone is there.
     Ping,

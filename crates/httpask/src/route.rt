@@ -1,7 +1,7 @@
 //! The routes of the store.
 
 /// A route of the store (Riak KV, HTTP API; hooks are this store's).
-#[derive(Clone, Copy, Debug, PartialEq, Eq)]
+#[derive(Clone, Copy, PartialEq, Eq)]
 pub enum Route {
     /// `/ping`
     Ping,

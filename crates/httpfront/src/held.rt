@@ -6,7 +6,7 @@ use crate::device::{Failed, Sink, Source};
 use std::alloc::Global;
 
 /// Bytes that come at most `step` at a time. The read of the number `fail_at`, counted from 0, fails.
-#[derive(Clone, Copy, Debug)]
+#[derive(Clone, Copy)]
 pub struct FailSource<'a> {
     /// The bytes that reads will give.
     pub bytes: &'a [u8],
@@ -59,7 +59,7 @@ impl Source for FailSource<'_> {
 
 /// A buffer that takes at most `step` bytes at a time. The write of the number `fail_at`, counted from 0, fails, and one for
 /// which there is no memory.
-#[derive(Debug, Drop)]
+#[derive(Drop)]
 pub struct FailSink {
     /// The bytes that were written.
     pub bytes: Vec<u8>,

@@ -6,7 +6,7 @@ use crate::device::{Failed, Sink, Source};
 use std::io::{Read, Write};
 
 /// A reader. It gives up after `2^64 - 1` reads, which counts as a failed one.
-#[derive(Debug, Drop)]
+#[derive(Drop)]
 pub struct ReadSource<R: Read> {
     reader: R,
     failures: u64,
@@ -44,7 +44,7 @@ impl<R: Read> Source for ReadSource<R> {
 }
 
 /// A writer. A write that takes nothing counts as a failed one.
-#[derive(Debug, Drop)]
+#[derive(Drop)]
 pub struct WriteSink<W: Write> {
     writer: W,
     failures: u64,

@@ -1,6 +1,6 @@
 //! What a whole request asks for.
 
-ghost use Rattle.std.specs.Prelude.{◌≡◌, ◌≤◌, IfOk, Some, Ok, ℕ, codes};
+ghost use Rattle.std.specs.Prelude.{◌≡◌, ◌≤◌, ◌||◌, IfOk, Some, Ok, ℕ, codes};
 ghost use Rattle.std.specs.Option.{option_copied};
 ghost use Rattle.httpask.specs.declared.route.Route.TheVariants as route;
 ghost use Rattle.httpask.specs.Target as target;
@@ -70,9 +70,28 @@ impl Request<'_> {
         ensures asked { IfOk result (λ ask. ask ≡ asked_at copies (Some route.Key) (request self.entry)) }
         ensures fits { IfOk result (FitsAsk copies) }
     {
-        if !(self.is(b"GET") || self.is(b"PUT") || self.is(b"POST") || self.is(b"DELETE")) {
-            return Ok(Ask::Refused(Refusal::Method));
+        if self.is_of_key() {
+            self.ask_of_query(alloc, copies)
+        } else {
+            Ok(Ask::Refused(Refusal::Method))
         }
+    }
+
+    // Whether its method is one of a key.
+    fn is_of_key(self) -> bool
+        ensures { result ≡ (is_method (request self.entry) (codes "GET") || is_method (request self.entry) (codes "PUT")
+            || is_method (request self.entry) (codes "POST") || is_method (request self.entry) (codes "DELETE")) }
+    {
+        self.is(b"GET") || self.is(b"PUT") || self.is(b"POST") || self.is(b"DELETE")
+    }
+
+    // What is asked of a key by one of its methods.
+    fn ask_of_query(self, alloc: Global, copies: u32) -> Result<Ask, AllocError>
+        requires some { 1 ≤ copies }
+        requires few { copies ≤ 3 }
+        ensures asked { IfOk result (λ ask. ask ≡ asked_named (target.quorums_of copies (texts_of self.entry.query.now)) (key_at self.entry.path.now) (request self.entry)) }
+        ensures fits { IfOk result (FitsAsk copies) }
+    {
         let words = words_of(alloc, self.query.as_bytes())?;
         match quorums_of(&words, copies) {
             Some(asked) => self.ask_of_names(alloc, asked, text_of(&words.vtag)),

@@ -21,7 +21,7 @@ pub(crate) struct Words<'q> {
     pub(crate) vtag: Option<CowStr<'q, Global>>,
 }
 
-/// The words of a query, found in one pass over its pairs.
+/// The words of a query.
 pub(crate) fn words_of(alloc: Global, query: &[u8]) -> Result<Words<'_>, AllocError>
     ensures { IfOk result (λ words. AreWords words (spec.texts_of query.now)) }
 {
@@ -31,11 +31,20 @@ pub(crate) fn words_of(alloc: Global, query: &[u8]) -> Result<Words<'_>, AllocEr
         at: None,
         vtag: None,
     };
+    add_words(alloc, query, &mut words)?;
+    Ok(words)
+}
+
+// Adds the words of a query to none, found in one pass over its pairs.
+fn add_words<'q>(alloc: Global, query: &'q [u8], words: &mut Words<'q>) -> Result<(), AllocError>
+    requires { WordsLeadTo words.old (spec.texts_of query.now) (spec.texts_of query.now) }
+    ensures { OnOk result (AreWords words.new (spec.texts_of query.now)) }
+{
     for pair in form_urlencoded::parse(alloc, query) {
         let (name, value) = pair?;
-        add_pair(&mut words, name.as_str(), value);
+        add_pair(words, name.as_str(), value);
     }
-    Ok(words)
+    Ok(())
 }
 
 // Adds the word of one pair more.
@@ -71,7 +80,7 @@ pub(crate) fn text_of<'a>(word: &'a Option<CowStr<'_, Global>>) -> Option<&'a st
 }
 
 /// How many copies a query asks for, and which of them coordinates.
-#[derive(Clone, Copy, Debug, PartialEq, Eq)]
+#[derive(Clone, Copy)]
 pub(crate) struct Asked {
     pub(crate) read: u32,
     pub(crate) write: u32,

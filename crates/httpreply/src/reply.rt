@@ -7,7 +7,7 @@ use object::{Bytes, KeyState};
 use quorum::QuorumFault;
 
 /// The names of the hooks that are bound to a bucket.
-#[derive(Debug, Drop)]
+#[derive(Drop)]
 pub struct Bound {
     /// The hook that runs on each new content before it is stored.
     pub precommit: Option<Bytes>,
@@ -16,7 +16,7 @@ pub struct Bound {
 }
 
 /// What the store answered to a call.
-#[derive(Debug, Drop)]
+#[derive(Drop)]
 pub enum Reply {
     /// No call was made.
     Nothing,

@@ -15,7 +15,7 @@ use std::fmt;
 ///
 /// The three that speak of the length are told first, and at slot 0. Then the lowest slot is told that breaks a rule, and of its
 /// rules the first in the order of names, but that a form that is left out is told before all others.
-#[derive(Clone, Copy, Debug, PartialEq, Eq)]
+#[derive(Clone, Copy, PartialEq, Eq)]
 pub enum Refusal {
     /// The length is not a multiple of 8.
     UnevenLength,
@@ -63,7 +63,7 @@ impl fmt::Display for Refusal {
 }
 
 /// Why bytes are no code, and at which slot.
-#[derive(Clone, Copy, Debug, PartialEq, Eq)]
+#[derive(Clone, Copy, PartialEq, Eq)]
 pub struct DecodeFault {
     pub slot: u32,
     pub why: Refusal,

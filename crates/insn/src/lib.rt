@@ -16,7 +16,7 @@ pub use laws::{code_is_paired, instructions_break_no_rule};
 use slot::Slot;
 
 /// A register. R10 is the frame pointer, which no instruction writes.
-#[derive(Clone, Copy, Debug, PartialEq, Eq)]
+#[derive(Clone, Copy, PartialEq, Eq)]
 pub enum Register {
     R0,
     R1,
@@ -32,14 +32,14 @@ pub enum Register {
 }
 
 /// A second operand.
-#[derive(Clone, Copy, Debug, PartialEq, Eq)]
+#[derive(Clone, Copy, PartialEq, Eq)]
 pub enum Operand {
     Register(Register),
     Immediate(i32),
 }
 
 /// How many bytes a load or a store moves: 1, 2, 4 or 8.
-#[derive(Clone, Copy, Debug, PartialEq, Eq)]
+#[derive(Clone, Copy, PartialEq, Eq)]
 pub enum Size {
     Byte,
     Half,
@@ -48,21 +48,21 @@ pub enum Size {
 }
 
 /// How a load fills the bits above those that it read.
-#[derive(Clone, Copy, Debug, PartialEq, Eq)]
+#[derive(Clone, Copy, PartialEq, Eq)]
 pub enum Extend {
     Zero,
     Sign,
 }
 
 /// How far an unconditional jump goes, counted from the slot after it.
-#[derive(Clone, Copy, Debug, PartialEq, Eq)]
+#[derive(Clone, Copy, PartialEq, Eq)]
 pub enum Distance {
     Near(i16),
     Far(i32),
 }
 
 /// One slot of code.
-#[derive(Clone, Copy, Debug, PartialEq, Eq)]
+#[derive(Clone, Copy)]
 pub enum Insn {
     Alu {
         op: Op,

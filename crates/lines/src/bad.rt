@@ -2,9 +2,9 @@
 
 use std::fmt;
 
-/// Why a line may not stand where it stands. It shows the reason in a few words.
-#[derive(Clone, Copy, Debug, PartialEq, Eq)]
-pub enum BadLine<'a> {
+/// Why the bytes of a line spell none. It shows the reason in a few words.
+#[derive(Clone, Copy)]
+pub enum Misspelling {
     /// The line doesn't end by a line feed.
     NoLineFeed,
     /// The first word is none of a line.
@@ -13,12 +13,36 @@ pub enum BadLine<'a> {
     WordCount,
     /// A word is no decimal without sign and leading zeros, or one past `usize::MAX`.
     NoNumber,
+    /// An incarnation is at most 65,535.
+    NoIncarnation,
     /// A key, a value or a name is no word of 1 to 64 letters and digits.
     NoWord,
     /// A context is none of `-`, `@NAME` and `=TOKEN`.
     NoContext,
     /// The name of a file is no text.
     NoFileName,
+}
+
+impl fmt::Display for Misspelling {
+    fn fmt<W: fmt::Write>(&self, f: &mut fmt::Formatter<W>) -> fmt::Result {
+        f.write_str(match self {
+            Misspelling::NoLineFeed => "no line feed at the end",
+            Misspelling::NoSuchLine => "no such line",
+            Misspelling::WordCount => "too many or too few words",
+            Misspelling::NoNumber => "a number that is no decimal",
+            Misspelling::NoIncarnation => "an incarnation is at most 65535",
+            Misspelling::NoWord => "a word that is not 1 to 64 letters and digits",
+            Misspelling::NoContext => "a context that is none of -, @NAME and =TOKEN",
+            Misspelling::NoFileName => "a file name that is no text",
+        })
+    }
+}
+
+/// Why a line may not stand where it stands. It shows the reason in a few words.
+#[derive(Clone, Copy)]
+pub enum BadLine<'a> {
+    /// Its bytes spell no line.
+    Misspelled(Misspelling),
     /// A script has 1 to 255 vnodes.
     VnodeCount,
     /// There is a line `vnodes` already.
@@ -33,8 +57,6 @@ pub enum BadLine<'a> {
     NoSend(&'a [u8]),
     /// The latest line of this name is no dump, or there is none.
     NoDump(&'a [u8]),
-    /// An incarnation is at most 65,535.
-    NoIncarnation,
     /// The index of this vnode had this incarnation before.
     UsedIncarnation(usize, u16),
     /// There is no file of this name, or it can't be read.
@@ -44,13 +66,7 @@ pub enum BadLine<'a> {
 impl fmt::Display for BadLine<'_> {
     fn fmt<W: fmt::Write>(&self, f: &mut fmt::Formatter<W>) -> fmt::Result {
         match self {
-            BadLine::NoLineFeed => f.write_str("no line feed at the end"),
-            BadLine::NoSuchLine => f.write_str("no such line"),
-            BadLine::WordCount => f.write_str("too many or too few words"),
-            BadLine::NoNumber => f.write_str("a number that is no decimal"),
-            BadLine::NoWord => f.write_str("a word that is not 1 to 64 letters and digits"),
-            BadLine::NoContext => f.write_str("a context that is none of -, @NAME and =TOKEN"),
-            BadLine::NoFileName => f.write_str("a file name that is no text"),
+            BadLine::Misspelled(why) => write!(f, "{why}"),
             BadLine::VnodeCount => f.write_str("vnodes are 1 to 255"),
             BadLine::VnodesAgain => f.write_str("vnodes stands once"),
             BadLine::NoVnode(vnode) => write!(f, "no vnode {vnode}"),
@@ -58,7 +74,6 @@ impl fmt::Display for BadLine<'_> {
             BadLine::NoSummary(name) => write_named(f, "sum", name),
             BadLine::NoSend(name) => write_named(f, "send", name),
             BadLine::NoDump(name) => write_named(f, "dump", name),
-            BadLine::NoIncarnation => f.write_str("an incarnation is at most 65535"),
             BadLine::UsedIncarnation(vnode, incarnation) => {
                 write!(f, "vnode {vnode} had incarnation {incarnation} before")
             }

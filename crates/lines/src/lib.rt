@@ -6,7 +6,7 @@ mod cut;
 mod line;
 mod words;
 
-pub use bad::BadLine;
+pub use bad::{BadLine, Misspelling};
 pub use cut::first_line;
-pub use line::{Context, Line, Spelling, line_of};
+pub use line::{Context, Line, Question, Spelling, line_of};
 pub use words::{MAX_WORD, is_word, number};

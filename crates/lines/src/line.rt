@@ -3,7 +3,7 @@
 ghost use Rattle.std.specs.Prelude.{IfOk};
 ghost use Rattle.lines.specs.Spelling.{Spells};
 
-use crate::bad::BadLine;
+use crate::bad::Misspelling;
 use crate::words::{is_word, number};
 use std::alloc::{AllocError, Global};
 use std::str;
@@ -19,6 +19,17 @@ pub enum Context<'a> {
     Token(&'a [u8]),
 }
 
+/// What is asked of a vnode about a key, under a name for the answer.
+#[derive(Clone, Copy)]
+pub enum Question {
+    /// What it knows.
+    Get,
+    /// A message of all that it knows.
+    Send,
+    /// A summary of what it knows.
+    Sum,
+}
+
 /// A line that asks for something. Names and keys are words; a vnode goes by its index.
 #[derive(Clone, Copy)]
 pub enum Line<'a> {
@@ -29,17 +40,8 @@ pub enum Line<'a> {
         value: Option<&'a [u8]>,
         context: Context<'a>,
     },
-    Get {
-        vnode: usize,
-        key: &'a [u8],
-        name: &'a [u8],
-    },
-    Send {
-        vnode: usize,
-        key: &'a [u8],
-        name: &'a [u8],
-    },
-    Sum {
+    Ask {
+        question: Question,
         vnode: usize,
         key: &'a [u8],
         name: &'a [u8],
@@ -90,26 +92,64 @@ pub enum Spelling<'a> {
     /// A line that asks for something.
     Line(Line<'a>),
     /// Nothing that is a line, and why.
-    Bad(BadLine<'a>),
+    Bad(Misspelling),
 }
+
+// What the first word of a line asks for.
+#[derive(Clone, Copy)]
+enum Command {
+    Vnodes,
+    Put,
+    Del,
+    Ask(Question),
+    Part,
+    Deliver,
+    Restart,
+    Dump,
+    Load,
+    Resolve,
+    Commit,
+    Check,
+}
+
+// The first words of lines.
+const COMMANDS: &[(&[u8], Command)] = &[
+    (b"vnodes", Command::Vnodes),
+    (b"put", Command::Put),
+    (b"del", Command::Del),
+    (b"get", Command::Ask(Question::Get)),
+    (b"send", Command::Ask(Question::Send)),
+    (b"sum", Command::Ask(Question::Sum)),
+    (b"part", Command::Part),
+    (b"deliver", Command::Deliver),
+    (b"restart", Command::Restart),
+    (b"dump", Command::Dump),
+    (b"load", Command::Load),
+    (b"resolve", Command::Resolve),
+    (b"commit", Command::Commit),
+    (b"check", Command::Check),
+];
 
 /// What the bytes of a line spell, its line feed among them. The list of its words takes memory.
 pub fn line_of<'a>(alloc: Global, bytes: &'a [u8]) -> Result<Spelling<'a>, AllocError>
     ensures { IfOk result (Spells bytes.now) }
 {
-    let Some((last, line)) = bytes.split_last() else {
-        return Ok(Spelling::Bad(BadLine::NoLineFeed));
+    let Some((b'\n', line)) = bytes.split_last() else {
+        return Ok(Spelling::Bad(Misspelling::NoLineFeed));
     };
-    if *last != b'\n' {
-        return Ok(Spelling::Bad(BadLine::NoLineFeed));
-    }
     match line.first() {
         None | Some(b'#') => Ok(Spelling::PassedOver),
-        Some(_) => match spelled(&words_of(alloc, line)?) {
+        Some(_) => match line_in(alloc, line)? {
             Ok(line) => Ok(Spelling::Line(line)),
-            Err(bad) => Ok(Spelling::Bad(bad)),
+            Err(why) => Ok(Spelling::Bad(why)),
         },
     }
+}
+
+// The line that is spelled by bytes before a line feed.
+fn line_in<'a>(alloc: Global, line: &'a [u8]) -> Result<Result<Line<'a>, Misspelling>, AllocError> {
+    let words = words_of(alloc, line)?;
+    Ok(spelled(&words))
 }
 
 // The words of a line, which are parted by one space.
@@ -122,39 +162,47 @@ fn words_of<'a>(alloc: Global, line: &'a [u8]) -> Result<Vec<&'a [u8]>, AllocErr
 }
 
 // The line of these words.
-fn spelled<'a>(words: &[&'a [u8]]) -> Result<Line<'a>, BadLine<'a>> {
+fn spelled<'a>(words: &[&'a [u8]]) -> Result<Line<'a>, Misspelling> {
     let Some((command, arguments)) = words.split_first() else {
-        return Err(BadLine::NoSuchLine);
+        return Err(Misspelling::NoSuchLine);
     };
-    match *command {
-        b"vnodes" => vnodes(arguments),
-        b"put" => put(arguments),
-        b"del" => del(arguments),
-        b"get" => get(arguments),
-        b"send" => send(arguments),
-        b"sum" => sum(arguments),
-        b"part" => part(arguments),
-        b"deliver" => deliver(arguments),
-        b"restart" => restart(arguments),
-        b"dump" => dump(arguments),
-        b"load" => load(arguments),
-        b"resolve" => resolve(arguments),
-        b"commit" => commit(arguments),
-        b"check" => check(arguments),
-        _ => Err(BadLine::NoSuchLine),
+    match command_of(command) {
+        Some(Command::Vnodes) => vnodes(arguments),
+        Some(Command::Put) => put(arguments),
+        Some(Command::Del) => del(arguments),
+        Some(Command::Ask(question)) => ask(question, arguments),
+        Some(Command::Part) => part(arguments),
+        Some(Command::Deliver) => deliver(arguments),
+        Some(Command::Restart) => restart(arguments),
+        Some(Command::Dump) => dump(arguments),
+        Some(Command::Load) => load(arguments),
+        Some(Command::Resolve) => resolve(arguments),
+        Some(Command::Commit) => commit(arguments),
+        Some(Command::Check) => check(arguments),
+        None => Err(Misspelling::NoSuchLine),
     }
 }
 
-fn vnodes<'a>(arguments: &[&'a [u8]]) -> Result<Line<'a>, BadLine<'a>> {
+// The command of this name.
+fn command_of(name: &[u8]) -> Option<Command> {
+    for (known, command) in COMMANDS {
+        if *known == name {
+            return Some(*command);
+        }
+    }
+    None
+}
+
+fn vnodes<'a>(arguments: &[&'a [u8]]) -> Result<Line<'a>, Misspelling> {
     let [count] = arguments else {
-        return Err(BadLine::WordCount);
+        return Err(Misspelling::WordCount);
     };
     Ok(Line::Vnodes(number_of(count)?))
 }
 
-fn put<'a>(arguments: &[&'a [u8]]) -> Result<Line<'a>, BadLine<'a>> {
+fn put<'a>(arguments: &[&'a [u8]]) -> Result<Line<'a>, Misspelling> {
     let [vnode, key, value, context] = arguments else {
-        return Err(BadLine::WordCount);
+        return Err(Misspelling::WordCount);
     };
     Ok(Line::Put {
         vnode: number_of(vnode)?,
@@ -164,9 +212,9 @@ fn put<'a>(arguments: &[&'a [u8]]) -> Result<Line<'a>, BadLine<'a>> {
     })
 }
 
-fn del<'a>(arguments: &[&'a [u8]]) -> Result<Line<'a>, BadLine<'a>> {
+fn del<'a>(arguments: &[&'a [u8]]) -> Result<Line<'a>, Misspelling> {
     let [vnode, key, context] = arguments else {
-        return Err(BadLine::WordCount);
+        return Err(Misspelling::WordCount);
     };
     Ok(Line::Put {
         vnode: number_of(vnode)?,
@@ -176,42 +224,21 @@ fn del<'a>(arguments: &[&'a [u8]]) -> Result<Line<'a>, BadLine<'a>> {
     })
 }
 
-fn get<'a>(arguments: &[&'a [u8]]) -> Result<Line<'a>, BadLine<'a>> {
-    let [vnode, key, answer] = arguments else {
-        return Err(BadLine::WordCount);
+fn ask<'a>(question: Question, arguments: &[&'a [u8]]) -> Result<Line<'a>, Misspelling> {
+    let [vnode, key, name] = arguments else {
+        return Err(Misspelling::WordCount);
     };
-    Ok(Line::Get {
+    Ok(Line::Ask {
+        question,
         vnode: number_of(vnode)?,
         key: name_of(key)?,
-        name: name_of(answer)?,
+        name: name_of(name)?,
     })
 }
 
-fn send<'a>(arguments: &[&'a [u8]]) -> Result<Line<'a>, BadLine<'a>> {
-    let [vnode, key, message] = arguments else {
-        return Err(BadLine::WordCount);
-    };
-    Ok(Line::Send {
-        vnode: number_of(vnode)?,
-        key: name_of(key)?,
-        name: name_of(message)?,
-    })
-}
-
-fn sum<'a>(arguments: &[&'a [u8]]) -> Result<Line<'a>, BadLine<'a>> {
-    let [vnode, key, summary] = arguments else {
-        return Err(BadLine::WordCount);
-    };
-    Ok(Line::Sum {
-        vnode: number_of(vnode)?,
-        key: name_of(key)?,
-        name: name_of(summary)?,
-    })
-}
-
-fn part<'a>(arguments: &[&'a [u8]]) -> Result<Line<'a>, BadLine<'a>> {
+fn part<'a>(arguments: &[&'a [u8]]) -> Result<Line<'a>, Misspelling> {
     let [vnode, key, summary, message] = arguments else {
-        return Err(BadLine::WordCount);
+        return Err(Misspelling::WordCount);
     };
     Ok(Line::Part {
         vnode: number_of(vnode)?,
@@ -221,9 +248,9 @@ fn part<'a>(arguments: &[&'a [u8]]) -> Result<Line<'a>, BadLine<'a>> {
     })
 }
 
-fn deliver<'a>(arguments: &[&'a [u8]]) -> Result<Line<'a>, BadLine<'a>> {
+fn deliver<'a>(arguments: &[&'a [u8]]) -> Result<Line<'a>, Misspelling> {
     let [message, vnode] = arguments else {
-        return Err(BadLine::WordCount);
+        return Err(Misspelling::WordCount);
     };
     Ok(Line::Deliver {
         name: name_of(message)?,
@@ -231,18 +258,18 @@ fn deliver<'a>(arguments: &[&'a [u8]]) -> Result<Line<'a>, BadLine<'a>> {
     })
 }
 
-fn restart<'a>(arguments: &[&'a [u8]]) -> Result<Line<'a>, BadLine<'a>> {
+fn restart<'a>(arguments: &[&'a [u8]]) -> Result<Line<'a>, Misspelling> {
     let [vnode] = arguments else {
-        return Err(BadLine::WordCount);
+        return Err(Misspelling::WordCount);
     };
     Ok(Line::Restart {
         vnode: number_of(vnode)?,
     })
 }
 
-fn dump<'a>(arguments: &[&'a [u8]]) -> Result<Line<'a>, BadLine<'a>> {
+fn dump<'a>(arguments: &[&'a [u8]]) -> Result<Line<'a>, Misspelling> {
     let [vnode, copies] = arguments else {
-        return Err(BadLine::WordCount);
+        return Err(Misspelling::WordCount);
     };
     Ok(Line::Dump {
         vnode: number_of(vnode)?,
@@ -250,9 +277,9 @@ fn dump<'a>(arguments: &[&'a [u8]]) -> Result<Line<'a>, BadLine<'a>> {
     })
 }
 
-fn load<'a>(arguments: &[&'a [u8]]) -> Result<Line<'a>, BadLine<'a>> {
+fn load<'a>(arguments: &[&'a [u8]]) -> Result<Line<'a>, Misspelling> {
     let [vnode, incarnation, copies] = arguments else {
-        return Err(BadLine::WordCount);
+        return Err(Misspelling::WordCount);
     };
     Ok(Line::Load {
         vnode: number_of(vnode)?,
@@ -261,9 +288,9 @@ fn load<'a>(arguments: &[&'a [u8]]) -> Result<Line<'a>, BadLine<'a>> {
     })
 }
 
-fn resolve<'a>(arguments: &[&'a [u8]]) -> Result<Line<'a>, BadLine<'a>> {
+fn resolve<'a>(arguments: &[&'a [u8]]) -> Result<Line<'a>, Misspelling> {
     let [answer, file] = arguments else {
-        return Err(BadLine::WordCount);
+        return Err(Misspelling::WordCount);
     };
     Ok(Line::Resolve {
         name: name_of(answer)?,
@@ -271,9 +298,9 @@ fn resolve<'a>(arguments: &[&'a [u8]]) -> Result<Line<'a>, BadLine<'a>> {
     })
 }
 
-fn commit<'a>(arguments: &[&'a [u8]]) -> Result<Line<'a>, BadLine<'a>> {
+fn commit<'a>(arguments: &[&'a [u8]]) -> Result<Line<'a>, Misspelling> {
     let [vnode, answer] = arguments else {
-        return Err(BadLine::WordCount);
+        return Err(Misspelling::WordCount);
     };
     Ok(Line::Commit {
         vnode: number_of(vnode)?,
@@ -281,9 +308,9 @@ fn commit<'a>(arguments: &[&'a [u8]]) -> Result<Line<'a>, BadLine<'a>> {
     })
 }
 
-fn check<'a>(arguments: &[&'a [u8]]) -> Result<Line<'a>, BadLine<'a>> {
+fn check<'a>(arguments: &[&'a [u8]]) -> Result<Line<'a>, Misspelling> {
     let [vnode, key, value, file] = arguments else {
-        return Err(BadLine::WordCount);
+        return Err(Misspelling::WordCount);
     };
     Ok(Line::Check {
         vnode: number_of(vnode)?,
@@ -294,44 +321,44 @@ fn check<'a>(arguments: &[&'a [u8]]) -> Result<Line<'a>, BadLine<'a>> {
 }
 
 // An index or a count.
-fn number_of<'a>(word: &'a [u8]) -> Result<usize, BadLine<'a>> {
+fn number_of(word: &[u8]) -> Result<usize, Misspelling> {
     match number(word) {
         Some(number) => Ok(number),
-        None => Err(BadLine::NoNumber),
+        None => Err(Misspelling::NoNumber),
     }
 }
 
 // An incarnation of a vnode.
-fn incarnation_of<'a>(word: &'a [u8]) -> Result<u16, BadLine<'a>> {
+fn incarnation_of(word: &[u8]) -> Result<u16, Misspelling> {
     match u16::try_from(number_of(word)?) {
         Ok(incarnation) => Ok(incarnation),
-        Err(_) => Err(BadLine::NoIncarnation),
+        Err(_) => Err(Misspelling::NoIncarnation),
     }
 }
 
 // A key, a value or a name.
-fn name_of<'a>(word: &'a [u8]) -> Result<&'a [u8], BadLine<'a>> {
+fn name_of<'a>(word: &'a [u8]) -> Result<&'a [u8], Misspelling> {
     if is_word(word) {
         Ok(word)
     } else {
-        Err(BadLine::NoWord)
+        Err(Misspelling::NoWord)
     }
 }
 
 // The name of a file, which is text.
-fn file_of<'a>(word: &'a [u8]) -> Result<&'a str, BadLine<'a>> {
+fn file_of<'a>(word: &'a [u8]) -> Result<&'a str, Misspelling> {
     match str::from_utf8(word) {
         Ok(file) => Ok(file),
-        Err(_) => Err(BadLine::NoFileName),
+        Err(_) => Err(Misspelling::NoFileName),
     }
 }
 
 // The context that a word stands for.
-fn context_of<'a>(word: &'a [u8]) -> Result<Context<'a>, BadLine<'a>> {
+fn context_of<'a>(word: &'a [u8]) -> Result<Context<'a>, Misspelling> {
     match word.split_first() {
         Some((b'-', [])) => Ok(Context::Nothing),
         Some((b'@', name)) => Ok(Context::OfGet(name_of(name)?)),
         Some((b'=', token)) => Ok(Context::Token(token)),
-        _ => Err(BadLine::NoContext),
+        _ => Err(Misspelling::NoContext),
     }
 }

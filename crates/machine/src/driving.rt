@@ -14,7 +14,7 @@ use insn::Insn;
 use memory::Fault;
 
 /// How a drive ended.
-#[derive(Clone, Copy, Debug, PartialEq, Eq)]
+#[derive(Clone, Copy, PartialEq, Eq)]
 pub enum Stop {
     Exit { answer: u64, steps: u64 },
     Fault { why: Fault, slot: i64 },

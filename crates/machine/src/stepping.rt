@@ -15,7 +15,7 @@ use insn::{Distance, Extend, Insn, Operand, Register, Size};
 use memory::{Fault, Region};
 
 /// What a step leads to.
-#[derive(Clone, Copy, Debug, PartialEq, Eq)]
+#[derive(Clone, Copy, PartialEq, Eq)]
 pub enum Next {
     Running,
     Exit(u64),
@@ -216,7 +216,7 @@ pub fn step(state: &mut State, code: &[Insn], table: &Table) -> Result<Next, Fau
     let Some(insn) = fetch(code, state.slot) else {
         return Err(Fault::Slot);
     };
-    if insn == Insn::Exit {
+    if matches!(insn, Insn::Exit) {
         return Ok(Next::Exit(state.read(Register::R0)?));
     }
     state.act(insn, table)?;

@@ -6,19 +6,21 @@ ghost use Rattle.insn.specs.Encoding.{size_bytes};
 ghost use Rattle.memory.specs.Windows.{base, window, longest_window, little_endian, low_bytes, range, overwritten, read, written};
 
 mod laws;
+mod profile;
 
 use insn::Size;
 pub use laws::{
     division_by_zero, limits, memory_is_a_map, narrow_operations_clear_the_high_half,
     steps_keep_the_input,
 };
+pub use profile::Profile;
 use std::fmt;
 
 /// The most bytes of a window that a program is given, and of a range that a call of its reads or writes.
 pub const MAX_WINDOW: u32 = 65_536;
 
 /// A window of memory.
-#[derive(Clone, Copy, Debug, PartialEq, Eq)]
+#[derive(Clone, Copy, PartialEq, Eq)]
 pub enum Region {
     Stack,
     Input,
@@ -26,7 +28,7 @@ pub enum Region {
 }
 
 /// What can go wrong in a step, in the order in which it is told where several things do. `{}` writes its name.
-#[derive(Clone, Copy, Debug, PartialEq, Eq)]
+#[derive(Clone, Copy, PartialEq, Eq)]
 pub enum Fault {
     /// A register that is read holds nothing.
     Unset,

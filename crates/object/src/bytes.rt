@@ -8,7 +8,7 @@ use std::marker::Model;
 use std::sync::ArcSlice;
 
 /// Bytes that never change, seen as the list of them. A copy shares them with its original.
-#[derive(Debug, Drop)]
+#[derive(Drop)]
 pub struct Bytes {
     shared: ArcSlice<u8>,
 }

@@ -9,7 +9,7 @@ use std::cmp::Ordering;
 use std::marker::Model;
 
 /// What a write stores: a value of 0 to 65,536 bytes with its media type of 1 to 127 bytes, or the mark of a delete.
-#[derive(Debug, Drop)]
+#[derive(Drop)]
 pub enum Content {
     Value { media: Bytes, bytes: Bytes },
     Tombstone,
@@ -48,7 +48,7 @@ impl Content {
 }
 
 /// A content under the dot of its write.
-#[derive(Debug, Drop)]
+#[derive(Drop)]
 pub struct Sibling {
     pub dot: Dot,
     pub content: Content,
@@ -77,7 +77,7 @@ impl Sibling {
 /// bytes, the bucket first.
 ///
 /// Both lie in one shared slice, the bucket's bytes before those of the key in it. Contracts see the two.
-#[derive(Debug, Drop)]
+#[derive(Drop)]
 pub struct Key {
     names: Bytes,
     // How many of these bytes are the bucket's.

@@ -11,7 +11,7 @@ use std::alloc::{AllocError, Global};
 use std::marker::Model;
 
 /// The dots that a state of a key holds, and its clock: what another side has to know to send only what is lacking.
-#[derive(Debug, Drop)]
+#[derive(Drop)]
 pub struct Summary {
     pub(crate) dots: Vec<Dot>,
     pub(crate) clock: Clock,
@@ -60,7 +60,7 @@ impl Summary {
 }
 
 /// A sibling of a part. Its content is left out where the other side holds it.
-#[derive(Debug, Drop)]
+#[derive(Drop)]
 pub struct PartSibling {
     pub dot: Dot,
     pub content: Option<Content>,
@@ -83,7 +83,7 @@ impl PartSibling {
 }
 
 /// A state of a key of which some contents are left out: those that the side for which it was made holds.
-#[derive(Debug, Drop)]
+#[derive(Drop)]
 pub struct Part {
     pub(crate) siblings: Vec<PartSibling>,
     pub(crate) clock: Clock,

@@ -15,7 +15,7 @@ use std::marker::Model;
 
 /// A part, and the memory that the whole state takes for which it stands: a copy of its clock, and room for its siblings. Whoever holds
 /// what was left out builds the whole state in it, and asks for no memory.
-#[derive(Debug, Drop)]
+#[derive(Drop)]
 pub struct PreparedPart<'a> {
     part: &'a Part,
     siblings: Vec<Sibling>,

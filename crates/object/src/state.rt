@@ -13,7 +13,7 @@ use std::marker::Model;
 
 /// The siblings and the clock of a key: what is kept of all its known writes (dotted version vectors, Preguiça et al.
 /// 2010; Riak KV documentation, siblings and causal contexts).
-#[derive(Debug, Drop)]
+#[derive(Drop)]
 pub struct KeyState {
     siblings: Vec<Sibling>,
     clock: Clock,

@@ -7,7 +7,7 @@ use dvv::{Clock, Dot};
 use object::{Content, Key, KeyState, Part, Summary};
 
 /// What a vnode's read answered.
-#[derive(Debug, Drop)]
+#[derive(Drop)]
 pub struct Answer {
     /// The identifier of the vnode.
     pub from: u32,
@@ -18,7 +18,7 @@ pub struct Answer {
 }
 
 /// What a vnode answered of the summary of a key. It is a read there.
-#[derive(Debug, Drop)]
+#[derive(Drop)]
 pub struct SummaryAnswer {
     /// The identifier of the vnode.
     pub from: u32,
@@ -29,7 +29,7 @@ pub struct SummaryAnswer {
 }
 
 /// What a vnode answered to a part of a state. Neither is a failure.
-#[derive(Clone, Copy, Debug, PartialEq, Eq)]
+#[derive(Clone, Copy, PartialEq, Eq)]
 pub enum PartAnswer {
     /// The whole state was merged. Whether that changed something.
     Merged(bool),

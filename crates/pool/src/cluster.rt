@@ -1,16 +1,13 @@
 //! The vnodes under their locks, and the word from which stamps are drawn.
-ghost use Rattle.std.specs.Prelude.{◌≡◌, ℕ, List, ◌+◌, ◌-◌, ◌*◌, ◌<◌, ◌≤◌, ◌^◌, [], ◌∷◌, ◌++◌, length, map, IfOk, IfErr, IfSome, IfNone, OnOk, vec_len, vec_capacity};
+ghost use Rattle.std.specs.Prelude.{◌≡◌, ℕ, ◌+◌, ◌<◌, ◌≤◌, ◌^◌, [], map, IfOk, IfErr, IfSome, IfNone, OnOk, vec_len};
 ghost use Rattle.std.specs.List.{flat_map, All, Contains};
 ghost use Rattle.calls.specs.Answered.{asked};
 ghost use Rattle.stamps.specs.declared.view.Told.{Told};
-ghost use Rattle.stamps.specs.Rule.{newcomer, nothing, fresh, times, call_of};
-ghost use Rattle.pool.specs.Gathers.{AreVnodes, IsGathered, AreCounted, Stands, Differ, journal_stamps};
-ghost use Rattle.pool.specs.GatherFaults.{IsGatherFault};
-ghost use Rattle.pool.specs.Calls.{pass_view, undealt, IsNews, IsFault, IsHandedOut, AreKeysOf, outcome_ok};
+ghost use Rattle.stamps.specs.Rule.{newcomer, times, call_of};
+ghost use Rattle.vnode_locks.specs.Gathers.{IsGathered, AreCounted, Stands, Differ, journal_stamps};
+ghost use Rattle.vnode_locks.specs.GatherFaults.{IsGatherFault};
+ghost use Rattle.vnode_locks.specs.Calls.{pass_view, IsNews, IsFault, IsHandedOut, AreKeysOf, outcome_ok};
 
-use crate::fault::{CallFault, GatherFault, Receipt};
-use crate::locked::Locked;
-use crate::pass::{Pass, Room};
 use calls::{Prepared, Reply, Request};
 use journal::{Entry, Handout};
 use object::Key;
@@ -19,6 +16,9 @@ use std::alloc::{AllocError, Global};
 use std::marker::{Model, PhantomData};
 use std::sync::{Mutex, Wait};
 use vnode::{Vnode, VnodeFault};
+use vnode_locks::{
+    CallFault, GatherFault, Locked, Pass, Receipt, Room, deal_passes, deal_vnodes, gathered,
+};
 
 /// Is told of each call.
 pub trait Gate {
@@ -72,7 +72,7 @@ impl<B: Room> Cluster<B> {
         ensures err { IfErr result (IsFault pass.old pass.new (self.now.first + vnode) request.now) }
         ensures drawn { pass.new.drawn ≤ pass.old.drawn + 1 }
     {
-        if pass.drawn >= STAMPS_EACH {
+        if pass.drawn() >= STAMPS_EACH {
             return Err(CallFault::PassSpent);
         }
         match Prepared::new(self.alloc, request) {
@@ -96,7 +96,7 @@ impl<B: Room> Cluster<B> {
         ensures err { IfErr result (IsFault pass.old pass.new (self.now.first + vnode) (asked prepared.entry)) }
         ensures drawn { pass.new.drawn ≤ pass.old.drawn + 1 }
     {
-        if pass.drawn >= STAMPS_EACH {
+        if pass.drawn() >= STAMPS_EACH {
             return Err(CallFault::PassSpent);
         }
         let mut guard = self.vnodes[vnode].lock(rt);
@@ -141,46 +141,11 @@ impl<B: Room> Cluster<B> {
         ensures none { IfNone result (pass.new ≡ pass.old) }
         ensures drawn { pass.new.drawn ≤ pass.old.drawn + 1 }
     {
-        if pass.drawn >= STAMPS_EACH {
+        if pass.drawn() >= STAMPS_EACH {
             return None;
         }
         let mut guard = self.vnodes[vnode].lock(rt);
         guard.hand_out(&self.stamps, pass, self.first + vnode as u32, room)
-    }
-}
-
-// Joins what the passes know.
-fn join_passes<B: Room>(stamps: &Stamps, all: &mut Card, passes: Vec<Pass<B>>)
-    requires table { (stamps.now.table.shared.table_id ≡ B.table) × (all.old.table_id ≡ B.table) }
-    requires none { (all.old.me.1 ≡ []) × (all.old.me.0 ≡ nothing) }
-    ensures table { (all.new.table_id ≡ B.table) × (all.new.me.1 ≡ []) }
-    ensures passes { (all.new.me.0.parts ≡ vec_len passes) × (all.new.me.0.told ≡ flat_map (λ p. p.told) passes.items) }
-    ensures rest { (all.new.me.0.pending ≡ []) × (all.new.me.0.owed ≡ []) × (all.new.me.0.histories ≡ []) }
-{
-    for pass in passes {
-        let Pass { card, .. } = pass;
-        stamps.join(all, card);
-    }
-}
-
-// Joins what the vnodes know, and takes them out of their locks.
-fn join_vnodes<B: Room>(
-    stamps: &Stamps,
-    all: &mut Card,
-    locks: Vec<Mutex<Locked<B>>>,
-    vnodes: &mut Vec<Vnode>,
-)
-    requires table { (stamps.now.table.shared.table_id ≡ B.table) × (all.old.table_id ≡ B.table) × (all.old.me.1 ≡ []) }
-    requires none { (all.old.me.0.pending ≡ []) × (all.old.me.0.owed ≡ []) × (all.old.me.0.histories ≡ []) × (vnodes.old.items ≡ []) }
-    requires room { vec_len locks ≤ vec_capacity vnodes.old }
-    ensures table { (all.new.table_id ≡ B.table) × (all.new.me.1 ≡ []) × (all.new.me.0.pending ≡ []) × (all.new.me.0.owed ≡ []) }
-    ensures same { (all.new.me.0.parts ≡ all.old.me.0.parts) × (all.new.me.0.told ≡ all.old.me.0.told) }
-    ensures vnodes { AreVnodes vnodes.new.items all.new.me.0.histories × (length all.new.me.0.histories ≡ vec_len locks) × (vec_len vnodes.new ≡ vec_len locks) }
-{
-    for lock in locks {
-        let (vnode, card) = lock.into_inner().into_parts();
-        stamps.join(all, card);
-        vnodes.push_reserved(vnode);
     }
 }
 
@@ -202,57 +167,11 @@ impl<B: Room> Cluster<B> {
         if passes.len() < self.passes {
             return Err((self, passes, GatherFault::Missing));
         }
-        let Ok(mut out) = Vec::with_capacity(self.alloc, self.vnodes.len()) else {
+        let Ok(out) = Vec::with_capacity(self.alloc, self.vnodes.len()) else {
             return Err((self, passes, GatherFault::NoMemory));
         };
         let Cluster { stamps, vnodes, .. } = self;
-        let mut all = stamps.blank();
-        join_passes(&stamps, &mut all, passes);
-        join_vnodes(&stamps, &mut all, vnodes, &mut out);
-        stamps.close(all);
-        Ok(out)
-    }
-}
-
-// Takes a pass for each part of the card.
-fn deal_passes<B: Room>(stamps: &Stamps, card: &mut Card, passes: &mut Vec<Pass<B>>, count: usize)
-    requires table { (stamps.now.table.shared.table_id ≡ B.table) × (card.old.table_id ≡ B.table) }
-    requires card { card.old.me ≡ (undealt count card.old.me.0.histories, []) }
-    requires room { (count ≤ vec_capacity passes.old) × (passes.old.items ≡ []) }
-    ensures table { card.new.table_id ≡ B.table }
-    ensures card { card.new.me ≡ (undealt 0 card.old.me.0.histories, []) }
-    ensures passes { (vec_len passes.new ≡ count) × All (λ p. p ≡ pass_view 0 []) passes.new.items }
-{
-    for _dealt in 0..count {
-        let pass = stamps.take_part(card);
-        passes.push_reserved(Pass {
-            card: pass,
-            drawn: 0,
-            room: PhantomData,
-        });
-    }
-}
-
-// Puts a new vnode under a lock for each history of the card.
-fn deal_vnodes<B: Room>(
-    alloc: Global,
-    stamps: &Stamps,
-    mut card: Card,
-    locks: &mut Vec<Mutex<Locked<B>>>,
-    first: u32,
-    count: usize,
-)
-    requires table { (stamps.now.table.shared.table_id ≡ B.table) × (card.table_id ≡ B.table) }
-    requires card { card.me ≡ (undealt 0 (fresh first count), []) }
-    requires few { first + count ≤ 2 ^ 32 }
-    requires room { (count ≤ vec_capacity locks.old) × (vec_len locks.old ≡ 0) }
-    ensures { vec_len locks.new ≡ count }
-{
-    for number in 0..count {
-        let rest = stamps.take_rest(&mut card);
-        let vnode = Vnode::new(alloc, first + number as u32);
-        locks.push_reserved(Mutex::new(Locked::new(vnode, card)));
-        card = rest;
+        Ok(gathered(stamps, vnodes, passes, out))
     }
 }
 

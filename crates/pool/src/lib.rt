@@ -2,12 +2,6 @@
 #![tactic(auto)]
 
 mod cluster;
-mod fault;
-mod laws;
-mod locked;
-mod pass;
 
 pub use cluster::{Cluster, Gate};
-pub use fault::{CallFault, GatherFault, Receipt};
-pub use laws::hand_outs_are_a_front;
-pub use pass::{Pass, Room};
+pub use vnode_locks::{CallFault, GatherFault, Pass, Receipt, Room, hand_outs_are_a_front};

@@ -37,7 +37,7 @@ pub enum QuorumFault {
 }
 
 /// Why what a resolver was to write is left out of a get's answer.
-#[derive(Clone, Copy, Debug, PartialEq, Eq)]
+#[derive(Clone, Copy, PartialEq, Eq)]
 pub enum ResolveFault {
     /// The hooks can't be seen now, so the resolver isn't known. No call on a vnode was made.
     Unseen,

@@ -21,7 +21,7 @@ use object::{Content, Key, KeyState};
 use peers::{Answer, PeerFault, Peers};
 
 /// What a get answers once its bucket's resolver was asked.
-#[derive(Debug, Drop)]
+#[derive(Drop)]
 pub struct Resolved {
     /// The coordinator's state after what the resolver chose was put there, else the get's own answer.
     pub state: KeyState,

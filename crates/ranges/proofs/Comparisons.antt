@@ -14,8 +14,8 @@ use Rattle.alu.specs.Value.{bits, compares, condition}
 use Rattle.ranges.specs.declared.range.Range.{Range}
 use Rattle.ranges.specs.declared.number.Number.{Number}
 use Rattle.ranges.specs.declared.bits.Bits.{Bits}
-use Rattle.ranges.specs.declared.profile.Profile.{Profile}
-use Rattle.ranges.specs.declared.profile.Profile.TheVariants.{First, Second}
+use Rattle.memory.specs.declared.profile.Profile.{Profile}
+use Rattle.memory.specs.declared.profile.Profile.TheVariants.{First, Second}
 use Rattle.ranges.specs.KnownBits.{HasBits, IsBits, united}
 use Rattle.ranges.specs.Numbers.{IsNumber, IsOf, is_single, tightened}
 use Rattle.ranges.specs.Comparisons.{AreNumbers, holding, are_below, narrowed_more, masked, told_bits, both_left, settled_pair, compared}

@@ -2,7 +2,7 @@
 use Rattle.std.proofs.Common.{ℕ, arith, Option, Some, None}
 use Rattle.std.proofs.lemmas.Int.{ints, clamps}
 use Rattle.memory.specs.declared.Region.TheVariants.{Stack, Input, Output}
-use Rattle.ranges.specs.declared.profile.Profile.{Profile}
+use Rattle.memory.specs.declared.profile.Profile.{Profile}
 use Rattle.ranges.specs.declared.kind.Kind.{Kind}
 use Rattle.ranges.specs.declared.kind.Kind.TheVariants.{Dead, Num, Ptr}
 use Rattle.ranges.specs.Kinds.{Admits, IsKind}

@@ -10,7 +10,7 @@ use Rattle.alu.specs.declared.Cond.{Cond}
 use Rattle.alu.specs.declared.SwapKind.{SwapKind}
 use Rattle.alu.specs.declared.SwapBits.{SwapBits}
 use Rattle.alu.specs.Value.{value, swapped, condition}
-use Rattle.ranges.specs.declared.profile.Profile.{Profile}
+use Rattle.memory.specs.declared.profile.Profile.{Profile}
 use Rattle.ranges.specs.declared.number.Number.{Number}
 use Rattle.ranges.specs.declared.kind.Kind.{Kind}
 use Rattle.ranges.specs.declared.kind.Kind.TheVariants.{Unset, Dead, Num, Ptr}

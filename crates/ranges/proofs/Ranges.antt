@@ -18,8 +18,8 @@ use Rattle.alu.specs.declared.SwapKind.TheVariants.{ToLittle, ToBig, Swap}
 use Rattle.alu.specs.declared.SwapBits.{SwapBits}
 use Rattle.alu.specs.declared.SwapBits.TheVariants.{B16, B32, B64}
 use Rattle.alu.specs.Value.{bits, wrapped, signed, quotient, remainder, exact, remainder, value, byte_count, reversed, swapped}
-use Rattle.ranges.specs.declared.profile.Profile.{Profile}
-use Rattle.ranges.specs.declared.profile.Profile.TheVariants.{First, Second}
+use Rattle.memory.specs.declared.profile.Profile.{Profile}
+use Rattle.memory.specs.declared.profile.Profile.TheVariants.{First, Second}
 use Rattle.ranges.specs.declared.range.Range.{Range}
 use Rattle.ranges.specs.Numbers.{InRange, single, full, is_single, cut, are_single, range_else, shifted_right, wrapped_range, range_by, range_result, swapped_range}
 

@@ -15,8 +15,8 @@ use Rattle.alu.specs.declared.SwapBits.{SwapBits}
 use Rattle.alu.specs.Value.{bits, wrapped, exact, value, swapped}
 use Rattle.ranges.specs.declared.range.Range.{Range}
 use Rattle.ranges.specs.declared.bits.Bits.{Bits}
-use Rattle.ranges.specs.declared.profile.Profile.{Profile}
-use Rattle.ranges.specs.declared.profile.Profile.TheVariants.{First, Second}
+use Rattle.memory.specs.declared.profile.Profile.{Profile}
+use Rattle.memory.specs.declared.profile.Profile.TheVariants.{First, Second}
 use Rattle.ranges.specs.declared.number.Number.{Number}
 use Rattle.ranges.specs.KnownBits.{HasBits, IsBits, nothing, common, moved_left, moved_right, cut_bits, low_bits_of}
 use Rattle.ranges.specs.Numbers.{InRange, IsNumber, IsOf, is_single, are_single, swapped_range, swapped_number, joined_numbers, least_over, cut, full, range_else, range_by, range_result, wrapped_range, shifted_right, ones_above, bits_right, bits_after, cut_number, numbers}

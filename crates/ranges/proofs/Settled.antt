@@ -7,8 +7,8 @@ use Rattle.std.proofs.lemmas.Bool.{cond_both, le-leb, leb-true, eqb-true, and_pa
 use Rattle.std.proofs.Math.Dec.{eqb_refl}
 use Rattle.ranges.specs.declared.bits.Bits.{Bits}
 use Rattle.ranges.specs.declared.range.Range.{Range}
-use Rattle.ranges.specs.declared.profile.Profile.{Profile}
-use Rattle.ranges.specs.declared.profile.Profile.TheVariants.{First, Second}
+use Rattle.memory.specs.declared.profile.Profile.{Profile}
+use Rattle.memory.specs.declared.profile.Profile.TheVariants.{First, Second}
 use Rattle.ranges.specs.KnownBits.{HasBits, IsBits, nothing, exactly}
 use Rattle.ranges.specs.declared.number.Number.{Number}
 use Rattle.ranges.specs.Numbers.{InRange, IsOf, IsNumber, above, is_single, has_bits, bits_within, range_with, if_possible, tightened, settled}

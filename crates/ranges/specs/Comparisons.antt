@@ -8,8 +8,8 @@ use Rattle.alu.specs.declared.Cond.{Cond}
 use Rattle.alu.specs.declared.Cond.TheVariants.{Equal, NotEqual, Greater, GreaterEqual, Less, LessEqual, SignedGreater, SignedGreaterEqual, SignedLess, SignedLessEqual, AnySet}
 use Rattle.ranges.specs.declared.range.Range.{Range}
 use Rattle.ranges.specs.declared.bits.Bits.{Bits}
-use Rattle.ranges.specs.declared.profile.Profile.{Profile}
-use Rattle.ranges.specs.declared.profile.Profile.TheVariants.{First, Second}
+use Rattle.memory.specs.declared.profile.Profile.{Profile}
+use Rattle.memory.specs.declared.profile.Profile.TheVariants.{First, Second}
 use Rattle.ranges.specs.declared.number.Number.{Number}
 use Rattle.ranges.specs.KnownBits.{known_as, united}
 use Rattle.ranges.specs.Numbers.{IsNumber, range, is_single, least_over, number_of, tightened}

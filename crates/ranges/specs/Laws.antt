@@ -6,7 +6,7 @@ use Rattle.alu.specs.declared.Width.{Width}
 use Rattle.alu.specs.declared.Cond.{Cond}
 use Rattle.alu.specs.declared.SwapKind.{SwapKind}
 use Rattle.alu.specs.declared.SwapBits.{SwapBits}
-use Rattle.ranges.specs.declared.profile.Profile.{Profile}
+use Rattle.memory.specs.declared.profile.Profile.{Profile}
 use Rattle.ranges.specs.declared.range.Range.{Range}
 use Rattle.ranges.specs.declared.kind.Kind.{Kind}
 use Rattle.ranges.specs.Kinds.{Admits, IsKind}

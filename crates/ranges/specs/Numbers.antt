@@ -9,8 +9,8 @@ use Rattle.alu.specs.declared.SwapKind.{SwapKind}
 use Rattle.alu.specs.declared.SwapBits.{SwapBits}
 use Rattle.ranges.specs.declared.range.Range.{Range}
 use Rattle.ranges.specs.declared.bits.Bits.{Bits}
-use Rattle.ranges.specs.declared.profile.Profile.{Profile}
-use Rattle.ranges.specs.declared.profile.Profile.TheVariants.{First, Second}
+use Rattle.memory.specs.declared.profile.Profile.{Profile}
+use Rattle.memory.specs.declared.profile.Profile.TheVariants.{First, Second}
 use Rattle.ranges.specs.declared.number.Number.{Number}
 use Rattle.ranges.specs.KnownBits.{HasBits, IsBits, known_as, nothing, exactly, both_set, either_set, one_set, common, cut_bits, moved_left, moved_right, low_result}
 

@@ -10,7 +10,7 @@ use Rattle.alu.specs.declared.SwapKind.{SwapKind}
 use Rattle.alu.specs.declared.SwapBits.{SwapBits}
 use Rattle.memory.specs.declared.Region.{Region}
 use Rattle.memory.specs.declared.Region.TheVariants.{Stack, Input, Output}
-use Rattle.ranges.specs.declared.profile.Profile.{Profile}
+use Rattle.memory.specs.declared.profile.Profile.{Profile}
 use Rattle.ranges.specs.declared.range.Range.{Range}
 use Rattle.ranges.specs.declared.number.Number.{Number}
 use Rattle.ranges.specs.declared.kind.Kind.{Kind}

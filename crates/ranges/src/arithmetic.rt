@@ -6,9 +6,9 @@ ghost use Rattle.ranges.specs.Numbers.{IsRange, IsNumber, up_to, full, cut, rang
 
 use crate::bits::Bits;
 use crate::number::{Number, ones};
-use crate::profile::Profile;
 use crate::range::Range;
 use alu::{Op, SwapBits, SwapKind, Width, eval, swap};
+use memory::Profile;
 
 /// The greatest number of a width.
 pub fn greatest(width: Width) -> u64

@@ -7,7 +7,7 @@ ghost use Rattle.ranges.specs.KnownBits.{nothing, exactly, both_set, one_set, ei
 use alu::{Op, Width, eval};
 
 /// The bits that are known to be 0, and those that are known to be 1.
-#[derive(Clone, Copy, PartialEq, Eq, Debug)]
+#[derive(Clone, Copy, PartialEq, Eq)]
 pub struct Bits {
     pub zeros: u64,
     pub ones: u64,

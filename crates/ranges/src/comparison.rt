@@ -8,9 +8,9 @@ use crate::arithmetic::greatest;
 use crate::bits::Bits;
 use crate::narrowing::{are_both_up_to, narrow_more, narrow_where};
 use crate::number::Number;
-use crate::profile::Profile;
 use crate::range::Range;
 use alu::{Cond, Width};
+use memory::Profile;
 
 /// The condition that holds where this one does not. Of `AnySet`, whose opposite is no condition, it is itself: neither
 /// says anything of a range.

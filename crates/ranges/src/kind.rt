@@ -8,12 +8,11 @@ ghost use Rattle.ranges.specs.Transfer.{kind_in, kind_of, join_of, joined_pointe
 
 use crate::bits::Bits;
 use crate::number::Number;
-use crate::profile::Profile;
 use crate::range::Range;
-use memory::Region;
+use memory::{Profile, Region};
 
 /// What is known of a register before an instruction.
-#[derive(Clone, Copy, PartialEq, Eq, Debug)]
+#[derive(Clone, Copy, PartialEq, Eq)]
 pub enum Kind {
     /// Nothing: it may hold any number, or none.
     Unset,
@@ -26,7 +25,7 @@ pub enum Kind {
 }
 
 /// Why an operation on kinds is refused.
-#[derive(Clone, Copy, PartialEq, Eq, Debug)]
+#[derive(Clone, Copy, PartialEq, Eq)]
 pub enum Bad {
     /// Arithmetic on a pointer that the profile does not know.
     V22,

@@ -11,15 +11,14 @@ mod narrowing;
 mod number;
 mod operation;
 mod pointer;
-mod profile;
 mod range;
 mod refinement;
 
 pub use bits::Bits;
 pub use kind::{Bad, Kind, join, kind_in};
 pub use laws::kinds_are_sound;
+pub use memory::Profile;
 pub use number::Number;
 pub use operation::{transfer, transfer_swap};
-pub use profile::Profile;
 pub use range::Range;
 pub use refinement::refine;

@@ -4,11 +4,11 @@ ghost use Rattle.std.specs.Prelude.{◌≡◌, ◌≤◌, IfSome};
 ghost use Rattle.ranges.specs.Numbers.{IsNumber, ones_above, above, has_bits, known_number, number_of, tightened, settled, joined_numbers};
 
 use crate::bits::Bits;
-use crate::profile::Profile;
 use crate::range::Range;
+use memory::Profile;
 
 /// A range that a number lies in, and bits that it has.
-#[derive(Clone, Copy, PartialEq, Eq, Debug)]
+#[derive(Clone, Copy, PartialEq, Eq)]
 pub struct Number {
     pub range: Range,
     pub bits: Bits,

@@ -9,8 +9,8 @@ ghost use Rattle.ranges.specs.Transfer.{of_one, of_two, transfer_of, swap_of};
 use crate::kind::{Bad, Kind};
 use crate::number::Number;
 use crate::pointer::{add_to_pointer, as_signed, take_from_pointer};
-use crate::profile::Profile;
 use alu::{Op, SwapBits, SwapKind, Width};
+use memory::Profile;
 
 /// An operation that reads one operand, and no pointer.
 fn transfer_one(profile: Profile, op: Op, width: Width, a: Kind) -> Result<Kind, Bad>

@@ -7,7 +7,7 @@ ghost use Rattle.ranges.specs.Numbers.{single, up_to, full, is_single, wrapped_r
 use alu::Width;
 
 /// The numbers from `lo` to `hi`, both included.
-#[derive(Clone, Copy, PartialEq, Eq, Debug)]
+#[derive(Clone, Copy, PartialEq, Eq)]
 pub struct Range {
     pub lo: u64,
     pub hi: u64,

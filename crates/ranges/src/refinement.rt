@@ -8,8 +8,8 @@ ghost use Rattle.ranges.specs.Transfer.{kinds_of, refine_of};
 
 use crate::kind::Kind;
 use crate::number::Number;
-use crate::profile::Profile;
 use alu::{Cond, Width};
+use memory::Profile;
 
 /// Two numbers that are left, and Dead where nothing is.
 fn kinds_left(numbers: Option<(Number, Number)>) -> (Kind, Kind)

@@ -1,7 +1,6 @@
-//! The tests by what is tried.
+//! One registry, by what is tried.
 
+mod installing;
 mod parts;
-mod readers;
-mod scripts;
-mod trials;
-mod workers;
+mod sharing;
+mod working;

@@ -2,14 +2,11 @@
 use Rattle.std.proofs.Common.{◌≡◌, ◌⊎◌, take, drop, fold, ◌+◌, ◌-◌, ◌<◌, ◌≤◌, List, [], ◌∷◌, ◌++◌, length, refl, sym, ap, ◌∙◌, subst, arith, length-append, append_assoc, ⊎_elim, Result, Ok, Err, MatchResult}
 use mathlib.Core.List.{IsPrefix}
 use Rattle.std.proofs.lemmas.List.{map-append, length-map, take-append-drop, take-append-le, take_all}
-use Rattle.shared_hooks.specs.declared.edit.Edit.{Edit}
-use Rattle.shared_hooks.specs.Edits.{change_of, changes_of, last_of}
+use Rattle.hook_readers.specs.declared.edit.Edit.{Edit}
+use Rattle.hook_readers.specs.Edits.{change_of, changes_of}
+use Rattle.hook_readers.proofs.Fronts.{changes_prefix}
+use Rattle.shared_hooks.specs.Lists.{last_of}
 use Rattle.fronts.proofs.Fronts.{prefix_shorter, prefix_whole, prefix_length}
-
--- the longer of two is the one that isn't shorter
-pub no_shorter : {A : Type 0} (xs ys r : List A) → (r ≡ xs) ⊎ (r ≡ ys) → IsPrefix xs r → length ys ≤ length xs → r ≡ xs
-no_shorter xs ys r one this le =
-    ⊎_elim (λ (a : r ≡ xs). a) (λ (b : r ≡ ys). sym (prefix_whole xs r this (subst (λ zs. length zs ≤ length xs) (sym b) le))) one
 
 -- the longer of a front and of one that has one more at its end
 pub one_longer : {A : Type 0} (mine op r before : List A) (e : A) → (r ≡ op) ⊎ (r ≡ mine) → IsPrefix op r → IsPrefix mine r → op ≡ before ++ e ∷ [] → 0 < length op → length mine ≡ length op - 1 → mine ++ e ∷ [] ≡ r
@@ -20,10 +17,6 @@ one_longer {A} mine op r before e one this that ends some short =
     let front : IsPrefix mine before = prefix_shorter mine before op into (e ∷ [], sym ends) (omega arith) in
     let same : mine ≡ before = prefix_whole mine before front (omega arith) in
     ap (λ xs. xs ++ e ∷ []) same ∙ sym ends ∙ sym is
-
--- the changes of a front begin those of a longer one
-pub changes_prefix : (xs ys : List Edit) → IsPrefix xs ys → IsPrefix (changes_of xs) (changes_of ys)
-changes_prefix xs ys p = (changes_of p.0, sym (map-append change_of xs p.0) ∙ ap changes_of p.1)
 
 -- the beginning of a list, as so many of its first members
 pub begins_by : {A : Type 0} (xs ys : List A) → take (length xs) ys ≡ xs → IsPrefix xs ys

@@ -1,53 +1,35 @@
-//! One change.
+//! How a change is made.
 
 ghost use Rattle.std.specs.Prelude.{◌≡◌, OnOk, OnErr, IfOk};
 ghost use Rattle.hooks.specs.Tables.{ChangesBy};
-ghost use Rattle.shared_hooks.specs.Edits.{change_of};
+ghost use Rattle.hook_readers.specs.Edits.{change_of};
 
 use bpfimage::ImageKind;
+use hook_readers::Edit;
 use hooks::Registry;
 use object::Bytes;
 use std::alloc::{AllocError, Global};
 use std::sync::Arc;
-use verifier::Verified;
 
-/// A change that is kept until each copy of the registry has taken it in.
-#[derive(Drop)]
-pub enum Edit {
-    Install {
-        name: Bytes,
-        program: Arc<Verified>,
-    },
-    Remove {
-        name: Bytes,
-    },
-    Bind {
-        bucket: Bytes,
-        bindings: Vec<(ImageKind, Option<Bytes>)>,
-    },
-}
-
-impl Edit {
-    /// Changes a registry so.
-    pub(crate) fn apply(&self, registry: &mut Registry) -> Result<(), AllocError>
-        ensures ok { OnOk result (ChangesBy registry.old registry.new (change_of self.now)) }
-        ensures err { OnErr result (registry.new ≡ registry.old) }
-    {
-        match self {
-            Edit::Install { name, program } => {
-                let name = name.copy()?;
-                let program = Arc::try_clone(program)?;
-                registry.install(name, program)
-            }
-            Edit::Remove { name } => match registry.remove(name) {
-                Ok(()) => Ok(()),
-                Err(_) => Err(AllocError),
-            },
-            Edit::Bind { bucket, bindings } => match registry.bind(bucket, bindings) {
-                Ok(()) => Ok(()),
-                Err(_) => Err(AllocError),
-            },
+/// Changes a registry so.
+pub(crate) fn apply(edit: &Edit, registry: &mut Registry) -> Result<(), AllocError>
+    ensures ok { OnOk result (ChangesBy registry.old registry.new (change_of edit.now)) }
+    ensures err { OnErr result (registry.new ≡ registry.old) }
+{
+    match edit {
+        Edit::Install { name, program } => {
+            let name = name.copy()?;
+            let program = Arc::try_clone(program)?;
+            registry.install(name, program)
         }
+        Edit::Remove { name } => match registry.remove(name) {
+            Ok(()) => Ok(()),
+            Err(_) => Err(AllocError),
+        },
+        Edit::Bind { bucket, bindings } => match registry.bind(bucket, bindings) {
+            Ok(()) => Ok(()),
+            Err(_) => Err(AllocError),
+        },
     }
 }
 

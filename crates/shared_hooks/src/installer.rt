@@ -5,16 +5,15 @@ ghost use mathlib.Core.List.{IsPrefix};
 ghost use Rattle.hooks.specs.Tables.{Shows};
 ghost use Rattle.hooks.specs.Changes.{bound_at};
 ghost use Rattle.left_right.specs.Handles.{published};
-ghost use Rattle.shared_hooks.specs.Edits.{change_of, changes_of};
+ghost use Rattle.hook_readers.specs.Edits.{change_of, changes_of};
 ghost use Rattle.shared_hooks.specs.Standing.{Takes};
 
-use crate::edit::{Edit, copy_of};
+use crate::edit::{apply, copy_of};
 use crate::opening::{Ground, NoReader};
 use crate::outlet::Outlet;
-use crate::published::Rack;
-use crate::reader::{HookReader, Note};
 use bpfimage::ImageKind;
 use fronts::Naming;
+use hook_readers::{Edit, HookReader, Note, Rack};
 use hooks::{HookChanges, HookFault, Registry};
 use object::Bytes;
 use std::alloc::{AllocError, Global};
@@ -35,7 +34,7 @@ impl<J: Naming, T: Rack<J> + Drop, R: Wait + Drop> Model for Installer<J, T, R> 
     ghost use Rattle.std.specs.Prelude.{◌++◌};
     ghost use Rattle.hooks.specs.Tables.{Shows};
     ghost use Rattle.left_right.specs.Handles.{published};
-    ghost use Rattle.shared_hooks.specs.Edits.{changes_of};
+    ghost use Rattle.hook_readers.specs.Edits.{changes_of};
     ghost use Rattle.shared_hooks.specs.Standing.{Standing};
 
     ghost Value = { Standing };
@@ -117,7 +116,7 @@ impl<J: Naming, T: Rack<J> + Drop, R: Wait + Drop> Installer<J, T, R> {
     {
         hooks::laws::changes_add_up();
         self.outlet.reserve()?;
-        edit.apply(&mut self.registry)?;
+        apply(&edit, &mut self.registry)?;
         self.outlet.take_in(edit);
         Ok(())
     }

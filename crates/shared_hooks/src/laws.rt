@@ -4,9 +4,8 @@ ghost use Rattle.std.specs.Prelude.{◌⊎◌};
 ghost use mathlib.Core.List.{IsPrefix};
 
 use crate::installer::Installer;
-use crate::published::Rack;
-use crate::reader::HookReader;
 use fronts::Naming;
+use hook_readers::{HookReader, Rack};
 use std::sync::Wait;
 
 /// Of what two readers know, one begins the other.

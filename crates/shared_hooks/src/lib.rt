@@ -7,10 +7,9 @@ mod laws;
 mod opening;
 mod outlet;
 mod published;
-mod reader;
 
+pub use hook_readers::{HookReader, Note, Rack};
 pub use installer::Installer;
 pub use laws::{published_agrees, readers_agree};
 pub use opening::{Ground, NoReader, Opening};
-pub use published::{Published, Rack};
-pub use reader::{HookReader, Note};
+pub use published::Published;

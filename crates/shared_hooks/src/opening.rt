@@ -3,9 +3,9 @@
 ghost use Rattle.std.specs.Prelude.{◌≡◌, []};
 ghost use Rattle.shared_hooks.specs.Lists.{list_of};
 
-use crate::edit::Edit;
 use crate::published::Published;
 use fronts::{Book, Front, Naming, Opened};
+use hook_readers::Edit;
 use hooks::Registry;
 use std::alloc::Global;
 use thiserror::Error;

@@ -5,12 +5,12 @@ ghost use Rattle.std.specs.Option.{option_to_list};
 ghost use Rattle.std.specs.VecDeque.{deque_capacity, deque_len};
 ghost use mathlib.Core.List.{IsPrefix};
 ghost use Rattle.left_right.specs.Handles.{pending, published};
-ghost use Rattle.shared_hooks.specs.Edits.{changes_of, last_of};
+ghost use Rattle.hook_readers.specs.Edits.{changes_of};
+ghost use Rattle.shared_hooks.specs.Lists.{last_of};
 
-use crate::edit::Edit;
 use crate::opening::Ground;
-use crate::published::{Op, Rack};
 use fronts::{Book, Front, Naming};
+use hook_readers::{Edit, Op, Rack};
 use left_right::{ReadHandle, WriteHandle};
 use std::alloc::{AllocError, Global};
 use std::collections::VecDeque;

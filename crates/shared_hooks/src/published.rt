@@ -1,12 +1,12 @@
-//! What readers see, and what changes it.
+//! What readers see.
 
-ghost use Rattle.std.specs.Prelude.{◌≡◌, ◌++◌, ◌∷◌, [], List};
+ghost use Rattle.std.specs.Prelude.{◌≡◌, List};
 ghost use Rattle.hooks.specs.Tables.{Shows};
-ghost use Rattle.shared_hooks.specs.Edits.{changes_of};
-ghost use Rattle.shared_hooks.specs.declared.edit.Edit.{Edit as Made};
+ghost use Rattle.hook_readers.specs.Edits.{changes_of};
 
-use crate::edit::Edit;
+use crate::edit::apply;
 use fronts::{Front, Naming};
+use hook_readers::{Edit, Op, Rack};
 use hooks::Registry;
 use left_right::Absorb;
 use std::alloc::AllocError;
@@ -22,8 +22,8 @@ pub struct Published<J: Naming> {
 impl<J: Naming> Model for Published<J> {
     ghost use Rattle.std.specs.Prelude.{List};
     ghost use Rattle.hooks.specs.Tables.{Shows};
-    ghost use Rattle.shared_hooks.specs.declared.edit.Edit.{Edit};
-    ghost use Rattle.shared_hooks.specs.Edits.{changes_of};
+    ghost use Rattle.hook_readers.specs.declared.edit.Edit.{Edit};
+    ghost use Rattle.hook_readers.specs.Edits.{changes_of};
 
     ghost Value = { List Edit };
 
@@ -41,33 +41,6 @@ impl<J: Naming> Published<J> {
     }
 }
 
-/// A change, with the front that ends with it. Contracts see the front.
-#[derive(Drop)]
-pub struct Op<J: Naming> {
-    edit: Edit,
-    front: Front<Edit, J>,
-}
-
-impl<J: Naming> Model for Op<J> {
-    ghost use Rattle.std.specs.Prelude.{◌≡◌, List, ◌++◌, ◌∷◌, []};
-    ghost use Rattle.shared_hooks.specs.declared.edit.Edit.{Edit};
-
-    ghost Value = { List Edit };
-
-    ghost view = { λ o. o.front };
-
-    ghost invariant = { λ o. (before : List Edit) × (o.front ≡ before ++ o.edit ∷ []) };
-}
-
-impl<J: Naming> Op<J> {
-    pub(crate) fn new(edit: Edit, front: Front<Edit, J>) -> Op<J>
-        requires { (before : List Made) × (front ≡ before ++ edit ∷ []) }
-        ensures { result ≡ front }
-    {
-        Op { edit, front }
-    }
-}
-
 impl<J: Naming> Absorb<Op<J>> for Published<J> {
     // Any number of changes.
     type State = [Edit; 0];
@@ -79,28 +52,15 @@ impl<J: Naming> Absorb<Op<J>> for Published<J> {
     // A change is taken in where it is the next.
     fn absorb_first(&mut self, operation: &Op<J>, _other: &Published<J>) -> Result<(), AllocError> {
         hooks::laws::changes_add_up();
-        let front = operation.front.longer(&self.front);
-        if operation.front.len() == 0 || self.front.len() != operation.front.len() - 1 {
+        let ends = operation.front();
+        let front = ends.longer(&self.front);
+        if ends.len() == 0 || self.front.len() != ends.len() - 1 {
             return Err(AllocError);
         }
-        operation.edit.apply(&mut self.registry)?;
+        apply(operation.edit(), &mut self.registry)?;
         self.front = front;
         Ok(())
     }
-}
-
-/// What takes in one change after another, each with the front that it ends.
-pub trait Rack<J: Naming>: Absorb<Op<J>, State = [Edit; 0]> {
-    /// The front of all changes that were taken in.
-    fn front(&self) -> &Front<Edit, J>
-        ensures { result.now ≡ Self.state self.now };
-
-    /// The registry that they make.
-    fn registry(&self) -> &Registry
-        ensures { Shows (changes_of (Self.state self.now)) result.now };
-
-    // the last change ends the front
-    ghost last: { (before after : List Made) → Self.applied before after ≡ after };
 }
 
 impl<J: Naming> Rack<J> for Published<J> {

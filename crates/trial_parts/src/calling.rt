@@ -1,6 +1,6 @@
 //! The calls that the tests try, over vnodes of any kind.
 
-ghost use Rattle.std.specs.Prelude.{◌∷◌, ◌<◌, ◌^◌, length};
+ghost use Rattle.std.specs.Prelude.{◌∷◌, ◌<◌, ◌≤◌, ◌^◌, length, IfOk};
 ghost use Rattle.place.specs.Places.{AreDifferent};
 
 use crate::building::{content_of, put_alone, three_losing};
@@ -80,36 +80,7 @@ fn put_unhooked<P: Peers>(
     )
 }
 
-/// Puts a content where bucket `b` has this pre-commit hook, which calls no helper.
-pub fn put_hooked<P: Peers>(
-    alloc: Global,
-    peers: &mut P,
-    hook: Arc<Verified>,
-    coordinator: usize,
-    others: &[usize],
-    key: &Key,
-    seen: &Clock,
-    content: &Content,
-    w: usize,
-) -> Result<Result<Dot, QuorumFault>, Fail>
-    requires few { length others.now < 2 ^ 32 }
-    requires different { AreDifferent (coordinator ∷ others.now) }
-{
-    let registry = registry_of(alloc, ImageKind::PreCommit, hook)?;
-    let mut hooking = Hooking::new(alloc, registry, Table::new(alloc));
-    Ok(put(
-        peers,
-        &mut hooking,
-        coordinator,
-        others,
-        key,
-        seen,
-        content,
-        w,
-    ))
-}
-
-/// Gets a key, and what each vnode answered.
+/// Gets a key, and what each vnode answered, each at most once.
 pub fn get<P: Peers>(
     alloc: Global,
     peers: &mut P,
@@ -118,6 +89,7 @@ pub fn get<P: Peers>(
     r: usize,
 ) -> Result<(KeyState, Vec<Answer>), QuorumFault>
     requires { AreDifferent vnodes.now }
+    ensures { IfOk result (λ found. length found.1.items ≤ length vnodes.now) }
 {
     quorum::get(alloc, peers, key, vnodes, r)
 }

@@ -1,11 +1,9 @@
 //! Buckets with a hook.
 
-ghost use Rattle.std.specs.Prelude.{IsErr};
-
 use crate::programs::hook;
 use bpfimage::ImageKind;
 use helpers::Sigs;
-use hooks::{HookFault, Hooks, NameFault, NotSeen, Registry};
+use hooks::{HookFault, Registry};
 use object::Bytes;
 use std::alloc::Global;
 use std::sync::Arc;
@@ -51,26 +49,4 @@ pub fn registry_of(
     let mut registry = Registry::new(alloc);
     bind(alloc, &mut registry, kind, program)?;
     Ok(registry)
-}
-
-/// A registry that is never seen.
-#[derive(Drop)]
-pub struct Hidden;
-
-impl Hooks for Hidden {
-    ghost finds = { λ before bucket kind answer after. IsErr answer };
-
-    ghost names = { λ before bucket kind answer after. IsErr answer };
-
-    fn hook_of(
-        &mut self,
-        _bucket: &[u8],
-        _kind: ImageKind,
-    ) -> Result<Option<Arc<Verified>>, NotSeen> {
-        Err(NotSeen)
-    }
-
-    fn bound(&mut self, _bucket: &Bytes, _kind: ImageKind) -> Result<Option<Bytes>, NameFault> {
-        Err(NameFault::NotSeen)
-    }
 }

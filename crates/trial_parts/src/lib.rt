@@ -1,4 +1,4 @@
-//! What the tests that cross crates start from: keys, contents, vnodes, hooks, and the calls that they try. No function here
+//! What the tests that cross crates start from: keys, contents, vnodes, hooks, and the calls that they try. No function here but `get`
 //! tells by a clause what it answers: a test knows of an answer what it compares, and no more.
 #![tactic(auto)]
 

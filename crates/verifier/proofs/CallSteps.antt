@@ -15,7 +15,7 @@ use Rattle.memory.specs.declared.Region.{Region}
 use Rattle.memory.specs.declared.Region.TheVariants.{Input}
 use Rattle.ranges.specs.declared.kind.Kind.{Kind}
 use Rattle.ranges.specs.declared.kind.Kind.TheVariants.{Unset, Dead, Num, Ptr}
-use Rattle.ranges.specs.declared.profile.Profile.{Profile}
+use Rattle.memory.specs.declared.profile.Profile.{Profile}
 use Rattle.ranges.specs.Kinds.{Admits}
 use Rattle.ranges.specs.Numbers.{range, single}
 use Rattle.ranges.specs.Laws.{IsSoundTable}

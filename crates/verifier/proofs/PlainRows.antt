@@ -23,7 +23,7 @@ use Rattle.memory.specs.declared.Region.TheVariants.{Stack, Input, Output}
 use Rattle.ranges.specs.declared.kind.Kind.{Kind}
 use Rattle.ranges.specs.declared.kind.Kind.TheVariants.{Unset, Dead, Num, Ptr}
 use Rattle.ranges.specs.declared.number.Number.{Number}
-use Rattle.ranges.specs.declared.profile.Profile.{Profile}
+use Rattle.memory.specs.declared.profile.Profile.{Profile}
 use Rattle.ranges.specs.declared.kind.Bad.{Bad}
 use Rattle.ranges.specs.Comparisons.{compared}
 use Rattle.ranges.specs.Transfer.{kind_of, transfer_of, of_one, of_two, swap_of, kinds_of, refine_of, join_of}

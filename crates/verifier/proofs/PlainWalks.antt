@@ -18,7 +18,7 @@ use Rattle.memory.specs.declared.Region.{Region}
 use Rattle.memory.specs.declared.Region.TheVariants.{Stack, Input, Output}
 use Rattle.ranges.specs.declared.kind.Kind.{Kind}
 use Rattle.ranges.specs.declared.kind.Kind.TheVariants.{Unset, Dead, Num, Ptr}
-use Rattle.ranges.specs.declared.profile.Profile.{Profile}
+use Rattle.memory.specs.declared.profile.Profile.{Profile}
 use Rattle.ranges.specs.Transfer.{join_of}
 use Rattle.bpfimage.specs.declared.form.FormRule.TheVariants.{Unreachable}
 use Rattle.bpfimage.specs.Form.{next_of, GoesTo, IsPath}

@@ -11,7 +11,7 @@ use Rattle.insn.specs.declared.Register.{Register}
 use Rattle.bpfimage.specs.declared.form.FormRule.{FormRule}
 use Rattle.bpfimage.specs.declared.form.FormRule.TheVariants.{TargetOutside, TargetTail, TargetBack, RunsPast}
 use Rattle.bpfimage.specs.Form.{target_of, next_of, slot_at, BreaksRule, IsFormed}
-use Rattle.ranges.specs.declared.profile.Profile.{Profile}
+use Rattle.memory.specs.declared.profile.Profile.{Profile}
 use Rattle.helpers.specs.Calls.{Callee}
 use Rattle.verifier.specs.Registers.{Row}
 use Rattle.verifier.specs.Rules.{row_after, row_taken}

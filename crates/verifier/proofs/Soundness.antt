@@ -21,7 +21,7 @@ use Rattle.std.proofs.lemmas.Nat.{pow_pos}
 use Rattle.memory.specs.State.{State, Row as Row_of}
 use Rattle.memory.specs.Step.{Step, Faults, Runs, IsInput, start, instruction_at, starting, instruction_count}
 use Rattle.memory.specs.declared.Fault.{Fault}
-use Rattle.ranges.specs.declared.profile.Profile.{Profile}
+use Rattle.memory.specs.declared.profile.Profile.{Profile}
 use Rattle.ranges.specs.declared.kind.Kind.{Kind}
 use Rattle.ranges.specs.declared.kind.Kind.TheVariants.{Unset}
 use Rattle.ranges.specs.Kinds.{IsKind}

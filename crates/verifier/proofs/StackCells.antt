@@ -13,8 +13,8 @@ use Rattle.memory.specs.Windows.{little_endian, overwritten}
 use Rattle.memory.specs.State.{State, register}
 use Rattle.memory.specs.Step.{AreBytes}
 use Rattle.memory.specs.declared.Region.{Region}
-use Rattle.ranges.specs.declared.profile.Profile.{Profile}
-use Rattle.ranges.specs.declared.profile.Profile.TheVariants.{First, Second}
+use Rattle.memory.specs.declared.profile.Profile.{Profile}
+use Rattle.memory.specs.declared.profile.Profile.TheVariants.{First, Second}
 use Rattle.ranges.specs.declared.kind.Kind.{Kind}
 use Rattle.ranges.specs.declared.kind.Kind.TheVariants.{Unset, Dead, Num, Ptr}
 use Rattle.ranges.specs.Kinds.{Admits, IsKind}

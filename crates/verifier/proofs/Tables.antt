@@ -4,7 +4,7 @@ use Rattle.std.specs.Prelude.{slice_get}
 use Rattle.std.proofs.lemmas.Bool.{cases_lt, cases_eq, cond-true, cond-false, eq-eqb, ne_eqb}
 use Rattle.std.proofs.lemmas.List.{length-replicate}
 use Rattle.std.proofs.lemmas.Option.{same_Some}
-use Rattle.ranges.specs.declared.profile.Profile.{Profile}
+use Rattle.memory.specs.declared.profile.Profile.{Profile}
 use Rattle.verifier.specs.Program.{Program}
 use Rattle.verifier.specs.Registers.{Row, entry}
 use Rattle.verifier.specs.Rows.{row_at, push_one, pushed, Misses, HasKinds, AreRowKinds, IsPass}

@@ -2,7 +2,7 @@
 use Rattle.std.specs.Prelude.{◌∷◌, drop}
 use Rattle.ranges.specs.Numbers.{range, single}
 use Rattle.ranges.specs.Transfer.{kind_in}
-use Rattle.ranges.specs.declared.profile.Profile.{Profile}
+use Rattle.memory.specs.declared.profile.Profile.{Profile}
 use Rattle.ranges.specs.declared.kind.Kind.{Kind}
 use Rattle.ranges.specs.declared.kind.Kind.TheVariants.{Unset}
 use Rattle.helpers.specs.Calls.{Callee, Copy, Fill, Same, Helper, Unknown}

@@ -5,7 +5,7 @@ use Rattle.memory.specs.declared.Region.TheVariants.{Stack}
 use Rattle.insn.specs.declared.Register.TheVariants.{R1, R2, R3}
 use Rattle.ranges.specs.Numbers.{full}
 use Rattle.ranges.specs.Transfer.{kind_in}
-use Rattle.ranges.specs.declared.profile.Profile.{Profile}
+use Rattle.memory.specs.declared.profile.Profile.{Profile}
 use Rattle.ranges.specs.declared.kind.Kind.{Kind}
 use Rattle.ranges.specs.declared.kind.Kind.TheVariants.{Unset, Dead, Num, Ptr}
 use Rattle.helpers.specs.declared.sig.ArgRule.{ArgRule}

@@ -16,7 +16,7 @@ use Rattle.insn.specs.declared.Insn.TheVariants as insn
 use Rattle.memory.specs.State.{no_calls, reads, writes}
 use Rattle.ranges.specs.Numbers.{full}
 use Rattle.ranges.specs.Transfer.{kind_in, transfer_of, swap_of, refine_of}
-use Rattle.ranges.specs.declared.profile.Profile.{Profile}
+use Rattle.memory.specs.declared.profile.Profile.{Profile}
 use Rattle.ranges.specs.declared.range.Range.{Range}
 use Rattle.ranges.specs.declared.kind.Kind.{Kind}
 use Rattle.ranges.specs.declared.kind.Kind.TheVariants.{Unset, Dead}

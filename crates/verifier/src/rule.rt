@@ -5,7 +5,7 @@ ghost use Rattle.std.specs.Prelude.{◌≡◌};
 use bpfimage::FormRule;
 
 /// A rule over the kinds of the registers, and of the stack's cells, before a slot.
-#[derive(Clone, Copy, Debug, PartialEq, Eq)]
+#[derive(Clone, Copy, PartialEq, Eq)]
 pub enum KindRule {
     /// V20: a register is read that is not set on every path, or not of one kind.
     UnsetRead,
@@ -33,7 +33,7 @@ pub enum KindRule {
 }
 
 /// Why a program is not accepted.
-#[derive(Clone, Copy, Debug, PartialEq, Eq)]
+#[derive(Clone, Copy, PartialEq, Eq)]
 pub enum Rule {
     /// A rule of form, V10 to V14.
     Form(FormRule),
@@ -44,7 +44,7 @@ pub enum Rule {
 }
 
 /// A rule that a program breaks, and the slot that breaks it. Want of memory is told with slot 0.
-#[derive(Clone, Copy, Debug, PartialEq, Eq)]
+#[derive(Clone, Copy, PartialEq, Eq)]
 pub struct Refused {
     pub rule: Rule,
     pub slot: u32,

@@ -3,7 +3,7 @@
 use object::{Key, KeyState};
 
 /// The state of a key, with whose it is and when it was read.
-#[derive(Debug, Drop)]
+#[derive(Drop)]
 pub struct Record {
     /// The key.
     pub key: Key,

@@ -1,7 +1,7 @@
 //! What one worker has of the hooks.
 
 ghost use Rattle.std.specs.Prelude.{◌≡◌};
-ghost use Rattle.shared_hooks.specs.Edits.{Finds, Names};
+ghost use Rattle.hook_readers.specs.Edits.{Finds, Names};
 ghost use Rattle.worker_hooks.specs.Taking.{Takes};
 
 use crate::making;

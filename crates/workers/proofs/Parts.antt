@@ -10,9 +10,9 @@ use Rattle.peers.specs.declared.peers.PartAnswer.TheVariants.{Merged, Missing}
 use Rattle.stamps.specs.Rule.{call_of}
 use Rattle.stamps.specs.declared.view.Size.{Size}
 use Rattle.stamps.specs.declared.view.View.{View}
-use Rattle.pool.specs.Calls.{IsNews, IsFault, outcome_ok}
-use Rattle.pool.specs.declared.fault.CallFault.{CallFault}
-use Rattle.pool.specs.declared.fault.CallFault.TheVariants as fault
+use Rattle.vnode_locks.specs.Calls.{IsNews, IsFault, outcome_ok}
+use Rattle.vnode_locks.specs.declared.fault.CallFault.{CallFault}
+use Rattle.vnode_locks.specs.declared.fault.CallFault.TheVariants as fault
 use Rattle.workers.specs.Peering.{IsPart, MatchCall}
 
 -- a part that was merged

@@ -21,9 +21,9 @@ use Rattle.peers.specs.Counts.{Counts}
 use Rattle.stamps.specs.Rule.{stamps_each, call_of}
 use Rattle.stamps.specs.declared.view.Size.{Size}
 use Rattle.stamps.specs.declared.view.View.{View}
-use Rattle.pool.specs.Calls.{IsNews, IsFault, AreKeysOf, outcome_ok}
-use Rattle.pool.specs.declared.fault.CallFault.{CallFault}
-use Rattle.pool.specs.declared.fault.CallFault.TheVariants as fault
+use Rattle.vnode_locks.specs.Calls.{IsNews, IsFault, AreKeysOf, outcome_ok}
+use Rattle.vnode_locks.specs.declared.fault.CallFault.{CallFault}
+use Rattle.vnode_locks.specs.declared.fault.CallFault.TheVariants as fault
 
 -- a call that was lost: there is no such vnode, or the pass has drawn all its stamps
 abbrev pub IsLostAt : Size → View → View → ℕ → Type 0

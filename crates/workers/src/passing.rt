@@ -4,7 +4,7 @@ ghost use Rattle.std.specs.Prelude.{◌≡◌, ◌≢◌, Ok, Err, ◌^◌, ◌-
 ghost use Rattle.calls.specs.declared.request.Request.TheVariants as request;
 ghost use Rattle.peers.specs.declared.fault.PeerFault.TheVariants.{Lost, Refused};
 ghost use Rattle.peers.specs.declared.peers.PartAnswer.TheVariants.{Missing};
-ghost use Rattle.pool.specs.declared.fault.CallFault.{CallFault};
+ghost use Rattle.vnode_locks.specs.declared.fault.CallFault.{CallFault};
 ghost use Rattle.workers.specs.Peering.{IsPut, IsMerge, IsRead, IsSummary, IsPart, IsKeys, MatchCall};
 
 use calls::{Prepared, Reply};

@@ -25,10 +25,12 @@ PHRASES = {
     403: "Forbidden",
     404: "Not Found",
     405: "Method Not Allowed",
+    409: "Conflict",
     411: "Length Required",
     412: "Precondition Failed",
     413: "Payload Too Large",
     422: "Unprocessable Entity",
+    500: "Internal Server Error",
     501: "Not Implemented",
 }
 TEXT = "text/plain"
@@ -47,10 +49,10 @@ def as_bytes(text):
 
 
 class Key:
-    """A key of a bucket, and the vnodes that coordinate its writes."""
+    """A key of a bucket, and the vnodes that coordinate its writes; its target is made of the names as they are, or as it is spelled."""
 
-    def __init__(self, bucket, name):
-        self.target = f"/buckets/{bucket}/keys/{name}"
+    def __init__(self, bucket, name, target=None):
+        self.target = target or f"/buckets/{bucket}/keys/{name}"
         hashed = struct.pack(">I", len(bucket)) + bucket.encode() + name.encode()
         self.place = int.from_bytes(hashlib.sha1(hashed).digest()[:8], "big") % VNODES
 
@@ -240,6 +242,10 @@ def hooks():
     yield NEXT
     yield from written_by_hooks()
     yield NEXT
+    yield from said_by_pre_commits()
+    yield NEXT
+    yield from said_by_resolvers()
+    yield NEXT
     yield from registry()
 
 
@@ -362,12 +368,19 @@ def shown_to_pre_commits():
     yield bind("b", '{"precommit":null}'), done()
     for n in range(1, 65):
         yield request(f"DELETE {many.target}"), written(0, n)
+    # No sibling more.
+    yield request(f"DELETE {many.target}"), told(409, "P2")
     yield bind("b", '{"precommit":"used"}'), done()
     yield install("used", few_slots(PRE_COMMIT, answering(0), in_len=1575)), done()
     yield request(f"DELETE {many.target}", seen({0: 64})), told(413, "X1")
     yield request(f"GET {many.target}"), choices({0: 64}, *((0, n) for n in range(1, 65)))
     yield install("used", few_slots(PRE_COMMIT, answering(0), in_len=1576)), done()
     yield request(f"DELETE {many.target}", seen({0: 64})), written(0, 65)
+    yield request(f"GET {many.target}"), not_found({0: 65})
+    # The first and the last code of a refusal, and answers that are none.
+    for r0, fault in [(256, (403, "X3 0")), (511, (403, "X3 255")), (2, (500, "X2")), (512, (500, "X2"))]:
+        yield install("used", few_slots(PRE_COMMIT, answering(r0))), done()
+        yield request(f"DELETE {many.target}"), told(*fault)
     yield request(f"GET {many.target}"), not_found({0: 65})
 
 
@@ -389,6 +402,56 @@ def written_by_hooks():
         yield install("x", few_slots(RESOLVER, writing(text))), done()
         yield bind("c", '{"resolver":"x"}'), done()
         yield request(f"GET {key.target}"), value({0: 2, 1: 1}, text, OCTETS)
+
+
+def said_by_pre_commits():
+    """What a pre-commit hook says of a new `a` alone, which is shown in 41 bytes. Nothing is written but where it lets it through."""
+    rows = [
+        (few_slots(PRE_COMMIT, answering(0)), written(0, 1)),
+        (few_slots(PRE_COMMIT, answering(256)), told(403, "X3 0")),
+        (few_slots(PRE_COMMIT, answering(256 + 1), in_len=41), told(403, "X3 1")),
+        (few_slots(PRE_COMMIT, answering(256 + 1), in_len=40), told(413, "X1")),
+        (few_slots(PRE_COMMIT, answering(256 + 255)), told(403, "X3 255")),
+        (few_slots(PRE_COMMIT, answering(512)), told(500, "X2")),
+        (few_slots(PRE_COMMIT, answering(7)), told(500, "X2")),
+        (few_slots(PRE_COMMIT, answering(2)), told(500, "X2")),
+        # A value of 4 bytes fits behind its length in the output window, one of 5 does not.
+        (few_slots(PRE_COMMIT, writing(b"xxxx")), written(0, 1)),
+        (few_slots(PRE_COMMIT, slot(0x62, 3, 0, 0, 5) + answering(1)), told(500, "X2")),
+    ]
+    for number, (image, answered) in enumerate(rows):
+        key = first_key("b", f"k{number}n")
+        yield install("says", image), done()
+        if number == 0:
+            yield bind("b", '{"precommit":"says"}'), done()
+        yield request(f"PUT {key.target}", typed(TEXT), body="a"), answered
+        let_through = {0: "a", 8: "xxxx"}.get(number)
+        yield request(f"GET {key.target}"), not_found() if let_through is None else value({0: 1}, let_through)
+
+
+def said_by_resolvers():
+    """What a resolver says of two siblings, which are shown in 66 bytes. The read's own answer stands where it chooses nothing."""
+    x = slot(0x62, 3, 0, 0, 1) + slot(0x72, 3, 0, 4, ord("x"))
+    both, resolved = choices({0: 1, 1: 1}, (0, 1), (1, 1)), {0: 2, 1: 1}
+    rows = [
+        (answering(256), 128, value(resolved, "a")),
+        (answering(256 + 1), 66, value(resolved, "b")),
+        (x + answering(1), 128, value(resolved, "x", OCTETS)),
+        (x + answering(2), 128, not_found(resolved)),
+        (x + answering(0), 128, both),
+        (x + answering(7), 128, both),
+        (x + answering(256 + 2), 128, both),
+        (answering(256), 65, both),
+    ]
+    for number, (code, in_len, answered) in enumerate(rows):
+        key = first_key("b", f"k{number}n")
+        yield install("says", few_slots(RESOLVER, code, in_len=in_len)), done()
+        if number == 0:
+            yield bind("b", '{"resolver":"says"}'), done()
+        yield from siblings(key)
+        # What it chose was written, so a second read finds one value, or both siblings as before.
+        for _ in range(2):
+            yield request(f"GET {key.target}"), answered
 
 
 def registry():
@@ -741,6 +804,13 @@ def reads():
     yield request(f"{by_tag}{two}-1"), value(both, "b")
     yield request(f"{by_tag}{two}-10"), not_found(both)
 
+    # Names of fields and words in any case; of a field or a word of a query that stands twice the first counts.
+    shown = parts(both, {(one, 1): "a", (two, 1): "b"})
+    yield request(f"GET {key.target}", "accept: text/plain, Multipart/Mixed ;q=1"), shown
+    yield request(f"GET {key.target}", "Accept: multipart/mixed2,multipart", as_parts), choices(both, (one, 1), (two, 1))
+    yield request(f"{by_tag}{one}-1&vtag={two}-1", as_parts), value(both, "a")
+    yield from spelled()
+
     # A delete that has seen the first.
     yield request(f"DELETE {key.target}", seen({one: 1}, version=1)), written(one, 2)
     beside = {one: 2, two: 1}
@@ -749,6 +819,35 @@ def reads():
     closing = parts(beside, {(one, 2): None, (two, 1): "b"}).replace(b"Content-Length", b"Connection: close\r\nContent-Length", 1)
     yield request(f"GET {key.target}", as_parts, "Connection: close"), closing
     yield ping(), NOTHING
+
+
+def spelled():
+    """Queries, names, fields and bodies that are spelled in another way, or that nothing asks for."""
+    key = Key("b", "spelled")
+    one, three = key.vnode(0), key.vnode(2)
+    yield request(f"POST {key.target}?r=all&w=one&at=2&r=0&x=y", body=""), written(three, 1)
+    yield request(f"GET {key.target}?r=all&w=quorum&at=1"), value({three: 1}, "", OCTETS)
+    yield request(f"GET {key.target}?%72=%31&w=default"), value({three: 1}, "", OCTETS)
+    yield request(f"GET {key.target}?%72=%30"), told(*QUERY)
+    # A delete has no media type, and the first of two contexts counts.
+    context_first = f"x-riak-vclock: {context({three: 1})}"
+    yield request(f"DELETE {key.target}", "Content-Type:", context_first, "X-Riak-Vclock: AQA"), written(one, 1)
+    yield request(f"GET {key.target}"), not_found({one: 1, three: 1})
+
+    # Names with escapes, and with a sign for one that begins none.
+    escaped = Key("a/b", "%k%2", "/buckets/a%2Fb/keys/%25k%2")
+    yield request(f"PUT {escaped.target}", typed(TEXT), body="a"), written(escaped.vnode(), 1)
+    yield request("GET /buckets/%61%2fb/keys/%25%6B%252"), value({escaped.vnode(): 1}, "a")
+    yield install("no_1-B", "RBPF"), told(422, "I1")
+
+    # A binding that names one hook of two, beside properties that are as they have to be, and others.
+    props = '{"props":{"resolver":null,"allow_mult":true,"n_val":1,"x":{}},"y":0}'
+    yield request("PUT /buckets/b/props", body=props), done()
+    yield request("GET /buckets/b/props"), properties(None, None)
+
+    # A body and fields that nothing uses, and of two fields `Connection` the first.
+    yield b"GET /ping HTTP/1.1\r\nExpect: 100-continue\r\nContent-Length: 2\r\nContent-Length: 02\r\n\r\nab", pong()
+    yield b"GET /ping HTTP/1.1\r\nConnection: closed\r\nConnection: close\r\n\r\n", pong()
 
 
 # The second of two siblings, and the boundary and length of the answer in parts that its value leads to.

@@ -726,9 +726,102 @@ HELPER_CALLS = [
 ]
 
 
+# Two texts, and their order: 0 where the first is before the second, 1 where they are equal, 2 where it is behind it.
+ORDERS = [
+    (b"", b"", 1),
+    (b"", b"a", 0),
+    (b"a", b"", 2),
+    (b"a", b"b", 0),
+    (b"b", b"a", 2),
+    (b"a", b"ab", 0),
+    (b"ab", b"a", 2),
+    (b"abc", b"abd", 0),
+    (b"abc", b"abc", 1),
+    (b"\x80", b"\x7f\xff", 2),
+]
+
+# A text, another, and one more than the first place of the other in it, 0 where it is at none.
+PLACES_OF_TEXTS = [
+    (b"", b"", 1),
+    (b"", b"a", 0),
+    (b"hello", b"", 1),
+    (b"hello", b"h", 1),
+    (b"hello", b"l", 3),
+    (b"hello", b"o", 5),
+    (b"hello", b"hello", 1),
+    (b"hello", b"hello!", 0),
+    (b"abab", b"ba", 2),
+    (b"aaab", b"aab", 2),
+    (b"hello", b"lol", 0),
+]
+
+# A text, and the number that it spells: 1 to 19 digits.
+NUMBERS_OF_TEXTS = [
+    (b"0", 0),
+    (b"0000000000000000000", 0),
+    (b"0000000000000000019", 19),
+    (b"10000000000000000000", MAX),
+    (b"-1", MAX),
+    (b"+1", MAX),
+    (b" 1", MAX),
+    (b"1:", MAX),
+]
+
+TWO_SIBLINGS = [(0, 1), (0, 2)]
+
+# How many rows a layout says that it has, the vnode and the counter of each row that it has, and the row of the greatest counter, of
+# these of the greatest vnode, of these the first; 64 where there is none, or where it has fewer rows than it says, or says more than 64.
+NEWEST = [
+    (0, [], 64),
+    (1, [(1, 5)], 0),
+    (2, [(0, 1), (1, 1)], 1),
+    (2, [(1, 1), (0, 1)], 0),
+    (2, [(0, 2), (5, 1)], 0),
+    (2, [(5, 1), (0, 2)], 1),
+    (1, [(9, 0)], 64),
+    (3, [(9, 0), (1, 1), (0, 3)], 2),
+    (3, [(0, 3), (9, 0), (1, 1)], 0),
+    (2, [(3, 4), (3, 4)], 0),
+    (2, [(0, 256), (0, 255)], 0),
+    (2, [(NARROW, 1), (0, MAX)], 1),
+    (3, TWO_SIBLINGS, 64),
+    (1, TWO_SIBLINGS, 0),
+    (64, [(0, 7)] * 64, 0),
+    (65, [(0, 7)] * 65, 64),
+]
+
+
+def layout(count, rows):
+    """A resolver's input that says it has so many rows, and has these; no values."""
+    head = struct.pack("<IIII", 2, count, 16 + 24 * len(rows), 0)
+    return head + b"".join(struct.pack("<IIQII", vnode, 1, n, 0, 0) for vnode, n in rows)
+
+
+def texts(number, rows):
+    """Rows of a helper of two texts, which stand one behind the other in the input."""
+    for first, second, want in rows:
+        at = len(first)
+        slots = [put(2, at), copied(3, 1), raised(3, at), put(4, len(second)), call(number), EXIT]
+        yield row(f"{number} of {first} and {second}", image(16, 0, slots), comes_to(want, 6), slots, first + second)
+
+
 def helpers():
     for name, windows, slots, given, told in HELPER_CALLS:
         yield row(name, image(*windows, slots), told, slots, given)
+    yield from texts(16, ORDERS)
+    yield from texts(17, PLACES_OF_TEXTS)
+    spelled = [call(18), EXIT]
+    for text, want in NUMBERS_OF_TEXTS:
+        yield row(f"18 of {text}", image(32, 0, spelled), comes_to(want, 2), spelled, text)
+    newest = [call(19), EXIT]
+    for count, rows, want in NEWEST:
+        name = f"newest of {len(rows)} rows as {count}"
+        yield row(name, image(2048, 0, newest), comes_to(want, 2), newest, layout(count, rows))
+    # The rows end behind the 64th byte.
+    for length in range(65):
+        slots = [put(2, length), call(19), EXIT]
+        told = comes_to(1 if length == 64 else 64, 3)
+        yield row(f"newest of {length} bytes", image(64, 0, slots), told, slots, layout(2, TWO_SIBLINGS))
 
 
 # Inputs of a window's length, and longer ones
@@ -1048,6 +1141,10 @@ RAW = [
         [copied(0, 1), NOTHING, NOTHING, NOTHING, EXIT],
         refused(29, 4),
     ),
+    ("the last byte of the input", [load_byte(0, 1, 4095), EXIT], accepted(2)),
+    ("past the last byte of the input", [load_byte(0, 1, 4096), EXIT], refused(24, 0)),
+    ("the last byte of the output", [CLEAR, store_byte(3, 4095, 1), EXIT], accepted(3)),
+    ("past the last byte of the output", [CLEAR, store_byte(3, 4096, 1), EXIT], refused(24, 1)),
 ]
 
 COPY = copied(6, 2)
@@ -1443,8 +1540,27 @@ OWN_CALLS = [
 ]
 
 
+# Programs that call the store's helpers, and numbers that no helper has, with the same windows.
+STORE_CALLS = [
+    ("a text of the input", [CLEAR, CLEAR, CLEAR, CLEAR, call(18), EXIT], accepted(6)),
+    ("a text that leaves the window", [CLEAR, CLEAR, CLEAR, raised(1, 1), call(18), EXIT], refused(28, 4)),
+    ("a text of a pointer's length", [CLEAR, CLEAR, CLEAR, copied(2, 1), call(18), EXIT], refused(28, 4)),
+    ("a text at a number", [CLEAR, CLEAR, CLEAR, copied(1, 2), call(18), EXIT], refused(28, 4)),
+    ("a second text that is unset", [CLEAR, CLEAR, copied(3, 1), copied(4, 2), call(16), call(16), EXIT], refused(20, 5)),
+    ("a number", [CLEAR, CLEAR, CLEAR, copied(1, 2), call(64), EXIT], accepted(6)),
+    ("a pointer for a number", [CLEAR, CLEAR, CLEAR, CLEAR, call(64), EXIT], refused(28, 4)),
+    ("the greatest answer", [KEEP, copied(1, 2), call(64), ADD_ANSWER, store_byte(6, 0, 1), EXIT], accepted(6)),
+    ("above the greatest answer", [KEEP, copied(1, 2), call(64), ADD_ANSWER, store_byte(6, 1, 1), EXIT], refused(24, 4)),
+    ("below the least answer", [KEEP, copied(1, 2), call(64), ADD_ANSWER, store_byte(6, -1, 1), EXIT], refused(24, 4)),
+    *[
+        (f"no helper {number}", [CLEAR, CLEAR, CLEAR, CLEAR, call(number), EXIT], refused(27, 4))
+        for number in [-1, 0, 4, 15, 20, 63, 66, 127, 128]
+    ],
+]
+
+
 def calls():
-    return image_rows(16, 8, COPIES + OWN_CALLS)
+    return image_rows(16, 8, COPIES + OWN_CALLS + STORE_CALLS)
 
 
 # Code, and the rule of form that it breaks first.
@@ -1545,10 +1661,66 @@ REFUSALS = [
 ]
 
 
+# The opcodes of conditional jumps, of others, of byte swaps, and of each other instruction.
+CONDITIONS = [code << 4 | kind for kind in (0x05, 0x0D, 0x06, 0x0E) for code in (1, 2, 3, 4, 5, 6, 7, 10, 11, 12, 13)]
+JUMPS_ALWAYS = [0x05, 0x06]
+SWAPS = [0xD4, 0xDC, 0xD7]
+OTHERS = [
+    *[code << 4 | kind for kind in (0x07, 0x04) for code in range(13)],
+    *[code << 4 | kind for kind in (0x0F, 0x0C) for code in range(13) if code != 8],
+    *[0x61, 0x69, 0x71, 0x79, 0x81, 0x89, 0x91],
+    *[0x62, 0x6A, 0x72, 0x7A, 0x63, 0x6B, 0x73, 0x7B],
+    *[0x85, 0x18],
+]
+
+# Those of forms that are left out: packets and atomic instructions.
+LEFT_OUT = [0x20, 0x28, 0x30, 0x40, 0x48, 0x50, 0xC3, 0xDB]
+
+
+def opcode_told(opcode):
+    """What is told of code whose only instruction has this opcode: a jump leads past it, an exit answers nothing, and behind each other
+    instruction there is none."""
+    if opcode in CONDITIONS or opcode in JUMPS_ALWAYS:
+        return refused(10, 0)
+    if opcode == 0x95:
+        return refused(20, 0)
+    if opcode in SWAPS or opcode in OTHERS:
+        return refused(13, 0)
+    return "refused D8 0\n" if opcode in LEFT_OUT else "refused D4 0\n"
+
+
+def opcodes():
+    for opcode in range(256):
+        slots = [[opcode, 0, 0, 0, 16 if opcode in SWAPS else 0, 0, 0, 0]]
+        if opcode == 0x18:
+            slots.append([0] * 8)
+        yield row(f"opcode {opcode:02x}", b"".join(map(bytes, slots)), opcode_told(opcode))
+
+
+# How many bytes of exits there are, and the verdict: a file of more than 32,784 bytes is not read to its end.
+LENGTHS = [
+    (7, "D1 0"),
+    (8, "V20 0"),
+    (8 * 4096, "V14 1"),
+    (8 * 4096 + 1, "D1 0"),
+    (8 * 4097, "D3 0"),
+    (8 * 4099, "D3 0"),
+    (8 * 4099 + 1, "D1 0"),
+]
+
+
+def lengths():
+    for length, why in LENGTHS:
+        exits = code_of([EXIT] * (length // 8 + 1))
+        yield row(f"{length} bytes", exits[:length], f"refused {why}\n")
+
+
 def refusals():
     for slots, slot, why in REFUSALS:
         code = b"".join(map(bytes, slots))
         yield row(f"{why} at {slot}", code, f"refused {why} {slot}\n")
+    yield from opcodes()
+    yield from lengths()
 
 
 # How much of the image of `indexed_byte` is left, and the verdict. Fewer than 4 bytes of it are no mark of an image, but raw code.
@@ -1568,7 +1740,7 @@ CUTS = [
 ]
 
 # A byte of its head that is changed, what it is changed to, and the verdict.
-HEADS = [(4, 0, "I3"), (4, 3, "I3"), (5, 3, "I4"), (6, 1, "I4"), (7, 1, "I4"), (10, 2, "I5"), (14, 2, "I5")]
+HEADS = [(4, 0, "I3"), (4, 3, "I3"), (4, 255, "I3"), (5, 3, "I4"), (6, 1, "I4"), (7, 1, "I4"), (10, 2, "I5"), (14, 2, "I5")]
 
 
 def images():

@@ -1,4 +1,4 @@
-//! Programs, names, and changes that the tests make.
+//! Programs, changes, and what is seen of them.
 
 use admission::admit_image;
 use bpfimage::ImageKind;
@@ -6,57 +6,24 @@ use code_parts::{Slot, hook_image_of};
 use helpers::Sigs;
 use hooks::{HookChanges, HookFault, Hooks, NameFault};
 use object::Bytes;
-use std::alloc::{AllocError, AllocFailed, Global};
+use std::alloc::{AllocError, Global};
 use std::sync::Arc;
 use verifier::Verified;
 
-/// Why a test can't go on.
-#[derive(Clone, Copy, Debug, PartialEq, Eq, Drop)]
-pub enum Trouble {
-    NoMemory,
-    NoHook,
-    NoReader,
-    NotSeen,
-    NotOpened,
-}
+pub(super) const BEFORE: ImageKind = ImageKind::PreCommit;
 
-impl From<AllocError> for Trouble {
-    fn from(_error: AllocError) -> Trouble {
-        Trouble::NoMemory
-    }
-}
+pub(super) const RESOLVER: ImageKind = ImageKind::Resolver;
 
-impl<T: Drop> From<AllocFailed<T>> for Trouble {
-    fn from(_error: AllocFailed<T>) -> Trouble {
-        Trouble::NoMemory
-    }
-}
-
-impl From<NameFault> for Trouble {
-    fn from(error: NameFault) -> Trouble {
-        match error {
-            NameFault::NotSeen => Trouble::NotSeen,
-            NameFault::NoMemory => Trouble::NoMemory,
-        }
-    }
-}
-
-pub const BEFORE: ImageKind = ImageKind::PreCommit;
-
-pub const RESOLVER: ImageKind = ImageKind::Resolver;
-
-/// A hook of a kind.
-fn program_of(alloc: Global, kind: ImageKind) -> Result<Arc<Verified>, Trouble> {
+/// A hook of a kind, if it can be made.
+fn program_of(alloc: Global, kind: ImageKind) -> Option<Arc<Verified>> {
     let number = match kind {
         ImageKind::Plain => 0,
         ImageKind::PreCommit => 1,
         ImageKind::Resolver => 2,
     };
-    let bytes = hook_image_of(alloc, number, 128, 8, &[Slot::Put(0, 257), Slot::Exit])?;
-    match admit_image(alloc, &bytes, &Sigs::new(alloc)) {
-        Ok(verified) => Ok(Arc::new(alloc, verified)?),
-        Err(_) => Err(Trouble::NoHook),
-    }
+    let bytes = hook_image_of(alloc, number, 128, 8, &[Slot::Put(0, 257), Slot::Exit]).ok()?;
+    let verified = admit_image(alloc, &bytes, &Sigs::new(alloc)).ok()?;
+    Arc::new(alloc, verified).ok()
 }
 
 /// A name of a program or a bucket.
@@ -77,50 +44,71 @@ fn bindings(
 }
 
 /// A change of hooks, by the names and the kinds of programs. What is bound is bound to bucket `b`.
-pub enum Change {
+pub(super) enum Change {
     Install(&'static [u8], ImageKind),
     Remove(&'static [u8]),
     Bind(&'static [(ImageKind, &'static [u8])]),
 }
 
-/// What a change answers.
-pub fn answer_of<H: HookChanges>(
+/// What a change answers, if it can be made.
+fn answer_of<H: HookChanges>(
     alloc: Global,
     hooks: &mut H,
     change: &Change,
-) -> Result<Result<(), HookFault>, Trouble> {
+) -> Option<Result<(), HookFault>> {
     match change {
         Change::Install(text, kind) => {
             let program = program_of(alloc, *kind)?;
-            Ok(hooks.install(name(alloc, text)?, program))
+            Some(hooks.install(name(alloc, text).ok()?, program))
         }
-        Change::Remove(text) => Ok(hooks.remove(&name(alloc, text)?)),
-        Change::Bind(row) => Ok(hooks.bind(&name(alloc, b"b")?, &bindings(alloc, row)?)),
+        Change::Remove(text) => Some(hooks.remove(&name(alloc, text).ok()?)),
+        Change::Bind(row) => {
+            let bucket = name(alloc, b"b").ok()?;
+            Some(hooks.bind(&bucket, &bindings(alloc, row).ok()?))
+        }
     }
 }
 
-/// Of which kind bucket `b`'s hook is, if there is one. `NotSeen` where it can't be looked up.
-pub fn kind_of<H: Hooks>(
+/// A change, and what it is to answer.
+pub(super) type Row = (Change, Result<(), HookFault>);
+
+/// Whether changes, one after the other, answer what they should.
+pub(super) fn make_changes<H: HookChanges>(alloc: Global, hooks: &mut H, rows: &[Row]) -> bool {
+    for (change, answer) in rows {
+        if answer_of(alloc, hooks, change) != Some(*answer) {
+            return false;
+        }
+    }
+    true
+}
+
+/// Of which kind bucket `b`'s hook of a kind is, if it is seen and there is one.
+pub(super) fn kind_of<H: Hooks>(hooks: &mut H, kind: ImageKind) -> Option<Option<ImageKind>> {
+    match hooks.hook_of(b"b", kind) {
+        Ok(Some(program)) => Some(Some(program.image().kind)),
+        Ok(None) => Some(None),
+        Err(_) => None,
+    }
+}
+
+/// The name that is bound to bucket `b`.
+pub(super) fn bound<H: Hooks>(
     alloc: Global,
     hooks: &mut H,
     kind: ImageKind,
-) -> Result<Option<ImageKind>, Trouble> {
-    match hooks.hook_of(b"b", kind) {
-        Ok(Some(program)) => Ok(Some(program.image().kind)),
-        Ok(None) => Ok(None),
-        Err(_) => Err(Trouble::NotSeen),
-    }
+) -> Result<Option<Bytes>, NameFault> {
+    hooks.bound(&name(alloc, b"b")?, kind)
 }
 
-/// Whether the name that is bound to bucket `b` is this one. `NotSeen` where it can't be looked up.
-pub fn is_bound<H: Hooks>(
+/// Whether the name that is bound to bucket `b` is this one.
+pub(super) fn is_bound<H: Hooks>(
     alloc: Global,
     hooks: &mut H,
     kind: ImageKind,
     text: &[u8],
-) -> Result<bool, Trouble> {
-    match hooks.bound(&name(alloc, b"b")?, kind)? {
-        Some(bound) => Ok(bound.as_slice() == text),
-        None => Ok(false),
+) -> bool {
+    match bound(alloc, hooks, kind) {
+        Ok(Some(bound)) => bound.as_slice() == text,
+        _ => false,
     }
 }

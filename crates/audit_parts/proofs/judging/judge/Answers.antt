@@ -2,8 +2,8 @@ use Rattle.std.proofs.Common.{rules, ◌≡◌, ◌≢◌, ◌∙◌, ℕ, ◌<�
 use Rattle.journal.specs.Journals.{IsJournal}
 use Rattle.journal.specs.Logs.{Log}
 use Rattle.world.specs.Represents.{AreDistinct, log_at}
-use Rattle.audit.specs.Interleaved.{ids_of}
-use Rattle.audit.specs.Rerun.{AreJournals}
+use Rattle.rerun.specs.Interleaved.{ids_of}
+use Rattle.rerun.specs.Rerun.{AreJournals}
 use Rattle.audit_parts.proofs.Judged.{distinct_more, legal_more}
 use Rattle.audit_parts.proofs.judging.judge.Goals as goal
 

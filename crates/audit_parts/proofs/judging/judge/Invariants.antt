@@ -1,6 +1,6 @@
 use Rattle.world.specs.Represents.{AreDistinct}
-use Rattle.audit.specs.Interleaved.{ids_of}
-use Rattle.audit.specs.Rerun.{AreJournals}
+use Rattle.rerun.specs.Interleaved.{ids_of}
+use Rattle.rerun.specs.Rerun.{AreJournals}
 use Rattle.audit_parts.proofs.judging.judge.Given as goal
 
 -- the journals so far are those of vnodes with different identifiers

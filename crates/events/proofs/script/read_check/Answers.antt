@@ -2,6 +2,3 @@ use Rattle.events.proofs.script.read_check.Goals as goal
 
 pub returns-in_ok-push_check-in-Ok-clause-runnable : goal.returns-in_ok-push_check-in-Ok-clause-runnable
 returns-in_ok-push_check-in-Ok-clause-runnable g c used runnable = c.in_ok-push_check-in-Ok.ensures.runnable used _ runnable
-
-pub returns-in_ok-push_told-in-Err-Refused-clause-runnable : goal.returns-in_ok-push_told-in-Err-Refused-clause-runnable
-returns-in_ok-push_told-in-Err-Refused-clause-runnable g c used runnable = c.in_ok-push_told-in-Err-Refused.ensures.runnable used _ runnable

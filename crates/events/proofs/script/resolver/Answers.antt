@@ -4,7 +4,7 @@ use Rattle.world.specs.Resolving.{MayRun}
 use Rattle.events.proofs.Growing.{may_run}
 use Rattle.events.proofs.script.resolver.Goals as goal
 
-pub returns-in-Some : goal.returns-in-Some
-returns-in-Some g c used runnable =
-    subst (λ (hook : Program). MayRun (g.I.Images.listed c.args.images.now) hook) (sym c.in_ok-share-in-Some-Ok.ensures)
-    (may_run used (g.I.Images.listed c.args.images.now) c.args.script.now c.deref.result.now _ c.in-Some.ensures.0 c.in-Some.hook.now runnable c.deref.ensures.value c.in-Some.ensures.1)
+pub returns-in-Some-hook_at : goal.returns-in-Some-hook_at
+returns-in-Some-hook_at g c used runnable =
+    subst (λ (hook : Program). MayRun (g.I.Images.listed c.args.images.now) hook) (sym c.in_ok-share.ensures)
+    (may_run used (g.I.Images.listed c.args.images.now) c.args.script.now c.deref.result.now _ c.in-Some-hook_at.ensures.0 c.in-Some-hook_at.hook.now runnable c.deref.ensures.value c.in-Some-hook_at.ensures.1)

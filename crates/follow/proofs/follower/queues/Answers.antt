@@ -1,5 +1,5 @@
 use Rattle.journal.specs.Entry.{Entry}
-use Rattle.audit.proofs.Opening.{empties_more}
+use Rattle.rerun.proofs.Opening.{empties_more}
 use Rattle.follow.proofs.follower.queues.Goals as goal
 
 pub loop-index-preserved : goal.loop-index-preserved

@@ -1,6 +1,7 @@
 //! A connection over loopback.
 
 use crate::tests::opening::open;
+use code_parts::expect;
 use httpfront::Front;
 use listener::{Stopped, serve_all};
 use std::alloc::Global;
@@ -40,6 +41,5 @@ fn over_loopback(rt: HostRuntime) -> Result<(), Fail> {
     let client = ask(&rt, &listener)?;
     let ended = visit(rt.alloc(), &mut listener)?;
     let told = io::read_to_string(rt.alloc(), client)?;
-    assert_eq!(rt; (ended, told.as_str()), (Ok(()), TOLD));
-    Ok(())
+    expect(ended == Ok(()) && told.as_str() == TOLD, &told)
 }

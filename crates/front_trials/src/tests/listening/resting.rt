@@ -1,5 +1,6 @@
 //! A source that rests.
 
+use code_parts::expect;
 use httpfront::{FailSource, Source};
 use listener::{Pace, PacedSource};
 use std::sync::atomic::AtomicU64;
@@ -24,10 +25,7 @@ fn before_each_read(rt: HostRuntime) -> Result<(), Fail> {
     let mut first = [0u8; 8];
     let mut second = [0u8; 8];
     let told = (source.read(&mut first), source.read(&mut second));
-    assert_eq!(rt; (told, pace.0.load(SeqCst)), ((Ok(5), Ok(3)), 2));
-    assert_eq!(rt;
-        (&first[..5], &second[..3]),
-        (b"abcde".as_slice(), b"fgh".as_slice())
-    );
-    Ok(())
+    let rested = pace.0.load(SeqCst);
+    let came = (&first[..5], &second[..3]) == (b"abcde".as_slice(), b"fgh".as_slice());
+    expect((told, rested, came) == ((Ok(5), Ok(3)), 2, true), &rested)
 }

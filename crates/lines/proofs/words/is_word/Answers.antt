@@ -1,5 +1,5 @@
-use Rattle.std.proofs.Common.{◌≡◌, ◌≢◌, ◌≤◌, List, ℕ, [], ◌∷◌, length, arith, refl, sym, ap, ◌∙◌}
-use Rattle.std.specs.Prelude.{nat_le, Bool, true, false}
+use Rattle.std.proofs.Common.{◌≡◌, ◌≢◌, ◌≤◌, List, ℕ, [], ◌∷◌, length, arith, refl, sym, ◌∙◌}
+use Rattle.std.specs.Prelude.{nat_le, Bool, false}
 use Rattle.std.specs.List.{list_all}
 use Rattle.std.specs.Char.{is_ascii_alphanumeric}
 use Rattle.std.proofs.lemmas.Bool.{cond-true, eqb-false, le-leb}

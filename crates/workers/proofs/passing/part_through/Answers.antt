@@ -4,7 +4,7 @@ use Rattle.calls.specs.declared.request.Reply.{Reply}
 use Rattle.calls.specs.declared.request.Request.{Request}
 use Rattle.calls.specs.declared.request.Request.TheVariants.{Part}
 use Rattle.stamps.specs.Rule.{call_of}
-use Rattle.pool.specs.Calls.{IsNews, IsFault, outcome_ok}
+use Rattle.vnode_locks.specs.Calls.{IsNews, IsFault, outcome_ok}
 use Rattle.workers.specs.Peering.{IsPart}
 use Rattle.workers.proofs.Parts.{is_merged, is_refused}
 use Rattle.workers.proofs.passing.part_through.Goals.{in-Ok-Built-default, in-Err}

@@ -5,10 +5,10 @@ use Rattle.journal.specs.Logs.{Log}
 use Rattle.world.specs.Represents.{with_entry_at}
 use Rattle.follow.specs.Waiting.{AreTakenAlike, count_waiting}
 use Rattle.journal.specs.Stamps.{stamp_of}
-use Rattle.audit.specs.declared.fault.FollowFault.{FollowFault}
-use Rattle.audit.specs.Wrong.{IsToldOf}
+use Rattle.findings.specs.declared.fault.FollowFault.{FollowFault}
+use Rattle.rerun.specs.Wrong.{IsToldOf}
 use Rattle.follow.specs.Stops.{IsStop}
-use Rattle.audit.proofs.Opening.{passed}
+use Rattle.rerun.proofs.Opening.{passed}
 use Rattle.follow.proofs.Turns.{waits_less, alike_more}
 use Rattle.follow.proofs.run.Run.follow.Goals as goal
 

@@ -1,5 +1,5 @@
 use Rattle.std.specs.Prelude.{◌≡◌, None, length}
-use Rattle.audit.specs.Interleaved.{IsInterleaving}
+use Rattle.rerun.specs.Interleaved.{IsInterleaving}
 use Rattle.follow.specs.Waiting.{AreTakenAlike, count_waiting}
 use Rattle.follow.proofs.run.Run.follow.Given as goal
 

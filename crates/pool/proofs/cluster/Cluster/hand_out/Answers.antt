@@ -1,6 +1,6 @@
 use Rattle.std.proofs.Common.{◌+◌, ap, subst, IfSome}
 use Rattle.stamps.specs.declared.view.Size.{Size}
-use Rattle.pool.specs.Calls.{IsHandedOut}
+use Rattle.vnode_locks.specs.Calls.{IsHandedOut}
 use Rattle.pool.proofs.cluster.Cluster.hand_out.Goals as goal
 
 pub returns-clause-some : goal.returns-clause-some

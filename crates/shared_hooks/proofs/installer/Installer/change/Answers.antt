@@ -1,7 +1,7 @@
 use Rattle.std.proofs.Common.{◌++◌, ◌∷◌, [], List, sym, ap, ◌∙◌, subst}
 use Rattle.hooks.specs.Changes.{Change}
 use Rattle.hooks.specs.Tables.{Shows}
-use Rattle.shared_hooks.specs.Edits.{change_of, changes_of}
+use Rattle.hook_readers.specs.Edits.{change_of, changes_of}
 use Rattle.shared_hooks.proofs.Fronts.{one_more}
 use Rattle.shared_hooks.proofs.installer.Installer.change.Goals as goal
 

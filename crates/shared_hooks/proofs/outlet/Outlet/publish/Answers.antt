@@ -2,7 +2,7 @@ use Rattle.std.proofs.Common.{◌≡◌, fold, [], ◌++◌, MatchResult, sym, a
 use Rattle.std.proofs.lemmas.List.{append-nil}
 use Rattle.std.proofs.lemmas.Result.{MatchResult-weaker}
 use Rattle.left_right.specs.Handles.{pending, published}
-use Rattle.shared_hooks.specs.Edits.{last_of}
+use Rattle.shared_hooks.specs.Lists.{last_of}
 use Rattle.shared_hooks.proofs.Fronts.{last_of_applied, shown_begins, still_agreed}
 use Rattle.shared_hooks.proofs.outlet.Outlet.publish.Goals as goal
 

@@ -3,9 +3,10 @@ use mathlib.Core.List.{IsPrefix}
 use Rattle.std.proofs.lemmas.Bool.Decides.{nat_tests}
 use Rattle.left_right.specs.Handles.{published}
 use Rattle.fronts.proofs.Fronts.{prefix_trans}
-use Rattle.shared_hooks.specs.declared.edit.Edit.{Edit}
-use Rattle.shared_hooks.specs.Edits.{changes_of}
-use Rattle.shared_hooks.proofs.Fronts.{begins, begins_by, as_long, changes_prefix}
+use Rattle.hook_readers.specs.declared.edit.Edit.{Edit}
+use Rattle.hook_readers.specs.Edits.{changes_of}
+use Rattle.hook_readers.proofs.Fronts.{changes_prefix}
+use Rattle.shared_hooks.proofs.Fronts.{begins, begins_by, as_long}
 use Rattle.shared_hooks.proofs.outlet.Outlet.shows_all.Given.{Over}
 use Rattle.shared_hooks.proofs.outlet.Outlet.shows_all.Goals as goal
 

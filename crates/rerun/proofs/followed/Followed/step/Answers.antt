@@ -1,0 +1,68 @@
+use Rattle.std.proofs.Common.{◌≡◌, ◌∙◌, arith, ap, ℕ, ◌<◌, List, [], ◌∷◌, ◌++◌, Some, length, get_or, set, sym, subst}
+use Rattle.journal.specs.Answers.{Answers}
+use Rattle.journal.specs.Journals.{MayFollow}
+use Rattle.journal.specs.Logs.{Log, with_entry}
+use Rattle.world.specs.Represents.{log_at, with_entry_at}
+use Rattle.rerun.proofs.Sorting.{same_default}
+use Rattle.rerun.specs.Again.{answer_of}
+use Rattle.rerun.specs.declared.kept.Kept.{Kept}
+use Rattle.rerun.specs.Followed.{HasFollowed, kept_of}
+use Rattle.rerun.specs.Kept.{MayLack}
+use Rattle.rerun.specs.Wrong.{IsNewest, IsToldOf}
+use Rattle.findings.specs.declared.fault.FollowFault.{FollowFault}
+use Rattle.findings.specs.declared.fault.FollowFault.TheVariants.{NoMemory}
+use Rattle.rerun.proofs.Going.{followed_more}
+use Rattle.rerun.proofs.Opening.{passed}
+use Rattle.rerun.proofs.Telling.{lacked, newest_more}
+use Rattle.rerun.proofs.followed.Followed.step.Goals as goal
+
+pub returns-clause-run : goal.returns-clause-run
+returns-clause-run c =
+    let logs = c.args.self.now.vnodes.items in
+    let answers = c.args.self.now.answers.items in
+    let last = c.args.self.now.last in
+    let recent = c.args.self.now.recent in
+    let i = c.args.index in
+    let e = c.args.entry.now in
+    let a = answer_of c.in-Ok.again in
+    let run = c.requires.run in
+    let inside : i < length logs = c.requires.inside in
+    let also : i < length answers = omega (arith, c.requires.inside, run.kept.size) in
+    let vnode : c.index_mut.result.now ≡ log_at logs i = c.index_mut.ensures.value ∙ same_default logs i c.index_mut.result.now (record { vnode = 0; entries = [] }) inside in
+    let list : c.index_mut-2.result.now ≡ get_or answers i [] = c.index_mut-2.ensures.value ∙ same_default answers i c.index_mut-2.result.now [] also in
+    let follows : MayFollow (log_at logs i).vnode (log_at logs i).entries e = subst (λ (l : Log). MayFollow l.vnode l.entries e) vnode c.in-Ok.ensures.legal in
+    let answer : Answers (log_at logs i).vnode (log_at logs i).entries e a = subst (λ (l : Log). Answers l.vnode l.entries e a) vnode c.in-Ok.ensures.answer in
+    let lack : MayLack recent (get_or answers i [] ++ kept_of e a ∷ []) c.keep.new.self =
+    subst (λ (xs : List Kept). MayLack recent (xs ++ kept_of e a ∷ []) c.keep.new.self) list
+    (subst (λ (k : Kept). MayLack recent (c.index_mut-2.result.now ++ k ∷ []) c.keep.new.self) c.in_ok-kept.ensures c.in_ok-keep.ensures) in
+    let vnodes : c.happen.new.vnode ≡ with_entry (log_at logs i) e = c.in-Ok.ensures.entry ∙ ap (λ (l : Log). with_entry l e) vnode in
+    subst (λ (l : Log). HasFollowed (set logs i l) (Some c.stamp.result) recent (set answers i c.keep.new.self)) (sym vnodes)
+    (subst (λ (s : ℕ). HasFollowed (with_entry_at logs i e) (Some s) recent (set answers i c.keep.new.self)) (sym c.stamp.ensures)
+    (followed_more logs last recent answers i e a c.keep.new.self run inside follows answer c.requires.above c.requires.source lack))
+
+pub returns-clause-newest : goal.returns-clause-newest
+returns-clause-newest c =
+    let logs = c.args.self.now.vnodes.items in
+    let i = c.args.index in
+    let e = c.args.entry.now in
+    let inside : i < length logs = c.requires.inside in
+    let vnode : c.index_mut.result.now ≡ log_at logs i = c.index_mut.ensures.value ∙ same_default logs i c.index_mut.result.now (record { vnode = 0; entries = [] }) inside in
+    let vnodes : c.happen.new.vnode ≡ with_entry (log_at logs i) e = c.in-Ok.ensures.entry ∙ ap (λ (l : Log). with_entry l e) vnode in
+    subst (λ (l : Log). IsNewest (set logs i l) (Some c.stamp.result) i) (sym vnodes) (subst (λ (s : ℕ). IsNewest (with_entry_at logs i e) (Some s) i) (sym c.stamp.ensures) (newest_more logs i e inside))
+
+pub returns-in-Err-NoMemory-clause-told : goal.returns-in-Err-NoMemory-clause-told
+returns-in-Err-NoMemory-clause-told c =
+    let own = c.args.self.now in
+    lacked own.vnodes.items own.last own.recent own.answers.items c.args.index c.args.entry.now c.requires.run c.requires.above c.requires.source
+
+pub returns-in_err-kept-clause-told : goal.returns-in_err-kept-clause-told
+returns-in_err-kept-clause-told c =
+    let own = c.args.self.now in
+    passed c.from_residual.result NoMemory (λ (fault : FollowFault). IsToldOf own.vnodes.items own.recent c.args.index c.args.entry.now fault) c.from_residual.ensures.1
+    (lacked own.vnodes.items own.last own.recent own.answers.items c.args.index c.args.entry.now c.requires.run c.requires.above c.requires.source)
+
+pub returns-in_err-keep-clause-told : goal.returns-in_err-keep-clause-told
+returns-in_err-keep-clause-told c =
+    let own = c.args.self.now in
+    passed c.from_residual-in_err-keep.result NoMemory (λ (fault : FollowFault). IsToldOf own.vnodes.items own.recent c.args.index c.args.entry.now fault) c.from_residual-in_err-keep.ensures.1
+    (lacked own.vnodes.items own.last own.recent own.answers.items c.args.index c.args.entry.now c.requires.run c.requires.above c.requires.source)

@@ -1,0 +1,89 @@
+-- What was followed of some vnodes' journals: their fronts, in the order of stamps, as a run of the world.
+use Rattle.std.specs.Prelude.{◌≡◌, ◌<◌, ◌≤◌, ◌+◌, ℕ, List, [], length, take, slice_get, slice_index_or, Option, Some, MatchOption, Contains}
+use Rattle.std.specs.List.Sorted.{IsPermutation}
+use Rattle.object.specs.declared.content.Key.{Key}
+use Rattle.object.specs.State.{State}
+use Rattle.journal.specs.Answers.{Answer, numbered, changed, copied, done}
+use Rattle.journal.specs.Entry.{Entry, Put, Read, Merge, Restart}
+use Rattle.journal.specs.Logs.{Log}
+use Rattle.journal.specs.Replay.{IsReplay}
+use Rattle.journal.specs.Stamps.{stamp_of}
+use Rattle.world.specs.declared.event.Message.{Message}
+use Rattle.world.specs.Represents.{log_at}
+use Rattle.rerun.specs.Order.{Step, steps_of, Rise}
+use Rattle.rerun.specs.Rerun.{IsSoFar}
+use Rattle.rerun.specs.Turns.{EntryIn}
+use Rattle.rerun.specs.declared.kept.Kept.{Kept}
+use Rattle.rerun.specs.declared.kept.Kept.TheVariants as kept
+
+-- what is kept at a place of the vnode with this index
+abbrev pub kept_at : List (List Kept) → ℕ → ℕ → Option Kept
+kept_at answers index place = slice_get (slice_index_or answers index []) place
+
+-- an entry is no read
+abbrev pub IsNoRead : Entry → Type 0
+IsNoRead (Read stamp key) = ⊥
+IsNoRead (Put stamp key seen content dot) = Unit {0}
+IsNoRead (Merge stamp key from at state) = Unit {0}
+IsNoRead (Restart stamp) = Unit {0}
+
+-- a read at a place answered a state, and is a step that sent it
+pub record IsReadKept (logs : List Log) (order : List Step) (messages : List (Option Message)) (index place : ℕ) (key : Key) (state : State) : Type 0 where
+  pub stamp : ℕ
+  pub there : EntryIn logs index place (Read stamp key)
+  pub answer : IsReplay (take place (log_at logs index).entries) key state
+  pub number : ℕ
+  pub step : slice_get order number ≡ Some (record { vnode = index; place = place; entry = Read stamp key })
+  pub sent : slice_get messages number ≡ Some (Some (record { key = key; from = (log_at logs index).vnode; at = place; state = state }))
+
+-- what is kept at a place is so
+abbrev pub IsKept : List Log → List Step → List (Option Message) → ℕ → ℕ → Kept → Type 0
+IsKept logs order messages index place (kept.Read key state) = IsReadKept logs order messages index place key state
+IsKept logs order messages index place kept.Other = (e : Entry) × EntryIn logs index place e × IsNoRead e
+IsKept logs order messages index place kept.GivenUp = Unit {0}
+
+-- what is kept of each entry that was followed; of the last ones at each vnode, so many as are recent, nothing was given up
+pub record AreKept (logs : List Log) (order : List Step) (messages : List (Option Message)) (recent : ℕ) (answers : List (List Kept)) : Type 0 where
+  pub size : length answers ≡ length logs
+  pub lengths : (index : ℕ) → index < length logs → length (slice_index_or answers index []) ≡ length (log_at logs index).entries
+  pub each : (index place : ℕ) (what : Kept) → index < length logs → kept_at answers index place ≡ Some what → IsKept logs order messages index place what
+  pub recently : (index place : ℕ) → index < length logs → kept_at answers index place ≡ Some kept.GivenUp → place + recent < length (log_at logs index).entries
+
+-- no stamp of these steps is above the last one
+abbrev pub AreBelow : Option ℕ → List Step → Type 0
+AreBelow last order = MatchOption last (order ≡ []) (λ stamp. (s : Step) → Contains order s → stamp_of s.entry ≤ stamp)
+
+-- These entries happened, each the event that it says, in the order of their stamps, up to the last one; and of each it is kept what it answered.
+pub record HasFollowed (logs : List Log) (last : Option ℕ) (recent : ℕ) (answers : List (List Kept)) : Type 0 where
+  pub order : List Step
+  pub messages : List (Option Message)
+  pub so_far : IsSoFar logs order logs messages
+  pub all : IsPermutation (steps_of 0 logs) order
+  pub rising : Rise 0 order
+  pub below : AreBelow last order
+  pub kept : AreKept logs order messages recent answers
+
+-- a stamp is above the last one
+abbrev pub IsAbove : Option ℕ → ℕ → Type 0
+IsAbove last stamp = MatchOption last (Unit {0}) (λ before. before < stamp)
+
+-- a merge names a read of its key that is kept, which answered its state
+abbrev pub IsSourceKept : List Log → List (List Kept) → Key → ℕ → ℕ → State → Type 0
+IsSourceKept logs answers key from at state = (index : ℕ) × (index < length logs) × ((log_at logs index).vnode ≡ from) × (kept_at answers index at ≡ Some (kept.Read key state))
+
+-- an entry that is a merge has its source
+abbrev pub HasSource : List Log → List (List Kept) → Entry → Type 0
+HasSource logs answers (Merge stamp key from at state) = IsSourceKept logs answers key from at state
+HasSource logs answers (Put stamp key seen content dot) = Unit {0}
+HasSource logs answers (Read stamp key) = Unit {0}
+HasSource logs answers (Restart stamp) = Unit {0}
+
+-- what is kept of an entry that answered so
+abbrev pub kept_of : Entry → Answer → Kept
+kept_of (Read stamp key) (copied state) = kept.Read key state
+kept_of (Read stamp key) (numbered dot) = kept.Other
+kept_of (Read stamp key) (changed changes) = kept.Other
+kept_of (Read stamp key) done = kept.Other
+kept_of (Put stamp key seen content dot) answer = kept.Other
+kept_of (Merge stamp key from at state) answer = kept.Other
+kept_of (Restart stamp) answer = kept.Other

@@ -1,0 +1,110 @@
+-- Why entries stop happening again: what is wrong with the one that is next.
+use Rattle.std.specs.Prelude.{◌≡◌, ◌≢◌, ◌<◌, ◌≤◌, ◌+◌, ◌⊎◌, ℕ, List, length, take, Option, Some, None, MatchOption}
+use Rattle.object.specs.declared.content.Key.{Key}
+use Rattle.object.specs.State.{State}
+use Rattle.journal.specs.Entry.{Entry, Put, Read, Merge, Restart}
+use Rattle.journal.specs.Journals.{MayFollow}
+use Rattle.journal.specs.Logs.{Log}
+use Rattle.journal.specs.Replay.{IsReplay}
+use Rattle.journal.specs.Stamps.{stamp_of}
+use Rattle.world.specs.Represents.{log_at}
+use Rattle.rerun.specs.Turns.{EntryIn}
+use Rattle.findings.specs.declared.fault.FollowCode.{FollowCode}
+use Rattle.findings.specs.declared.fault.FollowCode.TheVariants.{Twice, Falls, NoSource, OtherState, GivenUp, Late, Illegal}
+use Rattle.findings.specs.declared.fault.FollowFault.{FollowFault}
+use Rattle.findings.specs.declared.fault.FollowFault.TheVariants.{Found, NoMemory}
+use Rattle.rerun.specs.declared.kept.Kept.{Kept}
+use Rattle.rerun.specs.declared.kept.Kept.TheVariants as kept
+use Rattle.rerun.specs.Followed.{kept_at}
+
+-- a read of this key stands at a place of the vnode with an identifier
+abbrev pub IsReadAt : List Log → ℕ → ℕ → Key → Type 0
+IsReadAt logs from at key = (index : ℕ) × ((log_at logs index).vnode ≡ from) × ((stamp : ℕ) × EntryIn logs index at (Read stamp key))
+
+-- what the read of a key that stands there answered: what the entries before it leave
+abbrev pub IsAnswerAt : List Log → ℕ → ℕ → Key → State → Type 0
+IsAnswerAt logs from at key state = (index : ℕ) × (index < length logs) × ((log_at logs index).vnode ≡ from) × IsReplay (take at (log_at logs index).entries) key state
+
+-- What is wrong with an entry that is the next one of the vnode with this index, where these entries were followed, and of so many of the last
+-- ones of each vnode answers were kept.
+abbrev pub IsWrong : List Log → ℕ → ℕ → Entry → FollowCode → Type 0
+-- its stamp stands in the journal of another vnode
+IsWrong logs recent index e Twice = (other place : ℕ) × (a : Entry) × EntryIn logs other place a × (other ≢ index) × (stamp_of a ≡ stamp_of e)
+-- its stamp is not above that of the entry before it in its journal
+IsWrong logs recent index e Falls = (place : ℕ) × (a : Entry) × EntryIn logs index place a × (place + 1 ≡ length (log_at logs index).entries) × (stamp_of e ≤ stamp_of a)
+-- it is a merge that names no earlier read of its key
+IsWrong logs recent index e NoSource = (stamp : ℕ) × (key : Key) × (from at : ℕ) × (state : State) × (e ≡ Merge stamp key from at state) × (IsReadAt logs from at key → ⊥)
+-- it is a merge that names an earlier read of its key, which answered another state
+IsWrong logs recent index e OtherState = (stamp : ℕ) × (key : Key) × (from at : ℕ) × (state : State) × (e ≡ Merge stamp key from at state) × IsReadAt logs from at key × (IsAnswerAt logs from at key state → ⊥)
+-- it is a merge that names an earlier entry, after which more were followed of that vnode than answers are kept of
+IsWrong logs recent index e GivenUp =
+    (stamp : ℕ) × (key : Key) × (from at : ℕ) × (state : State) × (e ≡ Merge stamp key from at state) × ((other : ℕ) × (other < length logs) × ((log_at logs other).vnode ≡ from) × (at + recent < length (log_at logs other).entries))
+-- its stamp is below that of one that was followed
+IsWrong logs recent index e Late = (other place : ℕ) × (a : Entry) × EntryIn logs other place a × (stamp_of e < stamp_of a)
+-- it may not follow those before it in its journal
+IsWrong logs recent index e Illegal = MayFollow (log_at logs index).vnode (log_at logs index).entries e → ⊥
+
+-- an entry that is a merge names an earlier read of its key, which answered its state
+abbrev pub HasReadOf : List Log → Entry → Type 0
+HasReadOf logs (Merge stamp key from at state) = IsReadAt logs from at key × IsAnswerAt logs from at key state
+HasReadOf logs (Put stamp key seen content dot) = Unit {0}
+HasReadOf logs (Read stamp key) = Unit {0}
+HasReadOf logs (Restart stamp) = Unit {0}
+
+-- an entry's stamp is above those of all that were followed
+abbrev pub IsAfterAll : List Log → Entry → Type 0
+IsAfterAll logs e = (index place : ℕ) (a : Entry) → EntryIn logs index place a → stamp_of a < stamp_of e
+
+-- what is told of the next entry of the vnode with this index: what is wrong with it, at its identifier and place; or memory was refused, and none of
+-- these faults, but that it may not be legal
+abbrev pub IsToldOf : List Log → ℕ → ℕ → Entry → FollowFault → Type 0
+IsToldOf logs recent index e (Found code vnode place) = ((log_at logs index).vnode ≡ vnode) × (length (log_at logs index).entries ≡ place) × IsWrong logs recent index e code
+IsToldOf logs recent index e NoMemory = IsAfterAll logs e × HasReadOf logs e
+
+-- ---- how the faults are found
+
+-- the entry that was followed last is the last one of the vnode with this index, and has the last stamp
+abbrev pub IsNewest : List Log → Option ℕ → ℕ → Type 0
+IsNewest logs last newest = MatchOption last (Unit {0}) (λ stamp. (place : ℕ) × (a : Entry) × EntryIn logs newest place a × (place + 1 ≡ length (log_at logs newest).entries) × (stamp_of a ≡ stamp))
+
+-- a stamp that isn't above the last one, which was that of the vnode with index newest
+abbrev pub IsStampWrong : ℕ → ℕ → ℕ → ℕ → FollowCode → Type 0
+IsStampWrong last newest index stamp Falls = (newest ≡ index) × (stamp ≤ last)
+IsStampWrong last newest index stamp Twice = (newest ≢ index) × (last ≡ stamp)
+IsStampWrong last newest index stamp Late = stamp < last
+IsStampWrong last newest index stamp NoSource = ⊥
+IsStampWrong last newest index stamp OtherState = ⊥
+IsStampWrong last newest index stamp GivenUp = ⊥
+IsStampWrong last newest index stamp Illegal = ⊥
+
+abbrev pub IsStampFault : Option ℕ → ℕ → ℕ → ℕ → FollowCode → Type 0
+IsStampFault last newest index stamp code = MatchOption last ⊥ (λ before. IsStampWrong before newest index stamp code)
+
+-- no read of this key is kept at a place
+abbrev pub IsNotKept : List (List Kept) → ℕ → ℕ → Key → Type 0
+IsNotKept answers index at key = (kept_at answers index at ≡ None) ⊎ (kept_at answers index at ≡ Some kept.Other) ⊎ ((other : Key) × (state : State) × (kept_at answers index at ≡ Some (kept.Read other state)) × (other ≢ key))
+
+-- the vnode with this index has that identifier
+abbrev pub IsIndexOf : List Log → ℕ → ℕ → Type 0
+IsIndexOf logs index from = (index < length logs) × ((log_at logs index).vnode ≡ from)
+
+-- what is kept where a merge names an entry
+abbrev pub IsMergeFault : List Log → List (List Kept) → Key → ℕ → ℕ → State → FollowCode → Type 0
+IsMergeFault logs answers key from at state NoSource = ((index : ℕ) → index < length logs → (log_at logs index).vnode ≢ from) ⊎ ((index : ℕ) × IsIndexOf logs index from × IsNotKept answers index at key)
+IsMergeFault logs answers key from at state OtherState = (index : ℕ) × IsIndexOf logs index from × ((other : State) × (kept_at answers index at ≡ Some (kept.Read key other)) × (other ≢ state))
+IsMergeFault logs answers key from at state GivenUp = (index : ℕ) × IsIndexOf logs index from × (kept_at answers index at ≡ Some kept.GivenUp)
+IsMergeFault logs answers key from at state Twice = ⊥
+IsMergeFault logs answers key from at state Falls = ⊥
+IsMergeFault logs answers key from at state Late = ⊥
+IsMergeFault logs answers key from at state Illegal = ⊥
+
+-- the same of an entry, which is a merge
+abbrev pub IsSourceFault : List Log → List (List Kept) → Entry → FollowCode → Type 0
+IsSourceFault logs answers (Merge stamp key from at state) code = IsMergeFault logs answers key from at state code
+IsSourceFault logs answers (Put stamp key seen content dot) code = ⊥
+IsSourceFault logs answers (Read stamp key) code = ⊥
+IsSourceFault logs answers (Restart stamp) code = ⊥
+
+-- what an entry is found to be
+abbrev pub IsFoundWrong : List Log → List (List Kept) → Option ℕ → ℕ → ℕ → Entry → FollowCode → Type 0
+IsFoundWrong logs answers last newest index e code = IsStampFault last newest index (stamp_of e) code ⊎ IsSourceFault logs answers e code

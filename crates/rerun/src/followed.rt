@@ -1,0 +1,240 @@
+//! What was followed of some vnodes.
+
+ghost use Rattle.std.specs.Prelude.{◌≡◌, ◌≢◌, ◌<◌, ℕ, IfOk, IfErr, OnOk, MatchOption, Err, None, Some, length};
+ghost use Rattle.journal.specs.Stamps.{stamp_of};
+ghost use Rattle.world.specs.Represents.{AreDistinct, empty_logs, log_at, with_entry_at};
+ghost use Rattle.rerun.specs.Again.{answer_of};
+ghost use Rattle.rerun.specs.Wrong.{IsNewest, IsStampFault, IsMergeFault, IsSourceFault, IsFoundWrong, IsAfterAll, HasReadOf, IsToldOf};
+ghost use Rattle.rerun.specs.Followed.{HasFollowed, HasSource, IsAbove, IsSourceKept, kept_of};
+
+use crate::again::{Again, Refusal, happen};
+use crate::kept::{Answers, Found, Kept};
+use findings::{FollowCode, FollowFault};
+use journal::{Entry, Said};
+use object::{Key, KeyState};
+use std::alloc::{AllocError, Global};
+use vnode::Vnode;
+
+/// The vnode with an identifier.
+pub(crate) fn index_of(vnodes: &[Vnode], id: u32) -> Option<usize>
+    ensures { let logs = vnodes.now in MatchOption result ((index : ℕ) → index < length logs → (log_at logs index).vnode ≢ id) (λ index. (index < length logs) × ((log_at logs index).vnode ≡ id)) }
+{
+    for index in 0..vnodes.len() {
+        if vnodes[index].id() == id {
+            return Some(index);
+        }
+    }
+    None
+}
+
+// Whether a merge's state is what the read that it names answered.
+fn check_merge(
+    vnodes: &[Vnode],
+    answers: &[Answers],
+    key: &Key,
+    from: u32,
+    at: u32,
+    state: &KeyState,
+) -> Result<(), FollowCode>
+    requires size { length answers.now ≡ length vnodes.now }
+    ensures ok { OnOk result (IsSourceKept vnodes.now answers.now key.now from at state.now) }
+    ensures err { IfErr result (λ code. IsMergeFault vnodes.now answers.now key.now from at state.now code) }
+{
+    let Some(index) = index_of(vnodes, from) else {
+        return Err(FollowCode::NoSource);
+    };
+    match answers[index].at(at) {
+        Found::Nothing => Err(FollowCode::NoSource),
+        Found::GivenUp => Err(FollowCode::GivenUp),
+        Found::Read(own, answer) => {
+            if own != key {
+                return Err(FollowCode::NoSource);
+            }
+            if !answer.is_same(state) {
+                return Err(FollowCode::OtherState);
+            }
+            Ok(())
+        }
+    }
+}
+
+// What is kept of an entry that answered so.
+fn keep_answer(entry: &Entry, again: Again) -> Result<Kept, AllocError>
+    ensures { IfOk result (λ kept. kept ≡ kept_of entry.now (answer_of again)) }
+{
+    match (entry.said(), again) {
+        (Said::Read { key, .. }, Again::Copied(state)) => Ok(Kept::Read(key.copy()?, state)),
+        _ => Ok(Kept::Other),
+    }
+}
+
+/// What was followed of some vnodes, and what is kept of it.
+#[derive(Drop)]
+pub(crate) struct Followed {
+    pub(crate) vnodes: Vec<Vnode>,
+    pub(crate) answers: Vec<Answers>,
+    /// The highest stamp, and whose it was.
+    pub(crate) last: Option<u64>,
+    pub(crate) last_index: usize,
+    /// Of so many entries of each vnode, the last ones, answers are kept.
+    pub(crate) recent: usize,
+    /// The fault that was found, after which nothing is followed.
+    pub(crate) fault: Option<FollowFault>,
+}
+
+/// Nothing was followed of vnodes with these identifiers.
+pub(crate) fn open(alloc: Global, ids: &[u32], recent: usize) -> Result<Followed, AllocError>
+    requires distinct { AreDistinct ids.now }
+    ensures run { IfOk result (λ followed. HasFollowed followed.vnodes.items followed.last followed.recent followed.answers.items) }
+    ensures newest { IfOk result (λ followed. IsNewest followed.vnodes.items followed.last followed.last_index) }
+    ensures recent { IfOk result (λ followed. followed.recent ≡ recent) }
+    ensures vnodes { IfOk result (λ followed. followed.vnodes.items ≡ empty_logs ids.now) }
+    ensures fault { IfOk result (λ followed. followed.fault ≡ None) }
+{
+    let mut vnodes = Vec::new(alloc);
+    let mut answers = Vec::new(alloc);
+    for index in 0..ids.len() {
+        vnodes.push(Vnode::new(alloc, ids[index]))?;
+        answers.push(Answers::new(alloc))?;
+    }
+    Ok(Followed {
+        vnodes,
+        answers,
+        last: None,
+        last_index: 0,
+        recent,
+        fault: None,
+    })
+}
+
+impl Followed {
+    // Whether an entry's stamp is above the last one.
+    fn check_stamp(&self, index: usize, stamp: u64) -> Result<(), FollowCode>
+        ensures ok { OnOk result (IsAbove self.now.last stamp) }
+        ensures err { IfErr result (λ code. IsStampFault self.now.last self.now.last_index index stamp code) }
+    {
+        match self.last {
+            Some(last) => {
+                if last < stamp {
+                    Ok(())
+                } else if self.last_index == index {
+                    Err(FollowCode::Falls)
+                } else if last == stamp {
+                    Err(FollowCode::Twice)
+                } else {
+                    Err(FollowCode::Late)
+                }
+            }
+            None => Ok(()),
+        }
+    }
+
+    // Whether an entry is no merge, or has its source.
+    fn check_source(&self, entry: &Entry) -> Result<(), FollowCode>
+        requires size { length self.now.answers.items ≡ length self.now.vnodes.items }
+        ensures ok { OnOk result (HasSource self.now.vnodes.items self.now.answers.items entry.now) }
+        ensures err { IfErr result (λ code. IsSourceFault self.now.vnodes.items self.now.answers.items entry.now code) }
+    {
+        match entry.said() {
+            Said::Merge {
+                key,
+                from,
+                at,
+                state,
+                ..
+            } => check_merge(&self.vnodes, &self.answers, key, from, at, state),
+            _ => Ok(()),
+        }
+    }
+
+    /// Whether an entry may be the next one of all, but that it may not follow those at its vnode.
+    pub(crate) fn check(&self, index: usize, entry: &Entry) -> Result<(), FollowCode>
+        requires size { length self.now.answers.items ≡ length self.now.vnodes.items }
+        ensures above { OnOk result (IsAbove self.now.last (stamp_of entry.now)) }
+        ensures source { OnOk result (HasSource self.now.vnodes.items self.now.answers.items entry.now) }
+        ensures err { IfErr result (λ code. IsFoundWrong self.now.vnodes.items self.now.answers.items self.now.last self.now.last_index index entry.now code) }
+    {
+        match self.check_stamp(index, entry.stamp()) {
+            Ok(()) => self.check_source(entry),
+            Err(code) => Err(code),
+        }
+    }
+
+    // What is wrong with the next entry of a vnode.
+    fn fault_at(&self, index: usize, code: FollowCode) -> FollowFault
+        requires inside { index < length self.now.vnodes.items }
+        ensures { result ≡ FollowFault.Found code (log_at self.now.vnodes.items index).vnode (length (log_at self.now.vnodes.items index).entries) }
+    {
+        FollowFault::Found {
+            code,
+            vnode: self.vnodes[index].id(),
+            place: self.vnodes[index].journal().len(),
+        }
+    }
+
+    /// Stops at what is wrong with the next entry of a vnode.
+    pub(crate) fn stop(&mut self, index: usize, code: FollowCode) -> Result<(), FollowFault>
+        requires inside { index < length self.old.vnodes.items }
+        ensures err { result ≡ Err (FollowFault.Found code (log_at self.old.vnodes.items index).vnode (length (log_at self.old.vnodes.items index).entries)) }
+        ensures fault { IfErr result (λ fault. self.new ≡ record self.old { fault = Some fault }) }
+    {
+        let fault = self.fault_at(index, code);
+        self.fault = Some(fault);
+        Err(fault)
+    }
+
+    // An entry of a vnode happens again.
+    fn step(&mut self, alloc: Global, index: usize, entry: &Entry) -> Result<(), FollowFault>
+        requires run { HasFollowed self.old.vnodes.items self.old.last self.old.recent self.old.answers.items }
+        requires inside { index < length self.old.vnodes.items }
+        requires above { IsAbove self.old.last (stamp_of entry.now) }
+        requires source { HasSource self.old.vnodes.items self.old.answers.items entry.now }
+        ensures run { OnOk result (HasFollowed self.new.vnodes.items self.new.last self.new.recent self.new.answers.items) }
+        ensures next { OnOk result (self.new.vnodes.items ≡ with_entry_at self.old.vnodes.items index entry.now) }
+        ensures newest { OnOk result (IsNewest self.new.vnodes.items self.new.last self.new.last_index) }
+        ensures size { length self.new.vnodes.items ≡ length self.old.vnodes.items }
+        ensures recent { self.new.recent ≡ self.old.recent }
+        ensures fault { self.new.fault ≡ self.old.fault }
+        ensures told { IfErr result (λ fault. IsToldOf self.old.vnodes.items self.old.recent index entry.now fault) }
+    {
+        let illegal = self.fault_at(index, FollowCode::Illegal);
+        let again = match happen(alloc, &mut self.vnodes[index], entry) {
+            Ok(again) => again,
+            Err(Refusal::Illegal) => return Err(illegal),
+            Err(Refusal::NoMemory) => return Err(FollowFault::NoMemory),
+        };
+        let kept = keep_answer(entry, again)?;
+        self.answers[index].keep(kept, self.recent)?;
+        self.last = Some(entry.stamp());
+        self.last_index = index;
+        Ok(())
+    }
+
+    /// An entry of a vnode happens again, or nothing is followed any more.
+    pub(crate) fn go_on(
+        &mut self,
+        alloc: Global,
+        index: usize,
+        entry: &Entry,
+    ) -> Result<(), FollowFault>
+        requires run { HasFollowed self.old.vnodes.items self.old.last self.old.recent self.old.answers.items }
+        requires inside { index < length self.old.vnodes.items }
+        requires above { IsAbove self.old.last (stamp_of entry.now) }
+        requires source { HasSource self.old.vnodes.items self.old.answers.items entry.now }
+        ensures run { OnOk result (HasFollowed self.new.vnodes.items self.new.last self.new.recent self.new.answers.items) }
+        ensures next { OnOk result (self.new.vnodes.items ≡ with_entry_at self.old.vnodes.items index entry.now) }
+        ensures newest { OnOk result (IsNewest self.new.vnodes.items self.new.last self.new.last_index) }
+        ensures right { OnOk result (IsAfterAll self.old.vnodes.items entry.now × HasReadOf self.old.vnodes.items entry.now) }
+        ensures size { length self.new.vnodes.items ≡ length self.old.vnodes.items }
+        ensures recent { self.new.recent ≡ self.old.recent }
+        ensures going { OnOk result (self.new.fault ≡ self.old.fault) }
+        ensures fault { IfErr result (λ fault. self.new.fault ≡ Some fault) }
+        ensures told { IfErr result (λ fault. IsToldOf self.old.vnodes.items self.old.recent index entry.now fault) }
+    {
+        let gone = self.step(alloc, index, entry);
+        if let Err(fault) = gone {
+            self.fault = Some(fault);
+        }
+        gone
+    }
+}

@@ -1,0 +1,20 @@
+//! Entries of several vnodes happen again: one after another as they come, or all of some journals in the order of their stamps, with the
+//! tests that an audit is made of.
+#![tactic(auto)]
+
+mod again;
+mod audit_fault;
+mod followed;
+mod heads;
+mod kept;
+mod rerun;
+mod sources;
+mod stamps;
+mod turns;
+
+pub use again::{Again, Refusal, happen};
+pub use audit_fault::{AuditCode, AuditFault};
+pub use findings::{FollowCode, FollowFault};
+pub use rerun::Rerun;
+pub use sources::check_sources;
+pub use stamps::{check_rising, check_single};

@@ -1,0 +1,112 @@
+//! Entries of several vnodes happen again, one after another.
+
+ghost use Rattle.std.specs.Prelude.{◌≡◌, ◌≢◌, ◌<◌, ◌≤◌, ◌^◌, ℕ, IfOk, IfErr, OnOk, MatchOption, None, Some, length};
+ghost use Rattle.world.specs.Represents.{AreDistinct, empty_logs, log_at, with_entry_at};
+ghost use Rattle.rerun.specs.Interleaved.{IsInterleaving};
+ghost use Rattle.rerun.specs.Wrong.{IsAfterAll, HasReadOf, IsToldOf};
+
+use crate::followed::{Followed, index_of, open};
+use findings::FollowFault;
+use journal::Entry;
+use std::alloc::{AllocError, Global};
+use std::marker::Model;
+
+/// Entries of several vnodes that happen again, one after another, at vnodes of its own that settle. As long as it has found no
+/// fault, all that has happened is one run of the world.
+#[derive(Drop)]
+pub struct Rerun {
+    alloc: Global,
+    followed: Followed,
+}
+
+impl Model for Rerun {
+    ghost use Rattle.std.specs.Prelude.{◌≡◌, None};
+    ghost use Rattle.rerun.specs.Followed.{HasFollowed};
+    ghost use Rattle.rerun.specs.Wrong.{IsNewest};
+    ghost use Rattle.rerun.specs.Reran.{Reran};
+
+    ghost Value = { Reran };
+
+    ghost view = { λ r. record { logs = r.followed.vnodes.items; fault = r.followed.fault; recent = r.followed.recent } };
+
+    ghost invariant = { λ r. r.followed.fault ≡ None → HasFollowed r.followed.vnodes.items r.followed.last r.followed.recent r.followed.answers.items × IsNewest r.followed.vnodes.items r.followed.last r.followed.last_index };
+}
+
+impl Rerun {
+    /// Nothing has happened at vnodes with these identifiers. Of each vnode it is kept what the last entries answered, so many as are
+    /// recent: a merge may name any of these.
+    pub fn new(alloc: Global, ids: &[u32], recent: usize) -> Result<Rerun, AllocError>
+        requires distinct { AreDistinct ids.now }
+        ensures logs { IfOk result (λ rerun. rerun.logs ≡ empty_logs ids.now) }
+        ensures run { IfOk result (λ rerun. IsInterleaving rerun.logs) }
+        ensures fault { IfOk result (λ rerun. rerun.fault ≡ None) }
+        ensures recent { IfOk result (λ rerun. rerun.recent ≡ recent) }
+    {
+        Ok(Rerun {
+            alloc,
+            followed: open(alloc, ids, recent)?,
+        })
+    }
+
+    /// How many vnodes there are.
+    pub fn count(&self) -> usize
+        ensures { result ≡ length self.now.logs }
+    {
+        self.followed.vnodes.len()
+    }
+
+    /// The identifier of the vnode with this index.
+    pub fn id(&self, index: usize) -> u32
+        requires inside { index < length self.now.logs }
+        ensures { result ≡ (log_at self.now.logs index).vnode }
+    {
+        self.followed.vnodes[index].id()
+    }
+
+    /// The index of the vnode with an identifier.
+    pub fn index_of(&self, id: u32) -> Option<usize>
+        ensures { let logs = self.now.logs in MatchOption result ((index : ℕ) → index < length logs → (log_at logs index).vnode ≢ id) (λ index. (index < length logs) × ((log_at logs index).vnode ≡ id)) }
+    {
+        index_of(&self.followed.vnodes, id)
+    }
+
+    /// How many entries of the vnode with this index have happened.
+    pub fn happened(&self, index: usize) -> usize
+        requires inside { index < length self.now.logs }
+        ensures len { result ≡ length (log_at self.now.logs index).entries }
+        ensures limit { result ≤ 2 ^ 32 }
+    {
+        self.followed.vnodes[index].journal().len()
+    }
+
+    /// The fault that was found, if any. Where there is none, what has happened is one run of the world.
+    pub fn fault(&self) -> Option<FollowFault>
+        ensures fault { result ≡ self.now.fault }
+        ensures run { result ≡ None → IsInterleaving self.now.logs }
+    {
+        self.followed.fault
+    }
+
+    /// The next entry of the vnode with this index happens again, where no fault was found: a put with its dot, a merge as the delivery
+    /// of what the earlier read that it names answered.
+    ///
+    /// A fault is that of this entry, and the last: from then on nothing happens. A merge that names an answer that was given up is told as such,
+    /// though it may be right.
+    pub fn go_on(&mut self, index: usize, entry: &Entry) -> Result<(), FollowFault>
+        requires going { self.old.fault ≡ None }
+        requires inside { index < length self.old.logs }
+        ensures run { OnOk result (IsInterleaving self.new.logs) }
+        ensures next { OnOk result (self.new.logs ≡ with_entry_at self.old.logs index entry.now) }
+        ensures right { OnOk result (IsAfterAll self.old.logs entry.now × HasReadOf self.old.logs entry.now) }
+        ensures going { OnOk result (self.new.fault ≡ None) }
+        ensures fault { IfErr result (λ fault. self.new.fault ≡ Some fault) }
+        ensures told { IfErr result (λ fault. IsToldOf self.old.logs self.old.recent index entry.now fault) }
+        ensures size { length self.new.logs ≡ length self.old.logs }
+        ensures recent { self.new.recent ≡ self.old.recent }
+    {
+        match self.followed.check(index, entry) {
+            Ok(()) => self.followed.go_on(self.alloc, index, entry),
+            Err(code) => self.followed.stop(index, code),
+        }
+    }
+}

@@ -1,6 +1,0 @@
-//! The tests by what they try.
-
-mod adding;
-mod host;
-mod runs;
-mod windows;

@@ -1,0 +1,15 @@
+//! The tests by what is tried.
+
+mod altered;
+mod audits;
+mod exchanges;
+mod hook_runs;
+mod late;
+mod losses;
+mod operations;
+mod places;
+mod quorums;
+mod repairs;
+mod shown;
+mod verdicts;
+mod watched;

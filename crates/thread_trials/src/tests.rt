@@ -1,0 +1,13 @@
+//! The tests by what is tried.
+
+mod blocks;
+mod building;
+mod gates;
+mod pieces;
+mod putting;
+mod quorums;
+mod refusals;
+mod requests;
+mod rounds;
+mod running;
+mod watching;

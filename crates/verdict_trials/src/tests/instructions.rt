@@ -1,4 +1,0 @@
-//! Decoding against the tables of RFC 9669, and the order of refusals.
-
-mod lengths;
-mod opcodes;

@@ -1,0 +1,7 @@
+pub mod Calls
+pub mod Vnodes
+pub mod Stand
+pub mod Counts
+pub mod Differ
+pub mod HandedOut
+pub mod Sent
