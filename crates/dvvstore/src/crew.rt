@@ -1,13 +1,14 @@
 //! Workers on threads, and a thread that follows what they do.
 
-ghost use Rattle.std.specs.Prelude.{◌≡◌, ◌+◌, ◌≤◌, List, IfOk, vec_len};
+ghost use Rattle.std.specs.Prelude.{◌≡◌, ◌+◌, ◌*◌, ◌≤◌, List, IfOk, max, min, vec_len};
 ghost use Rattle.stamps.specs.declared.view.Told.{Told};
 ghost use Rattle.closing.specs.Following.{IsFollowedTo};
 
-use closing::{Alarm, Followed, Notice, Spot, Watch, WatchFault, close_watched};
+use closing::{Alarm, Notice, Spot, Watch, close_watched};
+use findings::{Followed, WatchFault};
 use hooks::{HookChanges, Hooks};
 use httpfront::{Backend, Front};
-use listener::{Entrance, Pace, PacedEntrance, serve_all};
+use listener::{Door, Entrance, NoConnection, Pace, PacedEntrance};
 use place::Placement;
 use pool::{Cluster, Gate, Pass, Room};
 use quorum::Hooking;
@@ -33,6 +34,9 @@ const MOST_WAITING: usize = 100_000;
 
 /// How long a worker rests before it looks again, in milliseconds.
 const NAP: u64 = 1;
+
+/// How long a worker rests at the most after it could take no connection, in milliseconds.
+const LONGEST_REST: u64 = 1_000;
 
 /// A gate that lets every call through.
 #[derive(Clone, Copy, Debug)]
@@ -127,6 +131,45 @@ impl<R: Wait> Pace for Behind<'_, R> {
     }
 }
 
+/// How a worker bears that no connection could be taken: it rests, longer each time in a row, and tells of the first.
+#[derive(Drop)]
+struct Patience<'a, R: Wait> {
+    rt: &'a R,
+    /// Where it tells.
+    err: Stderr,
+    /// What the worker rests on.
+    rest: Parker,
+    /// How long it rested last, in milliseconds; nothing where a connection came since.
+    millis: u64,
+}
+
+impl<R: Wait> Patience<'_, R> {
+    /// A connection came.
+    fn renew(&mut self) {
+        self.millis = 0;
+    }
+
+    /// None could be taken.
+    fn bear(&mut self) {
+        if self.millis == 0 {
+            // What can't be told is lost, and the worker goes on.
+            let _ = self
+                .err
+                .eprintln("no connection could be taken; trying again");
+        }
+        self.millis = next_rest(self.millis);
+        self.rest
+            .park_timeout(self.rt, Duration::from_millis(self.millis));
+    }
+}
+
+/// How long a worker rests after one more failure in a row, in milliseconds: 1, and twice as long each time, but never more than a second.
+fn next_rest(millis: u64) -> u64
+    ensures { result ≡ min (max (2 * millis) 1) 1000 }
+{
+    millis.saturating_mul(2).max(1).min(LONGEST_REST)
+}
+
 /// Follows so many stamps of what the vnodes of a cluster have handed out. Whether there is more to follow. Where that is much, workers
 /// rest until it is followed.
 fn take_turn<B: Room + Spot, R: Wait>(
@@ -168,7 +211,8 @@ fn follow_along<B: Room + Spot, R: Wait>(
     }
 }
 
-/// Answers connections at an entrance, until none come any more. After each it takes a turn to follow, where no thread does.
+/// Answers connections at an entrance, until no more may come. Where none can be had for a time it rests and goes on. After each connection
+/// it takes a turn to follow, where no thread does.
 fn answer_all<B: Room + Spot, K: Backend, R: Wait>(
     alloc: Global,
     rt: &R,
@@ -185,11 +229,18 @@ fn answer_all<B: Room + Spot, K: Backend, R: Wait>(
         is_behind: &shared.is_behind,
         rest: Parker::new(),
     };
+    let mut patience = Patience {
+        rt,
+        err: shared.err,
+        rest: Parker::new(),
+        millis: 0,
+    };
     let mut door = PacedEntrance::new(entrance, &pace);
     for _ in rt.forever() {
-        // An entrance to which no connection comes any more is closed.
-        if serve_all(&mut door, front, store, Some(1)).is_err() {
-            break;
+        match door.admit(front, store) {
+            Ok(()) => patience.renew(),
+            Err(NoConnection::Failed) => patience.bear(),
+            Err(NoConnection::Closed) => break,
         }
         if !shared.is_followed.load(SeqCst) {
             take_turn(alloc, rt, cluster, shared, u64::MAX);
@@ -197,7 +248,7 @@ fn answer_all<B: Room + Spot, K: Backend, R: Wait>(
     }
 }
 
-/// Answers connections at an entrance, until none come any more, over the vnodes of a cluster, which are called by the seat's pass.
+/// Answers connections at an entrance, until no more may come, over the vnodes of a cluster, which are called by the seat's pass.
 /// The pass is handed back. Without memory to read requests with none is answered, and that is noted.
 fn work<B: Room + Spot, H: Hooks + HookChanges + Drop, R: Wait>(
     alloc: Global,

@@ -5,6 +5,7 @@ mod crew;
 mod disk;
 mod network;
 mod session;
+mod start;
 
 use crate::disk::Disk;
 use crate::network::Network;

@@ -1,8 +1,9 @@
 //! The network of the system.
 
 use crate::session;
-use closing::Followed;
+use crate::start::start_at;
 use commands::server::{Server, Unserved};
+use findings::Followed;
 use helpers::Table;
 use listener::{Entrance, listen};
 use std::alloc::Global;
@@ -10,7 +11,8 @@ use std::io::{Stderr, Write};
 use std::net::{Net, TcpListener, TcpStream};
 use std::rt::Clock;
 use std::sync::Wait;
-use std::thread::Threads;
+use std::thread::{Parker, Threads};
+use std::time::Duration;
 
 /// How many identifiers of vnodes a start has.
 const IDENTIFIERS: u32 = 65_536;
@@ -23,14 +25,27 @@ pub struct Network<'a, R> {
     pub err: Stderr,
 }
 
-impl<R: Clock> Network<'_, R> {
-    /// The number of this start. Vnodes hold nothing then, so they take other identifiers than those of the starts before, of
-    /// which clients may still have contexts.
-    fn incarnation(&self) -> u16 {
-        match self.rt.since_1970() {
-            Ok(time) => (time.as_secs() % 65_536) as u16,
-            Err(_) => 0,
+impl<R: Clock + Wait> Network<'_, R> {
+    /// The number of this start, once the second that it took is over. Vnodes hold nothing then, so they take other identifiers than those
+    /// of the starts before, of which clients may still have contexts. Where the clock can't be read it is 0.
+    fn begin(&self) -> u16 {
+        let Ok(taken) = self.rt.since_1970() else {
+            return 0;
+        };
+        let start = start_at(taken.as_secs(), taken.subsec_millis());
+        let rest = Parker::new();
+        let mut left = start.left;
+        for _ in self.rt.forever() {
+            rest.park_timeout(self.rt, Duration::from_millis(left));
+            match self.rt.since_1970() {
+                Ok(now) if now.as_secs() == taken.as_secs() => left = start_at(
+                    now.as_secs(),
+                    now.subsec_millis(),
+                ).left,
+                _ => break,
+            }
         }
+        start.number
     }
 }
 
@@ -49,11 +64,11 @@ impl<R: Clock + Threads + Wait + Net<Listener = TcpListener, Stream = TcpStream>
         count: Option<u32>,
         out: &mut O,
     ) -> Result<Followed, Unserved> {
-        let first = u32::from(self.incarnation()) * IDENTIFIERS;
         if more.push(table).is_err() {
             return Err(Unserved::NoMemory);
         }
         let listener = listen(self.rt, addr, out)?;
+        let first = u32::from(self.begin()) * IDENTIFIERS;
         let entrance = Entrance::new(listener, count);
         Ok(session::serve(alloc, self.rt, first, more, &entrance, self.err))
     }

@@ -6,7 +6,8 @@ ghost use Rattle.stamps.specs.Rule.{newcomer};
 
 use crate::crew;
 use crate::crew::{Lookout, Seat};
-use closing::{Followed, Spot, Watch, WatchFault};
+use closing::{Spot, Watch};
+use findings::{Followed, WatchFault};
 use fronts::Naming;
 use helpers::Table;
 use hooks::{HookChanges, Hooks};

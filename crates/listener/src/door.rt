@@ -8,9 +8,14 @@ use crate::pace::Restless;
 use httpfront::{Backend, Front};
 use std::net::TcpListener;
 
-/// No connection came.
-#[derive(Clone, Copy, Debug, PartialEq, Eq)]
-pub struct NoConnection;
+/// Why no connection came.
+#[derive(Clone, Copy, PartialEq, Eq)]
+pub enum NoConnection {
+    /// None came this time, for want of descriptors or memory, say, or since the client has gone again. More may come.
+    Failed,
+    /// No more may come: there have been as many as there may be.
+    Closed,
+}
 
 /// Where connections come from, one after the other.
 pub trait Door {
@@ -35,7 +40,7 @@ impl Door for TcpListener {
         backend: &mut B,
     ) -> Result<(), NoConnection> {
         let Ok((stream, _)) = self.accept() else {
-            return Err(NoConnection);
+            return Err(NoConnection::Failed);
         };
         converse(&stream, front, backend, &Restless);
         Ok(())

@@ -12,5 +12,5 @@ mod visiting;
 pub use door::{Door, NoConnection};
 pub use pace::{Pace, PacedSource};
 pub use shared::{Entrance, PacedEntrance};
-pub use start::{listen, serve};
+pub use start::listen;
 pub use visiting::{MOST_FAILURES, Stopped, serve_all};

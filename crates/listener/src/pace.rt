@@ -9,7 +9,7 @@ pub trait Pace {
 }
 
 /// A pace at which nobody rests.
-#[derive(Clone, Copy, Debug)]
+#[derive(Clone, Copy)]
 pub(crate) struct Restless;
 
 impl Pace for Restless {}

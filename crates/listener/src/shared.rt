@@ -4,7 +4,7 @@ ghost use Rattle.std.specs.Prelude.{None};
 
 use crate::connection::converse;
 use crate::door::{Door, NoConnection};
-use crate::pace::{Pace, Restless};
+use crate::pace::Pace;
 use httpfront::{Backend, Front};
 use std::net::{TcpListener, TcpStream};
 use std::sync::atomic::AtomicU64;
@@ -33,32 +33,19 @@ impl Entrance {
         }
     }
 
-    /// Takes one of the connections that may still come, and waits for it.
+    /// Takes one of the connections that may still come, and waits for it. It is `Closed` where none may, and `Failed` where the one that was
+    /// waited for didn't come: it is one of those that may still come then.
     fn next(&self) -> Result<TcpStream, NoConnection> {
         let Entrance { listener, left } = self;
         let taken = left.fetch_update(SeqCst, SeqCst, |left| left.checked_sub(1));
         if taken.is_err() {
-            return Err(NoConnection);
+            return Err(NoConnection::Closed);
         }
         let Ok((stream, _)) = listener.accept() else {
             left.fetch_add(1, SeqCst);
-            return Err(NoConnection);
+            return Err(NoConnection::Failed);
         };
         Ok(stream)
-    }
-}
-
-impl Door for &Entrance {
-    ghost awaited = { λ _. None };
-
-    fn admit<B: Backend>(
-        &mut self,
-        front: &mut Front,
-        backend: &mut B,
-    ) -> Result<(), NoConnection> {
-        let stream = self.next()?;
-        converse(&stream, front, backend, &Restless);
-        Ok(())
     }
 }
 

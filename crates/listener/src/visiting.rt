@@ -9,12 +9,12 @@ use httpfront::{Backend, Front};
 /// With so many failures in a row there are no more connections to be had.
 pub const MOST_FAILURES: u32 = 1_000;
 
-/// No connection came, time and again.
-#[derive(Clone, Copy, Debug, PartialEq, Eq)]
+/// No connection came, time and again, or no more may come.
+#[derive(Clone, Copy, PartialEq, Eq)]
 pub struct Stopped;
 
-/// Answers the requests of so many connections, or of `2^64 - 1`, each over what the ones before left. The error: so many times
-/// in a row no connection came ([`MOST_FAILURES`]); what was answered stays.
+/// Answers the requests of so many connections, or of `2^64 - 1`, each over what the ones before left. The error: no more may come, or so
+/// many times in a row none came ([`MOST_FAILURES`]); what was answered stays.
 pub fn serve_all<D: Door, B: Backend>(
     door: &mut D,
     front: &mut Front,
@@ -32,8 +32,8 @@ pub fn serve_all<D: Door, B: Backend>(
                 left -= 1;
                 failures = 0;
             }
-            Err(NoConnection) if failures < MOST_FAILURES => failures += 1,
-            Err(NoConnection) => return Err(Stopped),
+            Err(NoConnection::Failed) if failures < MOST_FAILURES => failures += 1,
+            Err(NoConnection::Failed | NoConnection::Closed) => return Err(Stopped),
         }
     }
     Ok(())

@@ -2,16 +2,18 @@
 """Reads a key's values and writes one in their place: siblings.py ADDR BUCKET KEY [JOINER]
 
 Without JOINER the values are printed, each behind its tag, and then the context. With it they are joined by it, in order, and
-the result is put with the context that they came with, so that it takes the place of all of them.
+the result is put with the context that they came with, so that it takes the place of all of them. A delete among them is no value: it is
+printed as one, and not joined.
 """
 import email.parser
 import email.policy
 import http.client
 import sys
+import urllib.parse
 
 
 def read(connection, path):
-    """The values of a key as pairs of a tag and bytes, and their context, which a key that was never written has not."""
+    """The siblings of a key as pairs of a tag and bytes, None for a delete, and their context, which a key that was never written has not."""
     connection.request("GET", path, headers={"Accept": "multipart/mixed"})
     answer = connection.getresponse()
     body = answer.read()
@@ -24,7 +26,12 @@ def read(connection, path):
         raise SystemExit(f"{answer.status} {body.decode()}")
     head = f"Content-Type: {answer.getheader('Content-Type')}\r\n\r\n".encode()
     parts = email.parser.BytesParser(policy=email.policy.HTTP).parsebytes(head + body)
-    return [(part["X-Riak-Tag"], part.get_payload(decode=True)) for part in parts.iter_parts()], context
+    return [(part["X-Riak-Tag"], value_of(part)) for part in parts.iter_parts()], context
+
+
+def value_of(part):
+    """The bytes of a sibling, or None where it is a delete."""
+    return None if part["X-Riak-Deleted"] else part.get_payload(decode=True)
 
 
 def write(connection, path, value, context):
@@ -42,14 +49,14 @@ def write(connection, path, value, context):
 
 def main(address, bucket, key, *joiner):
     connection = http.client.HTTPConnection(address)
-    path = f"/buckets/{bucket}/keys/{key}"
+    path = "/buckets/{}/keys/{}".format(*(urllib.parse.quote(it, safe="") for it in (bucket, key)))
     values, context = read(connection, path)
     if joiner:
-        joined = joiner[0].encode().join(value for _, value in values)
+        joined = joiner[0].encode().join(value for _, value in values if value is not None)
         print(write(connection, path, joined, context))
         return
     for tag, value in values:
-        print(tag or "-", value.decode())
+        print(tag or "-", "deleted" if value is None else value.decode())
     print(context or "-")
 
 

@@ -1,6 +1,7 @@
 //! Connections in memory.
 
 use crate::tests::opening::open;
+use code_parts::expect;
 use httpfront::{Backend, FailSink, FailSource, Front};
 use listener::{Door, NoConnection, Stopped, serve_all};
 use std::alloc::Global;
@@ -33,11 +34,11 @@ impl Door for Guests<'_> {
         backend: &mut B,
     ) -> Result<(), NoConnection> {
         let Some(bytes) = self.guests.get(self.came) else {
-            return Err(NoConnection);
+            return Err(NoConnection::Closed);
         };
         if self.missed < self.misses {
             self.missed = self.missed.saturating_add(1);
-            return Err(NoConnection);
+            return Err(NoConnection::Failed);
         }
         self.missed = 0;
         self.came = self.came.saturating_add(1);
@@ -81,18 +82,13 @@ fn over(
     Ok((ended, guests.told))
 }
 
-/// Each connection is answered over what the ones before left, and one that breaks off changes nothing.
+/// Each connection is answered over what the ones before left, and one that breaks off changes nothing. Where no connection comes any
+/// more, the server stops, and what it answered stays.
 #[test]
 fn one_after_the_other(rt: HostRuntime) -> Result<(), Fail> {
-    let (ended, told) = over(rt.alloc(), 3, Some(4))?;
-    assert_eq!(rt; (ended, told.as_slice()), (Ok(()), TOLD));
-    Ok(())
-}
-
-/// Where no connection comes any more, the server stops, and what it answered stays.
-#[test]
-fn no_more(rt: HostRuntime) -> Result<(), Fail> {
-    let (ended, told) = over(rt.alloc(), 0, None)?;
-    assert_eq!(rt; (ended, told.as_slice()), (Err(Stopped), TOLD));
+    for (misses, count, end) in [(3, Some(4), Ok(())), (0, None, Err(Stopped))] {
+        let (ended, told) = over(rt.alloc(), misses, count)?;
+        expect(ended == end && told.as_slice() == TOLD, &misses)?;
+    }
     Ok(())
 }
