@@ -10,11 +10,12 @@ use std::io::Write;
 use std::net::{Net, Shutdown, TcpListener, TcpStream};
 use std::test::Fail;
 
-/// What the client asks.
-const ASKED: &[u8] = b"GET /ping HTTP/1.1\r\nHost: h\r\n\r\n";
+/// What the client asks: a key that was never written.
+const ASKED: &[u8] = b"GET /buckets/b/keys/k HTTP/1.1\r\nHost: h\r\n\r\n";
 
 /// What it is told.
-const TOLD: &str = "HTTP/1.1 200 OK\r\nContent-Type: text/plain\r\nContent-Length: 2\r\n\r\nOK";
+const TOLD: &str =
+    "HTTP/1.1 404 Not Found\r\nContent-Type: text/plain\r\nContent-Length: 10\r\n\r\nnot found\n";
 
 /// A client that has asked, and sends no more.
 fn ask<R: Net<Listener = TcpListener, Stream = TcpStream>>(
