@@ -41,7 +41,7 @@ def answer_of(source, window):
 
 
 def main():
-    make_hooks.COMPILE = ["-mcpu=v2" if word == "-mcpu=v3" else word for word in make_hooks.COMPILE]
+    make_hooks.CPUS = ("v2",)
     fine = True
     for name, given in INPUTS.items():
         source = HERE / f"{name}.c"

@@ -5,7 +5,8 @@
     make_hooks.py my.c pre-commit 4096 0       my.img, from the kind and the lengths of the input and the output window
     make_hooks.py --line my.c 3                the line of my.c that slot 3 of my.img comes from
 
-Where dvvstore is built it verifies what was made, and the line of a refused slot is told at once.
+Where dvvstore is built it verifies what was made, and the line of a refused slot is told at once. What is refused is compiled once more without
+jumps and arithmetic on 32 bits, whose spills are of 8 bytes, which the verifier follows, and stays so where that is accepted.
 """
 import argparse
 import re
@@ -39,8 +40,11 @@ HOOKS = {
     "whole_words": ("pre-commit", 4096, 124),
 }
 
+# Instruction sets, in the order in which they are tried.
+CPUS = ("v3", "v2")
+
 # -g adds sections beside the code, and leaves the code as it is.
-COMPILE = ["clang", "-O2", "-g", "-Wall", "-target", "bpf", "-mcpu=v3", "-mllvm", "-disable-block-placement", "-I", HERE, "-c"]
+COMPILE = ["clang", "-O2", "-g", "-Wall", "-target", "bpf", "-mllvm", "-disable-block-placement", "-I", HERE, "-c"]
 
 WIDE, JUMP, FAR_JUMP, CALL, EXIT = 0x18, 0x05, 0x06, 0x85, 0x95
 JUMP_CLASSES = (5, 6)
@@ -218,11 +222,11 @@ def refuse_foreign(compiled, code, lines):
             raise Refused(f"{lines[at]}: a call of a function that is not inlined: {WORDS_ON_FUNCTIONS}")
 
 
-def compile_hook(source):
-    """The ordered code of a C source, and the line of each of its slots."""
+def compile_hook(source, cpu):
+    """The ordered code of a C source for an instruction set, and the line of each of its slots."""
     with tempfile.TemporaryDirectory() as folder:
         compiled, text = Path(folder, "hook.o"), Path(folder, "hook.bin")
-        if subprocess.run([*COMPILE, source, "-o", compiled]).returncode:
+        if subprocess.run([*COMPILE, f"-mcpu={cpu}", source, "-o", compiled]).returncode:
             raise Refused("clang does not compile it")
         output_of(tool("llvm-objcopy"), "-O", "binary", "--only-section=.text", compiled, text)
         code, lines = text.read_bytes(), lines_of(compiled)
@@ -259,11 +263,26 @@ def verdict(image, lines):
 
 
 def make(source, kind, in_len, out_len):
-    """Writes the image of a source beside it, and gives what the verifier says of it."""
-    code, lines = compile_hook(source)
+    """Writes the image of a source beside it, and gives what the verifier says of it: that of the first instruction set for which it is accepted,
+    or else of the first."""
+    image, refused = source.with_suffix(".img"), []
+    for cpu in CPUS:
+        code, lines = compile_hook(source, cpu)
+        image.write_bytes(head(kind, in_len, out_len) + code)
+        said = verdict(image, lines)
+        if not said.startswith("refused"):
+            return f"{said} (-mcpu={cpu})" if refused else said
+        refused.append((image.read_bytes(), said))
+    image.write_bytes(refused[0][0])
+    return refused[0][1]
+
+
+def lines_in(source):
+    """The line of each slot of a source's image, by the instruction set that the image is for."""
     image = source.with_suffix(".img")
-    image.write_bytes(head(kind, in_len, out_len) + code)
-    return verdict(image, lines)
+    made = image.read_bytes()[len(head("plain", 0, 0)) :] if image.is_file() else b""
+    built = [compile_hook(source, cpu) for cpu in CPUS]
+    return next((lines for code, lines in built if code == made), built[0][1])
 
 
 def tell(source, *given):
@@ -281,7 +300,7 @@ def tell(source, *given):
 def line_at(source, slot):
     """Prints the line of a slot of a source's image. Gives whether there is one."""
     try:
-        _, lines = compile_hook(source)
+        lines = lines_in(source)
     except Refused as why:
         print(f"{source.name}: no image: {why}", file=sys.stderr)
         return False
