@@ -11,17 +11,18 @@ use Rattle.alu.specs.declared.SwapKind.{SwapKind}
 use Rattle.alu.specs.declared.SwapBits.{SwapBits}
 use Rattle.alu.specs.Value.{value, swapped, condition}
 use Rattle.memory.specs.declared.profile.Profile.{Profile}
+use Rattle.memory.specs.declared.profile.Profile.TheVariants.{First, Second}
 use Rattle.ranges.specs.declared.number.Number.{Number}
 use Rattle.ranges.specs.declared.kind.Kind.{Kind}
 use Rattle.ranges.specs.declared.kind.Kind.TheVariants.{Unset, Dead, Num, Ptr}
-use Rattle.ranges.specs.Numbers.{InRange, IsNumber, reads_first, reads_second}
+use Rattle.ranges.specs.Numbers.{InRange, IsOf, IsNumber, reads_first, reads_second}
 use Rattle.ranges.specs.declared.range.Range.{Range}
 use Rattle.ranges.specs.KnownBits.{nothing}
 use Rattle.ranges.specs.Comparisons.{AreNumbers}
 use Rattle.ranges.specs.Kinds.{Admits, IsKind}
-use Rattle.ranges.specs.Transfer.{kind_in, kind_of, kinds_of, signed_range, moved_down, of_one, of_two, transfer_of, swap_of, refine_of}
+use Rattle.ranges.specs.Transfer.{kind_in, kind_of, signed_range, moved_down, as_number, number_in, apart_by, after_dead, before_dead, of_one, of_two, transfer_of, swap_of, left_of_kind, kinds_left, compared_kinds, refine_pointers, refine_of}
 use Rattle.ranges.proofs.Ranges.{value_sub}
-use Rattle.ranges.proofs.Pointers.{signed_in_order, up_kind, down_kind, up_sound, down_sound, signed_range_is}
+use Rattle.ranges.proofs.Pointers.{signed_in_order, up_kind, down_kind, up_sound, down_sound, signed_range_is, as_number_sound, as_number_is, pointer_left_sound, pointer_left_kind}
 use Rattle.ranges.proofs.Settled.{Leaves, nothing_fits, settled_sound, settled_is_number}
 use Rattle.ranges.proofs.KnownBits.{nothing_sound}
 use Rattle.ranges.proofs.Comparisons.{LeavesBoth, compared_sound, compared_numbers}
@@ -36,9 +37,46 @@ pub left_is_kind : (o : Option Number) → IfSome o IsNumber → IsKind (kind_of
 left_is_kind None h = tt
 left_is_kind (Some a) h = h
 
-pair_sound : (o : Option (Number × Number)) (x y : ℕ) → LeavesBoth x y o → Admits (kinds_of o).0 (Some x) × Admits (kinds_of o).1 (Some y)
-pair_sound None x y h = absurd h
-pair_sound (Some p) x y h = h
+-- what is left of a kind, by what is left of its number
+left_of_sound : (k : Kind) (o : Option Number) (n : ℕ) → IsKind k → Admits k (Some n) → Leaves n o → Admits (left_of_kind k o) (Some n)
+left_of_sound (Ptr region lo hi) None n k h l = absurd l
+left_of_sound (Ptr region lo hi) (Some a) n k h l = pointer_left_sound region lo hi a.range n k h l.within
+left_of_sound (Num a) o n k h l = left_sound o n l
+left_of_sound Dead o n k h l = left_sound o n l
+left_of_sound Unset o n k h l = left_sound o n l
+
+pair_sound : (a b : Kind) (o : Option (Number × Number)) (x y : ℕ) → IsKind a → IsKind b → Admits a (Some x) → Admits b (Some y) → LeavesBoth x y o → Admits (kinds_left a b o).0 (Some x) × Admits (kinds_left a b o).1 (Some y)
+pair_sound a b None x y ka kb p q h = absurd h
+pair_sound a b (Some r) x y ka kb p q h = (left_of_sound a (Some r.0) x ka p h.0, left_of_sound b (Some r.1) y kb q h.1)
+
+-- the number that a kind is
+number_in_sound : (k : Kind) (n : ℕ) → IsKind k → Admits k (Some n) → IfSome (number_in k) (λ a. IsOf a n)
+number_in_sound Unset n ka h = tt
+number_in_sound Dead n ka h = tt
+number_in_sound (Num a) n ka h = h
+number_in_sound (Ptr region lo hi) n ka h = as_number_sound region lo hi n ka h
+
+number_in_is : (k : Kind) → IsKind k → IfSome (number_in k) IsNumber
+number_in_is Unset ka = tt
+number_in_is Dead ka = tt
+number_in_is (Num a) ka = ka
+number_in_is (Ptr region lo hi) ka = as_number_is region lo hi ka
+
+apart_sound : (profile : Profile) (a b : Number) (x y : ℕ) → IsNumber a → IsNumber b → IsOf a x → IsOf b y → IfOk (apart_by profile a b) (λ k. Admits k (Some (value Sub W64 x y)))
+apart_sound First a b x y ka kb p q = tt
+apart_sound Second a b x y ka kb p q = left_sound _ _ (numbers_sound Second Sub W64 a b x y ka kb p q)
+
+-- two kinds after a comparison of the numbers that they are
+compared_kinds_sound : (c : Cond) (taken : Bool) (a b : Kind) (o p : Option Number) (x y : ℕ) → IsKind a → IsKind b → Admits a (Some x) → Admits b (Some y) → IfSome o (λ m. IsOf m x) → IfSome p (λ m. IsOf m y) → IfSome o IsNumber → IfSome p IsNumber → condition c W64 x y ≡ taken → Admits (compared_kinds c taken a b o p).0 (Some x) × Admits (compared_kinds c taken a b o p).1 (Some y)
+compared_kinds_sound c taken a b (Some m) (Some n) x y ka kb pa pb om on km kn t = pair_sound a b _ x y ka kb pa pb (compared_sound c W64 taken m n km kn Second x y om on t)
+compared_kinds_sound c taken a b None p x y ka kb pa pb om on km kn t = (pa, pb)
+compared_kinds_sound c taken a b (Some m) None x y ka kb pa pb om on km kn t = (pa, pb)
+
+pointers_sound : (profile : Profile) (c : Cond) (w : Width) (a b : Kind) (taken : Bool) (x y : ℕ) → IsKind a → IsKind b → Admits a (Some x) → Admits b (Some y) → condition c w x y ≡ taken → Admits (refine_pointers profile c w a b taken).0 (Some x) × Admits (refine_pointers profile c w a b taken).1 (Some y)
+pointers_sound First c w a b taken x y ka kb p q t = (p, q)
+pointers_sound Second c W32 a b taken x y ka kb p q t = (p, q)
+pointers_sound Second c W64 a b taken x y ka kb p q t =
+    compared_kinds_sound c taken a b (number_in a) (number_in b) x y ka kb p q (number_in_sound a x ka p) (number_in_sound b y kb q) (number_in_is a ka) (number_in_is b kb) t
 
 module _ (profile : Profile) where
   -- an operation that reads both: kinds that admit the operands give one that admits the value
@@ -52,6 +90,8 @@ module _ (profile : Profile) where
       rw (mod-eq_of_lt fx, mod-eq_of_lt fy, add_comm x y) (up_sound region lo hi y x (signed_range a.range.lo a.range.hi) pb fx (signed_range_is a.range.lo a.range.hi x pa.within.0 pa.within.1))
   of_two_sound Sub W64 (Ptr region lo hi) (Num b) x y ka kb fx fy pa pb =
       subst (λ n. IfOk (moved_down region lo hi (signed_range b.range.lo b.range.hi)) (λ k. Admits k (Some n))) (sym (value_sub x y fx fy)) (down_sound region lo hi x y (signed_range b.range.lo b.range.hi) pa fy (signed_range_is b.range.lo b.range.hi y pb.within.0 pb.within.1))
+  of_two_sound Sub W64 (Ptr region lo hi) (Ptr other low high) x y ka kb fx fy pa pb =
+      apart_sound profile (as_number region lo hi) (as_number other low high) x y (as_number_is region lo hi ka) (as_number_is other low high kb) (as_number_sound region lo hi x ka pa) (as_number_sound other low high y kb pb)
   of_two_sound op w a b x y ka kb fx fy pa pb = tt
 
   -- an operation that reads one operand
@@ -99,14 +139,44 @@ module _ (profile : Profile) where
   pub refine_sound : (c : Cond) (w : Width) (a b : Kind) (taken : Bool) (x y : ℕ) → IsKind a → IsKind b → Admits a (Some x) → Admits b (Some y) → condition c w x y ≡ taken → Admits (refine_of profile c w a b taken).0 (Some x) × Admits (refine_of profile c w a b taken).1 (Some y)
   refine_sound c w Dead b taken x y ka kb p q t = absurd p
   refine_sound c w a Dead taken x y ka kb p q t = absurd q
-  refine_sound c w (Num a) (Num b) taken x y ka kb p q t = pair_sound _ x y (compared_sound c w taken a b ka kb profile x y p q t)
-  refine_sound c w a b taken x y ka kb p q t = (p, q)
+  refine_sound c w (Num a) (Num b) taken x y ka kb p q t = pair_sound (Num a) (Num b) _ x y ka kb p q (compared_sound c w taken a b ka kb profile x y p q t)
+  refine_sound c w a b taken x y ka kb p q t = pointers_sound profile c w a b taken x y ka kb p q t
 
 -- ---- what is left is a kind
 
-pair_kinds : (o : Option (Number × Number)) → IfSome o AreNumbers → IsKind (kinds_of o).0 × IsKind (kinds_of o).1
-pair_kinds None h = (tt, tt)
-pair_kinds (Some p) h = (h.first, h.second)
+left_of_is_kind : (k : Kind) (o : Option Number) → IsKind k → IfSome o IsNumber → IsKind (left_of_kind k o)
+left_of_is_kind (Ptr region lo hi) None h l = h
+left_of_is_kind (Ptr region lo hi) (Some a) h l = pointer_left_kind region lo hi a.range h
+left_of_is_kind (Num a) o h l = left_is_kind o l
+left_of_is_kind Dead o h l = left_is_kind o l
+left_of_is_kind Unset o h l = left_is_kind o l
+
+pair_kinds : (a b : Kind) (o : Option (Number × Number)) → IsKind a → IsKind b → IfSome o AreNumbers → IsKind (kinds_left a b o).0 × IsKind (kinds_left a b o).1
+pair_kinds a b None ka kb h = (left_of_is_kind a None ka tt, left_of_is_kind b None kb tt)
+pair_kinds a b (Some p) ka kb h = (left_of_is_kind a (Some p.0) ka h.first, left_of_is_kind b (Some p.1) kb h.second)
+
+compared_are_kinds : (c : Cond) (taken : Bool) (a b : Kind) (o p : Option Number) → IsKind a → IsKind b → IfSome o IsNumber → IfSome p IsNumber → IsKind (compared_kinds c taken a b o p).0 × IsKind (compared_kinds c taken a b o p).1
+compared_are_kinds c taken a b (Some m) (Some n) ka kb km kn = pair_kinds a b _ ka kb (compared_numbers c W64 taken m n km kn Second)
+compared_are_kinds c taken a b None p ka kb km kn = (ka, kb)
+compared_are_kinds c taken a b (Some m) None ka kb km kn = (ka, kb)
+
+pointers_kinds : (profile : Profile) (c : Cond) (w : Width) (a b : Kind) (taken : Bool) → IsKind a → IsKind b → IsKind (refine_pointers profile c w a b taken).0 × IsKind (refine_pointers profile c w a b taken).1
+pointers_kinds First c w a b taken ka kb = (ka, kb)
+pointers_kinds Second c W32 a b taken ka kb = (ka, kb)
+pointers_kinds Second c W64 a b taken ka kb = compared_are_kinds c taken a b (number_in a) (number_in b) ka kb (number_in_is a ka) (number_in_is b kb)
+
+apart_kind : (profile : Profile) (a b : Number) → IsNumber a → IsNumber b → IfOk (apart_by profile a b) IsKind
+apart_kind First a b ka kb = tt
+apart_kind Second a b ka kb = left_is_kind _ (numbers_are_numbers Second Sub W64 a b ka kb)
+
+after_kind : (k : Kind) (op : Op) (w : Width) → IsKind k → IsKind (after_dead k op w)
+after_kind (Ptr region lo hi) Add W64 h = h
+after_kind k op w h = tt
+
+before_kind : (k : Kind) (op : Op) (w : Width) → IsKind k → IsKind (before_dead k op w)
+before_kind (Ptr region lo hi) Add W64 h = h
+before_kind (Ptr region lo hi) Sub W64 h = h
+before_kind k op w h = tt
 
 module _ (profile : Profile) where
   one_kind : (op : Op) (w : Width) (a : Kind) → IsKind a → IfOk (of_one profile op w a) IsKind
@@ -116,12 +186,15 @@ module _ (profile : Profile) where
   one_kind op w (Ptr r lo hi) ka = tt
 
   two_kind : (op : Op) (w : Width) (a b : Kind) → IsKind a → IsKind b → IfOk (of_two profile op w a b) IsKind
-  two_kind op w Dead b ka kb = tt
-  two_kind op w a Dead ka kb = tt
+  two_kind op w Dead b ka kb = after_kind b op w kb
+  two_kind op w (Num a) Dead ka kb = tt
+  two_kind op w Unset Dead ka kb = tt
+  two_kind op w (Ptr region lo hi) Dead ka kb = before_kind (Ptr region lo hi) op w ka
   two_kind op w (Num a) (Num b) ka kb = left_is_kind _ (numbers_are_numbers profile op w a b ka kb)
   two_kind Add W64 (Ptr region lo hi) (Num b) ka kb = up_kind region lo hi (signed_range b.range.lo b.range.hi) ka.1 (signed_in_order _ _ kb.range.ordered)
   two_kind Add W64 (Num a) (Ptr region lo hi) ka kb = up_kind region lo hi (signed_range a.range.lo a.range.hi) kb.1 (signed_in_order _ _ ka.range.ordered)
   two_kind Sub W64 (Ptr region lo hi) (Num b) ka kb = down_kind region lo hi (signed_range b.range.lo b.range.hi) ka.1 (signed_in_order _ _ kb.range.ordered)
+  two_kind Sub W64 (Ptr region lo hi) (Ptr other low high) ka kb = apart_kind profile (as_number region lo hi) (as_number other low high) (as_number_is region lo hi ka) (as_number_is other low high kb)
   two_kind op w a b ka kb = tt
 
   pub transfer_kind : (op : Op) (w : Width) (a b : Kind) → IsKind a → IsKind b → IfOk (transfer_of profile op w a b) IsKind
@@ -146,10 +219,10 @@ module _ (profile : Profile) where
   transfer_kind SignedMod w a b ka kb = two_kind SignedMod w a b ka kb
 
   pub refine_kinds : (c : Cond) (w : Width) (a b : Kind) (taken : Bool) → IsKind a → IsKind b → IsKind (refine_of profile c w a b taken).0 × IsKind (refine_of profile c w a b taken).1
-  refine_kinds c w Dead b taken ka kb = (tt, tt)
-  refine_kinds c w a Dead taken ka kb = (tt, tt)
-  refine_kinds c w (Num a) (Num b) taken ka kb = pair_kinds _ (compared_numbers c w taken a b ka kb profile)
-  refine_kinds c w a b taken ka kb = (ka, kb)
+  refine_kinds c w Dead b taken ka kb = pair_kinds Dead b None tt kb tt
+  refine_kinds c w a Dead taken ka kb = pair_kinds a Dead None ka tt tt
+  refine_kinds c w (Num a) (Num b) taken ka kb = pair_kinds (Num a) (Num b) _ ka kb (compared_numbers c w taken a b ka kb profile)
+  refine_kinds c w a b taken ka kb = pointers_kinds profile c w a b taken ka kb
 
   -- numbers of a range
   pub range_sound : (r : Range) (n : ℕ) → r.hi < 2 ^ 64 → InRange r n → Admits (kind_in profile r) (Some n)

@@ -1,5 +1,5 @@
 -- The two tables of kinds (this store's profiles): what an operation, a byte swap, a comparison and a join leave known.
-use Rattle.std.specs.Prelude.{ℕ, ℤ, pos, negsuc, Bool, true, false, Option, Some, None, Result, Ok, Err, ◌&&◌, ◌-◌, ◌^◌, ◌+ℤ◌, ◌-ℤ◌, int_le, nat_lt, nat_le, if◌then◌else◌}
+use Rattle.std.specs.Prelude.{ℕ, ℤ, pos, negsuc, unsigned_abs, Bool, true, false, Option, Some, None, Result, Ok, Err, ◌&&◌, ◌-◌, ◌^◌, ◌+ℤ◌, ◌-ℤ◌, int_le, nat_lt, nat_le, min, max, if◌then◌else◌}
 use Rattle.std.specs.Int.{int_min, int_max}
 use Rattle.alu.specs.declared.Width.{Width}
 use Rattle.alu.specs.declared.Width.TheVariants.{W32, W64}
@@ -11,6 +11,7 @@ use Rattle.alu.specs.declared.SwapBits.{SwapBits}
 use Rattle.memory.specs.declared.Region.{Region}
 use Rattle.memory.specs.declared.Region.TheVariants.{Stack, Input, Output}
 use Rattle.memory.specs.declared.profile.Profile.{Profile}
+use Rattle.memory.specs.declared.profile.Profile.TheVariants.{First, Second}
 use Rattle.ranges.specs.declared.range.Range.{Range}
 use Rattle.ranges.specs.declared.number.Number.{Number}
 use Rattle.ranges.specs.declared.kind.Kind.{Kind}
@@ -18,7 +19,8 @@ use Rattle.ranges.specs.declared.kind.Kind.TheVariants.{Unset, Dead, Num, Ptr}
 use Rattle.ranges.specs.declared.kind.Bad.{Bad}
 use Rattle.ranges.specs.declared.kind.Bad.TheVariants.{V22, V23}
 use Rattle.ranges.specs.KnownBits.{nothing}
-use Rattle.ranges.specs.Numbers.{settled, numbers, swapped_number, joined_numbers}
+use Rattle.ranges.specs.Kinds.{origin}
+use Rattle.ranges.specs.Numbers.{range, number_of, settled, numbers, swapped_number, joined_numbers}
 use Rattle.ranges.specs.Comparisons.{compared}
 
 -- ---- pointers
@@ -45,6 +47,20 @@ abbrev pub moved_down : Region → ℤ → ℤ → Option (ℤ × ℤ) → Resul
 moved_down region lo hi None = Err V23
 moved_down region lo hi (Some d) = pointer region (lo -ℤ d.1) (hi -ℤ d.0)
 
+-- the address at an offset into a region
+abbrev pub address : Region → ℤ → ℕ
+address region offset = unsigned_abs (pos (origin region) +ℤ offset)
+
+-- a pointer as a number: some address between its bounds
+abbrev pub as_number : Region → ℤ → ℤ → Number
+as_number region lo hi = number_of (range (address region lo) (address region hi))
+
+-- the number that a kind is, if it is any
+abbrev pub number_in : Kind → Option Number
+number_in (Num a) = Some a
+number_in (Ptr region lo hi) = Some (as_number region lo hi)
+number_in k = None
+
 -- ---- operations on kinds
 
 -- a number of which something is left, and Dead where nothing is
@@ -56,19 +72,36 @@ kind_of (Some a) = Num a
 abbrev pub kind_in : Profile → Range → Kind
 kind_in profile r = kind_of (settled profile r nothing)
 
--- An operation that reads one number, and one that reads two. Of what is Dead any operation is.
+-- What an operation on a kind and one that is Dead leaves, which is the first of the two, or the second: a pointer that the
+-- dead number moves stays where it is, for no run comes there, and all else is Dead.
+abbrev pub after_dead : Kind → Op → Width → Kind
+after_dead (Ptr region lo hi) Add W64 = Ptr region lo hi
+after_dead k op w = Dead
+
+abbrev pub before_dead : Kind → Op → Width → Kind
+before_dead (Ptr region lo hi) Add W64 = Ptr region lo hi
+before_dead (Ptr region lo hi) Sub W64 = Ptr region lo hi
+before_dead k op w = Dead
+
+-- a pointer taken from a pointer: by the second profile an address from an address
+abbrev pub apart_by : Profile → Number → Number → Result Kind Bad
+apart_by First a b = Err V22
+apart_by Second a b = Ok (kind_of (numbers Second Sub W64 a b))
+
+-- An operation that reads one number, and one that reads two. Of numbers that are Dead any operation is.
 abbrev pub of_one : Profile → Op → Width → Kind → Result Kind Bad
 of_one profile op w (Num a) = Ok (kind_of (numbers profile op w a a))
 of_one profile op w Dead = Ok Dead
 of_one profile op w other = Err V22
 
 abbrev pub of_two : Profile → Op → Width → Kind → Kind → Result Kind Bad
-of_two profile op w Dead b = Ok Dead
-of_two profile op w a Dead = Ok Dead
+of_two profile op w Dead b = Ok (after_dead b op w)
+of_two profile op w a Dead = Ok (before_dead a op w)
 of_two profile op w (Num a) (Num b) = Ok (kind_of (numbers profile op w a b))
 of_two profile Add W64 (Ptr region lo hi) (Num b) = moved_up region lo hi (signed_range b.range.lo b.range.hi)
 of_two profile Add W64 (Num a) (Ptr region lo hi) = moved_up region lo hi (signed_range a.range.lo a.range.hi)
 of_two profile Sub W64 (Ptr region lo hi) (Num b) = moved_down region lo hi (signed_range b.range.lo b.range.hi)
+of_two profile Sub W64 (Ptr region lo hi) (Ptr other low high) = apart_by profile (as_number region lo hi) (as_number other low high)
 of_two profile op w a b = Err V22
 
 -- What an operation leaves in its destination, by the kinds of what it reads: a move of 64 bits copies. That an operand
@@ -89,16 +122,40 @@ swap_of profile kind n other = Err V22
 
 -- ---- refinement
 
-abbrev pub kinds_of : Option (Number × Number) → Kind × Kind
-kinds_of None = (Dead, Dead)
-kinds_of (Some p) = (Num p.0, Num p.1)
+-- What is left of a pointer of which a range of addresses is left: it lies between the bounds of both. It stays where no
+-- address does, for no run comes there.
+abbrev pub pointer_left : Region → ℤ → ℤ → Range → Kind
+pointer_left region lo hi r =
+    let low = max (address region lo) r.lo in
+    let high = min (address region hi) r.hi in
+    if nat_le low high then Ptr region (pos low -ℤ pos (origin region)) (pos high -ℤ pos (origin region)) else Ptr region lo hi
+
+-- what is left of a kind of which a number is left, or nothing
+abbrev pub left_of_kind : Kind → Option Number → Kind
+left_of_kind (Ptr region lo hi) None = Ptr region lo hi
+left_of_kind (Ptr region lo hi) (Some a) = pointer_left region lo hi a.range
+left_of_kind k o = kind_of o
+
+abbrev pub kinds_left : Kind → Kind → Option (Number × Number) → Kind × Kind
+kinds_left a b None = (left_of_kind a None, left_of_kind b None)
+kinds_left a b (Some p) = (left_of_kind a (Some p.0), left_of_kind b (Some p.1))
+
+-- two kinds after a comparison of the numbers that they are, if both are any
+abbrev pub compared_kinds : Cond → Bool → Kind → Kind → Option Number → Option Number → Kind × Kind
+compared_kinds c taken a b (Some x) (Some y) = kinds_left a b (compared Second c W64 taken x y)
+compared_kinds c taken a b x y = (a, b)
+
+-- a pointer that is compared: its address is, by the second profile and in 64 bits
+abbrev pub refine_pointers : Profile → Cond → Width → Kind → Kind → Bool → Kind × Kind
+refine_pointers Second c W64 a b taken = compared_kinds c taken a b (number_in a) (number_in b)
+refine_pointers profile c w a b taken = (a, b)
 
 -- the kinds of two numbers after a jump, taken or not
 abbrev pub refine_of : Profile → Cond → Width → Kind → Kind → Bool → Kind × Kind
-refine_of profile c w Dead b taken = (Dead, Dead)
-refine_of profile c w a Dead taken = (Dead, Dead)
-refine_of profile c w (Num a) (Num b) taken = kinds_of (compared profile c w taken a b)
-refine_of profile c w a b taken = (a, b)
+refine_of profile c w Dead b taken = kinds_left Dead b None
+refine_of profile c w a Dead taken = kinds_left a Dead None
+refine_of profile c w (Num a) (Num b) taken = kinds_left (Num a) (Num b) (compared profile c w taken a b)
+refine_of profile c w a b taken = refine_pointers profile c w a b taken
 
 -- ---- joins
 

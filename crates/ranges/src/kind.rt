@@ -4,7 +4,7 @@ ghost use Rattle.std.specs.Prelude.{◌≡◌, ◌≤◌, ℕ, Option, IfSome};
 ghost use Rattle.std.specs.Int.{int_min, int_max};
 ghost use Rattle.ranges.specs.Numbers.{IsNumber};
 ghost use Rattle.ranges.specs.Kinds.{Admits, IsKind};
-ghost use Rattle.ranges.specs.Transfer.{kind_in, kind_of, join_of, joined_pointers};
+ghost use Rattle.ranges.specs.Transfer.{kind_in, kind_of, number_in, join_of, joined_pointers};
 
 use crate::bits::Bits;
 use crate::number::Number;
@@ -43,6 +43,19 @@ impl Kind {
         match number {
             Some(a) => Kind::Num(a),
             None => Kind::Dead,
+        }
+    }
+
+    /// The number that this is, if it is any: a pointer is some address between its bounds.
+    pub fn as_number(self) -> Option<Number>
+        requires { IsKind self }
+        ensures table { result ≡ number_in self }
+        ensures number { IfSome result IsNumber }
+    {
+        match self {
+            Kind::Num(a) => Some(a),
+            Kind::Ptr { region, lo, hi } => Some(Number::of_pointer(region, lo, hi)),
+            Kind::Unset | Kind::Dead => None,
         }
     }
 }

@@ -2,9 +2,9 @@
 
 ghost use Rattle.std.specs.Prelude.{◌≡◌, ◌<◌, ◌^◌, ℕ, IfOk, Some, true};
 ghost use Rattle.alu.specs.Value.{value, swapped};
-ghost use Rattle.ranges.specs.Numbers.{reads_first, reads_second};
+ghost use Rattle.ranges.specs.Numbers.{IsNumber, reads_first, reads_second};
 ghost use Rattle.ranges.specs.Kinds.{IsKind, Admits};
-ghost use Rattle.ranges.specs.Transfer.{of_one, of_two, transfer_of, swap_of};
+ghost use Rattle.ranges.specs.Transfer.{after_dead, before_dead, apart_by, of_one, of_two, transfer_of, swap_of};
 
 use crate::kind::{Bad, Kind};
 use crate::number::Number;
@@ -25,6 +25,44 @@ fn transfer_one(profile: Profile, op: Op, width: Width, a: Kind) -> Result<Kind,
     }
 }
 
+/// What an operation on a dead number and a kind leaves: the pointer to which the number is added, and else what is dead.
+fn after_dead(b: Kind, op: Op, width: Width) -> Kind
+    requires { IsKind b }
+    ensures table { result ≡ after_dead b op width }
+    ensures kind { IsKind result }
+{
+    match (b, op, width) {
+        (Kind::Ptr { .. }, Op::Add, Width::W64) => b,
+        _ => Kind::Dead,
+    }
+}
+
+/// What an operation on a kind and a dead number leaves: the pointer to which it is added or from which it is taken, and else
+/// what is dead.
+fn before_dead(a: Kind, op: Op, width: Width) -> Kind
+    requires { IsKind a }
+    ensures table { result ≡ before_dead a op width }
+    ensures kind { IsKind result }
+{
+    match (a, op, width) {
+        (Kind::Ptr { .. }, Op::Add | Op::Sub, Width::W64) => a,
+        _ => Kind::Dead,
+    }
+}
+
+/// A pointer taken from a pointer: by the second profile an address from an address.
+fn take_apart(profile: Profile, a: Number, b: Number) -> Result<Kind, Bad>
+    requires left { IsNumber a }
+    requires right { IsNumber b }
+    ensures table { result ≡ apart_by profile a b }
+    ensures kind { IfOk result IsKind }
+{
+    match profile {
+        Profile::First => Err(Bad::V22),
+        Profile::Second => Ok(Kind::left(Number::operated(profile, Op::Sub, Width::W64, a, b))),
+    }
+}
+
 /// An operation that reads both operands.
 fn transfer_two(profile: Profile, op: Op, width: Width, a: Kind, b: Kind) -> Result<Kind, Bad>
     requires left { IsKind a }
@@ -33,7 +71,8 @@ fn transfer_two(profile: Profile, op: Op, width: Width, a: Kind, b: Kind) -> Res
     ensures kind { IfOk result IsKind }
 {
     match (op, width, a, b) {
-        (_, _, Kind::Dead, _) | (_, _, _, Kind::Dead) => Ok(Kind::Dead),
+        (_, _, Kind::Dead, _) => Ok(after_dead(b, op, width)),
+        (_, _, _, Kind::Dead) => Ok(before_dead(a, op, width)),
         (_, _, Kind::Num(a), Kind::Num(b)) => {
             Ok(Kind::left(Number::operated(profile, op, width, a, b)))
         },
@@ -46,6 +85,20 @@ fn transfer_two(profile: Profile, op: Op, width: Width, a: Kind, b: Kind) -> Res
         (Op::Sub, Width::W64, Kind::Ptr { region, lo, hi }, Kind::Num(by)) => {
             take_from_pointer(region, lo, hi, as_signed(by.range.lo, by.range.hi))
         }
+        (
+            Op::Sub,
+            Width::W64,
+            Kind::Ptr { region, lo, hi },
+            Kind::Ptr {
+                region: other,
+                lo: low,
+                hi: high,
+            },
+        ) => take_apart(
+            profile,
+            Number::of_pointer(region, lo, hi),
+            Number::of_pointer(other, low, high),
+        ),
         _ => Err(Bad::V22),
     }
 }
@@ -68,7 +121,9 @@ fn transfer_kinds(profile: Profile, op: Op, width: Width, a: Kind, b: Kind) -> R
 
 /// What an operation leaves in its destination, by the kinds of the destination and of the operand. A move reads the
 /// operand alone, a negation the destination alone. `V22` is told for a pointer, but where a move of 64 bits copies it, a
-/// number is added to it or taken from it in 64 bits; `V23` where the offset that results may be further than 2^20.
+/// number is added to it or taken from it in 64 bits, or, by the second profile, a pointer is taken from it in 64 bits, which
+/// gives the difference of their addresses; `V23` where the offset that results may be further than 2^20. A dead number leaves
+/// the pointer where it is.
 pub fn transfer(profile: Profile, op: Op, width: Width, a: Kind, b: Kind) -> Result<Kind, Bad>
     requires left { IsKind a }
     requires right { IsKind b }

@@ -7,6 +7,8 @@ pub mod Shape
 pub mod StackCells
 pub mod Places
 pub mod CellSteps
+pub mod Zeros
+pub mod Touches
 pub mod CallSteps
 pub mod Classes
 pub mod Counting

@@ -1,5 +1,5 @@
 -- A plain program that is well behaved is accepted.
-use Rattle.std.proofs.Common.{◌≡◌, ◌≢◌, ℕ, zero, suc, ℤ, pos, negsuc, ◌<◌, ◌≤◌, Bool, true, false, cond, not, eqb, ◌||◌, List, [], ◌∷◌, ◌++◌, length, Option, Some, None, refl, sym, ap, ◌∙◌, subst, inl, inr, ⊎_elim, arith}
+use Rattle.std.proofs.Common.{◌≡◌, ◌≢◌, ℕ, zero, suc, ℤ, pos, negsuc, ◌<◌, ◌≤◌, Bool, true, false, cond, not, eqb, ◌||◌, List, [], ◌∷◌, ◌++◌, length, Option, Some, None, refl, sym, ap, ap₂, ◌∙◌, subst, inl, inr, ⊎_elim, arith}
 use Rattle.std.specs.Prelude.{◌≤ℤ◌, ◌+ℤ◌, ◌&&◌, int_le, slice_get, replicate}
 use Rattle.std.proofs.lemmas.List.{length-replicate}
 use Rattle.std.proofs.lemmas.Int.{ints}
@@ -16,6 +16,7 @@ use Rattle.memory.specs.declared.Region.TheVariants.{Stack, Input, Output}
 use Rattle.ranges.specs.declared.kind.Kind.{Kind}
 use Rattle.ranges.specs.declared.kind.Kind.TheVariants.{Unset, Dead, Num, Ptr}
 use Rattle.memory.specs.declared.profile.Profile.{Profile}
+use Rattle.memory.specs.declared.profile.Profile.TheVariants.{First, Second}
 use Rattle.bpfimage.specs.Form.{next_of, target_of, GoesTo, IsSuccessor, IsPath, IsFormed}
 use Rattle.verifier.specs.Program.{Program}
 use Rattle.verifier.specs.declared.rule.KindRule.{KindRule}
@@ -250,14 +251,9 @@ no_pointer Dead h = refl
 no_pointer (Num a) h = refl
 no_pointer (Ptr q lo hi) h = absurd h
 
-no_compared : (j k : Kind) → IsNum j → IsNum k → compares_pointer j k ≡ false
-no_compared Unset k h g = absurd h
-no_compared Dead k h g = refl
-no_compared (Num a) Unset h g = absurd g
-no_compared (Num a) Dead h g = refl
-no_compared (Num a) (Num b) h g = refl
-no_compared (Num a) (Ptr q lo hi) h g = absurd g
-no_compared (Ptr q lo hi) k h g = absurd h
+no_compared : (profile : Profile) (j k : Kind) → IsNum j → IsNum k → compares_pointer profile j k ≡ false
+no_compared First j k h g = ap₂ (λ s t. s || t) (no_pointer j h) (no_pointer k g)
+no_compared Second j k h g = refl
 
 not_told : (b : Bool) (rule : KindRule) → b ≡ false → broken_if b rule ≡ None
 not_told b rule e = ap (λ t. broken_if t rule) e
@@ -316,7 +312,7 @@ class_kept p callee row (insn.Store size base offset src) long cells plain is in
 class_kept p callee row (insn.Jump d) long cells plain is inside u = tt
 class_kept p callee row (insn.JumpIf c w left right o) long cells plain is inside u = (
   not_told _ PointerOperand
-      (no_compared _ _ (register_number row left (operand_reads right) plain (is.no_address left (inl refl)) u) (operand_number p.profile row right plain (λ r h. is.no_address r (inr h)) (or_right (is_unset (kind_at row left)) (any_unset row (operand_reads right)) u))),
+      (no_compared p.profile _ _ (register_number row left (operand_reads right) plain (is.no_address left (inl refl)) u) (operand_number p.profile row right plain (λ r h. is.no_address r (inr h)) (or_right (is_unset (kind_at row left)) (any_unset row (operand_reads right)) u))),
   tt,
 )
 class_kept p callee row (insn.Call h) long cells plain is inside u = absurd (is.no_call h refl)

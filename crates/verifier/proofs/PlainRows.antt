@@ -26,7 +26,7 @@ use Rattle.ranges.specs.declared.number.Number.{Number}
 use Rattle.memory.specs.declared.profile.Profile.{Profile}
 use Rattle.ranges.specs.declared.kind.Bad.{Bad}
 use Rattle.ranges.specs.Comparisons.{compared}
-use Rattle.ranges.specs.Transfer.{kind_of, transfer_of, of_one, of_two, swap_of, kinds_of, refine_of, join_of}
+use Rattle.ranges.specs.Transfer.{kind_of, transfer_of, of_one, of_two, swap_of, kinds_left, refine_of, join_of}
 use Rattle.bpfimage.specs.Form.{target_of}
 use Rattle.helpers.specs.Calls.{Callee}
 use Rattle.verifier.specs.Registers.{Row, cell_count, IsLong, kind_at, with_kind, kind_from, one_number, is_unset, any_unset}
@@ -153,7 +153,10 @@ left_number (Some a) = tt
 
 two_result : (profile : Profile) (o : Op) (w : Width) (a b : Kind) → IsNum a → IsNum b → GivesNumber (of_two profile o w a b)
 two_result profile o w Unset b ha hb = absurd ha
-two_result profile o w Dead b ha hb = (Dead, refl, tt)
+two_result profile o w Dead Unset ha hb = absurd hb
+two_result profile o w Dead Dead ha hb = (Dead, refl, tt)
+two_result profile o w Dead (Num b) ha hb = (Dead, refl, tt)
+two_result profile o w Dead (Ptr q lo hi) ha hb = absurd hb
 two_result profile o w (Num a) Unset ha hb = absurd hb
 two_result profile o w (Num a) Dead ha hb = (Dead, refl, tt)
 two_result profile o w (Num a) (Num b) ha hb = (_, refl, left_number _)
@@ -179,16 +182,19 @@ swap_result profile kind n (Ptr q lo hi) ha = absurd ha
 abbrev AreNum : Kind × Kind → Type 0
 AreNum k = IsNum k.0 × IsNum k.1
 
-left_numbers : (o : Option (Number × Number)) → AreNum (kinds_of o)
-left_numbers None = (tt, tt)
-left_numbers (Some p) = (tt, tt)
+left_numbers : (a b : Number) (o : Option (Number × Number)) → AreNum (kinds_left (Num a) (Num b) o)
+left_numbers a b None = (tt, tt)
+left_numbers a b (Some p) = (tt, tt)
 
 refined_numbers : (profile : Profile) (c : Cond) (w : Width) (a b : Kind) (t : Bool) → IsNum a → IsNum b → AreNum (refine_of profile c w a b t)
 refined_numbers profile c w Unset b t ha hb = absurd ha
-refined_numbers profile c w Dead b t ha hb = (tt, tt)
+refined_numbers profile c w Dead Unset t ha hb = absurd hb
+refined_numbers profile c w Dead Dead t ha hb = (tt, tt)
+refined_numbers profile c w Dead (Num b) t ha hb = (tt, tt)
+refined_numbers profile c w Dead (Ptr q lo hi) t ha hb = absurd hb
 refined_numbers profile c w (Num a) Unset t ha hb = absurd hb
 refined_numbers profile c w (Num a) Dead t ha hb = (tt, tt)
-refined_numbers profile c w (Num a) (Num b) t ha hb = left_numbers (compared profile c w t a b)
+refined_numbers profile c w (Num a) (Num b) t ha hb = left_numbers a b (compared profile c w t a b)
 refined_numbers profile c w (Num a) (Ptr q lo hi) t ha hb = absurd hb
 refined_numbers profile c w (Ptr q lo hi) b t ha hb = absurd ha
 

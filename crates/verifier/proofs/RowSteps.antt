@@ -1,6 +1,5 @@
 -- Rows that change at one register, and rows joined from the front.
-use Rattle.std.proofs.Common.{◌≡◌, ℕ, zero, suc, ◌+◌, ◌<◌, ◌≤◌, List, [], ◌∷◌, ◌++◌, length, get_or, set, take, drop, Option, Some, refl, sym, ap, ◌∙◌, subst, arith, add-one}
-use Rattle.std.specs.Prelude.{slice_get}
+use Rattle.std.proofs.Common.{◌≡◌, ℕ, zero, suc, ◌+◌, ◌<◌, ◌≤◌, List, [], ◌∷◌, ◌++◌, length, get_or, set, take, drop, Option, refl, ap, ◌∙◌, subst, arith, add-one}
 use Rattle.ranges.specs.Kinds.{IsKind}
 use Rattle.ranges.specs.Transfer.{join_of}
 use Rattle.memory.specs.declared.profile.Profile.{Profile}
@@ -41,17 +40,18 @@ call_sets (a ∷ b ∷ c ∷ d ∷ []) k h = absurd (omega arith)
 call_sets (a ∷ b ∷ c ∷ d ∷ e ∷ []) k h = absurd (omega arith)
 call_sets (a ∷ b ∷ c ∷ d ∷ e ∷ f ∷ row) k h = refl
 
-pub row_kinds_set : (rows : List (Option Row)) (i : ℕ) (next : Option Row) → AreRowKinds rows → HasKinds next → AreRowKinds (set rows i next)
-row_kinds_set [] i next h hn k o e = h k o e
-row_kinds_set (r ∷ rows) zero next h hn zero o e = subst HasKinds (same_Some _ _ e) hn
-row_kinds_set (r ∷ rows) zero next h hn (suc k) o e = h (suc k) o e
-row_kinds_set (r ∷ rows) (suc i) next h hn zero o e = h zero o e
-row_kinds_set (r ∷ rows) (suc i) next h hn (suc k) o e = row_kinds_set rows i next (λ n. h (suc n)) hn k o e
+module _ (profile : Profile) (low : ℕ) where
+  pub row_kinds_set : (rows : List (Option Row)) (i : ℕ) (next : Option Row) → AreRowKinds profile low rows → HasKinds profile low next → AreRowKinds profile low (set rows i next)
+  row_kinds_set [] i next h hn k o e = h k o e
+  row_kinds_set (r ∷ rows) zero next h hn zero o e = subst (HasKinds profile low) (same_Some _ _ e) hn
+  row_kinds_set (r ∷ rows) zero next h hn (suc k) o e = h (suc k) o e
+  row_kinds_set (r ∷ rows) (suc i) next h hn zero o e = h zero o e
+  row_kinds_set (r ∷ rows) (suc i) next h hn (suc k) o e = row_kinds_set rows i next (λ n. h (suc n)) hn k o e
 
-pub at_kinds : (rows : List (Option Row)) (k : ℕ) → AreRowKinds rows → HasKinds (row_at rows k)
-at_kinds [] k h = tt
-at_kinds (r ∷ rows) zero h = h zero r refl
-at_kinds (r ∷ rows) (suc k) h = at_kinds rows k (λ n. h (suc n))
+  pub at_kinds : (rows : List (Option Row)) (k : ℕ) → AreRowKinds profile low rows → HasKinds profile low (row_at rows k)
+  at_kinds [] k h = tt
+  at_kinds (r ∷ rows) zero h = h zero r refl
+  at_kinds (r ∷ rows) (suc k) h = at_kinds rows k (λ n. h (suc n))
 
 -- ---- joins
 
@@ -115,12 +115,3 @@ read_row rows k o h e = e ∙ row_is rows k o h
 
 pub pushed_at : (profile : Profile) (rows : List (Option Row)) (k : ℕ) (o next : Option Row) (row : Row) → k < length rows → o ≡ get_or rows k o → next ≡ joined profile o row → set rows k next ≡ set rows k (joined profile (row_at rows k) row)
 pushed_at profile rows k o next row h e n = ap (set rows k) (n ∙ ap (λ q. joined profile q row) (e ∙ row_is rows k o h))
-
--- a row that is read has the kinds of the rows
-pub read_kinds : (rows : List (Option Row)) (k : ℕ) (o : Option Row) → k < length rows → o ≡ get_or rows k o → AreRowKinds rows → HasKinds o
-read_kinds rows k o h e kinds = kinds k o (at rows k o h e)
-  where
-    at : (rows : List (Option Row)) (k : ℕ) (o : Option Row) → k < length rows → o ≡ get_or rows k o → slice_get rows k ≡ Some o
-    at [] k o h e = absurd (omega arith)
-    at (r ∷ rows) zero o h e = ap Some (sym e)
-    at (r ∷ rows) (suc k) o h e = at rows k o (omega arith) e

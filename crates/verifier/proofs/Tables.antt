@@ -154,7 +154,7 @@ pass_first p rows n m e =
       rows_are = λ k above within. ap (λ xs. slice_get xs k) e ∙ get_replicate n k None (omega (arith, len)) ∙ ap Some (sym (cond-false (eqb k 0) (Some (entry p)) None (ne_eqb k 0 (λ q. omega (arith, q)))));
     }
 
-pub none_kinds : (n : ℕ) → AreRowKinds (replicate n None)
-none_kinds zero k o e = cc
-none_kinds (suc n) zero o e = subst HasKinds (same_Some _ _ e) tt
-none_kinds (suc n) (suc k) o e = none_kinds n k o e
+pub none_kinds : (profile : Profile) (low n : ℕ) → AreRowKinds profile low (replicate n None)
+none_kinds profile low zero k o e = cc
+none_kinds profile low (suc n) zero o e = subst (HasKinds profile low) (same_Some _ _ e) tt
+none_kinds profile low (suc n) (suc k) o e = none_kinds profile low n k o e

@@ -1,14 +1,15 @@
 -- What waits for the slots, as rows change.
-use Rattle.std.proofs.Common.{◌≡◌, ◌≢◌, ℕ, zero, suc, ◌+◌, ◌<◌, eqb, List, [], ◌∷◌, ◌++◌, length, get_or, set, replicate, true, false, Option, Some, None, refl, sym, ap, ◌∙◌, subst, arith}
-use Rattle.std.specs.Prelude.{slice_get}
+use Rattle.std.proofs.Common.{◌≡◌, ◌≢◌, ℕ, zero, suc, ◌+◌, ◌<◌, ◌≤◌, eqb, List, [], ◌∷◌, ◌++◌, length, get_or, set, replicate, true, false, Option, Some, None, refl, sym, ap, ◌∙◌, subst, ⊎_elim, arith}
+use Rattle.std.specs.Prelude.{slice_get, Result, Ok, Err, IfOk}
 use Rattle.std.specs.Option.{option_eq}
-use Rattle.std.proofs.lemmas.Bool.{cond-true, cond-false, eqb-true, eq-eqb, ne_eqb}
+use Rattle.std.proofs.lemmas.Bool.{cases_eq, cond-true, cond-false, eqb-true, eq-eqb, ne_eqb}
 use Rattle.std.proofs.lemmas.Option.{same_Some, slice_get_read}
+use Rattle.memory.specs.declared.profile.Profile.{Profile}
 use Rattle.verifier.specs.declared.waiting.Held.{Held}
+use Rattle.verifier.specs.declared.waiting.Waiting.{Waiting}
 use Rattle.verifier.specs.Registers.{Row}
-use Rattle.verifier.specs.Rows.{row_at, HasKinds, AreRowKinds}
-use Rattle.verifier.specs.Table.{AreKinds}
-use Rattle.verifier.specs.Waiting.{owner_of, owner_at, owned_by, held_for, waiting_from}
+use Rattle.verifier.specs.Rows.{row_at, IsKnown, HasKinds, AreRowKinds}
+use Rattle.verifier.specs.Waiting.{owner_of, owner_at, owned_by, held_for, waiting_from, waiting, AreOwned, IsPool}
 use Rattle.verifier.proofs.Tables.{row_there}
 
 pub length_waiting : {N : ℕ} (s : ℕ) (places : List ℕ) (rows : List (Held N)) → length (waiting_from s places rows) ≡ length places
@@ -165,5 +166,71 @@ set_none [] slot e = refl
 set_none (r ∷ rows) zero e = ap (λ q. q ∷ rows) e
 set_none (r ∷ rows) (suc slot) e = ap (λ rs. r ∷ rs) (set_none rows slot e)
 
-pub row_kinds : (rows : List (Option Row)) (slot : ℕ) (row : Row) → slot < length rows → row_at rows slot ≡ Some row → AreRowKinds rows → AreKinds row
-row_kinds rows slot row lt e kinds = subst HasKinds e (kinds slot (row_at rows slot) (row_there rows slot lt))
+pub row_kinds : (profile : Profile) (low : ℕ) (rows : List (Option Row)) (slot : ℕ) (row : Row) → slot < length rows → row_at rows slot ≡ Some row → AreRowKinds profile low rows → IsKnown profile low row
+row_kinds profile low rows slot row lt e kinds = subst (HasKinds profile low) e (kinds slot (row_at rows slot) (row_there rows slot lt))
+
+-- ---- the pool
+
+-- the owners of the rows before a place, as a row there or behind it changes
+before_set : {N : ℕ} (rows : List (Held N)) (place q : ℕ) (held : Held N) → q < place → owner_at (set rows place held) q ≡ owner_at rows q
+before_set [] place q held lt = refl
+before_set (r ∷ rows) zero q held lt = absurd (omega (arith, lt))
+before_set (r ∷ rows) (suc place) zero held lt = refl
+before_set (r ∷ rows) (suc place) (suc q) held lt = before_set rows place q held (omega (arith, lt))
+
+before_more : {N : ℕ} (rows : List (Held N)) (q : ℕ) (held : Held N) → q < length rows → owner_at (rows ++ held ∷ []) q ≡ owner_at rows q
+before_more [] q held lt = absurd (omega (arith, lt))
+before_more (r ∷ rows) zero held lt = refl
+before_more (r ∷ rows) (suc q) held lt = before_more rows q held (omega (arith, lt))
+
+is_some_owner : (o : Option ℕ) (slot : ℕ) → o ≡ Some slot → o ≢ None
+is_some_owner o slot e none = let clash : Some slot ≡ None = sym e ∙ none in cc
+
+-- no place before one was free, and this one is taken
+pub owned_more : {N : ℕ} (rows : List (Held N)) (place slot : ℕ) (held : Held N) → AreOwned rows place → place < length rows → held.owner ≡ Some slot → AreOwned (set rows place held) (place + 1)
+owned_more rows place slot held h lt is q le =
+    ⊎_elim (λ same. is_some_owner _ slot (ap (owner_at (set rows place held)) same ∙ ap owner_of (got_set rows place held lt) ∙ is))
+    (λ other. let before : q < place = omega (arith, other, le) in subst (λ o. o ≢ None) (sym (before_set rows place q held before)) (h q before))
+    (cases_eq q place)
+
+-- each place was taken, and a row more is
+pub owned_pushed : {N : ℕ} (rows : List (Held N)) (place slot : ℕ) (held : Held N) → AreOwned rows (length rows) → place ≡ length rows → held.owner ≡ Some slot → AreOwned (rows ++ held ∷ []) (place + 1)
+owned_pushed rows place slot held h e is q le =
+    ⊎_elim (λ same. is_some_owner _ slot (ap (owner_at (rows ++ held ∷ [])) same ∙ ap owner_of (got_more rows place held e) ∙ is))
+    (λ other. let before : q < length rows = omega (arith, other, le, e) in subst (λ o. o ≢ None) (sym (before_more rows q held before)) (h q before))
+    (cases_eq q place)
+
+-- one is let go
+pub owned_less : {N : ℕ} (rows : List (Held N)) (free place less : ℕ) (held : Held N) → AreOwned rows free → less ≤ free → less ≤ place → AreOwned (set rows place held) less
+owned_less rows free place less held h le there q lt =
+    subst (λ o. o ≢ None) (sym (before_set rows place q held (omega (arith, lt, there)))) (h q (omega (arith, lt, le)))
+
+pub owner_set : {N : ℕ} (rows : List (Held N)) (place : ℕ) (held : Held N) → place < length rows → owner_at (set rows place held) place ≡ held.owner
+owner_set rows place held lt = ap owner_of (got_set rows place held lt)
+
+-- a row changes, and not its owner
+pub owned_kept : {N : ℕ} (rows : List (Held N)) (free place : ℕ) (held : Held N) → AreOwned rows free → place < length rows → owner_at rows place ≡ held.owner → AreOwned (set rows place held) free
+owned_kept rows free place held h lt same q le =
+    ⊎_elim (λ e. let here : owner_at (set rows place held) q ≡ owner_at rows q = ap (owner_at (set rows place held)) e ∙ owner_set rows place held lt ∙ sym same ∙ sym (ap (owner_at rows) e) in subst (λ o. o ≢ None) (sym here) (h q le))
+    (λ ne. subst (λ o. o ≢ None) (sym (elsewhere rows place q held ne)) (h q le))
+    (cases_eq q place)
+  where
+    elsewhere : {N : ℕ} (rows : List (Held N)) (place q : ℕ) (held : Held N) → q ≢ place → owner_at (set rows place held) q ≡ owner_at rows q
+    elsewhere [] place q held ne = refl
+    elsewhere (r ∷ rows) zero zero held ne = absurd (ne refl)
+    elsewhere (r ∷ rows) zero (suc q) held ne = refl
+    elsewhere (r ∷ rows) (suc place) zero held ne = refl
+    elsewhere (r ∷ rows) (suc place) (suc q) held ne = elsewhere rows place q held (λ e. ne (ap suc e))
+
+-- a pool after a row was set, with the same zeros
+pub pool_moved : {N : ℕ} (profile : Profile) (w w' : Waiting N) → w'.low ≡ w.low → AreOwned w'.held.items w'.free → AreRowKinds profile w.low (waiting w') → IsPool profile w → IsPool profile w'
+pool_moved {N} profile w w' e owned kinds pool = record {
+  kinds = subst (λ l. AreRowKinds profile l (waiting w')) (sym e) kinds;
+  owned = owned;
+  registers = subst (λ l. 11 ≤ l) (sym e) pool.registers;
+  short = subst (λ l. l ≤ N) (sym e) pool.short;
+}
+
+pub ok_both : {A E : Type 0} (r : Result A E) (P Q R : A → Type 0) → IfOk r P → IfOk r Q → ((x : A) → P x → Q x → R x) → IfOk r R
+ok_both (Ok x) P Q R p q f = f x p q
+ok_both (Err e) P Q R p q f = tt

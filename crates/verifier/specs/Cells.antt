@@ -2,7 +2,10 @@
 use Rattle.std.specs.Prelude.{ℕ, ◌+◌, ◌*◌, ◌/◌, ◌%◌, ◌==◌, ℤ, pos, negsuc, ◌+ℤ◌, int_le, int_lt, nat_lt, Bool, true, false, ◌&&◌, if◌then◌else◌, Option, None, Some, List, [], ◌∷◌, ◌++◌, take, drop, slice_index_or, slice_set}
 use Rattle.memory.specs.Windows.{longest_window}
 use Rattle.memory.specs.declared.Region.TheVariants.{Stack}
+use Rattle.insn.specs.Encoding.{size_bytes}
 use Rattle.insn.specs.declared.Register.TheVariants.{R1, R2, R3}
+use Rattle.insn.specs.declared.Insn.{Insn}
+use Rattle.insn.specs.declared.Insn.TheVariants as insn
 use Rattle.ranges.specs.Numbers.{full}
 use Rattle.ranges.specs.Transfer.{kind_in}
 use Rattle.memory.specs.declared.profile.Profile.{Profile}
@@ -144,3 +147,15 @@ abbrev pub row_written : Profile → Callee → Row → Row
 row_written profile Copy row = row_touched profile (span_given longest_window (kind_at row R1) (kind_at row R3)) row
 row_written profile Fill row = row_touched profile (span_given longest_window (kind_at row R1) (kind_at row R3)) row
 row_written profile other row = row
+
+-- ---- the bytes of the stack that a call may write, and those that any instruction may
+
+abbrev pub span_by_call : Callee → Row → Option Span
+span_by_call Copy row = span_given longest_window (kind_at row R1) (kind_at row R3)
+span_by_call Fill row = span_given longest_window (kind_at row R1) (kind_at row R3)
+span_by_call other row = None
+
+abbrev pub span_written : Callee → Row → Insn → Option Span
+span_written callee row (insn.Store size base offset src) = span_of (kind_at row base) offset (size_bytes size)
+span_written callee row (insn.Call helper) = span_by_call callee row
+span_written callee row other = None

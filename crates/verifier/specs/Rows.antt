@@ -1,8 +1,9 @@
 -- A list of rows with edges joined in.
-use Rattle.std.specs.Prelude.{◌≡◌, ◌≢◌, ℕ, zero, suc, ◌+◌, ◌<◌, List, [], ◌∷◌, Option, Some, None, length, slice_get, slice_set}
+use Rattle.std.specs.Prelude.{◌≡◌, ◌≢◌, ℕ, zero, suc, ◌+◌, ◌<◌, ◌≤◌, List, [], ◌∷◌, Option, Some, None, length, slice_get, slice_set, slice_index_or}
 use Rattle.memory.specs.declared.profile.Profile.{Profile}
 use Rattle.verifier.specs.Program.{Program}
-use Rattle.verifier.specs.Registers.{Row}
+use Rattle.ranges.specs.declared.kind.Kind.TheVariants.{Unset}
+use Rattle.verifier.specs.Registers.{Row, one_number}
 use Rattle.verifier.specs.Table.{Edge, joined, arrivals, table, AreKinds}
 
 abbrev pub row_at : List (Option Row) → ℕ → Option Row
@@ -33,19 +34,28 @@ abbrev pub Misses : ℕ → List Edge → Type 0
 Misses k [] = Unit {0}
 Misses k (e ∷ es) = (e.0 ≢ k) × Misses k es
 
--- every kind that an edge brings may stand in it
-abbrev pub HaveKinds : List Edge → Type 0
-HaveKinds [] = Unit {0}
-HaveKinds (e ∷ es) = AreKinds e.1 × HaveKinds es
+-- Behind the registers, those kinds of a row that stand before a place are the zero with which cells begin.
+abbrev pub StartsZero : Profile → ℕ → Row → Type 0
+StartsZero profile low row = (i : ℕ) → 11 ≤ i → i < low → slice_index_or row i Unset ≡ one_number profile 0
 
--- every kind of a row, if there is one, may stand in it
-abbrev pub HasKinds : Option Row → Type 0
-HasKinds None = Unit {0}
-HasKinds (Some row) = AreKinds row
+-- a row of the pass: every kind of it may stand in it, and the cells before a place are the zero
+pub record IsKnown (profile : Profile) (low : ℕ) (row : Row) : Type 0 where
+  pub kinds : AreKinds row
+  pub zeros : StartsZero profile low row
 
--- and so in all rows
-abbrev pub AreRowKinds : List (Option Row) → Type 0
-AreRowKinds rows = (k : ℕ) (o : Option Row) → slice_get rows k ≡ Some o → HasKinds o
+-- and so what an edge brings
+abbrev pub HaveKinds : Profile → ℕ → List Edge → Type 0
+HaveKinds profile low [] = Unit {0}
+HaveKinds profile low (e ∷ es) = IsKnown profile low e.1 × HaveKinds profile low es
+
+-- a row, if there is one
+abbrev pub HasKinds : Profile → ℕ → Option Row → Type 0
+HasKinds profile low None = Unit {0}
+HasKinds profile low (Some row) = IsKnown profile low row
+
+-- all rows
+abbrev pub AreRowKinds : Profile → ℕ → List (Option Row) → Type 0
+AreRowKinds profile low rows = (k : ℕ) (o : Option Row) → slice_get rows k ≡ Some o → HasKinds profile low o
 
 -- before slot i is visited: the row at hand is the join over all edges into it, and the row that is kept for each higher slot is
 -- that over the edges so far

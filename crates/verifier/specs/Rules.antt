@@ -17,9 +17,10 @@ use Rattle.memory.specs.State.{no_calls, reads, writes}
 use Rattle.ranges.specs.Numbers.{full}
 use Rattle.ranges.specs.Transfer.{kind_in, transfer_of, swap_of, refine_of}
 use Rattle.memory.specs.declared.profile.Profile.{Profile}
+use Rattle.memory.specs.declared.profile.Profile.TheVariants.{First, Second}
 use Rattle.ranges.specs.declared.range.Range.{Range}
 use Rattle.ranges.specs.declared.kind.Kind.{Kind}
-use Rattle.ranges.specs.declared.kind.Kind.TheVariants.{Unset, Dead}
+use Rattle.ranges.specs.declared.kind.Kind.TheVariants.{Unset}
 use Rattle.ranges.specs.declared.kind.Bad.{Bad}
 use Rattle.ranges.specs.declared.kind.Bad.TheVariants.{V22, V23}
 use Rattle.helpers.specs.declared.sig.Entry.{Entry}
@@ -52,11 +53,10 @@ bad_result (Ok k) = None
 bad_result (Err V22) = Some PointerOperand
 bad_result (Err V23) = Some FarOffset
 
--- whether a condition has a pointer as an operand: beside what is Dead none counts
-abbrev pub compares_pointer : Kind → Kind → Bool
-compares_pointer Dead k = false
-compares_pointer j Dead = false
-compares_pointer j k = is_pointer j || is_pointer k
+-- whether a condition has a pointer as an operand that the profile doesn't compare: the second one compares addresses
+abbrev pub compares_pointer : Profile → Kind → Kind → Bool
+compares_pointer First j k = is_pointer j || is_pointer k
+compares_pointer Second j k = false
 
 -- the rules on a call, each where it is broken, the lowest number first
 abbrev pub call_rules : Program → Callee → Row → List (Option KindRule)
@@ -76,7 +76,7 @@ class_rules p callee row (insn.Store size base offset src) =
     ∷ broken_if (is_pointer (kind_from p.profile row src) && not (is_cell (whole_cell p.profile (kind_at row base) offset (size_bytes size)))) PointerStored
     ∷ []
 class_rules p callee row (insn.JumpIf c width left right offset) =
-    broken_if (compares_pointer (kind_at row left) (kind_from p.profile row right)) PointerOperand ∷ []
+    broken_if (compares_pointer p.profile (kind_at row left) (kind_from p.profile row right)) PointerOperand ∷ []
 class_rules p callee row (insn.Call helper) = call_rules p callee row
 class_rules p callee row insn.Exit = broken_if (is_pointer (kind_at row R0)) PointerAnswer ∷ []
 class_rules p callee row other = []

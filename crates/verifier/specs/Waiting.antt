@@ -1,6 +1,8 @@
 -- Rows that wait for slots: a slot's row is the one at its place, where that one waits for this slot.
-use Rattle.std.specs.Prelude.{ℕ, suc, ◌==◌, if◌then◌else◌, List, [], ◌∷◌, Option, Some, None, slice_get}
+use Rattle.std.specs.Prelude.{◌≢◌, ℕ, suc, ◌<◌, ◌≤◌, ◌==◌, if◌then◌else◌, List, [], ◌∷◌, Option, Some, None, slice_get}
+use Rattle.memory.specs.declared.profile.Profile.{Profile}
 use Rattle.verifier.specs.Registers.{Row}
+use Rattle.verifier.specs.Rows.{AreRowKinds}
 use Rattle.verifier.specs.declared.waiting.Held.{Held}
 use Rattle.verifier.specs.declared.waiting.Waiting.{Waiting}
 
@@ -29,3 +31,16 @@ waiting_from slot (place ∷ places) rows = held_for slot (slice_get rows place)
 -- what waits for each slot
 abbrev pub waiting : {N : ℕ} → Waiting N → List (Option Row)
 waiting w = waiting_from 0 w.places.items w.held.items
+
+-- ---- the pool of rows
+
+-- the row at each place before one waits for some slot
+abbrev pub AreOwned : {N : ℕ} → List (Held N) → ℕ → Type 0
+AreOwned rows n = (place : ℕ) → place < n → owner_at rows place ≢ None
+
+-- The rows that wait: known, with the zero in each cell before a place; and no free place before that from which one is sought.
+pub record IsPool {N : ℕ} (profile : Profile) (w : Waiting N) : Type 0 where
+  pub kinds : AreRowKinds profile w.low (waiting w)
+  pub owned : AreOwned w.held.items w.free
+  pub registers : 11 ≤ w.low
+  pub short : w.low ≤ N

@@ -5,13 +5,13 @@ ghost use Rattle.ranges.specs.Kinds.{IsKind};
 ghost use Rattle.verifier.specs.Registers.{cell_count};
 ghost use Rattle.verifier.specs.Table.{AreKinds};
 ghost use Rattle.verifier.specs.CallKinds.{callee_from};
-ghost use Rattle.verifier.specs.Cells.{place_of, span_of, cell_from, whole_cell, is_touched, touched, cells_touched, row_touched, row_stored_in, cell_kind, read_kind, is_numeric, are_numeric, has_numbers, is_readable, span_given, reads_numbers, own_numbers, call_reads_numbers, row_written};
+ghost use Rattle.verifier.specs.Cells.{place_of, span_of, cell_from, whole_cell, is_touched, touched, cells_touched, row_touched, row_stored_in, cell_kind, read_kind, is_numeric, are_numeric, has_numbers, is_readable, span_given, reads_numbers, own_numbers, call_reads_numbers, row_written, span_by_call, span_written};
 
 use crate::callee::{Called, first_kind};
 use crate::kinds::{kind_of, put};
 use crate::span::Span;
 use helpers::ArgRule;
-use insn::Register;
+use insn::{Insn, Register};
 use memory::{MAX_WINDOW, Region};
 use ranges::{Kind, Profile, Range, kind_in};
 
@@ -136,12 +136,37 @@ fn touch_cell(profile: Profile, span: Span, place: u32, kind: Kind) -> Kind
     }
 }
 
+/// The place in a row before which no cell is touched.
+fn first_place(span: Span) -> usize
+    ensures registers { 11 ≤ result }
+    ensures before { 11 < result → pos (8 * (result - 11)) ≤ℤ span.from }
+    ensures few { result ≤ 75 }
+{
+    if span.from < 0 {
+        11
+    } else if span.from < 512 {
+        11 + span.from as usize / 8
+    } else {
+        75
+    }
+}
+
+/// Whether no cell from a place on is touched.
+fn is_past(span: Span, place: u32) -> bool
+    ensures { result ≡ int_le span.to (pos place) }
+{
+    span.to <= i64::from(place)
+}
+
 /// Forgets what is known of the cells that a write may touch, from that one on which begins at a place.
 fn touch_from(profile: Profile, span: Span, place: u32, at: usize, row: &mut [Kind])
     requires room { place + 8 * (length row.old - at) ≤ 2 ^ 20 }
     ensures { row.new ≡ take at row.old ++ cells_touched profile span place (drop at row.old) }
 {
     if at < row.len() {
+        if is_past(span, place) {
+            return;
+        }
         row[at] = touch_cell(profile, span, place, row[at]);
         touch_from(profile, span, place + 8, at + 1, row);
     }
@@ -154,7 +179,8 @@ fn touch(profile: Profile, span: Option<Span>, row: &mut [Kind])
     ensures kinds { AreKinds row.old → AreKinds row.new }
 {
     if let Some(span) = span {
-        touch_from(profile, span, 0, 11, row);
+        let at = first_place(span);
+        touch_from(profile, span, 8 * (at - 11) as u32, at, row);
     }
 }
 
@@ -215,6 +241,7 @@ fn are_numeric(span: Span, place: u32, cells: &[Kind]) -> bool
 {
     match cells {
         [] => true,
+        _ if is_past(span, place) => true,
         [cell, cells @ ..] => {
             (is_numeric(*cell) || !is_touched(span, place)) && are_numeric(span, place + 8, cells)
         }
@@ -228,7 +255,10 @@ fn has_numbers(row: &[Kind], span: Option<Span>) -> bool
     ensures { result ≡ has_numbers row.now span }
 {
     match span {
-        Some(span) => are_numeric(span, 0, &row[11..]),
+        Some(span) => {
+            let at = first_place(span).min(row.len());
+            are_numeric(span, 8 * (at - 11) as u32, &row[at..])
+        }
         None => true,
     }
 }
@@ -309,6 +339,50 @@ pub fn call_reads_numbers(callee: &Called, row: &[Kind]) -> bool
     }
 }
 
+/// The bytes of the stack that a call may write.
+fn span_by_call(callee: &Called, row: &[Kind]) -> Option<Span>
+    requires { AreKinds row.now }
+    ensures { result ≡ span_by_call (callee_from callee.now) row.now }
+{
+    match callee {
+        Called::Copy | Called::Fill => {
+            let len = kind_of(row, Register::R3);
+            span_given(MAX_WINDOW, kind_of(row, Register::R1), len)
+        }
+        Called::Same | Called::Helper(_) | Called::Unknown => None,
+    }
+}
+
+/// The bytes of the stack that an instruction may write.
+pub fn span_written(callee: &Called, row: &[Kind], insn: Insn) -> Option<Span>
+    requires { AreKinds row.now }
+    ensures { result ≡ span_written (callee_from callee.now) row.now insn }
+{
+    match insn {
+        Insn::Store {
+            size,
+            base,
+            offset,
+            ..
+        } => span_of(kind_of(row, base), offset, size.bytes() as u32),
+        Insn::Call { .. } => span_by_call(callee, row),
+        _ => None,
+    }
+}
+
+/// A place in a row, or a lower one, before which no cell is touched by a write.
+pub fn lowered(low: usize, written: Option<Span>) -> usize
+    requires { 11 ≤ low }
+    ensures registers { 11 ≤ result }
+    ensures lower { result ≤ low }
+    ensures before { IfSome written (λ span. 11 < result → pos (8 * (result - 11)) ≤ℤ span.from) }
+{
+    match written {
+        Some(span) => low.min(first_place(span)),
+        None => low,
+    }
+}
+
 /// Forgets what is known of the cells that a call may write.
 pub fn write_by_call(profile: Profile, callee: &Called, row: &mut [Kind])
     requires short { length row.old ≤ 75 }
@@ -316,9 +390,6 @@ pub fn write_by_call(profile: Profile, callee: &Called, row: &mut [Kind])
     ensures table { row.new ≡ row_written profile (callee_from callee.now) row.old }
     ensures kinds { AreKinds row.new }
 {
-    if matches!(callee, Called::Copy | Called::Fill) {
-        let len = kind_of(row, Register::R3);
-        let span = span_given(MAX_WINDOW, kind_of(row, Register::R1), len);
-        touch(profile, span, row);
-    }
+    let span = span_by_call(callee, row);
+    touch(profile, span, row);
 }

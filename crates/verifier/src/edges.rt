@@ -1,14 +1,15 @@
 //! Edges, which are joined into what waits for their targets.
 
-ghost use Rattle.std.specs.Prelude.{◌≡◌, ◌<◌, ◌+◌, ◌++◌, ℕ, ℤ, IfOk, true, false, pos, Some, None, length, slice_set};
+ghost use Rattle.std.specs.Prelude.{◌≡◌, ◌<◌, ◌≤◌, ◌+◌, ◌++◌, ℕ, ℤ, IfOk, true, false, pos, Some, None, length, slice_set};
 ghost use Rattle.bpfimage.specs.Form.{next_of, target_of};
 ghost use Rattle.verifier.specs.Rules.{row_taken};
 ghost use Rattle.verifier.specs.Table.{join_rows, joined, next_edge, target_edge, AreKinds};
 ghost use Rattle.verifier.specs.Registers.{one_number};
 ghost use Rattle.ranges.specs.Kinds.{IsKind};
 ghost use Rattle.ranges.specs.Transfer.{join_of};
-ghost use Rattle.verifier.specs.Rows.{row_at, push_one, pushed, edge_list, LeadBelow, HaveKinds, Misses, AreRowKinds};
-ghost use Rattle.verifier.specs.Waiting.{waiting};
+ghost use Rattle.verifier.specs.Rows.{row_at, push_one, pushed, edge_list, LeadBelow, IsKnown, HaveKinds, HasKinds, Misses};
+ghost use Rattle.verifier.specs.Waiting.{waiting, AreOwned, IsPool};
+ghost use Rattle.memory.specs.declared.profile.Profile.{Profile};
 
 use crate::kinds::{one_number, write_taken};
 use crate::waiting::Waiting;
@@ -46,29 +47,42 @@ fn join_kind_onto(profile: Profile, zero: &Kind, kept: &Kind, new: &mut Kind)
     }
 }
 
-/// Joins a row into one that was there before.
-fn join_row<const N: usize>(profile: Profile, kept: &mut [Kind; N], new: &[Kind; N])
-    requires old { AreKinds kept.old }
-    requires kinds { AreKinds new.now }
+/// Joins a row into one that was there before. The cells before a place, which are the zero in both, are left.
+fn join_row<const N: usize>(profile: Profile, low: usize, kept: &mut [Kind; N], new: &[Kind; N])
+    requires registers { 11 ≤ low }
+    requires short { low ≤ N }
+    requires old { IsKnown profile low kept.old }
+    requires new { IsKnown profile low new.now }
     ensures table { kept.new ≡ join_rows profile kept.old new.now }
-    ensures kinds { AreKinds kept.new }
+    ensures known { IsKnown profile low kept.new }
 {
     let zero = one_number(profile, 0);
     for i in 0..N {
-        join_kind(profile, &zero, &mut kept[i], &new[i]);
+        if i < 11 || low <= i {
+            join_kind(profile, &zero, &mut kept[i], &new[i]);
+        }
     }
 }
 
-/// Joins a row onto one that was there before.
-fn join_row_onto<const N: usize>(profile: Profile, kept: &[Kind; N], new: &mut [Kind; N])
-    requires kept { AreKinds kept.now }
-    requires old { AreKinds new.old }
+/// Joins a row onto one that was there before. The cells before a place, which are the zero in both, are left.
+fn join_row_onto<const N: usize>(
+    profile: Profile,
+    low: usize,
+    kept: &[Kind; N],
+    new: &mut [Kind; N],
+)
+    requires registers { 11 ≤ low }
+    requires short { low ≤ N }
+    requires kept { IsKnown profile low kept.now }
+    requires old { IsKnown profile low new.old }
     ensures table { new.new ≡ join_rows profile kept.now new.old }
-    ensures kinds { AreKinds new.new }
+    ensures known { IsKnown profile low new.new }
 {
     let zero = one_number(profile, 0);
     for i in 0..N {
-        join_kind_onto(profile, &zero, &kept[i], &mut new[i]);
+        if i < 11 || low <= i {
+            join_kind_onto(profile, &zero, &kept[i], &mut new[i]);
+        }
     }
 }
 
@@ -80,15 +94,27 @@ fn join_waiting<const N: usize>(
     row: &mut [Kind; N],
 )
     requires within { slot < length (waiting rows.old) }
-    requires old { AreRowKinds (waiting rows.old) }
-    requires kinds { AreKinds row.old }
+    requires pool { IsPool profile rows.old }
+    requires known { IsKnown profile rows.old.low row.old }
     ensures row { Some row.new ≡ joined profile (row_at (waiting rows.old) slot) row.old }
     ensures rows { waiting rows.new ≡ slice_set (waiting rows.old) slot None }
-    ensures kinds { AreKinds row.new }
+    ensures pool { IsPool profile rows.new }
+    ensures low { rows.new.low ≡ rows.old.low }
+    ensures known { IsKnown profile rows.new.low row.new }
 {
     if let Some(place) = rows.place_of(slot) {
-        join_row_onto(profile, &rows.held[place].kinds, row);
+        join_row_onto(profile, rows.low, &rows.held[place].kinds, row);
         rows.release(slot, place);
+    }
+}
+
+/// Copies a row, over another where there is one.
+fn copy_to<const N: usize>(row: &[Kind; N], here: &mut Option<[Kind; N]>)
+    ensures { here.new ≡ Some row.now }
+{
+    match here {
+        Some(kinds) => kinds.copy_from_slice(row),
+        None => *here = Some(*row),
     }
 }
 
@@ -99,16 +125,15 @@ pub fn take_waiting<const N: usize>(
     here: &mut Option<[Kind; N]>,
 )
     requires within { slot < length (waiting rows.old) }
+    requires owned { AreOwned rows.old.held.items rows.old.free }
     ensures here { here.new ≡ row_at (waiting rows.old) slot }
     ensures rows { waiting rows.new ≡ slice_set (waiting rows.old) slot None }
+    ensures pool { (profile : Profile) → IsPool profile rows.old → IsPool profile rows.new }
+    ensures known { (profile : Profile) → IsPool profile rows.old → HasKinds profile rows.new.low here.new }
 {
     match rows.place_of(slot) {
         Some(place) => {
-            let kinds = &rows.held[place].kinds;
-            match here {
-                Some(row) => row.copy_from_slice(kinds),
-                None => *here = Some(*kinds),
-            }
+            copy_to(&rows.held[place].kinds, here);
             rows.release(slot, place);
         }
         None => *here = None,
@@ -123,14 +148,15 @@ fn push_edge<const N: usize>(
     row: &[Kind; N],
 ) -> Result<(), AllocError>
     requires within { to < length (waiting rows.old) }
-    requires kinds { AreKinds row.now }
-    requires old { AreRowKinds (waiting rows.old) }
+    requires known { IsKnown profile rows.old.low row.now }
+    requires pool { IsPool profile rows.old }
     ensures rows { IfOk result (λ _. waiting rows.new ≡ push_one profile (waiting rows.old) (to, row.now)) }
-    ensures kinds { IfOk result (λ _. AreRowKinds (waiting rows.new)) }
+    ensures pool { IfOk result (λ _. IsPool profile rows.new) }
+    ensures low { rows.new.low ≡ rows.old.low }
 {
     match rows.place_of(to) {
         Some(place) => {
-            join_row(profile, &mut rows.held[place].kinds, row);
+            join_row(profile, rows.low, &mut rows.held[place].kinds, row);
             Ok(())
         }
         None => rows.wait(to, row),
@@ -149,7 +175,7 @@ pub fn taken_edge<const N: usize>(
     requires ahead { (z : ℤ) → target_of at insn ≡ Some z → (k : ℕ) × (z ≡ pos k) }
     requires kinds { AreKinds row.now }
     ensures edge { edge_list result taken.new ≡ target_edge (target_of at insn) (row_taken profile row.now insn) }
-    ensures kinds { HaveKinds (edge_list result taken.new) }
+    ensures known { (low : ℕ) → IsKnown profile low row.now → HaveKinds profile low (edge_list result taken.new) }
 {
     match target_of(at, insn) {
         Some(target) => {
@@ -168,10 +194,11 @@ fn push_taken<const N: usize>(
     taken: &[Kind; N],
 ) -> Result<(), AllocError>
     requires within { LeadBelow (length (waiting rows.old)) (edge_list target taken.now) }
-    requires kinds { HaveKinds (edge_list target taken.now) }
-    requires old { AreRowKinds (waiting rows.old) }
+    requires known { HaveKinds profile rows.old.low (edge_list target taken.now) }
+    requires pool { IsPool profile rows.old }
     ensures rows { IfOk result (λ _. waiting rows.new ≡ pushed profile (waiting rows.old) (edge_list target taken.now)) }
-    ensures kinds { IfOk result (λ _. AreRowKinds (waiting rows.new)) }
+    ensures pool { IfOk result (λ _. IsPool profile rows.new) }
+    ensures low { rows.new.low ≡ rows.old.low }
 {
     match target {
         Some(target) => push_edge(profile, rows, target, taken),
@@ -194,16 +221,16 @@ pub fn lead_on<const N: usize>(
     requires small { at < 4096 }
     requires next { (k : ℕ) → next_of at insn ≡ Some k → k < length (waiting rows.old) }
     requires within { LeadBelow (length (waiting rows.old)) (edge_list target taken.now) }
-    requires kinds { AreKinds row.old }
-    requires taken_kinds { HaveKinds (edge_list target taken.now) }
-    requires old { AreRowKinds (waiting rows.old) }
+    requires known { IsKnown profile rows.old.low row.old }
+    requires taken { HaveKinds profile rows.old.low (edge_list target taken.now) }
+    requires pool { IsPool profile rows.old }
     ensures on { IfOk result (λ on. on ≡ true → next_of at insn ≡ Some (at + 1)) }
     ensures joined { IfOk result (λ on. on ≡ true → Some row.new ≡ joined profile (row_at (waiting rows.old) (at + 1)) row.old) }
     ensures misses { IfOk result (λ on. on ≡ true → Misses (at + 1) (edge_list target taken.now)) }
     ensures rest { IfOk result (λ on. on ≡ true → waiting rows.new ≡ pushed profile (slice_set (waiting rows.old) (at + 1) None) (edge_list target taken.now)) }
     ensures all { IfOk result (λ on. on ≡ false → waiting rows.new ≡ pushed profile (waiting rows.old) (next_edge (next_of at insn) row.old ++ edge_list target taken.now)) }
-    ensures kinds { IfOk result (λ _. AreRowKinds (waiting rows.new)) }
-    ensures row { IfOk result (λ _. AreKinds row.new) }
+    ensures pool { IfOk result (λ _. IsPool profile rows.new) }
+    ensures known { IfOk result (λ _. IsKnown profile rows.new.low row.new) }
 {
     let next = next_of(at, insn);
     if next == Some(at + 1) && target != Some(at + 1) {

@@ -1,13 +1,14 @@
 //! What is known of the registers, from slot to slot. A row has the kinds of R0 to R10, and behind them those of the stack's
 //! cells, from the lowest on.
 
-ghost use Rattle.std.specs.Prelude.{◌≡◌, ◌≤◌, ◌%◌, ◌^◌, slice_set};
+ghost use Rattle.std.specs.Prelude.{◌≡◌, ◌≤◌, ◌%◌, ◌^◌, ℕ, slice_set};
 ghost use Rattle.alu.specs.Value.{bits, wrapped};
 ghost use Rattle.insn.specs.Encoding.{size_bytes};
 ghost use Rattle.ranges.specs.Kinds.{IsKind};
 ghost use Rattle.verifier.specs.Registers.{kind_at, with_kind, one_number, kind_from};
 ghost use Rattle.verifier.specs.Rules.{numbers_loaded, loaded, refined, row_taken};
 ghost use Rattle.verifier.specs.Table.{AreKinds};
+ghost use Rattle.verifier.specs.Rows.{StartsZero};
 
 use alu::{Cond, Width};
 use insn::{Extend, Insn, Operand, Register, Size};
@@ -125,8 +126,8 @@ pub fn refine_row(
     }
 }
 
-/// Writes the kinds where a jump is taken.
-pub fn write_taken<const N: usize>(
+/// Copies the kinds to where a jump is taken, and narrows them there.
+fn copy_refined<const N: usize>(
     profile: Profile,
     row: &[Kind; N],
     insn: Insn,
@@ -147,4 +148,19 @@ pub fn write_taken<const N: usize>(
     {
         refine_row(profile, cond, width, left, right, true, taken);
     }
+}
+
+/// Writes the kinds where a jump is taken. Cells that are the zero with which they begin stay so.
+pub fn write_taken<const N: usize>(
+    profile: Profile,
+    row: &[Kind; N],
+    insn: Insn,
+    taken: &mut [Kind; N],
+)
+    requires { AreKinds row.now }
+    ensures table { taken.new ≡ row_taken profile row.now insn }
+    ensures kinds { AreKinds taken.new }
+    ensures zeros { (low : ℕ) → StartsZero profile low row.now → StartsZero profile low taken.new }
+{
+    copy_refined(profile, row, insn, taken);
 }

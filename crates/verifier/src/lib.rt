@@ -16,7 +16,12 @@ pub mod verifying;
 mod waiting;
 mod windows;
 
+// What the pass does at one slot: the rules on its instruction, the kinds after it, and those that its jump takes along.
 pub use bpfimage::{FormRule, Image, ImageFault, ImageKind, raw_image, read_image};
+pub use callee::Called;
+pub use candidate::Candidate;
+pub use edges::taken_edge;
 pub use rule::{KindRule, Refused, Rule};
+pub use rules::advance;
 pub use verified::Verified;
 pub use verifying::verify;

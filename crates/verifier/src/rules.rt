@@ -7,7 +7,7 @@ ghost use Rattle.memory.specs.State.{writes, operand_reads};
 ghost use Rattle.helpers.specs.Calls.{Unknown};
 ghost use Rattle.ranges.specs.Kinds.{IsKind};
 ghost use Rattle.verifier.specs.Candidates.{program_in};
-ghost use Rattle.verifier.specs.Registers.{kind_at, with_kind, kind_from, is_unset, any_unset, is_inside};
+ghost use Rattle.verifier.specs.Registers.{kind_at, with_kind, kind_from, is_unset, is_pointer, any_unset, is_inside};
 ghost use Rattle.verifier.specs.CallKinds.{callee_from};
 ghost use Rattle.verifier.specs.Answered.{row_after_call};
 ghost use Rattle.verifier.specs.Cells.{span_of, whole_cell};
@@ -184,14 +184,20 @@ fn call_rule(program: &Candidate, callee: &Called, row: &[Kind]) -> Option<KindR
     }
 }
 
-/// Whether a condition has a pointer as an operand, and none that is dead.
-fn compares_pointer(a: Kind, b: Kind) -> bool
-    ensures { result ≡ compares_pointer a b }
+/// Whether this is a pointer.
+fn is_pointer(kind: Kind) -> bool
+    ensures { result ≡ is_pointer kind }
 {
-    match (a, b) {
-        (Kind::Dead, _) | (_, Kind::Dead) => false,
-        (Kind::Ptr { .. }, _) | (_, Kind::Ptr { .. }) => true,
-        _ => false,
+    matches!(kind, Kind::Ptr { .. })
+}
+
+/// Whether a condition has a pointer as an operand that the profile does not compare: the second one compares addresses.
+fn compares_pointer(profile: Profile, a: Kind, b: Kind) -> bool
+    ensures { result ≡ compares_pointer profile a b }
+{
+    match profile {
+        Profile::First => is_pointer(a) || is_pointer(b),
+        Profile::Second => false,
     }
 }
 
@@ -205,11 +211,12 @@ fn compare(
     row: &mut [Kind],
 ) -> Option<KindRule>
     requires kinds { AreKinds row.old }
-    ensures rule { result ≡ broken_if (compares_pointer (kind_at row.old left) (kind_from profile row.old right)) PointerOperand }
+    ensures rule { result ≡ broken_if (compares_pointer profile (kind_at row.old left) (kind_from profile row.old right)) PointerOperand }
     ensures row { IfNone result (row.new ≡ refined profile cond width left right false row.old) }
     ensures kinds { IfNone result (AreKinds row.new) }
 {
-    if compares_pointer(kind_of(row, left), kind_of_operand(profile, row, right)) {
+    let operand = kind_of_operand(profile, row, right);
+    if compares_pointer(profile, kind_of(row, left), operand) {
         return Some(KindRule::PointerOperand);
     }
     refine_row(profile, cond, width, left, right, false, row);
@@ -275,7 +282,7 @@ fn class_step(
     requires short { length row.old ≤ 75 }
     requires kinds { AreKinds row.old }
     ensures rule { result ≡ first_of (class_rules (program_in program.now) (callee_from callee.now) row.old insn) }
-    ensures row { IfNone result (row.new ≡ row_after program.now.image.profile (callee_from callee.now) row.old insn) }
+    ensures after { IfNone result (row.new ≡ row_after program.now.image.profile (callee_from callee.now) row.old insn) }
     ensures kinds { IfNone result (AreKinds row.new) }
 {
     let profile = program.image.profile;

@@ -6,15 +6,16 @@ ghost use Rattle.bpfimage.specs.Form.{IsFormed};
 ghost use Rattle.verifier.specs.Program.{program_of, IsSafeProgram};
 ghost use Rattle.verifier.specs.Candidates.{program_in};
 ghost use Rattle.verifier.specs.Registers.{cell_count, entry};
-ghost use Rattle.verifier.specs.Table.{IsAccepted, IsFirstRule, broken_at, AreKinds};
-ghost use Rattle.verifier.specs.Rows.{HasKinds, AreRowKinds, IsPass};
-ghost use Rattle.verifier.specs.Waiting.{waiting};
+ghost use Rattle.verifier.specs.Table.{IsAccepted, IsFirstRule, broken_at};
+ghost use Rattle.verifier.specs.Rows.{IsKnown, HasKinds, IsPass};
+ghost use Rattle.verifier.specs.Waiting.{waiting, IsPool};
 ghost use Rattle.verifier.specs.Lowered.{AreSlots};
 ghost use Rattle.verifier.specs.Verdict.{IsRefused};
 ghost use Rattle.verifier.specs.Plain.{IsPlain, IsWellBehaved};
 
 use crate::callee::callee_in;
 use crate::candidate::Candidate;
+use crate::cells::{lowered, span_written};
 use crate::edges::{lead_on, take_waiting, taken_edge};
 use crate::kinds::one_number;
 use crate::rule::{KindRule, Refused, Rule};
@@ -45,7 +46,7 @@ fn address_of(region: Region) -> Kind
 fn entry<const N: usize>(program: &Candidate) -> [Kind; N]
     requires long { N ≡ 11 + cell_count program.now.image.profile }
     ensures table { result ≡ entry (program_in program.now) }
-    ensures kinds { AreKinds result }
+    ensures known { IsKnown program.now.image.profile N result }
 {
     let image = &program.image;
     let mut row = [one_number(image.profile, 0); N];
@@ -88,13 +89,13 @@ fn visit<const N: usize>(
     requires before { (k : ℕ) → k < at → broken_at (program_in program.now) k ≡ None }
     requires within { at < length program.now.image.code.items }
     requires pass { IsPass (program_in program.now) (waiting rows.old) here.old at }
-    requires kinds { AreRowKinds (waiting rows.old) }
-    requires here { HasKinds here.old }
+    requires pool { IsPool program.now.image.profile rows.old }
+    requires here { HasKinds program.now.image.profile rows.old.low here.old }
     ensures refused { IfErr result (λ refused. IsRefused (program_in program.now) refused.rule refused.slot) }
     ensures unbroken { IfOk result (λ _. broken_at (program_in program.now) at ≡ None) }
     ensures pass { IfOk result (λ _. IsPass (program_in program.now) (waiting rows.new) here.new (at + 1)) }
-    ensures kinds { IfOk result (λ _. AreRowKinds (waiting rows.new)) }
-    ensures here { IfOk result (λ _. HasKinds here.new) }
+    ensures pool { IfOk result (λ _. IsPool program.now.image.profile rows.new) }
+    ensures here { IfOk result (λ _. HasKinds program.now.image.profile rows.new.low here.new) }
 {
     let Some(row) = here else {
         take_waiting(rows, at + 1, here);
@@ -103,6 +104,7 @@ fn visit<const N: usize>(
     let insn = program.image.code[at];
     let callee = callee_in(&program.sigs, insn);
     let profile = program.image.profile;
+    rows.low = lowered(rows.low, span_written(&callee, row, insn));
     let target = taken_edge(profile, at, row, insn, taken);
     if let Some(rule) = advance(program, &callee, row, insn) {
         return Err(Refused {

@@ -1,39 +1,44 @@
 //! Rows that wait for the slots to which jumps lead.
 
-ghost use Rattle.std.specs.Prelude.{◌≡◌, ◌<◌, IfOk, IfSome, IfNone, true, Some, None, length, replicate, slice_get, slice_set, vec_len};
+ghost use Rattle.std.specs.Prelude.{◌≡◌, ◌<◌, ◌⊎◌, IfOk, IfSome, IfNone, true, Some, None, length, replicate, slice_get, slice_set, vec_len};
 ghost use Rattle.verifier.specs.Rows.{row_at};
-ghost use Rattle.verifier.specs.Waiting.{owner_at, waiting};
+ghost use Rattle.verifier.specs.Waiting.{owner_at, waiting, AreOwned};
 
 use ranges::Kind;
 use std::alloc::{AllocError, Global};
 
-/// A row of kinds, and the slot for which it waits, if it still does: or else the next place whose row waits for none.
+/// A row of kinds, and the slot for which it waits, if it still does.
 #[derive(Drop)]
 pub struct Held<const N: usize> {
     pub owner: Option<usize>,
-    pub next_free: Option<usize>,
     pub kinds: [Kind; N],
 }
 
 /// The rows that wait for slots. A slot's row is the one at its place, where that one waits for this slot: so two slots never share
-/// one, whatever their places are. The places of rows that wait no more are used again.
+/// one, whatever their places are. The places of rows that wait no more are used again, before a row is made.
 #[derive(Drop)]
 pub struct Waiting<const N: usize> {
     pub places: Vec<usize>,
     pub held: Vec<Held<N>>,
-    pub free: Option<usize>,
+    /// The rows at all places before this one wait.
+    pub free: usize,
+    /// Behind the registers, the kinds of each row before this place are the zero with which cells begin.
+    pub low: usize,
 }
 
 impl<const N: usize> Waiting<N> {
     /// Nothing waits, for any of so many slots.
     pub fn new(alloc: Global, slots: usize) -> Result<Waiting<N>, AllocError>
-        ensures { IfOk result (λ rows. waiting rows ≡ replicate slots None) }
+        ensures rows { IfOk result (λ rows. waiting rows ≡ replicate slots None) }
+        ensures owned { IfOk result (λ rows. AreOwned rows.held.items rows.free) }
+        ensures low { IfOk result (λ rows. rows.low ≡ N) }
     {
         let places = vec![in alloc; 0; slots]?;
         Ok(Waiting {
             places,
             held: Vec::new(alloc),
-            free: None,
+            free: 0,
+            low: N,
         })
     }
 
@@ -51,27 +56,30 @@ impl<const N: usize> Waiting<N> {
         }
     }
 
-    /// Takes the first of the places whose rows wait for no slot, if there is one.
-    fn free_place(&mut self) -> Option<usize>
-        ensures free { IfSome result (λ place. owner_at self.new.held.items place ≡ None) }
-        ensures within { IfSome result (λ place. place < vec_len self.new.held) }
-        ensures places { self.new.places ≡ self.old.places }
-        ensures held { self.new.held ≡ self.old.held }
+    /// The first of the places whose rows wait for no slot, if there is one.
+    fn free_place(&self) -> Option<usize>
+        requires { AreOwned self.now.held.items self.now.free }
+        ensures free { IfSome result (λ place. owner_at self.now.held.items place ≡ None) }
+        ensures within { IfSome result (λ place. place < vec_len self.now.held) }
+        ensures before { IfSome result (λ place. AreOwned self.now.held.items place) }
+        ensures none { IfNone result (AreOwned self.now.held.items (vec_len self.now.held)) }
     {
-        let place = self.free?;
-        match self.held.get(place) {
-            Some(held) if held.owner == None => {
-                self.free = held.next_free;
-                Some(place)
+        for place in self.free..self.held.len() {
+            if self.held[place].owner.is_none() {
+                return Some(place);
             }
-            _ => None,
         }
+        None
     }
 
-    /// Has a copy of a row wait for a slot.
+    /// Has a copy of a row wait for a slot. A row is made for it only where each that there is waits.
     pub fn wait(&mut self, slot: usize, row: &[Kind; N]) -> Result<(), AllocError>
-        requires { slot < length (waiting self.old) }
-        ensures { IfOk result (λ _. waiting self.new ≡ slice_set (waiting self.old) slot (Some row.now)) }
+        requires within { slot < length (waiting self.old) }
+        requires owned { AreOwned self.old.held.items self.old.free }
+        ensures rows { IfOk result (λ _. waiting self.new ≡ slice_set (waiting self.old) slot (Some row.now)) }
+        ensures owned { IfOk result (λ _. AreOwned self.new.held.items self.new.free) }
+        ensures low { self.new.low ≡ self.old.low }
+        ensures few { IfOk result (λ _. (vec_len self.new.held ≡ vec_len self.old.held) ⊎ AreOwned self.old.held.items (vec_len self.old.held)) }
     {
         match self.free_place() {
             Some(place) => {
@@ -79,15 +87,16 @@ impl<const N: usize> Waiting<N> {
                 held.owner = Some(slot);
                 held.kinds.copy_from_slice(row);
                 self.places[slot] = place;
+                self.free = place + 1;
             }
             None => {
                 let place = self.held.len();
                 self.held.push(Held {
                     owner: Some(slot),
-                    next_free: None,
                     kinds: *row,
                 })?;
                 self.places[slot] = place;
+                self.free = place + 1;
             }
         }
         Ok(())
@@ -99,11 +108,13 @@ impl<const N: usize> Waiting<N> {
         requires place { slice_get self.old.places.items slot ≡ Some place }
         requires owner { owner_at self.old.held.items place ≡ Some slot }
         requires row { place < vec_len self.old.held }
-        ensures { waiting self.new ≡ slice_set (waiting self.old) slot None }
+        requires owned { AreOwned self.old.held.items self.old.free }
+        ensures rows { waiting self.new ≡ slice_set (waiting self.old) slot None }
+        ensures free { owner_at self.new.held.items place ≡ None }
+        ensures owned { AreOwned self.new.held.items self.new.free }
+        ensures low { self.new.low ≡ self.old.low }
     {
-        let held = &mut self.held[place];
-        held.owner = None;
-        held.next_free = self.free;
-        self.free = Some(place);
+        self.held[place].owner = None;
+        self.free = self.free.min(place);
     }
 }

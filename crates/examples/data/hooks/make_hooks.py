@@ -38,6 +38,7 @@ HOOKS = {
     "last_sibling": ("resolver", 4096, 0),
     "ends_in_digit": ("pre-commit", 4096, 0),
     "whole_words": ("pre-commit", 4096, 124),
+    "same_ends": ("pre-commit", 4096, 0),
 }
 
 # Instruction sets, in the order in which they are tried.

@@ -974,8 +974,50 @@ NUMBERS = [
     ("an index below 0", [CLEAR, fields(0x81, 6, 1, 0, 0), fields(0xC5, 6, 0, 3, 0), fields(0x65, 6, 0, 2, 63), added(1, 6), load_byte(0, 1, 0), EXIT], bytes([255] * 256), comes_to(0, 4), refused(23, 4)),
     ("a way that is never gone", [load_byte(6, 1, 0), fields(0x55, 6, 0, 1, 300), raised(6, 1000), added(1, 6), load_byte(0, 1, 0), EXIT], bytes([9]) + PLACES[1:], comes_to(9, 5), refused(24, 4)),
     ("an access on a way that is never gone", [put(0, 5), fields(0x15, 0, 0, 1, 6), EXIT, load_byte(0, 0, 0), EXIT], b"", refused(24, 3), refused(24, 3)),
-    ("an access by a dead register", [put(6, 5), fields(0x15, 6, 0, 2, 6), CLEAR, EXIT, added(1, 6), load_byte(0, 1, 0), EXIT], b"", refused(24, 5), comes_to(0, 4)),
+    ("a pointer raised by a dead number", [put(6, 5), fields(0x15, 6, 0, 2, 6), CLEAR, EXIT, added(1, 6), load_byte(0, 1, 0), EXIT], b"", comes_to(0, 4), comes_to(0, 4)),
+    ("a pointer raised far, and by a dead number", [put(6, 5), fields(0x15, 6, 0, 2, 6), CLEAR, EXIT, raised(1, 256), added(1, 6), load_byte(0, 1, 0), EXIT], b"", refused(24, 6), refused(24, 6)),
+    ("a pointer less a dead number", [put(6, 5), fields(0x15, 6, 0, 2, 6), CLEAR, EXIT, raised(1, 8), fields(0x1F, 1, 6, 0, 0), load_byte(0, 1, 0), EXIT], b"", comes_to(0, 4), comes_to(0, 4)),
+    ("code for longer inputs", [CLEAR, copied(6, 2), fields(0xA5, 6, 0, 3, 300), fields(0x77, 6, 0, 0, 1), added(1, 6), load_byte(0, 1, 0), EXIT], PLACES, comes_to(0, 4), comes_to(0, 4)),
+    ("an access by a dead number", [put(6, 5), fields(0x15, 6, 0, 2, 6), CLEAR, EXIT, load_byte(0, 6, 0), EXIT], b"", refused(24, 4), refused(24, 4)),
     ("a narrow condition on a wide number", [CLEAR, load(6, 1, 0), fields(0x26, 6, 0, 2, 255), added(1, 6), load_byte(0, 1, 0), EXIT], PLACES, refused(23, 3), refused(23, 3)),
+]
+
+# R7 is the address of the byte of the input that its first byte names: 0 to 255 bytes from its first.
+NAMED_BYTE = [load_byte(6, 1, 0), copied(7, 1), added(7, 6)]
+
+
+def byte_below(opcode, base, bound, offset):
+    """The byte that is so far from R7, if the condition doesn't hold of R7 and of what is so far from a window's first byte; else 0."""
+    return [*NAMED_BYTE, copied(8, base), raised(8, bound), CLEAR, fields(opcode, 7, 8, 1, 0), load_byte(0, 7, offset), EXIT]
+
+
+# The last eight bytes of the input, by a pointer to its end, where there are as many; else 0.
+LAST_EIGHT = [copied(6, 1), added(6, 2), copied(7, 1), raised(7, 8), CLEAR, fields(0x2D, 7, 6, 1, 0), load(0, 6, -8), EXIT]
+
+# Pointers as numbers, with an input of 256 bytes and an output of 8. The windows are at 2^41 and 2^42.
+POINTERS = [
+    # conditions narrow a pointer's offsets
+    ("an end pointer", LAST_EIGHT, PLACES, comes_to(int.from_bytes(PLACES[-8:], "little"), 8), refused(22, 5)),
+    ("an end pointer of a short input", LAST_EIGHT, b"1234567", comes_to(0, 7), refused(22, 5)),
+    ("a pointer below another", byte_below(0x3D, 1, 64, 192), PLACES, comes_to(192, 9), refused(22, 6)),
+    ("a pointer below another, one byte further", byte_below(0x3D, 1, 64, 193), PLACES, refused(24, 7), refused(22, 6)),
+    ("a pointer not above another", byte_below(0x2D, 1, 64, 191), PLACES, comes_to(191, 9), refused(22, 6)),
+    ("a pointer below another with a sign", byte_below(0x7D, 1, 64, 192), PLACES, comes_to(192, 9), refused(22, 6)),
+    ("a pointer that is another", byte_below(0x5D, 1, 5, 250), bytes([5]) + PLACES[1:], comes_to(255, 9), refused(22, 6)),
+    ("a pointer that is none", [CLEAR, fields(0x55, 1, 0, 1, 0), put(0, 1), EXIT], b"", comes_to(0, 3), refused(22, 1)),
+    ("some bit of a pointer", [CLEAR, fields(0x45, 1, 0, 1, 7), put(0, 1), EXIT], b"", comes_to(1, 4), refused(22, 1)),
+    # where nothing is left of it, it stays; a 32-bit condition narrows nothing; nor does another window's address
+    ("an access by a pointer that is none", [CLEAR, fields(0x55, 1, 0, 1, 0), load_byte(0, 1, 256), EXIT], b"", refused(24, 2), refused(22, 1)),
+    ("a pointer below another in 32 bits", byte_below(0x3E, 1, 64, 192), PLACES, refused(24, 7), refused(22, 6)),
+    ("a pointer below another window's", byte_below(0x3D, 3, 64, 192), PLACES, refused(24, 7), refused(22, 6)),
+    # differences
+    ("how far a pointer is", [*NAMED_BYTE, taken_from(7, 1), added(1, 7), load_byte(0, 1, 0), EXIT], bytes([9]) + PLACES[1:], comes_to(9, 7), refused(22, 3)),
+    ("how far two windows are", [copied(0, 3), taken_from(0, 1), EXIT], b"", comes_to(2**41, 3), refused(22, 1)),
+    ("a pointer moved from window to window", [copied(6, 3), taken_from(6, 1), added(1, 6), CLEAR, EXIT], b"", refused(23, 2), refused(22, 1)),
+    # what else is done with pointers
+    ("a difference of two pointers in 32 bits", [copied(7, 1), fields(0x1C, 7, 1, 0, 0), CLEAR, EXIT], b"", refused(22, 1), refused(22, 1)),
+    ("a sum of two pointers", [added(1, 3), CLEAR, EXIT], b"", refused(22, 0), refused(22, 0)),
+    ("a number less a pointer", [taken_from(2, 1), CLEAR, EXIT], b"", refused(22, 0), refused(22, 0)),
 ]
 
 # A pointer that goes over the stack, with an input of 256 bytes.
@@ -988,7 +1030,7 @@ SPILLS = [
 
 
 def tables():
-    for windows, rows in [((256, 0), SPILLS), ((256, 8), CELLS), ((256, 0), NUMBERS)]:
+    for windows, rows in [((256, 0), SPILLS), ((256, 8), CELLS), ((256, 0), NUMBERS), ((256, 8), POINTERS)]:
         for name, slots, given, second, first in rows:
             yield row(name, image(*windows, slots, 2), second, slots, given)
             yield row(f"{name}, version 1", image(*windows, slots), first, slots, given)
@@ -1099,7 +1141,7 @@ RAW = [
     (
         "pointers compared",
         [CLEAR, fields(0x1d, 1, 3, 0, 0), NOTHING, NOTHING, EXIT],
-        refused(22, 1),
+        accepted(5),
     ),
     (
         "far offset",

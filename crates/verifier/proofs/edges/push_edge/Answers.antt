@@ -1,17 +1,18 @@
 use Rattle.std.proofs.Common.{rules, ap, sym, ◌∙◌, subst, arith, Some, set, ◌<◌, length}
-use Rattle.std.proofs.lemmas.Result.{IfOk-weaker}
 use Rattle.verifier.specs.Table.{joined}
 use Rattle.verifier.specs.Rows.{AreRowKinds}
+use Rattle.verifier.specs.declared.waiting.Held.{Held}
 use Rattle.verifier.specs.Waiting.{waiting}
 use Rattle.verifier.proofs.RowSteps.{row_kinds_set}
-use Rattle.verifier.proofs.Waits.{read_held, row_kinds, changed}
+use Rattle.verifier.proofs.Waits.{read_held, row_kinds, changed, owned_kept, pool_moved, ok_both}
 use Rattle.verifier.proofs.edges.push_edge.Goals as goal
 
 pub join_row-requires : goal.join_row-requires
 join_row-requires g c =
     let rows = c.args.rows.now in
+    let pool = c.requires.pool in
     let there = read_held c.args.to rows.places.items rows.held.items c.in-Some.place c.index_mut.result.now c.in-Some.ensures.found.0 c.in-Some.ensures.found.1 (omega (arith, c.in-Some.ensures.within, rows.held.ok.0)) c.index_mut.ensures.value in
-    (search rules, (row_kinds (waiting rows) c.args.to c.index_mut.result.now.kinds c.requires.within there.1 c.requires.old, c.requires.kinds))
+    (search rules, (pool.registers, (pool.short, (row_kinds c.args.profile rows.low (waiting rows) c.args.to c.index_mut.result.now.kinds c.requires.within there.1 pool.kinds, c.requires.known))))
 
 pub returns-in-Some-clause-rows : goal.returns-in-Some-clause-rows
 returns-in-Some-clause-rows g c =
@@ -19,19 +20,33 @@ returns-in-Some-clause-rows g c =
     let found = c.in-Some.ensures.found in
     let within : c.in-Some.place < length rows.held.items = omega (arith, c.in-Some.ensures.within, rows.held.ok.0) in
     let there = read_held c.args.to rows.places.items rows.held.items c.in-Some.place c.index_mut.result.now found.0 found.1 within c.index_mut.ensures.value in
-    changed c.args.to rows.places.items rows.held.items c.in-Some.place (record { owner = c.index_mut.result.now.owner; next_free = c.index_mut.result.now.next_free; kinds = c.join_row.new.kept }) found.0 found.1 within there.0
+    changed c.args.to rows.places.items rows.held.items c.in-Some.place (record { owner = c.index_mut.result.now.owner; kinds = c.join_row.new.kept }) found.0 found.1 within there.0
     ∙ ap (set (waiting rows) c.args.to) (ap Some c.join_row.ensures.table ∙ ap (λ o. joined c.args.profile o c.args.row.now) (sym there.1))
 
-pub returns-in-Some-clause-kinds : goal.returns-in-Some-clause-kinds
-returns-in-Some-clause-kinds g c =
+pub returns-in-Some-clause-pool : goal.returns-in-Some-clause-pool
+returns-in-Some-clause-pool g c =
     let rows = c.args.rows.now in
+    let pool = c.requires.pool in
     let found = c.in-Some.ensures.found in
+    let held : Held g.row.N = record { owner = c.index_mut.result.now.owner; kinds = c.join_row.new.kept } in
     let within : c.in-Some.place < length rows.held.items = omega (arith, c.in-Some.ensures.within, rows.held.ok.0) in
     let there = read_held c.args.to rows.places.items rows.held.items c.in-Some.place c.index_mut.result.now found.0 found.1 within c.index_mut.ensures.value in
-    subst AreRowKinds
-    (sym (changed c.args.to rows.places.items rows.held.items c.in-Some.place (record { owner = c.index_mut.result.now.owner; next_free = c.index_mut.result.now.next_free; kinds = c.join_row.new.kept }) found.0 found.1 within there.0))
-    (row_kinds_set (waiting rows) c.args.to (Some c.join_row.new.kept) c.requires.old c.join_row.ensures.kinds)
+    record {
+      kinds =
+          subst (AreRowKinds c.args.profile rows.low)
+          (sym (changed c.args.to rows.places.items rows.held.items c.in-Some.place held found.0 found.1 within there.0))
+          (row_kinds_set c.args.profile rows.low (waiting rows) c.args.to (Some c.join_row.new.kept) pool.kinds c.join_row.ensures.known);
+      owned = owned_kept rows.held.items rows.free c.in-Some.place held pool.owned within (found.1 ∙ sym there.0);
+      registers = pool.registers;
+      short = pool.short;
+    }
 
-pub returns-in-None-clause-kinds : goal.returns-in-None-clause-kinds
-returns-in-None-clause-kinds g c =
-    IfOk-weaker c.wait.result _ _ (λ _ e. subst AreRowKinds (sym e) (row_kinds_set (waiting c.args.rows.now) c.args.to (Some c.args.row.now) c.requires.old c.requires.kinds)) c.wait.ensures
+pub returns-in-None-clause-pool : goal.returns-in-None-clause-pool
+returns-in-None-clause-pool g c =
+    let rows = c.args.rows.now in
+    let pool = c.requires.pool in
+    ok_both c.wait.result _ _ _ c.wait.ensures.rows c.wait.ensures.owned
+    (λ _ e owned.
+    pool_moved c.args.profile rows c.wait.new.self c.wait.ensures.low owned
+    (subst (AreRowKinds c.args.profile rows.low) (sym e) (row_kinds_set c.args.profile rows.low (waiting rows) c.args.to (Some c.args.row.now) pool.kinds c.requires.known))
+    pool)

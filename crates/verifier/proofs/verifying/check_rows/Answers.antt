@@ -1,8 +1,8 @@
-use Rattle.std.proofs.Common.{◌+◌, ◌<◌, length, Some, ap, sym, ◌∙◌, subst, ⊎_elim, arith}
+use Rattle.std.proofs.Common.{◌+◌, ◌<◌, ◌≤◌, length, Some, ap, sym, ◌∙◌, subst, ⊎_elim, arith}
 use Rattle.std.proofs.lemmas.Bool.{cases_eq}
 use Rattle.verifier.specs.Candidates.{program_in}
 use Rattle.verifier.specs.Table.{broken_at}
-use Rattle.verifier.specs.Rows.{AreRowKinds, IsPass}
+use Rattle.verifier.specs.Rows.{IsKnown, AreRowKinds, IsPass}
 use Rattle.verifier.specs.Waiting.{waiting}
 use Rattle.verifier.proofs.Tables.{pass_first, none_kinds}
 use Rattle.verifier.proofs.Visits.{all_visited}
@@ -13,12 +13,18 @@ pub loop-at-init : goal.loop-at-init
 loop-at-init g c =
     let p = program_in c.args.program.now in
     let rows = waiting c.in-Ok.rows in
-    let empty = c.in-Ok.ensures in
+    let empty = c.in-Ok.ensures.rows in
+    let low = c.in-Ok.ensures.low in
     let code = c.args.program.now.image.code in
     record {
       pass = subst (λ r. IsPass p rows (Some r) 0) (sym c.entry-first.ensures.table) (pass_first p rows (c.len-slots.result + 1) (omega (arith, c.len-slots.ensures, code.ok.0)) empty);
-      kinds = subst AreRowKinds (sym empty) (none_kinds (c.len-slots.result + 1));
-      here = c.entry-first.ensures.kinds;
+      pool = record {
+        kinds = subst (AreRowKinds p.profile c.in-Ok.rows.low) (sym empty) (none_kinds p.profile c.in-Ok.rows.low (c.len-slots.result + 1));
+        owned = c.in-Ok.ensures.owned;
+        registers = subst (λ l. 11 ≤ l) (sym low) c.requires.some;
+        short = omega (arith, low);
+      };
+      here = subst (λ l. IsKnown p.profile l c.entry-first.result) (sym low) c.entry-first.ensures.known;
       lows = record { whole = omega (arith, c.in-Ok-vec.lows.ok.0, c.in-Ok-vec.ensures.len, c.len-slots.ensures, code.ok.0); slots = λ k low lt e. absurd (omega arith) };
       unbroken = λ k lt. absurd (omega arith);
     }
@@ -26,7 +32,7 @@ loop-at-init g c =
 pub loop-at-preserved : goal.loop-at-preserved
 loop-at-preserved g c = record {
   pass = c.in_ok-visit.ensures.pass;
-  kinds = c.in_ok-visit.ensures.kinds;
+  pool = c.in_ok-visit.ensures.pool;
   here = c.in_ok-visit.ensures.here;
   lows =
       let p = program_in c.args.program.now in

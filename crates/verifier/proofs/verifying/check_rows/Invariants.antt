@@ -1,16 +1,16 @@
 use Rattle.std.proofs.Common.{◌≡◌, ℕ, ◌<◌, None}
 use Rattle.verifier.specs.Candidates.{program_in}
-use Rattle.verifier.specs.Rows.{HasKinds, AreRowKinds, IsPass}
+use Rattle.verifier.specs.Rows.{HasKinds, IsPass}
 use Rattle.verifier.specs.Table.{broken_at}
-use Rattle.verifier.specs.Waiting.{waiting}
+use Rattle.verifier.specs.Waiting.{waiting, IsPool}
 use Rattle.verifier.specs.Lowered.{AreSlots}
 use Rattle.verifier.proofs.verifying.check_rows.Given as goal
 
 abbrev pub invariant-loop-at : goal.invariant-loop-at
 invariant-loop-at g l = record {
   pass : IsPass (program_in l.program) (waiting l.rows) l.here l.at;
-  kinds : AreRowKinds (waiting l.rows);
-  here : HasKinds l.here;
+  pool : IsPool l.program.image.profile l.rows;
+  here : HasKinds l.program.image.profile l.rows.low l.here;
   lows : AreSlots (program_in l.program) l.lows.items l.at;
   unbroken : (k : ℕ) → k < l.at → broken_at (program_in l.program) k ≡ None;
 }

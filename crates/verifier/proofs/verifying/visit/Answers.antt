@@ -1,11 +1,12 @@
-use Rattle.std.proofs.Common.{rules, ◌+◌, length, sym, ap, ◌∙◌, subst, arith, None}
+use Rattle.std.proofs.Common.{rules, ◌+◌, ◌≤◌, length, sym, ap, ◌∙◌, subst, arith}
 use Rattle.std.proofs.lemmas.Option.{slice_get_read}
 use Rattle.verifier.specs.Candidates.{program_in}
 use Rattle.verifier.specs.CallKinds.{callee_from}
-use Rattle.verifier.specs.Rows.{LeadBelow, HasKinds, AreRowKinds, edge_list, IsPass}
+use Rattle.verifier.specs.Rows.{LeadBelow, StartsZero, IsKnown, HasKinds, edge_list, IsPass}
 use Rattle.verifier.specs.Rules.{first_of, rules_by, row_taken}
 use Rattle.verifier.specs.Waiting.{waiting}
-use Rattle.verifier.proofs.RowSteps.{at_kinds, row_kinds_set}
+use Rattle.verifier.specs.Cells.{span_written}
+use Rattle.verifier.proofs.Zeros.{Ends, fewer_zeros, rows_below, after_zeros}
 use Rattle.verifier.proofs.Shape.{next_within, target_within, target_below}
 use Rattle.verifier.proofs.Visits.{none_unbroken, none_pass, broken_here, all_here, alone_here, here_taken}
 use Rattle.verifier.proofs.verifying.visit.Goals as goal
@@ -24,20 +25,21 @@ returns-in_default-clause-pass g c =
     (none_pass p rows c.args.at c.requires.within (subst (λ o. IsPass p rows o c.args.at) c.in_default.is c.requires.pass))
     c.take_waiting.ensures.here c.take_waiting.ensures.rows
 
-pub returns-in_default-clause-kinds : goal.returns-in_default-clause-kinds
-returns-in_default-clause-kinds g c = subst AreRowKinds (sym c.take_waiting.ensures.rows) (row_kinds_set (waiting c.args.rows.now) (c.args.at + 1) None c.requires.kinds tt)
+pub returns-in_default-clause-pool : goal.returns-in_default-clause-pool
+returns-in_default-clause-pool g c = c.take_waiting.ensures.pool c.args.program.now.image.profile c.requires.pool
 
 pub returns-in_default-clause-here : goal.returns-in_default-clause-here
-returns-in_default-clause-here g c = subst HasKinds (sym c.take_waiting.ensures.here) (at_kinds (waiting c.args.rows.now) (c.args.at + 1) c.requires.kinds)
+returns-in_default-clause-here g c = c.take_waiting.ensures.known c.args.program.now.image.profile c.requires.pool
 
 pub taken_edge-target-requires : goal.taken_edge-target-requires
 taken_edge-target-requires g c =
     let insn = slice_get_read c.args.program.now.image.code.items c.args.program.now.image.code.len c.args.at c.index-insn.result.now c.args.program.now.image.code.ok.0 (omega (arith, c.requires.within, c.args.program.now.image.code.ok.0)) c.index-insn.ensures in
-    let few = c.args.program.now.image.few_slots in (
+    let few = c.args.program.now.image.few_slots in
+    let known : IsKnown c.args.program.now.image.profile c.args.rows.now.low c.in-Some.row = subst (HasKinds c.args.program.now.image.profile c.args.rows.now.low) c.in-Some.is c.requires.here in (
       search rules,
       (
         omega (arith, c.requires.within, few),
-        ((λ z e. let h = target_within c.args.program.now.image.code.items c.args.at c.index-insn.result.now z c.requires.formed insn e in (h.0, h.1)), subst HasKinds c.in-Some.is c.requires.here),
+        ((λ z e. let h = target_within c.args.program.now.image.code.items c.args.at c.index-insn.result.now z c.requires.formed insn e in (h.0, h.1)), known.kinds),
       ),
     )
 
@@ -56,6 +58,17 @@ pub lead_on-requires : goal.lead_on-requires
 lead_on-requires g c =
     let insn = slice_get_read c.args.program.now.image.code.items c.args.program.now.image.code.len c.args.at c.index-insn.result.now c.args.program.now.image.code.ok.0 (omega (arith, c.requires.within, c.args.program.now.image.code.ok.0)) c.index-insn.ensures in
     let rows = waiting c.args.rows.now in
+    let profile = c.args.program.now.image.profile in
+    let callee = callee_from c.callee_in-callee.result in
+    let row = c.in-Some.row in
+    let x = c.index-insn.result.now in
+    let low = c.lowered-rows.result in
+    let pool = c.requires.pool in
+    let known : IsKnown profile c.args.rows.now.low row = subst (HasKinds profile c.args.rows.now.low) c.in-Some.is c.requires.here in
+    let zeros : StartsZero profile low row = fewer_zeros profile c.args.rows.now.low low row c.lowered-rows.ensures.lower known.zeros in
+    let ends : Ends low (span_written callee row x) = subst (Ends low) c.span_written.ensures c.lowered-rows.ensures.before in
+    let long : 11 ≤ length row = omega (arith, c.requires.long) in
+    let after : IsKnown profile low c.advance.new.row = record { kinds = c.in_default-advance.ensures.kinds; zeros = subst (StartsZero profile low) (sym c.in_default-advance.ensures.row) (after_zeros profile low callee row x long ends zeros) } in
     let few = c.args.program.now.image.few_slots in (
       search rules,
       (
@@ -67,7 +80,18 @@ lead_on-requires g c =
             (
               subst (LeadBelow (length rows)) (sym c.taken_edge-target.ensures.edge)
                   (target_below c.args.program.now.image.code.items c.args.at c.index-insn.result.now (row_taken c.args.program.now.image.profile c.in-Some.row c.index-insn.result.now) (length rows) c.requires.formed insn (omega (arith, c.requires.pass.long))),
-              (c.in_default-advance.ensures.kinds, (c.taken_edge-target.ensures.kinds, c.requires.kinds)),
+              (
+                after,
+                (
+                  c.taken_edge-target.ensures.known low (record { kinds = known.kinds; zeros = zeros }),
+                  record {
+                    kinds = rows_below profile c.args.rows.now.low low rows c.lowered-rows.ensures.lower pool.kinds;
+                    owned = pool.owned;
+                    registers = c.lowered-rows.ensures.registers;
+                    short = omega (arith, c.lowered-rows.ensures.lower, pool.short);
+                  },
+                ),
+              ),
             ),
           ),
         ),
@@ -90,11 +114,11 @@ returns-then-not-on-clause-pass g c =
     (all_here p rows c.args.at c.requires.within c.in-Some.row c.index-insn.result.now (subst (λ o. IsPass p rows o c.args.at) c.in-Some.is c.requires.pass) insn (callee_from c.callee_in-callee.result) c.advance.new.row (edge_list c.taken_edge-target.result c.taken_edge-target.new.taken) c.callee_in-callee.ensures c.in_default-advance.ensures.row c.taken_edge-target.ensures.edge (waiting c.lead_on.new.rows) (c.in-Ok.ensures.all c.if-not-on.true))
     c.take_waiting-then-not-on.ensures.here c.take_waiting-then-not-on.ensures.rows
 
-pub returns-then-not-on-clause-kinds : goal.returns-then-not-on-clause-kinds
-returns-then-not-on-clause-kinds g c = subst AreRowKinds (sym c.take_waiting-then-not-on.ensures.rows) (row_kinds_set (waiting c.lead_on.new.rows) (c.args.at + 1) None c.in-Ok.ensures.kinds tt)
+pub returns-then-not-on-clause-pool : goal.returns-then-not-on-clause-pool
+returns-then-not-on-clause-pool g c = c.take_waiting-then-not-on.ensures.pool c.args.program.now.image.profile c.in-Ok.ensures.pool
 
 pub returns-then-not-on-clause-here : goal.returns-then-not-on-clause-here
-returns-then-not-on-clause-here g c = subst HasKinds (sym c.take_waiting-then-not-on.ensures.here) (at_kinds (waiting c.lead_on.new.rows) (c.args.at + 1) c.in-Ok.ensures.kinds)
+returns-then-not-on-clause-here g c = c.take_waiting-then-not-on.ensures.known c.args.program.now.image.profile c.in-Ok.ensures.pool
 
 pub returns-else-not-on-clause-unbroken : goal.returns-else-not-on-clause-unbroken
 returns-else-not-on-clause-unbroken g c =

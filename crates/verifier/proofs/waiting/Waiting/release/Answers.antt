@@ -1,8 +1,18 @@
 use Rattle.std.proofs.Common.{refl, None, arith}
-use Rattle.verifier.proofs.Waits.{let_go}
+use Rattle.verifier.proofs.Waits.{let_go, owner_set, owned_less}
 use Rattle.verifier.proofs.waiting.Waiting.release.Goals as goal
 
-pub returns : goal.returns
-returns g c =
+pub returns-clause-rows : goal.returns-clause-rows
+returns-clause-rows g c =
     let rows = c.args.self.now in
-    let_go c.args.slot rows.places.items rows.held.items c.args.place (record { owner = None; next_free = rows.free; kinds = c.index_mut-held.result.now.kinds }) c.requires.place c.requires.owner (omega (arith, c.requires.row, rows.held.ok.0)) refl
+    let_go c.args.slot rows.places.items rows.held.items c.args.place (record { owner = None; kinds = c.index_mut.result.now.kinds }) c.requires.place c.requires.owner (omega (arith, c.requires.row, rows.held.ok.0)) refl
+
+pub returns-clause-free : goal.returns-clause-free
+returns-clause-free g c =
+    let rows = c.args.self.now in
+    owner_set rows.held.items c.args.place (record { owner = None; kinds = c.index_mut.result.now.kinds }) (omega (arith, c.requires.row, rows.held.ok.0))
+
+pub returns-clause-owned : goal.returns-clause-owned
+returns-clause-owned g c =
+    let rows = c.args.self.now in
+    owned_less rows.held.items rows.free c.args.place _ (record { owner = None; kinds = c.index_mut.result.now.kinds }) c.requires.owned (omega (arith, c.min-self.ensures)) (omega (arith, c.min-self.ensures))
