@@ -1,7 +1,10 @@
 //! The command `run IMAGE INPUT`.
-ghost use Rattle.std.specs.Prelude.{◌≤◌, length, IfOk, List, ℕ, string_bytes, ◌≡◌};
+ghost use Rattle.std.specs.Prelude.{◌≤◌, length, IfOk, List, ℕ, string_bytes, ◌≡◌, replicate};
 ghost use Rattle.hex.specs.Hex.{encode_lower};
+ghost use Rattle.memory.specs.Step.{IsInput, instruction_count};
+ghost use Rattle.helpers.specs.Calls.{calls_of};
 ghost use Rattle.helpers.specs.Entries.{AgreesWith};
+ghost use Rattle.machine.specs.Running.{EndsWith};
 ghost use Rattle.commands.specs.Command.{Ran};
 ghost use Rattle.commands.specs.Outcome.{up_to_last_set};
 ghost use Rattle.commands.specs.Run.{ComesTo, IsRunOf};
@@ -71,6 +74,23 @@ struct End {
     output: String,
 }
 
+/// Runs a program on a window, as [`machine::run`] does: what this command tells rests on the Sigs of helpers alone.
+fn run_window(
+    verified: &Verified,
+    table: &Table,
+    window: &[u8],
+    used: u32,
+    output: &mut [u8],
+) -> Done
+    requires agrees { AgreesWith table.now.listed verified.now.sigs }
+    requires input { IsInput verified.now.in_len window.now used }
+    requires output { output.old ≡ replicate verified.now.out_len 0 }
+    ensures run { EndsWith (calls_of verified.now.sigs) verified.now.code window.now used verified.now.out_len result.steps result.answer output.new }
+    ensures short { result.steps ≤ instruction_count verified.now.code }
+{
+    run_verified(verified, table, window, used, output)
+}
+
 /// Runs a program on an input that has room in its window.
 fn ended(alloc: Global, table: &Table, verified: &Verified, input: &[u8]) -> Result<End, AllocError>
     requires agrees { AgreesWith table.now.listed verified.now.sigs }
@@ -80,7 +100,7 @@ fn ended(alloc: Global, table: &Table, verified: &Verified, input: &[u8]) -> Res
     let image = verified.image();
     let window = padded(alloc, input, image.in_len as usize)?;
     let mut output = vec![in alloc; 0u8; image.out_len as usize]?;
-    let done = run_verified(verified, table, &window, input.len() as u32, &mut output);
+    let done = run_window(verified, table, &window, input.len() as u32, &mut output);
     let output = hex::encode(alloc, up_to_last_set(&output))?;
     Ok(End { done, output })
 }

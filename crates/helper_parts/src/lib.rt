@@ -3,10 +3,11 @@
 #![tactic(auto)]
 
 ghost use Rattle.std.specs.Prelude.{◌≡◌, ◌≤◌, length, max};
+ghost use Rattle.helpers.specs.Answers.{IsCallableOn, AnswersOn};
 ghost use Rattle.helpers.specs.Layout.{newest_of};
 ghost use Rattle.helpers.specs.Text.{order_of, place_of, spelled};
 
-use helpers::{ArgRule, decimal, find, newest, order};
+use helpers::{ArgRule, Body, Helper, Sig, decimal, find, newest, order};
 
 /// Any number.
 pub const ANY: ArgRule = ArgRule::Num {
@@ -49,6 +50,15 @@ pub fn newest_told(_numbers: [u64; 5], first: &[u8], _second: &[u8]) -> u64
     ensures range { result ≤ 64 }
 {
     newest(first)
+}
+
+/// The helper of a number that answers an octal digit, 0 to 7, as its closure does. None where no Sig has these rules.
+pub fn octal(number: u32, args: [ArgRule; 5], body: Body) -> Option<Helper>
+    requires callable { IsCallableOn args (Body.pre body) }
+    requires answers { AnswersOn number args 0 7 (Body.post body) }
+{
+    let sig = Sig::new(args, (0, 7))?;
+    Some(Helper::new(number, sig, body))
 }
 
 /// The remainder of a number by 8.

@@ -13,7 +13,7 @@ use Rattle.helpers.specs.contracts.sig.ArgRulePartialEq.TheImpl.{ghosts}
 use Rattle.helpers.specs.contracts.sig.SigPartialEq.TheImpl as sig
 
 -- the derived comparison of two rules tells whether they are the same
-pub rules_decide : (a b : ArgRule) → Decides (ghosts.eq a b) (a ≡ b)
+rules_decide : (a b : ArgRule) → Decides (ghosts.eq a b) (a ≡ b)
 rules_decide Unused Unused = (λ t. refl, λ e. refl)
 rules_decide Unused (Num low high) = (λ t. absurd (cc), λ e. absurd (cc))
 rules_decide Unused (Read n) = (λ t. absurd (cc), λ e. absurd (cc))

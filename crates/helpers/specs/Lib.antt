@@ -6,3 +6,4 @@ pub mod Answers
 pub mod Parts
 pub mod Entries
 pub mod Calls
+pub mod Closures

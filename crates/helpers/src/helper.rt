@@ -30,6 +30,22 @@ pub struct Helper {
     ghost answers: { AnswersOn number sig.args sig.lo sig.hi (Body.post body) },
 }
 
+/// What the closures of helpers may answer. It has no code: contracts speak of calls by it.
+pub trait Closures {
+    ghost use Rattle.std.specs.Prelude.{ℕ};
+    ghost use Rattle.helpers.specs.Answers.{Given};
+
+    /// The closure of a number may answer what it is given so.
+    ghost tells: { Self → ℕ → Given → ℕ → Type 0 };
+}
+
+impl Closures for Helper {
+    ghost use Rattle.std.specs.Prelude.{◌≡◌};
+    ghost use Rattle.helpers.specs.Closures.{MayAnswer};
+
+    ghost tells = { λ helper number g answer. (helper.number ≡ number) × MayAnswer (Body.post helper.body) g answer };
+}
+
 impl Helper {
     ghost use Rattle.helpers.specs.Parts.{given};
 
@@ -50,6 +66,7 @@ impl Helper {
         requires { Fits self.now.sig.args (given call.now) }
         ensures answers { HelperAnswers self.now.number self.now.sig.lo self.now.sig.hi (given call.now) result }
         ensures called { Body.post self.now.body call.now.numbers call.now.first call.now.second result }
+        ensures told { ⟦<Helper as Closures>⟧.tells self.now self.now.number (given call.now) result }
     {
         (self.body)(call.numbers, call.first, call.second)
     }

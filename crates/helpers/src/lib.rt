@@ -12,7 +12,7 @@ mod text;
 mod written;
 
 pub use fit::fits;
-pub use helper::{Body, Call, Helper};
+pub use helper::{Body, Call, Closures, Helper};
 pub use layout::{Row, newest};
 pub use sig::{ARGUMENT_REGISTERS, ArgRule, Entry, Sig, is_helper_number};
 pub use sigs::Sigs;

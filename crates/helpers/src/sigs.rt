@@ -4,7 +4,7 @@ ghost use Rattle.std.specs.Prelude.{◌≡◌, List, [], ◌++◌, ◌∷◌, On
 ghost use Rattle.helpers.specs.declared.sig.Entry.{Entry};
 ghost use Rattle.helpers.specs.Entries.{sig_of};
 
-use crate::sig::{ArgRule, Entry, Sig};
+use crate::sig::{Entry, Sig};
 use std::alloc::{AllocError, Global};
 use std::marker::Model;
 
@@ -42,9 +42,7 @@ impl Sigs {
         ensures { IsTrue result ↔ (sig_of self.now entry.number ≡ Some entry.sig) }
     {
         match self.sig(entry.number) {
-            Some(sig) => has_same_rules(&sig.args, &entry.sig.args)
-                && sig.lo == entry.sig.lo
-                && sig.hi == entry.sig.hi,
+            Some(sig) => sig == entry.sig,
             None => false,
         }
     }
@@ -83,11 +81,4 @@ fn find_sig(entries: &[Entry], number: u32) -> Option<Sig>
         }
     }
     None
-}
-
-/// Whether two lists of rules are the same.
-fn has_same_rules(left: &[ArgRule], right: &[ArgRule]) -> bool
-    ensures { IsTrue result ↔ (left.now ≡ right.now) }
-{
-    left == right
 }

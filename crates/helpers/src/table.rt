@@ -4,11 +4,12 @@ ghost use Rattle.std.specs.List.{Any, Contains};
 ghost use Rattle.std.specs.Prelude.{◌≡◌, ◌↔◌, ℕ, List, [], ◌∷◌, ◌++◌, map, length, get_or, count_by, is_some, OnOk, OnErr, IfOk, IfErr, IfSome, IfNone, Some, None, Option, IsTrue};
 ghost use Rattle.helpers.specs.declared.sig.Sig.{Sig};
 ghost use Rattle.helpers.specs.declared.sig.Entry.{Entry};
-ghost use Rattle.helpers.specs.Answers.{Fits, HelperAnswers};
+ghost use Rattle.helpers.specs.Answers.{Given, Fits, HelperAnswers};
 ghost use Rattle.helpers.specs.Parts.{given};
+ghost use Rattle.helpers.specs.Closures.{MayAnswer};
 ghost use Rattle.helpers.specs.Entries.{sig_of, place_of, AgreesWith, IsAdmitted, Refuses};
 
-use crate::helper::{Body, Call, Helper};
+use crate::helper::{Body, Call, Closures, Helper};
 use crate::sig::{Entry, Sig, is_helper_number};
 use crate::sigs::Sigs;
 use crate::written::is_as_written;
@@ -49,6 +50,10 @@ pub struct Table {
     ghost indexed: { (number : ℕ) → get_or places number None ≡ place_of listed number },
     // As many numbers have a place as there are helpers, so a place is below 128.
     ghost counted: { length listed ≡ count_by is_some places },
+}
+
+impl Closures for Table {
+    ghost tells = { λ table number g answer. Any (λ helper. (helper.number ≡ number) × MayAnswer (Body.post helper.body) g answer) table.helpers.items };
 }
 
 impl Table {
@@ -119,6 +124,7 @@ impl Table {
         ensures some { IfSome result (λ helper. (helper.now.number ≡ number) × (sig_of self.now.listed number ≡ Some helper.now.sig)) }
         ensures none { IfNone result (sig_of self.now.listed number ≡ None) }
         ensures held { IfSome result (λ helper. Contains self.now.helpers.items helper.now) }
+        ensures tells { IfSome result (λ helper. (g : Given) (answer : ℕ) → ⟦<Helper as Closures>⟧.tells helper.now number g answer → ⟦<Table as Closures>⟧.tells self.now number g answer) }
     {
         let place = self.place(number)?;
         Some(&self.helpers[place])

@@ -12,5 +12,6 @@ pub mod Once
 pub mod Ended
 pub mod Agreeing
 pub mod Arms
+pub mod Told
 pub mod Reached
 pub mod LowRows

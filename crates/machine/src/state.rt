@@ -41,13 +41,6 @@ impl<'a> State<'a> {
         }
     }
 
-    /// The bytes of the output window.
-    pub fn output(&self) -> &[u8]
-        ensures { result.now ≡ (state_of self.now).memory.output }
-    {
-        self.windows.output
-    }
-
     /// What a register holds.
     pub(crate) fn get(&self, r: Register) -> Option<u64>
         ensures { result ≡ register (state_of self.now) r }

@@ -1,4 +1,4 @@
-//! A table with two helpers of a host: which it takes, with which Sigs it agrees, and what programs that call them come to, as the
+//! A table with three helpers of a host: which it takes, with which Sigs it agrees, and what programs that call them come to, as the
 //! verifier tells and step by step. The written helpers, 16 to 19, stand in rows of the examples.
 
 ghost use Rattle.std.specs.Prelude.{◌≤◌};
@@ -9,17 +9,17 @@ use crate::tests::verdicts::Told::{self, Accepted, Refused};
 use crate::tests::verdicts::is_told;
 use code_parts::Slot::{Added, Call, Copied, Exit, Put, Raised, StoreByte};
 use code_parts::{Slot, expect};
-use helper_parts::{ANY, ONE_NUMBER, UNUSED, modulo_8};
+use helper_parts::{ANY, ONE_NUMBER, UNUSED, modulo_8, octal};
 use helpers::{ArgRule, Body, Helper, HelperFault, Sig, Sigs, Table};
 use memory::Fault;
 use std::alloc::Global;
+use std::cell::Cell;
 use std::test::Fail;
 
 /// Adds the remainder by 8 as 64. Answers why it is handed back, if it is.
 fn add_modulo(alloc: Global, table: &mut Table) -> Result<Option<HelperFault>, Fail> {
-    let sig = Sig::new(ONE_NUMBER, (0, 7)).ok_or("a Sig")?;
     let body: Body = Box::new(alloc, modulo_8)?;
-    match table.add(Helper::new(64, sig, body)) {
+    match table.add(octal(64, ONE_NUMBER, body).ok_or("a Sig")?) {
         Ok(()) => Ok(None),
         Err((helper, fault)) => Ok((helper.number == 64).then_some(fault)),
     }
@@ -49,6 +49,22 @@ fn add_digit(alloc: Global, table: &mut Table) -> Result<bool, Fail> {
     let sig = Sig::new(DIGIT, (1, 8)).ok_or("a Sig")?;
     let body: Body = Box::new(alloc, digit)?;
     Ok(table.add(Helper::new(65, sig, body)).is_ok())
+}
+
+/// Adds as 67 a helper that answers the how manyth of its calls it is, modulo 8; tells whether it was taken up.
+fn add_counting(alloc: Global, table: &mut Table) -> Result<bool, Fail> {
+    let calls = Cell::new(0u64);
+    let body: Body = Box::new(
+        alloc,
+        move |_numbers: [u64; 5], _first: &[u8], _second: &[u8]| -> u64
+            ensures { result ≤ 7 }
+        {
+            calls.set(calls.get() % 8 + 1);
+            calls.get() % 8
+        },
+    )?;
+    let helper = octal(67, [UNUSED; 5], body).ok_or("a Sig")?;
+    Ok(table.add(helper).is_ok())
 }
 
 /// The text of the second helper is the input's.
@@ -107,6 +123,13 @@ const CALLS: &[(&str, &[Slot], &[u8], Ending, Told)] = &[
         b"",
         Faults(Fault::Helper, 0),
         Refused(27, 0),
+    ),
+    (
+        "a closure is called once a call",
+        &[Call(67), Call(67), Exit],
+        b"",
+        Answers(2, 3),
+        Accepted(3),
     ),
     (
         "number, read and last",
@@ -293,14 +316,14 @@ fn tell_calls(alloc: Global, table: &Table, sigs: &Sigs) -> Result<(), Fail> {
     Ok(())
 }
 
-/// Whether a table takes up the two helpers, and no number twice, and agrees with its own Sigs and with the earlier ones.
+/// Whether a table takes up the three helpers, and no number twice, and agrees with its own Sigs and with the earlier ones.
 fn is_filled(alloc: Global, table: &mut Table) -> Result<bool, Fail> {
     let first = add_modulo(alloc, table)?;
     let earlier = table.sigs(alloc)?;
-    let second = add_digit(alloc, table)?;
+    let more = add_digit(alloc, table)? && add_counting(alloc, table)?;
     let again = add_modulo(alloc, table)?;
     let agrees = table.agrees(&earlier) && !Table::new(alloc).agrees(&earlier);
-    Ok(first.is_none() && second && again == Some(HelperFault::Taken) && agrees)
+    Ok(first.is_none() && more && again == Some(HelperFault::Taken) && agrees)
 }
 
 #[test]

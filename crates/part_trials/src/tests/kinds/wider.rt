@@ -42,7 +42,7 @@ const SUMS: &[Row] = &[
     (W64, EIGHTS, One(5), Ok(Bits(5, MAX - 2, 2, 5))),
     (W32, Bits(1, 4, !7, 0), One(MAX_32), Ok(Bits(0, 3, !3, 0))),
     (W64, Dead, BYTE, Ok(Dead)),
-    (W64, Stack(0, 0), Dead, Ok(Dead)),
+    (W64, Stack(0, 0), Dead, Ok(Stack(0, 0))),
     (W64, Stack(-256, -256), NIBBLES, Ok(Stack(-256, -16))),
 ];
 

@@ -1,13 +1,15 @@
-use Rattle.std.proofs.Common.{ℕ, sym, ◌∙◌, ap, Some}
-use Rattle.std.proofs.lemmas.Bool.{eqb-true, eq-eqb}
+use Rattle.std.proofs.Common.{sym, ◌∙◌, ap, subst, Some}
+use Rattle.std.specs.Prelude.{IsTrue}
 use Rattle.std.proofs.lemmas.Option.{same_Some}
-use Rattle.helpers.specs.declared.sig.Sig.{Sig}
-use Rattle.helpers.proofs.SameSigs.{same_sig}
+use Rattle.helpers.specs.Shapes.{shape_of}
+use Rattle.helpers.proofs.SameRules.{shapes_decide}
+use Rattle.helpers.proofs.SameSigs.{same_shapes}
 use Rattle.helpers.proofs.sigs.Sigs.lists.Goals as goal
 
-pub returns-then-sig-entry : goal.returns-then-sig-entry
-returns-then-sig-entry c =
-    let found = sym c.sig.ensures ∙ c.in-Some.is in (
-      λ t. found ∙ ap Some (same_sig c.in-Some.sig c.args.entry.sig (c.has_same_rules.ensures.0 c.if-sig-entry.true.0) c.if-sig-entry.true.1 (eqb-true c.in-Some.sig.hi c.args.entry.sig.hi t)),
-      λ e. let hi : Sig → ℕ = λ sig. sig.hi in eq-eqb c.in-Some.sig.hi c.args.entry.sig.hi (ap hi (same_Some c.in-Some.sig c.args.entry.sig (sym found ∙ e))),
+pub returns-in-Some : goal.returns-in-Some
+returns-in-Some c =
+    let found = sym c.sig.ensures ∙ c.in-Some.is in
+    let decide = shapes_decide c.in-Some.sig c.args.entry.sig in (
+      λ t. found ∙ ap Some (same_shapes c.in-Some.sig c.args.entry.sig (decide.0 (subst IsTrue c.eq.ensures t))),
+      λ e. subst IsTrue (sym c.eq.ensures) (decide.1 (ap shape_of (same_Some c.in-Some.sig c.args.entry.sig (sym found ∙ e)))),
     )

@@ -19,3 +19,7 @@ returns-clause-some g c = let table = c.args.self.now in
 pub returns-clause-held : goal.returns-clause-held
 returns-clause-held g c = let table = c.args.self.now in
     (c.in_ok-place.place, place_within _ table.helpers.items table.listed c.args.number c.in_ok-place.place table.paired (sym c.in_ok-place.was ∙ c.place.ensures), sym c.index.ensures)
+
+pub returns-clause-tells : goal.returns-clause-tells
+returns-clause-tells g c = let table = c.args.self.now in
+    λ given answer told. (c.in_ok-place.place, c.index.result.now, place_within _ table.helpers.items table.listed c.args.number c.in_ok-place.place table.paired (sym c.in_ok-place.was ∙ c.place.ensures), sym c.index.ensures, told)
