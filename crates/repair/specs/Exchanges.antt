@@ -1,5 +1,5 @@
 -- Exchange of the keys of two vnodes by summaries (Riak KV documentation, active anti-entropy; this store's profile).
-use Rattle.std.specs.Prelude.{◌≡◌, ◌≢◌, ℕ, List, [], ◌∷◌, ◌++◌, Result, Ok, Err, Bool, false, is_ok, length, count_by}
+use Rattle.std.specs.Prelude.{◌≡◌, ◌≢◌, ℕ, List, [], ◌∷◌, ◌++◌, Result, Ok, Err, Bool, true, false, is_ok, length, count_by}
 use Rattle.std.specs.List.{AllByRecursion}
 use Rattle.std.specs.Global.{Vec}
 use Rattle.object.specs.declared.content.Key.{Key}
@@ -10,6 +10,7 @@ use Rattle.peers.specs.declared.peers.PartAnswer.TheVariants.{Merged, Missing}
 use Rattle.peers.specs.declared.peers.SummaryAnswer.{SummaryAnswer}
 use Rattle.peers.specs.declared.fault.PeerFault.{PeerFault}
 use Rattle.peers.specs.Calls.{Call, MergeAt, StateOf, SummaryAt, MergePartAt, KeysOf}
+use Rattle.repair.specs.declared.exchanging.Exchanged.{Exchanged}
 
 -- How a state was sent, and what came back: its part, which was merged, lost or refused; its part, of which the receiver lacked a content,
 -- and then the whole state; or the whole state at once, since there was no memory for the part.
@@ -46,6 +47,19 @@ is_taken (Unread told fault) = false
 is_taken (Alike told own) = false
 is_taken (Brought told own sending) = is_received sending
 
+-- whether a state went whole at once
+abbrev pub is_whole : Sending → Bool
+is_whole (InPart back) = false
+is_whole (AfterPart back) = false
+is_whole (AtOnce back) = true
+
+-- the same of what came of a key
+abbrev pub is_whole_at_once : Sent → Bool
+is_whole_at_once (Untold fault) = false
+is_whole_at_once (Unread told fault) = false
+is_whole_at_once (Alike told own) = false
+is_whole_at_once (Brought told own sending) = is_whole sending
+
 -- what came back of a part that lacked nothing
 abbrev pub merged : Result Bool PeerFault → Result PartAnswer PeerFault
 merged (Ok changed) = Ok (Merged changed)
@@ -79,10 +93,10 @@ sends_all from to [] (sent ∷ all) = []
 sends_all from to (key ∷ keys) (sent ∷ all) = sends from to key sent ++ sends_all from to keys all
 
 -- what follows where a vnode named its keys: each is brought to the other
-abbrev pub AfterKeys : ℕ → ℕ → Result (Vec Key) PeerFault → List Call → ℕ → Type 0
-AfterKeys from to (Ok keys) calls taken = (all : List Sent) × (calls ≡ sends_all from to keys.items all) × (length all ≡ length keys.items) × AllByRecursion IsFair all × (taken ≡ count_by is_taken all)
-AfterKeys from to (Err fault) calls taken = (calls ≡ []) × (taken ≡ 0)
+abbrev pub AfterKeys : ℕ → ℕ → Result (Vec Key) PeerFault → List Call → Exchanged → Type 0
+AfterKeys from to (Ok keys) calls came = (all : List Sent) × (calls ≡ sends_all from to keys.items all) × (length all ≡ length keys.items) × AllByRecursion IsFair all × (came.taken ≡ count_by is_taken all) × (came.whole_at_once ≡ count_by is_whole_at_once all)
+AfterKeys from to (Err fault) calls came = (calls ≡ []) × (came.taken ≡ 0) × (came.whole_at_once ≡ 0)
 
--- the keys of a vnode are brought to another, and so many states were taken
-abbrev pub BringsKeys : ℕ → ℕ → List Call → ℕ → Type 0
-BringsKeys from to calls taken = (back : Result (Vec Key) PeerFault) × (rest : List Call) × (calls ≡ KeysOf from back ∷ rest) × AfterKeys from to back rest taken
+-- the keys of a vnode are brought to another: so many states were taken, and so many went whole at once
+abbrev pub BringsKeys : ℕ → ℕ → List Call → Exchanged → Type 0
+BringsKeys from to calls came = (back : Result (Vec Key) PeerFault) × (rest : List Call) × (calls ≡ KeysOf from back ∷ rest) × AfterKeys from to back rest came

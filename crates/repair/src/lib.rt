@@ -6,5 +6,5 @@ mod exchanging;
 pub mod laws;
 mod repairing;
 
-pub use exchanging::exchange;
+pub use exchanging::{Exchanged, exchange};
 pub use repairing::repair;

@@ -2,13 +2,16 @@
 use Rattle.std.proofs.Common.{◌≡◌, ℕ, zero, suc, ◌+◌, ◌<◌, ◌≤◌, List, [], ◌∷◌, ◌++◌, length, get_or, take, refl, sym, ap, subst, ◌∙◌, arith, append_assoc, length-set}
 use Rattle.std.specs.Prelude.{slice_set}
 use Rattle.std.proofs.Math.ListN.{get_or-append}
-use Rattle.std.proofs.lemmas.List.{take_more, length-take-le, length-map}
+use Rattle.std.proofs.lemmas.List.{get_or-set_same, take_more, length-take-le, length-map}
 use Rattle.journal.specs.Entry.{Entry, Merge}
 use Rattle.journal.specs.Logs.{Log, with_entry, with_entries}
 use Rattle.wire.specs.declared.record.Record.{Record}
+use Rattle.world.specs.declared.event.Event.{Event}
+use Rattle.world.specs.declared.event.Reply.{Reply}
 use Rattle.world.specs.Beginning.{merges_of, first_logs}
 use Rattle.world.specs.Knowledge.{below, id_under, ids_under}
-use Rattle.world.specs.Represents.{empty_logs}
+use Rattle.world.specs.Represents.{empty_logs, log_at}
+use Rattle.world.specs.Sources.{GoOnBy, IsFrontOf}
 use Rattle.world.specs.Stamped.{AreStamped}
 use Rattle.world.proofs.Renamed.{below_len}
 use Rattle.world.proofs.Runs.{opened_more}
@@ -72,3 +75,12 @@ first_stamped incarnation n records le =
     subst (λ (k : ℕ). AreStamped (first_logs incarnation n records) k) (let l = length-merges 0 records in let k : 0 + length (merges_of 0 records) ≡ length records = omega (arith, l) in k)
     (subst (λ (l : Log). AreStamped (slice_set (empty_logs (ids_under incarnation n)) 0 (with_entries l (merges_of 0 records))) (0 + length (merges_of 0 records))) (first_log incarnation n (record { vnode = 0; entries = [] }) le)
     (stamped_row (empty_logs (ids_under incarnation n)) 0 0 (merges_of 0 records) (let l = length-empty incarnation n in omega (arith, l, le)) (in_row 0 records) (none_stamped (ids_under incarnation n))))
+
+-- the journal that the records began still stands
+pub first_stands : (incarnation n : ℕ) (records : List Record) (events : List Event) (replies : List Reply) (new : List Log) → 1 ≤ n → GoOnBy events replies (first_logs incarnation n records) new
+    → (place : ℕ) × (place < length new) × IsFrontOf (record { vnode = id_under incarnation 0; entries = merges_of 0 records }) (log_at new place)
+first_stands incarnation n records events replies new le go =
+    let h = go.stand 0 (let l = length-first incarnation n records in omega (arith, l, le)) in
+    let is : log_at (first_logs incarnation n records) 0 ≡ record { vnode = id_under incarnation 0; entries = merges_of 0 records } =
+    get_or-set_same (empty_logs (ids_under incarnation n)) 0 (record { vnode = id_under incarnation 0; entries = merges_of 0 records }) (record { vnode = 0; entries = [] }) (let l = length-empty incarnation n in omega (arith, l, le)) in
+    (h.0, h.1, subst (λ (l : Log). IsFrontOf l (log_at new h.0)) is h.2)

@@ -13,5 +13,6 @@ pub mod Runs
 pub mod LoadRuns
 pub mod Dumps
 pub mod Renamed
+pub mod Sources
 pub mod Whole
 pub mod Beginnings

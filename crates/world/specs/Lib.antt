@@ -7,4 +7,5 @@ pub mod Represents
 pub mod Stamped
 pub mod Appending
 pub mod Running
+pub mod Sources
 pub mod Beginning

@@ -2,7 +2,7 @@
 
 ghost use Rattle.std.specs.Option.{option_copied};
 ghost use Rattle.helpers.specs.declared.sig.Entry.{Entry as Helper};
-ghost use Rattle.std.specs.Prelude.{◌≡◌, ◌↔◌, ℕ, ◌<◌, ◌≤◌, ◌^◌, ◌+◌, ◌⊎◌, List, [], ◌∷◌, length, slice_get, Some, IfOk, IfErr, OnOk, OnErr};
+ghost use Rattle.std.specs.Prelude.{◌≡◌, ◌↔◌, ℕ, ◌<◌, ◌≤◌, ◌^◌, ◌+◌, ◌⊎◌, List, [], ◌∷◌, ◌++◌, length, slice_get, slice_set, slice_index_or, Some, IfOk, IfErr, OnOk, OnErr};
 ghost use Rattle.verifier.specs.Program.{Program};
 ghost use Rattle.dvv.specs.declared.Dot.{Dot as Identifier};
 ghost use Rattle.object.specs.declared.content.Key.{Key as StoredKey};
@@ -28,7 +28,8 @@ ghost use Rattle.journal.specs.Limits.{TakesEntry};
 ghost use Rattle.world.specs.Stamped.{AreStamped};
 ghost use Rattle.world.specs.Running.{IsMessageOf, IsPartMessageOf, Remember, IsReady, IsReadyContext, ReplyAt, IsSummarizedOrRefused, IsSentOrRefused, IsMessageOrRefused, IsRefusedContext, AreRunnable, AreRunnableFrom, MayReply, Recall, IsReadyRun, IsGetAt, IsRunAt, IsChoiceOf, IsFoundOrRefused, IsResolvedOrRefused, IsDumpedOrRefused, IsNoLoad, IsNewFor, Begins, IsWorldFrom, max_vnodes};
 ghost use Rattle.world.specs.Resolving.{MayRun};
-ghost use Rattle.world.specs.Beginning.{BeginsWith, RefusesRecords, merges_of};
+ghost use Rattle.world.specs.Sources.{GoOn, GoOnBy, IsFrontOf, sources_of, sources_told, sources_delivered, sources_loaded, sources_after};
+ghost use Rattle.world.specs.Beginning.{BeginsWith, RefusesRecords, first_logs, merges_of};
 
 use crate::beginning::{BeginFault, merge_all};
 use crate::event::{Copies, Event, Message, PartMessage, Reply, Seen};
@@ -84,7 +85,9 @@ impl World {
     ) -> Result<World, AllocError>
         requires few { vnodes ≤ max_vnodes }
         requires runnable { AreRunnable vnodes table.now.listed events.now }
-        ensures { IfOk result (IsWorldOf vnodes table.now.listed events.now) }
+        ensures world { IfOk result (IsWorldOf vnodes table.now.listed events.now) }
+        // Each merge names the read whose answer its delivery or load had.
+        ensures sources { IfOk result (λ world. GoOnBy events.now world.replies (empty_logs (ids_under 0 vnodes)) world.logs) }
     {
         let mut states = open(alloc, vnodes, 0)?;
         let replies = go_on(alloc, &mut states, 0, table, events)?;
@@ -116,7 +119,11 @@ impl World {
         // Each event is replied, whatever the records are.
         ensures replies { IfOk result (λ world. length world.replies ≡ length events.now) }
 
-        // Each record is merged, as the first vnode's journal takes it.
+        // Each merge names the read that its record named, or the one whose answer its delivery or load had.
+        ensures sources { IfOk result (λ world. GoOnBy events.now world.replies (first_logs incarnation vnodes records.now) world.logs) }
+
+        // Each record is merged, as the first vnode's journal takes it: one of the journals begins with them.
+        ensures first { IfOk result (λ world. (place : ℕ) × (place < length world.logs) × IsFrontOf (record { vnode = id_under incarnation 0; entries = merges_of 0 records.now }) (log_at world.logs place)) }
         ensures takes { OnOk result (IsJournal (id_under incarnation 0) (merges_of 0 records.now)) }
         ensures refused { IfErr result (RefusesRecords (id_under incarnation 0) records.now) }
     {
@@ -187,6 +194,7 @@ fn go_on(
     requires room { made ≤ 2 ^ 63 }
     requires runnable { (used : List ℕ) × AreRunnableFrom used (length vnodes.old.items) table.now.listed events.now }
     ensures replies { IfOk result (λ replies. length replies.items ≡ length events.now) }
+    ensures goes { IfOk result (λ replies. GoOnBy events.now replies.items vnodes.old.items vnodes.new.items) }
     ensures world { IfOk result (λ replies. (begin : Knowledge) → Begins vnodes.old.items events.now begin → IsWorldFrom begin (length vnodes.old.items) table.now.listed events.now (record { logs = vnodes.new.items; replies = replies.items })) }
 {
     let mut replies = Vec::with_capacity(alloc, events.len())?;
@@ -245,6 +253,7 @@ fn put_at(
     ensures stored { IfOk result (λ dot. Appends vnodes.old vnodes.new at (Put made.old key.now seen.now content.now dot)) }
     ensures refused { IfErr result (RefusesPut (log_at vnodes.old at) key.now seen.now) }
     ensures err { OnErr result (vnodes.new ≡ vnodes.old) }
+    ensures goes { GoOn vnodes.old vnodes.new (sources_of vnodes.old) }
     ensures stamps { AreStamped vnodes.old made.old → AreStamped vnodes.new made.new }
     ensures few { made.new ≤ made.old + 1 }
 {
@@ -271,6 +280,7 @@ fn merge_at(
     ensures changed { IfOk result (λ changed. TellsChange (log_at vnodes.old at).entries (Merge made.old message.now.key message.now.from message.now.at message.now.state) message.now.key changed) }
     ensures refused { IfErr result (RefusesMerge (log_at vnodes.old at) message.now.key message.now.state) }
     ensures err { OnErr result (vnodes.new ≡ vnodes.old) }
+    ensures goes { OnOk result (GoOn vnodes.old vnodes.new (slice_set (sources_of vnodes.old) at (slice_index_or (sources_of vnodes.old) at [] ++ sources_told (Reply.Sent message.now)))) }
     ensures stamps { AreStamped vnodes.old made.old → AreStamped vnodes.new made.new }
     ensures few { made.new ≤ made.old + 1 }
 {
@@ -302,6 +312,7 @@ fn merge_part_at(
     ensures merged { IfOk result (λ changed. (own : State) × MergesPart vnodes.old vnodes.new at made.old message.now changed own) }
     ensures refused { IfErr result (RefusesPart (log_at vnodes.old at) message.now.key message.now.part) }
     ensures err { OnErr result (vnodes.new ≡ vnodes.old) }
+    ensures goes { OnOk result (GoOn vnodes.old vnodes.new (slice_set (sources_of vnodes.old) at (slice_index_or (sources_of vnodes.old) at [] ++ sources_told (Reply.SentPart message.now)))) }
     ensures stamps { AreStamped vnodes.old made.old → AreStamped vnodes.new made.new }
     ensures few { made.new ≤ made.old + 1 }
 {
@@ -329,6 +340,7 @@ fn read_at(
     ensures place { IfOk result (λ found. found.1 ≡ length (log_at vnodes.old at).entries) }
     ensures refused { IfErr result (RefusesEntry (log_at vnodes.old at)) }
     ensures err { OnErr result (vnodes.new ≡ vnodes.old) }
+    ensures goes { GoOn vnodes.old vnodes.new (sources_of vnodes.old) }
     ensures stamps { AreStamped vnodes.old made.old → AreStamped vnodes.new made.new }
     ensures few { made.new ≤ made.old + 1 }
 {
@@ -355,6 +367,7 @@ fn summary_at(
     ensures summary { IfOk result (λ summary. Leaves (log_at vnodes.old at).entries key.now (λ state. summary ≡ summary_of state)) }
     ensures refused { IfErr result (RefusesEntry (log_at vnodes.old at)) }
     ensures err { OnErr result (vnodes.new ≡ vnodes.old) }
+    ensures goes { GoOn vnodes.old vnodes.new (sources_of vnodes.old) }
     ensures stamps { AreStamped vnodes.old made.old → AreStamped vnodes.new made.new }
     ensures few { made.new ≤ made.old + 1 }
 {
@@ -375,6 +388,7 @@ fn restart_at(vnodes: &mut [Vnode], made: &mut u64, at: usize) -> Result<(), Vno
     ensures restarted { OnOk result (Appends vnodes.old vnodes.new at (Restart made.old)) }
     ensures refused { IfErr result (RefusesEntry (log_at vnodes.old at)) }
     ensures err { OnErr result (vnodes.new ≡ vnodes.old) }
+    ensures goes { GoOn vnodes.old vnodes.new (sources_of vnodes.old) }
     ensures stamps { AreStamped vnodes.old made.old → AreStamped vnodes.new made.new }
     ensures few { made.new ≤ made.old + 1 }
 {
@@ -402,6 +416,7 @@ fn put(
     requires room { made.old + 1 < 2 ^ 64 }
     requires ready { IsReadyContext replies.now seen.now }
     ensures step { (listed : List Helper) (old : Knowledge) → Represents vnodes.old old → Remember replies.now old → (new : Knowledge) × Happens listed old (event.Put vnode key.now seen.now content.now) result new × Represents vnodes.new new }
+    ensures goes { GoOn vnodes.old vnodes.new (sources_of vnodes.old) }
     ensures stamps { AreStamped vnodes.old made.old → AreStamped vnodes.new made.new }
     ensures few { made.new ≤ made.old + 1 }
 {
@@ -420,6 +435,7 @@ fn get(vnodes: &mut [Vnode], made: &mut u64, vnode: usize, key: &Key) -> Reply
     requires inside { vnode < length vnodes.old }
     requires room { made.old + 1 < 2 ^ 64 }
     ensures step { (listed : List Helper) (old : Knowledge) → Represents vnodes.old old → (new : Knowledge) × Happens listed old (event.Get vnode key.now) result new × Represents vnodes.new new }
+    ensures goes { GoOn vnodes.old vnodes.new (sources_of vnodes.old) }
     ensures kind { IsFoundOrRefused result }
     ensures stamps { AreStamped vnodes.old made.old → AreStamped vnodes.new made.new }
     ensures few { made.new ≤ made.old + 1 }
@@ -435,6 +451,7 @@ fn summarize(vnodes: &mut [Vnode], made: &mut u64, vnode: usize, key: &Key) -> R
     requires inside { vnode < length vnodes.old }
     requires room { made.old + 1 < 2 ^ 64 }
     ensures step { (listed : List Helper) (old : Knowledge) → Represents vnodes.old old → (new : Knowledge) × Happens listed old (event.Summarize vnode key.now) result new × Represents vnodes.new new }
+    ensures goes { GoOn vnodes.old vnodes.new (sources_of vnodes.old) }
     ensures kind { IsSummarizedOrRefused result }
     ensures stamps { AreStamped vnodes.old made.old → AreStamped vnodes.new made.new }
     ensures few { made.new ≤ made.old + 1 }
@@ -458,6 +475,7 @@ fn message_at(
     ensures copy { IfOk result (λ message. IsCopyOf (log_at vnodes.old at) key.now message) }
     ensures refused { IfErr result (RefusesEntry (log_at vnodes.old at)) }
     ensures err { OnErr result (vnodes.new ≡ vnodes.old) }
+    ensures goes { GoOn vnodes.old vnodes.new (sources_of vnodes.old) }
     ensures stamps { AreStamped vnodes.old made.old → AreStamped vnodes.new made.new }
     ensures few { made.new ≤ made.old + 1 }
 {
@@ -481,6 +499,7 @@ fn send(vnodes: &mut [Vnode], made: &mut u64, vnode: usize, key: &Key) -> Reply
     requires inside { vnode < length vnodes.old }
     requires room { made.old + 1 < 2 ^ 64 }
     ensures step { (listed : List Helper) (old : Knowledge) → Represents vnodes.old old → (new : Knowledge) × Happens listed old (event.Send vnode key.now) result new × Represents vnodes.new new }
+    ensures goes { GoOn vnodes.old vnodes.new (sources_of vnodes.old) }
     ensures kind { IsSentOrRefused result }
     ensures stamps { AreStamped vnodes.old made.old → AreStamped vnodes.new made.new }
     ensures few { made.new ≤ made.old + 1 }
@@ -520,6 +539,7 @@ fn send_part(
     requires room { made.old + 1 < 2 ^ 64 }
     requires told { ReplyAt replies.now summary IsSummarizedOrRefused }
     ensures step { (listed : List Helper) (old : Knowledge) → Represents vnodes.old old → Remember replies.now old → (new : Knowledge) × Happens listed old (event.SendPart vnode key.now summary) result new × Represents vnodes.new new }
+    ensures goes { GoOn vnodes.old vnodes.new (sources_of vnodes.old) }
     ensures kind { IsMessageOrRefused result }
     ensures stamps { AreStamped vnodes.old made.old → AreStamped vnodes.new made.new }
     ensures few { made.new ≤ made.old + 1 }
@@ -557,6 +577,7 @@ fn deliver(
     requires room { made.old + 1 < 2 ^ 64 }
     requires sent { ReplyAt replies.now message IsMessageOrRefused }
     ensures step { (listed : List Helper) (old : Knowledge) → Represents vnodes.old old → Remember replies.now old → (new : Knowledge) × Happens listed old (event.Deliver message vnode) result new × Represents vnodes.new new }
+    ensures goes { GoOn vnodes.old vnodes.new (sources_delivered (sources_told (slice_index_or replies.now message Reply.Nothing)) vnode result (sources_of vnodes.old)) }
     ensures stamps { AreStamped vnodes.old made.old → AreStamped vnodes.new made.new }
     ensures few { made.new ≤ made.old + 1 }
 {
@@ -573,6 +594,7 @@ fn deliver_whole(vnodes: &mut [Vnode], made: &mut u64, vnode: usize, sent: &Mess
     requires inside { vnode < length vnodes.old }
     requires room { made.old + 1 < 2 ^ 64 }
     ensures step { (listed : List Helper) (old : Knowledge) (place : ℕ) → Represents vnodes.old old → IsMessageOf old place sent.now → (new : Knowledge) × Happens listed old (event.Deliver place vnode) result new × Represents vnodes.new new }
+    ensures goes { GoOn vnodes.old vnodes.new (sources_delivered (sources_told (Reply.Sent sent.now)) vnode result (sources_of vnodes.old)) }
     ensures stamps { AreStamped vnodes.old made.old → AreStamped vnodes.new made.new }
     ensures few { made.new ≤ made.old + 1 }
 {
@@ -587,6 +609,7 @@ fn deliver_part(vnodes: &mut [Vnode], made: &mut u64, vnode: usize, sent: &PartM
     requires inside { vnode < length vnodes.old }
     requires room { made.old + 1 < 2 ^ 64 }
     ensures step { (listed : List Helper) (old : Knowledge) (place : ℕ) → Represents vnodes.old old → IsPartMessageOf old place sent.now → (new : Knowledge) × Happens listed old (event.Deliver place vnode) result new × Represents vnodes.new new }
+    ensures goes { GoOn vnodes.old vnodes.new (sources_delivered (sources_told (Reply.SentPart sent.now)) vnode result (sources_of vnodes.old)) }
     ensures stamps { AreStamped vnodes.old made.old → AreStamped vnodes.new made.new }
     ensures few { made.new ≤ made.old + 1 }
 {
@@ -602,6 +625,7 @@ fn restart(vnodes: &mut [Vnode], made: &mut u64, vnode: usize) -> Reply
     requires inside { vnode < length vnodes.old }
     requires room { made.old + 1 < 2 ^ 64 }
     ensures step { (listed : List Helper) (old : Knowledge) → Represents vnodes.old old → (new : Knowledge) × Happens listed old (event.Restart vnode) result new × Represents vnodes.new new }
+    ensures goes { GoOn vnodes.old vnodes.new (sources_of vnodes.old) }
     ensures stamps { AreStamped vnodes.old made.old → AreStamped vnodes.new made.new }
     ensures few { made.new ≤ made.old + 1 }
 {
@@ -619,6 +643,7 @@ fn dump_at(vnodes: &mut [Vnode], made: &mut u64, at: usize) -> Result<Copies, Vn
     ensures full { IfErr result (λ fault. (keys : List StoredKey) × AreKeys (log_at vnodes.old at) keys × (fault ≡ VnodeFault.JournalFull ↔ (max_entries < length (log_at vnodes.old at).entries + length keys))) }
     ensures why { IfErr result (λ fault. (fault ≡ VnodeFault.JournalFull) ⊎ (fault ≡ VnodeFault.NoMemory)) }
     ensures err { OnErr result (vnodes.new ≡ vnodes.old) }
+    ensures goes { GoOn vnodes.old vnodes.new (sources_of vnodes.old) }
     ensures stamps { AreStamped vnodes.old made.old → AreStamped vnodes.new made.new }
     ensures few { made.new ≤ 2 ^ 63 }
 {
@@ -649,6 +674,7 @@ fn no_memory_for_all(vnode: &Vnode) -> VnodeFault
 fn dump(vnodes: &mut [Vnode], made: &mut u64, vnode: usize) -> Reply
     requires inside { vnode < length vnodes.old }
     ensures step { (listed : List Helper) (old : Knowledge) → Represents vnodes.old old → (new : Knowledge) × Happens listed old (event.Dump vnode) result new × Represents vnodes.new new }
+    ensures goes { GoOn vnodes.old vnodes.new (sources_of vnodes.old) }
     ensures kind { IsDumpedOrRefused result }
     ensures stamps { AreStamped vnodes.old made.old → AreStamped vnodes.new made.new }
     ensures few { (made.new ≤ made.old + 1) ⊎ (made.new ≤ 2 ^ 63) }
@@ -764,6 +790,7 @@ fn load(
     requires index { vnode < 65536 }
     requires dumped { ReplyAt replies.now dump IsDumpedOrRefused }
     ensures step { (listed : List Helper) (old : Knowledge) → Represents vnodes.old.items old → length old.ids ≡ length vnodes.old.items → Remember replies.now old → IsNewId old (id_under incarnation vnode) → (new : Knowledge) × Happens listed old (event.Load dump vnode incarnation) result new × Represents vnodes.new.items new }
+    ensures goes { GoOn vnodes.old.items vnodes.new.items (sources_loaded (sources_told (slice_index_or replies.now dump Reply.Nothing)) vnode result (sources_of vnodes.old.items)) }
     ensures more { length vnodes.old.items ≤ length vnodes.new.items }
     ensures stamps { AreStamped vnodes.old.items made.old → AreStamped vnodes.new.items made.new }
     ensures few { (made.new ≤ made.old + 1) ⊎ (made.new ≤ 2 ^ 63) }
@@ -903,6 +930,7 @@ fn resolve_write(
     requires room { made.old + 1 < 2 ^ 64 }
     requires ready { IsReadyRun events.now replies.now run }
     ensures step { (listed : List Helper) (old : Knowledge) → Represents vnodes.old old → Remember replies.now old → Recall events.now replies.now old → (new : Knowledge) × Happens listed old (event.ResolveWrite run vnode) result new × Represents vnodes.new new }
+    ensures goes { GoOn vnodes.old vnodes.new (sources_of vnodes.old) }
     ensures stamps { AreStamped vnodes.old made.old → AreStamped vnodes.new made.new }
     ensures few { made.new ≤ made.old + 1 }
 {
@@ -935,6 +963,7 @@ fn happen(
     requires ready { IsReady (length vnodes.old.items) table.now.listed before.now replies.now event.now }
     requires room { made.old + 1 < 2 ^ 64 }
     ensures step { (old : Knowledge) → Represents vnodes.old.items old → length old.ids ≡ length vnodes.old.items → Remember replies.now old → Recall before.now replies.now old → IsNewFor old event.now → (new : Knowledge) × Happens table.now.listed old event.now result new × Represents vnodes.new.items new }
+    ensures goes { GoOn vnodes.old.items vnodes.new.items (sources_after replies.now event.now result (sources_of vnodes.old.items)) }
     ensures kind { MayReply event.now result }
     ensures more { length vnodes.old.items ≤ length vnodes.new.items }
     ensures stamps { AreStamped vnodes.old.items made.old → AreStamped vnodes.new.items made.new }
@@ -965,6 +994,7 @@ fn happen_at(
     requires ready { IsReady (length vnodes.old) table.now.listed before.now replies.now event.now }
     requires room { made.old + 1 < 2 ^ 64 }
     ensures step { (old : Knowledge) → Represents vnodes.old old → Remember replies.now old → Recall before.now replies.now old → (new : Knowledge) × Happens table.now.listed old event.now result new × Represents vnodes.new new }
+    ensures goes { GoOn vnodes.old vnodes.new (sources_after replies.now event.now result (sources_of vnodes.old)) }
     ensures kind { MayReply event.now result }
     ensures stamps { AreStamped vnodes.old made.old → AreStamped vnodes.new made.new }
     ensures few { (made.new ≤ made.old + 1) ⊎ (made.new ≤ 2 ^ 63) }

@@ -37,13 +37,22 @@ fn are_alike(alloc: Global, local: &mut Local) -> Result<[bool; 3], Fail> {
     Ok([both, ours, is_alike(alloc, local, b't')?])
 }
 
-/// How many states an exchange of vnodes 0 and 1 takes, and the journals' lengths after it.
-fn exchange_once(alloc: Global, local: &mut Local) -> (u64, [usize; 3]) {
-    (exchange(alloc, local, 0, 1), lengths(local))
+/// How many states an exchange of vnodes 0 and 1 takes, and how many go whole at once.
+type Counts = (u64, u64);
+
+/// What an exchange of vnodes 0 and 1 comes to.
+fn bring_both<P: Peers>(alloc: Global, peers: &mut P) -> Counts {
+    let came = exchange(alloc, peers, 0, 1);
+    (came.taken, came.whole_at_once)
+}
+
+/// What an exchange of vnodes 0 and 1 comes to, and the journals' lengths after it.
+fn exchange_once(alloc: Global, local: &mut Local) -> (Counts, [usize; 3]) {
+    (bring_both(alloc, local), lengths(local))
 }
 
 /// What two exchanges come to, and whether the keys are then shown alike.
-type Outcome = ([(u64, [usize; 3]); 2], [bool; 3]);
+type Outcome = ([(Counts, [usize; 3]); 2], [bool; 3]);
 
 /// What they come to over these vnodes.
 fn exchange_twice(alloc: Global, local: &mut Local) -> Result<Outcome, Fail> {
@@ -60,13 +69,13 @@ fn brings_each_key_to_the_other_side(rt: HostRuntime) -> Result<(), Fail> {
     let mut local = vnodes_of(rt.alloc(), 2, 0)?;
     let outcome = exchange_twice(rt.alloc(), &mut local)?;
     expect(
-        outcome == ([(4, [11, 11, 0]), (0, [17, 17, 0])], [true; 3]),
+        outcome == ([((4, 0), [11, 11, 0]), ((0, 0), [17, 17, 0])], [true; 3]),
         &4,
     )
 }
 
-/// How many states an exchange of vnodes 0 and 1 takes, and what has been sent by its end: parts, contents in parts, and whole states.
-type Sending = (u64, [usize; 3]);
+/// What an exchange of vnodes 0 and 1 comes to, and what has been sent by its end: parts, contents in parts, and whole states.
+type Sending = (Counts, [usize; 3]);
 
 /// Puts so many values of a key at vnode 0, of which none had seen another, and exchanges.
 fn put_and_send(alloc: Global, watched: &mut Watched, count: u32) -> Result<Sending, Fail> {
@@ -74,7 +83,7 @@ fn put_and_send(alloc: Global, watched: &mut Watched, count: u32) -> Result<Send
     for _ in 0..count {
         put_alone(alloc, &mut watched.local, 0, &key, b"a")?;
     }
-    Ok((exchange(alloc, watched, 0, 1), watched.sent))
+    Ok((bring_both(alloc, watched), watched.sent))
 }
 
 /// Of 64 siblings one is new: one content goes.
@@ -83,5 +92,8 @@ fn one_content_of_many_is_sent(rt: HostRuntime) -> Result<(), Fail> {
     let mut watched = Watched::new(vnodes_of(rt.alloc(), 2, 0)?);
     let first = put_and_send(rt.alloc(), &mut watched, 63)?;
     let second = put_and_send(rt.alloc(), &mut watched, 1)?;
-    expect([first, second] == [(1, [1, 63, 0]), (1, [2, 64, 0])], &64)
+    expect(
+        [first, second] == [((1, 0), [1, 63, 0]), ((1, 0), [2, 64, 0])],
+        &64,
+    )
 }

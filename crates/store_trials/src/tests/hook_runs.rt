@@ -76,7 +76,9 @@ fn take_after_a_put(
     let hook = program(alloc, RESOLVER, 128, &answer(257))?;
     let (mut local, got, answers) = two_siblings(alloc, &key)?;
     put_alone(alloc, &mut local, 0, &key, b"c")?;
-    let Resolved { state, cut } = resolve_hooked(alloc, &mut local, hook, 0, &key, got, &answers)?;
+    let Resolved { state, cut, .. } = resolve_hooked(
+        alloc, &mut local, hook, 0, &key, got, &answers,
+    )?;
     Ok((cut, shows(&state, dots)))
 }
 

@@ -169,7 +169,7 @@ fn operate(
             Ok(get_and_repair(alloc, local, &key).err())
         }
         Operation::Exchange => {
-            let _taken = exchange(alloc, local, 0, 1);
+            let _exchanged = exchange(alloc, local, 0, 1);
             Ok(None)
         }
     }

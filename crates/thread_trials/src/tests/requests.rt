@@ -11,6 +11,7 @@ use code_parts::expect;
 use dvv::{Clock, ClockFault, Dot};
 use object::{Content, KeyState, Part};
 use pool::{CallFault, Cluster, Pass, Receipt, Room};
+use repair::exchange;
 use stamps::{Card, Size, Stamps};
 use std::alloc::{AllocError, Global};
 use std::marker::Brand;
@@ -240,9 +241,11 @@ fn rows_are<B: Room, R: Wait>(
         expect(answer_of(rt, cluster, pass, *vnode, &request) == *want, row)?;
     }
     let mut peers = PassPeers::new(alloc, rt, cluster, pass, &Open);
-    let taken = repair::exchange(alloc, &mut peers, 0, 1);
-    let again = repair::exchange(alloc, &mut peers, 0, 1);
-    expect((taken, again) == (3, 0), &(taken, again))
+    let first = exchange(alloc, &mut peers, 0, 1);
+    let again = exchange(alloc, &mut peers, 0, 1);
+    let taken = (first.taken, again.taken);
+    let whole_at_once = (first.whole_at_once, again.whole_at_once);
+    expect(taken == (3, 0) && whole_at_once == (0, 0), &taken)
 }
 
 /// How many entries a block has.

@@ -10,6 +10,7 @@ returns-in-Err g c = (
   (c.summary_at.new.self, subst (λ b. g.P.Peers.happens c.args.peers.now (SummaryAt c.args.to c.args.key.now b) c.summary_at.new.self) c.in-Err.is c.summary_at.ensures, refl),
   tt,
   refl,
+  refl,
 )
 
 pub returns-in-Err-state_of : goal.returns-in-Err-state_of
@@ -22,6 +23,7 @@ returns-in-Err-state_of g c = (
   ),
   tt,
   refl,
+  refl,
 )
 
 pub returns-then-is_of : goal.returns-then-is_of
@@ -33,6 +35,7 @@ returns-then-is_of g c = (
     (c.state_of.new.self, subst (λ b. g.P.Peers.happens c.summary_at.new.self (StateOf c.args.from c.args.key.now b) c.state_of.new.self) c.in-Ok-state_of.is c.state_of.ensures, refl),
   ),
   c.is_of.ensures.0 c.if-is_of.true,
+  refl,
   refl,
 )
 
@@ -47,4 +50,5 @@ returns g c =
       ),
       iff_false c.is_of.ensures c.if-is_of.false,
       s.2,
+      s.3,
     )

@@ -5,6 +5,7 @@ use Rattle.repair.proofs.exchanging.bring_all.Given as goal
 -- the keys so far were brought
 abbrev pub invariant-loop-key : goal.invariant-loop-key
 invariant-loop-key g l = record {
-  brought : IsBringing g.P.Peers.happens l.fn.peers l.peers l.from l.to l.keys l.key-index l.taken;
-  few : l.taken ≤ l.key-index;
+  brought : IsBringing g.P.Peers.happens l.fn.peers l.peers l.from l.to l.keys l.key-index l.exchanged;
+  few : l.exchanged.taken ≤ l.key-index;
+  few_whole : l.exchanged.whole_at_once ≤ l.key-index;
 }

@@ -10,5 +10,5 @@ pub returns-in-Err-clause-calls : goal.returns-in-Err-clause-calls
 returns-in-Err-clause-calls g c = (
   KeysOf c.args.from (Err c.in-Err.field-0) ∷ [],
   (c.keys_of.new.self, subst (λ b. g.P.Peers.happens c.args.peers.now (KeysOf c.args.from b) c.keys_of.new.self) c.in-Err.is c.keys_of.ensures, refl),
-  (Err c.in-Err.field-0, [], refl, (refl, refl)),
+  (Err c.in-Err.field-0, [], refl, (refl, c.nothing.ensures.taken, c.nothing.ensures.whole)),
 )

@@ -6,7 +6,7 @@ pub returns-clause-calls : goal.returns-clause-calls
 returns-clause-calls g c =
     let a = c.bring_keys-there.ensures.calls in
     let b = c.bring_keys-back.ensures.calls in
-    (a.0, b.0, c.bring_keys-there.result, c.bring_keys-back.result, made_append g.P.Peers.happens c.args.peers.now c.bring_keys-there.new.peers c.bring_keys-back.new.peers a.0 b.0 a.1 b.1, a.2, b.2, refl)
+    (a.0, b.0, c.bring_keys-there.result, c.bring_keys-back.result, made_append g.P.Peers.happens c.args.peers.now c.bring_keys-there.new.peers c.bring_keys-back.new.peers a.0 b.0 a.1 b.1, a.2, b.2, refl, refl)
 
 pub returns-clause-origin : goal.returns-clause-origin
 returns-clause-origin g c =

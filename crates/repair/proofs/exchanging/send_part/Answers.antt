@@ -17,6 +17,7 @@ returns-in-Ok-Merged g c =
         refl,
       ),
       refl,
+      refl,
     )
 
 pub returns-in-Ok-Missing : goal.returns-in-Ok-Missing
@@ -31,6 +32,7 @@ returns-in-Ok-Missing g c =
         (c.send_whole.new.peers, s.1, refl),
       ),
       s.2,
+      refl,
     )
 
 pub returns-in-Err : goal.returns-in-Err
@@ -42,5 +44,6 @@ returns-in-Err g c = (
         c.merge_part_at.ensures,
     refl,
   ),
+  refl,
   refl,
 )

@@ -12,13 +12,13 @@ run-requires-clause-runnable g c =
     (runnable_more (0 ∷ []) c.args.script.vnodes c.args.table.now.listed c.args.script.events.items (Dump c.args.vnode) c.requires.runnable.events c.requires.within)
 
 pub unreachable-requires : goal.unreachable-requires
-unreachable-requires g c = some_reply _ c.args.script c.args.vnode _ _ _ (c.deref.ensures.value ∙ c.in_ok-push.ensures.items) c.in_ok-world.ensures c.replies.ensures c.in_default.ensures.cases
+unreachable-requires g c = some_reply _ c.args.script c.args.vnode _ _ _ (c.deref.ensures.value ∙ c.in_ok-push.ensures.items) c.in_ok-world.ensures.world c.replies.ensures c.in_default.ensures.cases
 
 pub print_answers-requires : goal.print_answers-requires
 print_answers-requires g c =
-    enough_before _ c.args.script c.args.vnode _ _ _ _ _ c.requires.runnable c.deref-2.ensures.value (c.deref.ensures.value ∙ c.in_ok-push.ensures.items) c.in_ok-world.ensures (sym c.replies.ensures ∙ c.in-Some.ensures.cases.0)
+    enough_before _ c.args.script c.args.vnode _ _ _ _ _ c.requires.runnable c.deref-2.ensures.value (c.deref.ensures.value ∙ c.in_ok-push.ensures.items) c.in_ok-world.ensures.world (sym c.replies.ensures ∙ c.in-Some.ensures.cases.0)
 
 pub returns : goal.returns
 returns g c =
-    dumps_behind _ c.args.script c.args.vnode _ _ _ _ _ _ c.requires.runnable c.requires.within c.deref-2.ensures.value (c.deref.ensures.value ∙ c.in_ok-push.ensures.items) c.in_ok-world.ensures (sym c.replies.ensures ∙ c.in-Some.ensures.cases.0)
+    dumps_behind _ c.args.script c.args.vnode _ _ _ _ _ _ c.requires.runnable c.requires.within c.deref-2.ensures.value (c.deref.ensures.value ∙ c.in_ok-push.ensures.items) c.in_ok-world.ensures.world (sym c.replies.ensures ∙ c.in-Some.ensures.cases.0)
     c.in_ok-text.ensures

@@ -1,5 +1,10 @@
+use Rattle.std.proofs.Common.{subst}
 use Rattle.world.specs.Running.{IsMessageOrRefused}
 use Rattle.world.proofs.Runs.{message_was_refused, message_held, part_held, refusal_held}
+use Rattle.world.specs.declared.event.Reply.{Reply}
+use Rattle.world.specs.declared.event.Reply.TheVariants.{Sent, SentPart}
+use Rattle.world.specs.Sources.{GoOn, sources_delivered, sources_told, sources_of}
+use Rattle.world.proofs.Sources.{go_on_same, reply_there}
 use Rattle.world.proofs.world.deliver.Goals as goal
 
 pub returns-in-Sent-clause-step : goal.returns-in-Sent-clause-step
@@ -10,3 +15,16 @@ returns-in-SentPart-clause-step c = λ listed old rep remember. c.deliver_part.e
 
 pub returns-in-Refused-clause-step : goal.returns-in-Refused-clause-step
 returns-in-Refused-clause-step c = λ listed old rep remember. message_was_refused listed c.args.vnodes.now old c.args.vnode c.args.message c.in-Refused.refusal rep (refusal_held c.args.replies.now old c.args.message c.index-replies-message.result c.in-Refused.refusal IsMessageOrRefused remember c.requires.sent c.index-replies-message.is c.in-Refused.is)
+
+pub returns-in-Sent-clause-goes : goal.returns-in-Sent-clause-goes
+returns-in-Sent-clause-goes c =
+    subst (λ (r : Reply). GoOn c.args.vnodes.now c.deliver_whole.new.vnodes (sources_delivered (sources_told r) c.args.vnode c.deliver_whole.result (sources_of c.args.vnodes.now)))
+    (reply_there c.args.replies.now c.args.message c.index-replies-message.result (Sent c.in-Sent.sent) IsMessageOrRefused c.requires.sent c.index-replies-message.is c.in-Sent.is) c.deliver_whole.ensures.goes
+
+pub returns-in-SentPart-clause-goes : goal.returns-in-SentPart-clause-goes
+returns-in-SentPart-clause-goes c =
+    subst (λ (r : Reply). GoOn c.args.vnodes.now c.deliver_part.new.vnodes (sources_delivered (sources_told r) c.args.vnode c.deliver_part.result (sources_of c.args.vnodes.now)))
+    (reply_there c.args.replies.now c.args.message c.index-replies-message.result (SentPart c.in-SentPart.sent) IsMessageOrRefused c.requires.sent c.index-replies-message.is c.in-SentPart.is) c.deliver_part.ensures.goes
+
+pub returns-in-Refused-clause-goes : goal.returns-in-Refused-clause-goes
+returns-in-Refused-clause-goes c = go_on_same c.args.vnodes.now

@@ -5,6 +5,7 @@ use Rattle.world.specs.declared.event.Event.TheVariants as event
 use Rattle.world.specs.declared.event.Reply.TheVariants as reply
 use Rattle.world.specs.Represents.{log_at}
 use Rattle.world.proofs.Runs.{part_happened, part_was_missing, part_was_refused, with_same}
+use Rattle.world.proofs.Sources.{go_on_still}
 use Rattle.world.proofs.world.deliver_part.Goals as goal
 
 pub returns-in-Ok-clause-step : goal.returns-in-Ok-clause-step
@@ -15,3 +16,9 @@ returns-in-Err-Missing-clause-step c = λ listed old place rep is. with_same lis
 
 pub returns-in-Err-Refused-clause-step : goal.returns-in-Err-Refused-clause-step
 returns-in-Err-Refused-clause-step c = λ listed old place rep is. with_same listed c.args.vnodes.now c.merge_part_at.new.vnodes old (event.Deliver place c.args.vnode) (reply.Refused c.in-Err-Refused.refusal) c.in-Err-Refused.ensures.err (part_was_refused listed c.args.vnodes.now old c.args.vnode place c.args.sent.now c.in-Err-Refused.refusal rep c.requires.inside is (subst (λ (fault : PartFault). RefusesPart (log_at c.args.vnodes.now c.args.vnode) c.args.sent.now.key c.args.sent.now.part fault) c.in-Err-Refused.field-0-is c.in-Err-Refused.ensures.refused))
+
+pub returns-in-Err-Missing-clause-goes : goal.returns-in-Err-Missing-clause-goes
+returns-in-Err-Missing-clause-goes c = go_on_still c.args.vnodes.now c.merge_part_at.new.vnodes c.in-Err-Missing.ensures.err
+
+pub returns-in-Err-Refused-clause-goes : goal.returns-in-Err-Refused-clause-goes
+returns-in-Err-Refused-clause-goes c = go_on_still c.args.vnodes.now c.merge_part_at.new.vnodes c.in-Err-Refused.ensures.err

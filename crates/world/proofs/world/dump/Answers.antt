@@ -11,6 +11,7 @@ use Rattle.world.specs.Represents.{log_at}
 use Rattle.world.proofs.Dumps.{copies_are}
 use Rattle.world.proofs.LoadRuns.{dump_happened, dump_was_refused}
 use Rattle.world.proofs.Runs.{with_same}
+use Rattle.world.proofs.Sources.{go_on_same}
 use Rattle.world.proofs.world.dump.Goals as goal
 
 pub returns-then-made-gt-MAX_MADE-clause-step : goal.returns-then-made-gt-MAX_MADE-clause-step
@@ -27,3 +28,6 @@ returns-in-Err-clause-step c = λ listed old rep. with_same listed c.args.vnodes
 
 pub returns-in-Ok-clause-kind : goal.returns-in-Ok-clause-kind
 returns-in-Ok-clause-kind c = copies_are c.args.vnodes.now c.dump_at.new.vnodes c.args.vnode c.args.made.now c.in-Ok.copies c.in-Ok.ensures.copied
+
+pub returns-then-made-gt-MAX_MADE-clause-goes : goal.returns-then-made-gt-MAX_MADE-clause-goes
+returns-then-made-gt-MAX_MADE-clause-goes c = go_on_same c.args.vnodes.now

@@ -3,6 +3,7 @@ use Rattle.std.proofs.lemmas.List.{length-map}
 use Rattle.vnode.specs.declared.steps.Copied.{Copied as Held}
 use Rattle.vnode.specs.States.{keys_of}
 use Rattle.world.proofs.Dumps.{copied_all, copies_stamped, full_at}
+use Rattle.world.proofs.Sources.{go_on_reads, go_on_back}
 use Rattle.world.proofs.world.dump_at.Goals as goal
 
 pub returns-in-Ok-clause-copied : goal.returns-in-Ok-clause-copied
@@ -31,3 +32,9 @@ returns-in-Ok-clause-few c =
     let count = c.len.ensures in
     let room = c.requires.room in
     omega (arith, places, keys, count, room)
+
+pub returns-in-Ok-clause-goes : goal.returns-in-Ok-clause-goes
+returns-in-Ok-clause-goes c = go_on_reads c.args.vnodes.now c.args.at c.args.made.now (keys_of c.in-Ok.held.items) c.index-vnodes-at.result c.read_all.new.self c.requires.inside c.in-Ok.ensures.entries
+
+pub returns-in-Err-clause-goes : goal.returns-in-Err-clause-goes
+returns-in-Err-clause-goes c = go_on_back c.args.vnodes.now c.args.at c.index-vnodes-at.result c.read_all.new.self c.in-Err.ensures.err

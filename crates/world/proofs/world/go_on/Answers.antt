@@ -1,4 +1,4 @@
-use Rattle.std.proofs.Common.{◌≡◌, ℕ, ◌+◌, List, length, take, sym, subst, ap, refl, ◌∙◌, arith, Some}
+use Rattle.std.proofs.Common.{◌≡◌, ℕ, ◌+◌, List, length, take, sym, subst, ap, refl, ◌∙◌, arith, Some, [], ◌++◌, ◌∷◌}
 use Rattle.std.specs.Prelude.{slice_get}
 use Rattle.std.proofs.lemmas.List.{take_all, length-take-le}
 use Rattle.std.proofs.lemmas.Option.{slice_get_read}
@@ -6,11 +6,14 @@ use Rattle.helpers.specs.declared.sig.Entry.{Entry as Helper}
 use Rattle.world.specs.declared.event.Event.{Event}
 use Rattle.world.specs.declared.event.Reply.{Reply}
 use Rattle.world.specs.Running.{IsRunSoFar, IsKnownSoFar, IsReady, Remember, Recall}
-use Rattle.world.proofs.Whole.{nothing_run, nothing_known, is_ready, runs_on, knows_on, world_of}
+use Rattle.world.proofs.Whole.{nothing_run, nothing_known, is_ready, runs_on, knows_on, world_of, one_more_event}
+use Rattle.world.specs.Sources.{GoOn, GoOnBy, sources_after, sources_of}
+use Rattle.world.proofs.Sources.{go_on_same, goes_on}
 use Rattle.world.proofs.world.go_on.Goals as goal
 
 pub loop-event-init : goal.loop-event-init
 loop-event-init g c = record {
+  goes = subst (λ (rs : List Reply). GoOnBy [] rs c.args.vnodes.now.items c.args.vnodes.now.items) (sym c.in_ok-replies.ensures.items) (go_on_same c.args.vnodes.now.items);
   run = subst (λ (rs : List Reply). IsRunSoFar (length c.args.vnodes.now.items) c.args.events.now 0 rs c.args.vnodes.now.items c.args.made) (sym c.in_ok-replies.ensures.items)
       (nothing_run (length c.args.vnodes.now.items) c.args.events.now c.args.vnodes.now.items c.args.made (omega arith) c.requires.stamped c.requires.room);
   known = λ begin h. subst (λ (rs : List Reply). IsKnownSoFar begin (length c.args.vnodes.now.items) c.args.table.now.listed c.args.events.now 0 rs c.args.vnodes.now.items) (sym c.in_ok-replies.ensures.items)
@@ -41,7 +44,12 @@ loop-event-preserved g c =
     let so_far : length c.loop-event.replies.items ≡ length (take c.loop-event.event-index c.args.events.now) = c.loop-event.invariant.run.len in
     let taken : length (take c.loop-event.event-index c.args.events.now) ≡ c.loop-event.event-index = length-take-le c.loop-event.event-index c.args.events.now (let h = c.loop-event-test.true in omega (arith, h)) in
     let is : c.len.result ≡ c.loop-event.event-index = c.len.ensures ∙ c.loop-event.replies.ok.0 ∙ so_far ∙ taken in
+    let longer : take (c.loop-event.event-index + 1) c.args.events.now ≡ take c.loop-event.event-index c.args.events.now ++ c.event-item.result ∷ [] = one_more_event c.args.events.now c.loop-event.event-index c.event-item.result c.loop-event-test.true c.event-item.is in
     record {
+      goes = subst (λ (rs : List Reply). GoOnBy (take (c.loop-event.event-index + 1) c.args.events.now) rs c.args.vnodes.now.items c.happen-reply.new.vnodes.items) (sym c.in_ok-push.ensures.items)
+          (subst (λ (es : List Event). GoOnBy es (c.loop-event.replies.items ++ c.happen-reply.result ∷ []) c.args.vnodes.now.items c.happen-reply.new.vnodes.items) (sym longer)
+          (goes_on (take c.loop-event.event-index c.args.events.now) c.loop-event.replies.items c.event-item.result c.happen-reply.result c.args.vnodes.now.items c.loop-event.vnodes.items c.happen-reply.new.vnodes.items so_far c.loop-event.invariant.goes
+          (subst (λ (rs : List Reply). GoOn c.loop-event.vnodes.items c.happen-reply.new.vnodes.items (sources_after rs c.event-item.result c.happen-reply.result (sources_of c.loop-event.vnodes.items))) c.deref.ensures.value c.happen-reply.ensures.goes)));
       run = subst (λ (rs : List Reply). IsRunSoFar (length c.args.vnodes.now.items) c.args.events.now (c.loop-event.event-index + 1) rs c.happen-reply.new.vnodes.items c.happen-reply.new.made) (sym c.in_ok-push.ensures.items)
           (runs_on c.requires.runnable.0 (length c.args.vnodes.now.items) c.args.table.now.listed c.args.events.now c.loop-event.event-index c.loop-event.replies.items c.loop-event.vnodes.items c.happen-reply.new.vnodes.items c.loop-event.made c.happen-reply.new.made c.event-item.result c.happen-reply.result
           c.requires.runnable.1 c.loop-event-test.true c.event-item.is c.loop-event.invariant.run c.happen-reply.ensures.more c.happen-reply.ensures.stamps c.happen-reply.ensures.few c.happen-reply.ensures.kind);
@@ -58,3 +66,6 @@ returns-clause-replies g c = c.loop-event.invariant.run.len ∙ ap (λ (es : Lis
 
 pub returns-clause-world : goal.returns-clause-world
 returns-clause-world g c = λ begin h. world_of begin (length c.args.vnodes.now.items) c.args.table.now.listed c.args.events.now c.loop-event.event-index c.loop-event.replies.items c.loop-event.vnodes.items c.loop-event.made (take_all c.loop-event.event-index c.args.events.now c.loop-event-test.false) c.loop-event.invariant.run.stamped (c.loop-event.invariant.known begin h)
+
+pub returns-clause-goes : goal.returns-clause-goes
+returns-clause-goes g c = subst (λ (es : List Event). GoOnBy es c.loop-event.replies.items c.args.vnodes.now.items c.loop-event.vnodes.items) (take_all c.loop-event.event-index c.args.events.now c.loop-event-test.false) c.loop-event.invariant.goes

@@ -1,11 +1,13 @@
-use Rattle.std.proofs.Common.{length}
+use Rattle.std.proofs.Common.{length, take}
 use Rattle.world.specs.Knowledge.{Knowledge}
 use Rattle.world.specs.Running.{Begins, IsRunSoFar, IsKnownSoFar}
+use Rattle.world.specs.Sources.{GoOnBy}
 use Rattle.world.proofs.world.go_on.Given as goal
 
 -- the events so far were run
 abbrev pub invariant-loop-event : goal.invariant-loop-event
 invariant-loop-event o l = record {
+  goes : GoOnBy (take l.event-index l.events) l.replies.items l.initial.vnodes.items l.vnodes.items;
   run : IsRunSoFar (length l.initial.vnodes.items) l.events l.event-index l.replies.items l.vnodes.items l.made;
   known : (begin : Knowledge) → Begins l.initial.vnodes.items l.events begin → IsKnownSoFar begin (length l.initial.vnodes.items) l.table.listed l.events l.event-index l.replies.items l.vnodes.items;
 }

@@ -7,6 +7,7 @@ use Rattle.world.specs.Represents.{Represents}
 use Rattle.world.specs.Running.{IsNewFor, IsReady}
 use Rattle.world.specs.Stamped.{AreStamped}
 use Rattle.world.proofs.Whole.{no_load, whole_back}
+use Rattle.world.specs.Sources.{GoOn, sources_after, sources_of}
 use Rattle.world.proofs.world.happen.Goals as goal
 
 pub returns-in-Load-clause-step : goal.returns-in-Load-clause-step
@@ -34,3 +35,15 @@ returns-in_default-clause-stamps o c = λ stamped.
     let len : c.args.vnodes.now.len ≡ length c.args.vnodes.now.items = sym c.deref_mut.ensures.len ∙ ap (λ (ls : List Log). length ls) c.deref_mut.ensures.value in
     let whole : take c.args.vnodes.now.len (c.happen_at.new.vnodes ++ drop (length c.happen_at.new.vnodes) c.args.vnodes.now.items) ≡ c.happen_at.new.vnodes = whole_back c.happen_at.new.vnodes c.args.vnodes.now.items c.args.vnodes.now.len n len in
     subst (λ (ls : List Log). AreStamped ls c.happen_at.new.made) (sym whole) (c.happen_at.ensures.stamps (subst (λ (ls : List Log). AreStamped ls c.args.made.now) (sym c.deref_mut.ensures.value) stamped))
+
+pub returns-in-Load-clause-goes : goal.returns-in-Load-clause-goes
+returns-in-Load-clause-goes o c =
+    subst (λ (e : Event). GoOn c.args.vnodes.now.items c.load.new.vnodes.items (sources_after c.args.replies.now e c.load.result (sources_of c.args.vnodes.now.items))) (sym c.in-Load.is) c.load.ensures.goes
+
+pub returns-in_default-clause-goes : goal.returns-in_default-clause-goes
+returns-in_default-clause-goes o c =
+    let n : length c.happen_at.new.vnodes ≡ length c.args.vnodes.now.items = c.happen_at.auto.vnodes ∙ ap (λ (ls : List Log). length ls) c.deref_mut.ensures.value in
+    let len : c.args.vnodes.now.len ≡ length c.args.vnodes.now.items = sym c.deref_mut.ensures.len ∙ ap (λ (ls : List Log). length ls) c.deref_mut.ensures.value in
+    let whole : take c.args.vnodes.now.len (c.happen_at.new.vnodes ++ drop (length c.happen_at.new.vnodes) c.args.vnodes.now.items) ≡ c.happen_at.new.vnodes = whole_back c.happen_at.new.vnodes c.args.vnodes.now.items c.args.vnodes.now.len n len in
+    subst (λ (ls : List Log). GoOn c.args.vnodes.now.items ls (sources_after c.args.replies.now c.args.event.now c.happen_at.result (sources_of c.args.vnodes.now.items))) (sym whole)
+    (subst (λ (ls : List Log). GoOn ls c.happen_at.new.vnodes (sources_after c.args.replies.now c.args.event.now c.happen_at.result (sources_of ls))) c.deref_mut.ensures.value c.happen_at.ensures.goes)

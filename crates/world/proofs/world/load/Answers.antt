@@ -5,8 +5,12 @@ use Rattle.world.specs.Happening.{Happens}
 use Rattle.world.specs.Appending.{LoadsAll}
 use Rattle.world.specs.Represents.{Represents}
 use Rattle.world.proofs.LoadRuns.{load_happened, loads_more, load_wants, load_refused_alike}
-use Rattle.world.specs.declared.event.Reply.TheVariants.{Loaded}
+use Rattle.world.specs.declared.event.Reply.TheVariants.{Loaded, Dumped, Nothing}
 use Rattle.vnode.specs.declared.fault.VnodeFault.TheVariants.{NoMemory}
+use Rattle.world.proofs.Sources.{go_on_same, go_on_loaded, go_on_still}
+use Rattle.std.proofs.lemmas.Option.{get_or_from_slice_get}
+use Rattle.world.specs.declared.event.Reply.{Reply}
+use Rattle.world.specs.Sources.{GoOn, sources_loaded, sources_told, sources_of}
 use Rattle.world.proofs.world.load.Goals as goal
 
 pub returns-in-Err-clause-step : goal.returns-in-Err-clause-step
@@ -27,3 +31,17 @@ returns-in-Err-load_at-clause-step c = λ listed old rep named remember new. loa
 
 pub returns-in-Ok-load_at-clause-more : goal.returns-in-Ok-load_at-clause-more
 returns-in-Ok-load_at-clause-more c = loads_more c.in-Ok-load_at.ensures.loaded
+
+pub returns-in-Err-clause-goes : goal.returns-in-Err-clause-goes
+returns-in-Err-clause-goes c = go_on_same c.args.vnodes.now.items
+
+pub returns-then-made-gt-MAX_MADE-clause-goes : goal.returns-then-made-gt-MAX_MADE-clause-goes
+returns-then-made-gt-MAX_MADE-clause-goes c = go_on_same c.args.vnodes.now.items
+
+pub returns-in-Ok-load_at-clause-goes : goal.returns-in-Ok-load_at-clause-goes
+returns-in-Ok-load_at-clause-goes c =
+    subst (λ (r : Reply). GoOn c.args.vnodes.now.items c.load_at.new.vnodes.items (sources_loaded (sources_told r) c.args.vnode (Loaded c.len.result) (sources_of c.args.vnodes.now.items))) (sym (get_or_from_slice_get c.args.replies.now c.args.dump (Dumped c.in-Ok.copies.now) Nothing c.in-Ok.ensures.copied))
+    (go_on_loaded c.args.vnodes.now.items c.load_at.new.vnodes.items c.args.vnode c.identifier-id.result c.args.made.now c.in-Ok.copies.now c.requires.inside c.in-Ok-load_at.ensures.loaded)
+
+pub returns-in-Err-load_at-clause-goes : goal.returns-in-Err-load_at-clause-goes
+returns-in-Err-load_at-clause-goes c = go_on_still c.args.vnodes.now.items c.load_at.new.vnodes.items c.in-Err-load_at.ensures.err

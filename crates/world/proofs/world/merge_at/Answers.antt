@@ -1,10 +1,11 @@
-use Rattle.std.proofs.Common.{[], refl, subst}
+use Rattle.std.proofs.Common.{[], refl, subst, ◌∷◌}
 use Rattle.std.proofs.lemmas.List.{get_or_default}
 use Rattle.journal.specs.Answers.{TellsChange}
 use Rattle.journal.specs.Entry.{Merge}
 use Rattle.journal.specs.Logs.{Log}
 use Rattle.vnode.specs.Refusals.{RefusesMerge}
 use Rattle.world.proofs.Stamped.{stamped_at}
+use Rattle.world.proofs.Sources.{go_on_more}
 use Rattle.world.proofs.world.merge_at.Goals as goal
 
 pub returns-in-Ok-clause-changed : goal.returns-in-Ok-clause-changed
@@ -19,3 +20,6 @@ returns-in-Err-clause-refused c =
 
 pub returns-in-Ok-clause-stamps : goal.returns-in-Ok-clause-stamps
 returns-in-Ok-clause-stamps c = stamped_at c.args.vnodes.now c.args.made.now c.args.at (Merge c.args.made.now c.args.message.now.key c.args.message.now.from c.args.message.now.at c.args.message.now.state) c.index-vnodes-at.result c.merge_lent.new.self c.requires.inside c.in-Ok.ensures.entry refl
+
+pub returns-in-Ok-clause-goes : goal.returns-in-Ok-clause-goes
+returns-in-Ok-clause-goes c = go_on_more c.args.vnodes.now c.args.at (Merge c.args.made.now c.args.message.now.key c.args.message.now.from c.args.message.now.at c.args.message.now.state ∷ []) c.index-vnodes-at.result c.merge_lent.new.self c.requires.inside c.in-Ok.ensures.entry

@@ -1,4 +1,4 @@
-use Rattle.std.proofs.Common.{List, [], ap, refl, sym, subst, ◌∙◌}
+use Rattle.std.proofs.Common.{List, [], ap, refl, sym, subst, ◌∙◌, ◌∷◌}
 use Rattle.std.specs.Prelude.{slice_set}
 use Rattle.std.proofs.lemmas.List.{get_or_default, set-get_or}
 use Rattle.object.specs.Parts.{whole_of}
@@ -8,6 +8,7 @@ use Rattle.vnode.specs.Parts.{RefusesPart}
 use Rattle.world.specs.Stamped.{AreStamped}
 use Rattle.world.proofs.Parted.{part_merged}
 use Rattle.world.proofs.Stamped.{stamped_at}
+use Rattle.world.proofs.Sources.{go_on_more}
 use Rattle.world.proofs.world.merge_part_at.Goals as goal
 
 pub returns-in-Ok-clause-merged : goal.returns-in-Ok-clause-merged
@@ -28,3 +29,8 @@ returns-in-Err-clause-err c = ap (λ (l : Log). slice_set c.args.vnodes.now c.ar
 
 pub returns-in-Err-clause-stamps : goal.returns-in-Err-clause-stamps
 returns-in-Err-clause-stamps c = λ stamped. subst (λ (ls : List Log). AreStamped ls c.args.made.now) (sym (ap (λ (l : Log). slice_set c.args.vnodes.now c.args.at l) c.in-Err.ensures.err ∙ set-get_or c.args.vnodes.now c.args.at c.index-vnodes-at.result)) stamped
+
+pub returns-in-Ok-clause-goes : goal.returns-in-Ok-clause-goes
+returns-in-Ok-clause-goes c =
+    let own = c.in-Ok.ensures.entry in
+    go_on_more c.args.vnodes.now c.args.at (Merge c.args.made.now c.args.message.now.key c.args.message.now.from c.args.message.now.at (whole_of c.args.message.now.part own.0) ∷ []) c.index-vnodes-at.result c.merge_part_lent.new.self c.requires.inside own.2

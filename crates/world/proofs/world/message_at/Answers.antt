@@ -2,6 +2,7 @@ use Rattle.std.proofs.Common.{[], ap, subst, ◌∙◌}
 use Rattle.std.proofs.lemmas.List.{get_or_default}
 use Rattle.journal.specs.Logs.{Log}
 use Rattle.vnode.specs.Refusals.{RefusesEntry}
+use Rattle.world.proofs.Sources.{go_on_same}
 use Rattle.world.proofs.world.message_at.Goals as goal
 
 pub returns-in_default-clause-refused : goal.returns-in_default-clause-refused
@@ -14,3 +15,6 @@ returns-in-Ok-read_at-clause-copy c = record {
   at = c.in-Ok-read_at.ensures.place;
   state = c.in-Ok-read_at.ensures.state;
 }
+
+pub returns-in_default-clause-goes : goal.returns-in_default-clause-goes
+returns-in_default-clause-goes c = go_on_same c.args.vnodes.now

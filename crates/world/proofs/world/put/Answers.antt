@@ -1,6 +1,7 @@
 use Rattle.world.specs.declared.event.Event.TheVariants as event
 use Rattle.world.specs.declared.event.Reply.TheVariants as reply
 use Rattle.world.proofs.Runs.{put_happened, put_was_refused, context_was_refused, with_same}
+use Rattle.world.proofs.Sources.{go_on_same}
 use Rattle.world.proofs.world.put.Goals as goal
 
 pub returns-in-Err-clause-step : goal.returns-in-Err-clause-step
@@ -11,3 +12,6 @@ returns-in-Ok-put_at-clause-step c = λ listed old rep remember. put_happened li
 
 pub returns-in-Err-put_at-clause-step : goal.returns-in-Err-put_at-clause-step
 returns-in-Err-put_at-clause-step c = λ listed old rep remember. with_same listed c.args.vnodes.now c.put_at.new.vnodes old (event.Put c.args.vnode c.args.key.now c.args.seen.now c.args.content.now) (reply.Refused c.in-Err-put_at.refusal) c.in-Err-put_at.ensures.err (put_was_refused listed c.args.vnodes.now old c.args.vnode c.args.key.now c.args.seen.now c.args.content.now c.in-Ok.clock.now c.in-Err-put_at.refusal rep c.requires.inside (c.in-Ok.ensures.means old remember) c.in-Err-put_at.ensures.refused)
+
+pub returns-in-Err-clause-goes : goal.returns-in-Err-clause-goes
+returns-in-Err-clause-goes c = go_on_same c.args.vnodes.now

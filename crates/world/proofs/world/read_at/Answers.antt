@@ -1,10 +1,11 @@
-use Rattle.std.proofs.Common.{[], length, refl, ap, subst, ◌∙◌}
+use Rattle.std.proofs.Common.{[], length, refl, ap, subst, ◌∙◌, ◌∷◌}
 use Rattle.std.proofs.lemmas.List.{get_or_default}
 use Rattle.journal.specs.Entry.{Read}
 use Rattle.journal.specs.Logs.{Log}
 use Rattle.journal.specs.Replay.{IsReplay}
 use Rattle.vnode.specs.Refusals.{RefusesEntry}
 use Rattle.world.proofs.Stamped.{stamped_at}
+use Rattle.world.proofs.Sources.{go_on_none, go_on_back}
 use Rattle.world.proofs.world.read_at.Goals as goal
 
 pub returns-in-Ok-clause-stamps : goal.returns-in-Ok-clause-stamps
@@ -23,3 +24,9 @@ pub returns-in-Err-clause-refused : goal.returns-in-Err-clause-refused
 returns-in-Err-clause-refused c =
     subst (λ (l : Log). RefusesEntry l c.in-Err.fault)
     (get_or_default c.args.vnodes.now c.args.at c.index-vnodes-at.result (record { vnode = 0; entries = [] }) c.requires.inside) c.in-Err.ensures.why
+
+pub returns-in-Ok-clause-goes : goal.returns-in-Ok-clause-goes
+returns-in-Ok-clause-goes c = go_on_none c.args.vnodes.now c.args.at (Read c.args.made.now c.args.key.now ∷ []) c.index-vnodes-at.result c.read.new.self c.requires.inside c.in-Ok.ensures.entry refl
+
+pub returns-in-Err-clause-goes : goal.returns-in-Err-clause-goes
+returns-in-Err-clause-goes c = go_on_back c.args.vnodes.now c.args.at c.index-vnodes-at.result c.read.new.self c.in-Err.ensures.err

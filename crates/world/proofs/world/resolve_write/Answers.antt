@@ -5,6 +5,7 @@ use Rattle.world.specs.declared.event.Event.TheVariants as event
 use Rattle.world.specs.declared.event.Reply.TheVariants as reply
 use Rattle.world.specs.Running.{IsChoiceOf}
 use Rattle.world.proofs.Runs.{choice_happened, choice_was_refused, nothing_was_chosen, run_was_refused, with_same}
+use Rattle.world.proofs.Sources.{go_on_same}
 use Rattle.world.proofs.world.resolve_write.Goals as goal
 
 pub returns-in-Err-clause-step : goal.returns-in-Err-clause-step
@@ -18,3 +19,9 @@ returns-in-Ok-put_at-clause-step c = λ listed old rep remember recall. choice_h
 
 pub returns-clause-step : goal.returns-clause-step
 returns-clause-step c = λ listed old rep remember recall. with_same listed c.args.vnodes.now c.put_at.new.vnodes old (event.ResolveWrite c.args.run c.args.vnode) (reply.Refused c.in-Err-put_at.refusal) c.in-Err-put_at.ensures.err (choice_was_refused listed c.args.vnodes.now old c.args.run c.args.vnode c.in-Ok.choice.key.now c.in-Some.content.now c.in-Ok.choice.seen.now c.in-Err-put_at.refusal rep c.requires.inside (subst (λ (o : Option (Bor Content)). IsChoiceOf old c.args.run c.in-Ok.choice.key.now c.in-Ok.choice.seen.now (option_copied o)) c.in-Some.is (c.in-Ok.ensures.chosen old remember recall)) c.in-Err-put_at.ensures.refused)
+
+pub returns-in-Err-clause-goes : goal.returns-in-Err-clause-goes
+returns-in-Err-clause-goes c = go_on_same c.args.vnodes.now
+
+pub returns-in-None-clause-goes : goal.returns-in-None-clause-goes
+returns-in-None-clause-goes c = go_on_same c.args.vnodes.now

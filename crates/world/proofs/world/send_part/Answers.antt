@@ -1,6 +1,7 @@
 use Rattle.world.specs.declared.event.Event.TheVariants as event
 use Rattle.world.specs.declared.event.Reply.TheVariants as reply
 use Rattle.world.proofs.Runs.{part_or_whole, part_is_message, part_send_refused, summary_was_refused, with_same}
+use Rattle.world.proofs.Sources.{go_on_same}
 use Rattle.world.proofs.world.send_part.Goals as goal
 
 pub returns-in-Err-clause-step : goal.returns-in-Err-clause-step
@@ -14,3 +15,6 @@ returns-in-Ok-message_at-clause-kind c = part_is_message c.in-Ok-message_at.mess
 
 pub returns-in-Err-message_at-clause-step : goal.returns-in-Err-message_at-clause-step
 returns-in-Err-message_at-clause-step c = λ listed old rep remember. with_same listed c.args.vnodes.now c.message_at.new.vnodes old (event.SendPart c.args.vnode c.args.key.now c.args.summary) (reply.Refused c.in-Err-message_at.refusal) c.in-Err-message_at.ensures.err (part_send_refused listed c.args.vnodes.now old c.args.replies.now c.args.vnode c.args.summary c.args.key.now c.in-Ok.told.now c.in-Err-message_at.refusal rep c.requires.inside remember c.in-Ok.ensures.told c.in-Err-message_at.ensures.refused)
+
+pub returns-in-Err-clause-goes : goal.returns-in-Err-clause-goes
+returns-in-Err-clause-goes c = go_on_same c.args.vnodes.now

@@ -5,7 +5,8 @@ use Rattle.journal.specs.Logs.{Log}
 use Rattle.world.specs.Beginning.{RefusesRecordsAt, first_logs}
 use Rattle.world.specs.Running.{AreRunnableFrom, Begins, IsWorldFrom}
 use Rattle.world.specs.Stamped.{AreStamped}
-use Rattle.world.proofs.Beginnings.{first_is, first_new, first_merged, first_stamped, length-first}
+use Rattle.world.proofs.Beginnings.{first_is, first_new, first_merged, first_stamped, length-first, first_stands}
+use Rattle.world.specs.Sources.{GoOnBy}
 use Rattle.world.proofs.world.World.run_from.Goals as goal
 
 pub returns-in_err-merge_all-clause-refused : goal.returns-in_err-merge_all-clause-refused
@@ -42,3 +43,11 @@ returns-clause-takes g c =
     subst (λ (l : Log). IsJournal l.vnode l.entries)
     (first_new c.args.incarnation c.args.vnodes c.args.records.now c.in_ok-states.states.items c.index_mut.result.now c.merge_all.new.vnode c.requires.first c.in_ok-states.ensures c.index_mut.ensures.value c.in_ok-merge_all.ensures.merged)
     c.in_ok-merge_all.ensures.legal
+
+pub returns-clause-sources : goal.returns-clause-sources
+returns-clause-sources g c =
+    let logs : slice_set c.in_ok-states.states.items 0 c.merge_all.new.vnode ≡ first_logs c.args.incarnation c.args.vnodes c.args.records.now = first_merged c.args.incarnation c.args.vnodes c.args.records.now c.in_ok-states.states.items c.index_mut.result.now c.merge_all.new.vnode c.requires.first c.in_ok-states.ensures c.index_mut.ensures.value c.in_ok-merge_all.ensures.merged in
+    subst (λ (ls : List Log). GoOnBy c.args.events.now c.in_ok-replies.replies.items ls c.go_on.new.vnodes.items) logs c.in_ok-replies.ensures.goes
+
+pub returns-clause-first : goal.returns-clause-first
+returns-clause-first g c = first_stands c.args.incarnation c.args.vnodes c.args.records.now c.args.events.now c.in_ok-replies.replies.items c.go_on.new.vnodes.items c.requires.first (returns-clause-sources g c)
