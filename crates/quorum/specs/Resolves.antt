@@ -8,6 +8,7 @@ use Rattle.object.specs.State.{State}
 use Rattle.verifier.specs.Program.{Program}
 use Rattle.helpers.specs.declared.sig.Entry.{Entry}
 use Rattle.hookrun.specs.declared.resolving.Resolution.{Resolution}
+use Rattle.hookrun.specs.declared.resolving.Resolution.TheVariants as resolution
 use Rattle.hookrun.specs.declared.resolving.Unresolved.{Unresolved}
 use Rattle.hookrun.specs.Resolving.{IsResolution, IsUnresolved, chosen_by}
 use Rattle.hooks.specs.declared.fault.NotSeen.{NotSeen}
@@ -15,6 +16,8 @@ use Rattle.peers.specs.declared.peers.Answer.{Answer}
 use Rattle.peers.specs.declared.fault.PeerFault.{PeerFault}
 use Rattle.quorum.specs.declared.fault.ResolveFault.{ResolveFault}
 use Rattle.quorum.specs.declared.fault.ResolveFault.TheVariants.{Unseen, Undecided, Cut}
+use Rattle.quorum.specs.declared.fault.Unfit.{Unfit}
+use Rattle.quorum.specs.declared.fault.Unfit.TheVariants.{TooLarge, Bad}
 use Rattle.peers.specs.Calls.{Call, PutAt, MergeAt, StateOf}
 
 -- whether an answer is another vnode's: an identifier's index is what it leaves of 65,536
@@ -100,3 +103,24 @@ state_told got (Err fault) = got
 abbrev pub cut_of : Result (Option State) ResolveFault → Option ResolveFault
 cut_of (Ok told) = None
 cut_of (Err fault) = Some fault
+
+-- why a run of a resolver chose nothing, where it failed: it was shown too much, or its answer has no meaning
+abbrev pub unfit_by : Result Resolution Unresolved → Option Unfit
+unfit_by (Ok resolution.Keep) = None
+unfit_by (Ok (resolution.Take place)) = None
+unfit_by (Ok (resolution.Write content)) = None
+unfit_by (Ok resolution.Delete) = None
+unfit_by (Ok resolution.TooLarge) = Some TooLarge
+unfit_by (Ok (resolution.Bad bad)) = Some (Bad bad)
+unfit_by (Err fault) = None
+
+-- why the resolver that a look-up found chose nothing
+abbrev pub UnfitOf : List Entry → List Sibling → Result (Option Program) NotSeen → Option Unfit → Type 0
+UnfitOf listed siblings (Ok (Some hook)) unfit = (ran : Result Resolution Unresolved) × MatchResult ran (IsResolution listed hook siblings) (IsUnresolved listed hook siblings) × (unfit ≡ unfit_by ran)
+UnfitOf listed siblings (Ok None) unfit = unfit ≡ None
+UnfitOf listed siblings (Err fault) unfit = unfit ≡ None
+
+-- why the resolver of a get's siblings chose nothing: it is looked up just where there are two or more
+abbrev pub IsUnfit : {H : Type 0} → (H → Result (Option Program) NotSeen → H → Type 0) → H → H → List Entry → List Sibling → Option Unfit → Type 0
+IsUnfit finds old new listed siblings unfit = MatchBool (nat_le 2 (length siblings))
+    ((found : Result (Option Program) NotSeen) × finds old found new × UnfitOf listed siblings found unfit) (unfit ≡ None)

@@ -48,6 +48,15 @@ pub enum ResolveFault {
     Cut(PeerFault),
 }
 
+/// Why a resolver that was run chose nothing: the siblings are answered then.
+#[derive(Clone, Copy, PartialEq, Eq)]
+pub enum Unfit {
+    /// There are over 64 siblings, or its input window is too short for them.
+    TooLarge,
+    /// Its answer has no meaning.
+    Bad(BadAnswer),
+}
+
 impl From<AllocError> for QuorumFault {
     ghost use Rattle.std.specs.Prelude.{◌≡◌};
     ghost use Rattle.vnode.specs.declared.fault.VnodeFault.TheVariants.{NoMemory};

@@ -8,7 +8,7 @@ mod hooking;
 mod putting;
 mod resolving;
 
-pub use fault::{QuorumFault, ResolveFault};
+pub use fault::{QuorumFault, ResolveFault, Unfit};
 pub use getting::get;
 pub use hooking::Hooking;
 pub use putting::put;

@@ -8,10 +8,10 @@ ghost use Rattle.dvv.specs.declared.Dot.{Dot};
 ghost use Rattle.hooks.specs.declared.fault.NotSeen.{NotSeen};
 ghost use Rattle.verifier.specs.Program.{Program};
 ghost use Rattle.peers.specs.Calls.{Call, PutAt, Made};
-ghost use Rattle.quorum.specs.Resolves.{is_others, others_of, brings, AllTaken, OneFailed, AfterChoice, AfterCommit, Commits, AfterRun, AfterLookUp, IsResolve, end_of, state_told, cut_of};
+ghost use Rattle.quorum.specs.Resolves.{is_others, others_of, brings, AllTaken, OneFailed, AfterChoice, AfterCommit, Commits, AfterRun, AfterLookUp, IsResolve, IsUnfit, UnfitOf, end_of, state_told, cut_of, unfit_by};
 ghost use Rattle.quorum.specs.declared.fault.ResolveFault.{ResolveFault as Unmade};
 
-use crate::fault::ResolveFault;
+use crate::fault::{ResolveFault, Unfit};
 use crate::hooking::{Hooking, hook_of};
 use bpfimage::ImageKind;
 use dvv::Clock;
@@ -27,6 +27,8 @@ pub struct Resolved {
     pub state: KeyState,
     /// Why what the resolver was to write is left out. None where it was put, or nothing was to be written.
     pub cut: Option<ResolveFault>,
+    /// Why the resolver chose nothing, where it was run and failed.
+    pub unfit: Option<Unfit>,
 }
 
 /// What becomes of a get's answer, once its states were repaired: where it has two siblings or more and its bucket has a
@@ -36,7 +38,7 @@ pub struct Resolved {
 ///
 /// Else the get's own answer stands, and also where the look-up, the run, one of these merges, the put or the read was
 /// refused or lost, or memory ran out for the resolver's windows or for what it wrote: `cut` tells which. No further call is made then; what was
-/// stored stays.
+/// stored stays. It stands, too, where the resolver was shown too much or its answer has no meaning, as `unfit` tells.
 ///
 /// Which vnode answered is told by its identifier's index, the lower 16 bits.
 pub fn resolve<P: Peers, H: Hooks>(
@@ -51,23 +53,32 @@ pub fn resolve<P: Peers, H: Hooks>(
     ensures calls { (calls : List Call) × (told : Result (Option State) Unmade) × Made P.happens peers.old calls peers.new
         × IsResolve coordinator key.now answers.now got.clock (λ old found new. H.finds old key.now.bucket ImageKind.Resolver found new) hooking.old.hooks hooking.new.hooks hooking.old.table.listed got.siblings calls told
         × (result.state ≡ state_told got told) × (result.cut ≡ cut_of told) }
+    // Why a resolver that was run chose nothing.
+    ensures unfit { IsUnfit (λ old found new. H.finds old key.now.bucket ImageKind.Resolver found new) hooking.old.hooks hooking.new.hooks hooking.old.table.listed got.siblings result.unfit }
     ensures table { hooking.new.table ≡ hooking.old.table }
     ensures origin { P.origin peers.new ≡ P.origin peers.old }
 {
-    match settle(peers, hooking, coordinator, key, &got, answers) {
-        Ok(Some(state)) => Resolved { state, cut: None },
+    let (told, unfit) = settle(peers, hooking, coordinator, key, &got, answers);
+    match told {
+        Ok(Some(state)) => Resolved {
+            state,
+            cut: None,
+            unfit,
+        },
         Ok(None) => Resolved {
             state: got,
             cut: None,
+            unfit,
         },
         Err(fault) => Resolved {
             state: got,
             cut: Some(fault),
+            unfit,
         },
     }
 }
 
-// The coordinator's state after what a resolver chose was put there, where anything was to be put.
+// The coordinator's state after what a resolver chose was put there, where anything was to be put; and why it chose nothing, where it failed.
 fn settle<P: Peers, H: Hooks>(
     peers: &mut P,
     hooking: &mut Hooking<H>,
@@ -75,18 +86,20 @@ fn settle<P: Peers, H: Hooks>(
     key: &Key,
     got: &KeyState,
     answers: &[Answer],
-) -> Result<Option<KeyState>, ResolveFault>
+) -> (Result<Option<KeyState>, ResolveFault>, Option<Unfit>)
     ensures calls { (calls : List Call) × Made P.happens peers.old calls peers.new
-        × IsResolve coordinator key.now answers.now got.now.clock (λ old found new. H.finds old key.now.bucket ImageKind.Resolver found new) hooking.old.hooks hooking.new.hooks hooking.old.table.listed got.now.siblings calls result }
+        × IsResolve coordinator key.now answers.now got.now.clock (λ old found new. H.finds old key.now.bucket ImageKind.Resolver found new) hooking.old.hooks hooking.new.hooks hooking.old.table.listed got.now.siblings calls result.0 }
+    ensures unfit { IsUnfit (λ old found new. H.finds old key.now.bucket ImageKind.Resolver found new) hooking.old.hooks hooking.new.hooks hooking.old.table.listed got.now.siblings result.1 }
     ensures table { hooking.new.table ≡ hooking.old.table }
 {
     if got.siblings().len() < 2 {
-        return Ok(None);
+        return (Ok(None), None);
     }
     run_resolver(peers, hooking, coordinator, key, got, answers)
 }
 
-// The coordinator's state after what the bucket's resolver chose was put there, where it has one and that chose anything.
+// The coordinator's state after what the bucket's resolver chose was put there, where it has one and that chose anything; and why it chose
+// nothing, where it failed.
 fn run_resolver<P: Peers, H: Hooks>(
     peers: &mut P,
     hooking: &mut Hooking<H>,
@@ -94,19 +107,33 @@ fn run_resolver<P: Peers, H: Hooks>(
     key: &Key,
     got: &KeyState,
     answers: &[Answer],
-) -> Result<Option<KeyState>, ResolveFault>
+) -> (Result<Option<KeyState>, ResolveFault>, Option<Unfit>)
     ensures calls { (calls : List Call) × Made P.happens peers.old calls peers.new × (found : Result (Option Program) NotSeen)
         × H.finds hooking.old.hooks key.now.bucket ImageKind.Resolver found hooking.new.hooks
-        × AfterLookUp coordinator key.now answers.now got.now.clock hooking.old.table.listed got.now.siblings found calls result }
+        × AfterLookUp coordinator key.now answers.now got.now.clock hooking.old.table.listed got.now.siblings found calls result.0
+        × UnfitOf hooking.old.table.listed got.now.siblings found result.1 }
     ensures table { hooking.new.table ≡ hooking.old.table }
 {
     match hook_of(&mut hooking.hooks, key, ImageKind::Resolver) {
         Ok(Some(hook)) => {
             let ran = hooking.choose(&hook, got.siblings());
-            commit_choice(peers, coordinator, key, got, answers, ran)
+            let unfit = unfit_of(&ran);
+            let told = commit_choice(peers, coordinator, key, got, answers, ran);
+            (told, unfit)
         }
-        Ok(None) => Ok(None),
-        Err(_) => Err(ResolveFault::Unseen),
+        Ok(None) => (Ok(None), None),
+        Err(_) => (Err(ResolveFault::Unseen), None),
+    }
+}
+
+// Why a run chose nothing, where it failed.
+fn unfit_of(ran: &Result<Resolution, Unresolved>) -> Option<Unfit>
+    ensures { result ≡ unfit_by ran.now }
+{
+    match ran {
+        Ok(Resolution::TooLarge) => Some(Unfit::TooLarge),
+        Ok(Resolution::Bad(bad)) => Some(Unfit::Bad(*bad)),
+        _ => None,
     }
 }
 

@@ -6,4 +6,4 @@ mod backend;
 mod hooking;
 mod store;
 
-pub use store::Store;
+pub use store::{Read, Store};

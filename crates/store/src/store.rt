@@ -11,8 +11,19 @@ use hooks::Hooks;
 use object::{Content, Key, KeyState};
 use peers::Peers;
 use place::{Placement, others, preferred, vnode_at};
-use quorum::{Hooking, QuorumFault};
+use quorum::{Hooking, QuorumFault, ResolveFault, Unfit};
 use std::alloc::Global;
+
+/// What a read of a key comes to. Where the bucket's resolver wrote nothing though it was to, the siblings are answered, and why is told beside.
+#[derive(Drop)]
+pub struct Read {
+    /// What is answered.
+    pub answer: Result<KeyState, QuorumFault>,
+    /// Why what the resolver was to write is left out, or why it wasn't run.
+    pub cut: Option<ResolveFault>,
+    /// Why the resolver chose nothing, where it was run and failed.
+    pub unfit: Option<Unfit>,
+}
 
 /// Vnodes, the hooks of buckets with the helpers that they may call, and where keys stand. An index past the vnodes that there
 /// are is one that can't be reached.
@@ -62,14 +73,23 @@ impl<P, H> Store<P, H> {
 }
 
 impl<P: Peers, H: Hooks> Store<P, H> {
-    /// Reads a key at each vnode of its preference list, brings what came to those that it would change, and asks the bucket's
-    /// resolver where siblings came. The vnode at the index `at` of the list coordinates.
-    ///
-    /// As [`quorum::get`]: `TooFew` where fewer than `r` vnodes answered, else `Refused`. What was stored stays.
+    /// Reads a key as [`Store::read`] does.
     pub fn get(&mut self, key: &Key, r: u32, at: u32) -> Result<KeyState, QuorumFault>
         requires key { IsKey key.now }
         requires at { at < copies_of self.old.placement.vnodes }
         ensures { Gets P.happens H.finds (shown self.old.peers self.old.hooking.hooks self.old.hooking.table.listed self.old.placement) key.now r at result (shown self.new.peers self.new.hooking.hooks self.new.hooking.table.listed self.new.placement) }
+    {
+        self.read(key, r, at).answer
+    }
+
+    /// Reads a key at each vnode of its preference list, brings what came to those that it would change, and asks the bucket's
+    /// resolver where siblings came. The vnode at the index `at` of the list coordinates.
+    ///
+    /// As [`quorum::get`]: `TooFew` where fewer than `r` vnodes answered, else `Refused`. What was stored stays.
+    pub fn read(&mut self, key: &Key, r: u32, at: u32) -> Read
+        requires key { IsKey key.now }
+        requires at { at < copies_of self.old.placement.vnodes }
+        ensures { Gets P.happens H.finds (shown self.old.peers self.old.hooking.hooks self.old.hooking.table.listed self.old.placement) key.now r at result.answer (shown self.new.peers self.new.hooking.hooks self.new.hooking.table.listed self.new.placement) }
     {
         let vnodes = self.placement.vnodes();
         let place = self.place_of(key);
@@ -93,9 +113,17 @@ impl<P: Peers, H: Hooks> Store<P, H> {
                     got,
                     &answers,
                 );
-                Ok(resolved.state)
+                Read {
+                    answer: Ok(resolved.state),
+                    cut: resolved.cut,
+                    unfit: resolved.unfit,
+                }
             }
-            Err(fault) => Err(fault),
+            Err(fault) => Read {
+                answer: Err(fault),
+                cut: None,
+                unfit: None,
+            },
         }
     }
 

@@ -1,7 +1,7 @@
 use Rattle.std.proofs.Common.{ap, refl, ◌∙◌}
 use Rattle.store.specs.View.{shown}
 use Rattle.store.proofs.CallLemmas.{list_is, coordinator_is, get_fails, get_answers}
-use Rattle.store.proofs.store.Store.get.Goals as goal
+use Rattle.store.proofs.store.Store.read.Goals as goal
 
 pub returns-in-Ok : goal.returns-in-Ok
 returns-in-Ok g c =
