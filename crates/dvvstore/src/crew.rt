@@ -238,7 +238,8 @@ fn answer_all<B: Room + Spot, K: Backend, R: Wait>(
     let mut door = PacedEntrance::new(entrance, &pace);
     for _ in rt.forever() {
         match door.admit(front, store) {
-            Ok(()) => patience.renew(),
+            // However the connection ended, the next one comes.
+            Ok(_) => patience.renew(),
             Err(NoConnection::Failed) => patience.bear(),
             Err(NoConnection::Closed) => break,
         }

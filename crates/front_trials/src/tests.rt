@@ -2,6 +2,7 @@
 
 mod commanding;
 mod connections;
+mod interrupted;
 mod listening;
 mod opening;
 mod rows;

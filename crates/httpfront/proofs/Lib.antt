@@ -1,4 +1,5 @@
 pub mod DeviceLemmas
+pub mod PendingLemmas
 pub mod RequestLemmas
 pub mod TalkLemmas
 pub mod TurnLemmas

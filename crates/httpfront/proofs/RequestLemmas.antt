@@ -1,6 +1,6 @@
 -- On the first request of the bytes that wait.
 use Rattle.std.proofs.Common.{◌≡◌, ℕ, ◌<◌, ◌≤◌, List, ◌++◌, length, drop, Bool, true, false, None, sym, ap, subst, ◌∙◌, arith, length-append, length-drop, inr}
-use Rattle.std.specs.Prelude.{if◌then◌else◌, nat_le, codes, is_some, Result, Ok, Err, OnErr}
+use Rattle.std.specs.Prelude.{if◌then◌else◌, nat_le, codes, is_some, Result, Ok, Err, OnErr, IfErr, IsErrAnd}
 use Rattle.std.proofs.Common.{Option, Some, refl}
 use Rattle.std.proofs.lemmas.Bool.{leb-true}
 use Rattle.httpask.specs.Limits.{longest_body}
@@ -14,17 +14,20 @@ use Rattle.httpask.specs.declared.ask.Call.{Call}
 use Rattle.httpread.specs.Finds.{next_of}
 use Rattle.httpreply.specs.declared.reply.Reply.{Reply}
 use Rattle.httpreply.specs.Answer.{answer}
-use Rattle.httpfront.specs.Room.{room, HasRoom}
+use Rattle.httpfront.specs.Room.{room}
 use Rattle.httpfront.specs.Dialogue.{Exchange, Does, call_of, answer_of}
-use Rattle.httpfront.specs.Turns.{Awaits, Makes, Steps, Halts}
+use Rattle.httpfront.specs.Turns.{Makes, Steps, Halts}
 use Rattle.httpfront.specs.declared.turn.Step.TheVariants as step
-use Rattle.httpfront.specs.declared.turn.Wanted.{Wanted}
-use Rattle.httpfront.specs.declared.turn.Wanted.TheVariants.{Line, Bytes}
 
 -- what holds holds where there is an error
 pub on_err : {A E P : Type 0} (r : Result A E) → P → OnErr r P
 on_err (Ok x) p = tt
 on_err (Err e) p = p
+
+-- what follows of what is said of an error
+pub if_err_and : {A E : Type 0} (r : Result A E) (P Q : E → Type 0) → IsErrAnd r P → ((e : E) → P e → Q e) → IfErr r Q
+if_err_and (Ok x) P Q said on = tt
+if_err_and (Err e) P Q said on = on e said
 
 module _ {B : Type 0} (gives : B → Call → Reply → B → Type 0) (n copies : ℕ) (is : n ≡ copies) (old new : B) (ask : Ask) (reply : Reply)
     (ends : Bool) (w : List ℕ) (len : ℕ) (asks : (more : List ℕ) → Asks n (w ++ more) ask ends (next_of ends len w more))
@@ -88,8 +91,3 @@ pub unfinished_short : (rest : List ℕ) → IsUnfinished rest → length rest <
 unfinished_short rest (in_head head) = omega (arith, head.short)
 unfinished_short rest (in_body head after begins origin fault short) =
     omega (arith, ap length begins.reads.1, length-append (print_request head) after, begins.short, short, body_within head fault)
-
--- what is awaited has room
-pub has_room : (wanted : Wanted) (waits : List ℕ) → Awaits wanted waits → HasRoom wanted
-has_room Line waits awaits = tt
-has_room (Bytes needs) waits awaits = awaits.0

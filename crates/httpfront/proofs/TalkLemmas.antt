@@ -1,25 +1,27 @@
 -- On the exchanges so far.
 use Rattle.std.proofs.Common.{◌≡◌, ℕ, ◌-◌, ◌^◌, ◌<◌, ◌≤◌, ◌⊎◌, inl, inr, List, [], ◌∷◌, ◌++◌, Option, Some, None, refl, sym, ap, subst, ◌∙◌, append-nil, append_assoc, arith, length-append}
 use Rattle.std.specs.Prelude.{unwrap_or}
-use Rattle.std.specs.Io.KnownBytes.{Appends, Consumes, prepend_known}
+use Rattle.std.specs.Io.KnownBytes.{Appends, Consumes, IsAtEnd}
 use Rattle.std.proofs.lemmas.List.Concat.{flat_map-append}
 use Rattle.std.proofs.lemmas.Bool.{cases_lt}
-use Rattle.httpask.specs.Ask.{Asks}
+use Rattle.httpask.specs.Ask.{Asks, IsUnfinished}
 use Rattle.httpask.specs.declared.ask.Call.{Call}
 use Rattle.httpreply.specs.declared.reply.Reply.{Reply}
 use Rattle.httpfront.specs.Device.{Rises, HasRisen, Sends}
-use Rattle.httpfront.specs.Dialogue.{Exchange, call_of, Talks, Does, Runs, Converses, Completes, BreaksOff, IsOver, answer_of, answers_of}
+use Rattle.httpfront.specs.Dialogue.{Exchange, call_of, Talks, Does, Runs, Converses, Completes, BreaksOff, AnswersAllThatCame, answer_of, answers_of}
+use Rattle.httpfront.specs.Pending.{IsPending}
 use Rattle.httpfront.specs.Turns.{Makes, SoFar, one_more}
 
 -- the value of an option that has one
 pub some_is : (a b : List ℕ) → Some a ≡ Some b → a ≡ b
 some_is a b e = ap (λ o. unwrap_or o a) e
 
--- where what waits and comes is known, what comes is
-pub known_rest : (w : List ℕ) (comes : Option (List ℕ)) (rest : List ℕ) → prepend_known w comes ≡ Some rest
-    → (more : List ℕ) × (comes ≡ Some more) × (w ++ more ≡ rest)
-known_rest w None rest e = cc
-known_rest w (Some more) rest e = (more, refl, some_is (w ++ more) rest e)
+-- where what comes is known, so is what is left of it after some bytes came
+known_left : (comes comes' : Option (List ℕ)) (left more : List ℕ) → comes ≡ Some left → Consumes comes comes' more
+    → (left' : List ℕ) × (comes' ≡ Some left') × (left ≡ more ++ left')
+known_left None comes' left more e c = cc
+known_left (Some x) None left more e c = absurd c
+known_left (Some x) (Some y) left more e c = (y, refl, sym (some_is x left e) ∙ c)
 
 -- what is known of a sink after bytes were added
 appended : (old new : Option (List ℕ)) (before bs : List ℕ) → old ≡ Some before → Appends old new bs → new ≡ Some (before ++ bs)
@@ -27,13 +29,10 @@ appended None new before bs e a = cc
 appended (Some x) None before bs e a = absurd a
 appended (Some x) (Some y) before bs e a = ap Some (a ∙ ap (λ l. l ++ bs) (some_is x before e))
 
--- what was read goes from what comes to what waits
-pub known_read : (w w' more : List ℕ) (comes comes' : Option (List ℕ)) (rest : List ℕ) → w' ≡ w ++ more → Consumes comes comes' more
-    → prepend_known w comes ≡ Some rest → prepend_known w' comes' ≡ Some rest
-known_read w w' more None comes' rest e c known = cc
-known_read w w' more (Some x) None rest e c known = absurd c
-known_read w w' more (Some x) (Some y) rest e c known =
-    ap Some (ap (λ l. l ++ y) e ∙ (append_assoc w more y ∙ (ap (λ l. w ++ l) (sym c) ∙ some_is (w ++ x) rest known)))
+-- at the end nothing is left
+at_end : (comes : Option (List ℕ)) (left : List ℕ) → comes ≡ Some left → IsAtEnd comes → left ≡ []
+at_end None left e end = cc
+at_end (Some x) left e end = sym (some_is x left e) ∙ end
 
 module _ (copies : ℕ) where
   -- one more exchange at the end
@@ -60,87 +59,167 @@ module _ {B : Type 0} (gives : B → Call → Reply → B → Type 0) where
   }
 
   module _ (copies : B → ℕ) where
-    pub so_far-start : (bytes before : List ℕ) (b : B) (left written : Option (List ℕ)) (out : List ℕ) → left ≡ Some bytes
-        → written ≡ Some before → out ≡ [] → SoFar gives copies bytes before b b left written out 0
-    so_far-start bytes before b left written out l w none = record {
+    pub so_far-start : (bytes before waits : List ℕ) (b : B) (comes written : Option (List ℕ)) (out : List ℕ) → waits ≡ [] → comes ≡ Some bytes
+        → written ≡ Some before → out ≡ [] → SoFar gives copies bytes before b b waits comes written out 0
+    so_far-start bytes before waits b comes written out nothing c w none = record {
       same = refl;
       xs = [];
-      rest = bytes;
-      talk = record { talks = refl; runs = refl };
-      left_is = l;
+      heard = [];
+      left = bytes;
+      parts = refl;
+      comes_is = c;
+      talk = λ more. record { talks = ap (λ l. l ++ more) nothing; runs = refl };
       front = [];
       gathered = sym none;
       wrote = w ∙ ap Some (sym (append-nil before));
       counted = omega arith;
     }
 
-    module _ (bytes before : List ℕ) (start now : B) (left written : Option (List ℕ)) (out : List ℕ) (count : ℕ)
-        (so : SoFar gives copies bytes before start now left written out count) where
+    module _ (bytes before : List ℕ) (start now : B) (waits : List ℕ) (comes written : Option (List ℕ)) (out : List ℕ) (count : ℕ)
+        (so : SoFar gives copies bytes before start now waits comes written out count) where
       -- the same exchanges, with what is the same
-      pub so_far-kept : (new : B) (left' : Option (List ℕ)) (out' : List ℕ) → new ≡ now → left' ≡ Some so.rest → out' ≡ out
-          → SoFar gives copies bytes before start new left' written out' count
-      so_far-kept new left' out' n l o = record {
+      pub so_far-kept : (new : B) (waits' : List ℕ) (out' : List ℕ) → new ≡ now → waits' ≡ waits → out' ≡ out
+          → SoFar gives copies bytes before start new waits' comes written out' count
+      so_far-kept new waits' out' n w o = record {
         same = ap copies n ∙ so.same;
         xs = so.xs;
-        rest = so.rest;
-        talk = subst (λ b. Converses gives (copies start) bytes start b so.xs so.rest) (sym n) so.talk;
-        left_is = l;
+        heard = so.heard;
+        left = so.left;
+        parts = so.parts;
+        comes_is = so.comes_is;
+        talk = λ more.
+            subst (λ b. Converses gives (copies start) (so.heard ++ more) start b so.xs (waits' ++ more)) (sym n)
+            (subst (λ l. Converses gives (copies start) (so.heard ++ more) start now so.xs (l ++ more)) (sym w) (so.talk more));
         front = so.front;
         gathered = so.gathered ∙ ap (λ l. so.front ++ l) (sym o);
         wrote = so.wrote;
         counted = so.counted;
       }
 
+      -- more bytes were read
+      pub so_far-read : (waits' : List ℕ) (comes' : Option (List ℕ)) (read : List ℕ) → waits' ≡ waits ++ read → Consumes comes comes' read
+          → SoFar gives copies bytes before start now waits' comes' written out count
+      so_far-read waits' comes' read e c =
+          let rest = known_left comes comes' so.left read so.comes_is c in record {
+            same = so.same;
+            xs = so.xs;
+            heard = so.heard ++ read;
+            left = rest.0;
+            parts = so.parts ∙ (ap (λ l. so.heard ++ l) rest.2 ∙ sym (append_assoc so.heard read rest.0));
+            comes_is = rest.1;
+            talk = λ more.
+                subst (λ l. Converses gives (copies start) l start now so.xs (waits' ++ more)) (sym (append_assoc so.heard read more))
+                (subst (λ l. Converses gives (copies start) (so.heard ++ (read ++ more)) start now so.xs l)
+                (sym (ap (λ l. l ++ more) e ∙ append_assoc waits read more)) (so.talk (read ++ more)));
+            front = so.front;
+            gathered = so.gathered;
+            wrote = so.wrote;
+            counted = so.counted;
+          }
+
+      gathered-more : (x : Exchange) (out' : List ℕ) → out' ≡ out ++ answer_of (copies now) x
+          → answers_of (copies start) (so.xs ++ x ∷ []) ≡ so.front ++ out'
+      gathered-more x out' o =
+          answers-snoc (copies start) so.xs x
+          ∙ (ap (λ l. l ++ answer_of (copies start) x) so.gathered
+          ∙ (append_assoc so.front out (answer_of (copies start) x)
+          ∙ ap (λ l. so.front ++ l) (ap (λ k. out ++ answer_of k x) (sym so.same) ∙ sym o)))
+
+      talk-more : (new : B) (x : Exchange) (more next : List ℕ) → Makes gives (copies now) (waits ++ more) now new x next
+          → Converses gives (copies start) (so.heard ++ more) start new (so.xs ++ x ∷ []) next
+      talk-more new x more next m =
+          Converses-snoc (copies start) (so.heard ++ more) start now new so.xs (waits ++ more) x next (so.talk more)
+          (subst (λ k. Makes gives k (waits ++ more) now new x next) so.same m)
+
       -- one more exchange
-      pub so_far-more : (new : B) (x : Exchange) (next : List ℕ) (left' : Option (List ℕ)) (out' : List ℕ) → copies new ≡ copies now
-          → Makes gives (copies now) so.rest now new x next → left' ≡ Some next → out' ≡ out ++ answer_of (copies now) x
-          → SoFar gives copies bytes before start new left' written out' (one_more count)
-      so_far-more new x next left' out' c m l o = record {
+      pub so_far-more : (new : B) (x : Exchange) (waits' out' : List ℕ) → copies new ≡ copies now
+          → ((more : List ℕ) → Makes gives (copies now) (waits ++ more) now new x (waits' ++ more)) → out' ≡ out ++ answer_of (copies now) x
+          → SoFar gives copies bytes before start new waits' comes written out' (one_more count)
+      so_far-more new x waits' out' c m o = record {
         same = c ∙ so.same;
         xs = so.xs ++ x ∷ [];
-        rest = next;
-        talk =
-            Converses-snoc (copies start) bytes start now new so.xs so.rest x next so.talk
-            (subst (λ k. Makes gives k so.rest now new x next) so.same m);
-        left_is = l;
+        heard = so.heard;
+        left = so.left;
+        parts = so.parts;
+        comes_is = so.comes_is;
+        talk = λ more. talk-more new x more (waits' ++ more) (m more);
         front = so.front;
-        gathered =
-            answers-snoc (copies start) so.xs x
-            ∙ (ap (λ l. l ++ answer_of (copies start) x) so.gathered
-            ∙ (append_assoc so.front out (answer_of (copies start) x)
-            ∙ ap (λ l. so.front ++ l) (ap (λ k. out ++ answer_of k x) (sym so.same) ∙ sym o)));
+        gathered = gathered-more x out' o;
         wrote = so.wrote;
         counted = omega (arith, so.counted, length-append so.xs (x ∷ []));
       }
 
       -- some of what waits was written
       pub so_far-sent : (written' : Option (List ℕ)) (out' : List ℕ) → Sends written written' out out'
-          → SoFar gives copies bytes before start now left written' out' count
+          → SoFar gives copies bytes before start now waits comes written' out' count
       so_far-sent written' out' s = record {
         same = so.same;
         xs = so.xs;
-        rest = so.rest;
+        heard = so.heard;
+        left = so.left;
+        parts = so.parts;
+        comes_is = so.comes_is;
         talk = so.talk;
-        left_is = so.left_is;
         front = so.front ++ s.sent;
         gathered = so.gathered ∙ (ap (λ l. so.front ++ l) s.parts ∙ sym (append_assoc so.front s.sent out'));
         wrote = appended written written' (before ++ so.front) s.sent so.wrote s.wrote ∙ ap Some (append_assoc before so.front s.sent);
         counted = so.counted;
       }
 
-      -- no request is left, and nothing waits to be written
-      pub so_far-completes : out ≡ [] → IsOver so.rest → Completes gives (copies start) bytes start now before written count
-      so_far-completes none over = (
+      all_written : out ≡ [] → written ≡ Some (before ++ answers_of (copies start) so.xs)
+      all_written none = so.wrote ∙ ap (λ l. Some (before ++ l)) (sym (so.gathered ∙ (ap (λ l. so.front ++ l) none ∙ append-nil so.front)))
+
+      all_talk : Converses gives (copies start) bytes start now so.xs (waits ++ so.left)
+      all_talk = subst (λ l. Converses gives (copies start) l start now so.xs (waits ++ so.left)) (sym so.parts) (so.talk so.left)
+
+      -- the input ended, no whole request is left, and nothing waits to be written
+      pub so_far-over : out ≡ [] → IsAtEnd comes → IsUnfinished waits → Completes gives (copies start) bytes start now before written count
+      so_far-over none end over =
+          let rest : waits ++ so.left ≡ waits = ap (λ l. waits ++ l) (at_end comes so.left so.comes_is end) ∙ append-nil waits in
+          (so.xs, waits ++ so.left, all_talk, inr (subst IsUnfinished (sym rest) over), all_written none, so.counted)
+
+      -- nothing waits to be written, and no whole request waits to be read
+      pub so_far-answered : out ≡ [] → IsPending waits → AnswersAllThatCame gives (copies start) bytes start now before written comes
+      so_far-answered none pending = (
+        so.heard,
+        so.left,
+        so.parts,
+        so.comes_is,
         so.xs,
-        so.rest,
-        so.talk,
-        over,
-        so.wrote ∙ ap (λ l. Some (before ++ l)) (sym (so.gathered ∙ (ap (λ l. so.front ++ l) none ∙ append-nil so.front))),
-        so.counted,
+        waits,
+        subst (λ l. Converses gives (copies start) l start now so.xs waits) (append-nil so.heard)
+            (subst (λ l. Converses gives (copies start) (so.heard ++ []) start now so.xs l) (append-nil waits) (so.talk [])),
+        pending,
+        all_written none,
       )
 
       pub so_far-breaks : BreaksOff gives (copies start) bytes start now before written
-      so_far-breaks = (so.xs, so.rest, so.talk, so.front, out, so.gathered, so.wrote)
+      so_far-breaks = (so.xs, waits ++ so.left, all_talk, so.front, out, so.gathered, so.wrote)
+
+      -- one exchange more was the last; what was written of all answers
+      module _ (new : B) (x : Exchange) (next : List ℕ) (made : Makes gives (copies now) (waits ++ so.left) now new x next)
+          (out' : List ℕ) (o : out' ≡ out ++ answer_of (copies now) x) (written' : Option (List ℕ)) (out'' : List ℕ) (s : Sends written written' out' out'') where
+        last_talk : Converses gives (copies start) bytes start new (so.xs ++ x ∷ []) next
+        last_talk = subst (λ l. Converses gives (copies start) l start new (so.xs ++ x ∷ []) next) (sym so.parts) (talk-more new x so.left next made)
+
+        last_gathered : answers_of (copies start) (so.xs ++ x ∷ []) ≡ (so.front ++ s.sent) ++ out''
+        last_gathered = gathered-more x out' o ∙ (ap (λ l. so.front ++ l) s.parts ∙ sym (append_assoc so.front s.sent out''))
+
+        last_wrote : written' ≡ Some (before ++ (so.front ++ s.sent))
+        last_wrote = appended written written' (before ++ so.front) s.sent so.wrote s.wrote ∙ ap Some (append_assoc before so.front s.sent)
+
+        pub so_far-breaks_after : BreaksOff gives (copies start) bytes start new before written'
+        so_far-breaks_after = (so.xs ++ x ∷ [], next, last_talk, so.front ++ s.sent, out'', last_gathered, last_wrote)
+
+        pub so_far-ends : next ≡ [] → out'' ≡ [] → Completes gives (copies start) bytes start new before written' (one_more count)
+        so_far-ends e none = (
+          so.xs ++ x ∷ [],
+          next,
+          last_talk,
+          inl e,
+          last_wrote ∙ ap (λ l. Some (before ++ l)) (sym (last_gathered ∙ (ap (λ l. (so.front ++ s.sent) ++ l) none ∙ append-nil (so.front ++ s.sent)))),
+          omega (arith, so.counted, length-append so.xs (x ∷ [])),
+        )
 
 -- a count that rises has risen
 pub rises_risen : (old new : ℕ) → Rises old new → HasRisen old new

@@ -1,6 +1,6 @@
 -- What a source and a sink of bytes do, and how they count their failed calls.
 use Rattle.std.specs.Prelude.{◌≡◌, ℕ, ◌+◌, ◌-◌, ◌^◌, ◌<◌, ◌≤◌, ◌⊎◌, min, List, ◌++◌, Option}
-use Rattle.std.specs.Io.KnownBytes.{Appends}
+use Rattle.std.specs.Io.KnownBytes.{Appends, Consumes}
 
 -- the count of failed calls after one more: it stays at the greatest number
 abbrev pub Rises : ℕ → ℕ → Type 0
@@ -15,3 +15,7 @@ pub record Sends (old new : Option (List ℕ)) (waited left : List ℕ) : Type 0
   pub sent : List ℕ
   pub parts : waited ≡ sent ++ left
   pub wrote : Appends old new sent
+
+-- bytes of those that were to come wait now, behind those that waited
+abbrev pub Reads : List ℕ → List ℕ → Option (List ℕ) → Option (List ℕ) → Type 0
+Reads waits waits' comes comes' = (more : List ℕ) × (waits' ≡ waits ++ more) × Consumes comes comes' more

@@ -6,6 +6,7 @@ use Rattle.httpask.specs.declared.ask.Ask.{Ask}
 use Rattle.httpask.specs.declared.ask.Ask.TheVariants as ask
 use Rattle.httpask.specs.declared.ask.Call.{Call}
 use Rattle.httpreply.specs.declared.reply.Reply.{Reply}
+use Rattle.httpfront.specs.Pending.{IsPending}
 use Rattle.httpreply.specs.Answer.{answer}
 
 -- one request, the reply to its call, and whether the connection ends after its answer
@@ -61,6 +62,13 @@ module _ {B : Type 0} (gives : B → Call → Reply → B → Type 0) where
     Completes bytes old new before written count =
         (xs : List Exchange) × (after : List ℕ) × Converses bytes old new xs after × IsOver after
         × (written ≡ Some (before ++ answers_of copies xs)) × (count ≡ min (length xs) (2 ^ 64 - 1))
+
+    -- all requests that were whole in the bytes that came were answered, all these answers were written, and in what is left of these
+    -- bytes no whole request is: so it is wherever a read begins
+    abbrev pub AnswersAllThatCame : List ℕ → B → B → List ℕ → Option (List ℕ) → Option (List ℕ) → Type 0
+    AnswersAllThatCame bytes old new before written comes =
+        (came : List ℕ) × (left : List ℕ) × (bytes ≡ came ++ left) × (comes ≡ Some left)
+        × (xs : List Exchange) × (after : List ℕ) × Converses came old new xs after × IsPending after × (written ≡ Some (before ++ answers_of copies xs))
 
     -- the connection broke off: the calls are those of a front of the bytes, and a front of its answers was written
     abbrev pub BreaksOff : List ℕ → B → B → List ℕ → Option (List ℕ) → Type 0

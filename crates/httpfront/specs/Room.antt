@@ -1,13 +1,10 @@
 -- The room for bytes that wait to be read.
-use Rattle.std.specs.Prelude.{ℕ, ◌≤◌}
-use Rattle.httpfront.specs.declared.turn.Wanted.{Wanted}
-use Rattle.httpfront.specs.declared.turn.Wanted.TheVariants.{Line, Bytes}
+use Rattle.std.specs.Prelude.{ℕ}
 
--- the most bytes that wait
+-- more bytes than the longest request has
 abbrev pub room : ℕ
 room = 131072
 
--- what is wanted has room
-abbrev pub HasRoom : Wanted → Type 0
-HasRoom Line = Unit {0}
-HasRoom (Bytes needs) = needs ≤ room
+-- the most room that the buffer of a connection keeps while nothing waits in it
+abbrev pub kept : ℕ
+kept = 192

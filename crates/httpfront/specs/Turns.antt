@@ -52,23 +52,26 @@ module _ {B : Type 0} (gives : B → Call → Reply → B → Type 0) where
         (new ≡ old) ⊎ ((x : Exchange) × ((more : List ℕ) → (next : List ℕ) × Makes (waits ++ more) old new x next))
 
   module _ (copies : B → ℕ) where
-    -- the exchanges so far: what is left to read, what was written of their answers and what waits to be, and their number
-    pub record SoFar (bytes before : List ℕ) (start now : B) (left written : Option (List ℕ)) (out : List ℕ) (count : ℕ) : Type 0 where
+    -- the exchanges so far: those of the bytes that were heard, whatever comes behind what waits; what was written of their answers
+    -- and what waits to be, and their number
+    pub record SoFar (bytes before : List ℕ) (start now : B) (waits : List ℕ) (comes written : Option (List ℕ)) (out : List ℕ) (count : ℕ) : Type 0 where
       pub same : copies now ≡ copies start
       pub xs : List Exchange
-      pub rest : List ℕ
-      pub talk : Converses gives (copies start) bytes start now xs rest
-      pub left_is : left ≡ Some rest
+      pub heard : List ℕ
+      pub left : List ℕ
+      pub parts : bytes ≡ heard ++ left
+      pub comes_is : comes ≡ Some left
+      pub talk : (more : List ℕ) → Converses gives (copies start) (heard ++ more) start now xs (waits ++ more)
       pub front : List ℕ
       pub gathered : answers_of (copies start) xs ≡ front ++ out
       pub wrote : written ≡ Some (before ++ front)
       pub counted : count ≡ min (length xs) (2 ^ 64 - 1)
 
     -- what a turn makes of the exchanges so far
-    abbrev pub Leads : Turn → List ℕ → List ℕ → B → B → Option (List ℕ) → Option (List ℕ) → List ℕ → ℕ → Type 0
-    Leads turn.Read bytes before start now left written out count = SoFar bytes before start now left written out count
-    Leads turn.Answered bytes before start now left written out count = SoFar bytes before start now left written out (one_more count)
-    Leads turn.Last bytes before start now left written out count =
+    abbrev pub Leads : Turn → List ℕ → List ℕ → B → B → List ℕ → Option (List ℕ) → Option (List ℕ) → List ℕ → ℕ → Type 0
+    Leads turn.Read bytes before start now waits comes written out count = SoFar bytes before start now waits comes written out count
+    Leads turn.Answered bytes before start now waits comes written out count = SoFar bytes before start now waits comes written out (one_more count)
+    Leads turn.Last bytes before start now waits comes written out count =
         Completes gives (copies start) bytes start now before written (one_more count)
-    Leads turn.Over bytes before start now left written out count =
+    Leads turn.Over bytes before start now waits comes written out count =
         Completes gives (copies start) bytes start now before written count

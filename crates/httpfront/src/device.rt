@@ -20,6 +20,9 @@ pub trait Source {
     /// How many more reads can give bytes, before one fails or the source ends. No read makes them more.
     ghost reads_left: { Self → ℕ };
 
+    /// From one state, a read may fail and leave the other.
+    ghost fails: { Self → Self → Type 0 };
+
     /// Reads some bytes to the front of `buf`, and answers how many. None come only at the end.
     fn read(&mut self, buf: &mut [u8]) -> Result<usize, Failed>
         requires { 0 < length buf.old }
@@ -27,6 +30,7 @@ pub trait Source {
         ensures bytes { ReadConsumes (remaining self.old) (remaining self.new) result buf.new }
         ensures counted { OnOk result (failures self.new ≡ failures self.old) }
         ensures failed { OnErr result (Rises (failures self.old) (failures self.new)) }
+        ensures fails { OnErr result (fails self.old self.new) }
         ensures left { OnOk result (reads_left self.new ≤ reads_left self.old) }
         ensures ends { IfOk result (λ n. 0 < n → reads_left self.new < reads_left self.old) };
 }
@@ -39,6 +43,9 @@ pub trait Sink {
     /// How many writes have failed.
     ghost failures: { Self → ℕ };
 
+    /// From one state, a write may fail and leave the other.
+    ghost fails: { Self → Self → Type 0 };
+
     /// Writes some bytes of the front of `bytes`, one at least, and answers how many.
     fn write(&mut self, bytes: &[u8]) -> Result<usize, Failed>
         requires { 0 < length bytes.now }
@@ -46,7 +53,8 @@ pub trait Sink {
         ensures some { IfOk result (λ n. 0 < n) }
         ensures bytes { WriteAppends (contents self.old) (contents self.new) result bytes.now }
         ensures counted { OnOk result (failures self.new ≡ failures self.old) }
-        ensures failed { OnErr result (Rises (failures self.old) (failures self.new)) };
+        ensures failed { OnErr result (Rises (failures self.old) (failures self.new)) }
+        ensures fails { OnErr result (fails self.old self.new) };
 }
 
 /// Writes all the bytes; where a write fails, a front of them was written.
@@ -55,6 +63,7 @@ pub(crate) fn send<W: Sink>(sink: &mut W, bytes: &[u8]) -> Result<(), Failed>
     ensures err { OnErr result ((left : List ℕ) × Sends (W.contents sink.old) (W.contents sink.new) bytes.now left) }
     ensures counted { OnOk result (W.failures sink.new ≡ W.failures sink.old) }
     ensures failed { OnErr result (Rises (W.failures sink.old) (W.failures sink.new)) }
+    ensures fails { OnErr result ((mid : W) × W.fails mid sink.new) }
 {
     let mut rest = bytes;
     while !rest.is_empty() {

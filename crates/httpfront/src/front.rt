@@ -1,36 +1,34 @@
 //! All requests of a connection.
 
-ghost use Rattle.std.specs.Prelude.{◌≡◌, ◌<◌, ◌≤◌, ◌++◌, ℕ, List, length, Some, [], IfOk, IfErr, OnOk, OnErr};
-ghost use Rattle.std.specs.Io.KnownBytes.{prepend_known, Consumes, IsAtEnd};
-ghost use Rattle.httpask.specs.Fits.{FitsAsk};
-ghost use Rattle.httpread.specs.Finds.{Finds};
-ghost use Rattle.httpread.specs.declared.request.Asking.TheVariants.{First};
-ghost use Rattle.httpreply.specs.declared.reply.Reply.{Reply};
-ghost use Rattle.httpreply.specs.Answer.{answer};
-ghost use Rattle.httpfront.specs.Device.{Rises, HasRisen, Sends};
-ghost use Rattle.httpfront.specs.Waiting.{waiting, Knows};
-ghost use Rattle.httpfront.specs.Room.{room, HasRoom};
-ghost use Rattle.httpfront.specs.Dialogue.{Completes, BreaksOff, Does, call_of};
-ghost use Rattle.httpfront.specs.Turns.{Steps, Halts, SoFar, Leads, Progresses};
+ghost use Rattle.std.specs.Prelude.{◌≡◌, ◌<◌, ◌≤◌, ◌++◌, ℕ, List, length, take, Some, [], IfOk, IfErr, OnOk, OnErr};
+ghost use Rattle.std.specs.Io.KnownBytes.{Consumes, IsAtEnd, Keeps};
+ghost use Rattle.httpfront.specs.Device.{Rises, HasRisen, Sends, Reads};
+ghost use Rattle.httpfront.specs.Room.{room};
+ghost use Rattle.httpfront.specs.Dialogue.{Completes, BreaksOff, AnswersAllThatCame};
+ghost use Rattle.httpfront.specs.Pending.{IsPending};
+ghost use Rattle.httpfront.specs.Turns.{SoFar, Leads, Progresses};
 
 use crate::backend::Backend;
-use crate::call::make_call;
-use crate::device::{Sink, Source};
+use crate::desk::Desk;
+use crate::device::{Failed, Sink, Source, send};
 use crate::fault::FrontFault;
-use crate::inbox::Inbox;
-use crate::outbox::Outbox;
-use crate::turn::{Step, Turn, Wanted};
-use httpask::Ask;
-use httpread::{Asking, Routes};
+use crate::talk::Talk;
+use crate::turn::{Step, Turn};
 use std::alloc::{AllocError, Global};
 
-/// What a worker keeps from one connection to the next: the routes, and the room for requests and for answers.
+/// The most bytes that wait to be read: the longest request has less.
+const ROOM: usize = 131_072;
+
+/// With so many bytes the answers wait no longer for others.
+const MANY: usize = 65_536;
+
+/// What a worker keeps from one connection to the next: its desk, and the room for a read.
 #[derive(Drop)]
 pub struct Front {
     alloc: Global,
-    routes: Routes,
-    inbox: Inbox,
-    outbox: Outbox,
+    desk: Desk,
+    chunk: Vec<u8>,
+    ghost sized: { length chunk.items ≡ room },
 }
 
 impl Front {
@@ -38,9 +36,8 @@ impl Front {
     pub fn new(alloc: Global) -> Result<Front, AllocError> {
         Ok(Front {
             alloc,
-            routes: Routes::new(alloc)?,
-            inbox: Inbox::new(alloc)?,
-            outbox: Outbox::new(alloc),
+            desk: Desk::new(alloc)?,
+            chunk: vec![in alloc; 0; ROOM]?,
         })
     }
 
@@ -60,14 +57,20 @@ impl Front {
         ensures breaks { OnErr result ((bytes before : List ℕ)
             → S.remaining source.old ≡ Some bytes → W.contents sink.old ≡ Some before
             → BreaksOff B.gives (B.copies backend.old) bytes backend.old backend.new before (W.contents sink.new)) }
+        // Whenever a read begins, all that could be answered is, and its answers are written: a read that fails shows it.
+        ensures unread { IfErr result (λ fault. fault ≡ FrontFault.Read → (bytes before : List ℕ)
+            → S.remaining source.old ≡ Some bytes → W.contents sink.old ≡ Some before
+            → AnswersAllThatCame B.gives (B.copies backend.old) bytes backend.old backend.new before (W.contents sink.new) (S.remaining source.new)) }
         ensures read_fault { IfErr result (λ fault. fault ≡ FrontFault.Read → HasRisen (S.failures source.old) (S.failures source.new)) }
         ensures write_fault { IfErr result (λ fault. fault ≡ FrontFault.Write → HasRisen (W.failures sink.old) (W.failures sink.new)) }
+        // Each of the two is told only where the device's own call failed.
+        ensures read_fails { IfErr result (λ fault. fault ≡ FrontFault.Read → (mid : S) × S.fails mid source.new) }
+        ensures write_fails { IfErr result (λ fault. fault ≡ FrontFault.Write → (mid : W) × W.fails mid sink.new) }
     {
-        self.inbox.clear();
-        self.outbox.clear();
+        let mut talk = Talk::new(self.alloc);
         let mut answered = 0u64;
         'requests: loop {
-            match self.take_turn(source, sink, backend) {
+            match self.take_turn(&mut talk, source, sink, backend) {
                 Ok(Turn::Read) => {}
                 Ok(Turn::Answered) => answered = answered.saturating_add(1),
                 Ok(Turn::Last) => return Ok(answered.saturating_add(1)),
@@ -81,128 +84,174 @@ impl Front {
     // read, at the end, and where it is much.
     fn take_turn<S: Source, W: Sink, B: Backend>(
         &mut self,
+        talk: &mut Talk,
         source: &mut S,
         sink: &mut W,
         backend: &mut B,
     ) -> Result<Turn, FrontFault>
-        requires { Knows self.old.inbox }
         ensures leads { IfOk result (λ turn. (bytes before : List ℕ) (start : B) (count : ℕ)
-            → SoFar B.gives B.copies bytes before start backend.old
-            (prepend_known (waiting self.old.inbox) (S.remaining source.old)) (W.contents sink.old) self.old.outbox.answers.items count
-            → Leads B.gives B.copies turn bytes before start backend.new
-            (prepend_known (waiting self.new.inbox) (S.remaining source.new)) (W.contents sink.new) self.new.outbox.answers.items count) }
+            → SoFar B.gives B.copies bytes before start backend.old talk.old.waits (S.remaining source.old) (W.contents sink.old) talk.old.unsent count
+            → Leads B.gives B.copies turn bytes before start backend.new talk.new.waits (S.remaining source.new) (W.contents sink.new) talk.new.unsent count) }
         ensures breaks { (bytes before : List ℕ) (start : B) (count : ℕ)
-            → SoFar B.gives B.copies bytes before start backend.old
-            (prepend_known (waiting self.old.inbox) (S.remaining source.old)) (W.contents sink.old) self.old.outbox.answers.items count
+            → SoFar B.gives B.copies bytes before start backend.old talk.old.waits (S.remaining source.old) (W.contents sink.old) talk.old.unsent count
             → OnErr result (BreaksOff B.gives (B.copies start) bytes start backend.new before (W.contents sink.new)) }
+        ensures unread { IfErr result (λ fault. fault ≡ FrontFault.Read → (bytes before : List ℕ) (start : B) (count : ℕ)
+            → SoFar B.gives B.copies bytes before start backend.old talk.old.waits (S.remaining source.old) (W.contents sink.old) talk.old.unsent count
+            → AnswersAllThatCame B.gives (B.copies start) bytes start backend.new before (W.contents sink.new) (S.remaining source.new)) }
         ensures progress { IfOk result (λ turn. Progresses turn (S.reads_left source.old) (S.reads_left source.new)
-            (length (waiting self.old.inbox)) (length (waiting self.new.inbox))) }
-        ensures knows { OnOk result (Knows self.new.inbox) }
+            (length talk.old.waits) (length talk.new.waits)) }
         ensures reads { OnOk result (S.failures source.new ≡ S.failures source.old) }
         ensures writes { OnOk result (W.failures sink.new ≡ W.failures sink.old) }
         ensures read_fault { IfErr result (λ fault. fault ≡ FrontFault.Read → Rises (S.failures source.old) (S.failures source.new)) }
         ensures write_fault { IfErr result (λ fault. fault ≡ FrontFault.Write → Rises (W.failures sink.old) (W.failures sink.new)) }
+        ensures read_fails { IfErr result (λ fault. fault ≡ FrontFault.Read → (mid : S) × S.fails mid source.new) }
+        ensures write_fails { IfErr result (λ fault. fault ≡ FrontFault.Write → (mid : W) × W.fails mid sink.new) }
     {
-        let step = self.answer_first(backend)?;
+        let step = talk.step(&mut self.desk, backend)?;
         match step {
-            Step::Waits(wanted) => {
-                let n = self.read_more(source, sink, wanted)?;
+            Step::Waits(_) => {
+                let n = self.read_more(talk, source, sink)?;
                 Ok(if n == 0 { Turn::Over } else { Turn::Read })
             }
             Step::Answered => {
-                self.outbox.flush_many(sink)?;
+                flush_many(talk, sink)?;
                 Ok(Turn::Answered)
             }
             Step::Last => {
-                self.outbox.flush(sink)?;
+                flush(talk, sink)?;
                 Ok(Turn::Last)
             }
         }
     }
 
-    // Writes what waits to be written, and reads more bytes behind those that wait; none come only at the end.
+    // Writes what waits to be written, and reads more bytes behind those that wait, until these are worth a look or the end came.
+    // Answers how many came: none come only at the end.
     fn read_more<S: Source, W: Sink>(
         &mut self,
+        talk: &mut Talk,
         source: &mut S,
         sink: &mut W,
-        wanted: Wanted,
     ) -> Result<usize, FrontFault>
-        requires knows { Knows self.old.inbox }
-        requires free { length (waiting self.old.inbox) < room }
-        requires fits { HasRoom wanted }
-        ensures read { IfOk result (λ n. (more : List ℕ) × (length more ≡ n) × (waiting self.new.inbox ≡ waiting self.old.inbox ++ more)
+        requires pending { IsPending talk.old.waits }
+        ensures read { IfOk result (λ n. (more : List ℕ) × (length more ≡ n) × (talk.new.waits ≡ talk.old.waits ++ more)
             × Consumes (S.remaining source.old) (S.remaining source.new) more × (n ≡ 0 → IsAtEnd (S.remaining source.new))) }
-        ensures written { OnOk result (Sends (W.contents sink.old) (W.contents sink.new) self.old.outbox.answers.items self.new.outbox.answers.items) }
-        ensures empty { OnOk result (self.new.outbox.answers.items ≡ []) }
-        ensures breaks { OnErr result ((left : List ℕ) × Sends (W.contents sink.old) (W.contents sink.new) self.old.outbox.answers.items left) }
-        ensures knows { OnOk result (Knows self.new.inbox) }
-        ensures fits { length (waiting self.new.inbox) ≤ room }
+        ensures written { OnOk result (Sends (W.contents sink.old) (W.contents sink.new) talk.old.unsent talk.new.unsent) }
+        ensures empty { OnOk result (talk.new.unsent ≡ []) }
+        ensures breaks { OnErr result ((left : List ℕ) × Sends (W.contents sink.old) (W.contents sink.new) talk.old.unsent left) }
+        ensures fits { OnOk result (length talk.new.waits ≤ room) }
+        ensures unread { IfErr result (λ fault. fault ≡ FrontFault.Read → Reads talk.old.waits talk.new.waits (S.remaining source.old) (S.remaining source.new)
+            × IsPending talk.new.waits × Sends (W.contents sink.old) (W.contents sink.new) talk.old.unsent []) }
         ensures ends { IfOk result (λ n. 0 < n → S.reads_left source.new < S.reads_left source.old) }
         ensures reads { OnOk result (S.failures source.new ≡ S.failures source.old) }
         ensures writes { OnOk result (W.failures sink.new ≡ W.failures sink.old) }
         ensures read_fault { IfErr result (λ fault. fault ≡ FrontFault.Read → Rises (S.failures source.old) (S.failures source.new)) }
         ensures write_fault { IfErr result (λ fault. fault ≡ FrontFault.Write → Rises (W.failures sink.old) (W.failures sink.new)) }
+        ensures read_fails { IfErr result (λ fault. fault ≡ FrontFault.Read → (mid : S) × S.fails mid source.new) }
+        ensures write_fails { IfErr result (λ fault. fault ≡ FrontFault.Write → (mid : W) × W.fails mid sink.new) }
     {
-        self.outbox.flush(sink)?;
-        self.inbox.read_up_to(source, wanted)
+        flush(talk, sink)?;
+        self.read_up(talk, source)
     }
 
-    // Answers the first request of the bytes that wait, if it is whole.
-    fn answer_first<B: Backend>(&mut self, backend: &mut B) -> Result<Step, AllocError>
-        requires { Knows self.old.inbox }
-        ensures steps { IfOk result (λ step. Steps B.gives (B.copies backend.old) step (waiting self.old.inbox) (waiting self.new.inbox)
-            backend.old backend.new self.old.outbox.answers.items self.new.outbox.answers.items) }
-        ensures halts { OnErr result (Halts B.gives (B.copies backend.old) (waiting self.old.inbox) backend.old backend.new) }
-        ensures stays { B.copies backend.new ≡ B.copies backend.old }
-        ensures knows { OnOk result (Knows self.new.inbox) }
+    // Reads more bytes behind those that wait, until these are worth a look or the end came, and answers how many came.
+    fn read_up<S: Source>(&mut self, talk: &mut Talk, source: &mut S) -> Result<usize, FrontFault>
+        requires pending { IsPending talk.old.waits }
+        ensures read { IfOk result (λ n. (more : List ℕ) × (length more ≡ n) × (talk.new.waits ≡ talk.old.waits ++ more)
+            × Consumes (S.remaining source.old) (S.remaining source.new) more × (n ≡ 0 → IsAtEnd (S.remaining source.new))) }
+        ensures unread { IfErr result (λ fault. fault ≡ FrontFault.Read → Reads talk.old.waits talk.new.waits (S.remaining source.old) (S.remaining source.new)
+            × IsPending talk.new.waits) }
+        ensures unsent { talk.new.unsent ≡ talk.old.unsent }
+        ensures fits { OnOk result (length talk.new.waits ≤ room) }
+        ensures ends { IfOk result (λ n. 0 < n → S.reads_left source.new < S.reads_left source.old) }
+        ensures reads { OnOk result (S.failures source.new ≡ S.failures source.old) }
+        ensures read_fault { IfErr result (λ fault. fault ≡ FrontFault.Read → Rises (S.failures source.old) (S.failures source.new)) }
+        ensures read_fails { IfErr result (λ fault. fault ≡ FrontFault.Read → (mid : S) × S.fails mid source.new) }
+        ensures no_write { IfErr result (λ fault. ¬ (fault ≡ FrontFault.Write)) }
     {
-        let copies = backend.copies();
-        let asking = self.inbox.first_request(self.alloc, &self.routes, copies)?;
-        match asking {
-            Asking::Head => Ok(Step::Waits(Wanted::Line)),
-            Asking::Body { needs } => Ok(Step::Waits(Wanted::Bytes(needs))),
-            Asking::First { ask, ends, len } => self.answer(backend, copies, &ask, ends, len),
+        let mut came = 0usize;
+        'reads: loop {
+            let n = self.read_once(talk, source)?;
+            came += n;
+            if n == 0 || talk.is_due() {
+                return Ok(came);
+            }
         }
     }
 
-    // Answers a request, and takes it from the bytes that wait.
-    fn answer<B: Backend>(
-        &mut self,
-        backend: &mut B,
-        copies: u32,
-        ask: &Ask,
-        ends: bool,
-        len: usize,
-    ) -> Result<Step, AllocError>
-        requires copies { copies ≡ B.copies backend.old }
-        requires finds { Finds copies (waiting self.old.inbox) (First ask.now ends len) }
-        ensures steps { IfOk result (λ step. Steps B.gives (B.copies backend.old) step (waiting self.old.inbox) (waiting self.new.inbox)
-            backend.old backend.new self.old.outbox.answers.items self.new.outbox.answers.items) }
-        ensures halts { OnErr result (Halts B.gives (B.copies backend.old) (waiting self.old.inbox) backend.old backend.new) }
-        ensures stays { B.copies backend.new ≡ B.copies backend.old }
-        ensures knows { OnOk result (Knows self.new.inbox) }
+    // Reads once, behind the bytes that wait, and answers how many came. None come only at the end.
+    fn read_once<S: Source>(&mut self, talk: &mut Talk, source: &mut S) -> Result<usize, FrontFault>
+        requires pending { IsPending talk.old.waits }
+        ensures ok { IfOk result (λ n. (more : List ℕ) × (length more ≡ n) × (talk.new.waits ≡ talk.old.waits ++ more)
+            × Consumes (S.remaining source.old) (S.remaining source.new) more × (n ≡ 0 → IsAtEnd (S.remaining source.new))) }
+        ensures unsent { talk.new.unsent ≡ talk.old.unsent }
+        ensures fits { OnOk result (length talk.new.waits ≤ room) }
+        ensures left { OnOk result (S.reads_left source.new ≤ S.reads_left source.old) }
+        ensures ends { IfOk result (λ n. 0 < n → S.reads_left source.new < S.reads_left source.old) }
+        ensures reads { OnOk result (S.failures source.new ≡ S.failures source.old) }
+        ensures read_fault { IfErr result (λ fault. fault ≡ FrontFault.Read → Rises (S.failures source.old) (S.failures source.new)) }
+        ensures kept { IfErr result (λ fault. fault ≡ FrontFault.Read → (talk.new.waits ≡ talk.old.waits) × Keeps (S.remaining source.old) (S.remaining source.new)) }
+        ensures read_fails { IfErr result (λ fault. fault ≡ FrontFault.Read → (mid : S) × S.fails mid source.new) }
+        ensures no_write { IfErr result (λ fault. ¬ (fault ≡ FrontFault.Write)) }
     {
-        self.push_reply(backend, copies, ask, ends)?;
-        self.inbox.take(len);
-        Ok(if ends { Step::Last } else { Step::Answered })
+        let most = ROOM - talk.waiting();
+        match read_front(source, &mut self.chunk, most) {
+            Ok(n) => {
+                talk.hear(&self.chunk[..n])?;
+                Ok(n)
+            }
+            Err(Failed) => Err(FrontFault::Read),
+        }
     }
+}
 
-    // Makes the call of a request, and adds its answer to those that wait.
-    fn push_reply<B: Backend>(
-        &mut self,
-        backend: &mut B,
-        copies: u32,
-        ask: &Ask,
-        ends: bool,
-    ) -> Result<(), AllocError>
-        requires copies { copies ≡ B.copies backend.old }
-        requires fits { FitsAsk copies ask.now }
-        ensures does { (reply : Reply) × Does B.gives backend.old (call_of ask.now) reply backend.new
-            × OnOk result (self.new.outbox.answers.items ≡ self.old.outbox.answers.items ++ answer copies ask.now reply ends) }
-        ensures stays { B.copies backend.new ≡ B.copies backend.old }
-        ensures waits { waiting self.new.inbox ≡ waiting self.old.inbox }
-    {
-        let reply = make_call(backend, ask);
-        self.outbox.push(copies, ask, &reply, ends)
+// Reads some bytes to the front of the buffer, so many at most.
+fn read_front<S: Source>(source: &mut S, chunk: &mut [u8], most: usize) -> Result<usize, Failed>
+    requires some { 0 < most }
+    requires fits { most ≤ length chunk.old }
+    ensures ok { IfOk result (λ n. (n ≤ most) × Consumes (S.remaining source.old) (S.remaining source.new) (take n chunk.new)
+        × (n ≡ 0 → IsAtEnd (S.remaining source.new))) }
+    ensures err { OnErr result (Keeps (S.remaining source.old) (S.remaining source.new)) }
+    ensures counted { OnOk result (S.failures source.new ≡ S.failures source.old) }
+    ensures failed { OnErr result (Rises (S.failures source.old) (S.failures source.new)) }
+    ensures fails { OnErr result (S.fails source.old source.new) }
+    ensures left { OnOk result (S.reads_left source.new ≤ S.reads_left source.old) }
+    ensures ends { IfOk result (λ n. 0 < n → S.reads_left source.new < S.reads_left source.old) }
+{
+    source.read(&mut chunk[..most])
+}
+
+// Writes the answers that wait.
+fn flush<W: Sink>(talk: &mut Talk, sink: &mut W) -> Result<(), FrontFault>
+    ensures ok { OnOk result (Sends (W.contents sink.old) (W.contents sink.new) talk.old.unsent talk.new.unsent) }
+    ensures empty { OnOk result (talk.new.unsent ≡ []) }
+    ensures waits { talk.new.waits ≡ talk.old.waits }
+    ensures fault { IfErr result (λ fault. fault ≡ FrontFault.Write) }
+    ensures err { OnErr result ((left : List ℕ) × Sends (W.contents sink.old) (W.contents sink.new) talk.old.unsent left) }
+    ensures counted { OnOk result (W.failures sink.new ≡ W.failures sink.old) }
+    ensures failed { OnErr result (Rises (W.failures sink.old) (W.failures sink.new)) }
+    ensures fails { OnErr result ((mid : W) × W.fails mid sink.new) }
+{
+    let unsent = talk.unsent();
+    let len = unsent.len();
+    if send(sink, unsent).is_err() {
+        return Err(FrontFault::Write);
     }
+    talk.sent(len);
+    Ok(())
+}
+
+// Writes the answers that wait, where they are much.
+fn flush_many<W: Sink>(talk: &mut Talk, sink: &mut W) -> Result<(), FrontFault>
+    ensures ok { OnOk result (Sends (W.contents sink.old) (W.contents sink.new) talk.old.unsent talk.new.unsent) }
+    ensures waits { talk.new.waits ≡ talk.old.waits }
+    ensures fault { IfErr result (λ fault. fault ≡ FrontFault.Write) }
+    ensures err { OnErr result ((left : List ℕ) × Sends (W.contents sink.old) (W.contents sink.new) talk.old.unsent left) }
+    ensures counted { OnOk result (W.failures sink.new ≡ W.failures sink.old) }
+    ensures failed { OnErr result (Rises (W.failures sink.old) (W.failures sink.new)) }
+    ensures fails { OnErr result ((mid : W) × W.fails mid sink.new) }
+{
+    if talk.unsent().len() < MANY {
+        return Ok(());
+    }
+    flush(talk, sink)
 }

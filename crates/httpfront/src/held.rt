@@ -1,6 +1,7 @@
 //! A source and a sink in memory, which give and take a few bytes at a time and may fail at a chosen call.
 
-ghost use Rattle.std.specs.Prelude.{◌≡◌, ℕ, List, [], length, Option, Some, None};
+ghost use Rattle.std.specs.Prelude.{◌≡◌, ◌<◌, ◌+◌, ◌⊎◌, ℕ, List, [], length, max, vec_len, Option, Some, None};
+ghost use Rattle.std.specs.Vec.{vec_capacity};
 
 use crate::device::{Failed, Sink, Source};
 use std::alloc::Global;
@@ -41,6 +42,8 @@ impl Source for FailSource<'_> {
     ghost failures = { λ s. s.failures };
 
     ghost reads_left = { λ s. length s.bytes.now };
+
+    ghost fails = { λ old _. old.fail_at ≡ Some old.reads };
 
     fn read(&mut self, buf: &mut [u8]) -> Result<usize, Failed> {
         let number = self.reads;
@@ -92,6 +95,8 @@ impl Sink for FailSink {
     ghost contents = { λ s. Some s.bytes.items };
 
     ghost failures = { λ s. s.failures };
+
+    ghost fails = { λ old _. (old.fail_at ≡ Some old.writes) ⊎ (vec_capacity old.bytes < vec_len old.bytes + max old.step 1) };
 
     fn write(&mut self, bytes: &[u8]) -> Result<usize, Failed> {
         let number = self.writes;

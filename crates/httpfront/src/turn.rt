@@ -1,17 +1,35 @@
 //! What the front comes to with one request, and with one turn.
 
+ghost use Rattle.std.specs.Prelude.{◌≡◌};
+
+use httpask::MAX_HEAD;
+
 /// What has to come before the bytes that wait are worth a look.
 #[derive(Clone, Copy)]
-pub(crate) enum Wanted {
+pub enum Wanted {
     /// A line feed, or more bytes than a head has.
     Line,
     /// So many bytes with those that wait.
     Bytes(usize),
 }
 
+impl Wanted {
+    ghost use Rattle.httpfront.specs.Pending.{has_come};
+
+    /// Whether it came with these bytes, the last of so many that wait.
+    pub(crate) fn came(self, bytes: &[u8], waiting: usize) -> bool
+        ensures { result ≡ has_come self bytes.now waiting }
+    {
+        match self {
+            Wanted::Line => waiting > MAX_HEAD || bytes.contains(&b'\n'),
+            Wanted::Bytes(needs) => waiting >= needs,
+        }
+    }
+}
+
 /// What the bytes that wait came to.
 #[derive(Clone, Copy)]
-pub(crate) enum Step {
+pub enum Step {
     /// No whole request waits, and none does until this comes.
     Waits(Wanted),
     /// A request was answered, and others may follow.

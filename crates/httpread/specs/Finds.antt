@@ -2,6 +2,7 @@
 use Rattle.std.specs.Prelude.{◌≡◌, ℕ, ◌+◌, ◌<◌, ◌≤◌, Bool, false, if◌then◌else◌, List, [], ◌++◌, length, drop}
 use Rattle.httpask.specs.Ask.{Asks, IsUnfinished}
 use Rattle.httpask.specs.Fits.{FitsAsk}
+use Rattle.httpask.specs.Head.{IsHeadUnfinished}
 use Rattle.httpask.specs.Limits.{longest_head, longest_body}
 use Rattle.httpread.specs.declared.request.Asking.{Asking}
 use Rattle.httpread.specs.declared.request.Asking.TheVariants.{Head, Body, First}
@@ -10,10 +11,10 @@ use Rattle.httpread.specs.declared.request.Asking.TheVariants.{Head, Body, First
 abbrev pub next_of : Bool → ℕ → List ℕ → List ℕ → List ℕ
 next_of ends len bytes more = if ends then [] else drop len bytes ++ more
 
--- whatever follows the bytes, their first request is this one; or they are no whole request, and may be one's front: with a
--- whole head they are one's front as long as they are fewer than it needs
+-- whatever follows the bytes, their first request is this one; or they are no whole request, and may be one's front: they
+-- end inside its head, or with a whole head they are one's front as long as they are fewer than it needs
 abbrev pub Finds : ℕ → List ℕ → Asking → Type 0
-Finds copies bytes Head = IsUnfinished bytes
+Finds copies bytes Head = IsHeadUnfinished bytes
 Finds copies bytes (Body needs) =
     IsUnfinished bytes × (length bytes < needs) × (needs ≤ longest_head + longest_body)
     × ((more : List ℕ) → length bytes + length more < needs → IsUnfinished (bytes ++ more))

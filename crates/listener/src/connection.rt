@@ -1,8 +1,12 @@
 //! One connection over TCP.
 
+ghost use Rattle.std.specs.Prelude.{◌≡◌, ℕ, List, Some, IfOk, IfErr, OnErr};
+ghost use Rattle.httpfront.specs.Device.{HasRisen};
+ghost use Rattle.httpfront.specs.Dialogue.{Completes, BreaksOff, AnswersAllThatCame};
+
 use crate::pace::{Pace, PacedSource};
-use httpfront::{Backend, Front, ReadSource, WriteSink};
-use std::io::Read as _;
+use httpfront::{Backend, Front, FrontFault, ReadSource, Sink, Source, WriteSink};
+use std::io::{ErrorKind, Read as _};
 use std::net::{Shutdown, TcpStream};
 use std::time::Duration;
 
@@ -21,19 +25,44 @@ const MOST_DROPPED: usize = 262_144;
 /// At most how many of them at a time.
 const CHUNK: usize = 65_536;
 
-/// Answers the requests of a connection, until it is over, and rests before it reads from it.
+/// Answers the requests of a connection until it is over, and rests before it reads from it. It tells what the connection came to.
 pub(crate) fn converse<B: Backend, P: Pace>(
     stream: &TcpStream,
     front: &mut Front,
     backend: &mut B,
     pace: &P,
-) {
+) -> Result<u64, FrontFault> {
     be_prompt(stream);
     let mut source = PacedSource::new(ReadSource::new(stream), pace);
     let mut sink = WriteSink::new(stream);
-    // However it ended, the connection is over, and the next one comes.
-    let _ = serving::serve(front, &mut source, &mut sink, backend);
+    let ended = converse_over(front, &mut source, &mut sink, backend);
     hang_up(stream);
+    ended
+}
+
+/// Answers the requests of a connection until it is over, as [`Front::serve`] does, from any source, which rests at a pace before each read,
+/// to any sink.
+pub fn converse_over<S: Source, W: Sink, B: Backend, P: Pace>(
+    front: &mut Front,
+    source: &mut PacedSource<'_, S, P>,
+    sink: &mut W,
+    backend: &mut B,
+) -> Result<u64, FrontFault>
+    ensures answers { IfOk result (λ count. (bytes before : List ℕ)
+        → S.remaining source.old.source ≡ Some bytes → W.contents sink.old ≡ Some before
+        → Completes B.gives (B.copies backend.old) bytes backend.old backend.new before (W.contents sink.new) count) }
+    ensures breaks { OnErr result ((bytes before : List ℕ)
+        → S.remaining source.old.source ≡ Some bytes → W.contents sink.old ≡ Some before
+        → BreaksOff B.gives (B.copies backend.old) bytes backend.old backend.new before (W.contents sink.new)) }
+    ensures unread { IfErr result (λ fault. fault ≡ FrontFault.Read → (bytes before : List ℕ)
+        → S.remaining source.old.source ≡ Some bytes → W.contents sink.old ≡ Some before
+        → AnswersAllThatCame B.gives (B.copies backend.old) bytes backend.old backend.new before (W.contents sink.new) (S.remaining source.new.source)) }
+    ensures read_fault { IfErr result (λ fault. fault ≡ FrontFault.Read → HasRisen (S.failures source.old.source) (S.failures source.new.source)) }
+    ensures write_fault { IfErr result (λ fault. fault ≡ FrontFault.Write → HasRisen (W.failures sink.old) (W.failures sink.new)) }
+    ensures read_fails { IfErr result (λ fault. fault ≡ FrontFault.Read → (mid : S) × S.fails mid source.new.source) }
+    ensures write_fails { IfErr result (λ fault. fault ≡ FrontFault.Write → (mid : W) × W.fails mid sink.new) }
+{
+    front.serve(source, sink, backend)
 }
 
 /// Has answers sent at once, and idle clients given up. Where the system knows none of this, connections are slower.
@@ -60,6 +89,7 @@ fn drop_rest(mut stream: &TcpStream) {
     for _ in 0..MOST_READS {
         match stream.read(&mut chunk[..left.min(CHUNK)]) {
             Ok(n) if 0 < n && n < left => left -= n,
+            Err(error) if error.kind() == ErrorKind::Interrupted => {}
             _ => return,
         }
     }

@@ -1,12 +1,9 @@
 //! Where connections come from.
 
-ghost use Rattle.std.specs.Prelude.{◌≡◌, ℕ, List, Option, OnOk, OnErr};
+ghost use Rattle.std.specs.Prelude.{◌≡◌, ℕ, List, Option, IfOk, OnErr};
 ghost use Rattle.listener.specs.Visits.{Admits};
 
-use crate::connection::converse;
-use crate::pace::Restless;
-use httpfront::{Backend, Front};
-use std::net::TcpListener;
+use httpfront::{Backend, Front, FrontFault};
 
 /// Why no connection came.
 #[derive(Clone, Copy, PartialEq, Eq)]
@@ -22,27 +19,18 @@ pub trait Door {
     /// The bytes of each connection that is to come, in order, where they are known.
     ghost awaited: { Self → Option (List (List ℕ)) };
 
-    /// Waits for a connection, and answers its requests over the store until it is over, however it ends.
-    fn admit<B: Backend>(&mut self, front: &mut Front, backend: &mut B) -> Result<(), NoConnection>
-        ensures came { OnOk result (Admits B.gives B.copies (awaited self.old) (awaited self.new) backend.old backend.new) }
-        ensures none { OnErr result (backend.new ≡ backend.old) }
-        ensures waits { OnErr result (awaited self.new ≡ awaited self.old) };
-}
+    /// What was written on each connection that came, in order, where it is known.
+    ghost told: { Self → Option (List (List ℕ)) };
 
-impl Door for TcpListener {
-    ghost use Rattle.std.specs.Prelude.{None};
-
-    ghost awaited = { λ _. None };
-
+    /// Waits for a connection, and answers its requests over the store until it is over. It tells what the connection came to: how many
+    /// requests were answered, or why it broke off.
     fn admit<B: Backend>(
         &mut self,
         front: &mut Front,
         backend: &mut B,
-    ) -> Result<(), NoConnection> {
-        let Ok((stream, _)) = self.accept() else {
-            return Err(NoConnection::Failed);
-        };
-        converse(&stream, front, backend, &Restless);
-        Ok(())
-    }
+    ) -> Result<Result<u64, FrontFault>, NoConnection>
+        ensures came { IfOk result (λ ended. Admits B.gives B.copies (awaited self.old) (awaited self.new) (told self.old) (told self.new) ended backend.old backend.new) }
+        ensures none { OnErr result (backend.new ≡ backend.old) }
+        ensures waits { OnErr result (awaited self.new ≡ awaited self.old) }
+        ensures silent { OnErr result (told self.new ≡ told self.old) };
 }

@@ -4,13 +4,14 @@
 
 mod connection;
 mod door;
+mod guests;
 mod pace;
 mod shared;
 mod start;
-mod visiting;
 
+pub use connection::converse_over;
 pub use door::{Door, NoConnection};
+pub use guests::Guests;
 pub use pace::{Pace, PacedSource};
 pub use shared::{Entrance, PacedEntrance};
 pub use start::listen;
-pub use visiting::{MOST_FAILURES, Stopped, serve_all};

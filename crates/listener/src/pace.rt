@@ -1,5 +1,7 @@
 //! When bytes are read.
 
+ghost use Rattle.std.specs.Prelude.{◌≡◌};
+
 use httpfront::{Failed, Source};
 
 /// Says when its caller may go on.
@@ -17,13 +19,16 @@ impl Pace for Restless {}
 /// A source that rests before each read. What is read is what the source gives.
 #[derive(Drop)]
 pub struct PacedSource<'a, S: Source, P: Pace> {
-    source: S,
+    /// What is read from.
+    pub source: S,
     pace: &'a P,
 }
 
 impl<'a, S: Source, P: Pace> PacedSource<'a, S, P> {
     /// A source that rests at a pace.
-    pub fn new(source: S, pace: &'a P) -> Self {
+    pub fn new(source: S, pace: &'a P) -> Self
+        ensures { result.source ≡ source }
+    {
         PacedSource { source, pace }
     }
 }
@@ -34,6 +39,8 @@ impl<S: Source, P: Pace> Source for PacedSource<'_, S, P> {
     ghost failures = { λ s. S.failures s.source };
 
     ghost reads_left = { λ s. S.reads_left s.source };
+
+    ghost fails = { λ old new. S.fails old.source new.source };
 
     fn read(&mut self, buf: &mut [u8]) -> Result<usize, Failed> {
         self.pace.rest();

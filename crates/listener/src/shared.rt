@@ -5,7 +5,7 @@ ghost use Rattle.std.specs.Prelude.{None};
 use crate::connection::converse;
 use crate::door::{Door, NoConnection};
 use crate::pace::Pace;
-use httpfront::{Backend, Front};
+use httpfront::{Backend, Front, FrontFault};
 use std::net::{TcpListener, TcpStream};
 use std::sync::atomic::AtomicU64;
 use std::sync::atomic::Ordering::SeqCst;
@@ -66,13 +66,14 @@ impl<'a, P: Pace> PacedEntrance<'a, P> {
 impl<P: Pace> Door for PacedEntrance<'_, P> {
     ghost awaited = { λ _. None };
 
+    ghost told = { λ _. None };
+
     fn admit<B: Backend>(
         &mut self,
         front: &mut Front,
         backend: &mut B,
-    ) -> Result<(), NoConnection> {
+    ) -> Result<Result<u64, FrontFault>, NoConnection> {
         let stream = self.entrance.next()?;
-        converse(&stream, front, backend, self.pace);
-        Ok(())
+        Ok(converse(&stream, front, backend, self.pace))
     }
 }

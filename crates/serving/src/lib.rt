@@ -7,6 +7,8 @@
 pub mod laws;
 mod opening;
 mod serving;
+mod whole;
 
 pub use opening::one_thread;
 pub use serving::serve;
+pub use whole::answers_to;

@@ -8,7 +8,7 @@ use std::alloc::{AllocError, Global};
 use std::test::Fail;
 
 /// The bytes of the requests, and those of the answers to them.
-fn bytes_of(alloc: Global, rows: &[Row]) -> Result<(Vec<u8>, Vec<u8>), AllocError> {
+pub(crate) fn bytes_of(alloc: Global, rows: &[Row]) -> Result<(Vec<u8>, Vec<u8>), AllocError> {
     let mut asked = Vec::new(alloc);
     let mut told = Vec::new(alloc);
     for (request, answer) in rows {

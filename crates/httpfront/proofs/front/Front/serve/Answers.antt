@@ -1,22 +1,18 @@
-use Rattle.std.proofs.Common.{◌∙◌, ap, refl, subst, sym}
-use Rattle.std.proofs.KnownBytes.{prepend_known-nil}
-use Rattle.std.specs.Io.KnownBytes.{prepend_known}
+use Rattle.std.proofs.Common.{◌∙◌, refl, subst, sym}
 use Rattle.httpfront.specs.Device.{HasRisen}
 use Rattle.httpfront.specs.Dialogue.{Completes}
 use Rattle.httpfront.specs.Turns.{SoFar}
-use Rattle.httpfront.specs.Waiting.{waiting}
 use Rattle.httpfront.proofs.TalkLemmas.{so_far-start, rises_risen}
 use Rattle.httpfront.proofs.front.Front.serve.Goals as goal
 
 pub requests-init : goal.requests-init
 requests-init g c = record {
   talk = λ bytes before known held.
-      so_far-start g.B.Backend.gives g.B.Backend.copies bytes before c.args.backend.now
-      (prepend_known (waiting c.clear.new.self) (g.S.Source.remaining c.args.source.now)) (g.W.Sink.contents c.args.sink.now) _
-      (ap (λ w. prepend_known w (g.S.Source.remaining c.args.source.now)) c.clear.ensures.waits ∙ (prepend_known-nil _ ∙ known)) held c.clear-2.ensures;
+      so_far-start g.B.Backend.gives g.B.Backend.copies bytes before c.new-talk.result.waits c.args.backend.now
+      (g.S.Source.remaining c.args.source.now) (g.W.Sink.contents c.args.sink.now) c.new-talk.result.unsent
+      c.new-talk.ensures.waits known held c.new-talk.ensures.unsent;
   reads = refl;
   writes = refl;
-  knows = c.clear.ensures.knows;
 }
 
 pub requests-preserved-in-Ok-Read : goal.requests-preserved-in-Ok-Read
@@ -25,7 +21,6 @@ requests-preserved-in-Ok-Read g c =
       talk = λ bytes before known held. leads bytes before c.args.backend.now c.requests.answered (c.requests.invariant.talk bytes before known held);
       reads = c.in-Ok-Read.ensures.reads ∙ c.requests.invariant.reads;
       writes = c.in-Ok-Read.ensures.writes ∙ c.requests.invariant.writes;
-      knows = c.in-Ok-Read.ensures.knows;
     }
 
 pub requests-preserved : goal.requests-preserved
@@ -33,13 +28,12 @@ requests-preserved g c =
     let leads = rw c.in-Ok-Answered.field-0-is at c.in-Ok-Answered.ensures.leads in record {
       talk = λ bytes before known held.
           subst (λ n. SoFar g.B.Backend.gives g.B.Backend.copies bytes before c.args.backend.now c.take_turn.new.backend
-          (prepend_known (waiting c.take_turn.new.self.inbox) (g.S.Source.remaining c.take_turn.new.source))
-          (g.W.Sink.contents c.take_turn.new.sink) c.take_turn.new.self.outbox.answers.items n)
+          c.take_turn.new.talk.waits (g.S.Source.remaining c.take_turn.new.source)
+          (g.W.Sink.contents c.take_turn.new.sink) c.take_turn.new.talk.unsent n)
           (sym c.saturating_add-answered.ensures)
           (leads bytes before c.args.backend.now c.requests.answered (c.requests.invariant.talk bytes before known held));
       reads = c.in-Ok-Answered.ensures.reads ∙ c.requests.invariant.reads;
       writes = c.in-Ok-Answered.ensures.writes ∙ c.requests.invariant.writes;
-      knows = c.in-Ok-Answered.ensures.knows;
     }
 
 pub returns-in-Ok-Last-clause-answers : goal.returns-in-Ok-Last-clause-answers
@@ -59,6 +53,11 @@ pub returns-in-Err-clause-breaks : goal.returns-in-Err-clause-breaks
 returns-in-Err-clause-breaks g c =
     λ bytes before known held.
     c.in-Err.ensures.breaks bytes before c.args.backend.now c.requests.answered (c.requests.invariant.talk bytes before known held)
+
+pub returns-in-Err-clause-unread : goal.returns-in-Err-clause-unread
+returns-in-Err-clause-unread g c =
+    λ fault bytes before known held.
+    c.in-Err.ensures.unread fault bytes before c.args.backend.now c.requests.answered (c.requests.invariant.talk bytes before known held)
 
 pub returns-in-Err-clause-read_fault : goal.returns-in-Err-clause-read_fault
 returns-in-Err-clause-read_fault g c =

@@ -1,7 +1,5 @@
 use Rattle.std.proofs.Common.{◌≡◌, ℕ, ◌+◌, ◌*◌, List, length, Some}
-use Rattle.std.specs.Io.KnownBytes.{prepend_known}
 use Rattle.httpfront.specs.Room.{room}
-use Rattle.httpfront.specs.Waiting.{waiting, Knows}
 use Rattle.httpfront.specs.Turns.{SoFar}
 use Rattle.httpfront.proofs.front.Front.serve.Given as goal
 
@@ -10,12 +8,11 @@ abbrev pub invariant-requests : goal.invariant-requests
 invariant-requests g l = record {
   talk : (bytes before : List ℕ) → g.S.Source.remaining l.initial.source ≡ Some bytes → g.W.Sink.contents l.initial.sink ≡ Some before
       → SoFar g.B.Backend.gives g.B.Backend.copies bytes before l.initial.backend l.backend
-      (prepend_known (waiting l.self.inbox) (g.S.Source.remaining l.source)) (g.W.Sink.contents l.sink) l.self.outbox.answers.items l.answered;
+      l.talk.waits (g.S.Source.remaining l.source) (g.W.Sink.contents l.sink) l.talk.unsent l.answered;
   reads : g.S.Source.failures l.source ≡ g.S.Source.failures l.initial.source;
   writes : g.W.Sink.failures l.sink ≡ g.W.Sink.failures l.initial.sink;
-  knows : Knows l.self.inbox;
 }
 
 -- each read counts for more than all the bytes that may wait
 abbrev pub decreases-requests : goal.decreases-requests
-decreases-requests g l = g.S.Source.reads_left l.source * (room + 1) + length (waiting l.self.inbox)
+decreases-requests g l = g.S.Source.reads_left l.source * (room + 1) + length l.talk.waits

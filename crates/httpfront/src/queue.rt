@@ -1,0 +1,123 @@
+//! Bytes that wait: they come behind the others, and go from the front.
+
+ghost use Rattle.std.specs.Prelude.{◌≡◌, ◌≤◌, ◌++◌, [], length, drop, OnOk, OnErr};
+ghost use Rattle.std.specs.Vec.{vec_capacity};
+ghost use Rattle.httpreply.specs.Answer.{answer};
+ghost use Rattle.httpfront.specs.Room.{kept};
+
+use crate::desk::Desk;
+use httpask::Ask;
+use httpreply::Reply;
+use std::alloc::{AllocError, Global};
+
+/// The most room that the buffer keeps while nothing waits.
+const KEPT: usize = 192;
+
+/// Bytes that wait, in order. Their buffer grows as it must, and is small while none wait.
+#[derive(Drop)]
+pub(crate) struct Queue {
+    alloc: Global,
+    bytes: Vec<u8>,
+    start: usize,
+    ghost ordered: { start ≤ length bytes.items },
+    ghost small: { length bytes.items ≤ start → vec_capacity bytes ≤ kept },
+}
+
+impl Queue {
+    ghost use Rattle.httpfront.specs.Waiting.{waiting};
+
+    /// None wait. It takes no memory.
+    pub(crate) fn new(alloc: Global) -> Queue
+        ensures { waiting result ≡ [] }
+    {
+        Queue {
+            alloc,
+            bytes: Vec::new(alloc),
+            start: 0,
+        }
+    }
+
+    /// The bytes that wait.
+    pub(crate) fn unread(&self) -> &[u8]
+        ensures { result.now ≡ waiting self.now }
+    {
+        &self.bytes[self.start..]
+    }
+
+    /// The room of the buffer.
+    pub(crate) fn room(&self) -> usize
+        ensures room { result ≡ vec_capacity self.now.bytes }
+        ensures small { waiting self.now ≡ [] → result ≤ kept }
+    {
+        self.bytes.capacity()
+    }
+
+    /// These wait, too, behind the others. The error is want of memory: the others wait then.
+    pub(crate) fn push(&mut self, bytes: &[u8]) -> Result<(), AllocError>
+        ensures ok { OnOk result (waiting self.new ≡ waiting self.old ++ bytes.now) }
+        ensures err { OnErr result (waiting self.new ≡ waiting self.old) }
+    {
+        if bytes.is_empty() {
+            return Ok(());
+        }
+        self.close_up();
+        self.bytes.reserve(bytes.len())?;
+        self.bytes.extend_from_slice(bytes)
+    }
+
+    /// The answer to a request waits, too, behind the others. The error is want of memory: none wait then.
+    pub(crate) fn push_answer(
+        &mut self,
+        desk: &mut Desk,
+        copies: u32,
+        ask: &Ask,
+        reply: &Reply,
+        ends: bool,
+    ) -> Result<(), AllocError>
+        ensures ok { OnOk result (waiting self.new ≡ waiting self.old ++ answer copies ask.now reply.now ends) }
+        ensures err { OnErr result (waiting self.new ≡ []) }
+    {
+        let pushed = desk.push_answer(&mut self.bytes, copies, ask, reply, ends);
+        if pushed.is_err() || self.bytes.len() <= self.start {
+            self.bytes = Vec::new(self.alloc);
+            self.start = 0;
+        }
+        pushed
+    }
+
+    /// So many of them go.
+    pub(crate) fn take(&mut self, len: usize)
+        requires { len ≤ length (waiting self.old) }
+        ensures { waiting self.new ≡ drop len (waiting self.old) }
+    {
+        if len == self.bytes.len() - self.start {
+            self.clear();
+        } else {
+            self.start += len;
+        }
+    }
+
+    // None wait any longer, and the buffer is given back where it is not small.
+    fn clear(&mut self)
+        ensures { waiting self.new ≡ [] }
+    {
+        self.start = 0;
+        if self.bytes.capacity() <= KEPT {
+            self.bytes.clear();
+        } else {
+            self.bytes = Vec::new(self.alloc);
+        }
+    }
+
+    // Moves the bytes that wait to the front of the buffer.
+    fn close_up(&mut self)
+        ensures { waiting self.new ≡ waiting self.old }
+    {
+        if self.start > 0 {
+            let len = self.bytes.len() - self.start;
+            self.bytes.copy_within(self.start.., 0);
+            self.bytes.truncate(len);
+            self.start = 0;
+        }
+    }
+}
