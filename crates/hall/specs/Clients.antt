@@ -1,0 +1,34 @@
+-- Clients in memory.
+use Rattle.std.specs.Prelude.{◌≡◌, ◌≢◌, ℕ, List, slice_get, Some}
+use Rattle.hall.specs.Sockets.{State, not_yet, here, gone, Socket, Sockets}
+use Rattle.hall.specs.declared.clients.Client.{Client}
+use Rattle.hall.specs.declared.clients.Stage.{Stage}
+use Rattle.hall.specs.declared.clients.Stage.TheVariants as stage
+
+-- where a client stands
+abbrev pub state_of : Stage → State
+state_of stage.NotYet = not_yet
+state_of stage.Here = here
+state_of (stage.Gone closing) = gone closing
+
+-- its connection
+abbrev pub socket_of : Client → Socket
+socket_of c = record {
+  state = state_of c.stage;
+  heard = c.heard.items;
+  written = c.written.items;
+  is_dry = c.is_dry;
+  is_stuffed = c.is_stuffed;
+  is_called = c.is_called;
+  has_ended = c.has_ended;
+  has_failed = c.has_failed;
+}
+
+-- the connections of the clients are these
+abbrev pub Shows : List Client → Sockets → Type 0
+Shows clients sockets = (n : ℕ) (c : Client) → slice_get clients n ≡ Some c → sockets n ≡ socket_of c
+
+-- the connection of the client i becomes f of it, and no other client is touched
+pub record Alters (i : ℕ) (f : Socket → Socket) (old new : List Client) : Type 0 where
+  pub there : (now : Client) → slice_get new i ≡ Some now → (c : Client) × (slice_get old i ≡ Some c) × (socket_of now ≡ f (socket_of c))
+  pub others : (j : ℕ) → j ≢ i → slice_get new j ≡ slice_get old j

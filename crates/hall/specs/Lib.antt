@@ -1,0 +1,4 @@
+pub mod Sockets
+pub mod Spoken
+pub mod Halls
+pub mod Clients

@@ -1,0 +1,15 @@
+//! One worker with many connections: a hall of seats, one for each connection, over the sockets of a ring.
+//!
+//! `HallStands` of `specs/Halls.antt` says what all connections together come to.
+#![tactic(auto)]
+
+mod buffer;
+mod clients;
+mod hall;
+pub mod laws;
+mod ring;
+mod seat;
+
+pub use clients::{Client, Clients, Stage};
+pub use hall::Hall;
+pub use ring::{Closing, Heard, Ring, Told};
