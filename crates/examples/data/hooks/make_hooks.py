@@ -263,10 +263,10 @@ def verdict(image, lines):
     return f"{told}, {lines[int(refused[1])]}" if refused else told
 
 
-def make(source, kind, in_len, out_len):
-    """Writes the image of a source beside it, and gives what the verifier says of it: that of the first instruction set for which it is accepted,
-    or else of the first."""
-    image, refused = source.with_suffix(".img"), []
+def make(source, kind, in_len, out_len, image):
+    """Writes the image of a source, and gives what the verifier says of it: that of the first instruction set for which it is accepted, or else of
+    the first."""
+    refused = []
     for cpu in CPUS:
         code, lines = compile_hook(source, cpu)
         image.write_bytes(head(kind, in_len, out_len) + code)
@@ -289,7 +289,7 @@ def lines_in(source):
 def tell(source, *given):
     """Makes an image, and tells how that went. Gives whether it was made and, where dvvstore is built, accepted."""
     try:
-        said = make(source, *given)
+        said = make(source, *given, source.with_suffix(".img"))
     except Refused as why:
         print(f"{source.name}: no image: {why}", file=sys.stderr)
         return False
