@@ -7,14 +7,27 @@ use Rattle.httpreply.specs.declared.reply.Reply.{Reply}
 use Rattle.httpfront.specs.declared.fault.FrontFault.TheVariants as fault
 use Rattle.httpfront.specs.Dialogue.{Exchange}
 use Rattle.hall.specs.Sockets.{State, not_yet, here, gone, Socket, Sockets, OnlyAt, Changes, unborn, after_accept, after_close}
-use Rattle.hall.specs.Spoken.{Serves, Rests, Ends, BreaksOff, Attended, Attends}
+use Rattle.hall.specs.Spoken.{Speaks, Serves, Rests, IsAnswered, Ends, BreaksOff, Attended, Attends}
 use Rattle.hall.specs.Halls.{Log, part, Stands, AllStand, HallStands, OnlySeat, RestsAt, AllRestBut}
 use Rattle.hall.specs.declared.ring.Closing.{Closing}
 use Rattle.hall.specs.declared.ring.Closing.TheVariants.{InOrder, Broken, GivenUp}
+use Rattle.hall.specs.declared.seat.Phase.{Phase}
 use Rattle.hall.specs.declared.seat.Seat.{Seat}
 use Rattle.hall.proofs.MoveLemmas.{only_then}
 use Rattle.hall.proofs.LogLemmas.{stands_with}
 use Rattle.hall.proofs.SpokenLemmas.{speaks_given_up}
+
+-- a seat whose parts are those of another serves as that does
+pub attended_same : (copies : ℕ) (r : Option Closing) (a b : Seat) → b.phase ≡ a.phase → b.talk.waits ≡ a.talk.waits → b.talk.unsent ≡ a.talk.unsent
+    → (s : Socket) (xs : List Exchange) → Attended copies r a s xs → Attended copies r b s xs
+attended_same copies (Some closing) a b p w o s xs ends = ends
+attended_same copies None a b p w o s xs rests =
+    subst (λ (it : Phase). Speaks copies it b.talk.waits b.talk.unsent s xs × RestsSo it b.talk.waits b.talk.unsent s) (sym p)
+    (subst (λ (l : List ℕ). Speaks copies a.phase l b.talk.unsent s xs × RestsSo a.phase l b.talk.unsent s) (sym w)
+    (subst (λ (l : List ℕ). Speaks copies a.phase a.talk.waits l s xs × RestsSo a.phase a.talk.waits l s) (sym o) rests))
+  where
+    RestsSo : Phase → List ℕ → List ℕ → Socket → Type 0
+    RestsSo it waits out t = (t.is_called ≡ true) ⊎ (t.is_stuffed ≡ true) ⊎ IsAnswered it waits out t
 
 -- the connection is closed, and all that is known of it stays
 pub ends_closed : (copies : ℕ) (closing how : Closing) (s : Socket) (xs : List Exchange) → Ends copies closing s xs → Ends copies closing (after_close how s) xs

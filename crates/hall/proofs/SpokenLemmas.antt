@@ -29,6 +29,7 @@ module _ (copies : ℕ) where
   pub reads_front : (p : Phase) (waits heard : List ℕ) (ended : Bool) (xs : List Exchange) → Reads copies p waits heard ended xs
       → (after : List ℕ) × Talks copies heard xs after
   reads_front phase.Open waits heard ended xs reads = (waits ++ [], subst (λ l. Talks copies l xs (waits ++ [])) (append-nil heard) (reads []))
+  reads_front phase.Ended waits heard ended xs reads = (waits ++ [], subst (λ l. Talks copies l xs (waits ++ [])) (append-nil heard) (reads.0 []))
   reads_front phase.Closing waits heard ended xs reads = (reads.0, reads.1)
 
   module _ (p : Phase) (waits out : List ℕ) (s : Socket) (xs : List Exchange) (speaks : Speaks copies p waits out s xs) where
@@ -77,6 +78,21 @@ module _ (copies : ℕ) where
       answers = speaks.answers ∙ (ap (λ l. s.written ++ l) none ∙ append-nil s.written);
     }
 
+    -- the input ended, and all else is as it was
+    pub speaks_on : Speaks copies phase.Ended waits out s xs → Speaks copies phase.Open waits out s xs
+    speaks_on speaks = record { reads = speaks.reads.0; answers = speaks.answers }
+
+    -- it ended before a whole request
+    pub speaks_over : Speaks copies phase.Ended waits out s xs → IsUnfinished waits → Speaks copies phase.Closing waits out s xs
+    speaks_over speaks unfinished = record {
+      reads = (
+        waits,
+        subst (λ l. Talks copies l xs waits) (append-nil s.heard) (subst (λ l. Talks copies (s.heard ++ []) xs l) (append-nil waits) (speaks.reads.0 [])),
+        inr (speaks.reads.1, unfinished),
+      );
+      answers = speaks.answers;
+    }
+
     module _ (speaks : Speaks copies phase.Open waits out s xs) where
       more_heard : (came more : List ℕ) → Talks copies ((s.heard ++ came) ++ more) xs ((waits ++ came) ++ more)
       more_heard came more =
@@ -101,16 +117,9 @@ module _ (copies : ℕ) where
         blames = tt;
       }
 
-      -- the input ended before a whole request
-      pub speaks_ended : (buf : List ℕ) → IsUnfinished waits → Speaks copies phase.Closing waits out (after_read (Ok heard.End) buf s) xs
-      speaks_ended buf unfinished = record {
-        reads = (
-          waits,
-          subst (λ l. Talks copies l xs waits) (append-nil s.heard) (subst (λ l. Talks copies (s.heard ++ []) xs l) (append-nil waits) (speaks.reads [])),
-          inr (refl, unfinished),
-        );
-        answers = speaks.answers;
-      }
+      -- the input ended
+      pub speaks_ended : (buf : List ℕ) → Speaks copies phase.Ended waits out (after_read (Ok heard.End) buf s) xs
+      speaks_ended buf = record { reads = (speaks.reads, refl); answers = speaks.answers }
 
       module _ {B : Type 0} (gives : B → Call → Reply → B → Type 0) (from now : B) (x : Exchange) (waits' out' : List ℕ) (pushed : out' ≡ out ++ answer_of copies x) where
         answers_more : answers_of copies (xs ++ x ∷ []) ≡ s.written ++ out'

@@ -1,5 +1,6 @@
 -- Clients in memory.
-use Rattle.std.specs.Prelude.{◌≡◌, ◌≢◌, ℕ, List, slice_get, Some}
+use Rattle.std.specs.Prelude.{◌≡◌, ◌≢◌, ℕ, List, slice_get, Option, Some, None, Result, Ok, Err}
+use Rattle.httpfront.specs.declared.device.Failed.{Failed}
 use Rattle.hall.specs.Sockets.{State, not_yet, here, gone, Socket, Sockets}
 use Rattle.hall.specs.declared.clients.Client.{Client}
 use Rattle.hall.specs.declared.clients.Stage.{Stage}
@@ -27,6 +28,12 @@ socket_of c = record {
 -- the connections of the clients are these
 abbrev pub Shows : List Client → Sockets → Type 0
 Shows clients sockets = (n : ℕ) (c : Client) → slice_get clients n ≡ Some c → sockets n ≡ socket_of c
+
+-- an accept answers the next number, or none
+abbrev pub IsNext : ℕ → Result (Option ℕ) Failed → Type 0
+IsNext taken (Ok (Some n)) = n ≡ taken
+IsNext taken (Ok None) = Unit {0}
+IsNext taken (Err failed) = ⊥
 
 -- the connection of the client i becomes f of it, and no other client is touched
 pub record Alters (i : ℕ) (f : Socket → Socket) (old new : List Client) : Type 0 where

@@ -1,12 +1,15 @@
 -- A worker with many connections: one log of calls for all of them.
-use Rattle.std.specs.Prelude.{◌≡◌, ◌≢◌, ℕ, ◌==◌, ◌<◌, ◌≤◌, ◌⊎◌, cond, length, slice_index, List, [], ◌∷◌, Option, Some, None}
+use Rattle.std.specs.Prelude.{◌≡◌, ◌≢◌, ℕ, ◌==◌, ◌<◌, ◌≤◌, ◌⊎◌, cond, length, slice_index, is_some, Bool, List, [], ◌∷◌, Option, Some, None, Result, Ok, Err}
 use Rattle.std.specs.BTreeMap.{get}
 use Rattle.std.specs.Ordering.{nat_cmp}
 use Rattle.httpask.specs.declared.ask.Call.{Call}
 use Rattle.httpreply.specs.declared.reply.Reply.{Reply}
 use Rattle.httpfront.specs.Dialogue.{Exchange, Runs}
-use Rattle.hall.specs.Sockets.{State, not_yet, here, gone, Socket, Sockets, IsReported, unborn}
+use Rattle.httpfront.specs.declared.device.Failed.{Failed}
+use Rattle.httpfront.specs.declared.fault.FrontFault.TheVariants as fault
+use Rattle.hall.specs.Sockets.{State, not_yet, here, gone, Socket, Sockets, OnlyAt, IsReported, unborn, after_accept, after_close}
 use Rattle.hall.specs.Spoken.{Serves, Ends, Rests}
+use Rattle.hall.specs.declared.ring.Closing.TheVariants.{Broken}
 use Rattle.hall.specs.declared.seat.Seat.{Seat}
 use Rattle.hall.specs.declared.hall.Hall.{Hall}
 
@@ -59,3 +62,17 @@ module _ {B : Type 0} (gives : B → Call → Reply → B → Type 0) (copies : 
 -- no other seat than that of n is touched
 abbrev pub OnlySeat : ℕ → (ℕ → Option Seat) → (ℕ → Option Seat) → Type 0
 OnlySeat n old new = (m : ℕ) → m ≢ n → new m ≡ old m
+
+-- what becomes of the connection that an accept answered: it is here and has its seat, or there was no memory for it and it is gone; no other
+-- is touched
+abbrev pub Greets : Result (Option ℕ) Failed → Sockets → Sockets → (ℕ → Option Seat) → Type 0
+Greets (Ok (Some n)) old new seats =
+    (old n ≡ unborn) × OnlyAt n old new
+    × (((new n ≡ after_accept unborn) × (it : Seat) × (seats n ≡ Some it)) ⊎ (new n ≡ after_close (Broken fault.NoMemory) (after_accept unborn)))
+Greets (Ok None) old new seats = new ≡ old
+Greets (Err failed) old new seats = new ≡ old
+
+-- whether one came
+abbrev pub comes_to : Result (Option ℕ) Failed → Result Bool Failed
+comes_to (Ok answer) = Ok (is_some answer)
+comes_to (Err failed) = Err failed

@@ -1,11 +1,12 @@
 -- What one connection came to, and what a worker's piece of work makes of it.
-use Rattle.std.specs.Prelude.{◌≡◌, ℕ, ◌<◌, ◌≤◌, ◌⊎◌, Bool, true, List, [], ◌++◌, Option, Some, None, Result, Ok, Err}
+use Rattle.std.specs.Prelude.{◌≡◌, ℕ, ◌<◌, ◌≤◌, ◌⊎◌, Bool, true, List, [], ◌∷◌, ◌++◌, Option, Some, None, Result, Ok, Err}
 use Rattle.httpask.specs.Ask.{IsUnfinished}
 use Rattle.httpask.specs.declared.ask.Call.{Call}
 use Rattle.httpreply.specs.declared.reply.Reply.{Reply}
 use Rattle.httpfront.specs.declared.fault.FrontFault.{FrontFault}
 use Rattle.httpfront.specs.declared.fault.FrontFault.TheVariants as fault
 use Rattle.httpfront.specs.Dialogue.{Exchange, Talks, Runs, answers_of}
+use Rattle.httpfront.specs.Pending.{IsPending}
 use Rattle.hall.specs.Sockets.{Socket, Sockets, OnlyAt}
 use Rattle.hall.specs.declared.ring.Closing.{Closing}
 use Rattle.hall.specs.declared.ring.Closing.TheVariants.{InOrder, Broken, GivenUp}
@@ -18,6 +19,8 @@ use Rattle.hall.specs.declared.seat.Phase.TheVariants as phase
 use Rattle.hall.specs.declared.seat.Round.{Round}
 use Rattle.hall.specs.declared.seat.Round.TheVariants as round
 use Rattle.hall.specs.declared.seat.Seat.{Seat}
+use Rattle.hall.specs.declared.seat.Standing.{Standing}
+use Rattle.hall.specs.declared.seat.Standing.TheVariants.{Idle, Asking, Telling}
 
 -- a read gave one byte at least, and no more than there is room for
 abbrev pub FitsHeard : ℕ → Heard → Type 0
@@ -46,6 +49,7 @@ module _ (copies : ℕ) where
   -- behind it; of one that closes no request is left
   abbrev pub Reads : Phase → List ℕ → List ℕ → Bool → List Exchange → Type 0
   Reads phase.Open waits heard has_ended xs = (more : List ℕ) → Talks copies (heard ++ more) xs (waits ++ more)
+  Reads phase.Ended waits heard has_ended xs = ((more : List ℕ) → Talks copies (heard ++ more) xs (waits ++ more)) × (has_ended ≡ true)
   Reads phase.Closing waits heard has_ended xs = (after : List ℕ) × Talks copies heard xs after × IsOverAt has_ended after
 
   -- the same, and their answers are what was written and what waits to be
@@ -83,10 +87,20 @@ module _ (copies : ℕ) where
   abbrev pub Serves : Seat → Socket → List Exchange → Type 0
   Serves seat s xs = Speaks seat.phase seat.talk.waits seat.talk.unsent s xs
 
+-- what a connection waits for: its client takes no more of the answers that wait, or sends no more of a request, or asks nothing
+abbrev pub waiting_for : (unsent waits : List ℕ) → Standing
+waiting_for (b ∷ unsent) waits = Telling
+waiting_for [] (b ∷ waits) = Asking
+waiting_for [] [] = Idle
+
+abbrev pub standing_of : Seat → Standing
+standing_of seat = waiting_for seat.talk.unsent seat.talk.waits
+
 -- nothing holds the connection up but its client: it takes nothing now, or it is open, its answers are all written, no whole request waits
 -- and nothing is there to be read; or it will be reported once more
 abbrev pub IsAnswered : Phase → List ℕ → List ℕ → Socket → Type 0
-IsAnswered phase.Open waits out s = (s.is_dry ≡ true) × (out ≡ []) × IsUnfinished waits
+IsAnswered phase.Open waits out s = (s.is_dry ≡ true) × (out ≡ []) × IsPending waits
+IsAnswered phase.Ended waits out s = ⊥
 IsAnswered phase.Closing waits out s = ⊥
 
 abbrev pub Rests : Seat → Socket → Type 0

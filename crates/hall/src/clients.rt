@@ -254,9 +254,11 @@ impl Clients {
 }
 
 impl Ring for Clients {
-    ghost use Rattle.hall.specs.Clients.{Shows};
+    ghost use Rattle.hall.specs.Clients.{Shows, IsNext};
 
     ghost shows = { λ it sockets. Shows it.clients.items sockets };
+
+    ghost accepts = { λ old answer _. IsNext old.taken answer };
 
     fn accept(&mut self) -> Result<Option<u64>, Failed> {
         let number = self.taken;

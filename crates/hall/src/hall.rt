@@ -1,15 +1,16 @@
 //! The connections of one worker.
 
-ghost use Rattle.std.specs.Prelude.{◌≡◌, ℕ, List, [], None, Some, IfOk, OnOk, OnErr};
+ghost use Rattle.std.specs.Prelude.{◌≡◌, ℕ, List, [], Option, None, Some, Result, Ok, IfOk, OnOk, OnErr, option_map};
 ghost use Rattle.httpfront.specs.Dialogue.{Exchange};
-ghost use Rattle.hall.specs.Sockets.{Socket, Sockets, OnlyAt};
-ghost use Rattle.hall.specs.Spoken.{Serves, Attended, Attends};
-ghost use Rattle.hall.specs.Halls.{Log, AllStand, AllRestBut, HallStands, OnlySeat, RestsAt, seat_at};
+ghost use Rattle.httpfront.specs.declared.device.Failed.{Failed as Failure};
+ghost use Rattle.hall.specs.Sockets.{Socket, Sockets, OnlyAt, Changes, unborn, after_accept};
+ghost use Rattle.hall.specs.Spoken.{Serves, Attended, Attends, standing_of};
+ghost use Rattle.hall.specs.Halls.{Log, AllStand, AllRestBut, HallStands, OnlySeat, RestsAt, Greets, comes_to, seat_at};
 ghost use Rattle.hall.specs.declared.seat.Seat.{Seat as Place};
 
 use crate::buffer::Buffer;
 use crate::ring::{Closing, Ring};
-use crate::seat::Seat;
+use crate::seat::{Seat, Standing};
 use httpfront::{Backend, Desk, Failed, FrontFault};
 use std::alloc::{AllocError, Global};
 use std::collections::BTreeMap;
@@ -36,20 +37,32 @@ impl Hall {
         })
     }
 
-    /// Seats the next connection, if one waits, and tells whether one did. One for which there is no memory is closed at once.
+    /// Seats the next connection, if one waits, and tells whether one did. One for which there is no memory is closed at once. The error is
+    /// the ring's.
     pub fn admit<R: Ring>(&mut self, ring: &mut R) -> Result<bool, Failed>
-        ensures stands { (copies : ℕ) (log : Log) (old : Sockets) → R.shows ring.old old → AllStand copies log old (seat_at self.old)
-            → (new : Sockets) × R.shows ring.new new × AllStand copies log new (seat_at self.new) }
+        ensures { (answer : Result (Option ℕ) Failure) × (mid : R) × R.accepts ring.old answer mid × (result ≡ comes_to answer)
+            × ((copies : ℕ) (log : Log) (old : Sockets) → R.shows ring.old old → AllStand copies log old (seat_at self.old)
+            → (new : Sockets) × R.shows ring.new new × AllStand copies log new (seat_at self.new) × Greets answer old new (seat_at self.new)) }
     {
-        match ring.accept()? {
-            None => Ok(false),
-            Some(number) => match self.seat(number) {
-                Ok(()) => Ok(true),
-                Err(AllocError) => {
-                    ring.close(number, Closing::Broken(FrontFault::NoMemory));
-                    Ok(true)
-                }
-            },
+        match ring.accept() {
+            Ok(None) => Ok(false),
+            Ok(Some(number)) => {
+                self.greet(number, ring);
+                Ok(true)
+            }
+            Err(Failed) => Err(Failed),
+        }
+    }
+
+    // Seats a connection that just came, or closes it, where there is no memory.
+    fn greet<R: Ring>(&mut self, number: u64, ring: &mut R)
+        ensures { (copies : ℕ) (log : Log) (old mid : Sockets) → R.shows ring.old mid → AllStand copies log old (seat_at self.old)
+            → old number ≡ unborn → Changes number after_accept old mid
+            → (new : Sockets) × R.shows ring.new new × AllStand copies log new (seat_at self.new) × Greets (Ok (Some number)) old new (seat_at self.new) }
+    {
+        match self.seat(number) {
+            Ok(()) => {}
+            Err(AllocError) => ring.close(number, Closing::Broken(FrontFault::NoMemory)),
         }
     }
 
@@ -102,7 +115,16 @@ impl Hall {
         ensures stays { B.copies backend.new ≡ B.copies backend.old }
     {
         match self.seats.get_mut(&number) {
-            Some(seat) => seat.attend(number, &mut self.desk, &mut self.buffer, ring, backend),
+            Some(seat) => {
+                seat.serve(
+                    self.alloc,
+                    number,
+                    &mut self.desk,
+                    &mut self.buffer,
+                    ring,
+                    backend,
+                )
+            }
             None => None,
         }
     }
@@ -116,6 +138,13 @@ impl Hall {
         for number in reported {
             self.attend(*number, ring, backend);
         }
+    }
+
+    /// What a connection waits for. Nobody has one that ended.
+    pub fn standing(&self, number: u64) -> Option<Standing>
+        ensures { result ≡ option_map standing_of (seat_at self.now number) }
+    {
+        self.seats.get(&number).map(Seat::standing)
     }
 
     /// Gives a connection up: it is closed at once, and no other is touched. One that nobody has is passed over.

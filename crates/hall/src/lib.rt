@@ -13,3 +13,4 @@ mod seat;
 pub use clients::{Client, Clients, Stage};
 pub use hall::Hall;
 pub use ring::{Closing, Heard, Ring, Told};
+pub use seat::Standing;

@@ -1,6 +1,7 @@
 //! The sockets of one worker.
 
-ghost use Rattle.std.specs.Prelude.{◌≡◌, ◌<◌, ◌≤◌, ℕ, length, IfOk};
+ghost use Rattle.std.specs.Prelude.{◌≡◌, ◌<◌, ◌≤◌, ℕ, length, Option, Result, IfOk};
+ghost use Rattle.httpfront.specs.declared.device.Failed.{Failed as Failure};
 ghost use Rattle.hall.specs.Sockets.{Sockets, Accepts, Changes, after_read, after_write, after_call, after_close};
 ghost use Rattle.hall.specs.Spoken.{FitsHeard, FitsTold};
 
@@ -42,9 +43,13 @@ pub trait Ring {
     /// The sockets came to this: what their reads gave and their writes took so far.
     ghost shows: { Self → Sockets → Type 0 };
 
+    /// An accept answers so, from one state of the ring to another.
+    ghost accepts: { Self → Result (Option ℕ) Failure → Self → Type 0 };
+
     /// Takes the next connection, if one waits. It will be reported.
     fn accept(&mut self) -> Result<Option<u64>, Failed>
-        ensures { (old : Sockets) → shows self.old old → (new : Sockets) × shows self.new new × Accepts result old new };
+        ensures answers { accepts self.old result self.new }
+        ensures came { (old : Sockets) → shows self.old old → (new : Sockets) × shows self.new new × Accepts result old new };
 
     /// Reads some bytes of a connection to the front of `buf`.
     fn read(&mut self, number: u64, buf: &mut [u8]) -> Result<Heard, Failed>

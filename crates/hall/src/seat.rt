@@ -1,10 +1,10 @@
 //! One connection of a hall.
 
 ghost use Rattle.std.specs.Prelude.{◌≡◌, ◌<◌, ◌≤◌, ℕ, List, ◌++◌, length, [], IfOk, OnOk};
-ghost use Rattle.httpask.specs.Ask.{IsUnfinished};
+ghost use Rattle.httpfront.specs.Pending.{IsPending};
 ghost use Rattle.httpfront.specs.Dialogue.{Exchange, Runs};
 ghost use Rattle.hall.specs.Sockets.{Socket, Sockets};
-ghost use Rattle.hall.specs.Spoken.{Serves, Left, Attended, Moves, Attends};
+ghost use Rattle.hall.specs.Spoken.{Serves, Left, Attended, Moves, Attends, standing_of};
 
 use crate::buffer::Buffer;
 use crate::ring::{Closing, Heard, Ring, Told};
@@ -22,6 +22,8 @@ const MOST_ROUNDS: u32 = 64;
 pub(crate) enum Phase {
     /// They are.
     Open,
+    /// The client sends nothing more. What waits is looked at once more: its last line may be of no head.
+    Ended,
     /// They are not; what is not written yet goes out.
     Closing,
 }
@@ -35,6 +37,17 @@ pub(crate) enum Round {
     Rests,
     /// All is answered and written, and the connection ends.
     Done,
+}
+
+/// What a connection waits for, or its client.
+#[derive(Clone, Copy, Debug, PartialEq, Eq)]
+pub enum Standing {
+    /// Nothing waits: the client asks nothing.
+    Idle,
+    /// A front of a request came, and the rest is awaited.
+    Asking,
+    /// Answers wait to be written.
+    Telling,
 }
 
 /// A connection's place in the hall.
@@ -55,9 +68,41 @@ impl Seat {
         }
     }
 
+    /// What it waits for.
+    pub(crate) fn standing(&self) -> Standing
+        ensures { result ≡ standing_of self.now }
+    {
+        if !self.talk.unsent().is_empty() {
+            Standing::Telling
+        } else if self.talk.waiting() > 0 {
+            Standing::Asking
+        } else {
+            Standing::Idle
+        }
+    }
+
     /// A bounded piece of work: what is there is read, what was asked is answered, and what is answered is written, until the connection
-    /// rests or ends, or had its share. Answers how it ends, if it does.
-    pub(crate) fn attend<R: Ring, B: Backend>(
+    /// rests or ends, or had its share. Answers how it ends, if it does. One that is idle then has no buffers.
+    pub(crate) fn serve<R: Ring, B: Backend>(
+        &mut self,
+        alloc: Global,
+        number: u64,
+        desk: &mut Desk,
+        buffer: &mut Buffer,
+        ring: &mut R,
+        backend: &mut B,
+    ) -> Option<Closing>
+        ensures attends { (old : Sockets) (xs : List Exchange) → R.shows ring.old old → Serves (B.copies backend.old) self.old (old number) xs
+            → Attends B.gives (R.shows ring.new) number old backend.old backend.new xs (Attended (B.copies backend.old) result self.new) }
+        ensures stays { B.copies backend.new ≡ B.copies backend.old }
+    {
+        let ended = self.attend(number, desk, buffer, ring, backend);
+        self.settle(alloc);
+        ended
+    }
+
+    // The piece of work, but for the buffers.
+    fn attend<R: Ring, B: Backend>(
         &mut self,
         number: u64,
         desk: &mut Desk,
@@ -80,6 +125,17 @@ impl Seat {
         call_again(number, ring)
     }
 
+    // Gives its buffers back where nothing waits: so an idle connection has none.
+    fn settle(&mut self, alloc: Global)
+        ensures phase { self.new.phase ≡ self.old.phase }
+        ensures waits { self.new.talk.waits ≡ self.old.talk.waits }
+        ensures unsent { self.new.talk.unsent ≡ self.old.talk.unsent }
+    {
+        if self.talk.waiting() == 0 && self.talk.unsent().is_empty() {
+            self.talk = Talk::new(alloc);
+        }
+    }
+
     // One thing: a request is answered, or some bytes are written, or read.
     fn round<R: Ring, B: Backend>(
         &mut self,
@@ -96,6 +152,7 @@ impl Seat {
         match self.phase {
             Phase::Closing => self.finish(number, ring),
             Phase::Open if self.talk.unsent().len() >= MANY => self.tell(number, ring),
+            Phase::Open if !self.talk.is_due() => self.exchange(number, buffer, ring),
             Phase::Open => match self.talk.step(desk, backend)? {
                 Step::Answered => Ok(Round::Again),
                 Step::Last => {
@@ -103,6 +160,20 @@ impl Seat {
                     Ok(Round::Again)
                 }
                 Step::Waits(_) => self.exchange(number, buffer, ring),
+            },
+            Phase::Ended => match self.talk.step(desk, backend)? {
+                Step::Answered => {
+                    self.phase = Phase::Open;
+                    Ok(Round::Again)
+                }
+                Step::Last => {
+                    self.phase = Phase::Closing;
+                    Ok(Round::Again)
+                }
+                Step::Waits(_) => {
+                    self.phase = Phase::Closing;
+                    Ok(Round::Again)
+                }
             },
         }
     }
@@ -115,7 +186,7 @@ impl Seat {
         ring: &mut R,
     ) -> Result<Round, FrontFault>
         requires open { self.old.phase ≡ Phase.Open }
-        requires unfinished { IsUnfinished self.old.talk.waits }
+        requires pending { IsPending self.old.talk.waits }
         ensures { (copies : ℕ) (old : Sockets) (xs : List Exchange) → R.shows ring.old old → Serves copies self.old (old number) xs
             → Moves (R.shows ring.new) number old (λ s. Left copies result self.new s xs) }
     {
@@ -163,7 +234,7 @@ impl Seat {
         ring: &mut R,
     ) -> Result<Round, FrontFault>
         requires open { self.old.phase ≡ Phase.Open }
-        requires unfinished { IsUnfinished self.old.talk.waits }
+        requires pending { IsPending self.old.talk.waits }
         requires written { self.old.talk.unsent ≡ [] }
         ensures { (copies : ℕ) (old : Sockets) (xs : List Exchange) → R.shows ring.old old → Serves copies self.old (old number) xs
             → Moves (R.shows ring.new) number old (λ s. Left copies result self.new s xs) }
@@ -174,7 +245,7 @@ impl Seat {
                 Ok(Round::Again)
             }
             Ok(Heard::End) => {
-                self.phase = Phase::Closing;
+                self.phase = Phase::Ended;
                 Ok(Round::Again)
             }
             Ok(Heard::NotNow) => Ok(Round::Rests),

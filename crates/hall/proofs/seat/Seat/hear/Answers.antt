@@ -27,15 +27,15 @@ returns-in-Ok-End g c = λ copies old xs shown serves.
     let came = (rw c.in-Ok-End.field-0-is at c.in-Ok-End.ensures.changes) old shown in
     let opens : Speaks copies phase.Open c.args.self.now.talk.waits c.args.self.now.talk.unsent (old c.args.number) xs =
     subst (λ (p : Phase). Speaks copies p c.args.self.now.talk.waits c.args.self.now.talk.unsent (old c.args.number) xs) c.requires.open serves in
-    moved (g.R.Ring.shows c.read.new.self) c.args.number old (λ s. Speaks copies phase.Closing c.args.self.now.talk.waits c.args.self.now.talk.unsent s xs) came.0 (after_read (Ok heard.End) c.read.new.buf) came.1 came.2 refl
-    (speaks_ended copies _ _ (old c.args.number) xs opens c.read.new.buf c.requires.unfinished)
+    moved (g.R.Ring.shows c.read.new.self) c.args.number old (λ s. Speaks copies phase.Ended c.args.self.now.talk.waits c.args.self.now.talk.unsent s xs) came.0 (after_read (Ok heard.End) c.read.new.buf) came.1 came.2 refl
+    (speaks_ended copies _ _ (old c.args.number) xs opens c.read.new.buf)
 
 pub returns-in-Ok-NotNow : goal.returns-in-Ok-NotNow
 returns-in-Ok-NotNow g c = λ copies old xs shown serves.
     let came = (rw c.in-Ok-NotNow.field-0-is at c.in-Ok-NotNow.ensures.changes) old shown in
     let answered : IsAnswered c.args.self.now.phase c.args.self.now.talk.waits c.args.self.now.talk.unsent (after_read (Ok heard.NotNow) c.read.new.buf (old c.args.number)) =
     subst (λ (p : Phase). IsAnswered p c.args.self.now.talk.waits c.args.self.now.talk.unsent (after_read (Ok heard.NotNow) c.read.new.buf (old c.args.number))) (sym c.requires.open)
-    (refl, c.requires.written, c.requires.unfinished) in
+    (refl, c.requires.written, c.requires.pending) in
     moved (g.R.Ring.shows c.read.new.self) c.args.number old (λ s. Serves copies c.args.self.now s xs × Rests c.args.self.now s) came.0 (after_read (Ok heard.NotNow) c.read.new.buf) came.1 came.2 refl
     (record { reads = serves.reads; answers = serves.answers }, inr (inr answered))
 

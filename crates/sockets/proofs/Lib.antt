@@ -1,0 +1,2 @@
+pub mod WorkLemmas
+pub mod ShowsLemmas

@@ -1,0 +1,7 @@
+use Rattle.sockets.proofs.WorkLemmas.{works_then}
+use Rattle.sockets.proofs.worker.Worker.attend_all.Goals as goal
+
+pub loop-number-preserved : goal.loop-number-preserved
+loop-number-preserved g c =
+    works_then g.B.Backend.gives g.B.Backend.copies c.args.self.now c.loop-number.self c.attend.new.self c.args.backend.now c.loop-number.backend c.attend.new.backend
+    c.loop-number.invariant c.attend.ensures

@@ -1,0 +1,7 @@
+use Rattle.sockets.proofs.WorkLemmas.{works_then}
+use Rattle.sockets.proofs.worker.Worker.attend_each.Goals as goal
+
+pub loop-preserved : goal.loop-preserved
+loop-preserved g c =
+    works_then g.B.Backend.gives g.B.Backend.copies c.args.self.now c.loop.self c.attend.new.self c.args.backend.now c.loop.backend c.attend.new.backend
+    c.loop.invariant c.attend.ensures

@@ -1,0 +1,30 @@
+-- What becomes of a worker's connections.
+use Rattle.std.specs.Prelude.{ℕ, Option}
+use Rattle.httpask.specs.declared.ask.Call.{Call}
+use Rattle.httpreply.specs.declared.reply.Reply.{Reply}
+use Rattle.hall.specs.Sockets.{Sockets}
+use Rattle.hall.specs.Halls.{Log, AllStand, HallStands, seat_at}
+use Rattle.hall.specs.declared.seat.Seat.{Seat}
+use Rattle.sockets.specs.Shows.{Shows}
+use Rattle.sockets.specs.declared.worker.Worker.{Worker}
+
+-- the seats of the connections of a worker
+abbrev pub seats_of : Worker → ℕ → Option Seat
+seats_of worker = seat_at worker.hall
+
+-- its sockets came to this, as far as is known
+abbrev pub shows : Worker → Sockets → Type 0
+shows worker sockets = Shows worker.sockets.next sockets
+
+-- no call was made, and all connections stand as before, or ended
+abbrev pub Stays : Worker → Worker → Type 0
+Stays old new =
+    (copies : ℕ) (log : Log) (s : Sockets) → shows old s → AllStand copies log s (seats_of old)
+    → (t : Sockets) × shows new t × AllStand copies log t (seats_of new)
+
+module _ {B : Type 0} (gives : B → Call → Reply → B → Type 0) (copies : B → ℕ) where
+  -- where the hall stood, it stands again: one log has the calls of all connections
+  abbrev pub Works : Worker → Worker → B → B → Type 0
+  Works old new from now =
+      (start : B) (s : Sockets) → shows old s → HallStands gives copies start from s (seats_of old)
+      → (t : Sockets) × shows new t × HallStands gives copies start now t (seats_of new)

@@ -1,0 +1,22 @@
+//! The sockets of one worker that has many connections, over `mio`: a [`Worker`] has a hall, its sockets and their limits of time; an
+//! [`Inlet`] is where a thread that accepts hands connections over to it.
+//!
+//! For those who write the threads around it:
+//! - A worker's thread calls [`Inlet::begin`], then [`Worker::turn`] until `open` is 0 and no more come, and [`Inlet::end`] before its last
+//!   turn: that turn takes what was offered before.
+//! - `Turned::lacks` counts the connections that ended for want of memory since the turn before.
+//! - Times are those of `Orders::now`. A wait may be as long as `most`: a limit of time is never short, and late by a wait and a second at
+//!   the most.
+#![tactic(auto)]
+
+mod inlet;
+mod limits;
+mod line;
+mod orders;
+mod sockets;
+mod worker;
+
+pub use inlet::Inlet;
+pub use limits::Watch;
+pub use orders::{Orders, Stance, Turned};
+pub use worker::{Worker, open};
