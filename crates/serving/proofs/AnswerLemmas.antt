@@ -28,9 +28,10 @@ use Rattle.peers.specs.Calls.{Made}
 use Rattle.local.specs.Locals.{LocalView, LocalStep}
 use Rattle.quorum.specs.declared.fault.QuorumFault.{QuorumFault}
 use Rattle.quorum.specs.declared.fault.ResolveFault.{ResolveFault}
+use Rattle.quorum.specs.declared.fault.Unfit.{Unfit}
 use Rattle.quorum.specs.Gets.{reads, answers, states_of}
 use Rattle.quorum.specs.Puts.{StoresCopies}
-use Rattle.quorum.specs.Resolves.{AfterLookUp, EndsAt, IsResolve, state_told}
+use Rattle.quorum.specs.Resolves.{AfterLookUp, EndsAt, IsResolve, IsUnfit, UnfitOf, state_told}
 use Rattle.quorum.proofs.StoredLemmas.{if_stored}
 use Rattle.repair.specs.Repairs.{deliveries, tries}
 use Rattle.httpask.specs.declared.ask.Change.{Change}
@@ -87,6 +88,18 @@ resolve_on changes old new shows at coordinator key answers clock listed sibling
     by_count true (found, finds, rest) = let one = finds_one changes old shows at key.bucket Resolver found new finds in ((found, one.0, rest), one.1)
     by_count false (is, ends) = ((refl, ends), subst (λ s. Shows changes s) (sym is) shows)
 
+unfit_on : (changes : List registry.Change) (old new : Shown) → Shows changes old
+    → (at : (changes : List registry.Change) (shown : Shown) (bucket : List ℕ) (kind : ImageKind) → Shows changes shown → hook_in shown bucket kind ≡ hook_at changes bucket kind)
+    → (key : Key) (listed : List helper.Entry) (siblings : List Sibling) (unfit : Option Unfit)
+    → IsUnfit (λ before answer after. FindsIn before key.bucket Resolver answer after) old new listed siblings unfit
+    → IsUnfit (λ before answer after. FindsAt before key.bucket Resolver answer after) changes changes listed siblings unfit
+unfit_on changes old new shows at key listed siblings unfit is = by_count (nat_le 2 (length siblings)) is
+  where
+    by_count : (b : Bool) → MatchBool b ((found : Result (Option Program) NotSeen) × FindsIn old key.bucket Resolver found new × UnfitOf listed siblings found unfit) (unfit ≡ None)
+        → MatchBool b ((found : Result (Option Program) NotSeen) × FindsAt changes key.bucket Resolver found changes × UnfitOf listed siblings found unfit) (unfit ≡ None)
+    by_count true (found, finds, rest) = (found, (finds_one changes old shows at key.bucket Resolver found new finds).0, rest)
+    by_count false is = is
+
 module _ (add : (changes : List registry.Change) (change : registry.Change) (old new : Shown) → Shows changes old → ChangesBy old new change → Shows (changes ++ change ∷ []) new)
     (at_changes : (changes : List registry.Change) (shown : Shown) (bucket : List ℕ) (kind : ImageKind) → Shows changes shown → hook_in shown bucket kind ≡ hook_at changes bucket kind)
     (more : (vnode : ℕ) (journal : List Entry) (e : Entry) → IsJournal vnode (journal ++ e ∷ []) ↔ (IsJournal vnode journal × MayFollow vnode journal e))
@@ -102,22 +115,23 @@ module _ (add : (changes : List registry.Change) (change : registry.Change) (old
 
   module _ (key : Key) (r at : ℕ) where
     get_leads : (result : Result State QuorumFault) → Gets LocalStep FindsIn old key r at result new → Leads old changes (ask.Get key r at) (Got result) new
-    get_leads result (backs, read, Err fault, made, gave, (is, peers, hooks), kept) = (
+    get_leads result (backs, read, Err fault, made, gave, (is, peers, hooks, noted), kept) = (
       changes,
       record {
-        gives = gets key r at result (backs, read, Err fault, made, gave, (is, peers, refl), kept);
+        gives = gets key r at result (backs, read, Err fault, made, gave, (is, peers, refl, noted), kept);
         tells = subst (λ (x : Result State QuorumFault). Tells (past old changes) (past new changes) (ask.Get key r at) (Got x)) (sym is) tt;
       },
       none_made changes,
       same_hooks hooks,
       subst (λ (p : LocalView). AreJournals p.logs × GoOn old.peers.logs p.logs) (sym peers) (made_goes more old.peers read (reads key (list old key) backs) are made),
     )
-    get_leads result (backs, read, Ok found, made, gave, (backs_2, repaired, calls, told, made_2, each, made_3, resolves, is), kept) =
+    get_leads result (backs, read, Ok found, made, gave, (backs_2, repaired, calls, told, unfit, made_2, each, made_3, resolves, unfits, is, noted), kept) =
         let at_read = made_goes more old.peers read (reads key (list old key) backs) are made in
         let at_repair = made_goes more read repaired (tries key (deliveries found.1.items) backs_2) at_read.0 made_2 in
         let began = go_far old.peers.logs read.logs repaired.logs at_read.1 at_repair.1 in
         let at_end = made_goes more repaired new.peers calls at_repair.0 made_3 in
         let resolved = resolve_on changes old.hooks new.hooks shows at_changes (coordinator old key at) key found.1.items found.0.clock old.listed found.0.siblings calls told resolves in
+        let failed = unfit_on changes old.hooks new.hooks shows at_changes key old.listed found.0.siblings unfit unfits in
         let came = read_all key old.peers old.peers read (list old key) backs (all_same key old.peers.logs) gave.0.0 made in
         let count : length came.0 ≡ length (answers backs) = journals_count key came.0 (states_of (answers backs)) came.2 ∙ length-map (answers backs) (λ (a : Answer). a.state) in
         let current : IsCurrent (past old changes) (past new changes) key r at (state_told found.0 told) = record {
@@ -130,7 +144,7 @@ module _ (add : (changes : List registry.Change) (change : registry.Change) (old
         } in (
           changes,
           record {
-            gives = gets key r at result (backs, read, Ok found, made, gave, (backs_2, repaired, calls, told, made_2, each, made_3, resolved.0, is), kept);
+            gives = gets key r at result (backs, read, Ok found, made, gave, (backs_2, repaired, calls, told, unfit, made_2, each, made_3, resolved.0, failed, is, noted), kept);
             tells = subst (λ (x : Result State QuorumFault). Tells (past old changes) (past new changes) (ask.Get key r at) (Got x)) (sym is) current;
           },
           none_made changes,
@@ -148,11 +162,11 @@ module _ (add : (changes : List registry.Change) (change : registry.Change) (old
     put_tells found calls (Err fault) made stored = tt
 
     put_leads : (result : Result Dot QuorumFault) → Puts LocalStep FindsIn old key seen content w at result new → Leads old changes (ask.Put key seen content w at) (Stored result) new
-    put_leads result (found, calls, finds, made, judged, kept) =
+    put_leads result (found, calls, finds, made, judged, kept, noted) =
         let one = finds_one changes old.hooks shows at_changes key.bucket PreCommit found new.hooks finds in (
           changes,
           record {
-            gives = puts key seen content w at result (found, calls, one.0, made, judged, kept);
+            gives = puts key seen content w at result (found, calls, one.0, made, judged, kept, noted);
             tells = put_tells found calls result made (if_stored (coordinator old key at) (the_others old key at) key w seen old.listed content LocalStep old.peers new.peers found calls result made judged);
           },
           none_made changes,

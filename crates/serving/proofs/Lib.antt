@@ -6,3 +6,4 @@ mod PutLemmas
 mod GetLemmas
 mod AnswerLemmas
 mod RunLemmas
+mod TogetherLemmas

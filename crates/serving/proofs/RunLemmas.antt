@@ -49,7 +49,7 @@ module _ (add : (changes : List Change) (change : Change) (old new : Shown) → 
       let lead = call_leads add at_changes more siblings clock merges (now_of old) (now_of new) changes shows are call reply (is_store.calls old new call reply given) in
       (lead.0, lead.1, record { made = lead.2.0; behind = lead.2.1; shows = lead.3; are = lead.4.0; go_on = lead.4.1 })
 
-  runs_lead : (old new : B) (changes : List Change) (xs : List Exchange) → Shows changes (now_of old).hooks → AreJournals (now_of old).peers.logs → Runs Given old xs new
+  pub runs_lead : (old new : B) (changes : List Change) (xs : List Exchange) → Shows changes (now_of old).hooks → AreJournals (now_of old).peers.logs → Runs Given old xs new
       → (after : List Change) × Runs Answers (past (now_of old) changes) xs (past (now_of new) after) × Follows (now_of old) (now_of new) changes after
   runs_lead old new changes [] shows are is = (changes, ap (λ (s : B). past (now_of s) changes) is, same_store old new changes shows are is)
   runs_lead old new changes (x ∷ xs) shows are (mid, does, runs) =

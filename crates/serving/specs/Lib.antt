@@ -5,3 +5,4 @@ pub mod Stores
 pub mod Writes
 pub mod Reads
 pub mod Exchanges
+pub mod Together

@@ -15,4 +15,4 @@ Past = StoreView LocalView (List Change)
 
 -- the past of a store whose hooks these changes made
 abbrev pub past : Now → List Change → Past
-past now changes = shown now.peers changes now.listed now.placement
+past now changes = shown now.peers changes now.listed now.placement now.noted

@@ -20,5 +20,5 @@ pub fn fresh_vnodes_have_journals()
 
 /// A store on the vnodes of one thread and a registry is one of one thread, so [`serve`](crate::serve) says of it what it says of these.
 pub fn stores_are_of_one_thread(_store: &Store<Local, Registry>)
-    ensures { IsOfOneThread ⟦<Store<Local, Registry> as Backend>⟧.gives ⟦<Store<Local, Registry> as Backend>⟧.copies (λ s. shown s.peers s.hooking.hooks s.hooking.table.listed s.placement) }
+    ensures { IsOfOneThread ⟦<Store<Local, Registry> as Backend>⟧.gives ⟦<Store<Local, Registry> as Backend>⟧.copies (λ s. shown s.peers s.hooking.hooks s.hooking.table.listed s.placement s.noted.kinds) }
 {}

@@ -7,8 +7,10 @@
 pub mod laws;
 mod opening;
 mod serving;
+mod together;
 mod whole;
 
 pub use opening::one_thread;
 pub use serving::serve;
+pub use together::{Arrival, Delivery, answer_all};
 pub use whole::answers_to;

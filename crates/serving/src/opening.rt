@@ -2,6 +2,7 @@
 
 ghost use Rattle.std.specs.Prelude.{◌≡◌, ◌<◌, ◌^◌, [], length};
 ghost use Rattle.hooks.specs.Tables.{Shows};
+ghost use Rattle.troubles.specs.Notes.{no_notes};
 
 use helpers::Table;
 use hooks::Registry;
@@ -18,6 +19,7 @@ pub fn one_thread(alloc: Global, vnodes: Local, table: Table) -> Store<Local, Re
     ensures hooks { Shows [] result.hooking.hooks }
     ensures table { result.hooking.table ≡ table }
     ensures placement { result.placement ≡ record { vnodes = length vnodes.logs; first = vnodes.first } }
+    ensures noted { result.noted.kinds ≡ no_notes }
 {
     let placement = vnodes.placement();
     let hooking = Hooking::new(alloc, Registry::new(alloc), table);

@@ -15,10 +15,13 @@ use Rattle.peers.specs.Calls.{Call, Made}
 use Rattle.place.specs.Places.{place_in, preferred, vnode_at, others}
 use Rattle.quorum.specs.declared.fault.QuorumFault.{QuorumFault}
 use Rattle.quorum.specs.declared.fault.ResolveFault.{ResolveFault}
+use Rattle.quorum.specs.declared.fault.Unfit.{Unfit}
 use Rattle.quorum.specs.Gets.{reads, GetsAnswer}
 use Rattle.quorum.specs.Judged.{IsJudgedPut}
-use Rattle.quorum.specs.Resolves.{IsResolve, state_told}
+use Rattle.quorum.specs.Resolves.{IsResolve, IsUnfit, cut_of, state_told}
 use Rattle.repair.specs.Repairs.{deliveries, tries}
+use Rattle.troubles.specs.Notes.{noted_of}
+use Rattle.store.specs.Noting.{of_fault, of_put, of_resolver}
 use Rattle.store.specs.View.{StoreView}
 
 -- what no call changes: the helpers that hooks may call, and where keys stand
@@ -41,15 +44,16 @@ module _ {P H : Type 0} (old : StoreView P H) (key : Key) where
   the_others at = others place at old.placement.vnodes
 
 module _ {P H : Type 0} (happens : P → Call → P → Type 0) (finds : H → List ℕ → ImageKind → Result (Option Program) NotSeen → H → Type 0) where
-  -- what follows the reads of a get: read repair, then the bucket's resolver
+  -- what follows the reads of a get: read repair, then the bucket's resolver; what went wrong is noted, as its answer or the resolver's run shows it
   abbrev pub AfterReads : StoreView P H → Key → ℕ → P → Result (State × Vec Answer) QuorumFault → Result State QuorumFault → StoreView P H → Type 0
-  AfterReads old key at read (Err fault) result new = (result ≡ Err fault) × (new.peers ≡ read) × (new.hooks ≡ old.hooks)
+  AfterReads old key at read (Err fault) result new = (result ≡ Err fault) × (new.peers ≡ read) × (new.hooks ≡ old.hooks) × (new.noted ≡ noted_of old.noted (of_fault fault) key.bucket)
   AfterReads old key at read (Ok found) result new =
-      (backs : List (Result Bool PeerFault)) × (repaired : P) × (calls : List Call) × (told : Result (Option State) ResolveFault)
+      (backs : List (Result Bool PeerFault)) × (repaired : P) × (calls : List Call) × (told : Result (Option State) ResolveFault) × (unfit : Option Unfit)
       × Made happens read (tries key (deliveries found.1.items) backs) repaired × (length backs ≡ length (deliveries found.1.items))
       × Made happens repaired calls new.peers
       × IsResolve (coordinator old key at) key found.1.items found.0.clock (λ before answer after. finds before key.bucket Resolver answer after) old.hooks new.hooks old.listed found.0.siblings calls told
-      × (result ≡ Ok (state_told found.0 told))
+      × IsUnfit (λ before answer after. finds before key.bucket Resolver answer after) old.hooks new.hooks old.listed found.0.siblings unfit
+      × (result ≡ Ok (state_told found.0 told)) × (new.noted ≡ noted_of old.noted (of_resolver (cut_of told) unfit) key.bucket)
 
   -- a read: each vnode of the list is read, and what follows
   abbrev pub Gets : StoreView P H → Key → ℕ → ℕ → Result State QuorumFault → StoreView P H → Type 0
@@ -58,10 +62,10 @@ module _ {P H : Type 0} (happens : P → Call → P → Type 0) (finds : H → L
       × Made happens old.peers (reads key (list old key) backs) read × GetsAnswer key (list old key) r backs merged
       × AfterReads old key at read merged result new × IsKept old new
 
-  -- a write, with the bucket's pre-commit hook in front
+  -- a write, with the bucket's pre-commit hook in front; where it is a trouble, that is noted
   abbrev pub Puts : StoreView P H → Key → List Dot → Content → ℕ → ℕ → Result Dot QuorumFault → StoreView P H → Type 0
   Puts old key seen content w at result new =
       (found : Result (Option Program) NotSeen) × (calls : List Call) × finds old.hooks key.bucket PreCommit found new.hooks
       × Made happens old.peers calls new.peers
       × IsJudgedPut old.listed (coordinator old key at) (the_others old key at) key w seen content found calls result
-      × IsKept old new
+      × IsKept old new × (new.noted ≡ noted_of old.noted (of_put result) key.bucket)

@@ -24,9 +24,9 @@ binding_of kind (Bound name) = (kind, Some name) ∷ []
 abbrev pub bindings_of : Change → Change → List registry.Binding
 bindings_of precommit resolver = binding_of PreCommit precommit ++ binding_of Resolver resolver
 
--- the hooks alone may have changed
+-- the hooks alone may have changed, and nothing is noted
 abbrev pub IsOfHooks : {P H : Type 0} → StoreView P H → StoreView P H → Type 0
-IsOfHooks old new = (new.peers ≡ old.peers) × IsKept old new
+IsOfHooks old new = (new.peers ≡ old.peers) × IsKept old new × (new.noted ≡ old.noted)
 
 module _ {P H : Type 0} (takes : H → registry.Change → Result Unit HookFault → H → Type 0) where
   -- what comes of an image: its program gets the name; or it is turned away, and nothing changes; or memory lacks, in the registry too

@@ -2,13 +2,15 @@
 use Rattle.std.specs.Prelude.{List}
 use Rattle.helpers.specs.declared.sig.Entry.{Entry}
 use Rattle.place.specs.Places.{PlacementView}
+use Rattle.troubles.specs.declared.noted.Note.{Note}
 
--- the vnodes and the hooks, as whoever stands for them, the helpers that hooks may call, and where keys stand
+-- the vnodes and the hooks, as whoever stands for them, the helpers that hooks may call, where keys stand, and what is noted of troubles
 pub record StoreView (P H : Type 0) : Type 0 where
   pub peers : P
   pub hooks : H
   pub listed : List Entry
   pub placement : PlacementView
+  pub noted : List Note
 
-abbrev pub shown : {P H : Type 0} → P → H → List Entry → PlacementView → StoreView P H
-shown peers hooks listed placement = record { peers = peers; hooks = hooks; listed = listed; placement = placement }
+abbrev pub shown : {P H : Type 0} → P → H → List Entry → PlacementView → List Note → StoreView P H
+shown peers hooks listed placement noted = record { peers = peers; hooks = hooks; listed = listed; placement = placement; noted = noted }

@@ -19,11 +19,11 @@ use quorum::QuorumFault;
 impl<P: Peers, H: Hooks + HookChanges> Backend for Store<P, H> {
     ghost use Rattle.store.specs.Gives.{gives_keep};
 
-    ghost gives = { λ old call reply new. Gives P.happens H.finds H.names H.takes (shown old.peers old.hooking.hooks old.hooking.table.listed old.placement) (shown new.peers new.hooking.hooks new.hooking.table.listed new.placement) call reply };
+    ghost gives = { λ old call reply new. Gives P.happens H.finds H.names H.takes (shown old.peers old.hooking.hooks old.hooking.table.listed old.placement old.noted.kinds) (shown new.peers new.hooking.hooks new.hooking.table.listed new.placement new.noted.kinds) call reply };
 
     ghost copies = { λ s. copies_of s.placement.vnodes };
 
-    ghost stays = { λ old new call reply h. gives_keep P.happens H.finds H.names H.takes (shown old.peers old.hooking.hooks old.hooking.table.listed old.placement) (shown new.peers new.hooking.hooks new.hooking.table.listed new.placement) call reply h };
+    ghost stays = { λ old new call reply h. gives_keep P.happens H.finds H.names H.takes (shown old.peers old.hooking.hooks old.hooking.table.listed old.placement old.noted.kinds) (shown new.peers new.hooking.hooks new.hooking.table.listed new.placement new.noted.kinds) call reply h };
 
     fn copies(&self) -> u32 {
         Store::copies(self)

@@ -18,7 +18,7 @@ impl<P, H: HookChanges> Store<P, H> {
     ///
     /// Refused as [`admit_image`] refuses the image, `NoMemory` too where memory lacks here.
     pub fn install(&mut self, name: &Bytes, image: &[u8]) -> Result<(), Refusal>
-        ensures { Installs H.takes (shown self.old.peers self.old.hooking.hooks self.old.hooking.table.listed self.old.placement) name.now image.now result (shown self.new.peers self.new.hooking.hooks self.new.hooking.table.listed self.new.placement) }
+        ensures { Installs H.takes (shown self.old.peers self.old.hooking.hooks self.old.hooking.table.listed self.old.placement self.old.noted.kinds) name.now image.now result (shown self.new.peers self.new.hooking.hooks self.new.hooking.table.listed self.new.placement self.new.noted.kinds) }
     {
         let verified = match admit_image(self.alloc, image, &self.hooking.table.listed) {
             Ok(verified) => verified,
@@ -40,7 +40,7 @@ impl<P, H: HookChanges> Store<P, H> {
     ///
     /// `NameUnknown` where no hook has the name.
     pub fn remove(&mut self, name: &Bytes) -> Result<(), HookFault>
-        ensures { Removes H.takes (shown self.old.peers self.old.hooking.hooks self.old.hooking.table.listed self.old.placement) name.now result (shown self.new.peers self.new.hooking.hooks self.new.hooking.table.listed self.new.placement) }
+        ensures { Removes H.takes (shown self.old.peers self.old.hooking.hooks self.old.hooking.table.listed self.old.placement self.old.noted.kinds) name.now result (shown self.new.peers self.new.hooking.hooks self.new.hooking.table.listed self.new.placement self.new.noted.kinds) }
     {
         self.hooking.hooks.remove(name)
     }
@@ -54,7 +54,7 @@ impl<P, H: HookChanges> Store<P, H> {
         precommit: &Change,
         resolver: &Change,
     ) -> Result<(), HookFault>
-        ensures { Binds H.takes (shown self.old.peers self.old.hooking.hooks self.old.hooking.table.listed self.old.placement) bucket.now precommit.now resolver.now result (shown self.new.peers self.new.hooking.hooks self.new.hooking.table.listed self.new.placement) }
+        ensures { Binds H.takes (shown self.old.peers self.old.hooking.hooks self.old.hooking.table.listed self.old.placement self.old.noted.kinds) bucket.now precommit.now resolver.now result (shown self.new.peers self.new.hooking.hooks self.new.hooking.table.listed self.new.placement self.new.noted.kinds) }
     {
         match bindings_of(self.alloc, precommit, resolver) {
             Ok(bindings) => self.hooking.hooks.bind(bucket, &bindings),
@@ -66,7 +66,7 @@ impl<P, H: HookChanges> Store<P, H> {
 impl<P, H: Hooks> Store<P, H> {
     /// The name of the hook that is bound to a bucket and a kind.
     pub fn bound(&mut self, bucket: &Bytes, kind: ImageKind) -> Result<Option<Bytes>, NameFault>
-        ensures { Names H.names (shown self.old.peers self.old.hooking.hooks self.old.hooking.table.listed self.old.placement) bucket.now kind result (shown self.new.peers self.new.hooking.hooks self.new.hooking.table.listed self.new.placement) }
+        ensures { Names H.names (shown self.old.peers self.old.hooking.hooks self.old.hooking.table.listed self.old.placement self.old.noted.kinds) bucket.now kind result (shown self.new.peers self.new.hooking.hooks self.new.hooking.table.listed self.new.placement self.new.noted.kinds) }
     {
         self.hooking.hooks.bound(bucket, kind)
     }

@@ -4,6 +4,7 @@
 
 mod backend;
 mod hooking;
+mod noting;
 mod store;
 
 pub use store::{Read, Store};

@@ -4,8 +4,11 @@ ghost use Rattle.std.specs.Prelude.{◌≡◌, ◌<◌, ◌≤◌, ℕ};
 ghost use Rattle.object.specs.Limits.{IsKey};
 ghost use Rattle.place.specs.Places.{copies_of, place_in};
 ghost use Rattle.store.specs.Calls.{Gets, Puts};
+ghost use Rattle.store.specs.Noting.{of_read};
 ghost use Rattle.store.specs.View.{shown};
+ghost use Rattle.troubles.specs.Notes.{no_notes, noted_of};
 
+use crate::noting::{of_fault, of_put, of_resolver};
 use dvv::{Clock, Dot};
 use hooks::Hooks;
 use object::{Content, Key, KeyState};
@@ -13,6 +16,8 @@ use peers::Peers;
 use place::{Placement, others, preferred, vnode_at};
 use quorum::{Hooking, QuorumFault, ResolveFault, Unfit};
 use std::alloc::Global;
+use std::mem;
+use troubles::Noted;
 
 /// What a read of a key comes to. Where the bucket's resolver wrote nothing though it was to, the siblings are answered, and why is told beside.
 #[derive(Drop)]
@@ -25,8 +30,8 @@ pub struct Read {
     pub unfit: Option<Unfit>,
 }
 
-/// Vnodes, the hooks of buckets with the helpers that they may call, and where keys stand. An index past the vnodes that there
-/// are is one that can't be reached.
+/// Vnodes, the hooks of buckets with the helpers that they may call, where keys stand, and what is noted of troubles. An index past
+/// the vnodes that there are is one that can't be reached.
 #[derive(Drop)]
 pub struct Store<P, H> {
     /// The vnodes, as whoever reaches them.
@@ -35,22 +40,38 @@ pub struct Store<P, H> {
     pub hooking: Hooking<H>,
     /// Where keys stand among the vnodes.
     pub placement: Placement,
+    /// What went wrong in reads and writes and isn't everyday, since it was taken last.
+    pub noted: Noted,
     pub(crate) alloc: Global,
 }
 
 impl<P, H> Store<P, H> {
-    /// A store of these vnodes and hooks.
+    /// A store of these vnodes and hooks, without a note of troubles.
     pub fn new(alloc: Global, peers: P, hooking: Hooking<H>, placement: Placement) -> Store<P, H>
         ensures peers { result.peers ≡ peers }
         ensures hooking { result.hooking ≡ hooking }
         ensures placement { result.placement ≡ placement }
+        ensures noted { result.noted.kinds ≡ no_notes }
     {
         Store {
             peers,
             hooking,
             placement,
+            noted: Noted::new(),
             alloc,
         }
+    }
+
+    /// Takes what is noted of troubles since it was taken last, and begins anew: how many reads and writes came to each, and the bucket of
+    /// the last. A pre-commit hook that rejects is no trouble, nor is a refusal that clients bring about; want of memory is one, in reads and writes.
+    pub fn take_troubles(&mut self) -> Noted
+        ensures taken { result ≡ self.old.noted }
+        ensures anew { self.new.noted.kinds ≡ no_notes }
+        ensures peers { self.new.peers ≡ self.old.peers }
+        ensures hooking { self.new.hooking ≡ self.old.hooking }
+        ensures placement { self.new.placement ≡ self.old.placement }
+    {
+        mem::replace(&mut self.noted, Noted::new())
     }
 
     /// How many copies of a key there are, 1 to 3.
@@ -77,7 +98,7 @@ impl<P: Peers, H: Hooks> Store<P, H> {
     pub fn get(&mut self, key: &Key, r: u32, at: u32) -> Result<KeyState, QuorumFault>
         requires key { IsKey key.now }
         requires at { at < copies_of self.old.placement.vnodes }
-        ensures { Gets P.happens H.finds (shown self.old.peers self.old.hooking.hooks self.old.hooking.table.listed self.old.placement) key.now r at result (shown self.new.peers self.new.hooking.hooks self.new.hooking.table.listed self.new.placement) }
+        ensures { Gets P.happens H.finds (shown self.old.peers self.old.hooking.hooks self.old.hooking.table.listed self.old.placement self.old.noted.kinds) key.now r at result (shown self.new.peers self.new.hooking.hooks self.new.hooking.table.listed self.new.placement self.new.noted.kinds) }
     {
         self.read(key, r, at).answer
     }
@@ -85,11 +106,14 @@ impl<P: Peers, H: Hooks> Store<P, H> {
     /// Reads a key at each vnode of its preference list, brings what came to those that it would change, and asks the bucket's
     /// resolver where siblings came. The vnode at the index `at` of the list coordinates.
     ///
-    /// As [`quorum::get`]: `TooFew` where fewer than `r` vnodes answered, else `Refused`. What was stored stays.
+    /// As [`quorum::get`]: `TooFew` where fewer than `r` vnodes answered, else `Refused`. What was stored stays. Want of memory is noted, and
+    /// a resolver that decides nothing or whose choice isn't written.
     pub fn read(&mut self, key: &Key, r: u32, at: u32) -> Read
         requires key { IsKey key.now }
         requires at { at < copies_of self.old.placement.vnodes }
-        ensures { Gets P.happens H.finds (shown self.old.peers self.old.hooking.hooks self.old.hooking.table.listed self.old.placement) key.now r at result.answer (shown self.new.peers self.new.hooking.hooks self.new.hooking.table.listed self.new.placement) }
+        ensures gets { Gets P.happens H.finds (shown self.old.peers self.old.hooking.hooks self.old.hooking.table.listed self.old.placement self.old.noted.kinds) key.now r at result.answer (shown self.new.peers self.new.hooking.hooks self.new.hooking.table.listed self.new.placement self.new.noted.kinds) }
+        // What is noted is what is answered here.
+        ensures noted { self.new.noted.kinds ≡ noted_of self.old.noted.kinds (of_read result.answer result.cut result.unfit) key.now.bucket }
     {
         let vnodes = self.placement.vnodes();
         let place = self.place_of(key);
@@ -113,24 +137,29 @@ impl<P: Peers, H: Hooks> Store<P, H> {
                     got,
                     &answers,
                 );
+                self.noted
+                    .note(of_resolver(resolved.cut, resolved.unfit), key.bucket());
                 Read {
                     answer: Ok(resolved.state),
                     cut: resolved.cut,
                     unfit: resolved.unfit,
                 }
             }
-            Err(fault) => Read {
-                answer: Err(fault),
-                cut: None,
-                unfit: None,
-            },
+            Err(fault) => {
+                self.noted.note(of_fault(fault), key.bucket());
+                Read {
+                    answer: Err(fault),
+                    cut: None,
+                    unfit: None,
+                }
+            }
         }
     }
 
     /// Puts a content, a tombstone too, as one who had seen what the clock counts. The vnode at the index `at` of the key's
     /// preference list coordinates.
     ///
-    /// Faults as [`quorum::put`]'s. What was stored stays.
+    /// Faults as [`quorum::put`]'s. What was stored stays. Want of memory is noted, and a pre-commit hook that decides nothing.
     pub fn put(
         &mut self,
         key: &Key,
@@ -141,12 +170,12 @@ impl<P: Peers, H: Hooks> Store<P, H> {
     ) -> Result<Dot, QuorumFault>
         requires key { IsKey key.now }
         requires at { at < copies_of self.old.placement.vnodes }
-        ensures { Puts P.happens H.finds (shown self.old.peers self.old.hooking.hooks self.old.hooking.table.listed self.old.placement) key.now seen.now content.now w at result (shown self.new.peers self.new.hooking.hooks self.new.hooking.table.listed self.new.placement) }
+        ensures { Puts P.happens H.finds (shown self.old.peers self.old.hooking.hooks self.old.hooking.table.listed self.old.placement self.old.noted.kinds) key.now seen.now content.now w at result (shown self.new.peers self.new.hooking.hooks self.new.hooking.table.listed self.new.placement self.new.noted.kinds) }
     {
         let vnodes = self.placement.vnodes();
         let place = self.place_of(key);
         let others = others(place, at, vnodes);
-        quorum::put(
+        let back = quorum::put(
             &mut self.peers,
             &mut self.hooking,
             vnode_at(place, at, vnodes),
@@ -155,6 +184,8 @@ impl<P: Peers, H: Hooks> Store<P, H> {
             seen,
             content,
             w as usize,
-        )
+        );
+        self.noted.note(of_put(&back), key.bucket());
+        back
     }
 }
