@@ -11,12 +11,15 @@ use Rattle.stamps.specs.declared.view.Told.{Told}
 use Rattle.stamps.specs.declared.view.View.{View}
 use Rattle.std.specs.List.{flat_map}
 use Rattle.std.proofs.lemmas.Grind.{flat_map-append}
-use Rattle.vnode_locks.specs.Gathers.{Stands, Differ, AreInTurn, all_handed}
+use Rattle.vnode_locks.specs.Gathers.{IsGathered, Stands, Differ, AreInTurn, all_handed}
 use Rattle.world.specs.Represents.{log_at}
 use Rattle.world.proofs.Lists.{Contains-nil, Contains-cases, Contains-first, Contains-later}
-use Rattle.rerun.specs.Interleaved.{IsInterleaving}
+use Rattle.rerun.specs.Runs.{IsRunFrom}
+use Rattle.rerun.proofs.Faultless.{faultless}
+use Rattle.findings.specs.declared.fault.WatchFault.{WatchFault}
+use Rattle.findings.specs.declared.fault.WatchFault.TheVariants.{Found, Lost, NoMemory}
 use Rattle.follow.specs.Waiting.{Taken, AreTakenAlike, taken_at, waiting_at}
-use Rattle.closing.specs.Following.{told_of, all_taken, HasTaken, AreFronts, IsTakenTo}
+use Rattle.closing.specs.Following.{told_of, all_taken, HasTaken, AreFronts, IsTakenTo, IsSaidOf, IsFollowedTo}
 
 -- ---- what was taken are fronts
 
@@ -87,9 +90,9 @@ all_followed old new logs followed waiting fronts taken alike size long =
         ap (λ (v : ℕ). let l : Log = record { vnode = v; entries = (log_at followed i).entries } in l) id ∙ ap (λ (es : List Entry). let l : Log = record { vnode = (log_at logs i).vnode; entries = es } in l) (entries i inside)
 
 -- so they are one run
-pub a_yes : (old new : Taken) (logs followed : List Log) (waiting : List (List Entry)) → AreFronts old logs → IsTakenTo old new logs (length logs) → AreTakenAlike new.followed new.waiting followed waiting → length followed ≡ length logs
-    → ((index : ℕ) → index < length logs → length (log_at followed index).entries ≡ length (log_at logs index).entries) → IsInterleaving followed → IsInterleaving logs
-a_yes old new logs followed waiting fronts taken alike size long run = subst (λ (ls : List Log). IsInterleaving ls) (all_followed old new logs followed waiting fronts taken alike size long) run
+pub a_yes : (fronts : List ℕ) (old new : Taken) (logs followed : List Log) (waiting : List (List Entry)) → AreFronts old logs → IsTakenTo old new logs (length logs) → AreTakenAlike new.followed new.waiting followed waiting → length followed ≡ length logs
+    → ((index : ℕ) → index < length logs → length (log_at followed index).entries ≡ length (log_at logs index).entries) → IsRunFrom fronts followed → IsRunFrom fronts logs
+a_yes fronts old new logs followed waiting are taken alike size long run = subst (λ (ls : List Log). IsRunFrom fronts ls) (all_followed old new logs followed waiting are taken alike size long) run
 
 -- ---- step by step
 
@@ -116,3 +119,10 @@ pushed passes all pass (Err e) refused told is all_is = absurd (let clash : fals
 pub told_last : (passes all : List View) (pass : View) (told : List Told) → all ≡ passes ++ pass ∷ [] → pass.told ≡ told → flat_map (λ (p : View). p.told) all ≡ flat_map (λ (p : View). p.told) passes ++ told
 told_last passes all pass told is same =
     ap (λ (ps : List View). flat_map (λ (p : View). p.told) ps) is ∙ flat_map-append (λ (p : View). p.told) passes (pass ∷ []) ∙ ap (λ (ts : List Told). flat_map (λ (p : View). p.told) passes ++ ts) (append-nil pass.told ∙ same)
+
+-- what is said of gathered journals of which nothing was there before
+pub said_at_end : (told : List Told) (vnodes : ℕ) (logs : List Log) (r : Result (Unit {0}) WatchFault) → IsGathered told logs → length logs ≡ vnodes → IsSaidOf [] logs r → IsFollowedTo told vnodes r
+said_at_end told vnodes logs (Ok done) gathered size said = (logs, gathered, size, said.whole refl, faultless logs said)
+said_at_end told vnodes logs (Err (Found fault)) gathered size said = said
+said_at_end told vnodes logs (Err Lost) gathered size said = tt
+said_at_end told vnodes logs (Err NoMemory) gathered size said = tt

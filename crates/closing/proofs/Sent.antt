@@ -23,7 +23,7 @@ vnode_send : IsSend Vnode.the_row
 vnode_send = search (key.the_send, state.the_send, journal_send, BTreeMap-send, sendable) depth 40
 
 rerun_send : IsSend Rerun.the_row
-rerun_send = search (vnode_send, key.the_send, state.the_send, sendable, crosses) depth 60
+rerun_send = search (vnode_send, key.the_send, state.the_send, sendable, crosses) depth 60 fits 20000
 
 pub follower_send : IsSend Follower.the_row
 follower_send = search (rerun_send, entry.the_send, sendable, crosses) depth 60

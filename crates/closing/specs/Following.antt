@@ -1,12 +1,12 @@
 -- What is said of the journals of a gathered cluster that was followed while it served (this store's profile).
-use Rattle.std.specs.Prelude.{◌≡◌, ◌<◌, ◌≤◌, ◌+◌, ◌==◌, ℕ, List, ◌++◌, drop, filter, length, Result, Ok, Err}
+use Rattle.std.specs.Prelude.{◌≡◌, ◌<◌, ◌≤◌, ◌+◌, ◌==◌, ℕ, List, [], ◌++◌, drop, filter, length, Result, Ok, Err}
 use Rattle.journal.specs.Entry.{Entry}
 use Rattle.journal.specs.Logs.{Log}
 use Rattle.stamps.specs.declared.view.Told.{Told}
 use Rattle.vnode_locks.specs.Gathers.{IsGathered, AreInTurn, all_handed}
 use Rattle.rerun.specs.Faulty.{IsFaultless}
 use Rattle.rerun.specs.Interleaved.{IsInterleaving}
-use Rattle.rerun.specs.Rerun.{AreJournals}
+use Rattle.rerun.specs.Runs.{IsRunFrom}
 use Rattle.world.specs.Represents.{log_at}
 use Rattle.follow.specs.Stops.{HasStopped}
 use Rattle.follow.specs.Waiting.{Taken, taken_at, waiting_at}
@@ -17,11 +17,20 @@ use Rattle.findings.specs.declared.fault.WatchFault.TheVariants.{Found, Lost, No
 abbrev pub answers_kept : ℕ
 answers_kept = 16384
 
--- Where it is said that the journals are one run, it is said of so many journals that hold what was told, each of it once: they are one run of the world, and
--- no fault stands anywhere. A fault that was found is so of what was taken. Entries that weren't taken and want of memory say nothing of them.
+-- Where it is said of journals that they are one run, they are one from their fronts on, for each beginning of the world that has led to these. A fault that
+-- was found is so of what was taken. Entries that weren't taken, other fronts and want of memory say nothing of them.
+abbrev pub IsSaidOf : List ℕ → List Log → Result (Unit {0}) WatchFault → Type 0
+IsSaidOf fronts logs (Ok all) = IsRunFrom fronts logs
+IsSaidOf fronts logs (Err (Found fault)) = HasStopped fronts answers_kept fault
+IsSaidOf fronts logs (Err Lost) = Unit {0}
+IsSaidOf fronts logs (Err NoMemory) = Unit {0}
+
+-- Where it is said that the journals are one run, it is said of so many journals that hold what was told, each of it once: they are one run of the world, of which
+-- nothing was there before, and no fault stands anywhere. A fault that was found is so of what was taken. Entries that weren't taken and want of memory say nothing of
+-- them.
 abbrev pub IsFollowedTo : List Told → ℕ → Result (Unit {0}) WatchFault → Type 0
 IsFollowedTo told vnodes (Ok all) = (logs : List Log) × IsGathered told logs × (length logs ≡ vnodes) × IsInterleaving logs × IsFaultless logs
-IsFollowedTo told vnodes (Err (Found fault)) = HasStopped answers_kept fault
+IsFollowedTo told vnodes (Err (Found fault)) = HasStopped [] answers_kept fault
 IsFollowedTo told vnodes (Err Lost) = Unit {0}
 IsFollowedTo told vnodes (Err NoMemory) = Unit {0}
 
@@ -77,13 +86,6 @@ pub record IsTakenTo (old new : Taken) (logs : List Log) (n : ℕ) : Type 0 wher
   pub waits : (index : ℕ) → index < n → waiting_at new.waiting index ≡ waiting_at old.waiting index ++ drop (taken_at old index) (log_at logs index).entries
   pub others : (index : ℕ) → n ≤ index → waiting_at new.waiting index ≡ waiting_at old.waiting index
 
--- as many entries were followed of each vnode as its journal has, which is that of a vnode
+-- as many entries were followed of each vnode as its journal has
 abbrev pub IsLong : Taken → List Log → Type 0
-IsLong taken logs = (length taken.followed ≡ length logs) × ((index : ℕ) → index < length logs → length (log_at taken.followed index).entries ≡ length (log_at logs index).entries) × AreJournals logs
-
--- of these journals it is said that they are one run of the world, and each that of a vnode; or a fault that was found
-abbrev pub IsEndOf : List Log → Result (Unit {0}) WatchFault → Type 0
-IsEndOf logs (Ok all) = IsInterleaving logs × AreJournals logs
-IsEndOf logs (Err (Found fault)) = HasStopped answers_kept fault
-IsEndOf logs (Err Lost) = Unit {0}
-IsEndOf logs (Err NoMemory) = Unit {0}
+IsLong taken logs = (length taken.followed ≡ length logs) × ((index : ℕ) → index < length logs → length (log_at taken.followed index).entries ≡ length (log_at logs index).entries)

@@ -1,30 +1,62 @@
 //! The end of a cluster that was followed.
 
-ghost use Rattle.std.specs.Prelude.{◌≡◌, ◌≤◌, ◌+◌, ◌++◌, length, true, vec_len, None, OnOk, IfErr, IsTrue};
+ghost use Rattle.std.specs.Prelude.{◌≡◌, ◌≤◌, ◌+◌, ◌++◌, length, true, vec_len, None, OnOk, IfOk, IfErr, IsTrue};
 ghost use Rattle.std.specs.List.{flat_map};
 ghost use Rattle.findings.specs.Unsaid.{IsNoYes};
-ghost use Rattle.closing.specs.Following.{AreFronts, IsEndOf, IsFollowedTo, IsLong, IsTakenTo, answers_kept};
+ghost use Rattle.vnode_locks.specs.Gathers.{IsGathered};
+ghost use Rattle.closing.specs.Following.{AreFronts, IsFollowedTo, IsLong, IsSaidOf, IsTakenTo, answers_kept};
 
 use crate::copying::rest_of;
 use crate::watch::{Spot, Watch};
-use findings::{Followed, WatchFault};
+use findings::{Followed, TakeFault, WatchFault};
 use follow::Follower;
 use pool::{Cluster, Pass, Room, hand_outs_are_a_front};
-use std::alloc::Global;
+use std::alloc::{AllocError, Global};
 use vnode::Vnode;
 
-/// Gathers a cluster, all of whose passes are back, the watch's too, and has what is left of the journals of its vnodes followed.
+/// A cluster that has ended: its vnodes, and what is said of their journals.
+#[derive(Drop)]
+pub struct Closed {
+    /// The vnodes, in the order of their identifiers.
+    pub vnodes: Vec<Vnode>,
+    /// That the journals are one run, or why it isn't found.
+    pub said: Followed,
+}
+
+/// Gathers a cluster, all of whose passes are back, the watch's too, and has what is left of the journals of its vnodes followed. Nothing was there before: the
+/// journals are one run from their first entries on.
 ///
 /// The fault is the follower's, which may have found it while the cluster served. `Lost` where it didn't take all that the vnodes handed
-/// out, or follows others. `NoMemory` where a growth was refused.
+/// out, or follows others, or began from fronts. `NoMemory` where a growth was refused.
 pub fn close_watched<B: Room + Spot>(
     alloc: Global,
     cluster: Cluster<B>,
-    mut passes: Vec<Pass<B>>,
+    passes: Vec<Pass<B>>,
     watch: Watch<B>,
 ) -> Followed
     requires back { cluster.passes ≤ vec_len passes + 1 }
     ensures followed { IsFollowedTo (flat_map (λ p. p.told) passes.items ++ watch.told) cluster.vnodes result }
+{
+    match close_keeping(alloc, cluster, passes, watch, &[]) {
+        Ok(closed) => closed.said,
+        Err(_) => Err(WatchFault::NoMemory),
+    }
+}
+
+/// The same of a cluster of which so many of the first entries of each vnode, by index, were there before: its front, from which the watch began. The journals are one
+/// run from there on, for each beginning that has led to the fronts. The vnodes are handed back, whatever is said of them.
+///
+/// What is said is `Lost`, too, where the watch began from other fronts. `AllocError` where a growth was refused before the vnodes were gathered: they are lost.
+pub fn close_keeping<B: Room + Spot>(
+    alloc: Global,
+    cluster: Cluster<B>,
+    mut passes: Vec<Pass<B>>,
+    watch: Watch<B>,
+    fronts: &[usize],
+) -> Result<Closed, AllocError>
+    requires back { cluster.passes ≤ vec_len passes + 1 }
+    ensures kept { IfOk result (λ closed. IsGathered (flat_map (λ p. p.told) passes.items ++ watch.told) closed.vnodes.items × (vec_len closed.vnodes ≡ cluster.vnodes)) }
+    ensures said { IfOk result (λ closed. IsSaidOf fronts.now closed.vnodes.items closed.said) }
 {
     let Watch {
         pass,
@@ -32,19 +64,38 @@ pub fn close_watched<B: Room + Spot>(
         lost,
         ..
     } = watch;
+    passes.push(pass)?;
+    hand_outs_are_a_front();
+    match cluster.gather(passes) {
+        Ok(vnodes) => {
+            let said = say(alloc, &mut follower, lost, &vnodes, fronts);
+            Ok(Closed { vnodes, said })
+        }
+        Err(_) => Err(AllocError),
+    }
+}
+
+// What is said of the journals of vnodes, from their fronts on.
+fn say(
+    alloc: Global,
+    follower: &mut Follower,
+    lost: Option<TakeFault>,
+    vnodes: &[Vnode],
+    fronts: &[usize],
+) -> Followed
+    requires fronts { lost ≡ None → follower.old.fault ≡ None → AreFronts follower.old vnodes.now }
+    requires recent { follower.old.recent ≡ answers_kept }
+    ensures said { IsSaidOf fronts.now vnodes.now result }
+{
+    if follower.fronts() != fronts {
+        return Err(WatchFault::Lost);
+    }
     if let Some(fault) = follower.fault() {
         return Err(WatchFault::Found(fault));
     }
-    if let Some(why) = lost {
-        return Err(WatchFault::from(why));
-    }
-    if passes.push(pass).is_err() {
-        return Err(WatchFault::NoMemory);
-    }
-    hand_outs_are_a_front();
-    match cluster.gather(passes) {
-        Ok(vnodes) => follow_rest(alloc, &mut follower, &vnodes),
-        Err(_) => Err(WatchFault::NoMemory),
+    match lost {
+        Some(why) => Err(WatchFault::from(why)),
+        None => follow_rest(alloc, follower, vnodes),
     }
 }
 
@@ -53,7 +104,7 @@ fn follow_rest(alloc: Global, follower: &mut Follower, vnodes: &[Vnode]) -> Foll
     requires fronts { AreFronts follower.old vnodes.now }
     requires none { follower.old.fault ≡ None }
     requires recent { follower.old.recent ≡ answers_kept }
-    ensures end { IsEndOf vnodes.now result }
+    ensures said { IsSaidOf follower.old.fronts vnodes.now result }
 {
     take_rest(alloc, follower, vnodes)?;
     follower.follow(u64::MAX)?;
@@ -67,7 +118,7 @@ fn follow_rest(alloc: Global, follower: &mut Follower, vnodes: &[Vnode]) -> Foll
 // Takes what is left of the journals of vnodes, which are those that are followed.
 fn take_rest(alloc: Global, follower: &mut Follower, vnodes: &[Vnode]) -> Result<(), WatchFault>
     ensures taken { OnOk result (IsTakenTo follower.old follower.new vnodes.now (length vnodes.now)) }
-    ensures same { OnOk result ((follower.new.fault ≡ follower.old.fault) × (follower.new.recent ≡ follower.old.recent)) }
+    ensures same { OnOk result ((follower.new.fault ≡ follower.old.fault) × (follower.new.recent ≡ follower.old.recent) × (follower.new.fronts ≡ follower.old.fronts)) }
     ensures err { IfErr result IsNoYes }
 {
     for index in 0..vnodes.len() {

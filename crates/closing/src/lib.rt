@@ -8,6 +8,6 @@ mod ending;
 mod watch;
 
 pub use closing::{Audited, CloseFault, audit_vnodes};
-pub use ending::close_watched;
+pub use ending::{Closed, close_keeping, close_watched};
 pub use findings::{Followed, WatchFault};
 pub use watch::{Alarm, Notice, RECENT, Spot, Watch};

@@ -1,9 +1,10 @@
 //! A follower beside a cluster that serves.
 
-ghost use Rattle.std.specs.Prelude.{◌≡◌, ◌+◌, ◌<◌, ◌≤◌, ◌^◌, ℕ, [], All, IfOk, MatchBool, OnOk, length, vec_len};
+ghost use Rattle.std.specs.Prelude.{◌≡◌, ◌+◌, ◌<◌, ◌≤◌, ◌^◌, ◌↔◌, ℕ, [], None, All, IfOk, IfSome, MatchBool, OnOk, length, vec_len};
 ghost use Rattle.vnode_locks.specs.Calls.{pass_view};
 ghost use Rattle.journal.specs.Blocks.{all_of};
 ghost use Rattle.follow.specs.Waiting.{count_waiting};
+ghost use Rattle.world.specs.Represents.{log_at};
 ghost use Rattle.closing.specs.Following.{IsTakenMore, IsToldMore};
 
 use findings::{TakeFault, WatchFault};
@@ -151,6 +152,28 @@ impl<B: Room + Spot> Watch<B> {
         ensures passes { vec_len passes.new + 1 ≡ vec_len passes.old }
         ensures told { IfOk result (λ watch. watch.told ≡ []) }
         ensures vnodes { IfOk result (λ watch. length watch.taken.followed ≡ vnodes) }
+        ensures fronts { IfOk result (λ watch. watch.taken.fronts ≡ []) }
+    {
+        Watch::new_from(alloc, passes, first, vnodes, Vec::new(alloc))
+    }
+
+    /// The same of vnodes of which so many of the first entries of each, by index, are there before anything else happens, as a store that begins with what it kept
+    /// makes them: its front. What comes behind the fronts is followed as a run from there on.
+    pub fn new_from(
+        alloc: Global,
+        passes: &mut Vec<Pass<B>>,
+        first: u32,
+        vnodes: usize,
+        fronts: Vec<usize>,
+    ) -> Result<Watch<B>, AllocError>
+        requires first { first ≡ B.first }
+        requires few { first + vnodes ≤ 2 ^ 32 }
+        requires some { 0 < vec_len passes.old }
+        requires fresh { All (λ p. p ≡ pass_view 0 []) passes.old.items }
+        ensures passes { vec_len passes.new + 1 ≡ vec_len passes.old }
+        ensures told { IfOk result (λ watch. watch.told ≡ []) }
+        ensures vnodes { IfOk result (λ watch. length watch.taken.followed ≡ vnodes) }
+        ensures fronts { IfOk result (λ watch. watch.taken.fronts ≡ fronts.items) }
     {
         let Some(pass) = passes.pop() else {
             unreachable!();
@@ -168,7 +191,7 @@ impl<B: Room + Spot> Watch<B> {
         }
         Ok(Watch {
             pass,
-            follower: Follower::new(alloc, &ids, RECENT)?,
+            follower: Follower::new_from(alloc, &ids, fronts, RECENT)?,
             seen,
             reached: 0,
             lost: None,
@@ -263,6 +286,18 @@ impl<B: Room + Spot> Watch<B> {
     {
         for index in 0..cluster.count() {
             self.hear(alloc, rt, cluster, index, alarm);
+        }
+    }
+
+    /// How many entries of the vnode with an index were followed. None where no such vnode is.
+    pub fn followed(&self, index: usize) -> Option<usize>
+        ensures some { IfSome result (λ count. (index < length self.now.taken.followed) × (count ≡ length (log_at self.now.taken.followed index).entries)) }
+        ensures none { result ≡ None ↔ (length self.now.taken.followed ≤ index) }
+    {
+        if index < self.follower.count() {
+            Some(self.follower.followed(index))
+        } else {
+            None
         }
     }
 

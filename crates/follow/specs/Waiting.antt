@@ -10,8 +10,9 @@ use Rattle.findings.specs.declared.fault.FollowFault.{FollowFault}
 abbrev pub waiting_at : List (List Entry) → ℕ → List Entry
 waiting_at waiting index = slice_index_or waiting index []
 
--- what was followed of each vnode, what waits, the fault that was found, if any, and of how many of the last entries of each vnode answers are kept
+-- how many of the first entries of each vnode were there before, what was followed of each, what waits, the fault that was found, if any, and of how many of the last entries of each vnode answers are kept
 pub record Taken : Type 0 where
+  pub fronts : List ℕ
   pub followed : List Log
   pub waiting : List (List Entry)
   pub fault : Option FollowFault

@@ -3,7 +3,7 @@
 ghost use Rattle.std.specs.Prelude.{◌≡◌, ◌≢◌, ◌<◌, ◌+◌, ◌++◌, ℕ, [], IfOk, IfErr, IfSome, OnOk, OnErr, Err, None, Some, length, replicate, slice_set};
 ghost use Rattle.world.specs.Represents.{AreDistinct, empty_logs, log_at};
 ghost use Rattle.findings.specs.declared.fault.FollowFault.{FollowFault as Faulted};
-ghost use Rattle.rerun.specs.Interleaved.{IsInterleaving};
+ghost use Rattle.rerun.specs.Runs.{IsRunFrom};
 ghost use Rattle.follow.specs.Stops.{HasStopped, IsStop};
 ghost use Rattle.follow.specs.Waiting.{AreTakenAlike, NoneBelow, taken_at, waiting_at};
 
@@ -16,7 +16,8 @@ use std::alloc::{AllocError, Global};
 use std::marker::Model;
 
 /// An auditor that goes along with vnodes: their journals are handed over in blocks, and happen again in the order of stamps, at
-/// vnodes of its own that settle. What it has followed of all vnodes is one run of the world, as long as it has found no fault.
+/// vnodes of its own that settle. What it has followed of all vnodes is one run of the world, as long as it has found no fault. So many of the first
+/// entries of each vnode, its front, may have been there before: these are taken and happen again as the others do, but are no part of the run.
 #[derive(Drop)]
 pub struct Follower {
     run: Run,
@@ -30,9 +31,9 @@ impl Model for Follower {
 
     ghost Value = { Taken };
 
-    ghost view = { λ f. record { followed = f.run.rerun.logs; waiting = f.run.waiting.items; fault = f.run.rerun.fault; recent = f.run.rerun.recent } };
+    ghost view = { λ f. record { fronts = f.run.rerun.fronts; followed = f.run.rerun.logs; waiting = f.run.waiting.items; fault = f.run.rerun.fault; recent = f.run.rerun.recent } };
 
-    ghost invariant = { λ f. (length f.run.waiting.items ≡ length f.run.rerun.logs) × ((fault : Faulted) → f.run.rerun.fault ≡ Some fault → HasStopped f.run.rerun.recent fault) };
+    ghost invariant = { λ f. (length f.run.waiting.items ≡ length f.run.rerun.logs) × ((fault : Faulted) → f.run.rerun.fault ≡ Some fault → HasStopped f.run.rerun.fronts f.run.rerun.recent fault) };
 }
 
 // Nothing waits of so many vnodes.
@@ -55,11 +56,31 @@ impl Follower {
         ensures waiting { IfOk result (λ follower. follower.waiting ≡ replicate (length ids.now) []) }
         ensures fault { IfOk result (λ follower. follower.fault ≡ None) }
         ensures recent { IfOk result (λ follower. follower.recent ≡ recent) }
+        ensures fronts { IfOk result (λ follower. follower.fronts ≡ []) }
+    {
+        Follower::new_from(alloc, ids, Vec::new(alloc), recent)
+    }
+
+    /// The same of vnodes of which so many of the first entries of each, by index, were there before the run: its front, as a store that begins with
+    /// what it kept makes them, before anything else. Where there is no number for a vnode, it has none. The fronts are taken with the others, and come
+    /// first: their stamps are compared, and none of their sources is asked for. A merge behind them that names one of their entries has no source.
+    pub fn new_from(
+        alloc: Global,
+        ids: &[u32],
+        fronts: Vec<usize>,
+        recent: usize,
+    ) -> Result<Follower, AllocError>
+        requires distinct { AreDistinct ids.now }
+        ensures followed { IfOk result (λ follower. follower.followed ≡ empty_logs ids.now) }
+        ensures waiting { IfOk result (λ follower. follower.waiting ≡ replicate (length ids.now) []) }
+        ensures fault { IfOk result (λ follower. follower.fault ≡ None) }
+        ensures recent { IfOk result (λ follower. follower.recent ≡ recent) }
+        ensures fronts { IfOk result (λ follower. follower.fronts ≡ fronts.items) }
     {
         let waiting = queues(alloc, ids.len())?;
         Ok(Follower {
             run: Run {
-                rerun: Rerun::new(alloc, ids, recent)?,
+                rerun: Rerun::new_from(alloc, ids, fronts, recent)?,
                 waiting,
             },
         })
@@ -74,6 +95,7 @@ impl Follower {
         ensures followed { self.new.followed ≡ self.old.followed }
         ensures fault { self.new.fault ≡ self.old.fault }
         ensures recent { self.new.recent ≡ self.old.recent }
+        ensures fronts { self.new.fronts ≡ self.old.fronts }
         ensures unknown { result ≡ Err TakeFault.Unknown → (index : ℕ) → index < length self.old.followed → (log_at self.old.followed index).vnode ≢ vnode }
         ensures gap { result ≡ Err TakeFault.Gap → (index : ℕ) × (index < length self.old.followed) × ((log_at self.old.followed index).vnode ≡ vnode) × (first ≢ taken_at self.old index) }
         ensures err { OnErr result (self.new.waiting ≡ self.old.waiting) }
@@ -82,6 +104,13 @@ impl Follower {
             return Err(TakeFault::Unknown);
         };
         self.take_at(index, first, entries)
+    }
+
+    /// How many of the first entries of each vnode were there before the run, by index, as far as there is a number.
+    pub fn fronts(&self) -> &[usize]
+        ensures { result.now ≡ self.now.fronts }
+    {
+        self.run.rerun.fronts()
     }
 
     /// How many vnodes are followed.
@@ -137,20 +166,22 @@ impl Follower {
     }
 
     /// Follows all that was taken with stamps below a bound, in the order of stamps: each put accepted with its dot, each merge the
-    /// delivery of what the earlier read that it names answered.
+    /// delivery of what the earlier read that it names answered, or as what it says where it is one of a front. So from each beginning of the world that
+    /// has led to the fronts, all is one run; where there is no front, from nothing on.
     ///
     /// The first fault is told, at the vnode and the place of its entry. It is the last: from then on nothing is followed, and it is told again. A merge
     /// that names an answer that was given up is told as such, though it may be right. A bound is to be one below which no stamp is
-    /// drawn any more: an entry that comes later is told as late.
+    /// drawn any more: an entry that comes later is told as late, and so is one that is behind its front before all fronts are whole.
     pub fn follow(&mut self, below: u64) -> Result<(), FollowFault>
-        ensures yes { OnOk result (IsInterleaving self.new.followed) }
+        ensures yes { OnOk result (IsRunFrom self.old.fronts self.new.followed) }
         ensures alike { OnOk result (AreTakenAlike self.old.followed self.old.waiting self.new.followed self.new.waiting) }
         ensures below { OnOk result (NoneBelow self.new.waiting below) }
         ensures none { OnOk result (self.new.fault ≡ None) }
         ensures fault { IfErr result (λ fault. self.new.fault ≡ Some fault) }
-        ensures stop { self.old.fault ≡ None → IfErr result (λ fault. IsStop self.old.followed self.old.waiting below self.old.recent fault) }
+        ensures stop { self.old.fault ≡ None → IfErr result (λ fault. IsStop self.old.fronts self.old.followed self.old.waiting below self.old.recent fault) }
         ensures again { (fault : Faulted) → self.old.fault ≡ Some fault → (result ≡ Err fault) × (self.new ≡ self.old) }
         ensures recent { self.new.recent ≡ self.old.recent }
+        ensures fronts { self.new.fronts ≡ self.old.fronts }
     {
         if let Some(fault) = self.run.rerun.fault() {
             return Err(fault);
@@ -161,8 +192,8 @@ impl Follower {
     /// The fault that was found, if any. Where there is none, what was followed is one run of the world.
     pub fn fault(&self) -> Option<FollowFault>
         ensures fault { result ≡ self.now.fault }
-        ensures run { result ≡ None → IsInterleaving self.now.followed }
-        ensures stopped { IfSome result (λ fault. HasStopped self.now.recent fault) }
+        ensures run { result ≡ None → IsRunFrom self.now.fronts self.now.followed }
+        ensures stopped { IfSome result (λ fault. HasStopped self.now.fronts self.now.recent fault) }
     {
         self.run.rerun.fault()
     }

@@ -4,7 +4,7 @@ ghost use Rattle.std.specs.Prelude.{◌≡◌, ◌≤◌, ◌<◌, ◌+◌, ◌�
 ghost use Rattle.journal.specs.Entry.{Entry as Entered};
 ghost use Rattle.journal.specs.Stamps.{stamp_of};
 ghost use Rattle.world.specs.Represents.{log_at, with_entry_at};
-ghost use Rattle.rerun.specs.Interleaved.{IsInterleaving};
+ghost use Rattle.rerun.specs.Runs.{IsRunFrom};
 ghost use Rattle.rerun.specs.Wrong.{IsToldOf};
 ghost use Rattle.follow.specs.Stops.{IsStop};
 ghost use Rattle.follow.specs.Waiting.{AreTakenAlike, IsNext, NoneBelow, waiting_at};
@@ -99,13 +99,14 @@ impl Run {
         requires going { self.old.rerun.fault ≡ None }
         requires inside { index < length self.old.rerun.logs }
         requires waits { (e : Entered) × IsNext self.old.waiting.items index e }
-        ensures run { OnOk result (IsInterleaving self.new.rerun.logs) }
+        ensures run { OnOk result (IsRunFrom self.old.rerun.fronts self.new.rerun.logs) }
         ensures next { OnOk result ((e : Entered) × IsNext self.old.waiting.items index e × (self.new.rerun.logs ≡ with_entry_at self.old.rerun.logs index e) × (self.new.waiting.items ≡ slice_set self.old.waiting.items index (drop 1 (waiting_at self.old.waiting.items index)))) }
         ensures going { OnOk result (self.new.rerun.fault ≡ None) }
         ensures fault { IfErr result (λ fault. self.new.rerun.fault ≡ Some fault) }
         ensures size { length self.new.waiting.items ≡ length self.new.rerun.logs }
         ensures recent { self.new.rerun.recent ≡ self.old.rerun.recent }
-        ensures told { IfErr result (λ fault. (e : Entered) × IsNext self.old.waiting.items index e × IsToldOf self.old.rerun.logs self.old.rerun.recent index e fault) }
+        ensures fronts { self.new.rerun.fronts ≡ self.old.rerun.fronts }
+        ensures told { IfErr result (λ fault. (e : Entered) × IsNext self.old.waiting.items index e × IsToldOf self.old.rerun.fronts self.old.rerun.logs self.old.rerun.recent index e fault) }
     {
         let Some(entry) = self.waiting[index].first() else {
             unreachable!()
@@ -119,15 +120,16 @@ impl Run {
     pub(crate) fn follow(&mut self, below: u64) -> Result<(), FollowFault>
         requires size { length self.old.waiting.items ≡ length self.old.rerun.logs }
         requires going { self.old.rerun.fault ≡ None }
-        requires run { IsInterleaving self.old.rerun.logs }
-        ensures run { OnOk result (IsInterleaving self.new.rerun.logs) }
+        requires run { IsRunFrom self.old.rerun.fronts self.old.rerun.logs }
+        ensures run { OnOk result (IsRunFrom self.old.rerun.fronts self.new.rerun.logs) }
         ensures alike { OnOk result (AreTakenAlike self.old.rerun.logs self.old.waiting.items self.new.rerun.logs self.new.waiting.items) }
         ensures below { OnOk result (NoneBelow self.new.waiting.items below) }
         ensures going { OnOk result (self.new.rerun.fault ≡ None) }
         ensures fault { IfErr result (λ fault. self.new.rerun.fault ≡ Some fault) }
         ensures size { length self.new.waiting.items ≡ length self.new.rerun.logs }
         ensures recent { self.new.rerun.recent ≡ self.old.rerun.recent }
-        ensures stop { IfErr result (λ fault. IsStop self.old.rerun.logs self.old.waiting.items below self.old.rerun.recent fault) }
+        ensures fronts { self.new.rerun.fronts ≡ self.old.rerun.fronts }
+        ensures stop { IfErr result (λ fault. IsStop self.old.rerun.fronts self.old.rerun.logs self.old.waiting.items below self.old.rerun.recent fault) }
     {
         while let Some(index) = self.next_below(below) {
             self.step(index)?;

@@ -2,7 +2,9 @@
 
 mod commanding;
 mod connections;
+mod halls;
 mod interrupted;
 mod listening;
+mod noting;
 mod opening;
 mod rows;

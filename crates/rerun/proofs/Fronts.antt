@@ -23,11 +23,12 @@ use Rattle.findings.specs.declared.fault.FollowCode.{FollowCode}
 use Rattle.findings.specs.declared.fault.FollowCode.TheVariants.{Twice, Falls, NoSource, OtherState, GivenUp, Late, Illegal}
 use Rattle.rerun.specs.Interleaved.{IsInterleaving, ids_of}
 use Rattle.rerun.specs.Faulty.{EntryAt, NoneFalls, NoneTwice, NoSourceAt, OtherStateAt, HasNoSuchSource, AllHaveSources, IsFault}
-use Rattle.rerun.specs.Fronts.{AreFronts, IsReadBefore, AreSound, HasRun, IsCodeOfSource, IsCodeOf}
+use Rattle.rerun.specs.Beginnings.{AreFronts}
+use Rattle.rerun.specs.Fronts.{IsReadBefore, AreSound, HasRun, IsCodeOfSource, IsCodeOf}
 use Rattle.rerun.specs.Rerun.{AreJournals}
 use Rattle.rerun.specs.Sorting.{IsSplit}
 use Rattle.rerun.specs.Turns.{EntryIn, HasHappened, IsNextBelow, NoneBelow, count_at}
-use Rattle.rerun.specs.Wrong.{IsWrong, IsAfterAll, HasReadOf}
+use Rattle.rerun.specs.Wrong.{IsWrong, IsAfterAll, IsFounded, HasReadOf}
 use Rattle.rerun.proofs.Rising.{one_entry, rises}
 use Rattle.rerun.proofs.Sorting.{with_next, one_index, next_first, is_next, split_more, happened_more, happened_or_not, all_happened}
 
@@ -166,9 +167,9 @@ all_ran logs counts now run none = subst (λ (ls : List Log). IsInterleaving ls)
 -- ---- one step more
 
 -- a merge that names a read of the fronts has its source in the journals
-source_there : (logs : List Log) (counts : List ℕ) (now : List Log) → AreFronts logs counts now → AreDistinct (ids_of logs) → (stamp : ℕ) (key : Key) (from at : ℕ) (state : State) → IsAfterAll now (Merge stamp key from at state) → HasReadOf now (Merge stamp key from at state)
+source_there : (logs : List Log) (counts : List ℕ) (now : List Log) → AreFronts logs counts now → AreDistinct (ids_of logs) → (stamp : ℕ) (key : Key) (from at : ℕ) (state : State) → IsAfterAll now (Merge stamp key from at state) → HasReadOf [] now (Merge stamp key from at state)
     → (other : ℕ) × ((log_at logs other).vnode ≡ from) × IsReadBefore logs other at key stamp × IsReplay (take at (log_at logs other).entries) key state
-source_there logs counts now fronts distinct stamp key from at state after ((index, id, (read, there)), (j, inside, also, replay)) =
+source_there logs counts now fronts distinct stamp key from at state after ((index, id, (read, there), behind), (j, inside, also, replay)) =
     let was = happened_there logs counts now fronts index at (Read read key) there in
     let own_id : (log_at logs index).vnode ≡ from = sym (same_id logs counts now fronts index was.0.0) ∙ id in
     let within : j < length logs = omega (arith, fronts.size, inside) in
@@ -179,8 +180,13 @@ source_there logs counts now fronts distinct stamp key from at state after ((ind
       subst (λ (es : List Entry). IsReplay es key state) (same_before logs counts now fronts index at was.0.0 was.1) (subst (λ (k : ℕ). IsReplay (take at (log_at now k).entries) key state) same replay),
     )
 
+-- where no front is, what is founded has its read
+pub read_of : (now : List Log) (i : ℕ) (e : Entry) → IsFounded [] now i e → HasReadOf [] now e
+read_of now i e (inl front) = absurd (omega (arith, front))
+read_of now i e (inr (whole, read)) = read
+
 pub ran_more : (logs : List Log) (counts : List ℕ) (now : List Log) (head : Head) (e : Entry) → AreDistinct (ids_of logs) → NoneFalls logs → HasRun logs counts now → IsNextBelow logs counts (length logs) head → EntryIn logs head.index (count_at counts head.index) e
-    → IsAfterAll now e → HasReadOf now e → IsInterleaving (with_entry_at now head.index e) → HasRun logs (with_next counts head.index) (with_entry_at now head.index e)
+    → IsAfterAll now e → HasReadOf [] now e → IsInterleaving (with_entry_at now head.index e) → HasRun logs (with_next counts head.index) (with_entry_at now head.index e)
 ran_more logs counts now head e distinct rising run next there after read more = record {
   split = split_more logs counts head rising run.split next;
   fronts = fronts_more logs counts now run.fronts run.split.size head.index e there;
@@ -188,7 +194,7 @@ ran_more logs counts now head e distinct rising run next there after read more =
     | inl was ↦ run.sound index at stamp key from source state was
     | inr last ↦
         (let same : e ≡ Merge stamp key from source state = one_entry logs head.index (count_at counts head.index) e (Merge stamp key from source state) there (subst (λ (p : ℕ). EntryIn logs head.index p (Merge stamp key from source state)) last.1 (subst (λ (j : ℕ). EntryIn logs j at (Merge stamp key from source state)) last.0 h.0)) in
-        source_there logs counts now run.fronts distinct stamp key from source state (subst (λ (x : Entry). IsAfterAll now x) same after) (subst (λ (x : Entry). HasReadOf now x) same read))
+        source_there logs counts now run.fronts distinct stamp key from source state (subst (λ (x : Entry). IsAfterAll now x) same after) (subst (λ (x : Entry). HasReadOf [] now x) same read))
   ];
   run = more;
 }
@@ -270,15 +276,16 @@ fewer (suc n) (x ∷ xs) = let h = fewer n xs in omega (arith, h)
 
 -- so it is its source
 pub of_source : (logs : List Log) (counts : List ℕ) (now : List Log) (recent i : ℕ) (e : Entry) (code : FollowCode) → AreDistinct (ids_of logs) → NoneFalls logs → NoneTwice logs → AreJournals logs → max_entries ≤ recent → HasRun logs counts now → EntryIn logs i (count_at counts i) e
-    → IsWrong now recent i e code → IsCodeOfSource code
+    → IsWrong [] now recent i e code → IsCodeOfSource code
 of_source logs counts now recent i e NoSource distinct rising single legal all run there h = tt
 of_source logs counts now recent i e OtherState distinct rising single legal all run there h = tt
 of_source logs counts now recent i e Twice distinct rising single legal all run there (other, place, a, at, differs, same) =
     let less = above logs counts i e distinct rising single run.split there other place a (happened_there logs counts now run.fronts other place a at) in absurd (omega (arith, less, same))
 of_source logs counts now recent i e Falls distinct rising single legal all run there (place, a, at, end, falls) =
     let less = above logs counts i e distinct rising single run.split there i place a (happened_there logs counts now run.fronts i place a at) in absurd (omega (arith, less, falls))
-of_source logs counts now recent i e Late distinct rising single legal all run there (other, place, a, at, late) =
+of_source logs counts now recent i e Late distinct rising single legal all run there (inl (other, place, a, at, late)) =
     let less = above logs counts i e distinct rising single run.split there other place a (happened_there logs counts now run.fronts other place a at) in absurd (omega (arith, less, late))
+of_source logs counts now recent i e Late distinct rising single legal all run there (inr (behind, (other, inside, lacks))) = absurd (omega (arith, lacks))
 of_source logs counts now recent i e GivenUp distinct rising single legal all run there (stamp, key, from, at, state, is, (other, inside, id, many)) =
     let within : other < length logs = omega (arith, run.fronts.size, inside) in
     let size : length (log_at now other).entries ≡ length (take (count_at counts other) (log_at logs other).entries) = ap (λ (l : Log). length l.entries) (run.fronts.each other within) in
@@ -288,9 +295,9 @@ of_source logs counts now recent i e Illegal distinct rising single legal all ru
     absurd (h (subst (λ (l : Log). MayFollow l.vnode l.entries e) (sym (run.fronts.each i there.0)) (legal i there.0 (count_at counts i) e there.1)))
 
 -- a merge without its source among the fronts has none in the journals
-no_source : (logs : List Log) (counts : List ℕ) (now : List Log) (recent : ℕ) (head : Head) (e : Entry) → NoneFalls logs → HasRun logs counts now → IsNextBelow logs counts (length logs) head → EntryIn logs head.index (count_at counts head.index) e → IsWrong now recent head.index e NoSource
+no_source : (logs : List Log) (counts : List ℕ) (now : List Log) (recent : ℕ) (head : Head) (e : Entry) → NoneFalls logs → HasRun logs counts now → IsNextBelow logs counts (length logs) head → EntryIn logs head.index (count_at counts head.index) e → IsWrong [] now recent head.index e NoSource
     → NoSourceAt logs head.vnode (count_at counts head.index) head.stamp
-no_source logs counts now recent head e rising run next there (stamp, key, from, at, state, is, none) =
+no_source logs counts now recent head e rising run next there (stamp, key, from, at, state, (is, behind), none) =
     let at_next : EntryIn logs head.index (count_at counts head.index) (Merge stamp key from at state) = subst (λ (x : Entry). EntryIn logs head.index (count_at counts head.index) x) is there in
     let same = is_next logs counts head (Merge stamp key from at state) next at_next in (
       key,
@@ -299,15 +306,15 @@ no_source logs counts now recent head e rising run next there (stamp, key, from,
       state,
       (head.index, same.1, subst (λ (s : ℕ). EntryIn logs head.index (count_at counts head.index) (Merge s key from at state)) same.0 at_next),
       λ read r. elim (cases_lt read head.stamp) [
-        | inl less ↦ absurd (none (r.0, same_id logs counts now run.fronts r.0 r.2.0 ∙ r.1, (read, there_happened logs counts now run.fronts r.0 at (Read read key) (read_happened logs counts head rising next r.0 at read key r.2 less))))
+        | inl less ↦ absurd (none (r.0, same_id logs counts now run.fronts r.0 r.2.0 ∙ r.1, (read, there_happened logs counts now run.fronts r.0 at (Read read key) (read_happened logs counts head rising next r.0 at read key r.2 less)), omega arith))
         | inr not ↦ not
       ],
     )
 
 -- nor has one whose source has another state there
 other_state : (logs : List Log) (counts : List ℕ) (now : List Log) (recent : ℕ) (head : Head) (e : Entry) → AreDistinct (ids_of logs) → NoneFalls logs → NoneTwice logs → HasRun logs counts now → IsNextBelow logs counts (length logs) head → EntryIn logs head.index (count_at counts head.index) e
-    → IsWrong now recent head.index e OtherState → OtherStateAt logs head.vnode (count_at counts head.index) head.stamp
-other_state logs counts now recent head e distinct rising single run next there (stamp, key, from, at, state, is, (index, id, (read, before)), other) =
+    → IsWrong [] now recent head.index e OtherState → OtherStateAt logs head.vnode (count_at counts head.index) head.stamp
+other_state logs counts now recent head e distinct rising single run next there (stamp, key, from, at, state, (is, front), (index, id, (read, before), behind), other) =
     let at_next : EntryIn logs head.index (count_at counts head.index) (Merge stamp key from at state) = subst (λ (x : Entry). EntryIn logs head.index (count_at counts head.index) x) is there in
     let same = is_next logs counts head (Merge stamp key from at state) next at_next in
     let was = happened_there logs counts now run.fronts index at (Read read key) before in
@@ -330,7 +337,7 @@ other_state logs counts now recent head e distinct rising single run next there 
 
 -- which is the first fault of its kind
 pub source_fault : (logs : List Log) (counts : List ℕ) (now : List Log) (recent : ℕ) (head : Head) (e : Entry) (code : FollowCode) (told : AuditCode) → AreDistinct (ids_of logs) → NoneFalls logs → NoneTwice logs → HasRun logs counts now → IsNextBelow logs counts (length logs) head
-    → EntryIn logs head.index (count_at counts head.index) e → IsWrong now recent head.index e code → IsCodeOf code told → IsFault logs (Found told head.vnode (count_at counts head.index))
+    → EntryIn logs head.index (count_at counts head.index) e → IsWrong [] now recent head.index e code → IsCodeOf code told → IsFault logs (Found told head.vnode (count_at counts head.index))
 source_fault logs counts now recent head e NoSource told distinct rising single run next there h is =
     subst (λ (c : AuditCode). IsFault logs (Found c head.vnode (count_at counts head.index))) (sym is)
     (rising, single, (head.stamp, no_source logs counts now recent head e rising run next there h, none_earlier logs counts head rising run.sound next))

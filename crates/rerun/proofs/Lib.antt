@@ -8,6 +8,8 @@ mod Legal
 mod Keeping
 pub mod Names
 pub mod Opening
+mod Grown
 mod Going
 mod Telling
 mod Fronts
+pub mod Faultless

@@ -6,7 +6,7 @@ use Rattle.journal.specs.Logs.{Log}
 use Rattle.world.specs.declared.event.Event.{Event}
 use Rattle.world.specs.declared.event.Message.{Message}
 use Rattle.world.specs.declared.event.Reply.{Reply}
-use Rattle.world.specs.Knowledge.{Knowledge, opened}
+use Rattle.world.specs.Knowledge.{Knowledge}
 use Rattle.world.specs.Represents.{log_at, with_entry_at}
 use Rattle.rerun.specs.Order.{Step}
 use Rattle.rerun.specs.Interleaved.{IsSource, IsEventOf, Happened, nothing, one_more, ids_of}
@@ -25,16 +25,16 @@ event_renamed a b same before replies vnode (Merge stamp key from at state) what
 event_renamed a b same before replies vnode (Read stamp key) what reply h = h
 event_renamed a b same before replies vnode (Restart stamp) what reply h = h
 
-happened_renamed : (a b : List Log) → HaveSameIds a b → (steps : List Step) (replies : List Reply) (known : Knowledge) → Happened a steps replies known → Happened b steps replies known
-happened_renamed a b same _ _ _ nothing = subst (λ (ids : List ℕ). Happened b [] [] (opened ids)) (sym same.0) nothing
-happened_renamed a b same _ _ _ (one_more steps replies old step what reply new before is happens) =
-    one_more steps replies old step what reply new (happened_renamed a b same steps replies old before) (event_renamed a b same steps replies step.vnode step.entry what reply is) happens
+happened_renamed : (begin : Knowledge) (a b : List Log) → HaveSameIds a b → (steps : List Step) (replies : List Reply) (known : Knowledge) → Happened begin a steps replies known → Happened begin b steps replies known
+happened_renamed begin a b same _ _ _ nothing = nothing
+happened_renamed begin a b same _ _ _ (one_more steps replies old step what reply new before is happens) =
+    one_more steps replies old step what reply new (happened_renamed begin a b same steps replies old before) (event_renamed a b same steps replies step.vnode step.entry what reply is) happens
 
-pub so_far_renamed : (a b : List Log) → HaveSameIds a b → (steps : List Step) (now : List Log) (messages : List (Option Message)) → IsSoFar a steps now messages → IsSoFar b steps now messages
-so_far_renamed a b same steps now messages so_far = record {
+pub so_far_renamed : (begin : Knowledge) (a b : List Log) → HaveSameIds a b → (steps : List Step) (now : List Log) (messages : List (Option Message)) → IsSoFar begin a steps now messages → IsSoFar begin b steps now messages
+so_far_renamed begin a b same steps now messages so_far = record {
   replies = so_far.replies;
   known = so_far.known;
-  happened = happened_renamed a b same steps so_far.replies so_far.known so_far.happened;
+  happened = happened_renamed begin a b same steps so_far.replies so_far.known so_far.happened;
   represents = so_far.represents;
   remember = so_far.remember;
   len = so_far.len;

@@ -7,11 +7,8 @@ use Rattle.std.proofs.lemmas.List.Sorted.{IsPermutation-sym, IsPermutation-to_fr
 use Rattle.journal.specs.Entry.{Entry}
 use Rattle.journal.specs.Logs.{Log}
 use Rattle.journal.specs.Stamps.{stamp_of}
-use Rattle.world.specs.declared.event.Reply.{Reply}
-use Rattle.world.specs.Knowledge.{Knowledge}
 use Rattle.world.specs.Represents.{log_at, with_entry_at}
 use Rattle.rerun.specs.Order.{Step, steps_from, steps_of, Rise}
-use Rattle.rerun.specs.Interleaved.{Happened, nothing, one_more}
 
 abbrev pub step_at : ℕ → ℕ → Entry → Step
 step_at vnode place e = record { vnode = vnode; place = place; entry = e }
@@ -50,9 +47,3 @@ all_more v u p (log ∷ now) (suc i) e inside is at =
     let a = steps_from v 0 log.entries in
     subst (λ (l : List Step). IsPermutation (a ++ steps_of (v + 1) (with_entry_at now i e)) l) (sym (append_assoc a (steps_of (v + 1) now) (step_at u p e ∷ [])))
     (IsPermutation-append_right a (steps_of (v + 1) (with_entry_at now i e)) (steps_of (v + 1) now ++ step_at u p e ∷ []) (all_more (v + 1) u p now i e (omega (arith, inside)) (omega (arith, is)) at))
-
--- each step has its reply
-pub happened_long : (logs : List Log) (steps : List Step) (replies : List Reply) (known : Knowledge) → Happened logs steps replies known → length steps ≡ length replies
-happened_long logs _ _ _ nothing = refl
-happened_long logs _ _ _ (one_more steps replies old step what reply new before is happens) =
-    length_push steps step ∙ ap (λ (n : ℕ). n + 1) (happened_long logs steps replies old before) ∙ sym (length_push replies reply)

@@ -1,15 +1,19 @@
 -- Nothing was followed yet.
-use Rattle.std.proofs.Common.{◌≡◌, ℕ, zero, suc, ◌+◌, ◌<◌, List, [], ◌∷◌, ◌++◌, length, get_or, take, replicate, refl, sym, ap, subst, ◌∙◌, arith, Some, None}
+use Rattle.std.proofs.Common.{◌≡◌, ℕ, zero, suc, ◌+◌, ◌<◌, ◌≤◌, inl, List, [], ◌∷◌, ◌++◌, length, get_or, take, replicate, refl, sym, ap, subst, ◌∙◌, arith, Some, None}
 use Rattle.std.specs.Prelude.{slice_get, Result, Ok, Err, OnOk, IfErr}
 use Rattle.std.specs.Result.{IsErrAnd}
 use Rattle.std.specs.List.Sorted.{IsPermutation}
 use Rattle.std.proofs.lemmas.List.{length-map, length-replicate, replicate_more, take_more, take_all}
 use Rattle.std.proofs.lemmas.List.Sorted.{IsPermutation-refl}
+use Rattle.journal.specs.Entry.{Entry, Merge}
 use Rattle.journal.specs.Logs.{Log}
 use Rattle.world.specs.Represents.{AreDistinct, log_at, empty_logs}
+use Rattle.world.specs.Running.{Begins}
+use Rattle.world.proofs.Lists.{Contains-nil}
 use Rattle.rerun.specs.Interleaved.{ids_of}
 use Rattle.rerun.specs.Order.{Step, steps_of}
-use Rattle.rerun.specs.Rerun.{IsSoFar}
+use Rattle.rerun.specs.Turns.{EntryIn, count_at}
+use Rattle.rerun.proofs.Grown.{fronts_are}
 use Rattle.rerun.proofs.Steps.{begins}
 use Rattle.findings.specs.declared.fault.FollowFault.{FollowFault}
 use Rattle.rerun.specs.declared.kept.Kept.{Kept}
@@ -60,12 +64,16 @@ vnodes_more ids vnodes new vnode index d inside so_far is pushed =
 pub vnodes_all : (ids : List ℕ) (index : ℕ) → index ≡ length ids → take index (empty_logs ids) ≡ empty_logs ids
 vnodes_all ids index is = take_all index (empty_logs ids) (omega (arith, is, as_many ids))
 
--- nothing was followed
-pub opened : (ids : List ℕ) (recent : ℕ) → AreDistinct ids → HasFollowed (empty_logs ids) None recent (replicate (length ids) [])
-opened ids recent distinct = record {
+-- no fronts are whole, or all are, where nothing was followed
+pub opened : (fronts : List ℕ) (ids : List ℕ) (recent : ℕ) → AreDistinct ids → HasFollowed fronts (empty_logs ids) None recent (replicate (length ids) [])
+opened fronts ids recent distinct = record {
   order = [];
   messages = [];
-  so_far = subst (λ (is : List ℕ). IsSoFar (empty_logs ids) [] (empty_logs is) []) (ids_are ids) (begins (empty_logs ids) (subst (λ (is : List ℕ). AreDistinct is) (sym (ids_are ids)) distinct));
+  so_far = λ begin begun are begins_so. begins begin (empty_logs ids) (empty_logs ids) (subst (λ (ls : List Log). Begins ls [] begin) (fronts_are fronts (empty_logs ids) begun are short) begins_so);
+  begun = inl (record { short = short; none = refl; unsent = refl });
+  long = refl;
+  distinct = subst (λ (is : List ℕ). AreDistinct is) (sym (ids_are ids)) distinct;
+  first = λ s t has also before behind. absurd (Contains-nil s has);
   all = subst (λ (l : List Step). IsPermutation l []) (sym (no_steps 0 ids)) (IsPermutation-refl []);
   rising = tt;
   below = refl;
@@ -75,7 +83,16 @@ opened ids recent distinct = record {
     each = λ index place what inside at. absurd (let none : None ≡ Some what = sym (ap (λ (l : List Kept). slice_get l place) (empties (length ids) index)) ∙ at in cc);
     recently = λ index place inside at. absurd (let none = sym (ap (λ (l : List Kept). slice_get l place) (empties (length ids) index)) ∙ at in cc);
   };
+  rises = λ vnode place falls. none_there falls.0 falls.2.0 falls.2.1 falls.2.4;
+  single = λ vnode place stamp twice. none_there twice.4.0 twice.1 twice.2 twice.4.2;
+  sources = λ index place stamp key from at state there behind. absurd (none_there index place (Merge stamp key from at state) there);
 }
+  where
+    short : (index : ℕ) → index < length (empty_logs ids) → length (log_at (empty_logs ids) index).entries ≤ count_at fronts index
+    short index inside = (let none = ap length (no_entries ids index) in omega (arith, none))
+
+    none_there : (index place : ℕ) (e : Entry) → EntryIn (empty_logs ids) index place e → ⊥
+    none_there index place e there = (let none : None ≡ Some e = sym (ap (λ (es : List Entry). slice_get es place) (no_entries ids index)) ∙ there.1 in cc)
 
 pub on_ok : {T E : Type 0} (r : Result T E) (P Q : Type 0) → OnOk r P → (P → Q) → OnOk r Q
 on_ok (Ok x) P Q h f = f h

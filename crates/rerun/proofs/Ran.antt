@@ -4,9 +4,9 @@ use Rattle.journal.specs.Logs.{Log}
 use Rattle.world.specs.declared.event.Event.{Event}
 use Rattle.world.specs.declared.event.Reply.{Reply}
 use Rattle.world.specs.Happening.{Happens, Run}
-use Rattle.world.specs.Knowledge.{Knowledge, opened}
+use Rattle.world.specs.Knowledge.{Knowledge}
 use Rattle.rerun.specs.Order.{Step}
-use Rattle.rerun.specs.Interleaved.{Happened, nothing, one_more, ids_of}
+use Rattle.rerun.specs.Interleaved.{Happened, nothing, one_more}
 
 -- one event more of a run
 run_more : (old : Knowledge) (events : List Event) (replies : List Reply) (known : Knowledge) (event : Event) (reply : Reply) (new : Knowledge) → Run [] old events replies known → Happens [] known event reply new → Run [] old (events ++ event ∷ []) (replies ++ reply ∷ []) new
@@ -16,8 +16,8 @@ run_more old [] (r ∷ rs) known event reply new run happens = absurd run
 run_more old (e ∷ es) [] known event reply new run happens = absurd run
 
 -- steps that happened are a run
-pub run_of : (logs : List Log) (steps : List Step) (replies : List Reply) (known : Knowledge) → Happened logs steps replies known → (events : List Event) × Run [] (opened (ids_of logs)) events replies known
-run_of logs _ _ _ nothing = ([], refl)
-run_of logs _ _ _ (one_more steps replies old step what reply new before is happens) =
-    let r = run_of logs steps replies old before in
-    (r.0 ++ what ∷ [], run_more (opened (ids_of logs)) r.0 replies old what reply new r.1 happens)
+pub run_of : (begin : Knowledge) (logs : List Log) (steps : List Step) (replies : List Reply) (known : Knowledge) → Happened begin logs steps replies known → (events : List Event) × Run [] begin events replies known
+run_of begin logs _ _ _ nothing = ([], refl)
+run_of begin logs _ _ _ (one_more steps replies old step what reply new before is happens) =
+    let r = run_of begin logs steps replies old before in
+    (r.0 ++ what ∷ [], run_more begin r.0 replies old what reply new r.1 happens)

@@ -1,5 +1,5 @@
--- What was followed of some vnodes' journals: their fronts, in the order of stamps, as a run of the world.
-use Rattle.std.specs.Prelude.{◌≡◌, ◌<◌, ◌≤◌, ◌+◌, ℕ, List, [], length, take, slice_get, slice_index_or, Option, Some, MatchOption, Contains}
+-- What was followed of some vnodes' journals: so many of their first entries, in the order of stamps, as a run of the world from where they began.
+use Rattle.std.specs.Prelude.{◌≡◌, ◌<◌, ◌≤◌, ◌+◌, ◌⊎◌, ℕ, List, [], length, take, slice_get, slice_index_or, Option, Some, MatchOption, Contains}
 use Rattle.std.specs.List.Sorted.{IsPermutation}
 use Rattle.object.specs.declared.content.Key.{Key}
 use Rattle.object.specs.State.{State}
@@ -9,10 +9,16 @@ use Rattle.journal.specs.Logs.{Log}
 use Rattle.journal.specs.Replay.{IsReplay}
 use Rattle.journal.specs.Stamps.{stamp_of}
 use Rattle.world.specs.declared.event.Message.{Message}
-use Rattle.world.specs.Represents.{log_at}
+use Rattle.world.specs.Knowledge.{Knowledge}
+use Rattle.world.specs.Represents.{AreDistinct, log_at}
+use Rattle.world.specs.Running.{Begins}
+use Rattle.rerun.specs.Beginnings.{AreFronts, AreWhole, ComeFirst, IsBehind, IsInFront, steps_behind}
+use Rattle.rerun.specs.Faulty.{NoneFalls, NoneTwice}
+use Rattle.rerun.specs.Interleaved.{ids_of}
+use Rattle.rerun.specs.Runs.{HaveSources}
 use Rattle.rerun.specs.Order.{Step, steps_of, Rise}
 use Rattle.rerun.specs.Rerun.{IsSoFar}
-use Rattle.rerun.specs.Turns.{EntryIn}
+use Rattle.rerun.specs.Turns.{EntryIn, count_at}
 use Rattle.rerun.specs.declared.kept.Kept.{Kept}
 use Rattle.rerun.specs.declared.kept.Kept.TheVariants as kept
 
@@ -27,41 +33,56 @@ IsNoRead (Put stamp key seen content dot) = Unit {0}
 IsNoRead (Merge stamp key from at state) = Unit {0}
 IsNoRead (Restart stamp) = Unit {0}
 
--- a read at a place answered a state, and is a step that sent it
-pub record IsReadKept (logs : List Log) (order : List Step) (messages : List (Option Message)) (index place : ℕ) (key : Key) (state : State) : Type 0 where
+-- a read at a place behind the front answered a state, and is a step that sent it
+pub record IsReadKept (fronts : List ℕ) (logs : List Log) (steps : List Step) (messages : List (Option Message)) (index place : ℕ) (key : Key) (state : State) : Type 0 where
   pub stamp : ℕ
   pub there : EntryIn logs index place (Read stamp key)
   pub answer : IsReplay (take place (log_at logs index).entries) key state
   pub number : ℕ
-  pub step : slice_get order number ≡ Some (record { vnode = index; place = place; entry = Read stamp key })
+  pub behind : IsBehind fronts index place
+  pub step : slice_get steps number ≡ Some (record { vnode = index; place = place; entry = Read stamp key })
   pub sent : slice_get messages number ≡ Some (Some (record { key = key; from = (log_at logs index).vnode; at = place; state = state }))
 
 -- what is kept at a place is so
-abbrev pub IsKept : List Log → List Step → List (Option Message) → ℕ → ℕ → Kept → Type 0
-IsKept logs order messages index place (kept.Read key state) = IsReadKept logs order messages index place key state
-IsKept logs order messages index place kept.Other = (e : Entry) × EntryIn logs index place e × IsNoRead e
-IsKept logs order messages index place kept.GivenUp = Unit {0}
+abbrev pub IsKept : List ℕ → List Log → List Step → List (Option Message) → ℕ → ℕ → Kept → Type 0
+IsKept fronts logs steps messages index place (kept.Read key state) = IsReadKept fronts logs steps messages index place key state
+IsKept fronts logs steps messages index place kept.Other = (e : Entry) × EntryIn logs index place e × (IsNoRead e ⊎ (place < count_at fronts index))
+IsKept fronts logs steps messages index place kept.GivenUp = Unit {0}
 
 -- what is kept of each entry that was followed; of the last ones at each vnode, so many as are recent, nothing was given up
-pub record AreKept (logs : List Log) (order : List Step) (messages : List (Option Message)) (recent : ℕ) (answers : List (List Kept)) : Type 0 where
+pub record AreKept (fronts : List ℕ) (logs : List Log) (steps : List Step) (messages : List (Option Message)) (recent : ℕ) (answers : List (List Kept)) : Type 0 where
   pub size : length answers ≡ length logs
   pub lengths : (index : ℕ) → index < length logs → length (slice_index_or answers index []) ≡ length (log_at logs index).entries
-  pub each : (index place : ℕ) (what : Kept) → index < length logs → kept_at answers index place ≡ Some what → IsKept logs order messages index place what
+  pub each : (index place : ℕ) (what : Kept) → index < length logs → kept_at answers index place ≡ Some what → IsKept fronts logs steps messages index place what
   pub recently : (index place : ℕ) → index < length logs → kept_at answers index place ≡ Some kept.GivenUp → place + recent < length (log_at logs index).entries
 
 -- no stamp of these steps is above the last one
 abbrev pub AreBelow : Option ℕ → List Step → Type 0
 AreBelow last order = MatchOption last (order ≡ []) (λ stamp. (s : Step) → Contains order s → stamp_of s.entry ≤ stamp)
 
--- These entries happened, each the event that it says, in the order of their stamps, up to the last one; and of each it is kept what it answered.
-pub record HasFollowed (logs : List Log) (last : Option ℕ) (recent : ℕ) (answers : List (List Kept)) : Type 0 where
+-- only fronts are here yet, and no step
+pub record AreFrontsAlone (fronts : List ℕ) (logs : List Log) (steps : List Step) (messages : List (Option Message)) : Type 0 where
+  pub short : (index : ℕ) → index < length logs → length (log_at logs index).entries ≤ count_at fronts index
+  pub none : steps ≡ []
+  pub unsent : messages ≡ []
+
+-- These entries happened, each of those behind the fronts the event that it says, in the order of their stamps, up to the last one, from each beginning that led
+-- to the fronts; and of each it is kept what it answered. No step is taken before the fronts are whole.
+pub record HasFollowed (fronts : List ℕ) (logs : List Log) (last : Option ℕ) (recent : ℕ) (answers : List (List Kept)) : Type 0 where
   pub order : List Step
   pub messages : List (Option Message)
-  pub so_far : IsSoFar logs order logs messages
+  pub so_far : (begin : Knowledge) (begun : List Log) → AreFronts logs fronts begun → Begins begun [] begin → IsSoFar begin logs (steps_behind fronts order) logs messages
+  pub begun : AreFrontsAlone fronts logs (steps_behind fronts order) messages ⊎ AreWhole fronts logs
+  pub long : length messages ≡ length (steps_behind fronts order)
+  pub distinct : AreDistinct (ids_of logs)
+  pub first : ComeFirst fronts order
   pub all : IsPermutation (steps_of 0 logs) order
   pub rising : Rise 0 order
   pub below : AreBelow last order
-  pub kept : AreKept logs order messages recent answers
+  pub kept : AreKept fronts logs (steps_behind fronts order) messages recent answers
+  pub rises : NoneFalls logs
+  pub single : NoneTwice logs
+  pub sources : HaveSources fronts logs
 
 -- a stamp is above the last one
 abbrev pub IsAbove : Option ℕ → ℕ → Type 0
@@ -77,6 +98,10 @@ HasSource logs answers (Merge stamp key from at state) = IsSourceKept logs answe
 HasSource logs answers (Put stamp key seen content dot) = Unit {0}
 HasSource logs answers (Read stamp key) = Unit {0}
 HasSource logs answers (Restart stamp) = Unit {0}
+
+-- an entry may be the next one of the vnode with this index: it is of its front, or the fronts are whole and it has its source
+abbrev pub IsExpected : List ℕ → List Log → List (List Kept) → ℕ → Entry → Type 0
+IsExpected fronts logs answers index e = IsInFront fronts logs index ⊎ (AreWhole fronts logs × HasSource logs answers e)
 
 -- what is kept of an entry that answered so
 abbrev pub kept_of : Entry → Answer → Kept

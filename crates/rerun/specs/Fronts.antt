@@ -1,5 +1,5 @@
 -- What is known while the entries of journals happen again, one after another: so many of each have.
-use Rattle.std.specs.Prelude.{◌≡◌, ◌<◌, ℕ, List, length, take}
+use Rattle.std.specs.Prelude.{◌≡◌, ◌<◌, ℕ, List, take}
 use Rattle.object.specs.declared.content.Key.{Key}
 use Rattle.object.specs.State.{State}
 use Rattle.journal.specs.Entry.{Read, Merge}
@@ -12,12 +12,8 @@ use Rattle.findings.specs.declared.fault.FollowCode.{FollowCode}
 use Rattle.findings.specs.declared.fault.FollowCode.TheVariants.{Twice, Falls, NoSource, OtherState, GivenUp, Late, Illegal}
 use Rattle.rerun.specs.Interleaved.{IsInterleaving}
 use Rattle.rerun.specs.Sorting.{IsSplit}
-use Rattle.rerun.specs.Turns.{EntryIn, HasHappened, count_at}
-
--- the vnode with this index has the first entries of its journal, so many as are counted
-pub record AreFronts (logs : List Log) (counts : List ℕ) (now : List Log) : Type 0 where
-  pub size : length now ≡ length logs
-  pub each : (index : ℕ) → index < length logs → log_at now index ≡ record { vnode = (log_at logs index).vnode; entries = take (count_at counts index) (log_at logs index).entries }
+use Rattle.rerun.specs.Beginnings.{AreFronts}
+use Rattle.rerun.specs.Turns.{EntryIn, HasHappened}
 
 -- a journal has a read of a key at a place, with a stamp below another
 abbrev pub IsReadBefore : List Log → ℕ → ℕ → Key → ℕ → Type 0

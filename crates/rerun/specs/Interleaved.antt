@@ -13,6 +13,7 @@ use Rattle.world.specs.Causality.{IsCausal}
 use Rattle.world.specs.Happening.{Happens, Run}
 use Rattle.world.specs.Knowledge.{Knowledge, opened, known_at}
 use Rattle.world.specs.Represents.{ShowsAt, log_at}
+use Rattle.rerun.specs.Beginnings.{ComeFirst, steps_behind}
 use Rattle.rerun.specs.Order.{Step, IsInStampOrder}
 
 -- the identifiers of the vnodes
@@ -34,22 +35,28 @@ IsEventOf logs before replies vnode (Merge stamp key from at state) what reply =
 IsEventOf logs before replies vnode (Read stamp key) what reply = (what ≡ event.Send vnode key) × ((message : Message) × (reply ≡ Sent message))
 IsEventOf logs before replies vnode (Restart stamp) what reply = (what ≡ event.Restart vnode) × (reply ≡ Restarted)
 
--- these steps happened in the world one after another, each replied as its entry says
-pub data Happened (logs : List Log) : List Step → List Reply → Knowledge → Type 0 where
-  nothing : Happened logs [] [] (opened (ids_of logs))
+-- from a beginning on these steps happened in the world one after another, each replied as its entry says
+pub data Happened (begin : Knowledge) (logs : List Log) : List Step → List Reply → Knowledge → Type 0 where
+  nothing : Happened begin logs [] [] begin
   one_more : (steps : List Step) (replies : List Reply) (old : Knowledge) (step : Step) (what : Event) (reply : Reply) (new : Knowledge)
-      → Happened logs steps replies old → IsEventOf logs steps replies step.vnode step.entry what reply → Happens [] old what reply new
-      → Happened logs (steps ++ step ∷ []) (replies ++ reply ∷ []) new
+      → Happened begin logs steps replies old → IsEventOf logs steps replies step.vnode step.entry what reply → Happens [] old what reply new
+      → Happened begin logs (steps ++ step ∷ []) (replies ++ reply ∷ []) new
 
--- All entries of all journals, in the order of their stamps, are a run of the world. So no write had seen its own identifier or a later put's, no
+-- From a beginning on, to which the fronts of journals have led, the entries behind the fronts are a run of the world, in the order of the stamps of
+-- all entries, of which none stands twice, and the fronts come first. So no write had seen its own identifier or a later put's, no
 -- identifier of a key stands for two, and each journal leaves at each key the current ones of the writes that its vnode knows, and their context.
-pub record IsInterleaving (logs : List Log) : Type 0 where
+pub record IsInterleavingFrom (begin : Knowledge) (fronts : List ℕ) (logs : List Log) : Type 0 where
   pub order : List Step
   pub in_order : IsInStampOrder logs order
+  pub first : ComeFirst fronts order
   pub replies : List Reply
   pub known : Knowledge
-  pub happened : Happened logs order replies known
+  pub happened : Happened begin logs (steps_behind fronts order) replies known
   pub events : List Event
-  pub run : Run [] (opened (ids_of logs)) events replies known
+  pub run : Run [] begin events replies known
   pub causal : IsCausal known.puts
   pub siblings : (vnode : ℕ) (key : Key) → vnode < length logs → ShowsAt (log_at logs vnode).entries key (known_at known vnode key)
+
+-- All entries of all journals, in the order of their stamps, are a run of the world: nothing has happened before, and the fronts are empty.
+abbrev pub IsInterleaving : List Log → Type 0
+IsInterleaving logs = IsInterleavingFrom (opened (ids_of logs)) [] logs

@@ -11,11 +11,11 @@ use Rattle.world.specs.Running.{Remember}
 use Rattle.rerun.specs.Order.{Step}
 use Rattle.rerun.specs.Interleaved.{Happened}
 
--- these steps happened, the vnodes are now these, and the reads among them answered these messages
-pub record IsSoFar (logs : List Log) (steps : List Step) (now : List Log) (messages : List (Option Message)) : Type 0 where
+-- from a beginning on these steps happened, the vnodes are now these, and the reads among them answered these messages
+pub record IsSoFar (begin : Knowledge) (logs : List Log) (steps : List Step) (now : List Log) (messages : List (Option Message)) : Type 0 where
   pub replies : List Reply
   pub known : Knowledge
-  pub happened : Happened logs steps replies known
+  pub happened : Happened begin logs steps replies known
   pub represents : Represents now known
   pub remember : Remember replies known
   pub len : length messages ≡ length replies

@@ -15,41 +15,51 @@ use Rattle.findings.specs.declared.fault.FollowFault.{FollowFault}
 use Rattle.findings.specs.declared.fault.FollowFault.TheVariants.{Found, NoMemory}
 use Rattle.rerun.specs.declared.kept.Kept.{Kept}
 use Rattle.rerun.specs.declared.kept.Kept.TheVariants as kept
+use Rattle.rerun.specs.Beginnings.{AreWhole, IsBehind, IsInFront}
 use Rattle.rerun.specs.Followed.{kept_at}
 
--- a read of this key stands at a place of the vnode with an identifier
-abbrev pub IsReadAt : List Log → ℕ → ℕ → Key → Type 0
-IsReadAt logs from at key = (index : ℕ) × ((log_at logs index).vnode ≡ from) × ((stamp : ℕ) × EntryIn logs index at (Read stamp key))
+-- a read of this key stands at a place of the vnode with an identifier, behind its front
+abbrev pub IsReadAt : List ℕ → List Log → ℕ → ℕ → Key → Type 0
+IsReadAt fronts logs from at key = (index : ℕ) × ((log_at logs index).vnode ≡ from) × ((stamp : ℕ) × EntryIn logs index at (Read stamp key)) × IsBehind fronts index at
 
 -- what the read of a key that stands there answered: what the entries before it leave
 abbrev pub IsAnswerAt : List Log → ℕ → ℕ → Key → State → Type 0
 IsAnswerAt logs from at key state = (index : ℕ) × (index < length logs) × ((log_at logs index).vnode ≡ from) × IsReplay (take at (log_at logs index).entries) key state
 
--- What is wrong with an entry that is the next one of the vnode with this index, where these entries were followed, and of so many of the last
--- ones of each vnode answers were kept.
-abbrev pub IsWrong : List Log → ℕ → ℕ → Entry → FollowCode → Type 0
+-- an entry that is the next one of the vnode with this index is a merge behind its front
+abbrev pub IsMergeBehind : List ℕ → List Log → ℕ → Entry → ℕ → Key → ℕ → ℕ → State → Type 0
+IsMergeBehind fronts logs index e stamp key from at state = (e ≡ Merge stamp key from at state) × IsBehind fronts index (length (log_at logs index).entries)
+
+-- What is wrong with an entry that is the next one of the vnode with this index, where these entries were followed, the first ones of each vnode as what was there
+-- before, and of so many of the last ones of each vnode answers were kept.
+abbrev pub IsWrong : List ℕ → List Log → ℕ → ℕ → Entry → FollowCode → Type 0
 -- its stamp stands in the journal of another vnode
-IsWrong logs recent index e Twice = (other place : ℕ) × (a : Entry) × EntryIn logs other place a × (other ≢ index) × (stamp_of a ≡ stamp_of e)
+IsWrong fronts logs recent index e Twice = (other place : ℕ) × (a : Entry) × EntryIn logs other place a × (other ≢ index) × (stamp_of a ≡ stamp_of e)
 -- its stamp is not above that of the entry before it in its journal
-IsWrong logs recent index e Falls = (place : ℕ) × (a : Entry) × EntryIn logs index place a × (place + 1 ≡ length (log_at logs index).entries) × (stamp_of e ≤ stamp_of a)
--- it is a merge that names no earlier read of its key
-IsWrong logs recent index e NoSource = (stamp : ℕ) × (key : Key) × (from at : ℕ) × (state : State) × (e ≡ Merge stamp key from at state) × (IsReadAt logs from at key → ⊥)
+IsWrong fronts logs recent index e Falls = (place : ℕ) × (a : Entry) × EntryIn logs index place a × (place + 1 ≡ length (log_at logs index).entries) × (stamp_of e ≤ stamp_of a)
+-- it is a merge that names no earlier read of its key behind the fronts
+IsWrong fronts logs recent index e NoSource = (stamp : ℕ) × (key : Key) × (from at : ℕ) × (state : State) × IsMergeBehind fronts logs index e stamp key from at state × (IsReadAt fronts logs from at key → ⊥)
 -- it is a merge that names an earlier read of its key, which answered another state
-IsWrong logs recent index e OtherState = (stamp : ℕ) × (key : Key) × (from at : ℕ) × (state : State) × (e ≡ Merge stamp key from at state) × IsReadAt logs from at key × (IsAnswerAt logs from at key state → ⊥)
+IsWrong fronts logs recent index e OtherState = (stamp : ℕ) × (key : Key) × (from at : ℕ) × (state : State) × IsMergeBehind fronts logs index e stamp key from at state × IsReadAt fronts logs from at key × (IsAnswerAt logs from at key state → ⊥)
 -- it is a merge that names an earlier entry, after which more were followed of that vnode than answers are kept of
-IsWrong logs recent index e GivenUp =
-    (stamp : ℕ) × (key : Key) × (from at : ℕ) × (state : State) × (e ≡ Merge stamp key from at state) × ((other : ℕ) × (other < length logs) × ((log_at logs other).vnode ≡ from) × (at + recent < length (log_at logs other).entries))
--- its stamp is below that of one that was followed
-IsWrong logs recent index e Late = (other place : ℕ) × (a : Entry) × EntryIn logs other place a × (stamp_of e < stamp_of a)
+IsWrong fronts logs recent index e GivenUp =
+    (stamp : ℕ) × (key : Key) × (from at : ℕ) × (state : State) × IsMergeBehind fronts logs index e stamp key from at state × ((other : ℕ) × (other < length logs) × ((log_at logs other).vnode ≡ from) × (at + recent < length (log_at logs other).entries))
+-- its stamp is below that of one that was followed; or it is behind its front, and another vnode's front isn't whole
+IsWrong fronts logs recent index e Late =
+    ((other place : ℕ) × (a : Entry) × EntryIn logs other place a × (stamp_of e < stamp_of a)) ⊎ (IsBehind fronts index (length (log_at logs index).entries) × ((other : ℕ) × (other < length logs) × IsInFront fronts logs other))
 -- it may not follow those before it in its journal
-IsWrong logs recent index e Illegal = MayFollow (log_at logs index).vnode (log_at logs index).entries e → ⊥
+IsWrong fronts logs recent index e Illegal = MayFollow (log_at logs index).vnode (log_at logs index).entries e → ⊥
 
 -- an entry that is a merge names an earlier read of its key, which answered its state
-abbrev pub HasReadOf : List Log → Entry → Type 0
-HasReadOf logs (Merge stamp key from at state) = IsReadAt logs from at key × IsAnswerAt logs from at key state
-HasReadOf logs (Put stamp key seen content dot) = Unit {0}
-HasReadOf logs (Read stamp key) = Unit {0}
-HasReadOf logs (Restart stamp) = Unit {0}
+abbrev pub HasReadOf : List ℕ → List Log → Entry → Type 0
+HasReadOf fronts logs (Merge stamp key from at state) = IsReadAt fronts logs from at key × IsAnswerAt logs from at key state
+HasReadOf fronts logs (Put stamp key seen content dot) = Unit {0}
+HasReadOf fronts logs (Read stamp key) = Unit {0}
+HasReadOf fronts logs (Restart stamp) = Unit {0}
+
+-- an entry that is the next one of the vnode with this index is of its front, or the fronts are whole, and it names its source where it is a merge
+abbrev pub IsFounded : List ℕ → List Log → ℕ → Entry → Type 0
+IsFounded fronts logs index e = IsInFront fronts logs index ⊎ (AreWhole fronts logs × HasReadOf fronts logs e)
 
 -- an entry's stamp is above those of all that were followed
 abbrev pub IsAfterAll : List Log → Entry → Type 0
@@ -57,9 +67,9 @@ IsAfterAll logs e = (index place : ℕ) (a : Entry) → EntryIn logs index place
 
 -- what is told of the next entry of the vnode with this index: what is wrong with it, at its identifier and place; or memory was refused, and none of
 -- these faults, but that it may not be legal
-abbrev pub IsToldOf : List Log → ℕ → ℕ → Entry → FollowFault → Type 0
-IsToldOf logs recent index e (Found code vnode place) = ((log_at logs index).vnode ≡ vnode) × (length (log_at logs index).entries ≡ place) × IsWrong logs recent index e code
-IsToldOf logs recent index e NoMemory = IsAfterAll logs e × HasReadOf logs e
+abbrev pub IsToldOf : List ℕ → List Log → ℕ → ℕ → Entry → FollowFault → Type 0
+IsToldOf fronts logs recent index e (Found code vnode place) = ((log_at logs index).vnode ≡ vnode) × (length (log_at logs index).entries ≡ place) × IsWrong fronts logs recent index e code
+IsToldOf fronts logs recent index e NoMemory = IsAfterAll logs e × IsFounded fronts logs index e
 
 -- ---- how the faults are found
 
@@ -105,6 +115,10 @@ IsSourceFault logs answers (Put stamp key seen content dot) code = ⊥
 IsSourceFault logs answers (Read stamp key) code = ⊥
 IsSourceFault logs answers (Restart stamp) code = ⊥
 
+-- an entry that is behind the front of the vnode with this index comes before the fronts are whole, or its source is wrong
+abbrev pub IsPlaceFault : List ℕ → List Log → List (List Kept) → ℕ → Entry → FollowCode → Type 0
+IsPlaceFault fronts logs answers index e code = IsBehind fronts index (length (log_at logs index).entries) × (((code ≡ Late) × ((other : ℕ) × (other < length logs) × IsInFront fronts logs other)) ⊎ IsSourceFault logs answers e code)
+
 -- what an entry is found to be
-abbrev pub IsFoundWrong : List Log → List (List Kept) → Option ℕ → ℕ → ℕ → Entry → FollowCode → Type 0
-IsFoundWrong logs answers last newest index e code = IsStampFault last newest index (stamp_of e) code ⊎ IsSourceFault logs answers e code
+abbrev pub IsFoundWrong : List ℕ → List Log → List (List Kept) → Option ℕ → ℕ → ℕ → Entry → FollowCode → Type 0
+IsFoundWrong fronts logs answers last newest index e code = IsStampFault last newest index (stamp_of e) code ⊎ IsPlaceFault fronts logs answers index e code

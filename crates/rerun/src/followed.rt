@@ -1,11 +1,12 @@
 //! What was followed of some vnodes.
 
-ghost use Rattle.std.specs.Prelude.{◌≡◌, ◌≢◌, ◌<◌, ℕ, IfOk, IfErr, OnOk, MatchOption, Err, None, Some, length};
+ghost use Rattle.std.specs.Prelude.{◌≡◌, ◌≢◌, ◌<◌, ℕ, IfOk, IfErr, OnOk, MatchBool, MatchOption, Err, None, Some, length};
 ghost use Rattle.journal.specs.Stamps.{stamp_of};
 ghost use Rattle.world.specs.Represents.{AreDistinct, empty_logs, log_at, with_entry_at};
 ghost use Rattle.rerun.specs.Again.{answer_of};
-ghost use Rattle.rerun.specs.Wrong.{IsNewest, IsStampFault, IsMergeFault, IsSourceFault, IsFoundWrong, IsAfterAll, HasReadOf, IsToldOf};
-ghost use Rattle.rerun.specs.Followed.{HasFollowed, HasSource, IsAbove, IsSourceKept, kept_of};
+ghost use Rattle.rerun.specs.Wrong.{IsNewest, IsStampFault, IsMergeFault, IsSourceFault, IsPlaceFault, IsFoundWrong, IsAfterAll, IsFounded, IsToldOf};
+ghost use Rattle.rerun.specs.Beginnings.{AreWhole, IsBehind, IsInFront};
+ghost use Rattle.rerun.specs.Followed.{HasFollowed, HasSource, IsAbove, IsExpected, IsSourceKept, kept_of};
 
 use crate::again::{Again, Refusal, happen};
 use crate::kept::{Answers, Found, Kept};
@@ -68,9 +69,21 @@ fn keep_answer(entry: &Entry, again: Again) -> Result<Kept, AllocError>
     }
 }
 
+// What is kept of an entry that answered so: nothing of one of a front, since no merge may name it.
+fn keep_step(in_front: bool, entry: &Entry, again: Again) -> Result<Kept, AllocError>
+    ensures { IfOk result (λ kept. MatchBool in_front (kept ≡ Kept.Other) (kept ≡ kept_of entry.now (answer_of again))) }
+{
+    if in_front {
+        return Ok(Kept::Other);
+    }
+    keep_answer(entry, again)
+}
+
 /// What was followed of some vnodes, and what is kept of it.
 #[derive(Drop)]
 pub(crate) struct Followed {
+    /// How many of the first entries of each vnode are no steps: they were there before.
+    pub(crate) fronts: Vec<usize>,
     pub(crate) vnodes: Vec<Vnode>,
     pub(crate) answers: Vec<Answers>,
     /// The highest stamp, and whose it was.
@@ -82,13 +95,19 @@ pub(crate) struct Followed {
     pub(crate) fault: Option<FollowFault>,
 }
 
-/// Nothing was followed of vnodes with these identifiers.
-pub(crate) fn open(alloc: Global, ids: &[u32], recent: usize) -> Result<Followed, AllocError>
+/// Nothing was followed of vnodes with these identifiers, of whose journals these are the fronts.
+pub(crate) fn open(
+    alloc: Global,
+    ids: &[u32],
+    fronts: Vec<usize>,
+    recent: usize,
+) -> Result<Followed, AllocError>
     requires distinct { AreDistinct ids.now }
-    ensures run { IfOk result (λ followed. HasFollowed followed.vnodes.items followed.last followed.recent followed.answers.items) }
+    ensures run { IfOk result (λ followed. HasFollowed followed.fronts.items followed.vnodes.items followed.last followed.recent followed.answers.items) }
     ensures newest { IfOk result (λ followed. IsNewest followed.vnodes.items followed.last followed.last_index) }
     ensures recent { IfOk result (λ followed. followed.recent ≡ recent) }
     ensures vnodes { IfOk result (λ followed. followed.vnodes.items ≡ empty_logs ids.now) }
+    ensures fronts { IfOk result (λ followed. followed.fronts.items ≡ fronts.items) }
     ensures fault { IfOk result (λ followed. followed.fault ≡ None) }
 {
     let mut vnodes = Vec::new(alloc);
@@ -98,6 +117,7 @@ pub(crate) fn open(alloc: Global, ids: &[u32], recent: usize) -> Result<Followed
         answers.push(Answers::new(alloc))?;
     }
     Ok(Followed {
+        fronts,
         vnodes,
         answers,
         last: None,
@@ -147,15 +167,55 @@ impl Followed {
         }
     }
 
+    // Whether the next entry of a vnode is one of its front.
+    fn is_in_front(&self, index: usize) -> bool
+        requires inside { index < length self.now.vnodes.items }
+        ensures { MatchBool result (IsInFront self.now.fronts.items self.now.vnodes.items index) (IsBehind self.now.fronts.items index (length (log_at self.now.vnodes.items index).entries)) }
+    {
+        match self.fronts.get(index) {
+            Some(front) => self.vnodes[index].journal().len() < *front,
+            None => false,
+        }
+    }
+
+    // The first vnode whose front isn't whole.
+    fn lacking(&self) -> Option<usize>
+        ensures { MatchOption result (AreWhole self.now.fronts.items self.now.vnodes.items) (λ other. (other < length self.now.vnodes.items) × IsInFront self.now.fronts.items self.now.vnodes.items other) }
+    {
+        for index in 0..self.vnodes.len() {
+            if self.is_in_front(index) {
+                return Some(index);
+            }
+        }
+        None
+    }
+
+    // Whether an entry is of its vnode's front, or comes once the fronts are whole and has its source.
+    fn check_place(&self, index: usize, entry: &Entry) -> Result<(), FollowCode>
+        requires size { length self.now.answers.items ≡ length self.now.vnodes.items }
+        requires inside { index < length self.now.vnodes.items }
+        ensures ok { OnOk result (IsExpected self.now.fronts.items self.now.vnodes.items self.now.answers.items index entry.now) }
+        ensures err { IfErr result (λ code. IsPlaceFault self.now.fronts.items self.now.vnodes.items self.now.answers.items index entry.now code) }
+    {
+        if self.is_in_front(index) {
+            return Ok(());
+        }
+        match self.lacking() {
+            Some(_) => Err(FollowCode::Late),
+            None => self.check_source(entry),
+        }
+    }
+
     /// Whether an entry may be the next one of all, but that it may not follow those at its vnode.
     pub(crate) fn check(&self, index: usize, entry: &Entry) -> Result<(), FollowCode>
         requires size { length self.now.answers.items ≡ length self.now.vnodes.items }
+        requires inside { index < length self.now.vnodes.items }
         ensures above { OnOk result (IsAbove self.now.last (stamp_of entry.now)) }
-        ensures source { OnOk result (HasSource self.now.vnodes.items self.now.answers.items entry.now) }
-        ensures err { IfErr result (λ code. IsFoundWrong self.now.vnodes.items self.now.answers.items self.now.last self.now.last_index index entry.now code) }
+        ensures place { OnOk result (IsExpected self.now.fronts.items self.now.vnodes.items self.now.answers.items index entry.now) }
+        ensures err { IfErr result (λ code. IsFoundWrong self.now.fronts.items self.now.vnodes.items self.now.answers.items self.now.last self.now.last_index index entry.now code) }
     {
         match self.check_stamp(index, entry.stamp()) {
-            Ok(()) => self.check_source(entry),
+            Ok(()) => self.check_place(index, entry),
             Err(code) => Err(code),
         }
     }
@@ -185,25 +245,27 @@ impl Followed {
 
     // An entry of a vnode happens again.
     fn step(&mut self, alloc: Global, index: usize, entry: &Entry) -> Result<(), FollowFault>
-        requires run { HasFollowed self.old.vnodes.items self.old.last self.old.recent self.old.answers.items }
+        requires run { HasFollowed self.old.fronts.items self.old.vnodes.items self.old.last self.old.recent self.old.answers.items }
         requires inside { index < length self.old.vnodes.items }
         requires above { IsAbove self.old.last (stamp_of entry.now) }
-        requires source { HasSource self.old.vnodes.items self.old.answers.items entry.now }
-        ensures run { OnOk result (HasFollowed self.new.vnodes.items self.new.last self.new.recent self.new.answers.items) }
+        requires place { IsExpected self.old.fronts.items self.old.vnodes.items self.old.answers.items index entry.now }
+        ensures run { OnOk result (HasFollowed self.new.fronts.items self.new.vnodes.items self.new.last self.new.recent self.new.answers.items) }
         ensures next { OnOk result (self.new.vnodes.items ≡ with_entry_at self.old.vnodes.items index entry.now) }
         ensures newest { OnOk result (IsNewest self.new.vnodes.items self.new.last self.new.last_index) }
         ensures size { length self.new.vnodes.items ≡ length self.old.vnodes.items }
         ensures recent { self.new.recent ≡ self.old.recent }
+        ensures fronts { self.new.fronts ≡ self.old.fronts }
         ensures fault { self.new.fault ≡ self.old.fault }
-        ensures told { IfErr result (λ fault. IsToldOf self.old.vnodes.items self.old.recent index entry.now fault) }
+        ensures told { IfErr result (λ fault. IsToldOf self.old.fronts.items self.old.vnodes.items self.old.recent index entry.now fault) }
     {
         let illegal = self.fault_at(index, FollowCode::Illegal);
+        let in_front = self.is_in_front(index);
         let again = match happen(alloc, &mut self.vnodes[index], entry) {
             Ok(again) => again,
             Err(Refusal::Illegal) => return Err(illegal),
             Err(Refusal::NoMemory) => return Err(FollowFault::NoMemory),
         };
-        let kept = keep_answer(entry, again)?;
+        let kept = keep_step(in_front, entry, again)?;
         self.answers[index].keep(kept, self.recent)?;
         self.last = Some(entry.stamp());
         self.last_index = index;
@@ -217,19 +279,20 @@ impl Followed {
         index: usize,
         entry: &Entry,
     ) -> Result<(), FollowFault>
-        requires run { HasFollowed self.old.vnodes.items self.old.last self.old.recent self.old.answers.items }
+        requires run { HasFollowed self.old.fronts.items self.old.vnodes.items self.old.last self.old.recent self.old.answers.items }
         requires inside { index < length self.old.vnodes.items }
         requires above { IsAbove self.old.last (stamp_of entry.now) }
-        requires source { HasSource self.old.vnodes.items self.old.answers.items entry.now }
-        ensures run { OnOk result (HasFollowed self.new.vnodes.items self.new.last self.new.recent self.new.answers.items) }
+        requires place { IsExpected self.old.fronts.items self.old.vnodes.items self.old.answers.items index entry.now }
+        ensures run { OnOk result (HasFollowed self.new.fronts.items self.new.vnodes.items self.new.last self.new.recent self.new.answers.items) }
         ensures next { OnOk result (self.new.vnodes.items ≡ with_entry_at self.old.vnodes.items index entry.now) }
         ensures newest { OnOk result (IsNewest self.new.vnodes.items self.new.last self.new.last_index) }
-        ensures right { OnOk result (IsAfterAll self.old.vnodes.items entry.now × HasReadOf self.old.vnodes.items entry.now) }
+        ensures right { OnOk result (IsAfterAll self.old.vnodes.items entry.now × IsFounded self.old.fronts.items self.old.vnodes.items index entry.now) }
         ensures size { length self.new.vnodes.items ≡ length self.old.vnodes.items }
         ensures recent { self.new.recent ≡ self.old.recent }
+        ensures fronts { self.new.fronts ≡ self.old.fronts }
         ensures going { OnOk result (self.new.fault ≡ self.old.fault) }
         ensures fault { IfErr result (λ fault. self.new.fault ≡ Some fault) }
-        ensures told { IfErr result (λ fault. IsToldOf self.old.vnodes.items self.old.recent index entry.now fault) }
+        ensures told { IfErr result (λ fault. IsToldOf self.old.fronts.items self.old.vnodes.items self.old.recent index entry.now fault) }
     {
         let gone = self.step(alloc, index, entry);
         if let Err(fault) = gone {

@@ -1,9 +1,10 @@
 //! Entries of several vnodes happen again, one after another.
 
-ghost use Rattle.std.specs.Prelude.{◌≡◌, ◌≢◌, ◌<◌, ◌≤◌, ◌^◌, ℕ, IfOk, IfErr, OnOk, MatchOption, None, Some, length};
+ghost use Rattle.std.specs.Prelude.{[], ◌≡◌, ◌≢◌, ◌<◌, ◌≤◌, ◌^◌, ℕ, IfOk, IfErr, OnOk, MatchOption, None, Some, length};
 ghost use Rattle.world.specs.Represents.{AreDistinct, empty_logs, log_at, with_entry_at};
 ghost use Rattle.rerun.specs.Interleaved.{IsInterleaving};
-ghost use Rattle.rerun.specs.Wrong.{IsAfterAll, HasReadOf, IsToldOf};
+ghost use Rattle.rerun.specs.Runs.{IsRunFrom};
+ghost use Rattle.rerun.specs.Wrong.{IsAfterAll, IsFounded, IsToldOf};
 
 use crate::followed::{Followed, index_of, open};
 use findings::FollowFault;
@@ -12,7 +13,8 @@ use std::alloc::{AllocError, Global};
 use std::marker::Model;
 
 /// Entries of several vnodes that happen again, one after another, at vnodes of its own that settle. As long as it has found no
-/// fault, all that has happened is one run of the world.
+/// fault, all that has happened is one run of the world. So many of the first entries of each vnode, its front, may be no part of it: they were there
+/// before, so their sources aren't asked for, and no merge may name them. They come first.
 #[derive(Drop)]
 pub struct Rerun {
     alloc: Global,
@@ -20,16 +22,16 @@ pub struct Rerun {
 }
 
 impl Model for Rerun {
-    ghost use Rattle.std.specs.Prelude.{◌≡◌, None};
+    ghost use Rattle.std.specs.Prelude.{[], ◌≡◌, None};
     ghost use Rattle.rerun.specs.Followed.{HasFollowed};
     ghost use Rattle.rerun.specs.Wrong.{IsNewest};
     ghost use Rattle.rerun.specs.Reran.{Reran};
 
     ghost Value = { Reran };
 
-    ghost view = { λ r. record { logs = r.followed.vnodes.items; fault = r.followed.fault; recent = r.followed.recent } };
+    ghost view = { λ r. record { fronts = r.followed.fronts.items; logs = r.followed.vnodes.items; fault = r.followed.fault; recent = r.followed.recent } };
 
-    ghost invariant = { λ r. r.followed.fault ≡ None → HasFollowed r.followed.vnodes.items r.followed.last r.followed.recent r.followed.answers.items × IsNewest r.followed.vnodes.items r.followed.last r.followed.last_index };
+    ghost invariant = { λ r. r.followed.fault ≡ None → HasFollowed r.followed.fronts.items r.followed.vnodes.items r.followed.last r.followed.recent r.followed.answers.items × IsNewest r.followed.vnodes.items r.followed.last r.followed.last_index };
 }
 
 impl Rerun {
@@ -41,11 +43,37 @@ impl Rerun {
         ensures run { IfOk result (λ rerun. IsInterleaving rerun.logs) }
         ensures fault { IfOk result (λ rerun. rerun.fault ≡ None) }
         ensures recent { IfOk result (λ rerun. rerun.recent ≡ recent) }
+        ensures fronts { IfOk result (λ rerun. rerun.fronts ≡ []) }
+    {
+        Rerun::new_from(alloc, ids, Vec::new(alloc), recent)
+    }
+
+    /// The same of vnodes of which so many of the first entries of each, by index, were there before the run: its front. Where there is no number
+    /// for a vnode, it has none.
+    pub fn new_from(
+        alloc: Global,
+        ids: &[u32],
+        fronts: Vec<usize>,
+        recent: usize,
+    ) -> Result<Rerun, AllocError>
+        requires distinct { AreDistinct ids.now }
+        ensures logs { IfOk result (λ rerun. rerun.logs ≡ empty_logs ids.now) }
+        ensures run { IfOk result (λ rerun. IsRunFrom rerun.fronts rerun.logs) }
+        ensures fault { IfOk result (λ rerun. rerun.fault ≡ None) }
+        ensures recent { IfOk result (λ rerun. rerun.recent ≡ recent) }
+        ensures fronts { IfOk result (λ rerun. rerun.fronts ≡ fronts.items) }
     {
         Ok(Rerun {
             alloc,
-            followed: open(alloc, ids, recent)?,
+            followed: open(alloc, ids, fronts, recent)?,
         })
+    }
+
+    /// How many of the first entries of each vnode were there before the run, by index, as far as there is a number.
+    pub fn fronts(&self) -> &[usize]
+        ensures { result.now ≡ self.now.fronts }
+    {
+        &self.followed.fronts
     }
 
     /// How many vnodes there are.
@@ -82,27 +110,28 @@ impl Rerun {
     /// The fault that was found, if any. Where there is none, what has happened is one run of the world.
     pub fn fault(&self) -> Option<FollowFault>
         ensures fault { result ≡ self.now.fault }
-        ensures run { result ≡ None → IsInterleaving self.now.logs }
+        ensures run { result ≡ None → IsRunFrom self.now.fronts self.now.logs }
     {
         self.followed.fault
     }
 
     /// The next entry of the vnode with this index happens again, where no fault was found: a put with its dot, a merge as the delivery
-    /// of what the earlier read that it names answered.
+    /// of what the earlier read that it names answered, or as what it says where it is one of its vnode's front.
     ///
     /// A fault is that of this entry, and the last: from then on nothing happens. A merge that names an answer that was given up is told as such,
     /// though it may be right.
     pub fn go_on(&mut self, index: usize, entry: &Entry) -> Result<(), FollowFault>
         requires going { self.old.fault ≡ None }
         requires inside { index < length self.old.logs }
-        ensures run { OnOk result (IsInterleaving self.new.logs) }
+        ensures run { OnOk result (IsRunFrom self.old.fronts self.new.logs) }
         ensures next { OnOk result (self.new.logs ≡ with_entry_at self.old.logs index entry.now) }
-        ensures right { OnOk result (IsAfterAll self.old.logs entry.now × HasReadOf self.old.logs entry.now) }
+        ensures right { OnOk result (IsAfterAll self.old.logs entry.now × IsFounded self.old.fronts self.old.logs index entry.now) }
         ensures going { OnOk result (self.new.fault ≡ None) }
         ensures fault { IfErr result (λ fault. self.new.fault ≡ Some fault) }
-        ensures told { IfErr result (λ fault. IsToldOf self.old.logs self.old.recent index entry.now fault) }
+        ensures told { IfErr result (λ fault. IsToldOf self.old.fronts self.old.logs self.old.recent index entry.now fault) }
         ensures size { length self.new.logs ≡ length self.old.logs }
         ensures recent { self.new.recent ≡ self.old.recent }
+        ensures fronts { self.new.fronts ≡ self.old.fronts }
     {
         match self.followed.check(index, entry) {
             Ok(()) => self.followed.go_on(self.alloc, index, entry),

@@ -1,6 +1,6 @@
 //! Whether each merge has its state from an earlier read: the entries of journals happen again, in the order of their stamps.
 
-ghost use Rattle.std.specs.Prelude.{◌≡◌, ◌≤◌, ◌+◌, IfOk, IfErr, OnOk, None, length, slice_set};
+ghost use Rattle.std.specs.Prelude.{[], ◌≡◌, ◌≤◌, ◌+◌, IfOk, IfErr, OnOk, None, length, slice_set};
 ghost use Rattle.journal.specs.Logs.{max_entries};
 ghost use Rattle.world.specs.Represents.{AreDistinct, empty_logs};
 ghost use Rattle.rerun.specs.Faulty.{NoneFalls, NoneTwice, AllHaveSources, IsFault};
@@ -35,6 +35,7 @@ fn open(alloc: Global, journals: &[Whole<'_>]) -> Result<Rerun, AllocError>
     ensures run { IfOk result (λ rerun. IsInterleaving rerun.logs) }
     ensures fault { IfOk result (λ rerun. rerun.fault ≡ None) }
     ensures all { IfOk result (λ rerun. max_entries ≤ rerun.recent) }
+    ensures fronts { IfOk result (λ rerun. rerun.fronts ≡ []) }
 {
     let ids = identifiers(alloc, journals)?;
     Rerun::new(alloc, &ids, usize::MAX)
@@ -68,12 +69,14 @@ fn go_on(
     requires run { HasRun journals.now counts.old rerun.old.logs }
     requires going { rerun.old.fault ≡ None }
     requires all { max_entries ≤ rerun.old.recent }
+    requires fronts { rerun.old.fronts ≡ [] }
     requires next { IsNextBelow journals.now counts.old (length journals.now) head }
     requires place { place ≡ count_at counts.old head.index }
     ensures run { OnOk result (HasRun journals.now counts.new rerun.new.logs) }
     ensures counts { OnOk result (counts.new ≡ slice_set counts.old head.index (count_at counts.old head.index + 1)) }
     ensures going { OnOk result (rerun.new.fault ≡ None) }
     ensures all { rerun.new.recent ≡ rerun.old.recent }
+    ensures fronts { rerun.new.fronts ≡ rerun.old.fronts }
     ensures err { IfErr result (IsFault journals.now) }
 {
     let Some(entry) = entry_at(journals, head.index, place as usize) else {

@@ -1,5 +1,6 @@
 //! The tests by what is tried.
 
+mod beginnings;
 mod blocks;
 mod building;
 mod gates;

@@ -3,6 +3,7 @@
 ghost use Rattle.std.specs.Prelude.{◌<◌, ◌^◌};
 
 use crate::tests::building::{key_of, value_of};
+use code_parts::expect;
 use follow::Follower;
 use journal::Handout;
 use object::{Content, Key};
@@ -73,10 +74,23 @@ impl Pair {
         }
         self.follow(alloc, 8 * 1024)
     }
+
+    /// Whether so many entries of each vnode were taken.
+    fn has_taken(&self, count: usize) -> bool {
+        (0..self.follower.count()).all(|index| {
+            self.follower
+                .followed(index)
+                .saturating_add(self.follower.waiting(index))
+                == count
+        })
+    }
 }
 
 /// How many rounds there are.
 const ROUNDS: u64 = 1_050;
+
+/// How many entries of each vnode stand in full blocks at the end.
+const HANDED_OUT: usize = 4_096;
 
 /// Vnodes that settle as they go, and a follower that goes along: each journal has 4,200 entries, of which 4,096 are handed out.
 #[test]
@@ -89,5 +103,6 @@ fn blocks_are_followed(rt: HostRuntime) -> Result<(), Fail> {
         b: Vnode::new(alloc, 1),
         follower: Follower::new(alloc, &[0, 1], 16)?,
     };
-    pair.rounds(alloc, &key, &content)
+    pair.rounds(alloc, &key, &content)?;
+    expect(pair.has_taken(HANDED_OUT), &HANDED_OUT)
 }

@@ -1,5 +1,4 @@
 use Rattle.std.proofs.Common.{◌≡◌, ◌<◌, ℕ, length}
-use Rattle.journal.specs.Journals.{IsJournal}
 use Rattle.world.specs.Represents.{log_at}
 use Rattle.closing.proofs.ending.has_all.Given as goal
 
@@ -8,5 +7,4 @@ abbrev pub invariant-loop-index : goal.invariant-loop-index
 invariant-loop-index l = record {
   size : length l.follower.followed ≡ length l.vnodes;
   long : (index : ℕ) → index < l.index → length (log_at l.follower.followed index).entries ≡ length (log_at l.vnodes index).entries;
-  legal : (index : ℕ) → index < l.index → IsJournal (log_at l.vnodes index).vnode (log_at l.vnodes index).entries;
 }

@@ -8,4 +8,5 @@ invariant-loop-index l = record {
   taken : IsTakenTo l.initial.follower l.follower l.vnodes l.index;
   fault : l.follower.fault ≡ l.initial.follower.fault;
   recent : l.follower.recent ≡ l.initial.follower.recent;
+  fronts : l.follower.fronts ≡ l.initial.follower.fronts;
 }

@@ -21,5 +21,5 @@ returns-clause-run c =
     let all : c.loop-index.index ≡ length c.args.ids.now = search (rules) in
     let vnodes = c.loop-index.invariant.vnodes ∙ vnodes_all ids c.loop-index.index all in
     let answers : c.loop-index.answers.items ≡ replicate (length ids) (let none : List Kept = [] in none) = c.loop-index.invariant.answers ∙ ap (λ (n : ℕ). replicate n (let none : List Kept = [] in none)) all in
-    subst (λ (xs : List (List Kept)). HasFollowed c.loop-index.vnodes.items None c.args.recent xs) (sym answers)
-    (subst (λ (vs : List Log). HasFollowed vs None c.args.recent (replicate (length ids) [])) (sym vnodes) (opened ids c.args.recent c.requires.distinct))
+    subst (λ (xs : List (List Kept)). HasFollowed c.args.fronts.items c.loop-index.vnodes.items None c.args.recent xs) (sym answers)
+    (subst (λ (vs : List Log). HasFollowed c.args.fronts.items vs None c.args.recent (replicate (length ids) [])) (sym vnodes) (opened c.args.fronts.items ids c.args.recent c.requires.distinct))

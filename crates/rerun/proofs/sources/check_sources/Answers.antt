@@ -22,6 +22,7 @@ loop-head-init c =
           (subst (λ (now : List Log). HasRun logs (no_counts logs) now) (sym fresh.logs) (none_ran logs (subst (λ (now : List Log). IsInterleaving now) fresh.logs fresh.run)));
       going = fresh.fault;
       all = fresh.all;
+      fronts = fresh.fronts;
       heads = subst (λ (cs : List ℕ). AreHeads logs cs c.in_ok-heads.heads) c.deref.ensures.value c.in_ok-heads.ensures;
     }
 
@@ -50,6 +51,7 @@ loop-head-preserved c =
       run = subst (λ (cs : List ℕ). HasRun logs cs c.go_on.new.rerun.logs) (sym given) gone.run;
       going = gone.going;
       all = subst (λ (n : ℕ). max_entries ≤ n) (sym gone.all) so_far.all;
+      fronts = gone.fronts ∙ so_far.fronts;
       heads = subst (λ (cs : List ℕ). AreHeads logs cs c.join.new.heads) (sym same) (heads_go_on logs counts (count_at counts head.index + 1) c.loop-head.heads c.next_of.new.heads c.join.new.heads head so_far.run.split.size so_far.heads told.2 joins);
     }
 

@@ -1,4 +1,4 @@
-use Rattle.std.proofs.Common.{◌≡◌, List, set, sym, subst, ℕ, ◌+◌, Some}
+use Rattle.std.proofs.Common.{◌≡◌, List, [], set, sym, subst, ℕ, ◌+◌, Some}
 use Rattle.std.specs.Prelude.{slice_get}
 use Rattle.world.specs.Represents.{log_at}
 use Rattle.journal.specs.Logs.{Log}
@@ -8,8 +8,8 @@ use Rattle.rerun.specs.Faulty.{IsFault}
 use Rattle.rerun.specs.Fronts.{HasRun}
 use Rattle.rerun.specs.Interleaved.{IsInterleaving}
 use Rattle.rerun.specs.Turns.{EntryIn, count_at}
-use Rattle.rerun.specs.Wrong.{IsToldOf}
-use Rattle.rerun.proofs.Fronts.{ran_more, of_source, source_fault}
+use Rattle.rerun.specs.Wrong.{IsFounded, IsToldOf}
+use Rattle.rerun.proofs.Fronts.{ran_more, read_of, of_source, source_fault}
 use Rattle.rerun.proofs.Sorting.{with_next}
 use Rattle.rerun.proofs.sources.go_on.Goals as goal
 
@@ -25,7 +25,8 @@ returns-in-Ok-clause-run c =
     let gone = c.in-Ok.ensures in
     subst (λ (p : ℕ). HasRun logs (set counts head.index (p + 1)) c.go_on.new.self.logs) (sym c.requires.place)
     (subst (λ (after : List Log). HasRun logs (with_next counts head.index) after) (sym gone.next)
-    (ran_more logs counts now head e c.requires.distinct c.requires.rising c.requires.run next there gone.right.0 gone.right.1 (subst (λ (after : List Log). IsInterleaving after) gone.next gone.run)))
+    (ran_more logs counts now head e c.requires.distinct c.requires.rising c.requires.run next there gone.right.0
+    (read_of now head.index e (subst (λ (ns : List ℕ). IsFounded ns now head.index e) c.requires.fronts gone.right.1)) (subst (λ (after : List Log). IsInterleaving after) gone.next (gone.run.whole c.requires.fronts))))
 
 pub code_of-requires : goal.code_of-requires
 code_of-requires c =
@@ -34,7 +35,7 @@ code_of-requires c =
     let head = c.args.head in
     let e = c.in-Some.entry.now in
     let there : EntryIn logs head.index (count_at counts head.index) e = (c.requires.next.0, subst (λ (p : ℕ). slice_get (log_at logs head.index).entries p ≡ Some e) c.requires.place (sym c.in-Some.ensures)) in
-    let told = subst (λ (fault : FollowFault). IsToldOf c.args.rerun.now.logs c.args.rerun.now.recent head.index e fault) c.in-Err-Found.field-0-is c.in-Err-Found.ensures.told in
+    let told = subst (λ (fault : FollowFault). IsToldOf [] c.args.rerun.now.logs c.args.rerun.now.recent head.index e fault) c.in-Err-Found.field-0-is (subst (λ (ns : List ℕ). IsToldOf ns c.args.rerun.now.logs c.args.rerun.now.recent head.index e c.in-Err-Found.field-0) c.requires.fronts c.in-Err-Found.ensures.told) in
     of_source logs counts c.args.rerun.now.logs c.args.rerun.now.recent head.index e c.in-Err-Found.code c.requires.distinct c.requires.rising c.requires.single c.requires.legal c.requires.all c.requires.run there told.2
 
 pub returns-in-Err-Found-clause-err : goal.returns-in-Err-Found-clause-err
@@ -44,6 +45,6 @@ returns-in-Err-Found-clause-err c =
     let head = c.args.head in
     let e = c.in-Some.entry.now in
     let there : EntryIn logs head.index (count_at counts head.index) e = (c.requires.next.0, subst (λ (p : ℕ). slice_get (log_at logs head.index).entries p ≡ Some e) c.requires.place (sym c.in-Some.ensures)) in
-    let told = subst (λ (fault : FollowFault). IsToldOf c.args.rerun.now.logs c.args.rerun.now.recent head.index e fault) c.in-Err-Found.field-0-is c.in-Err-Found.ensures.told in
+    let told = subst (λ (fault : FollowFault). IsToldOf [] c.args.rerun.now.logs c.args.rerun.now.recent head.index e fault) c.in-Err-Found.field-0-is (subst (λ (ns : List ℕ). IsToldOf ns c.args.rerun.now.logs c.args.rerun.now.recent head.index e c.in-Err-Found.field-0) c.requires.fronts c.in-Err-Found.ensures.told) in
     subst (λ (p : ℕ). IsFault logs (Found c.code_of.result head.vnode p)) (sym c.requires.place)
     (source_fault logs counts c.args.rerun.now.logs c.args.rerun.now.recent head e c.in-Err-Found.code c.code_of.result c.requires.distinct c.requires.rising c.requires.single c.requires.run (c.requires.next) there told.2 c.code_of.ensures)

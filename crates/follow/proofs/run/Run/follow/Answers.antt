@@ -6,6 +6,7 @@ use Rattle.world.specs.Represents.{with_entry_at}
 use Rattle.follow.specs.Waiting.{AreTakenAlike, count_waiting}
 use Rattle.journal.specs.Stamps.{stamp_of}
 use Rattle.findings.specs.declared.fault.FollowFault.{FollowFault}
+use Rattle.rerun.specs.Runs.{IsRunFrom}
 use Rattle.rerun.specs.Wrong.{IsToldOf}
 use Rattle.follow.specs.Stops.{IsStop}
 use Rattle.rerun.proofs.Opening.{passed}
@@ -29,7 +30,8 @@ loop-index-preserved c =
     record {
       size = c.in_ok-step.ensures.size;
       going = c.in_ok-step.ensures.going;
-      run = c.in_ok-step.ensures.run;
+      run = subst (λ (ns : List ℕ). IsRunFrom ns c.step.new.self.rerun.logs) c.loop-index.invariant.fronts c.in_ok-step.ensures.run;
+      fronts = c.in_ok-step.ensures.fronts ∙ c.loop-index.invariant.fronts;
       recent = c.in_ok-step.ensures.recent ∙ c.loop-index.invariant.recent;
       alike = subst (λ (l : List Log). AreTakenAlike first waited l c.step.new.self.waiting.items) (sym next.2)
           (subst (λ (w : List (List Entry)). AreTakenAlike first waited (with_entry_at logs i next.0) w) (sym next.3)
@@ -43,7 +45,7 @@ returns-in_err-step-clause-stop c =
     let head = c.in-Some.ensures.1 in
     let told = c.in_err-step.ensures.told in
     let same : head.0 ≡ told.0 = same_Some head.0 told.0 (sym head.1 ∙ told.1) in
-    passed c.from_residual.result _ (λ (fault : FollowFault). IsStop own.rerun.logs own.waiting.items c.args.below own.rerun.recent fault) c.from_residual.ensures.1 (record {
+    passed c.from_residual.result _ (λ (fault : FollowFault). IsStop own.rerun.fronts own.rerun.logs own.waiting.items c.args.below own.rerun.recent fault) c.from_residual.ensures.1 (record {
       logs = now.rerun.logs;
       waiting = now.waiting.items;
       alike = c.loop-index.invariant.alike;
@@ -53,5 +55,6 @@ returns-in_err-step-clause-stop c =
       inside = c.in-Some.ensures.0;
       next = told.1;
       bound = subst (λ (e : Entry). stamp_of e < c.args.below) same head.2;
-      told = subst (λ (n : ℕ). IsToldOf now.rerun.logs n c.in-Some.index told.0 c.in_err-step.field-0.0) c.loop-index.invariant.recent told.2;
+      told = subst (λ (ns : List ℕ). IsToldOf ns now.rerun.logs own.rerun.recent c.in-Some.index told.0 c.in_err-step.field-0.0) c.loop-index.invariant.fronts
+          (subst (λ (n : ℕ). IsToldOf now.rerun.fronts now.rerun.logs n c.in-Some.index told.0 c.in_err-step.field-0.0) c.loop-index.invariant.recent told.2);
     })

@@ -1,5 +1,5 @@
 use Rattle.std.specs.Prelude.{◌≡◌, None, length}
-use Rattle.rerun.specs.Interleaved.{IsInterleaving}
+use Rattle.rerun.specs.Runs.{IsRunFrom}
 use Rattle.follow.specs.Waiting.{AreTakenAlike, count_waiting}
 use Rattle.follow.proofs.run.Run.follow.Given as goal
 
@@ -7,7 +7,8 @@ abbrev pub invariant-loop-index : goal.invariant-loop-index
 invariant-loop-index l = record {
   size : length l.self.waiting.items ≡ length l.self.rerun.logs;
   going : l.self.rerun.fault ≡ None;
-  run : IsInterleaving l.self.rerun.logs;
+  run : IsRunFrom l.initial.self.rerun.fronts l.self.rerun.logs;
+  fronts : l.self.rerun.fronts ≡ l.initial.self.rerun.fronts;
   recent : l.self.rerun.recent ≡ l.initial.self.rerun.recent;
   alike : AreTakenAlike l.initial.self.rerun.logs l.initial.self.waiting.items l.self.rerun.logs l.self.waiting.items;
 }
