@@ -1,0 +1,4 @@
+mod Spelled
+mod Above
+mod Made
+mod Ending

@@ -1,0 +1,9 @@
+use Rattle.keeping.proofs.Made.{reading_none, reading_more}
+use Rattle.keeping.proofs.snapshot.write_keys.Goals as goal
+
+pub loop-key-init : goal.loop-key-init
+loop-key-init g c = reading_none g.P.Peers.happens c.args.peers.now c.args.index c.args.keys.now (g.W.Write.contents c.args.out.now)
+
+pub loop-key-preserved : goal.loop-key-preserved
+loop-key-preserved g c = reading_more g.P.Peers.happens c.args.peers.now c.loop-key.peers c.write_key.new.peers c.args.index c.args.keys.now c.loop-key.key-index c.key-item.result
+    (g.W.Write.contents c.args.out.now) (g.W.Write.contents c.loop-key.out) (g.W.Write.contents c.write_key.new.out) c.loop-key-test.true c.key-item.is c.loop-key.invariant c.in_ok-write_key.ensures

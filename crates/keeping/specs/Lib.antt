@@ -1,0 +1,5 @@
+pub mod Records
+pub mod Files
+pub mod Numbers
+pub mod Starts
+pub mod Snapshots

@@ -1,0 +1,27 @@
+-- The calls by which a vnode's records are taken while it serves, and the records.
+use Rattle.std.specs.Prelude.{ℕ, List, [], ◌∷◌, Ok}
+use Rattle.std.specs.Global.{Vec}
+use Rattle.object.specs.declared.content.Key.{Key}
+use Rattle.wire.specs.declared.record.Record.{Record}
+use Rattle.peers.specs.declared.peers.Answer.{Answer}
+use Rattle.peers.specs.Calls.{Call, StateOf, KeysOf}
+
+-- a read of each key at a vnode, in order, and what each answered
+abbrev pub reads_at : ℕ → List Key → List Answer → List Call
+reads_at i [] answers = []
+reads_at i (key ∷ keys) [] = []
+reads_at i (key ∷ keys) (answer ∷ answers) = StateOf i key (Ok answer) ∷ reads_at i keys answers
+
+-- the record of what the read of a key answered
+abbrev pub record_read : Key → Answer → Record
+record_read key answer = record { key = key; from = answer.from; at = answer.at; state = answer.state }
+
+-- the record of each key, in order
+abbrev pub records_read : List Key → List Answer → List Record
+records_read [] answers = []
+records_read (key ∷ keys) [] = []
+records_read (key ∷ keys) (answer ∷ answers) = record_read key answer ∷ records_read keys answers
+
+-- the vnode names its keys, and each is read
+abbrev pub snapshot_calls : ℕ → Vec Key → List Answer → List Call
+snapshot_calls i keys answers = KeysOf i (Ok keys) ∷ reads_at i keys.items answers
