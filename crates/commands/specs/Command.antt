@@ -5,6 +5,7 @@ use Rattle.findings.specs.declared.fault.WatchFault.{WatchFault}
 use Rattle.helpers.specs.declared.sig.Entry.{Entry}
 use Rattle.script.specs.Printing.{Simulated}
 use Rattle.commands.specs.Audited.{audit_text, audit_status}
+use Rattle.commands.specs.Help.{help_text}
 use Rattle.commands.specs.declared.outcome.Outcome.{Outcome}
 use Rattle.commands.specs.declared.verify.Verdict.{Verdict}
 use Rattle.commands.specs.Outcome.{line, text_of, status_of}
@@ -47,3 +48,8 @@ Listened before after = (bound : List ℕ) × Appends before after (line (codes 
 pub data Served (before after : Option (List ℕ)) (status : ℕ) : Type 0 where
   listened : (bound : List ℕ) (audited : Result (Unit {0}) WatchFault) → status ≡ audit_status audited → Appends before after (line (codes "listening " ++ bound) ++ audit_text audited) → Served before after status
   no_memory : status ≡ 1 → Appends before after (line (codes "E1")) → Served before after status
+
+-- the commands were told
+pub record Helped (before after : Option (List ℕ)) (status : ℕ) : Type 0 where
+  pub told : Appends before after help_text
+  pub status_is : status ≡ 0

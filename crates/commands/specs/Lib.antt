@@ -4,6 +4,7 @@ pub mod Run
 pub mod Verdict
 pub mod Words
 pub mod Audited
+pub mod Help
 pub mod Records
 pub mod Dumped
 pub mod Command

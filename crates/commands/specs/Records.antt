@@ -1,6 +1,6 @@
 -- The records of a dump in a file, one after another (this store's profile).
-use Rattle.std.specs.Prelude.{◌≡◌, ◌≢◌, ℕ, ◌+◌, List, [], ◌∷◌, ◌++◌, length, codes}
-use Rattle.std.specs.List.{AllByRecursion, flat_map}
+use Rattle.std.specs.Prelude.{◌≡◌, ◌≢◌, ℕ, ◌+◌, ◌/◌, ◌==◌, ◌||◌, Bool, List, [], ◌∷◌, ◌++◌, length, codes}
+use Rattle.std.specs.List.{AllByRecursion, flat_map, list_any}
 use Rattle.vnode.specs.declared.steps.Copied.{Copied}
 use Rattle.wire.specs.declared.fault.WireFault.{WireFault}
 use Rattle.wire.specs.declared.fault.WireFault.TheVariants.{Cut, Mark, Digest, NotCanonical, NoMemory}
@@ -48,3 +48,11 @@ fault_text Mark = codes "W2"
 fault_text Digest = codes "W3"
 fault_text NotCanonical = codes "W4"
 fault_text NoMemory = codes "E1"
+
+-- an identifier is one of an incarnation
+abbrev pub is_of : ℕ → ℕ → Bool
+is_of vnode incarnation = vnode / 65536 == incarnation
+
+-- a record is of a vnode of an incarnation, or its clock counts writes of one
+abbrev pub names_incarnation : ℕ → Record → Bool
+names_incarnation incarnation one = is_of one.from incarnation || list_any (λ entry. is_of entry.vnode incarnation) one.state.clock

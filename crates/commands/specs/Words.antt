@@ -6,7 +6,7 @@ use Rattle.std.specs.Str.Parse.{digits_value}
 use Rattle.std.specs.Cmp.Lexicographic.{pointwise}
 use Rattle.std.specs.Borrow.{Bor}
 use Rattle.commands.specs.declared.words.Request.{Request}
-use Rattle.commands.specs.declared.words.Request.TheVariants.{Run, Verify, Sim, Dump, Load, Serve}
+use Rattle.commands.specs.declared.words.Request.TheVariants.{Help, Run, Verify, Sim, Dump, Load, Serve}
 
 -- a decimal of 1 or more, without sign and leading zeros
 abbrev pub is_count : List ℕ → Bool
@@ -70,4 +70,7 @@ request_of (name ∷ first ∷ second ∷ []) =
 request_of (name ∷ file ∷ []) =
     if pointwise nat_eq name.now (codes "verify") then Some (Verify file)
     else (if pointwise nat_eq name.now (codes "sim") then Some (Sim file) else None)
+request_of (name ∷ []) =
+    if pointwise nat_eq name.now (codes "help") then Some Help
+    else (if pointwise nat_eq name.now (codes "--help") then Some Help else None)
 request_of other = None

@@ -2,13 +2,14 @@
 ghost use Rattle.std.specs.Prelude.{◌≡◌, ℕ, ◌<◌, ◌≤◌, List, Option, OnOk, IfOk, IsErr, vec_len};
 ghost use Rattle.std.specs.Borrow.{Bor};
 ghost use Rattle.commands.specs.Words.{request_of};
-ghost use Rattle.commands.specs.Command.{Judged, Ran, Served, SimulatedFile};
+ghost use Rattle.commands.specs.Command.{Helped, Judged, Ran, Served, SimulatedFile};
 ghost use Rattle.commands.specs.Dumped.{DumpedFile, LoadedFile};
 
 use crate::audited::tell;
 use crate::dump::dump;
 use crate::failure::Failure;
 use crate::files::Files;
+use crate::help::help;
 use crate::load::load;
 use crate::run::run;
 use crate::server::{Server, Unserved};
@@ -48,6 +49,7 @@ pub fn command<F: Files, S: Server, O: Write, E: Write>(
     ensures unwritten { (file script : Bor (List ℕ)) (vnode : ℕ) → request_of words.now ≡ Some (Request.Dump file script vnode) → result ≡ 1 → files.new ≡ files.old }
     ensures loaded { (file script : Bor (List ℕ)) (incarnation : ℕ) → request_of words.now ≡ Some (Request.Load file incarnation script) → result < 2 → LoadedFile table.listed incarnation (F.held files.old file.now) (F.held files.old script.now) (O.contents out.old) (O.contents out.new) result }
     ensures served { (addr : Bor (List ℕ)) (workers : ℕ) (count : Option ℕ) → request_of words.now ≡ Some (Request.Serve addr workers count) → result < 2 → Served (O.contents out.old) (O.contents out.new) result }
+    ensures helped { request_of words.now ≡ Some Request.Help → result < 2 → Helped (O.contents out.old) (O.contents out.new) result }
     ensures wrong_words { request_of words.now ≡ None → result ≡ 2 }
     ensures untouched { request_of words.now ≡ None → out.new ≡ out.old }
 {
@@ -82,9 +84,11 @@ fn done<F: Files, S: Server, O: Write, E: Write>(
     ensures unwritten { (file script : Bor (List ℕ)) (vnode : ℕ) → request_of words.now ≡ Some (Request.Dump file script vnode) → IfOk result (λ status. status ≡ 1 → files.new ≡ files.old) }
     ensures loaded { (file script : Bor (List ℕ)) (incarnation : ℕ) → request_of words.now ≡ Some (Request.Load file incarnation script) → IfOk result (λ status. status < 2 → LoadedFile table.listed incarnation (F.held files.old file.now) (F.held files.old script.now) (O.contents out.old) (O.contents out.new) status) }
     ensures served { (addr : Bor (List ℕ)) (workers : ℕ) (count : Option ℕ) → request_of words.now ≡ Some (Request.Serve addr workers count) → IfOk result (λ status. status < 2 → Served (O.contents out.old) (O.contents out.new) status) }
+    ensures helped { request_of words.now ≡ Some Request.Help → IfOk result (λ status. status < 2 → Helped (O.contents out.old) (O.contents out.new) status) }
     ensures wrong_words { request_of words.now ≡ None → IsErr result × (out.new ≡ out.old) }
 {
     match parse(words) {
+        Some(Request::Help) => help(out),
         Some(Request::Run { image, input }) => run(alloc, &table, image, input, files, out),
         Some(Request::Verify { image }) => verify(alloc, &table, image, files, out),
         Some(Request::Sim { script }) => simulate(alloc, &table, script, files, out, err),

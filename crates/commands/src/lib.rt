@@ -6,6 +6,7 @@ pub mod command;
 pub mod dump;
 pub mod failure;
 pub mod files;
+pub mod help;
 pub mod load;
 pub mod outcome;
 pub mod own;

@@ -5,7 +5,7 @@ ghost use Rattle.commands.specs.Records.{AreSpelledBy};
 
 use crate::failure::Failure;
 use crate::files::Files;
-use crate::records::{Unread, fault_number, records_in};
+use crate::records::{Unread, fault_number, name_incarnation, records_in};
 use crate::simulate::FileImages;
 use events::Images;
 use helpers::Table;
@@ -18,7 +18,8 @@ use world::BeginFault;
 
 /// Loads the records of the file `file` into the first of the vnodes, all of which begin under an incarnation, and runs the script in the file `script` then. Tells
 /// on `out` how many records there were and what the script's lines print, and on `err` why a line is bad, and gives the status. Nothing is run where a record has a
-/// fault or is refused, and which one is told.
+/// fault or is refused, and which one is told. That the records name the incarnation, so that a put may take the identifier of a write that they tell of, is told on
+/// `err` beforehand.
 pub fn load<F: Files, O: Write, E: Write>(
     alloc: Global,
     table: &Table,
@@ -76,6 +77,13 @@ fn run_loaded<I: Images, O: Write, E: Write>(
     ensures status { IfOk result (λ status. status ≤ 2) }
     ensures loaded { (bytes : List ℕ) → AreSpelledBy records.now bytes → IfOk result (Loads table.now.listed bytes incarnation script.now (O.contents out.old) (O.contents out.new)) }
 {
+    if name_incarnation(records, incarnation) {
+        // What can't be told is lost: the lines run as they do.
+        let _ = writeln!(
+            err,
+            "the records name incarnation {incarnation}: a put may take the identifier of another write"
+        );
+    }
     match run_from(alloc, script, incarnation, records, table, images) {
         Ok((text, why)) => {
             let count = records.len();

@@ -8,7 +8,7 @@ ghost use Rattle.helpers.specs.Shapes.{shape_of, written_shape};
 ghost use Rattle.helpers.specs.declared.sig.Entry.{Entry};
 ghost use Rattle.helpers.specs.Entries.{IsAdmitted};
 ghost use Rattle.helpers.specs.Answers.{IsCallableOn, AnswersOn};
-ghost use Rattle.commands.specs.Command.{Judged, Ran, Served, SimulatedFile};
+ghost use Rattle.commands.specs.Command.{Helped, Judged, Ran, Served, SimulatedFile};
 ghost use Rattle.commands.specs.Dumped.{DumpedFile, LoadedFile};
 ghost use Rattle.commands.specs.Own.{one_number, shapes_of, own_shapes};
 ghost use Rattle.commands.specs.Words.{request_of};
@@ -70,6 +70,7 @@ pub fn command_with_helpers<F: Files, S: Server, O: Write, E: Write>(
     ensures unwritten { (file script : Bor (List ℕ)) (vnode : ℕ) → request_of words.now ≡ Some (Request.Dump file script vnode) → IfOk result (λ status. status ≡ 1 → files.new ≡ files.old) }
     ensures loaded { (file script : Bor (List ℕ)) (incarnation : ℕ) → request_of words.now ≡ Some (Request.Load file incarnation script) → IfOk result (λ status. status < 2 → (sigs : List Entry) × (shapes_of sigs ≡ own_shapes) × LoadedFile sigs incarnation (F.held files.old file.now) (F.held files.old script.now) (O.contents out.old) (O.contents out.new) status) }
     ensures served { (addr : Bor (List ℕ)) (workers : ℕ) (count : Option ℕ) → request_of words.now ≡ Some (Request.Serve addr workers count) → IfOk result (λ status. status < 2 → Served (O.contents out.old) (O.contents out.new) status) }
+    ensures helped { request_of words.now ≡ Some Request.Help → IfOk result (λ status. status < 2 → Helped (O.contents out.old) (O.contents out.new) status) }
     ensures wrong_words { request_of words.now ≡ None → IfOk result (λ status. status ≡ 2) }
     ensures untouched { request_of words.now ≡ None → out.new ≡ out.old }
 {

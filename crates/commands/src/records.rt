@@ -4,12 +4,17 @@ ghost use Rattle.std.specs.Prelude.{◌≡◌, ◌++◌, ◌∷◌, [], ◌↔�
 ghost use Rattle.object.specs.Limits.{IsContent, IsKey};
 ghost use Rattle.wire.specs.Records.{AreContents, IsRecord, spelling};
 ghost use Rattle.commands.specs.declared.records.Unread.TheVariants as unread;
-ghost use Rattle.commands.specs.Records.{AreSpelledBy, IsUnread, fault_text, record_of, records_of};
+ghost use Rattle.commands.specs.Records.{AreSpelledBy, IsUnread, fault_text, is_of, names_incarnation, record_of, records_of};
+ghost use Rattle.std.specs.List.{list_any};
 
+use dvv::Dot;
 use object::{Content, Key, MAX_BUCKET, MAX_KEY, MAX_MEDIA, MAX_VALUE, Sibling};
 use std::alloc::{AllocError, Global};
 use wire::{Record, WireFault, has_record, read_record, write_record};
 use world::{Copied, Copies};
+
+/// How many vnodes' identifiers an incarnation has.
+const IDENTIFIERS: u32 = 65_536;
 
 /// Why bytes are not read as records.
 #[derive(Clone, Copy)]
@@ -131,6 +136,36 @@ fn keep(records: &mut Vec<Record>, one: Record) -> Result<(), Unread>
         Ok(()) => Ok(()),
         Err(_) => Err(Unread::NoMemory),
     }
+}
+
+/// Whether one of the records is of a vnode of an incarnation, or counts writes of one.
+pub fn name_incarnation(records: &[Record], incarnation: u16) -> bool
+    ensures { result ≡ list_any (names_incarnation incarnation) records.now }
+{
+    records
+        .iter()
+        .any(|one| names_incarnation(one, incarnation))
+}
+
+/// Whether a record is of a vnode of an incarnation, or counts writes of one.
+fn names_incarnation(one: &Record, incarnation: u16) -> bool
+    ensures { result ≡ names_incarnation incarnation one.now }
+{
+    is_of(one.from, incarnation) || counts(one.state.clock().entries(), incarnation)
+}
+
+/// Whether a clock counts writes of vnodes of an incarnation.
+fn counts(entries: &[Dot], incarnation: u16) -> bool
+    ensures { result ≡ list_any (λ entry. is_of entry.vnode incarnation) entries.now }
+{
+    entries.iter().any(|entry| is_of(entry.vnode, incarnation))
+}
+
+/// Whether a vnode's identifier is one of an incarnation.
+fn is_of(vnode: u32, incarnation: u16) -> bool
+    ensures { result ≡ is_of vnode incarnation }
+{
+    vnode / IDENTIFIERS == u32::from(incarnation)
 }
 
 /// The number of a fault.

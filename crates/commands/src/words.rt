@@ -7,6 +7,8 @@ ghost use Rattle.commands.specs.Words.{count_of, incarnation_of, is_count, numbe
 /// What the words ask for.
 #[derive(Clone, Copy)]
 pub enum Request<'a> {
+    /// To print the commands.
+    Help,
     /// To run the program in the file `image` on the bytes of the file `input`.
     Run {
         image: &'a str,
@@ -49,6 +51,10 @@ pub fn parse<'a>(words: &[&'a str]) -> Option<Request<'a>>
     ensures { result ≡ request_of words.now }
 {
     match words {
+        [name] => match *name {
+            "help" | "--help" => Some(Request::Help),
+            _ => None,
+        },
         [name, file] => match *name {
             "verify" => Some(Request::Verify { image: file }),
             "sim" => Some(Request::Sim { script: file }),

@@ -5,8 +5,9 @@
     make_hooks.py my.c pre-commit 4096 0       my.img, from the kind and the lengths of the input and the output window
     make_hooks.py --line my.c 3                the line of my.c that slot 3 of my.img comes from
 
-Where dvvstore is built it verifies what was made, and the line of a refused slot is told at once. What is refused is compiled once more without
-jumps and arithmetic on 32 bits, whose spills are of 8 bytes, which the verifier follows, and stays so where that is accepted.
+Where dvvstore is built (or named: --dvvstore PATH) it verifies what was made, and of a refusal the line of C, the rule in words and what
+to write instead are told at once. What is refused is compiled once more without jumps and arithmetic on 32 bits, whose spills are of 8
+bytes, which the verifier follows, and stays so where that is accepted.
 """
 import argparse
 import re
@@ -30,7 +31,9 @@ HOOKS = {
     "at_most_32": ("pre-commit", 4096, 0),
     "digits_only": ("pre-commit", 4096, 0),
     "first_sixteen": ("pre-commit", 4096, 20),
-    "last_writer": ("resolver", 4096, 0),
+    "greatest_counter": ("resolver", 65536, 0),
+    "latest_time": ("resolver", 65536, 0),
+    "union_of_bits": ("resolver", 65536, 12),
     "largest_counter": ("resolver", 4096, 0),
     "like_a_row": ("resolver", 4096, 28),
     "delete_wins": ("resolver", 4096, 0),
@@ -56,6 +59,26 @@ WORDS_ON_CONSTANTS = (
     "u8 text[3] = {'a', 'b', 'c'}, a longer table as a switch or as arithmetic"
 )
 WORDS_ON_FUNCTIONS = "a hook is one function: write 'static inline __attribute__((always_inline))' before each other one"
+
+# What each rule of the verifier asks, and what to write instead: as docs/HOOKS.md has it.
+RULES = {
+    "V10": "a jump leaves the code: the image isn't what the compiler made",
+    "V11": "a jump leads into the middle of a wide constant: the image isn't what the compiler made",
+    "V12": "a jump goes back, as that of a loop does: unroll the loop",
+    "V13": "the code runs past its end: let every path return",
+    "V14": "no path leads here, or only a jump back: unroll the loop",
+    "V20": "a register is read that isn't set on every path, or a number on one path and a pointer on another: set each variable where it is declared",
+    "V21": "the stack's pointer is written: the image isn't what the compiler made",
+    "V22": "arithmetic on a pointer that would not leave one: keep a number, and add it to the pointer where it is used",
+    "V23": "how far this pointer may go has no bound: test the number that is added, against a constant, before it is added",
+    "V24": "a read or write that may leave its window: test the offset against the window's length before it, or make the window longer",
+    "V25": "a write to the input: write to output, or to a local array",
+    "V26": "a pointer is stored elsewhere than in a whole word of the stack: keep the number, and make the pointer anew where it is used",
+    "V27": "a helper that isn't there: see dvvstore.h",
+    "V28": "an argument of a helper that may not fit: test its length, and its offset, before the call",
+    "V29": "the answer is a pointer: return a verdict",
+    "V30": "stack is read of which nothing is known, as a part of a pointer: set the variable first, and don't copy pointers in structs",
+}
 
 
 class Refused(Exception):
@@ -180,7 +203,7 @@ def ordered(code):
         if goes_on not in (None, behind):
             put(bytes([JUMP]) + bytes(SLOT - 1), end, goes_on)
     if len(slots) > MOST_SLOTS:
-        raise Refused(f"{len(slots)} slots are over {MOST_SLOTS}: unroll less, or do the work in two hooks")
+        raise Refused(f"{len(slots)} slots are over {MOST_SLOTS}: unroll less, or serve fewer siblings and keep the others")
     for place, to in jumps:
         slots[place] = slots[place][:2] + struct.pack("<h", places[to] - place - 1) + slots[place][4:]
     return b"".join(slots), origins
@@ -253,24 +276,27 @@ def program():
     return next((path for path in built if path.is_file()), None)
 
 
-def verdict(image, lines):
-    """What dvvstore says of an image, with the line of the slot that it refuses; nothing where it isn't built."""
-    dvvstore = program()
+def verdict(dvvstore, image, lines):
+    """What dvvstore says of an image, with the line of the slot that it refuses, and the rule in words; nothing where there is none."""
     if dvvstore is None:
         return ""
     told = subprocess.run([dvvstore, "verify", image], stdout=subprocess.PIPE, text=True).stdout.strip()
-    refused = re.fullmatch(r"refused [DV]\d+ (\d+)", told)
-    return f"{told}, {lines[int(refused[1])]}" if refused else told
+    refused = re.fullmatch(r"refused ([DV]\d+) (\d+)", told)
+    if not refused:
+        return told
+    rule, slot = refused.groups()
+    words = f": {RULES[rule]}" if rule in RULES else ""
+    return f"{told}, {lines[int(slot)]}{words}"
 
 
-def make(source, kind, in_len, out_len, image):
-    """Writes the image of a source, and gives what the verifier says of it: that of the first instruction set for which it is accepted, or else of
-    the first."""
-    refused = []
+def make(source, kind, in_len, out_len, image, dvvstore=None):
+    """Writes the image of a source, and gives what the verifier (of dvvstore, or of the built one) says of it: that of the first instruction
+    set for which it is accepted, or else of the first."""
+    dvvstore, refused = dvvstore or program(), []
     for cpu in CPUS:
         code, lines = compile_hook(source, cpu)
         image.write_bytes(head(kind, in_len, out_len) + code)
-        said = verdict(image, lines)
+        said = verdict(dvvstore, image, lines)
         if not said.startswith("refused"):
             return f"{said} (-mcpu={cpu})" if refused else said
         refused.append((image.read_bytes(), said))
@@ -286,15 +312,14 @@ def lines_in(source):
     return next((lines for code, lines in built if code == made), built[0][1])
 
 
-def tell(source, *given):
-    """Makes an image, and tells how that went. Gives whether it was made and, where dvvstore is built, accepted."""
+def tell(source, hook, dvvstore):
+    """Makes an image, and tells how that went. Gives whether it was made and, where there is a dvvstore, accepted."""
     try:
-        said = make(source, *given, source.with_suffix(".img"))
+        said = make(source, *hook, source.with_suffix(".img"), dvvstore)
     except Refused as why:
         print(f"{source.name}: no image: {why}", file=sys.stderr)
         return False
-    if said:
-        print(f"{source.with_suffix('.img').name}: {said}")
+    print(f"{source.with_suffix('.img').name}: {said or 'made; not verified, since dvvstore is not built'}")
     return not said.startswith("refused")
 
 
@@ -323,6 +348,7 @@ def words():
     parser.add_argument("kind", choices=KINDS, nargs="?")
     parser.add_argument("in_len", type=window, nargs="?", help="bytes of the input window")
     parser.add_argument("out_len", type=window, nargs="?", help="bytes of the output window")
+    parser.add_argument("--dvvstore", type=Path, metavar="PATH", help="the program that verifies")
     parser.add_argument("--line", nargs=2, metavar=("SOURCE", "SLOT"), help="tell the line of a slot")
     given = parser.parse_args()
     if given.source and given.out_len is None:
@@ -336,8 +362,8 @@ def main():
         source, slot = given.line
         return line_at(Path(source), int(slot))
     if given.source:
-        return tell(given.source, given.kind, given.in_len, given.out_len)
-    return all([tell(HERE / f"{name}.c", *hook) for name, hook in HOOKS.items()])
+        return tell(given.source, (given.kind, given.in_len, given.out_len), given.dvvstore)
+    return all([tell(HERE / f"{name}.c", hook, given.dvvstore) for name, hook in HOOKS.items()])
 
 
 if __name__ == "__main__":
