@@ -190,6 +190,8 @@ fn add_event(entries: &mut Vec<Dot>, next: Dot) -> Result<(), ClockFault>
         }
         Err(_) if entries.len() == MAX_ENTRIES => Err(ClockFault::TooManyEntries),
         Err(at) => {
+            // Clocks are kept with each key: one takes no more memory than it has entries.
+            entries.reserve_exact(1)?;
             entries.insert(at, next)?;
             Ok(())
         }

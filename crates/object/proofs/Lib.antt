@@ -7,3 +7,4 @@ pub mod Exchanged
 pub mod Told
 pub mod Shown
 pub mod Forms
+pub mod Named

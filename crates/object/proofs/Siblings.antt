@@ -1,8 +1,9 @@
 -- Siblings in order: what a filter and an insertion leave.
-use Rattle.std.proofs.Common.{◌≡◌, ◌≢◌, ℕ, zero, suc, ◌+◌, ◌<◌, ◌⊎◌, Bool, true, false, cond, List, [], ◌∷◌, ◌++◌, length, get_or, take, drop, Option, Some, None, refl, sym, ap, subst, ◌∙◌, inl, inr, arith}
+use Rattle.std.proofs.Common.{◌≡◌, ◌≢◌, ℕ, zero, suc, ◌+◌, ◌<◌, ◌≤◌, ◌⊎◌, Bool, true, false, cond, List, [], ◌∷◌, ◌++◌, length, get_or, take, drop, Option, Some, None, refl, sym, ap, subst, ◌∙◌, inl, inr, arith}
 use Rattle.std.specs.Prelude.{filter, not}
 use Rattle.std.specs.List.{AllByRecursion}
 use Rattle.std.proofs.lemmas.List.Elements.{recursion_from_All, All-from_recursion, All-more}
+use Rattle.std.proofs.lemmas.List.Filters.{length-filter_both}
 use Rattle.std.proofs.lemmas.Bool.{cases_eq, cases_order, cases_Bool, and_parts, and_from, eq-eqb, eqb-true, le-leb, leb-true, both_ways}
 use Rattle.dvv.specs.declared.Dot.{Dot}
 use Rattle.dvv.specs.Clock.{Covers, covers, counter, AddsEvent, IsClock}
@@ -52,6 +53,10 @@ each_kept P p (x ∷ xs) each = go (each_kept P p xs each.1) (p x)
     go : AllByRecursion P (filter p xs) → (b : Bool) → AllByRecursion P (cond b (x ∷ filter p xs) (filter p xs))
     go rest true = (each.0, rest)
     go rest false = rest
+
+-- no more siblings are kept than there are
+pub kept_few : (seen : List Dot) (xs : List Sibling) → length (kept seen xs) ≤ length xs
+kept_few seen xs = omega (arith, length-filter_both (λ s. not (covers seen s.dot)) (λ s. not (not (covers seen s.dot))) (λ s. refl) xs)
 
 pub in_order_kept : (p : Sibling → Bool) (xs : List Sibling) → AreInOrder xs → AreInOrder (filter p xs)
 in_order_kept p [] order = tt

@@ -188,6 +188,10 @@ impl Ord for Key {
     ghost matches_eq = { Prim.search (comparing, rules) };
 
     fn cmp(&self, other: &Self) -> Ordering {
+        // Behind buckets of one length the names decide as one.
+        if self.split == other.split {
+            return self.names.cmp(&other.names);
+        }
         match self.bucket().cmp(&other.bucket()) {
             Ordering::Equal => self.key().cmp(&other.key()),
             decided => decided,

@@ -48,6 +48,8 @@ pub(crate) fn merge_siblings(
             }
         }
     }
+    // A state is kept with its key, and most of a merge may have been dropped.
+    merged.shrink_to_fit();
     Ok(merged)
 }
 

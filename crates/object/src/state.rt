@@ -1,6 +1,6 @@
 //! The state of a key: siblings and one clock.
 
-ghost use Rattle.std.specs.Prelude.{◌≡◌, ◌≢◌, ◌<◌, ◌≤◌, ◌↔◌, false, length, IsTrue, OnOk, OnErr, IfOk};
+ghost use Rattle.std.specs.Prelude.{◌≡◌, ◌≢◌, ◌<◌, ◌≤◌, ◌↔◌, false, length, IsTrue, OnOk, OnErr, IfOk, vec_capacity};
 
 use crate::content::{Content, Sibling};
 use crate::fault::{MergeFault, PutFault, PutRefusal};
@@ -147,7 +147,7 @@ impl KeyState {
         ensures state { OnOk result (IsState self.new) }
         ensures err { OnErr result (self.new ≡ self.old) }
     {
-        self.siblings.reserve(1)?;
+        make_room(&mut self.siblings, seen)?;
         let Ok(()) = self.clock.add(dot) else {
             return Err(AllocError);
         };
@@ -225,6 +225,17 @@ impl KeyState {
 ghost use Rattle.dvv.specs.Clock.{IsClock, IsUnion, vnodes_together, most_entries};
 ghost use Rattle.object.specs.State.{kept, is_within};
 ghost use Rattle.object.specs.Merging.{drops_some};
+
+// Room for one sibling more once those are dropped that a context covers, and no more than that: states are kept with each key.
+fn make_room(siblings: &mut Vec<Sibling>, seen: &Clock) -> Result<(), AllocError>
+    ensures items { siblings.new.items ≡ siblings.old.items }
+    ensures room { OnOk result (length (kept seen.now siblings.new.items) < vec_capacity siblings.new) }
+{
+    if count_kept(siblings, seen) < siblings.len() {
+        return Ok(());
+    }
+    siblings.reserve_exact(1)
+}
 
 // How many siblings a context doesn't cover.
 fn count_kept(siblings: &[Sibling], seen: &Clock) -> usize

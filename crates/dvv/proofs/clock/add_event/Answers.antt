@@ -24,10 +24,10 @@ pub returns-in-Err-clause-full : goal.returns-in-Err-clause-full
 returns-in-Err-clause-full c = (λ e. (omega (arith, counter_gap 0 _ _ _ c.requires.clock.rising (gap_in c.deref.ensures.value c.in-Err.ensures.gap)), omega arith), λ h. refl)
 
 pub returns-in_ok-insert-in-Err-2-clause-clock : goal.returns-in_ok-insert-in-Err-2-clause-clock
-returns-in_ok-insert-in-Err-2-clause-clock c = rw c.in_ok-insert-in-Err-2.ensures.items (IsClock-insert _ _ _ c.requires.clock (gap_in c.deref.ensures.value c.in-Err.ensures.gap) (omega arith) (omega arith) (omega (arith, c.requires.clock.few)))
+returns-in_ok-insert-in-Err-2-clause-clock c = rw c.in_ok-insert-in-Err-2.ensures.items (rw c.in_ok-reserve_exact-in-Err-2.ensures.items (IsClock-insert _ _ _ c.requires.clock (gap_in c.deref.ensures.value c.in-Err.ensures.gap) (omega arith) (omega arith) (omega (arith, c.requires.clock.few))))
 
 pub returns-in_ok-insert-in-Err-2-clause-adds : goal.returns-in_ok-insert-in-Err-2-clause-adds
-returns-in_ok-insert-in-Err-2-clause-adds c = rw c.in_ok-insert-in-Err-2.ensures.items (adds_event _ _ _ (sets_counter-insert _ _ _ (gap_in c.deref.ensures.value c.in-Err.ensures.gap)) c.requires.follows)
+returns-in_ok-insert-in-Err-2-clause-adds c = rw c.in_ok-insert-in-Err-2.ensures.items (rw c.in_ok-reserve_exact-in-Err-2.ensures.items (adds_event _ _ _ (sets_counter-insert _ _ _ (gap_in c.deref.ensures.value c.in-Err.ensures.gap)) c.requires.follows))
 
 -- a vnode that has events has no gap
 pub returns-in-Err-clause-later : goal.returns-in-Err-clause-later
@@ -35,3 +35,6 @@ returns-in-Err-clause-later c h = absurd (omega (arith, h.0, c.requires.follows,
 
 pub returns-in_err-insert-in-Err-2-clause-later : goal.returns-in_err-insert-in-Err-2-clause-later
 returns-in_err-insert-in-Err-2-clause-later c h = absurd (omega (arith, h.0, c.requires.follows, counter_gap 0 _ _ _ c.requires.clock.rising (gap_in c.deref.ensures.value c.in-Err.ensures.gap)))
+
+pub returns-in_err-reserve_exact-in-Err-2-clause-later : goal.returns-in_err-reserve_exact-in-Err-2-clause-later
+returns-in_err-reserve_exact-in-Err-2-clause-later c h = absurd (omega (arith, h.0, c.requires.follows, counter_gap 0 _ _ _ c.requires.clock.rising (gap_in c.deref.ensures.value c.in-Err.ensures.gap)))
