@@ -85,11 +85,11 @@ module _ (profile : Profile) where
   of_two_sound op w a Dead x y ka kb fx fy pa pb = absurd pb
   of_two_sound op w (Num a) (Num b) x y ka kb fx fy pa pb = left_sound _ _ (numbers_sound profile op w a b x y ka kb pa pb)
   of_two_sound Add W64 (Ptr region lo hi) (Num b) x y ka kb fx fy pa pb =
-      rw (mod-eq_of_lt fx, mod-eq_of_lt fy) (up_sound region lo hi x y (signed_range b.range.lo b.range.hi) pa fy (signed_range_is b.range.lo b.range.hi y pb.within.0 pb.within.1))
+      rw (mod-eq_of_lt fx, mod-eq_of_lt fy) (up_sound profile region lo hi x y (signed_range b.range.lo b.range.hi) pa fy (signed_range_is b.range.lo b.range.hi y pb.within.0 pb.within.1))
   of_two_sound Add W64 (Num a) (Ptr region lo hi) x y ka kb fx fy pa pb =
-      rw (mod-eq_of_lt fx, mod-eq_of_lt fy, add_comm x y) (up_sound region lo hi y x (signed_range a.range.lo a.range.hi) pb fx (signed_range_is a.range.lo a.range.hi x pa.within.0 pa.within.1))
+      rw (mod-eq_of_lt fx, mod-eq_of_lt fy, add_comm x y) (up_sound profile region lo hi y x (signed_range a.range.lo a.range.hi) pb fx (signed_range_is a.range.lo a.range.hi x pa.within.0 pa.within.1))
   of_two_sound Sub W64 (Ptr region lo hi) (Num b) x y ka kb fx fy pa pb =
-      subst (λ n. IfOk (moved_down region lo hi (signed_range b.range.lo b.range.hi)) (λ k. Admits k (Some n))) (sym (value_sub x y fx fy)) (down_sound region lo hi x y (signed_range b.range.lo b.range.hi) pa fy (signed_range_is b.range.lo b.range.hi y pb.within.0 pb.within.1))
+      subst (λ n. IfOk (moved_down profile region lo hi (signed_range b.range.lo b.range.hi)) (λ k. Admits k (Some n))) (sym (value_sub x y fx fy)) (down_sound profile region lo hi x y (signed_range b.range.lo b.range.hi) pa fy (signed_range_is b.range.lo b.range.hi y pb.within.0 pb.within.1))
   of_two_sound Sub W64 (Ptr region lo hi) (Ptr other low high) x y ka kb fx fy pa pb =
       apart_sound profile (as_number region lo hi) (as_number other low high) x y (as_number_is region lo hi ka) (as_number_is other low high kb) (as_number_sound region lo hi x ka pa) (as_number_sound other low high y kb pb)
   of_two_sound op w a b x y ka kb fx fy pa pb = tt
@@ -191,9 +191,9 @@ module _ (profile : Profile) where
   two_kind op w Unset Dead ka kb = tt
   two_kind op w (Ptr region lo hi) Dead ka kb = before_kind (Ptr region lo hi) op w ka
   two_kind op w (Num a) (Num b) ka kb = left_is_kind _ (numbers_are_numbers profile op w a b ka kb)
-  two_kind Add W64 (Ptr region lo hi) (Num b) ka kb = up_kind region lo hi (signed_range b.range.lo b.range.hi) ka.1 (signed_in_order _ _ kb.range.ordered)
-  two_kind Add W64 (Num a) (Ptr region lo hi) ka kb = up_kind region lo hi (signed_range a.range.lo a.range.hi) kb.1 (signed_in_order _ _ ka.range.ordered)
-  two_kind Sub W64 (Ptr region lo hi) (Num b) ka kb = down_kind region lo hi (signed_range b.range.lo b.range.hi) ka.1 (signed_in_order _ _ kb.range.ordered)
+  two_kind Add W64 (Ptr region lo hi) (Num b) ka kb = up_kind profile region lo hi (signed_range b.range.lo b.range.hi) ka.1 (signed_in_order _ _ kb.range.ordered)
+  two_kind Add W64 (Num a) (Ptr region lo hi) ka kb = up_kind profile region lo hi (signed_range a.range.lo a.range.hi) kb.1 (signed_in_order _ _ ka.range.ordered)
+  two_kind Sub W64 (Ptr region lo hi) (Num b) ka kb = down_kind profile region lo hi (signed_range b.range.lo b.range.hi) ka.1 (signed_in_order _ _ kb.range.ordered)
   two_kind Sub W64 (Ptr region lo hi) (Ptr other low high) ka kb = apart_kind profile (as_number region lo hi) (as_number other low high) (as_number_is region lo hi ka) (as_number_is other low high kb)
   two_kind op w a b ka kb = tt
 

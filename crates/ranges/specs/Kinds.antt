@@ -24,9 +24,9 @@ Admits Dead v = ⊥
 Admits (Num a) v = IsSomeAnd v (IsOf a)
 Admits (Ptr region lo hi) v = IsSomeAnd v (InRegion region lo hi)
 
--- a kind that may be known of a register: no range is empty, and no pointer is further than 2 ^ 20 from its region
+-- a kind that may be known of a register: no range is empty, and no pointer is further than 2 ^ 33 from its region
 abbrev pub IsKind : Kind → Type 0
 IsKind Unset = Unit {0}
 IsKind Dead = Unit {0}
 IsKind (Num a) = IsNumber a
-IsKind (Ptr region lo hi) = (negsuc (2 ^ 20 - 1) ≤ℤ lo) × (lo ≤ℤ hi) × (hi ≤ℤ pos (2 ^ 20))
+IsKind (Ptr region lo hi) = (negsuc (2 ^ 33 - 1) ≤ℤ lo) × (lo ≤ℤ hi) × (hi ≤ℤ pos (2 ^ 33))

@@ -31,21 +31,22 @@ signed_range lo hi =
     if nat_lt hi (2 ^ 63) then Some (pos lo, pos hi)
     else (if nat_le (2 ^ 63) lo then Some (pos lo -ℤ pos (2 ^ 64), pos hi -ℤ pos (2 ^ 64)) else None)
 
--- at most 2 ^ 20 from the region, on either side
-abbrev pub is_near : ℤ → Bool
-is_near z = int_le (negsuc (2 ^ 20 - 1)) z && int_le z (pos (2 ^ 20))
+-- how far from its region a pointer may be, on either side: by the second profile as far as two numbers of 32 bits lead
+abbrev pub is_near : Profile → ℤ → Bool
+is_near First z = int_le (negsuc (2 ^ 20 - 1)) z && int_le z (pos (2 ^ 20))
+is_near Second z = int_le (negsuc (2 ^ 33 - 1)) z && int_le z (pos (2 ^ 33))
 
-abbrev pub pointer : Region → ℤ → ℤ → Result Kind Bad
-pointer region lo hi = if is_near lo && is_near hi then Ok (Ptr region lo hi) else Err V23
+abbrev pub pointer : Profile → Region → ℤ → ℤ → Result Kind Bad
+pointer profile region lo hi = if is_near profile lo && is_near profile hi then Ok (Ptr region lo hi) else Err V23
 
 -- a pointer and a number added, and a number taken from a pointer
-abbrev pub moved_up : Region → ℤ → ℤ → Option (ℤ × ℤ) → Result Kind Bad
-moved_up region lo hi None = Err V23
-moved_up region lo hi (Some d) = pointer region (lo +ℤ d.0) (hi +ℤ d.1)
+abbrev pub moved_up : Profile → Region → ℤ → ℤ → Option (ℤ × ℤ) → Result Kind Bad
+moved_up profile region lo hi None = Err V23
+moved_up profile region lo hi (Some d) = pointer profile region (lo +ℤ d.0) (hi +ℤ d.1)
 
-abbrev pub moved_down : Region → ℤ → ℤ → Option (ℤ × ℤ) → Result Kind Bad
-moved_down region lo hi None = Err V23
-moved_down region lo hi (Some d) = pointer region (lo -ℤ d.1) (hi -ℤ d.0)
+abbrev pub moved_down : Profile → Region → ℤ → ℤ → Option (ℤ × ℤ) → Result Kind Bad
+moved_down profile region lo hi None = Err V23
+moved_down profile region lo hi (Some d) = pointer profile region (lo -ℤ d.1) (hi -ℤ d.0)
 
 -- the address at an offset into a region
 abbrev pub address : Region → ℤ → ℕ
@@ -98,9 +99,9 @@ abbrev pub of_two : Profile → Op → Width → Kind → Kind → Result Kind B
 of_two profile op w Dead b = Ok (after_dead b op w)
 of_two profile op w a Dead = Ok (before_dead a op w)
 of_two profile op w (Num a) (Num b) = Ok (kind_of (numbers profile op w a b))
-of_two profile Add W64 (Ptr region lo hi) (Num b) = moved_up region lo hi (signed_range b.range.lo b.range.hi)
-of_two profile Add W64 (Num a) (Ptr region lo hi) = moved_up region lo hi (signed_range a.range.lo a.range.hi)
-of_two profile Sub W64 (Ptr region lo hi) (Num b) = moved_down region lo hi (signed_range b.range.lo b.range.hi)
+of_two profile Add W64 (Ptr region lo hi) (Num b) = moved_up profile region lo hi (signed_range b.range.lo b.range.hi)
+of_two profile Add W64 (Num a) (Ptr region lo hi) = moved_up profile region lo hi (signed_range a.range.lo a.range.hi)
+of_two profile Sub W64 (Ptr region lo hi) (Num b) = moved_down profile region lo hi (signed_range b.range.lo b.range.hi)
 of_two profile Sub W64 (Ptr region lo hi) (Ptr other low high) = apart_by profile (as_number region lo hi) (as_number other low high)
 of_two profile op w a b = Err V22
 

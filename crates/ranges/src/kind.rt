@@ -29,7 +29,7 @@ pub enum Kind {
 pub enum Bad {
     /// Arithmetic on a pointer that the profile does not know.
     V22,
-    /// An offset that is further than 2^20 from its region, or not known to be near.
+    /// An offset that is further than 2^20 from its region, by the second profile than 2^33, or not known to be near.
     V23,
 }
 

@@ -77,13 +77,13 @@ fn transfer_two(profile: Profile, op: Op, width: Width, a: Kind, b: Kind) -> Res
             Ok(Kind::left(Number::operated(profile, op, width, a, b)))
         },
         (Op::Add, Width::W64, Kind::Ptr { region, lo, hi }, Kind::Num(by)) => {
-            add_to_pointer(region, lo, hi, as_signed(by.range.lo, by.range.hi))
+            add_to_pointer(profile, region, lo, hi, as_signed(by.range.lo, by.range.hi))
         }
         (Op::Add, Width::W64, Kind::Num(by), Kind::Ptr { region, lo, hi }) => {
-            add_to_pointer(region, lo, hi, as_signed(by.range.lo, by.range.hi))
+            add_to_pointer(profile, region, lo, hi, as_signed(by.range.lo, by.range.hi))
         }
         (Op::Sub, Width::W64, Kind::Ptr { region, lo, hi }, Kind::Num(by)) => {
-            take_from_pointer(region, lo, hi, as_signed(by.range.lo, by.range.hi))
+            take_from_pointer(profile, region, lo, hi, as_signed(by.range.lo, by.range.hi))
         }
         (
             Op::Sub,
@@ -122,7 +122,7 @@ fn transfer_kinds(profile: Profile, op: Op, width: Width, a: Kind, b: Kind) -> R
 /// What an operation leaves in its destination, by the kinds of the destination and of the operand. A move reads the
 /// operand alone, a negation the destination alone. `V22` is told for a pointer, but where a move of 64 bits copies it, a
 /// number is added to it or taken from it in 64 bits, or, by the second profile, a pointer is taken from it in 64 bits, which
-/// gives the difference of their addresses; `V23` where the offset that results may be further than 2^20. A dead number leaves
+/// gives the difference of their addresses; `V23` where the offset that results may be further than 2^20, by the second profile than 2^33. A dead number leaves
 /// the pointer where it is.
 pub fn transfer(profile: Profile, op: Op, width: Width, a: Kind, b: Kind) -> Result<Kind, Bad>
     requires left { IsKind a }

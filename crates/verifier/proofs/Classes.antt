@@ -33,7 +33,7 @@ use Rattle.memory.specs.declared.Fault.TheVariants as fault
 use Rattle.ranges.specs.declared.kind.Kind.{Kind}
 use Rattle.ranges.specs.declared.kind.Kind.TheVariants.{Unset, Dead, Num, Ptr}
 use Rattle.memory.specs.declared.profile.Profile.{Profile}
-use Rattle.memory.specs.declared.profile.Profile.TheVariants.{First}
+use Rattle.memory.specs.declared.profile.Profile.TheVariants.{First, Second}
 use Rattle.ranges.specs.declared.range.Range.{Range}
 use Rattle.ranges.specs.declared.kind.Bad.{Bad}
 use Rattle.ranges.specs.declared.kind.Bad.TheVariants.{V22, V23}
@@ -51,10 +51,13 @@ use Rattle.verifier.specs.Cells.{span_of, whole_cell, cell_kind, row_stored_in, 
 use Rattle.verifier.specs.Rules.{callee_in, reads_by, broken_if, is_frame, bad_result, class_rules, rules_of, first_of, result_kind, loaded, refined}
 use Rattle.verifier.specs.Table.{target_edge, edges_from, AreKinds}
 use Rattle.verifier.proofs.SameReads.{reads_called}
-use Rattle.verifier.proofs.Words.{wrapped_below, size_fits, some_bytes, bytes_low, length_low, low_whole}
+use Rattle.verifier.proofs.Words.{wrapped_below, cut_word, size_fits, some_bytes, bytes_low, length_low, low_whole}
 use Rattle.verifier.proofs.Fits.{IsWord, FitsRow, at_learn, SomeEdge}
 use Rattle.verifier.proofs.StackCells.{values_of, values, value_at, register_fits, written_register}
 use Rattle.verifier.proofs.CellSteps.{whole_is, touched_fits, stored_fits, loaded_fits}
+use Rattle.verifier.specs.declared.sum.Sum.{Sum}
+use Rattle.verifier.proofs.Refined.{refined_is_long, refined_kinds}
+use Rattle.verifier.proofs.SumSteps.{Holds, told_fits}
 use Rattle.verifier.proofs.Shape.{target_edge_at}
 use Rattle.verifier.proofs.CallSteps.{given_fits, answered, row_fits}
 use Rattle.verifier.proofs.Places.{IsMemory, place_in, not_input, not_in_input, load_small, store_kept}
@@ -138,11 +141,6 @@ swapped_word : (sound : (profile : Profile) → IsSoundTable profile) (kind : Sw
 swapped_word sound kind n x =
     subst (λ (r : Range). r.hi < 2 ^ 64) (cond-true (eqb x x) (single (swapped kind n x)) (full (8 * byte_count n)) (eq-eqb x x refl)) ((sound First).swap_kind kind n (Num (number_of (single x)))).range.fits
 
--- what is left of a number by a width is a word
-pub cut_word : (w : Width) (x : ℕ) → x % 2 ^ bits w < 2 ^ 64
-cut_word W32 x = let h : x % 2 ^ 32 < 2 ^ 32 = mod-lt x (omega arith) in omega (arith, h)
-cut_word W64 x = mod-lt x (omega arith)
-
 -- a whole word is the number that it spells
 extended_is : (size : Size) (extend : Extend) (dst r : Register) (offset : ℤ) (n : ℕ) → size_bytes size ≡ 8 → IsInstruction (insn.Load size extend dst r offset) → extended extend size n ≡ n
 extended_is Byte Zero dst r offset n e is = refl
@@ -154,7 +152,7 @@ extended_is Half Sign dst r offset n e is = absurd (omega arith)
 extended_is Word Sign dst r offset n e is = absurd (omega arith)
 extended_is Double Sign dst r offset n e is = absurd is
 
-module _ (sound : (profile : Profile) → IsSoundTable profile) (p : Program) (i : ℕ) (row : Row) (s : State) (limits : HasLimits p) (kinds : AreKinds row) (long : IsLong p.profile row) (fits : FitsRow row (values p.profile s)) (at : s.slot ≡ pos i) (memory : IsMemory p s.memory) where
+module _ (sound : (profile : Profile) → IsSoundTable profile) (p : Program) (i : ℕ) (row : Row) (s : State) (limits : HasLimits p) (kinds : AreKinds row) (long : IsLong p.profile row) (fits : FitsRow row (values p.profile s)) (at : s.slot ≡ pos i) (memory : IsMemory p s.memory) (sum : Option Sum) (holds : Holds sum s) where
   -- ---- registers
   at_reg : (r : Register) → Admits (kind_at row r) (register s r) × IsWord (register s r)
   at_reg r = register_fits p.profile row s long fits r
@@ -240,12 +238,12 @@ module _ (sound : (profile : Profile) → IsSoundTable profile) (p : Program) (i
   -- ---- what follows
   -- an edge that admits the state, and a memory as it was laid out
   abbrev pub Lands : Insn → State → Type 0
-  Lands x t = SomeEdge t.slot (values p.profile t) (edges_from p.profile (callee_in p.sigs x) i row x) × IsMemory p t.memory
+  Lands x t = SomeEdge t.slot (values p.profile t) (edges_from p.profile (callee_in p.sigs x) sum i row x) × IsMemory p t.memory
 
   -- a number written into a register, whose kind is told by an edge to the next slot
-  written_lands : (x : Insn) (r : Register) (k : Kind) (v : ℕ) (t : State) → edges_from p.profile (callee_in p.sigs x) i row x ≡ (i + 1, with_kind row r k) ∷ [] → Admits k (Some v) → v < 2 ^ 64 → t ≡ advanced (with_register r v s) → Lands x t
+  written_lands : (x : Insn) (r : Register) (k : Kind) (v : ℕ) (t : State) → edges_from p.profile (callee_in p.sigs x) sum i row x ≡ (i + 1, with_kind row r k) ∷ [] → Admits k (Some v) → v < 2 ^ 64 → t ≡ advanced (with_register r v s) → Lands x t
   written_lands x r k v t es a w e =
-      let P : State → Type 0 = λ u. SomeEdge u.slot (values p.profile u) (edges_from p.profile (callee_in p.sigs x) i row x) × IsMemory p u.memory in
+      let P : State → Type 0 = λ u. SomeEdge u.slot (values p.profile u) (edges_from p.profile (callee_in p.sigs x) sum i row x) × IsMemory p u.memory in
       subst P (sym e) (subst (SomeEdge (s.slot +ℤ pos 1) (values_of p.profile (set s.registers (number r) (Some v)) s.memory.stack)) (sym es) (inl (one_on s.slot i at, written_register p.profile row s long fits r k (Some v) a w)), memory)
 
   alu_lands : (o : Op) (w : Width) (dst : Register) (src : Operand) (t : State) → AllNone (class_rules p Unknown row (insn.Alu o w dst src)) → Does (calls_of p.sigs) (insn.Alu o w dst src) s t → Lands (insn.Alu o w dst src) t
@@ -308,7 +306,7 @@ module _ (sound : (profile : Profile) → IsSoundTable profile) (p : Program) (i
 
   store_lands : (size : Size) (r : Register) (offset : ℤ) (src : Operand) (t : State) → AllNone (class_rules p Unknown row (insn.Store size r offset src)) → Does (calls_of p.sigs) (insn.Store size r offset src) s t → Lands (insn.Store size r offset src) t
   store_lands size r offset src t h d =
-      let P : State → Type 0 = λ u. SomeEdge u.slot (values p.profile u) (edges_from p.profile Unknown i row (insn.Store size r offset src)) × IsMemory p u.memory in
+      let P : State → Type 0 = λ u. SomeEdge u.slot (values p.profile u) (edges_from p.profile Unknown sum i row (insn.Store size r offset src)) × IsMemory p u.memory in
       let kept = store_fits size r offset src d.0 (whole_cell p.profile (kind_at row r) offset (size_bytes size)) (untold_not _ OutsideWindow h.0) d.1 refl in
       subst P (sym d.2) (inl (one_on s.slot i at, kept), store_kept p s.memory d.0 (address s r offset) size (operand_in s src) memory d.1)
 
@@ -353,22 +351,22 @@ module _ (sound : (profile : Profile) → IsSoundTable profile) (p : Program) (i
 
   branch_lands : (c : Cond) (w : Width) (left : Register) (right : Operand) (o : ℤ) (k : ℕ) (t : State) → landing i o ≡ pos k → any_unset row (left ∷ operand_reads right) ≡ false → Does (calls_of p.sigs) (insn.JumpIf c w left right o) s t → Lands (insn.JumpIf c w left right o) t
   branch_lands c w left right o k t e h d =
-      let P : State → Type 0 = λ u. SomeEdge u.slot (values p.profile u) (edges_from p.profile Unknown i row (insn.JumpIf c w left right o)) × IsMemory p u.memory in
+      let P : State → Type 0 = λ u. SomeEdge u.slot (values p.profile u) (edges_from p.profile Unknown sum i row (insn.JumpIf c w left right o)) × IsMemory p u.memory in
       subst P (sym d)
       (cond_both (condition c w (number_in s left) (operand_in s right)) (jumped o s) (advanced s) P
       (λ yes. (inr (jump_edge (landing i o) k (refined p.profile c w left right true row) (s.slot +ℤ pos 1 +ℤ o) e (landed o) (branch_fits c w left right true h yes)), memory))
-      (λ no. (inl (one_on s.slot i at, branch_fits c w left right false h no), memory)))
+      (λ no. (inl (one_on s.slot i at, told_fits (sound Second) p.profile s (refined p.profile c w left right false row) (refined_is_long p.profile c w left right false row long) (refined_kinds p.profile (sound p.profile) c w left right false row kinds) (branch_fits c w left right false h no) (insn.JumpIf c w left right o) sum holds), memory)))
 
   wide_lands : (dst : Register) (n : ℕ) (t : State) → n < 2 ^ 64 → Does (calls_of p.sigs) (insn.Wide dst n) s t → Lands (insn.Wide dst n) t
   wide_lands dst n t small d =
-      let P : State → Type 0 = λ u. SomeEdge u.slot (values p.profile u) (edges_from p.profile Unknown i row (insn.Wide dst n)) × IsMemory p u.memory in
+      let P : State → Type 0 = λ u. SomeEdge u.slot (values p.profile u) (edges_from p.profile Unknown sum i row (insn.Wide dst n)) × IsMemory p u.memory in
       let two : pos (i + 2) ≡ (s.slot +ℤ pos 1 +ℤ pos 1) = two_on s.slot i at in
       subst P (sym d) (inl (two, written_register p.profile row s long fits dst (one_number p.profile n) (Some n) ((sound p.profile).range (single n) n small (omega arith, omega arith)) small), memory)
 
   call_lands : (n : ℕ) (t : State) → AllNone (class_rules p (callee_of p.sigs n) row (insn.Call n)) → Does (calls_of p.sigs) (insn.Call n) s t → Lands (insn.Call n) t
   call_lands n t h d =
       let callee = callee_of p.sigs n in
-      let P : State → Type 0 = λ u. SomeEdge u.slot (values p.profile u) (edges_from p.profile callee i row (insn.Call n)) × IsMemory p u.memory in
+      let P : State → Type 0 = λ u. SomeEdge u.slot (values p.profile u) (edges_from p.profile callee sum i row (insn.Call n)) × IsMemory p u.memory in
       let a = answered sound p row s limits long fits memory at_number n callee d.0 d.1 d.2 in
       subst P (sym d.3) (inl (one_on s.slot i at, row_fits sound p row s limits long fits memory at_number n callee d.0 d.1 (untold_not _ ArgumentRule h.1.0) d.2), a.2)
 

@@ -1,4 +1,5 @@
 pub mod RowSteps
+pub mod Noted
 pub mod Waits
 pub mod Words
 pub mod SameReads
@@ -9,13 +10,17 @@ pub mod Places
 pub mod CellSteps
 pub mod Zeros
 pub mod Touches
+pub mod Refined
+pub mod SumSteps
 pub mod CallSteps
 pub mod Classes
+pub mod SumRuns
 pub mod Counting
 pub mod Tables
 pub mod Soundness
 pub mod Lowering
 pub mod Visits
 pub mod PlainRows
+pub mod PlainSums
 pub mod PlainPrograms
 pub mod PlainWalks

@@ -54,7 +54,7 @@ IsNumOrUnset Dead = Unit {0}
 IsNumOrUnset (Num a) = Unit {0}
 IsNumOrUnset (Ptr region lo hi) = ⊥
 
-num_or_unset : (k : Kind) → IsNum k → IsNumOrUnset k
+pub num_or_unset : (k : Kind) → IsNum k → IsNumOrUnset k
 num_or_unset Unset h = tt
 num_or_unset Dead h = tt
 num_or_unset (Num a) h = tt
@@ -186,7 +186,7 @@ left_numbers : (a b : Number) (o : Option (Number × Number)) → AreNum (kinds_
 left_numbers a b None = (tt, tt)
 left_numbers a b (Some p) = (tt, tt)
 
-refined_numbers : (profile : Profile) (c : Cond) (w : Width) (a b : Kind) (t : Bool) → IsNum a → IsNum b → AreNum (refine_of profile c w a b t)
+pub refined_numbers : (profile : Profile) (c : Cond) (w : Width) (a b : Kind) (t : Bool) → IsNum a → IsNum b → AreNum (refine_of profile c w a b t)
 refined_numbers profile c w Unset b t ha hb = absurd ha
 refined_numbers profile c w Dead Unset t ha hb = absurd hb
 refined_numbers profile c w Dead Dead t ha hb = (tt, tt)

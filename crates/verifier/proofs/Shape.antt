@@ -14,7 +14,9 @@ use Rattle.bpfimage.specs.Form.{target_of, next_of, slot_at, BreaksRule, IsForme
 use Rattle.memory.specs.declared.profile.Profile.{Profile}
 use Rattle.helpers.specs.Calls.{Callee}
 use Rattle.verifier.specs.Registers.{Row}
-use Rattle.verifier.specs.Rules.{row_after, row_taken}
+use Rattle.verifier.specs.Rules.{row_taken}
+use Rattle.verifier.specs.Sums.{row_on}
+use Rattle.verifier.specs.declared.sum.Sum.{Sum}
 use Rattle.verifier.specs.Rows.{LeadBelow}
 use Rattle.verifier.specs.Table.{Edge, next_edge, target_edge, edges_from}
 
@@ -152,9 +154,9 @@ target_all code i (Some (pos k)) row h = let l = h (pos k) refl in (subst (Leads
 target_all code i (Some (negsuc k)) row h = tt
 
 -- every edge of an instruction leads to a higher slot that starts one
-pub edges_lead : (profile : Profile) (callee : Callee) (code : List Insn) (i : ℕ) (x : Insn) (row : Row) → IsFormed code → NextStarts code → slice_get code i ≡ Some x → AllLead code i (edges_from profile callee i row x)
-edges_lead profile callee code i x row formed starts at =
-    all_append code i _ _ (next_all code i (next_of i x) (row_after profile callee row x) (λ k e. next_leads code i x k formed starts at e)) (target_all code i (target_of i x) (row_taken profile row x) (λ z e. target_leads code i x z formed at e))
+pub edges_lead : (profile : Profile) (callee : Callee) (sum : Option Sum) (code : List Insn) (i : ℕ) (x : Insn) (row : Row) → IsFormed code → NextStarts code → slice_get code i ≡ Some x → AllLead code i (edges_from profile callee sum i row x)
+edges_lead profile callee sum code i x row formed starts at =
+    all_append code i _ _ (next_all code i (next_of i x) (row_on profile callee sum row x) (λ k e. next_leads code i x k formed starts at e)) (target_all code i (target_of i x) (row_taken profile row x) (λ z e. target_leads code i x z formed at e))
 
 pub target_edge_at : (z : ℤ) (k : ℕ) (row : Row) → z ≡ pos k → target_edge (Some z) row ≡ (k, row) ∷ []
 target_edge_at z k row e = ap (λ y. target_edge (Some y) row) e

@@ -1,18 +1,15 @@
 -- A formed program of which no slot breaks a rule is safe.
-use Rattle.std.proofs.Common.{◌≡◌, ◌≢◌, ℕ, zero, suc, ℤ, pos, negsuc, ◌*◌, ◌%◌, ◌^◌, ◌<◌, ◌≤◌, Bool, true, false, eqb, List, [], ◌∷◌, ◌++◌, length, take, drop, Option, Some, None, refl, sym, ap, ◌∙◌, subst, inl, inr, ⊎_elim, arith, length-set, length-drop}
+use Rattle.std.proofs.Common.{◌≡◌, ◌≢◌, ℕ, zero, suc, ℤ, pos, negsuc, ◌*◌, ◌<◌, ◌≤◌, true, false, eqb, List, [], ◌∷◌, ◌++◌, length, take, drop, Option, Some, None, refl, sym, ap, ◌∙◌, subst, inl, inr, ⊎_elim, arith, length-set, length-drop}
 use Rattle.std.specs.Prelude.{slice_get, slice_index_or, replicate}
 use Rattle.std.proofs.lemmas.List.{length-replicate}
 use Rattle.std.proofs.lemmas.Int.{ints}
 use Rattle.std.proofs.lemmas.Bool.{cond_both, cases_lt, cases_eq}
 use Rattle.std.proofs.lemmas.Option.{slice_get_within, slice_get_past, same_Some}
-use Rattle.alu.specs.Value.{bits, wrapped}
-use Rattle.alu.specs.declared.Cond.{Cond}
-use Rattle.alu.specs.declared.Width.{Width}
+use Rattle.alu.specs.Value.{wrapped}
 use Rattle.insn.specs.Encoding.{number, size_bytes, IsInstruction}
 use Rattle.insn.specs.declared.Size.{Size}
 use Rattle.insn.specs.declared.Extend.{Extend}
 use Rattle.insn.specs.declared.Extend.TheVariants.{Zero, Sign}
-use Rattle.insn.specs.declared.Register.{Register}
 use Rattle.insn.specs.declared.Operand.{Operand}
 use Rattle.insn.specs.declared.Operand.TheVariants as operand
 use Rattle.insn.specs.declared.Insn.{Insn}
@@ -22,6 +19,7 @@ use Rattle.memory.specs.State.{State, Row as Row_of}
 use Rattle.memory.specs.Step.{Step, Faults, Runs, IsInput, start, instruction_at, starting, instruction_count}
 use Rattle.memory.specs.declared.Fault.{Fault}
 use Rattle.memory.specs.declared.profile.Profile.{Profile}
+use Rattle.memory.specs.declared.profile.Profile.TheVariants.{Second}
 use Rattle.ranges.specs.declared.kind.Kind.{Kind}
 use Rattle.ranges.specs.declared.kind.Kind.TheVariants.{Unset}
 use Rattle.ranges.specs.Kinds.{IsKind}
@@ -34,24 +32,23 @@ use Rattle.verifier.specs.Program.{Program, HasLimits, IsSafeProgram}
 use Rattle.verifier.specs.Registers.{Row, cell_count, IsLong, kind_at, kind_from, one_number, entry}
 use Rattle.verifier.specs.Cells.{span_of, whole_cell, row_written}
 use Rattle.verifier.specs.Answered.{answer_kind}
-use Rattle.verifier.specs.Rules.{callee_in, loaded, refined, row_after, row_taken, rules_of}
+use Rattle.verifier.specs.Rules.{callee_in, loaded, row_after, row_taken, rules_of}
+use Rattle.verifier.specs.Sums.{sum_at, row_on}
 use Rattle.verifier.specs.Table.{Edge, next_edge, target_edge, edges_from, edges_of, arrivals, table, broken_with, IsAccepted, AreKinds}
 use Rattle.verifier.proofs.Words.{wrapped_below, size_fits, bytes_zero}
 use Rattle.verifier.proofs.RowSteps.{kinds_set, kinds_drop}
-use Rattle.verifier.proofs.StackCells.{values, stored_long, written_long, stored_kinds, written_kinds, read_kinds, zero_cells, zero_bytes}
+use Rattle.verifier.proofs.StackCells.{values, has_eleven, stored_long, written_long, stored_kinds, written_kinds, read_kinds, zero_cells, zero_bytes}
 use Rattle.verifier.proofs.Fits.{FitsRow, IsRow, IsRowIfAny, AreRows, FitsSome, SomeEdge, into_is_row, into_old, into_new}
+use Rattle.verifier.proofs.Refined.{refined_is_long, refined_kinds}
+use Rattle.verifier.proofs.SumSteps.{Holds, told_long, told_kinds}
+use Rattle.verifier.proofs.SumRuns.{held_at}
 use Rattle.verifier.proofs.Shape.{IsPaired, Leads, AllLead, paired_starts, edges_lead, target_leads}
 use Rattle.verifier.proofs.Places.{IsMemory}
-use Rattle.verifier.proofs.Classes.{AllNone, none_each, cut_word, result_is_kind, no_fault, lands}
+use Rattle.verifier.proofs.Classes.{AllNone, none_each, result_is_kind, at_number, no_fault, lands}
 use Rattle.verifier.proofs.Counting.{starts_there, counted, counted_all}
 use Rattle.verifier.proofs.Tables.{length_rows, table_at}
 
 -- ---- rows of the table
-
-refined_is_long : (profile : Profile) (c : Cond) (w : Width) (l : Register) (r : Operand) (t : Bool) (row : Row) → IsLong profile row → IsLong profile (refined profile c w l r t row)
-refined_is_long profile c w l (operand.Register r) t row h =
-    cond_both (eqb (number l) (number r)) _ _ (IsLong profile) (λ _. h) (λ _. length-set _ _ _ ∙ length-set _ _ _ ∙ h)
-refined_is_long profile c w l (operand.Immediate n) t row h = length-set _ _ _ ∙ h
 
 pub after_is_long : (profile : Profile) (callee : Callee) (row : Row) (x : Insn) → IsLong profile row → IsLong profile (row_after profile callee row x)
 after_is_long profile callee row (insn.Alu o w d src) h = length-set _ _ _ ∙ h
@@ -82,15 +79,6 @@ module _ (profile : Profile) (sound : IsSoundTable profile) where
   from_kind row (operand.Register r) h = h (number r)
   from_kind row (operand.Immediate n) h = sound.range_kind (single (wrapped 64 n)) (omega arith) (wrapped_below 64 n)
 
-  refined_kinds : (c : Cond) (w : Width) (l : Register) (r : Operand) (t : Bool) (row : Row) → AreKinds row → AreKinds (refined profile c w l r t row)
-  refined_kinds c w l (operand.Register r) t row h =
-      let k = sound.comparison_kind c w (kind_at row l) (kind_at row r) t (h (number l)) (h (number r)) in
-      cond_both (eqb (number l) (number r)) _ _ AreKinds (λ _. h) (λ _. kinds_set _ (number r) _ (kinds_set row (number l) _ h k.0) k.1)
-  refined_kinds c w l (operand.Immediate n) t row h =
-      let m = wrapped 64 n % 2 ^ bits w in
-      kinds_set row (number l) _ h
-      (sound.comparison_kind c w (kind_at row l) (one_number profile m) t (h (number l)) (sound.range_kind (single m) (omega arith) (cut_word w (wrapped 64 n)))).0
-
   loaded_kind : (size : Size) (extend : Extend) → IsKind (loaded profile size extend)
   loaded_kind size Zero = let fits = size_fits size in let some = pow_pos (8 * size_bytes size) in sound.range_kind (full (8 * size_bytes size)) (omega arith) (omega arith)
   loaded_kind size Sign = sound.range_kind (full 64) (omega arith) (omega arith)
@@ -118,7 +106,7 @@ module _ (profile : Profile) (sound : IsSoundTable profile) where
   after_kinds callee row (insn.Load size x d r o) is h = kinds_set row (number d) _ h (read_kinds (whole_cell profile (kind_at row r) o (size_bytes size)) (loaded profile size x) row h (loaded_kind size x))
   after_kinds callee row (insn.Store size r o src) is h = stored_kinds profile (whole_cell profile (kind_at row r) o (size_bytes size)) (span_of (kind_at row r) o (size_bytes size)) (kind_from profile row src) row h (from_kind row src h)
   after_kinds callee row (insn.Jump d) is h = h
-  after_kinds callee row (insn.JumpIf c w l r o) is h = refined_kinds c w l r false row h
+  after_kinds callee row (insn.JumpIf c w l r o) is h = refined_kinds profile sound c w l r false row h
   after_kinds callee row (insn.Call n) is h = call_kinds (answer_kind profile callee) (row_written profile callee row) (answer_is_kind callee) (written_kinds profile callee row h)
   after_kinds callee row insn.Exit is h = h
   after_kinds callee row (insn.Wide d n) is h = kinds_set row (number d) _ h (sound.range_kind (single n) (omega arith) (is (λ e. cc)))
@@ -130,7 +118,7 @@ module _ (profile : Profile) (sound : IsSoundTable profile) where
   taken_kinds row (insn.Load size x d r o) h = h
   taken_kinds row (insn.Store size r o src) h = h
   taken_kinds row (insn.Jump d) h = h
-  taken_kinds row (insn.JumpIf c w l r o) h = refined_kinds c w l r true row h
+  taken_kinds row (insn.JumpIf c w l r o) h = refined_kinds profile sound c w l r true row h
   taken_kinds row (insn.Call n) h = h
   taken_kinds row insn.Exit h = h
   taken_kinds row (insn.Wide d n) h = h
@@ -154,10 +142,11 @@ IsRowAt profile None = Unit {0}
 IsRowAt profile (Some o) = IsRowIfAny profile o
 
 module _ (sound : (profile : Profile) → IsSoundTable profile) (p : Program) (limits : HasLimits p) (paired : IsPaired p.code) where
-  edge_rows : (i : ℕ) (row : Row) (x : Insn) → (x ≢ insn.Tail → IsInstruction x) → IsRow p.profile row → AreRows p.profile (edges_from p.profile (callee_in p.sigs x) i row x)
+  edge_rows : (i : ℕ) (row : Row) (x : Insn) → (x ≢ insn.Tail → IsInstruction x) → IsRow p.profile row → AreRows p.profile (edges_from p.profile (callee_in p.sigs x) (sum_at p.code i) i row x)
   edge_rows i row x is h =
+      let after = row_after p.profile (callee_in p.sigs x) row x in
       rows_append p.profile _ _
-      (next_rows p.profile (next_of i x) (row_after p.profile (callee_in p.sigs x) row x) (record { long = after_is_long p.profile (callee_in p.sigs x) row x h.long; kinds = after_kinds p.profile (sound p.profile) (callee_in p.sigs x) row x is h.kinds }))
+      (next_rows p.profile (next_of i x) (row_on p.profile (callee_in p.sigs x) (sum_at p.code i) row x) (record { long = told_long p.profile x (sum_at p.code i) after (after_is_long p.profile (callee_in p.sigs x) row x h.long); kinds = told_kinds (sound Second) p.profile x (sum_at p.code i) after (after_kinds p.profile (sound p.profile) (callee_in p.sigs x) row x is h.kinds) }))
       (target_rows p.profile (target_of i x) (row_taken p.profile row x) (record { long = taken_is_long p.profile row x h.long; kinds = taken_kinds p.profile (sound p.profile) row x h.kinds }))
 
   edges_are_rows : (i : ℕ) (x : Option Insn) (row : Option (Option Row)) → slice_get p.code i ≡ x → IsRowAt p.profile row → AreRows p.profile (edges_of p i x row)
@@ -209,7 +198,7 @@ module _ (sound : (profile : Profile) → IsSoundTable profile) (p : Program) (l
 
   -- ---- an edge is joined into its slot's row
 
-  arrives : (i n k : ℕ) (x : Insn) (row : Row) (vs : List (Option ℕ)) → i < n → slice_get p.code i ≡ Some x → slice_get (table p) i ≡ Some (Some row) → SomeEdge (pos k) vs (edges_from p.profile (callee_in p.sigs x) i row x) → FitsSome (arrivals p (table p) n k) vs
+  arrives : (i n k : ℕ) (x : Insn) (row : Row) (vs : List (Option ℕ)) → i < n → slice_get p.code i ≡ Some x → slice_get (table p) i ≡ Some (Some row) → SomeEdge (pos k) vs (edges_from p.profile (callee_in p.sigs x) (sum_at p.code i) i row x) → FitsSome (arrivals p (table p) n k) vs
   arrives i zero k x row vs lt at here e = absurd (omega arith)
   arrives i (suc n) k x row vs lt at here e =
       let all : (m : ℕ) → IsRowAt p.profile (slice_get (table p) m) = λ m. table_rows (suc m) m (omega arith) in
@@ -219,7 +208,7 @@ module _ (sound : (profile : Profile) → IsSoundTable profile) (p : Program) (l
       (λ same. let at' = ap (slice_get p.code) (sym same) ∙ at in
       let here' = ap (slice_get (table p)) (sym same) ∙ here in
       into_new p.profile (sound p.profile) k _ _ vs edges before
-      (subst (λ o. SomeEdge (pos k) vs (edges_of p n o (slice_get (table p) n))) (sym at') (subst (λ o. SomeEdge (pos k) vs (edges_of p n (Some x) o)) (sym here') (subst (λ j. SomeEdge (pos k) vs (edges_from p.profile (callee_in p.sigs x) j row x)) same e))))
+      (subst (λ o. SomeEdge (pos k) vs (edges_of p n o (slice_get (table p) n))) (sym at') (subst (λ o. SomeEdge (pos k) vs (edges_of p n (Some x) o)) (sym here') (subst (λ j. SomeEdge (pos k) vs (edges_from p.profile (callee_in p.sigs x) (sum_at p.code j) j row x)) same e))))
       (λ other. into_old p.profile (sound p.profile) k _ _ vs edges before (arrives i n k x row vs (omega arith) at here e))
       (cases_eq i n)
 
@@ -235,6 +224,7 @@ pub record Stands (p : Program) (n : ℕ) (s : State) : Type 0 where
   pub row : Row
   pub kinds : slice_get (table p) at ≡ Some (Some row)
   pub fits : FitsRow row (values p.profile s)
+  pub holds : Holds (sum_at p.code at) s
   pub memory : IsMemory p s.memory
   pub steps : n ≤ instruction_count (take at p.code)
 
@@ -267,15 +257,15 @@ module _ (sound : (profile : Profile) → IsSoundTable profile) (p : Program) (l
       none_there o x e h = cc
   faultless n s g f (inr e) =
       let same : e.0 ≡ g.here = same_Some _ _ (sym e.1 ∙ there n s g) in
-      no_fault sound p g.at g.row s limits (row_kinds sound p limits paired g.at g.row g.kinds) (row_long sound p limits paired g.at g.row g.kinds) g.fits g.slot g.memory e.0 (subst (λ x. AllNone (rules_of p g.row x)) (sym same) (rules_kept n s g)) f e.2.stands
+      no_fault sound p g.at g.row s limits (row_kinds sound p limits paired g.at g.row g.kinds) (row_long sound p limits paired g.at g.row g.kinds) g.fits g.slot g.memory (sum_at p.code g.at) g.holds e.0 (subst (λ x. AllNone (rules_of p g.row x)) (sym same) (rules_kept n s g)) f e.2.stands
 
-  goes_on : (n : ℕ) (s : State) (g : Stands p n s) (t : State) → SomeEdge t.slot (values p.profile t) (edges_from p.profile (callee_in p.sigs g.here) g.at g.row g.here) → IsMemory p t.memory → Stands p (suc n) t
-  goes_on n s g t e m =
-      let to = lead_any p g.at (edges_from p.profile (callee_in p.sigs g.here) g.at g.row g.here) t.slot (values p.profile t) (edges_lead p.profile (callee_in p.sigs g.here) p.code g.at g.here g.row accepted.formed (paired_starts p.code paired) g.found) e in
+  goes_on : (n : ℕ) (s : State) (g : Stands p n s) (t : State) → SomeEdge t.slot (values p.profile t) (edges_from p.profile (callee_in p.sigs g.here) (sum_at p.code g.at) g.at g.row g.here) → IsMemory p t.memory → ((k : ℕ) → g.at < k → t.slot ≡ pos k → Holds (sum_at p.code k) t) → Stands p (suc n) t
+  goes_on n s g t e m held =
+      let to = lead_any p g.at (edges_from p.profile (callee_in p.sigs g.here) (sum_at p.code g.at) g.at g.row g.here) t.slot (values p.profile t) (edges_lead p.profile (callee_in p.sigs g.here) (sum_at p.code g.at) p.code g.at g.here g.row accepted.formed (paired_starts p.code paired) g.found) e in
       let k = to.0 in
       let l = to.2 in
       let within = slice_get_within p.code k l.to l.there in
-      let arrived = arrives sound p limits paired g.at k k g.here g.row (values p.profile t) l.above g.found g.kinds (subst (λ z. SomeEdge z (values p.profile t) (edges_from p.profile (callee_in p.sigs g.here) g.at g.row g.here)) to.1 e) in
+      let arrived = arrives sound p limits paired g.at k k g.here g.row (values p.profile t) l.above g.found g.kinds (subst (λ z. SomeEdge z (values p.profile t) (edges_from p.profile (callee_in p.sigs g.here) (sum_at p.code g.at) g.at g.row g.here)) to.1 e) in
       let next = stand_at p k (arrivals p (table p) k k) (values p.profile t) (table_at p k within) arrived in
       record {
         at = k;
@@ -286,6 +276,7 @@ module _ (sound : (profile : Profile) → IsSoundTable profile) (p : Program) (l
         row = next.0;
         kinds = next.1;
         fits = next.2;
+        holds = held k l.above to.1;
         memory = m;
         steps = omega (arith, counted p.code g.at k g.here g.found g.starts l.above, g.steps);
       }
@@ -294,9 +285,12 @@ module _ (sound : (profile : Profile) → IsSoundTable profile) (p : Program) (l
   one_step n s t g d =
       let same : d.0 ≡ g.here = same_Some _ _ (sym d.1 ∙ there n s g) in
       let row = subst (λ x. Row_of (calls_of p.sigs) x s t) same d.2.row in
+      let long = row_long sound p limits paired g.at g.row g.kinds in
+      let number_word = at_number sound p g.at g.row s limits (row_kinds sound p limits paired g.at g.row g.kinds) long g.fits g.slot g.memory (sum_at p.code g.at) g.holds in
       let to : (z : ℤ) → target_of g.at g.here ≡ Some z → (k : ℕ) × (z ≡ pos k) = λ z e. let l = target_leads p.code g.at g.here z accepted.formed g.found e in (l.0, l.1) in
-      let l = lands sound p g.at g.row s limits (row_kinds sound p limits paired g.at g.row g.kinds) (row_long sound p limits paired g.at g.row g.kinds) g.fits g.slot g.memory g.here t (paired.instructions g.at g.here g.found g.starts) to (rules_kept n s g) row in
+      let l = lands sound p g.at g.row s limits (row_kinds sound p limits paired g.at g.row g.kinds) (row_long sound p limits paired g.at g.row g.kinds) g.fits g.slot g.memory (sum_at p.code g.at) g.holds g.here t (paired.instructions g.at g.here g.found g.starts) to (rules_kept n s g) row in
       goes_on n s g t l.0 l.1
+      (λ k above slot. held_at (calls_of p.sigs) p.code s g.at g.slot (has_eleven p.profile g.row s long g.fits) (λ r. (number_word r).1) g.holds (λ dst n. paired.after_wide g.at n dst) k g.here t above g.found slot row)
 
   -- the state before the first slot
   stands_first : (input : List ℕ) (used : ℕ) → IsInput p.in_len input used → Stands p 0 (start input used p.out_len)
@@ -313,6 +307,7 @@ module _ (sound : (profile : Profile) → IsSoundTable profile) (p : Program) (l
         row = entry p;
         kinds = table_at p 0 some;
         fits = (tt, tt, ((omega (arith, ints), omega (arith, ints)), omega arith, ((sound p.profile).range (up_to p.in_len) used (omega arith) (omega arith, h.within), omega (arith, h.within), ((omega (arith, ints), omega (arith, ints)), omega arith, ((sound p.profile).range (single p.out_len) p.out_len (omega arith) (omega arith, omega arith), omega arith, (tt, tt, (tt, tt, (tt, tt, (tt, tt, (tt, tt, ((omega (arith, ints), omega (arith, ints)), omega arith, zero_cells (cell_count p.profile) (one_number p.profile 0) (replicate 512 0) ((sound p.profile).range (single 0) 0 (omega arith) (omega arith, omega arith)) (zero_bytes 512))))))))))));
+        holds = tt;
         memory = record { stack_length = length-replicate {A = ℕ} 512 0; input_length = h.whole; output_length = length-replicate {A = ℕ} p.out_len 0; stack_bytes = bytes_zero 512; input_bytes = h.bytes; output_bytes = bytes_zero p.out_len };
         steps = omega arith;
       }

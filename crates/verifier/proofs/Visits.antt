@@ -14,7 +14,9 @@ use Rattle.verifier.specs.Program.{Program}
 use Rattle.verifier.specs.Registers.{Row}
 use Rattle.helpers.specs.Calls.{Callee}
 use Rattle.bpfimage.specs.Form.{next_of, target_of}
-use Rattle.verifier.specs.Rules.{callee_in, broken_in, row_after, row_taken}
+use Rattle.verifier.specs.Rules.{callee_in, broken_in, row_taken}
+use Rattle.verifier.specs.Sums.{sum_at, row_on}
+use Rattle.verifier.specs.declared.sum.Sum.{Sum}
 use Rattle.verifier.specs.Rows.{row_at, pushed, Misses, IsPass}
 use Rattle.verifier.specs.Table.{Edge, joined, next_edge, target_edge, edges_from, edges_of, table, broken_with, broken_at, IsAccepted}
 use Rattle.verifier.specs.declared.rule.KindRule.{KindRule}
@@ -41,13 +43,13 @@ module _ (p : Program) (rows : List (Option Row)) (i : ℕ) (within : i < length
     pub broken_here : broken_at p i ≡ broken_in p row x
     broken_here = ap (λ o. broken_with p o (slice_get (table p) i)) at ∙ ap (broken_with p (Some x)) (row_here p rows (Some row) i pass within)
 
-    edges_here : edges_from p.profile (callee_in p.sigs x) i row x ≡ edges_of p i (slice_get p.code i) (slice_get (table p) i)
+    edges_here : edges_from p.profile (callee_in p.sigs x) (sum_at p.code i) i row x ≡ edges_of p i (slice_get p.code i) (slice_get (table p) i)
     edges_here = ap (λ r. edges_of p i (Some x) r) (sym (row_here p rows (Some row) i pass within)) ∙ ap (λ o. edges_of p i o (slice_get (table p) i)) (sym at)
 
     -- its edges, of which the first is that of the next slot
-    module _ (callee : Callee) (after : Row) (fs : List Edge) (called : callee ≡ callee_in p.sigs x) (goes : after ≡ row_after p.profile callee row x) (takes : fs ≡ target_edge (target_of i x) (row_taken p.profile row x)) where
-      edges_are : next_edge (next_of i x) after ++ fs ≡ edges_from p.profile (callee_in p.sigs x) i row x
-      edges_are = ap (λ r. next_edge (next_of i x) r ++ fs) goes ∙ ap (λ es. next_edge (next_of i x) (row_after p.profile callee row x) ++ es) takes ∙ ap (λ y. edges_from p.profile y i row x) called
+    module _ (callee : Callee) (sum : Option Sum) (after : Row) (fs : List Edge) (called : callee ≡ callee_in p.sigs x) (summed : sum ≡ sum_at p.code i) (goes : after ≡ row_on p.profile callee sum row x) (takes : fs ≡ target_edge (target_of i x) (row_taken p.profile row x)) where
+      edges_are : next_edge (next_of i x) after ++ fs ≡ edges_from p.profile (callee_in p.sigs x) (sum_at p.code i) i row x
+      edges_are = ap (λ r. next_edge (next_of i x) r ++ fs) goes ∙ ap (λ es. next_edge (next_of i x) (row_on p.profile callee sum row x) ++ es) takes ∙ ap (λ y. edges_from p.profile y sum i row x) called ∙ ap (λ y. edges_from p.profile (callee_in p.sigs x) y i row x) summed
 
       pub all_here : (rows' : List (Option Row)) → rows' ≡ pushed p.profile rows (next_edge (next_of i x) after ++ fs) → IsPass p rows' (row_at rows' (i + 1)) (i + 1)
       all_here rows' are =

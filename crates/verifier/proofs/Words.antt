@@ -3,7 +3,9 @@ use Rattle.std.proofs.Common.{◌≡◌, ℕ, zero, suc, ◌+◌, ◌*◌, ◌/�
 use Rattle.std.specs.Prelude.{replicate}
 use Rattle.std.proofs.Math.Nat.{mod-lt, mod-eq_of_lt, pow-succ'}
 use Rattle.std.proofs.lemmas.Nat.{pow_pos}
-use Rattle.alu.specs.Value.{wrapped}
+use Rattle.alu.specs.Value.{bits, wrapped}
+use Rattle.alu.specs.declared.Width.{Width}
+use Rattle.alu.specs.declared.Width.TheVariants.{W32, W64}
 use Rattle.insn.specs.Encoding.{size_bytes}
 use Rattle.insn.specs.declared.Size.{Size}
 use Rattle.insn.specs.declared.Size.TheVariants.{Byte, Half, Word, Double}
@@ -16,6 +18,11 @@ wrapped_below k (negsuc n) = omega (arith, pow_pos k)
 
 pub wrapped_small : (k n : ℕ) → n < 2 ^ k → wrapped k (pos n) ≡ n
 wrapped_small k n h = mod-eq_of_lt h
+
+-- what is left of a number by a width is a word
+pub cut_word : (w : Width) (x : ℕ) → x % 2 ^ bits w < 2 ^ 64
+cut_word W32 x = let h : x % 2 ^ 32 < 2 ^ 32 = mod-lt x (omega arith) in omega (arith, h)
+cut_word W64 x = mod-lt x (omega arith)
 
 -- ---- bytes
 

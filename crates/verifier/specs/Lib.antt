@@ -6,9 +6,11 @@ pub mod CallKinds
 pub mod Cells
 pub mod Answered
 pub mod Rules
+pub mod Sums
 pub mod Table
 pub mod Rows
 pub mod Waiting
+pub mod Known
 pub mod Verdict
 pub mod Plain
 pub mod Lowered

@@ -9,7 +9,9 @@ use Rattle.ranges.specs.declared.kind.Kind.TheVariants.{Unset}
 use Rattle.verifier.specs.Program.{Program}
 use Rattle.verifier.specs.Registers.{Row, entry}
 use Rattle.helpers.specs.Calls.{Callee}
-use Rattle.verifier.specs.Rules.{callee_in, row_after, row_taken, broken_in}
+use Rattle.verifier.specs.Rules.{callee_in, row_taken, broken_in}
+use Rattle.verifier.specs.Sums.{sum_at, row_on}
+use Rattle.verifier.specs.declared.sum.Sum.{Sum}
 use Rattle.verifier.specs.declared.rule.KindRule.{KindRule}
 
 -- ---- edges
@@ -27,10 +29,11 @@ target_edge None row = []
 target_edge (Some (pos k)) row = (k, row) ∷ []
 target_edge (Some (negsuc k)) row = []
 
--- the edges of an instruction at slot i, with what it calls, which a row of kinds reaches: to the next slot, and to the target of its jump
-abbrev pub edges_from : Profile → Callee → ℕ → Row → Insn → List Edge
-edges_from profile callee i row x =
-    next_edge (next_of i x) (row_after profile callee row x) ++ target_edge (target_of i x) (row_taken profile row x)
+-- the edges of an instruction at slot i, with what it calls, which a row of kinds reaches and a sum, if one is known: to the next slot,
+-- and to the target of its jump
+abbrev pub edges_from : Profile → Callee → Option Sum → ℕ → Row → Insn → List Edge
+edges_from profile callee sum i row x =
+    next_edge (next_of i x) (row_on profile callee sum row x) ++ target_edge (target_of i x) (row_taken profile row x)
 
 -- ---- joins
 
@@ -52,7 +55,7 @@ into profile k (e ∷ es) before = into profile k es (if e.0 == k then joined pr
 
 -- the edges of slot i, if some row of kinds reaches it
 abbrev pub edges_of : Program → ℕ → Option Insn → Option (Option Row) → List Edge
-edges_of p i (Some x) (Some (Some row)) = edges_from p.profile (callee_in p.sigs x) i row x
+edges_of p i (Some x) (Some (Some row)) = edges_from p.profile (callee_in p.sigs x) (sum_at p.code i) i row x
 edges_of p i x row = []
 
 -- the join over all edges into slot k from the first n slots of a table; slot 0 has the entry too

@@ -17,16 +17,16 @@ use ranges::{Kind, Profile, Range, kind_in};
 
 /// The place on the stack, counted from its lowest byte, at an offset from an offset that counts from its end.
 fn place_of(at: i64, offset: i16) -> i64
-    requires near { (negsuc (2 ^ 20 - 1) ≤ℤ at) × (at ≤ℤ pos (2 ^ 20)) }
+    requires near { (negsuc (2 ^ 33 - 1) ≤ℤ at) × (at ≤ℤ pos (2 ^ 33)) }
     ensures place { result ≡ place_of at offset }
-    ensures near { (negsuc (2 ^ 21 - 1) ≤ℤ result) × (result ≤ℤ pos (2 ^ 21)) }
+    ensures near { (negsuc (2 ^ 34 - 1) ≤ℤ result) × (result ≤ℤ pos (2 ^ 34)) }
 {
     at + i64::from(offset) + 512
 }
 
 /// The place on the stack that is behind so many bytes.
 fn behind(place: i64, size: u32) -> i64
-    requires near { (negsuc (2 ^ 21 - 1) ≤ℤ place) × (place ≤ℤ pos (2 ^ 21)) }
+    requires near { (negsuc (2 ^ 34 - 1) ≤ℤ place) × (place ≤ℤ pos (2 ^ 34)) }
     ensures { result ≡ place +ℤ pos size }
 {
     place + i64::from(size)

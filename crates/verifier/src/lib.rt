@@ -11,17 +11,22 @@ pub mod rule;
 mod rules;
 mod slots;
 mod span;
+mod sum;
+mod sums;
 pub mod verified;
 pub mod verifying;
 mod waiting;
 mod windows;
 
-// What the pass does at one slot: the rules on its instruction, the kinds after it, and those that its jump takes along.
+// What the pass does at one slot: the rules on its instruction, the kinds after it, those that its jump takes along, and the sum that
+// is known there.
 pub use bpfimage::{FormRule, Image, ImageFault, ImageKind, raw_image, read_image};
 pub use callee::Called;
 pub use candidate::Candidate;
 pub use edges::taken_edge;
 pub use rule::{KindRule, Refused, Rule};
 pub use rules::advance;
+pub use sum::Sum;
+pub use sums::{Sums, tell};
 pub use verified::Verified;
 pub use verifying::verify;

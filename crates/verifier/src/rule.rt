@@ -13,7 +13,7 @@ pub enum KindRule {
     FrameWritten,
     /// V22: arithmetic on a pointer, or a comparison of one.
     PointerOperand,
-    /// V23: a pointer's offset is further than 2^20 from its window, or not known to be near.
+    /// V23: a pointer's offset is further than 2^20 from its window, by the second table than 2^33, or not known to be near.
     FarOffset,
     /// V24: a load or store that does not lie in its window, or whose address is a number.
     OutsideWindow,

@@ -6,6 +6,7 @@ ghost use Rattle.bpfimage.specs.Form.{IsFormed};
 ghost use Rattle.verifier.specs.Program.{program_of, IsSafeProgram};
 ghost use Rattle.verifier.specs.Candidates.{program_in};
 ghost use Rattle.verifier.specs.Registers.{cell_count, entry};
+ghost use Rattle.verifier.specs.Sums.{sum_at};
 ghost use Rattle.verifier.specs.Table.{IsAccepted, IsFirstRule, broken_at};
 ghost use Rattle.verifier.specs.Rows.{IsKnown, HasKinds, IsPass};
 ghost use Rattle.verifier.specs.Waiting.{waiting, IsPool};
@@ -21,6 +22,8 @@ use crate::kinds::one_number;
 use crate::rule::{KindRule, Refused, Rule};
 use crate::rules::advance;
 use crate::slots::lower_slot;
+use crate::sum::Sum;
+use crate::sums::{Sums, tell};
 use crate::verified::Verified;
 use crate::waiting::Waiting;
 use bpfimage::{Image, form_fault};
@@ -81,6 +84,7 @@ fn visit<const N: usize>(
     at: usize,
     rows: &mut Waiting<N>,
     here: &mut Option<[Kind; N]>,
+    sum: Option<Sum>,
     taken: &mut [Kind; N],
 ) -> Result<(), Refused>
     requires long { 11 ≤ N }
@@ -89,6 +93,7 @@ fn visit<const N: usize>(
     requires before { (k : ℕ) → k < at → broken_at (program_in program.now) k ≡ None }
     requires within { at < length program.now.image.code.items }
     requires pass { IsPass (program_in program.now) (waiting rows.old) here.old at }
+    requires sum { sum ≡ sum_at program.now.image.code.items at }
     requires pool { IsPool program.now.image.profile rows.old }
     requires here { HasKinds program.now.image.profile rows.old.low here.old }
     ensures refused { IfErr result (λ refused. IsRefused (program_in program.now) refused.rule refused.slot) }
@@ -112,6 +117,7 @@ fn visit<const N: usize>(
             slot: at as u32,
         });
     }
+    tell(insn, profile, sum, row);
     let Ok(on) = lead_on(profile, rows, at, row, insn, target, taken) else {
         return Err(no_memory());
     };
@@ -136,6 +142,9 @@ fn check_rows<const N: usize>(alloc: Global, program: &Candidate) -> Result<Vec<
     let Ok(mut rows) = Waiting::new(alloc, slots + 1) else {
         return Err(no_memory());
     };
+    let Ok(mut sums) = Sums::new(alloc, slots + 1) else {
+        return Err(no_memory());
+    };
     let Ok(mut lows) = vec![in alloc; tail(); slots] else {
         return Err(no_memory());
     };
@@ -144,7 +153,8 @@ fn check_rows<const N: usize>(alloc: Global, program: &Candidate) -> Result<Vec<
     let mut taken = first;
     for at in 0..slots {
         lows[at] = lower_slot(program, at, &here);
-        visit(program, at, &mut rows, &mut here, &mut taken)?;
+        visit(program, at, &mut rows, &mut here, sums.now, &mut taken)?;
+        sums.advance(program, at);
     }
     Ok(lows)
 }

@@ -32,7 +32,7 @@ fn end_offset(program: &Candidate, region: Region) -> i64
 
 /// Whether an access through a pointer lies in its window.
 fn lies_inside(first: i64, end: i64, lo: i64, hi: i64, offset: i16, size: i64) -> bool
-    requires { (negsuc (2 ^ 20 - 1) ≤ℤ lo) × (lo ≤ℤ hi) × (hi ≤ℤ pos (2 ^ 20)) × (pos 0 ≤ℤ size) × (size ≤ℤ pos (2 ^ 32)) }
+    requires { (negsuc (2 ^ 33 - 1) ≤ℤ lo) × (lo ≤ℤ hi) × (hi ≤ℤ pos (2 ^ 33)) × (pos 0 ≤ℤ size) × (size ≤ℤ pos (2 ^ 32)) }
     ensures { result ≡ (int_le first (lo +ℤ offset) && int_le (hi +ℤ offset +ℤ size) end) }
 {
     let offset = i64::from(offset);

@@ -1020,6 +1020,37 @@ POINTERS = [
     ("a number less a pointer", [taken_from(2, 1), CLEAR, EXIT], b"", refused(22, 0), refused(22, 0)),
 ]
 
+
+
+def load_word(dst, offset):
+    return fields(0x61, dst, 1, offset, 0)
+
+
+# Two numbers of 32 bits, of which the first is an index: 9 and 3.
+TWO = struct.pack("<II", 9, 3) + PLACES[8:]
+
+
+def byte_where(sum_of, offset=0):
+    """The byte at an index in R7, if R6, of which some slots make a sum, is no more than the input's length; else 0."""
+    return [load_word(7, 0), *sum_of, CLEAR, fields(0x2D, 6, 2, 2, 0), added(1, 7), load_byte(0, 1, offset), EXIT]
+
+
+# Sums that are known where a condition is tested, with an input of 256 bytes.
+SUMS = [
+    ("an index and one", byte_where([copied(6, 7), raised(6, 1)]), TWO, comes_to(9, 8), refused(23, 5)),
+    ("an index and one past the input", byte_where([copied(6, 7), raised(6, 1)]), struct.pack("<I", 256), comes_to(0, 6), refused(23, 5)),
+    ("an index and one, one byte further", byte_where([copied(6, 7), raised(6, 1)], 1), TWO, refused(24, 6), refused(23, 5)),
+    ("an index and a length", [load_word(8, 4), CLEAR, fields(0x15, 8, 0, 7, 0), *byte_where([copied(6, 7), added(6, 8)])], TWO, comes_to(9, 11), refused(23, 8)),
+    ("an index and a length that may be 0", [load_word(8, 4), *byte_where([copied(6, 7), added(6, 8)])], TWO, refused(24, 7), refused(23, 6)),
+    ("an end pointer and a length", [load_word(7, 0), copied(8, 1), added(8, 7), copied(6, 8), raised(6, 1), added(2, 1), CLEAR, fields(0x2D, 6, 2, 1, 0), load_byte(0, 8, 0), EXIT], TWO, comes_to(9, 10), refused(23, 2)),
+    ("a sum of 32 bits", byte_where([copied(6, 7), fields(0x04, 6, 0, 0, 1)]), TWO, refused(24, 6), refused(23, 5)),
+    ("a copy of 32 bits", byte_where([fields(0xBC, 6, 7, 0, 0), raised(6, 1)]), TWO, refused(24, 6), refused(23, 5)),
+    ("a sum of which a number is read anew", byte_where([copied(6, 7), raised(6, 1), load_word(7, 4)]), TWO, refused(24, 7), refused(23, 6)),
+    ("a sum where a jump leads", byte_where([copied(6, 7), raised(6, 1), jump(0)]), TWO, refused(24, 7), refused(23, 6)),
+    ("a sum that may pass 2^64", [load(7, 1, 0), *byte_where([copied(6, 7), raised(6, 1)])[1:]], TWO, refused(23, 5), refused(23, 5)),
+    ("a sum raised again", byte_where([copied(6, 7), raised(6, 1), raised(6, 1)]), TWO, refused(24, 7), refused(23, 6)),
+]
+
 # A pointer that goes over the stack, with an input of 256 bytes.
 SPILLED = [SPILL, RELOAD, load_byte(0, 6, 0), EXIT]
 SPILLS = [
@@ -1030,7 +1061,7 @@ SPILLS = [
 
 
 def tables():
-    for windows, rows in [((256, 0), SPILLS), ((256, 8), CELLS), ((256, 0), NUMBERS), ((256, 8), POINTERS)]:
+    for windows, rows in [((256, 0), SPILLS), ((256, 8), CELLS), ((256, 0), NUMBERS), ((256, 8), POINTERS), ((256, 0), SUMS)]:
         for name, slots, given, second, first in rows:
             yield row(name, image(*windows, slots, 2), second, slots, given)
             yield row(f"{name}, version 1", image(*windows, slots), first, slots, given)
@@ -1145,13 +1176,13 @@ RAW = [
     ),
     (
         "far offset",
-        [CLEAR, raised(1, 1048577), NOTHING, NOTHING, EXIT],
-        refused(23, 1),
+        [CLEAR, *[raised(1, 2**31 - 1)] * 5, EXIT],
+        refused(23, 5),
     ),
     (
         "near offset",
-        [CLEAR, raised(1, 1048576), NOTHING, NOTHING, EXIT],
-        accepted(5),
+        [CLEAR, *[raised(1, 2**31 - 1)] * 4, EXIT],
+        accepted(6),
     ),
     (
         "number as address",

@@ -46,10 +46,22 @@ pub fn is_told(
     code: &[Slot],
     want: Told,
 ) -> Result<bool, Fail> {
+    let (first, second) = verdicts_of(alloc, sigs, in_len, out_len, code)?;
+    Ok(first == want && second == want)
+}
+
+/// What is told of a program with windows of these lengths by the first table of kinds, and by the second.
+fn verdicts_of(
+    alloc: Global,
+    sigs: &Sigs,
+    in_len: u32,
+    out_len: u32,
+    code: &[Slot],
+) -> Result<(Told, Told), Fail> {
     let mut bytes = image_of(alloc, in_len, out_len, code)?;
     let first = verdict_of(alloc, &bytes, sigs)?;
     make_second(&mut bytes);
-    Ok(first == want && verdict_of(alloc, &bytes, sigs)? == want)
+    Ok((first, verdict_of(alloc, &bytes, sigs)?))
 }
 
 /// `r0 = 0`
@@ -142,11 +154,6 @@ const PROGRAMS: &[(&str, Program, Told)] = &[
         Told::Refused(13, 4095),
     ),
     (
-        "sums up to a far offset",
-        Program::Straight(&[CLEAR, Raised(1, 257), Exit]),
-        Told::Refused(23, 4081),
-    ),
-    (
         "loads of the last byte",
         Program::Straight(&[Raised(1, 65_535), LoadByte(0, 1, 0), Exit]),
         Told::Accepted(4096),
@@ -189,6 +196,22 @@ const PROGRAMS: &[(&str, Program, Told)] = &[
     ),
 ];
 
+/// Programs of which the tables tell something else: what is told by the first, and by the second.
+const APART: &[(&str, Program, Told, Told)] = &[
+    (
+        "sums up to a far offset",
+        Program::Straight(&[CLEAR, Raised(1, 257), Exit]),
+        Told::Refused(23, 4081),
+        Told::Accepted(4096),
+    ),
+    (
+        "sums up to one that is far for both",
+        Program::Straight(&[CLEAR, Raised(1, 2_105_000), Exit]),
+        Told::Refused(23, 1),
+        Told::Refused(23, 4081),
+    ),
+];
+
 /// Whether a program is told so.
 fn is_told_so(alloc: Global, sigs: &Sigs, program: &Program, want: Told) -> Result<bool, Fail> {
     let slots = slots_of(alloc, program)?;
@@ -200,6 +223,11 @@ fn greatest_sizes(rt: HostRuntime) -> Result<(), Fail> {
     let sigs = Sigs::new(rt.alloc());
     for (name, program, want) in PROGRAMS {
         expect(is_told_so(rt.alloc(), &sigs, program, *want)?, name)?;
+    }
+    for (name, program, first, second) in APART {
+        let slots = slots_of(rt.alloc(), program)?;
+        let told = verdicts_of(rt.alloc(), &sigs, LONGEST, LONGEST, &slots)?;
+        expect(told == (*first, *second), name)?;
     }
     Ok(())
 }

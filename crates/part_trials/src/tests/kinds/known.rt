@@ -64,6 +64,6 @@ pub fn is_kind(kind: Kind) -> bool
     match kind {
         Kind::Unset | Kind::Dead => true,
         Kind::Num(a) => a.range.lo <= a.range.hi,
-        Kind::Ptr { lo, hi, .. } => -(1 << 20) <= lo && lo <= hi && hi <= 1 << 20,
+        Kind::Ptr { lo, hi, .. } => -(1 << 33) <= lo && lo <= hi && hi <= 1 << 33,
     }
 }

@@ -6,7 +6,7 @@ use super::{HALF, MAX};
 use alu::Width::*;
 use ranges::Bad;
 
-/// The farthest offset of a pointer.
+/// The farthest offset of a pointer by the first profile.
 const FAR_OFFSET: i64 = 1 << 20;
 
 const FAR: u64 = 1 << 20;

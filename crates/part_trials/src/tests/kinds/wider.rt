@@ -13,6 +13,7 @@ use alu::SwapBits::*;
 use alu::SwapKind::*;
 use alu::Width::*;
 use code_parts::expect;
+use ranges::Bad;
 use ranges::Profile::Second;
 use std::test::Fail;
 
@@ -29,6 +30,11 @@ const EIGHTS: Known = Bits(0, MAX - 7, 7, 0);
 /// The nibbles, moved up by four bits.
 const NIBBLES: Known = Bits(0, 0xf0, !0xf0, 0);
 
+/// The farthest offset of a pointer.
+const FAR_OFFSET: i64 = 1 << 33;
+
+const FAR: u64 = 1 << 33;
+
 const MOVES: &[Row] = &[
     (W64, Unset, EIGHTS, Ok(EIGHTS)),
     (W32, Unset, FULL, Ok(WORD)),
@@ -44,6 +50,8 @@ const SUMS: &[Row] = &[
     (W64, Dead, BYTE, Ok(Dead)),
     (W64, Stack(0, 0), Dead, Ok(Stack(0, 0))),
     (W64, Stack(-256, -256), NIBBLES, Ok(Stack(-256, -16))),
+    (W64, Stack(0, 0), Num(0, FAR), Ok(Stack(0, FAR_OFFSET))),
+    (W64, Stack(0, 0), Num(0, FAR + 1), Err(Bad::V23)),
 ];
 
 const DIFFERENCES: &[Row] = &[

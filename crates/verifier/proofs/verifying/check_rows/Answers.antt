@@ -4,6 +4,7 @@ use Rattle.verifier.specs.Candidates.{program_in}
 use Rattle.verifier.specs.Table.{broken_at}
 use Rattle.verifier.specs.Rows.{IsKnown, AreRowKinds, IsPass}
 use Rattle.verifier.specs.Waiting.{waiting}
+use Rattle.verifier.specs.Known.{AreSums}
 use Rattle.verifier.proofs.Tables.{pass_first, none_kinds}
 use Rattle.verifier.proofs.Visits.{all_visited}
 use Rattle.verifier.proofs.Lowering.{slots_and, slot_here}
@@ -24,6 +25,7 @@ loop-at-init g c =
         registers = subst (λ l. 11 ≤ l) (sym low) c.requires.some;
         short = omega (arith, low);
       };
+      sums = subst (λ n. AreSums code.items n 0 c.in-Ok-new.sums) (omega (arith, c.len-slots.ensures, code.ok.0)) (c.in-Ok-new.ensures code.items);
       here = subst (λ l. IsKnown p.profile l c.entry-first.result) (sym low) c.entry-first.ensures.known;
       lows = record { whole = omega (arith, c.in-Ok-vec.lows.ok.0, c.in-Ok-vec.ensures.len, c.len-slots.ensures, code.ok.0); slots = λ k low lt e. absurd (omega arith) };
       unbroken = λ k lt. absurd (omega arith);
@@ -33,6 +35,7 @@ pub loop-at-preserved : goal.loop-at-preserved
 loop-at-preserved g c = record {
   pass = c.in_ok-visit.ensures.pass;
   pool = c.in_ok-visit.ensures.pool;
+  sums = c.advance.ensures;
   here = c.in_ok-visit.ensures.here;
   lows =
       let p = program_in c.args.program.now in

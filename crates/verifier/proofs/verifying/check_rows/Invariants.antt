@@ -1,4 +1,5 @@
-use Rattle.std.proofs.Common.{◌≡◌, ℕ, ◌<◌, None}
+use Rattle.std.proofs.Common.{◌≡◌, ℕ, ◌+◌, ◌<◌, length, None}
+use Rattle.verifier.specs.Known.{AreSums}
 use Rattle.verifier.specs.Candidates.{program_in}
 use Rattle.verifier.specs.Rows.{HasKinds, IsPass}
 use Rattle.verifier.specs.Table.{broken_at}
@@ -10,6 +11,7 @@ abbrev pub invariant-loop-at : goal.invariant-loop-at
 invariant-loop-at g l = record {
   pass : IsPass (program_in l.program) (waiting l.rows) l.here l.at;
   pool : IsPool l.program.image.profile l.rows;
+  sums : AreSums l.program.image.code.items (length l.program.image.code.items + 1) l.at l.sums;
   here : HasKinds l.program.image.profile l.rows.low l.here;
   lows : AreSlots (program_in l.program) l.lows.items l.at;
   unbroken : (k : ℕ) → k < l.at → broken_at (program_in l.program) k ≡ None;

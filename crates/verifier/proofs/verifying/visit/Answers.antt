@@ -5,8 +5,10 @@ use Rattle.verifier.specs.CallKinds.{callee_from}
 use Rattle.verifier.specs.Rows.{LeadBelow, StartsZero, IsKnown, HasKinds, edge_list, IsPass}
 use Rattle.verifier.specs.Rules.{first_of, rules_by, row_taken}
 use Rattle.verifier.specs.Waiting.{waiting}
+use Rattle.verifier.specs.Sums.{told}
 use Rattle.verifier.specs.Cells.{span_written}
 use Rattle.verifier.proofs.Zeros.{Ends, fewer_zeros, rows_below, after_zeros}
+use Rattle.verifier.proofs.SumSteps.{told_zeros}
 use Rattle.verifier.proofs.Shape.{next_within, target_within, target_below}
 use Rattle.verifier.proofs.Visits.{none_unbroken, none_pass, broken_here, all_here, alone_here, here_taken}
 use Rattle.verifier.proofs.verifying.visit.Goals as goal
@@ -68,7 +70,7 @@ lead_on-requires g c =
     let zeros : StartsZero profile low row = fewer_zeros profile c.args.rows.now.low low row c.lowered-rows.ensures.lower known.zeros in
     let ends : Ends low (span_written callee row x) = subst (Ends low) c.span_written.ensures c.lowered-rows.ensures.before in
     let long : 11 ≤ length row = omega (arith, c.requires.long) in
-    let after : IsKnown profile low c.advance.new.row = record { kinds = c.in_default-advance.ensures.kinds; zeros = subst (StartsZero profile low) (sym c.in_default-advance.ensures.row) (after_zeros profile low callee row x long ends zeros) } in
+    let after : IsKnown profile low c.tell.new.row = record { kinds = c.tell.ensures.kinds; zeros = subst (StartsZero profile low) (sym (c.tell.ensures.table ∙ ap (told x profile c.args.sum) c.in_default-advance.ensures.row)) (told_zeros profile low x c.args.sum _ (after_zeros profile low callee row x long ends zeros)) } in
     let few = c.args.program.now.image.few_slots in (
       search rules,
       (
@@ -111,7 +113,7 @@ returns-then-not-on-clause-pass g c =
     let rows = waiting c.args.rows.now in
     let insn = slice_get_read c.args.program.now.image.code.items c.args.program.now.image.code.len c.args.at c.index-insn.result.now c.args.program.now.image.code.ok.0 (omega (arith, c.requires.within, c.args.program.now.image.code.ok.0)) c.index-insn.ensures in
     here_taken p (waiting c.lead_on.new.rows) (waiting c.take_waiting-then-not-on.new.rows) c.take_waiting-then-not-on.new.here (c.args.at + 1)
-    (all_here p rows c.args.at c.requires.within c.in-Some.row c.index-insn.result.now (subst (λ o. IsPass p rows o c.args.at) c.in-Some.is c.requires.pass) insn (callee_from c.callee_in-callee.result) c.advance.new.row (edge_list c.taken_edge-target.result c.taken_edge-target.new.taken) c.callee_in-callee.ensures c.in_default-advance.ensures.row c.taken_edge-target.ensures.edge (waiting c.lead_on.new.rows) (c.in-Ok.ensures.all c.if-not-on.true))
+    (all_here p rows c.args.at c.requires.within c.in-Some.row c.index-insn.result.now (subst (λ o. IsPass p rows o c.args.at) c.in-Some.is c.requires.pass) insn (callee_from c.callee_in-callee.result) c.args.sum c.tell.new.row (edge_list c.taken_edge-target.result c.taken_edge-target.new.taken) c.callee_in-callee.ensures c.requires.sum (c.tell.ensures.table ∙ ap (told c.index-insn.result.now c.args.program.now.image.profile c.args.sum) c.in_default-advance.ensures.row) c.taken_edge-target.ensures.edge (waiting c.lead_on.new.rows) (c.in-Ok.ensures.all c.if-not-on.true))
     c.take_waiting-then-not-on.ensures.here c.take_waiting-then-not-on.ensures.rows
 
 pub returns-then-not-on-clause-pool : goal.returns-then-not-on-clause-pool
@@ -133,4 +135,4 @@ returns-else-not-on-clause-pass g c =
     let rows = waiting c.args.rows.now in
     let insn = slice_get_read c.args.program.now.image.code.items c.args.program.now.image.code.len c.args.at c.index-insn.result.now c.args.program.now.image.code.ok.0 (omega (arith, c.requires.within, c.args.program.now.image.code.ok.0)) c.index-insn.ensures in
     let on = c.if-not-on.false in
-    alone_here p rows c.args.at c.requires.within c.in-Some.row c.index-insn.result.now (subst (λ o. IsPass p rows o c.args.at) c.in-Some.is c.requires.pass) insn (callee_from c.callee_in-callee.result) c.advance.new.row (edge_list c.taken_edge-target.result c.taken_edge-target.new.taken) c.callee_in-callee.ensures c.in_default-advance.ensures.row c.taken_edge-target.ensures.edge (waiting c.lead_on.new.rows) c.lead_on.new.row (c.in-Ok.ensures.rest on) (c.in-Ok.ensures.on on) (c.in-Ok.ensures.joined on) (c.in-Ok.ensures.misses on)
+    alone_here p rows c.args.at c.requires.within c.in-Some.row c.index-insn.result.now (subst (λ o. IsPass p rows o c.args.at) c.in-Some.is c.requires.pass) insn (callee_from c.callee_in-callee.result) c.args.sum c.tell.new.row (edge_list c.taken_edge-target.result c.taken_edge-target.new.taken) c.callee_in-callee.ensures c.requires.sum (c.tell.ensures.table ∙ ap (told c.index-insn.result.now c.args.program.now.image.profile c.args.sum) c.in_default-advance.ensures.row) c.taken_edge-target.ensures.edge (waiting c.lead_on.new.rows) c.lead_on.new.row (c.in-Ok.ensures.rest on) (c.in-Ok.ensures.on on) (c.in-Ok.ensures.joined on) (c.in-Ok.ensures.misses on)
