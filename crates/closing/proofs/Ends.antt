@@ -1,5 +1,5 @@
 -- All that was taken, and then what was left of the journals.
-use Rattle.std.proofs.Common.{◌≡◌, ℕ, zero, suc, ◌+◌, ◌<◌, ◌==◌, Bool, true, false, cond, List, [], ◌∷◌, ◌++◌, length, get_or, drop, refl, sym, ap, subst, ◌∙◌, inl, inr, arith, length-append, append_assoc}
+use Rattle.std.proofs.Common.{◌≡◌, ℕ, zero, suc, ◌+◌, ◌<◌, ◌==◌, ◌&&◌, Bool, true, false, cond, List, [], ◌∷◌, ◌++◌, length, get_or, drop, refl, sym, ap, subst, ◌∙◌, inl, inr, arith, length-append, append_assoc}
 use Rattle.std.proofs.lemmas.List.{append-nil}
 use Rattle.std.proofs.Math.Seq.{drop-append_seam}
 use Rattle.std.proofs.lemmas.Option.{same_Some}
@@ -19,14 +19,14 @@ use Rattle.rerun.proofs.Faultless.{faultless}
 use Rattle.findings.specs.declared.fault.WatchFault.{WatchFault}
 use Rattle.findings.specs.declared.fault.WatchFault.TheVariants.{Found, Lost, NoMemory}
 use Rattle.follow.specs.Waiting.{Taken, AreTakenAlike, taken_at, waiting_at}
-use Rattle.closing.specs.Following.{told_of, all_taken, HasTaken, AreFronts, IsTakenTo, IsSaidOf, IsFollowedTo}
+use Rattle.closing.specs.Following.{told_of, is_hand_out, all_taken, HasTaken, AreFronts, IsTakenTo, IsSaidOf, IsFollowedTo}
 
 -- ---- what was taken are fronts
 
 -- what was told of one vnode was told
 told_also : (vnode : ℕ) (ts : List Told) (t : Told) → Contains (told_of vnode ts) t → Contains ts t
 told_also vnode [] t c = absurd (Contains-nil t c)
-told_also vnode (u ∷ us) t c = go (λ h. told_also vnode us t h) (u.vnode == vnode) c
+told_also vnode (u ∷ us) t c = go (λ h. told_also vnode us t h) ((u.vnode == vnode) && is_hand_out u.news) c
   where
     go : (Contains (told_of vnode us) t → Contains us t) → (b : Bool) → Contains (cond b (u ∷ told_of vnode us) (told_of vnode us)) t → Contains (u ∷ us) t
     go later true h = elim (Contains-cases u (told_of vnode us) t h) [

@@ -1,24 +1,34 @@
 -- What a watch has taken is what its pass was told.
-use Rattle.std.proofs.Common.{◌≡◌, ◌≢◌, ℕ, zero, suc, ◌+◌, ◌<◌, ◌==◌, Bool, false, cond, List, [], ◌∷◌, ◌++◌, length, get_or, replicate, refl, sym, ap, subst, ◌∙◌, inl, inr, arith, append_assoc, length-append, length-set, eq-eqb, Option, Some, None}
-use Rattle.std.specs.Prelude.{All, Contains, Result, Ok, Err, OnOk, IfErr, slice_set}
+use Rattle.std.proofs.Common.{◌≡◌, ◌≢◌, ℕ, zero, suc, ◌+◌, ◌<◌, ◌==◌, Bool, true, false, ◌&&◌, ◌*◌, ◌≤◌, cond, List, [], ◌∷◌, ◌++◌, length, get_or, replicate, refl, sym, ap, subst, ◌∙◌, inl, inr, arith, append_assoc, length-append, length-set, eq-eqb, Option, Some, None}
+use Rattle.std.specs.Prelude.{All, Contains, MatchBool, Result, Ok, Err, OnOk, IfErr, slice_set}
 use Rattle.std.specs.Global.{Vec}
 use Rattle.std.proofs.lemmas.Bool.{cases_eq}
 use Rattle.std.proofs.lemmas.Bool.Decides.{nat_tests}
 use Rattle.std.proofs.lemmas.Grind.{flat_map-append}
-use Rattle.std.proofs.lemmas.List.{append-nil, get_or-set_same, get_or-set_other}
-use Rattle.std.proofs.lemmas.List.Elements.{filter-append, All-contains, Contains-append_right}
+use Rattle.std.proofs.lemmas.List.{append-nil, length_push, get_or-set_same, get_or-set_other}
+use Rattle.std.proofs.lemmas.List.Elements.{filter-append, All-append, All-cons, All-contains, All-head, All-nil, All-push, All-tail, All-weaker, Contains-append_right}
 use Rattle.journal.specs.Blocks.{all_of}
 use Rattle.journal.specs.Entry.{Entry}
 use Rattle.journal.specs.Logs.{Log}
-use Rattle.stamps.specs.Rule.{hand_out_of}
+use Rattle.calls.specs.declared.request.Reply.{Reply}
+use Rattle.calls.specs.declared.request.Request.{Request}
+use Rattle.calls.specs.declared.request.Request.TheVariants as request
+use Rattle.stamps.specs.Rule.{call_of, hand_out_of}
+use Rattle.stamps.specs.declared.view.News.{News}
+use Rattle.stamps.specs.declared.view.News.TheVariants as news
 use Rattle.stamps.specs.declared.view.Told.{Told}
 use Rattle.stamps.specs.declared.view.View.{View}
-use Rattle.vnode_locks.specs.Calls.{IsHandedOut, pass_view}
+use Rattle.vnode.specs.declared.fault.PartFault.{PartFault}
+use Rattle.vnode.specs.declared.fault.PartFault.TheVariants as part
+use Rattle.vnode_locks.specs.declared.fault.CallFault.{CallFault}
+use Rattle.vnode_locks.specs.declared.fault.CallFault.TheVariants.{PassSpent, Missing, Refused}
+use Rattle.vnode_locks.specs.Answers.{is_want_of_memory}
+use Rattle.vnode_locks.specs.Calls.{IsFault, IsHandedOut, IsRefusal, outcome_ok, pass_view}
 use Rattle.vnode_locks.specs.Gathers.{handed, BeginsAt, AreInTurn, all_handed}
 use Rattle.world.specs.Represents.{AreDistinct, log_at, empty_logs}
 use Rattle.findings.specs.declared.fault.FollowFault.{FollowFault}
 use Rattle.follow.specs.Waiting.{Taken, AreTakenAlike, taken_at, waiting_at}
-use Rattle.closing.specs.Following.{told_of, all_taken, IsHandedTo, HasTaken, IsTakenMore, IsToldMore}
+use Rattle.closing.specs.Following.{told_of, is_hand_out, all_taken, AreRestarts, IsHandedTo, HasTaken, IsIdle, IsOfWatch, IsRestart, IsTakenMore, IsToldMore, Rouses}
 
 -- ---- one hand-out more
 
@@ -30,19 +40,44 @@ turn-push vnode place (u ∷ us) t turn of begins = (
   turn-push vnode (place + length (handed u.news)) us t turn.2 of (subst (λ (n : ℕ). BeginsAt n t.news) (omega (arith, length-append (handed u.news) (all_handed us))) begins),
 )
 
--- what was told of one vnode, one more
-told_own : (vnode : ℕ) (ts : List Told) (t : Told) → t.vnode ≡ vnode → told_of vnode (ts ++ t ∷ []) ≡ told_of vnode ts ++ t ∷ []
-told_own vnode ts t of = filter-append (λ (u : Told). u.vnode == vnode) ts (t ∷ []) ∙ ap (λ (b : Bool). told_of vnode ts ++ cond b (t ∷ []) []) (eq-eqb t.vnode vnode of)
+-- what one vnode was told to have handed out, one more
+told_own : (vnode : ℕ) (ts : List Told) (t : Told) → t.vnode ≡ vnode → is_hand_out t.news ≡ true → told_of vnode (ts ++ t ∷ []) ≡ told_of vnode ts ++ t ∷ []
+told_own vnode ts t of handed_out = filter-append (λ (u : Told). (u.vnode == vnode) && is_hand_out u.news) ts (t ∷ []) ∙ ap (λ (b : Bool). told_of vnode ts ++ cond (b && is_hand_out t.news) (t ∷ []) []) (eq-eqb t.vnode vnode of)
+    ∙ ap (λ (b : Bool). told_of vnode ts ++ cond b (t ∷ []) []) handed_out
 
 told_other : (vnode : ℕ) (ts : List Told) (t : Told) → t.vnode ≢ vnode → told_of vnode (ts ++ t ∷ []) ≡ told_of vnode ts
 told_other vnode ts t other =
     let no : (t.vnode == vnode) ≡ false = grind (arith, nat_tests) in
-    filter-append (λ (u : Told). u.vnode == vnode) ts (t ∷ []) ∙ ap (λ (b : Bool). told_of vnode ts ++ cond b (t ∷ []) []) no ∙ append-nil (told_of vnode ts)
+    filter-append (λ (u : Told). (u.vnode == vnode) && is_hand_out u.news) ts (t ∷ []) ∙ ap (λ (b : Bool). told_of vnode ts ++ cond (b && is_hand_out t.news) (t ∷ []) []) no ∙ append-nil (told_of vnode ts)
+
+-- a restart is no hand-out
+no_hand_out : (n : News) → IsRestart n → is_hand_out n ≡ false
+no_hand_out (news.Call asked outcome) is = refl
+no_hand_out (news.HandOut first entries) is = absurd is
+
+and_false : (b : Bool) → (b && false) ≡ false
+and_false true = refl
+and_false false = refl
+
+none_of : (vnode : ℕ) (more : List Told) → All (λ t. IsRestart t.news) more → told_of vnode more ≡ []
+none_of vnode [] all = refl
+none_of vnode (t ∷ ts) all =
+    let none = no_hand_out t.news (All-head (λ (u : Told). IsRestart u.news) t ts all) in
+    ap (λ (b : Bool). cond ((t.vnode == vnode) && b) (t ∷ told_of vnode ts) (told_of vnode ts)) none ∙ ap (λ (b : Bool). cond b (t ∷ told_of vnode ts) (told_of vnode ts)) (and_false (t.vnode == vnode))
+    ∙ none_of vnode ts (All-tail (λ (u : Told). IsRestart u.news) t ts all)
+
+-- what was handed out stays so where vnodes are started again
+pub taken_still : (first : ℕ) (old new : List Told) (taken : Taken) → HasTaken first old taken → (more : List Told) → new ≡ old ++ more → All (λ t. IsRestart t.news) more → HasTaken first new taken
+taken_still first old new taken was more is all index inside =
+    let h = was index inside in
+    let same : told_of (first + index) new ≡ told_of (first + index) old =
+    ap (told_of (first + index)) is ∙ filter-append (λ (u : Told). (u.vnode == (first + index)) && is_hand_out u.news) old more ∙ ap (λ (ts : List Told). told_of (first + index) old ++ ts) (none_of (first + index) more all) ∙ append-nil (told_of (first + index) old) in
+    (h.0, (subst (λ (ts : List Told). AreInTurn (first + index) 0 ts) (sym same) h.1.0, ap all_handed same ∙ h.1.1))
 
 own_more : (vnode : ℕ) (told new : List Told) (entries : List Entry) (at stamp first : ℕ) (more : List Entry) → IsHandedTo told vnode entries → first ≡ length entries → new ≡ told ++ hand_out_of vnode at stamp first more ∷ [] → IsHandedTo new vnode (entries ++ more)
 own_more vnode told new entries at stamp first more was place told_more =
     let t : Told = hand_out_of vnode at stamp first more in
-    let here : told_of vnode new ≡ told_of vnode told ++ t ∷ [] = ap (told_of vnode) told_more ∙ told_own vnode told t refl in
+    let here : told_of vnode new ≡ told_of vnode told ++ t ∷ [] = ap (told_of vnode) told_more ∙ told_own vnode told t refl refl in
     let begins : BeginsAt (0 + length (all_handed (told_of vnode told))) t.news = (let e : first ≡ length (all_handed (told_of vnode told)) = place ∙ ap length (sym was.1) in omega (arith, e)) in (
       subst (λ (ts : List Told). AreInTurn vnode 0 ts) (sym here) (turn-push vnode 0 (told_of vnode told) t was.0 refl begins),
       ap all_handed here ∙ flat_map-append (λ (u : Told). handed u.news) (told_of vnode told) (t ∷ []) ∙ ap (λ (es : List Entry). es ++ (more ++ [])) was.1 ∙ ap (λ (es : List Entry). entries ++ es) (append-nil more),
@@ -180,14 +215,89 @@ followed_long ids taken is = ap length is ∙ as_many ids
 -- ---- what the pass is told
 
 pub told_same : (old new : List Told) → new ≡ old → IsToldMore old new
-told_same old new is = ([], is ∙ sym (append-nil old))
+told_same old new is = ([], is ∙ sym (append-nil old), All-nil IsOfWatch)
 
 pub told_on : (first old new : List Told) → IsToldMore first old → IsToldMore old new → IsToldMore first new
-told_on first old new a b = (a.0 ++ b.0, b.1 ∙ ap (λ (ts : List Told). ts ++ b.0) a.1 ∙ append_assoc first a.0 b.0)
+told_on first old new a b = (a.0 ++ b.0, b.1 ∙ ap (λ (ts : List Told). ts ++ b.0) a.1 ∙ append_assoc first a.0 b.0, All-append IsOfWatch a.0 b.0 a.2 b.2)
 
 -- what was handed out was told
 pub told_handed : (old new : View) (was : List Told) (id first : ℕ) (blocks : List (Vec Entry)) → IsHandedOut old new id first blocks → old.told ≡ was → IsToldMore was new.told
-told_handed old new was id first blocks (at, stamp, news, full, few) is = (hand_out_of id at stamp first (all_of blocks) ∷ [], news.0 ∙ ap (λ (ts : List Told). ts ++ hand_out_of id at stamp first (all_of blocks) ∷ []) is)
+told_handed old new was id first blocks (at, stamp, news_are, full, few) is =
+    let t : Told = hand_out_of id at stamp first (all_of blocks) in
+    (t ∷ [], news_are.0 ∙ ap (λ (ts : List Told). ts ++ t ∷ []) is, All-cons IsOfWatch t [] (inl refl) (All-nil IsOfWatch))
+
+-- so were restarts
+pub told_roused : (first : ℕ) (taken : Taken) (old new : List Told) → Rouses first taken old new → IsToldMore old new
+told_roused first taken old new (more, is, all, few) = (more, is, All-weaker (λ (t : Told). IsIdle first taken t.vnode × IsRestart t.news) IsOfWatch (λ t h. inr h.1) more all)
+
+-- ---- restarts
+
+pub no_restarts : (vnode : ℕ) (told : List Told) → AreRestarts vnode 0 told told
+no_restarts vnode told = ([], sym (append-nil told), All-nil (λ (t : Told). (t.vnode ≡ vnode) × IsRestart t.news), omega arith)
+
+one_restart : (vnode most next : ℕ) (first old new : List Told) (t : Told) → AreRestarts vnode most first old → most < next → new ≡ old ++ t ∷ [] → t.vnode ≡ vnode → IsRestart t.news → AreRestarts vnode next first new
+one_restart vnode most next first old new t (more, is, all, few) less pushed of restart = (
+  more ++ t ∷ [],
+  pushed ∙ ap (λ (ts : List Told). ts ++ t ∷ []) is ∙ append_assoc first more (t ∷ []),
+  All-push (λ (u : Told). (u.vnode ≡ vnode) × IsRestart u.news) more t all (of, restart),
+  (let n = length_push more t in omega (arith, n, few, less)),
+)
+
+same_restarts : (vnode most next : ℕ) (first old new : List Told) → AreRestarts vnode most first old → most ≤ next → new ≡ old → AreRestarts vnode next first new
+same_restarts vnode most next first old new (more, is, all, few) less same = (more, same ∙ is, all, omega (arith, few, less))
+
+-- one that was made
+pub made_restart : (vnode most next at stamp : ℕ) (reply : Reply) (asked : Request) (first old new : List Told) → AreRestarts vnode most first old → most < next → new ≡ old ++ call_of vnode at stamp asked (outcome_ok reply) ∷ [] → asked ≡ request.Restart → AreRestarts vnode next first new
+made_restart vnode most next at stamp reply asked first old new were less pushed is = one_restart vnode most next first old new (call_of vnode at stamp asked (outcome_ok reply)) were less pushed refl is
+
+-- one that was refused
+refused_restart : (vnode most next : ℕ) (fault : PartFault) (asked : Request) (first : List Told) (old new : View) → AreRestarts vnode most first old.told → most < next → IsRefusal old new vnode asked fault → asked ≡ request.Restart → AreRestarts vnode next first new.told
+refused_restart vnode most next fault asked first old new were less (t, told, of, is) asks =
+    let restart : IsRestart t.news = subst (λ (n : News). IsRestart n) (sym is) asks in
+    one_restart vnode most next first old.told new.told t were less told.0 of restart
+
+pub no_restart : (vnode most next : ℕ) (fault : CallFault) (asked : Request) (first : List Told) (old new : View) → AreRestarts vnode most first old.told → most < next → IsFault old new vnode asked fault → asked ≡ request.Restart → AreRestarts vnode next first new.told
+no_restart vnode most next PassSpent asked first old new were less h is = same_restarts vnode most next first old.told new.told were (omega (arith, less)) h.0
+no_restart vnode most next Missing asked first old new were less h is = refused_restart vnode most next part.Missing asked first old new were less h is
+no_restart vnode most next (Refused fault) asked first old new were less h is = go (is_want_of_memory fault) h
+  where
+    go : (b : Bool) → MatchBool b (new.told ≡ old.told) (IsRefusal old new vnode asked (part.Refused fault)) → AreRestarts vnode next first new.told
+    go true same = same_restarts vnode most next first old.told new.told were (omega (arith, less)) same
+    go false refusal = refused_restart vnode most next (part.Refused fault) asked first old new were less refusal is
+
+pub most_restarts : (vnode most next : ℕ) (old new : List Told) → AreRestarts vnode most old new → most ≤ next → AreRestarts vnode next old new
+most_restarts vnode most next old new were less = same_restarts vnode most next old new new were less refl
+
+-- so many vnodes at the most
+abbrev pub RousesUpTo : ℕ → ℕ → Taken → List Told → List Told → Type 0
+RousesUpTo n first taken old new = (more : List Told) × (new ≡ old ++ more) × All (λ t. IsIdle first taken t.vnode × IsRestart t.news) more × (length more ≤ 1025 * n)
+
+-- none were roused
+pub rouses_none : (n first : ℕ) (taken : Taken) (told : List Told) → RousesUpTo n first taken told told
+rouses_none n first taken told = ([], sym (append-nil told), All-nil (λ (t : Told). IsIdle first taken t.vnode × IsRestart t.news), omega arith)
+
+-- where none waits
+pub nothing_waits : (entries : List Entry) → length entries ≡ 0 → entries ≡ []
+nothing_waits [] none = refl
+nothing_waits (e ∷ es) none = absurd (omega (arith, none))
+
+pub restarts_alone : (first : ℕ) (taken : Taken) (more : List Told) → All (λ t. IsIdle first taken t.vnode × IsRestart t.news) more → All (λ t. IsRestart t.news) more
+restarts_alone first taken more all = All-weaker (λ (t : Told). IsIdle first taken t.vnode × IsRestart t.news) (λ (t : Told). IsRestart t.news) (λ t h. h.1) more all
+
+pub rouses_more : (n first : ℕ) (taken : Taken) (old now new : List Told) (vnode : ℕ) → RousesUpTo n first taken old now → AreRestarts vnode 1025 now new → IsIdle first taken vnode → RousesUpTo (n + 1) first taken old new
+rouses_more n first taken old now new vnode a b idle = (
+  a.0 ++ b.0,
+  b.1 ∙ ap (λ (ts : List Told). ts ++ b.0) a.1 ∙ append_assoc old a.0 b.0,
+  All-append (λ (t : Told). IsIdle first taken t.vnode × IsRestart t.news) a.0 b.0 a.2
+      (All-weaker (λ (t : Told). (t.vnode ≡ vnode) × IsRestart t.news) (λ (t : Told). IsIdle first taken t.vnode × IsRestart t.news) (λ t h. (subst (λ (v : ℕ). IsIdle first taken v) (sym h.0) idle, h.1)) b.0 b.2),
+  (let n_more = length-append a.0 b.0 in let few = a.3 in let fewer = b.3 in omega (arith, n_more, few, fewer)),
+)
+
+pub rouses_on : (n first : ℕ) (taken : Taken) (old now : List Told) → RousesUpTo n first taken old now → RousesUpTo (n + 1) first taken old now
+rouses_on n first taken old now (more, is, all, few) = (more, is, all, omega (arith, few))
+
+pub rouses_all : (n first : ℕ) (taken : Taken) (old now : List Told) → RousesUpTo n first taken old now → n ≤ length taken.followed → Rouses first taken old now
+rouses_all n first taken old now (more, is, all, few) less = (more, is, all, omega (arith, few, less))
 
 -- the last of some passes that were told nothing
 pub last_untold : (passes rest : List View) (pass : View) → All (λ (p : View). p ≡ pass_view 0 []) passes → passes ≡ rest ++ pass ∷ [] → pass.told ≡ []

@@ -1,7 +1,10 @@
 -- What is said of the journals of a gathered cluster that was followed while it served (this store's profile).
-use Rattle.std.specs.Prelude.{◌≡◌, ◌<◌, ◌≤◌, ◌+◌, ◌==◌, ℕ, List, [], ◌++◌, drop, filter, length, Result, Ok, Err}
+use Rattle.std.specs.Prelude.{◌≡◌, ◌<◌, ◌≤◌, ◌+◌, ◌*◌, ◌⊎◌, ◌&&◌, ◌==◌, ℕ, Bool, true, false, IsTrue, List, [], ◌++◌, All, drop, filter, length, Result, Ok, Err}
+use Rattle.calls.specs.declared.request.Request.TheVariants as request
 use Rattle.journal.specs.Entry.{Entry}
 use Rattle.journal.specs.Logs.{Log}
+use Rattle.stamps.specs.declared.view.News.{News}
+use Rattle.stamps.specs.declared.view.News.TheVariants as news
 use Rattle.stamps.specs.declared.view.Told.{Told}
 use Rattle.vnode_locks.specs.Gathers.{IsGathered, AreInTurn, all_handed}
 use Rattle.rerun.specs.Faulty.{IsFaultless}
@@ -9,13 +12,14 @@ use Rattle.rerun.specs.Interleaved.{IsInterleaving}
 use Rattle.rerun.specs.Runs.{IsRunFrom}
 use Rattle.world.specs.Represents.{log_at}
 use Rattle.follow.specs.Stops.{HasStopped}
-use Rattle.follow.specs.Waiting.{Taken, taken_at, waiting_at}
+use Rattle.follow.specs.Waiting.{Taken, bytes_waiting, count_waiting, taken_at, waiting_at}
+use Rattle.rerun.specs.declared.kept.Recent.{Recent}
 use Rattle.findings.specs.declared.fault.WatchFault.{WatchFault}
 use Rattle.findings.specs.declared.fault.WatchFault.TheVariants.{Found, Lost, NoMemory}
 
--- of so many of the last entries of each vnode answers are kept
-abbrev pub answers_kept : ℕ
-answers_kept = 16384
+-- of which of the last entries of each vnode answers are kept
+abbrev pub answers_kept : Recent
+answers_kept = record { always = 256; entries = 16384; bytes = 33554432 }
 
 -- Where it is said of journals that they are one run, they are one from their fronts on, for each beginning of the world that has led to these. A fault that
 -- was found is so of what was taken. Entries that weren't taken, other fronts and want of memory say nothing of them.
@@ -36,9 +40,19 @@ IsFollowedTo told vnodes (Err NoMemory) = Unit {0}
 
 -- ---- what a watch has taken
 
--- what was told of one vnode
+-- a part of the journal was handed out
+abbrev pub is_hand_out : News → Bool
+is_hand_out (news.HandOut first entries) = true
+is_hand_out (news.Call request outcome) = false
+
+-- the vnode was started again, or that was refused
+abbrev pub IsRestart : News → Type 0
+IsRestart (news.HandOut first entries) = ⊥
+IsRestart (news.Call asked outcome) = asked ≡ request.Restart
+
+-- what one vnode was told to have handed out
 abbrev pub told_of : ℕ → List Told → List Told
-told_of vnode told = filter (λ t. t.vnode == vnode) told
+told_of vnode told = filter (λ t. (t.vnode == vnode) && is_hand_out t.news) told
 
 -- all that was taken of the vnode with this index: what was followed, and what waits
 abbrev pub all_taken : Taken → ℕ → List Entry
@@ -57,9 +71,29 @@ pub record Watched : Type 0 where
   pub told : List Told
   pub taken : Taken
 
--- a pass was told this, and maybe more
+-- a watch does nothing at vnodes but have them hand out and start again
+abbrev pub IsOfWatch : Told → Type 0
+IsOfWatch t = IsTrue (is_hand_out t.news) ⊎ IsRestart t.news
+
+-- a pass was told this, and maybe more of what a watch does
 abbrev pub IsToldMore : List Told → List Told → Type 0
-IsToldMore old new = (more : List Told) × (new ≡ old ++ more)
+IsToldMore old new = (more : List Told) × (new ≡ old ++ more) × All IsOfWatch more
+
+-- a pass was told this, and then of restarts of one vnode, so many at the most
+abbrev pub AreRestarts : ℕ → ℕ → List Told → List Told → Type 0
+AreRestarts vnode most old new = (more : List Told) × (new ≡ old ++ more) × All (λ t. (t.vnode ≡ vnode) × IsRestart t.news) more × (length more ≤ most)
+
+-- this is of a vnode of which nothing waits
+abbrev pub IsIdle : ℕ → Taken → ℕ → Type 0
+IsIdle first taken vnode = (index : ℕ) × (vnode ≡ first + index) × (index < length taken.followed) × (waiting_at taken.waiting index ≡ [])
+
+-- a pass was told this, and then of restarts of vnodes of which nothing waits
+abbrev pub Rouses : ℕ → Taken → List Told → List Told → Type 0
+Rouses first taken old new = (more : List Told) × (new ≡ old ++ more) × All (λ t. IsIdle first taken t.vnode × IsRestart t.news) more × (length more ≤ 1025 * length taken.followed)
+
+-- so little waits that no vnode has to be started again: fewer than 8,192 entries, with less than 32 MiB of contents
+abbrev pub WaitsLittle : Taken → Type 0
+WaitsLittle taken = (count_waiting taken.waiting < 8192) × (bytes_waiting taken.waiting < 33554432)
 
 -- more entries of the vnode with this index were taken, from this place of its journal on, where those before them ended
 pub record IsTakenMore (old new : Taken) (index first : ℕ) (more : List Entry) : Type 0 where

@@ -1,23 +1,37 @@
 //! A follower beside a cluster that serves.
 
-ghost use Rattle.std.specs.Prelude.{◌≡◌, ◌+◌, ◌<◌, ◌≤◌, ◌^◌, ◌↔◌, ℕ, [], None, All, IfOk, IfSome, MatchBool, OnOk, length, vec_len};
+ghost use Rattle.std.specs.Prelude.{◌≡◌, ◌+◌, ◌<◌, ◌≤◌, ◌^◌, ◌↔◌, ℕ, [], None, All, IfOk, IfSome, IsTrue, MatchBool, OnOk, length, vec_len};
 ghost use Rattle.vnode_locks.specs.Calls.{pass_view};
 ghost use Rattle.journal.specs.Blocks.{all_of};
-ghost use Rattle.follow.specs.Waiting.{count_waiting};
+ghost use Rattle.follow.specs.Waiting.{bytes_waiting, count_waiting, waiting_at};
 ghost use Rattle.world.specs.Represents.{log_at};
-ghost use Rattle.closing.specs.Following.{IsTakenMore, IsToldMore};
+ghost use Rattle.closing.specs.Following.{AreRestarts, IsTakenMore, IsToldMore, Rouses, WaitsLittle};
 
+use calls::Request;
 use findings::{TakeFault, WatchFault};
-use follow::Follower;
+use follow::{Follower, Recent};
 use journal::Handout;
-use pool::{Cluster, Pass, Room};
+use pool::{Cluster, Gate, Pass, Room};
 use std::alloc::{AllocError, Global};
 use std::marker::{Brand, Model};
 use std::sync::Wait;
 use thiserror::Error;
 
-/// Of so many of the last entries of each vnode the answers are kept: a merge may name any of these.
-pub const RECENT: usize = 16_384;
+/// Of which of the last entries of each vnode the answers are kept: a merge may name any of these.
+pub const RECENT: Recent = Recent {
+    always: 256,
+    entries: 16_384,
+    bytes: 33_554_432,
+};
+
+/// So many entries may wait behind a vnode at which nothing happens.
+const MOST_BEHIND: usize = 8_192;
+
+/// So many bytes of contents may.
+const MOST_BYTES_BEHIND: u64 = 33_554_432;
+
+/// How many entries a vnode hands out together.
+const BLOCK: usize = 1_024;
 
 /// Nine tenths of the entries that a vnode can have.
 const NEARLY_FULL: usize = 3_865_470_566;
@@ -48,6 +62,13 @@ pub trait Alarm {
     fn raise(&self, notice: Notice);
 }
 
+/// Is told of calls that nobody waits for.
+struct Unheard;
+
+impl Gate for Unheard {
+    fn told(&self, _vnode: usize) {}
+}
+
 /// What was handed out by one vnode.
 #[derive(Clone, Copy, Drop)]
 struct Seen {
@@ -74,7 +95,8 @@ impl Seen {
 
 /// A follower beside a cluster that serves: it has the vnodes hand out their full blocks, which its pass is told, and follows them.
 ///
-/// An entry is followed once all that comes before it was handed out, so a vnode at which nothing happens holds the others up.
+/// An entry is followed once all that comes before it was handed out, so a vnode at which nothing happens would hold the others up: where
+/// much waits, it is started again until it hands out, too.
 #[derive(Drop)]
 pub struct Watch<B: Room + Spot> {
     pub(crate) pass: Pass<B>,
@@ -134,6 +156,30 @@ fn take_blocks(
         next = next.saturating_add(count);
     }
     Ok(next)
+}
+
+// Starts the vnode with an index again, under its lock, until it has more than a block of entries behind so many: so a block of them is full.
+// At most so often that it has them, whatever it had.
+fn fill_block<B: Room + Spot, R: Wait>(
+    rt: &R,
+    cluster: &Cluster<B>,
+    pass: &mut Pass<B>,
+    index: usize,
+    entries: usize,
+)
+    requires inside { index < cluster.now.vnodes }
+    ensures { AreRestarts (cluster.now.first + index) 1025 pass.old.told pass.new.told }
+{
+    for _ in 0..BLOCK + 1 {
+        match cluster.call(rt, pass, index, &Request::Restart, &Unheard) {
+            Ok((_, receipt)) => {
+                if receipt.place as usize >= entries.saturating_add(BLOCK) {
+                    break;
+                }
+            }
+            Err(_) => break,
+        }
+    }
 }
 
 impl<B: Room + Spot> Watch<B> {
@@ -273,7 +319,35 @@ impl<B: Room + Spot> Watch<B> {
         bound < below
     }
 
-    /// Has each vnode of a cluster hand out its full blocks: [`Watch::hear`] of each.
+    // Whether so much waits that vnodes at which nothing happens are not to hold it up.
+    fn is_held_up(&self) -> bool
+        ensures { IsTrue result → WaitsLittle self.now.taken → ⊥ }
+    {
+        !(self.can_go_on(MOST_BEHIND) && self.holds_less(MOST_BYTES_BEHIND))
+    }
+
+    /// Where 8,192 entries wait to be followed, or 32 MiB of contents, has each vnode of a cluster of which none waits fill its block: it is started
+    /// again, at most 1,025 times, each an event of its journal. What it hands out then lets the others be followed.
+    ///
+    /// Where nothing is followed any more, it does nothing.
+    pub fn rouse<R: Wait>(&mut self, rt: &R, cluster: &Cluster<B>)
+        requires first { cluster.now.first ≡ B.first }
+        ensures told { Rouses B.first self.old.taken self.old.told self.new.told }
+        ensures little { WaitsLittle self.old.taken → self.new.told ≡ self.old.told }
+        ensures taken { self.new.taken ≡ self.old.taken }
+    {
+        if self.stopped().is_some() || !self.is_held_up() {
+            return;
+        }
+        for index in 0..cluster.count().min(self.follower.count()) {
+            if self.follower.waiting(index) == 0 {
+                let entries = self.follower.followed(index);
+                fill_block(rt, cluster, &mut self.pass, index, entries);
+            }
+        }
+    }
+
+    /// Has each vnode of a cluster hand out its full blocks: [`Watch::hear`] of each, and then [`Watch::rouse`].
     pub fn hear_all<R: Wait, A: Alarm>(
         &mut self,
         alloc: Global,
@@ -287,6 +361,7 @@ impl<B: Room + Spot> Watch<B> {
         for index in 0..cluster.count() {
             self.hear(alloc, rt, cluster, index, alarm);
         }
+        self.rouse(rt, cluster);
     }
 
     /// How many entries of the vnode with an index were followed. None where no such vnode is.
@@ -308,6 +383,22 @@ impl<B: Room + Spot> Watch<B> {
         let mut left = many;
         for index in 0..self.follower.count() {
             let waiting = self.follower.waiting(index);
+            if waiting > left {
+                return false;
+            }
+            left -= waiting;
+        }
+        left > 0
+    }
+
+    /// Whether the contents of the entries that wait to be followed, of all vnodes together, have fewer than so many bytes: those of what puts
+    /// write and of the states that are merged, each as often as it stands there.
+    pub fn holds_less(&self, bytes: u64) -> bool
+        ensures { MatchBool result (bytes_waiting self.now.taken.waiting < bytes) (bytes ≤ bytes_waiting self.now.taken.waiting) }
+    {
+        let mut left = u128::from(bytes);
+        for index in 0..self.follower.count() {
+            let waiting = self.follower.waiting_bytes(index);
             if waiting > left {
                 return false;
             }

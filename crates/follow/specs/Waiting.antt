@@ -1,22 +1,24 @@
 -- What was taken of some vnodes' journals: what was followed, and what waits.
-use Rattle.std.specs.Prelude.{◌≡◌, ◌≤◌, ◌+◌, ℕ, List, [], ◌∷◌, ◌++◌, length, slice_get, slice_index_or, Option, Some}
+use Rattle.std.specs.Prelude.{◌≡◌, ◌≤◌, ◌+◌, ℕ, List, [], ◌∷◌, ◌++◌, length, slice_get, slice_index_or, sum_by, Option, Some}
 use Rattle.journal.specs.Entry.{Entry}
 use Rattle.journal.specs.Logs.{Log}
 use Rattle.journal.specs.Stamps.{stamp_of}
 use Rattle.world.specs.Represents.{log_at}
+use Rattle.rerun.specs.declared.kept.Recent.{Recent}
+use Rattle.rerun.specs.Sizes.{entry_bytes}
 use Rattle.findings.specs.declared.fault.FollowFault.{FollowFault}
 
 -- what waits of the vnode with this index
 abbrev pub waiting_at : List (List Entry) → ℕ → List Entry
 waiting_at waiting index = slice_index_or waiting index []
 
--- how many of the first entries of each vnode were there before, what was followed of each, what waits, the fault that was found, if any, and of how many of the last entries of each vnode answers are kept
+-- how many of the first entries of each vnode were there before, what was followed of each, what waits, the fault that was found, if any, and of which of the last entries of each vnode answers are kept
 pub record Taken : Type 0 where
   pub fronts : List ℕ
   pub followed : List Log
   pub waiting : List (List Entry)
   pub fault : Option FollowFault
-  pub recent : ℕ
+  pub recent : Recent
 
 -- how many entries were taken of the vnode with this index
 abbrev pub taken_at : Taken → ℕ → ℕ
@@ -40,3 +42,8 @@ pub record AreTakenAlike (old : List Log) (waited : List (List Entry)) (new : Li
 abbrev pub count_waiting : List (List Entry) → ℕ
 count_waiting [] = 0
 count_waiting (queue ∷ queues) = length queue + count_waiting queues
+
+-- how many bytes their contents have
+abbrev pub bytes_waiting : List (List Entry) → ℕ
+bytes_waiting [] = 0
+bytes_waiting (queue ∷ queues) = sum_by entry_bytes queue + bytes_waiting queues

@@ -1,9 +1,10 @@
 //! A follower.
 
-ghost use Rattle.std.specs.Prelude.{◌≡◌, ◌≢◌, ◌<◌, ◌+◌, ◌++◌, ℕ, [], IfOk, IfErr, IfSome, OnOk, OnErr, Err, None, Some, length, replicate, slice_set};
+ghost use Rattle.std.specs.Prelude.{◌≡◌, ◌≢◌, ◌<◌, ◌+◌, ◌++◌, ℕ, [], IfOk, IfErr, IfSome, OnOk, OnErr, Err, None, Some, length, replicate, slice_set, sum_by};
 ghost use Rattle.world.specs.Represents.{AreDistinct, empty_logs, log_at};
 ghost use Rattle.findings.specs.declared.fault.FollowFault.{FollowFault as Faulted};
 ghost use Rattle.rerun.specs.Runs.{IsRunFrom};
+ghost use Rattle.rerun.specs.Sizes.{entry_bytes};
 ghost use Rattle.follow.specs.Stops.{HasStopped, IsStop};
 ghost use Rattle.follow.specs.Waiting.{AreTakenAlike, NoneBelow, taken_at, waiting_at};
 
@@ -11,7 +12,7 @@ use crate::queue::Queue;
 use crate::run::Run;
 use findings::{FollowFault, TakeFault};
 use journal::Entry;
-use rerun::Rerun;
+use rerun::{Recent, Rerun};
 use std::alloc::{AllocError, Global};
 use std::marker::Model;
 
@@ -48,9 +49,9 @@ fn queues(alloc: Global, count: usize) -> Result<Vec<Queue>, AllocError>
 }
 
 impl Follower {
-    /// A follower of vnodes with these identifiers, of which nothing was taken. Of each vnode it keeps what the last entries
-    /// answered that it has followed, so many as are recent: a merge may name any of these. So at least the reads of that many last stamps are kept.
-    pub fn new(alloc: Global, ids: &[u32], recent: usize) -> Result<Follower, AllocError>
+    /// A follower of vnodes with these identifiers, of which nothing was taken. Of each vnode it keeps what the recent entries answered that it
+    /// has followed: a merge may name any of these.
+    pub fn new(alloc: Global, ids: &[u32], recent: Recent) -> Result<Follower, AllocError>
         requires distinct { AreDistinct ids.now }
         ensures followed { IfOk result (λ follower. follower.followed ≡ empty_logs ids.now) }
         ensures waiting { IfOk result (λ follower. follower.waiting ≡ replicate (length ids.now) []) }
@@ -68,7 +69,7 @@ impl Follower {
         alloc: Global,
         ids: &[u32],
         fronts: Vec<usize>,
-        recent: usize,
+        recent: Recent,
     ) -> Result<Follower, AllocError>
         requires distinct { AreDistinct ids.now }
         ensures followed { IfOk result (λ follower. follower.followed ≡ empty_logs ids.now) }
@@ -145,6 +146,15 @@ impl Follower {
         self.run.waiting[index].len()
     }
 
+    /// How many bytes the contents have of the entries of the vnode with this index that wait for their turn: those of what puts write
+    /// and of the states that are merged, each as often as it stands there.
+    pub fn waiting_bytes(&self, index: usize) -> u128
+        requires inside { index < length self.now.followed }
+        ensures { result ≡ sum_by entry_bytes (waiting_at self.now.waiting index) }
+    {
+        self.run.waiting[index].bytes()
+    }
+
     /// Takes the next entries of the vnode with this index, as [`Follower::take`] does.
     pub fn take_at(
         &mut self,
@@ -170,7 +180,7 @@ impl Follower {
     /// has led to the fronts, all is one run; where there is no front, from nothing on.
     ///
     /// The first fault is told, at the vnode and the place of its entry. It is the last: from then on nothing is followed, and it is told again. A merge
-    /// that names an answer that was given up is told as such, though it may be right. A bound is to be one below which no stamp is
+    /// that names an answer that is no longer kept is told as such, though it may be right. A bound is to be one below which no stamp is
     /// drawn any more: an entry that comes later is told as late, and so is one that is behind its front before all fronts are whole.
     pub fn follow(&mut self, below: u64) -> Result<(), FollowFault>
         ensures yes { OnOk result (IsRunFrom self.old.fronts self.new.followed) }

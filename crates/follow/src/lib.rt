@@ -7,3 +7,4 @@ mod run;
 
 pub use findings::{FollowCode, FollowFault, TakeFault};
 pub use follower::Follower;
+pub use rerun::Recent;

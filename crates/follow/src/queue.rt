@@ -1,9 +1,11 @@
 //! Entries that were taken and wait for their turn.
 
-ghost use Rattle.std.specs.Prelude.{◌≡◌, ◌<◌, ◌^◌, ◌++◌, [], OnOk, OnErr, drop, length, slice_get};
+ghost use Rattle.std.specs.Prelude.{◌≡◌, ◌<◌, ◌^◌, ◌++◌, [], OnOk, OnErr, drop, length, slice_get, sum_by};
 ghost use Rattle.std.specs.Option.{option_copied};
+ghost use Rattle.rerun.specs.Sizes.{entry_bytes};
 
 use journal::Entry;
+use rerun::bytes_of_entry;
 use std::alloc::{AllocError, Global};
 use std::collections::VecDeque;
 use std::marker::Model;
@@ -12,15 +14,31 @@ use std::marker::Model;
 #[derive(Drop)]
 pub(crate) struct Queue {
     entries: VecDeque<Entry>,
+    /// How many bytes their contents have.
+    bytes: u128,
 }
 
 impl Model for Queue {
-    ghost use Rattle.std.specs.Prelude.{List};
+    ghost use Rattle.std.specs.Prelude.{List, ◌≡◌, sum_by};
     ghost use Rattle.journal.specs.Entry.{Entry};
+    ghost use Rattle.rerun.specs.Sizes.{entry_bytes};
 
     ghost Value = { List Entry };
 
     ghost view = { λ q. q.entries.items };
+
+    ghost invariant = { λ q. q.bytes ≡ sum_by entry_bytes q.entries.items };
+}
+
+// How many bytes the contents of some entries have.
+fn bytes_of(entries: &[Entry]) -> u128
+    ensures { result ≡ sum_by entry_bytes entries.now }
+{
+    let mut bytes: u128 = 0;
+    for entry in entries {
+        bytes += u128::from(bytes_of_entry(entry));
+    }
+    bytes
 }
 
 impl Queue {
@@ -30,6 +48,7 @@ impl Queue {
     {
         Queue {
             entries: VecDeque::new(alloc),
+            bytes: 0,
         }
     }
 
@@ -39,6 +58,13 @@ impl Queue {
         ensures limit { result < 2 ^ 63 }
     {
         self.entries.len()
+    }
+
+    /// How many bytes the contents have of those that wait.
+    pub(crate) fn bytes(&self) -> u128
+        ensures { result ≡ sum_by entry_bytes self.now }
+    {
+        self.bytes
     }
 
     /// The next one.
@@ -53,14 +79,19 @@ impl Queue {
         ensures ok { OnOk result (self.new ≡ self.old ++ entries.items) }
         ensures err { OnErr result (self.new ≡ self.old) }
     {
+        let bytes = bytes_of(&entries);
         let mut more = VecDeque::from_vec(entries);
-        self.entries.append(&mut more)
+        self.entries.append(&mut more)?;
+        self.bytes += bytes;
+        Ok(())
     }
 
     /// The next one doesn't wait any longer.
     pub(crate) fn drop_first(&mut self)
         ensures { self.new ≡ drop 1 self.old }
     {
-        self.entries.pop_front();
+        if let Some(first) = self.entries.pop_front() {
+            self.bytes -= u128::from(bytes_of_entry(&first));
+        }
     }
 }

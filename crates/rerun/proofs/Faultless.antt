@@ -1,7 +1,6 @@
 -- Journals that are one run, of which no entry was there before, have no fault.
-use Rattle.std.proofs.Common.{ℕ, ◌<◌, List, [], inl, inr, arith}
+use Rattle.std.proofs.Common.{ℕ, List, [], inl, inr, arith}
 use Rattle.journal.specs.Logs.{Log}
-use Rattle.world.specs.Represents.{log_at}
 use Rattle.rerun.specs.Faulty.{HasNoSuchSource, IsFaultless}
 use Rattle.rerun.specs.Runs.{IsRunFrom}
 

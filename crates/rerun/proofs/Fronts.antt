@@ -5,7 +5,7 @@ use Rattle.std.specs.Vec.{with_items}
 use Rattle.std.specs.declared.vec.Vec.{Vec}
 use Rattle.std.proofs.Math.Seq.{take-length}
 use Rattle.std.proofs.lemmas.Bool.{cases_eq, cases_lt}
-use Rattle.std.proofs.lemmas.List.{get_or-map, get_or-set_same, get_or-set_other, length-map, length-replicate, length-take-le, take_all, take_more, take-take, drop_all}
+use Rattle.std.proofs.lemmas.List.{get_or-map, get_or-set_same, get_or-set_other, length-map, length-replicate, length-drop, length-take-le, take_all, take_more, take-take, drop_all}
 use Rattle.std.proofs.lemmas.Option.{slice_get_within, get_or_from_slice_get, slice_get-get_or}
 use Rattle.object.specs.declared.content.Key.{Key}
 use Rattle.object.specs.State.{State}
@@ -17,6 +17,7 @@ use Rattle.journal.specs.Replay.{IsReplay}
 use Rattle.journal.specs.Stamps.{stamp_of}
 use Rattle.world.specs.Represents.{AreDistinct, log_at, empty_logs, with_entry_at}
 use Rattle.rerun.specs.declared.heads.Head.{Head}
+use Rattle.rerun.specs.declared.kept.Recent.{Recent}
 use Rattle.rerun.specs.declared.audit_fault.AuditCode.{AuditCode}
 use Rattle.rerun.specs.declared.audit_fault.AuditFault.TheVariants.{Found}
 use Rattle.findings.specs.declared.fault.FollowCode.{FollowCode}
@@ -275,7 +276,7 @@ fewer (suc n) [] = omega arith
 fewer (suc n) (x ∷ xs) = let h = fewer n xs in omega (arith, h)
 
 -- so it is its source
-pub of_source : (logs : List Log) (counts : List ℕ) (now : List Log) (recent i : ℕ) (e : Entry) (code : FollowCode) → AreDistinct (ids_of logs) → NoneFalls logs → NoneTwice logs → AreJournals logs → max_entries ≤ recent → HasRun logs counts now → EntryIn logs i (count_at counts i) e
+pub of_source : (logs : List Log) (counts : List ℕ) (now : List Log) (recent : Recent) (i : ℕ) (e : Entry) (code : FollowCode) → AreDistinct (ids_of logs) → NoneFalls logs → NoneTwice logs → AreJournals logs → max_entries ≤ recent.always → HasRun logs counts now → EntryIn logs i (count_at counts i) e
     → IsWrong [] now recent i e code → IsCodeOfSource code
 of_source logs counts now recent i e NoSource distinct rising single legal all run there h = tt
 of_source logs counts now recent i e OtherState distinct rising single legal all run there h = tt
@@ -286,16 +287,18 @@ of_source logs counts now recent i e Falls distinct rising single legal all run 
 of_source logs counts now recent i e Late distinct rising single legal all run there (inl (other, place, a, at, late)) =
     let less = above logs counts i e distinct rising single run.split there other place a (happened_there logs counts now run.fronts other place a at) in absurd (omega (arith, less, late))
 of_source logs counts now recent i e Late distinct rising single legal all run there (inr (behind, (other, inside, lacks))) = absurd (omega (arith, lacks))
-of_source logs counts now recent i e GivenUp distinct rising single legal all run there (stamp, key, from, at, state, is, (other, inside, id, many)) =
+of_source logs counts now recent i e GivenUp distinct rising single legal all run there (stamp, key, from, at, state, is, (other, inside, id, (answers, are, over))) =
     let within : other < length logs = omega (arith, run.fronts.size, inside) in
     let size : length (log_at now other).entries ≡ length (take (count_at counts other) (log_at logs other).entries) = ap (λ (l : Log). length l.entries) (run.fronts.each other within) in
     let most : length (log_at logs other).entries ≤ max_entries = few (log_at logs other).vnode (log_at logs other).entries (legal other within) in
-    absurd (omega (arith, size, fewer (count_at counts other) (log_at logs other).entries, most, all, many))
+    let end = length-drop at answers in
+    let long = are.size in
+    absurd (omega (arith, size, fewer (count_at counts other) (log_at logs other).entries, most, all, end, long, over.0))
 of_source logs counts now recent i e Illegal distinct rising single legal all run there h =
     absurd (h (subst (λ (l : Log). MayFollow l.vnode l.entries e) (sym (run.fronts.each i there.0)) (legal i there.0 (count_at counts i) e there.1)))
 
 -- a merge without its source among the fronts has none in the journals
-no_source : (logs : List Log) (counts : List ℕ) (now : List Log) (recent : ℕ) (head : Head) (e : Entry) → NoneFalls logs → HasRun logs counts now → IsNextBelow logs counts (length logs) head → EntryIn logs head.index (count_at counts head.index) e → IsWrong [] now recent head.index e NoSource
+no_source : (logs : List Log) (counts : List ℕ) (now : List Log) (recent : Recent) (head : Head) (e : Entry) → NoneFalls logs → HasRun logs counts now → IsNextBelow logs counts (length logs) head → EntryIn logs head.index (count_at counts head.index) e → IsWrong [] now recent head.index e NoSource
     → NoSourceAt logs head.vnode (count_at counts head.index) head.stamp
 no_source logs counts now recent head e rising run next there (stamp, key, from, at, state, (is, behind), none) =
     let at_next : EntryIn logs head.index (count_at counts head.index) (Merge stamp key from at state) = subst (λ (x : Entry). EntryIn logs head.index (count_at counts head.index) x) is there in
@@ -312,7 +315,7 @@ no_source logs counts now recent head e rising run next there (stamp, key, from,
     )
 
 -- nor has one whose source has another state there
-other_state : (logs : List Log) (counts : List ℕ) (now : List Log) (recent : ℕ) (head : Head) (e : Entry) → AreDistinct (ids_of logs) → NoneFalls logs → NoneTwice logs → HasRun logs counts now → IsNextBelow logs counts (length logs) head → EntryIn logs head.index (count_at counts head.index) e
+other_state : (logs : List Log) (counts : List ℕ) (now : List Log) (recent : Recent) (head : Head) (e : Entry) → AreDistinct (ids_of logs) → NoneFalls logs → NoneTwice logs → HasRun logs counts now → IsNextBelow logs counts (length logs) head → EntryIn logs head.index (count_at counts head.index) e
     → IsWrong [] now recent head.index e OtherState → OtherStateAt logs head.vnode (count_at counts head.index) head.stamp
 other_state logs counts now recent head e distinct rising single run next there (stamp, key, from, at, state, (is, front), (index, id, (read, before), behind), other) =
     let at_next : EntryIn logs head.index (count_at counts head.index) (Merge stamp key from at state) = subst (λ (x : Entry). EntryIn logs head.index (count_at counts head.index) x) is there in
@@ -336,7 +339,7 @@ other_state logs counts now recent head e distinct rising single run next there 
     )
 
 -- which is the first fault of its kind
-pub source_fault : (logs : List Log) (counts : List ℕ) (now : List Log) (recent : ℕ) (head : Head) (e : Entry) (code : FollowCode) (told : AuditCode) → AreDistinct (ids_of logs) → NoneFalls logs → NoneTwice logs → HasRun logs counts now → IsNextBelow logs counts (length logs) head
+pub source_fault : (logs : List Log) (counts : List ℕ) (now : List Log) (recent : Recent) (head : Head) (e : Entry) (code : FollowCode) (told : AuditCode) → AreDistinct (ids_of logs) → NoneFalls logs → NoneTwice logs → HasRun logs counts now → IsNextBelow logs counts (length logs) head
     → EntryIn logs head.index (count_at counts head.index) e → IsWrong [] now recent head.index e code → IsCodeOf code told → IsFault logs (Found told head.vnode (count_at counts head.index))
 source_fault logs counts now recent head e NoSource told distinct rising single run next there h is =
     subst (λ (c : AuditCode). IsFault logs (Found c head.vnode (count_at counts head.index))) (sym is)

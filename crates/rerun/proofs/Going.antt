@@ -1,17 +1,17 @@
 -- One entry more was followed: what was followed stays one run of the world.
-use Rattle.std.proofs.Common.{◌≡◌, ℕ, ◌+◌, ◌<◌, ◌≤◌, ◌⊎◌, List, [], ◌∷◌, ◌++◌, length, get_or, set, take, refl, sym, ap, subst, ◌∙◌, inl, inr, arith, Option, Some, None, length-set}
+use Rattle.std.proofs.Common.{◌≡◌, ℕ, ◌+◌, ◌<◌, ◌≤◌, ◌⊎◌, List, [], ◌∷◌, ◌++◌, length, get_or, set, drop, refl, sym, ap, subst, ◌∙◌, inl, inr, arith, Option, Some, None, length-set}
 use Rattle.std.specs.Prelude.{slice_get, Contains, leb, Bool, true, false, cond, MatchBool}
 use Rattle.std.proofs.lemmas.Bool.{cases_eq, leb-false}
 use Rattle.std.proofs.lemmas.List.{get_or-set_same, get_or-set_other, length_push, take_all}
 use Rattle.std.proofs.lemmas.List.Elements.{Contains-push_cases}
 use Rattle.std.proofs.lemmas.List.Sorted.{IsPermutation-trans, IsPermutation-append_left, Contains-permutation}
-use Rattle.std.proofs.lemmas.Option.{slice_get_within, get_or_from_slice_get, slice_get-get_or}
+use Rattle.std.proofs.lemmas.Option.{same_Some, slice_get_within}
 use Rattle.object.specs.declared.content.Key.{Key}
 use Rattle.object.specs.State.{State}
 use Rattle.journal.specs.Answers.{Answer, Answers, numbered, changed, copied, done}
 use Rattle.journal.specs.Entry.{Entry, Put, Merge, Read, Restart}
 use Rattle.journal.specs.Journals.{MayFollow}
-use Rattle.journal.specs.Logs.{Log, with_entry}
+use Rattle.journal.specs.Logs.{Log}
 use Rattle.journal.specs.Replay.{IsReplay}
 use Rattle.journal.specs.Stamps.{stamp_of}
 use Rattle.world.specs.declared.event.Message.{Message}
@@ -24,19 +24,21 @@ use Rattle.world.proofs.Steps.{shown}
 use Rattle.world.proofs.Whole.{more_cases, still_at}
 use Rattle.rerun.specs.Beginnings.{AreFronts, AreWhole, ComeFirst, IsBehind, IsInFront, steps_behind}
 use Rattle.rerun.specs.Order.{Step, steps_of}
-use Rattle.rerun.specs.Interleaved.{IsSource, IsInterleaving, IsInterleavingFrom, ids_of}
+use Rattle.rerun.specs.Interleaved.{IsSource, IsInterleavingFrom, ids_of}
 use Rattle.rerun.specs.Rerun.{IsSoFar}
 use Rattle.rerun.specs.Runs.{IsRunFrom}
 use Rattle.rerun.specs.Turns.{EntryIn, count_at}
-use Rattle.rerun.specs.Wrong.{IsAfterAll, HasReadOf, IsFounded}
-use Rattle.rerun.proofs.Grown.{step_in, entry_stays, front_stays, grown_at, others_at, same_size, longer, behind_more, front_joins_none, whole_still, fronts_before, fronts_are, no_fronts, opened_begins, rising_more, single_more, sources_more}
+use Rattle.rerun.specs.Wrong.{IsAfterAll, HasReadOf, IsFounded, IsGivenUpAt, IsHeld, NamesHeld}
+use Rattle.rerun.proofs.Grown.{step_in, entry_stays, front_stays, grown_at, others_at, same_size, behind_more, front_joins_none, whole_still, fronts_before, fronts_are, no_fronts, opened_begins, rising_more, single_more, sources_more}
 use Rattle.rerun.proofs.Next.{step_at, at_end, rise_more, all_more}
 use Rattle.rerun.proofs.Ran.{run_of}
 use Rattle.rerun.proofs.Steps.{begins, put_goes_on, read_goes_on, restart_goes_on, merge_goes_on}
 use Rattle.rerun.specs.declared.kept.Kept.{Kept}
 use Rattle.rerun.specs.declared.kept.Kept.TheVariants as kept
-use Rattle.rerun.specs.Kept.{MayLack}
-use Rattle.rerun.specs.Followed.{kept_at, kept_of, AreFrontsAlone, IsReadKept, IsKept, AreKept, AreBelow, HasFollowed, IsAbove, IsExpected, IsSourceKept, HasSource}
+use Rattle.rerun.specs.declared.kept.Recent.{Recent}
+use Rattle.rerun.specs.Kept.{IsLeft}
+use Rattle.rerun.proofs.Keeping.{over_or_not, left_more}
+use Rattle.rerun.specs.Followed.{kept_at, kept_of, AreFrontsAlone, IsReadKept, IsKept, IsAnswer, AreAnswers, AreKept, AreBelow, HasFollowed, IsAbove, IsExpected, IsSourceKept, HasSource}
 use Rattle.rerun.proofs.Names.{same_ids, so_far_renamed}
 
 -- the message that a read sends by its answer
@@ -50,7 +52,7 @@ told_of from at (Merge stamp key source place state) answer = None
 told_of from at (Restart stamp) answer = None
 
 -- the read that a merge names is an earlier step, and sent its state
-source_of : (fronts : List ℕ) (logs : List Log) (last : Option ℕ) (recent : ℕ) (answers : List (List Kept)) (run : HasFollowed fronts logs last recent answers) (key : Key) (from at : ℕ) (state : State) → IsSourceKept logs answers key from at state
+source_of : (fronts : List ℕ) (logs : List Log) (last : Option ℕ) (recent : Recent) (answers : List (List Kept)) (run : HasFollowed fronts logs last recent answers) (key : Key) (from at : ℕ) (state : State) → IsSourceKept logs answers key from at state
     → (number : ℕ) × IsSource logs (steps_behind fronts run.order) number key from at × (slice_get run.messages number ≡ Some (Some (let m : Message = record { key = key; from = from; at = at; state = state } in m)))
 source_of fronts logs last recent answers run key from at state (index, inside, id, there) =
     let a : IsReadKept fronts logs (steps_behind fronts run.order) run.messages index at key state = run.kept.each index at (kept.Read key state) inside there in (
@@ -60,7 +62,7 @@ source_of fronts logs last recent answers run key from at state (index, inside, 
     )
 
 -- one step more of the world
-so_far_more : (fronts : List ℕ) (begin : Knowledge) (logs : List Log) (last : Option ℕ) (recent : ℕ) (answers : List (List Kept)) (run : HasFollowed fronts logs last recent answers) (i : ℕ) (e : Entry) (a : Answer) → IsSoFar begin logs (steps_behind fronts run.order) logs run.messages → i < length logs
+so_far_more : (fronts : List ℕ) (begin : Knowledge) (logs : List Log) (last : Option ℕ) (recent : Recent) (answers : List (List Kept)) (run : HasFollowed fronts logs last recent answers) (i : ℕ) (e : Entry) (a : Answer) → IsSoFar begin logs (steps_behind fronts run.order) logs run.messages → i < length logs
     → MayFollow (log_at logs i).vnode (log_at logs i).entries e → Answers (log_at logs i).vnode (log_at logs i).entries e a → HasSource logs answers e
     → IsSoFar begin logs (steps_behind fronts run.order ++ step_at i (length (log_at logs i).entries) e ∷ []) (with_entry_at logs i e) (run.messages ++ told_of (log_at logs i).vnode (length (log_at logs i).entries) e a ∷ [])
 so_far_more fronts begin logs last recent answers run i (Put stamp key seen content dot) a so_far inside follows answer source =
@@ -120,31 +122,58 @@ step_kept fronts logs steps messages i (Read stamp key) (copied state) long insi
   sent = at_end messages _ (length steps) long ∙ ap (λ (v : ℕ). Some (Some (let m : Message = record { key = key; from = v; at = length (log_at logs i).entries; state = state } in m))) ((same_ids logs i (Read stamp key)).1 i);
 }
 
--- what stands in a list that may lack one
-lack_cases : (recent : ℕ) (all list : List Kept) (place : ℕ) (what : Kept) → MayLack recent all list → slice_get list place ≡ Some what → (slice_get all place ≡ Some what) ⊎ ((what ≡ kept.GivenUp) × (place + recent < length all))
-lack_cases recent all list place what (inl same) at = inl (ap (λ (xs : List Kept). slice_get xs place) (sym same) ∙ at)
-lack_cases recent all list place what (inr (gone, few, is)) at =
-    let at' : slice_get (set all gone kept.GivenUp) place ≡ Some what = ap (λ (xs : List Kept). slice_get xs place) (sym is) ∙ at in
-    let within : place < length all = omega (arith, slice_get_within (set all gone kept.GivenUp) place what at', length-set all gone kept.GivenUp) in
-    let value : get_or (set all gone kept.GivenUp) place what ≡ what = get_or_from_slice_get (set all gone kept.GivenUp) place what what at' in
-    elim (cases_eq place gone) [
-      | inl same ↦ inr (sym value ∙ ap (λ (p : ℕ). get_or (set all gone kept.GivenUp) p what) same ∙ get_or-set_same all gone kept.GivenUp what (omega (arith, few)), omega (arith, same, few))
-      | inr other ↦ inl (slice_get-get_or all place what within ∙ ap Some (sym (get_or-set_other all gone place kept.GivenUp what other) ∙ value))
-    ]
+-- what stands in a list of which something was given up
+left_cases : (recent : Recent) (all list : List Kept) (place : ℕ) (what : Kept) → IsLeft recent all list → slice_get list place ≡ Some what → (slice_get all place ≡ Some what) ⊎ (what ≡ kept.GivenUp)
+left_cases recent all list place what left at = elim (over_or_not recent (drop place all)) [
+  | inl over ↦ inr (same_Some what kept.GivenUp (sym at ∙ left.gone place over))
+  | inr not ↦ inl (sym (left.stays place not) ∙ at)
+]
 
-lack_long : (recent : ℕ) (all list : List Kept) → MayLack recent all list → length list ≡ length all
-lack_long recent all list (inl same) = ap length same
-lack_long recent all list (inr (gone, few, is)) = ap length is ∙ length-set all gone kept.GivenUp
+-- what an entry answered stays so
+still_answer : (fronts : List ℕ) (logs : List Log) (i : ℕ) (x : Entry) (index place : ℕ) (what : Kept) → i < length logs → IsAnswer fronts logs index place what → IsAnswer fronts (with_entry_at logs i x) index place what
+still_answer fronts logs i x index place kept.GivenUp inside h = h
+still_answer fronts logs i x index place kept.Other inside h = (h.0, entry_stays logs i x index place h.0 inside h.1, h.2)
+still_answer fronts logs i x index place (kept.Read key state) inside ((stamp, there), answer, behind) = (
+  (stamp, entry_stays logs i x index place (Read stamp key) inside there),
+  subst (λ (es : List Entry). IsReplay es key state) (sym (front_stays logs i x index place inside (let lt = slice_get_within (log_at logs index).entries place (Read stamp key) there.1 in omega (arith, lt)))) answer,
+  behind,
+)
 
-are_kept : (fronts : List ℕ) (logs : List Log) (last : Option ℕ) (recent : ℕ) (answers : List (List Kept)) (run : HasFollowed fronts logs last recent answers) (steps : List Step) (messages : List (Option Message)) (i : ℕ) (e : Entry) (new : Kept) (list : List Kept)
+-- what is kept is what it answered
+answer_kept : (fronts : List ℕ) (logs : List Log) (steps : List Step) (messages : List (Option Message)) (index place : ℕ) (what : Kept) → (what ≡ kept.GivenUp → ⊥) → IsKept fronts logs steps messages index place what → IsAnswer fronts logs index place what
+answer_kept fronts logs steps messages index place kept.GivenUp some h = absurd (some refl)
+answer_kept fronts logs steps messages index place kept.Other some h = h
+answer_kept fronts logs steps messages index place (kept.Read key state) some h = ((h.stamp, h.there), h.answer, h.behind)
+
+-- what the entries of another vnode answered
+answers_still : (fronts : List ℕ) (logs : List Log) (i : ℕ) (e : Entry) (index : ℕ) (all : List Kept) → i < length logs → (index ≡ i → ⊥) → AreAnswers fronts logs index all → AreAnswers fronts (with_entry_at logs i e) index all
+answers_still fronts logs i e index all inside other are = record {
+  size = are.size ∙ ap (λ (l : Log). length l.entries) (sym (others_at logs i e index other));
+  each = λ place what at. still_answer fronts logs i e index place what inside (are.each place what at);
+}
+
+-- and those of this one
+answers_more : (fronts : List ℕ) (logs : List Log) (i : ℕ) (e : Entry) (all : List Kept) (new : Kept) → i < length logs → AreAnswers fronts logs i all → IsAnswer fronts (with_entry_at logs i e) i (length (log_at logs i).entries) new
+    → AreAnswers fronts (with_entry_at logs i e) i (all ++ new ∷ [])
+answers_more fronts logs i e all new inside are answer = record {
+  size = length_push all new ∙ ap (λ (n : ℕ). n + 1) are.size ∙ sym (ap (λ (l : Log). length l.entries) (grown_at logs i e inside) ∙ length_push (log_at logs i).entries e);
+  each = λ place what at. elim (more_cases all new what place at) [
+    | inl before ↦ still_answer fronts logs i e i place what inside (are.each place what before.1)
+    | inr last ↦
+        (let place_is : place ≡ length (log_at logs i).entries = last.0 ∙ are.size in
+        subst (λ (p : ℕ). IsAnswer fronts (with_entry_at logs i e) i p what) (sym place_is) (subst (λ (w : Kept). IsAnswer fronts (with_entry_at logs i e) i (length (log_at logs i).entries) w) last.1 answer))
+  ];
+}
+
+are_kept : (fronts : List ℕ) (logs : List Log) (last : Option ℕ) (recent : Recent) (answers : List (List Kept)) (run : HasFollowed fronts logs last recent answers) (steps : List Step) (messages : List (Option Message)) (i : ℕ) (e : Entry) (new : Kept) (list : List Kept)
     → ((n : ℕ) (s : Step) → slice_get (steps_behind fronts run.order) n ≡ Some s → slice_get steps n ≡ Some s) → ((n : ℕ) (m : Option Message) → slice_get run.messages n ≡ Some m → slice_get messages n ≡ Some m) → i < length logs
-    → IsKept fronts (with_entry_at logs i e) steps messages i (length (log_at logs i).entries) new → (new ≡ kept.GivenUp → ⊥) → MayLack recent (get_or answers i [] ++ new ∷ []) list
+    → IsKept fronts (with_entry_at logs i e) steps messages i (length (log_at logs i).entries) new → (new ≡ kept.GivenUp → ⊥) → IsLeft recent (get_or answers i [] ++ new ∷ []) list
     → AreKept fronts (with_entry_at logs i e) steps messages recent (set answers i list)
 are_kept fronts logs newest_stamp recent answers run steps messages i e new list steps_still messages_still inside is_kept newest lack = record {
   size = length-set answers i list ∙ run.kept.size ∙ sym size;
   lengths = λ index within. lengths index (omega (arith, within, size));
   each = λ index place what within at. each index place what (omega (arith, within, size)) at;
-  recently = λ index place within at. recently index place (omega (arith, within, size)) at;
+  left = λ index within. left_at index (omega (arith, within, size));
 }
   where
     size : length (with_entry_at logs i e) ≡ length logs
@@ -164,7 +193,7 @@ are_kept fronts logs newest_stamp recent answers run steps messages i e new list
 
     lengths : (index : ℕ) → index < length logs → length (get_or (set answers i list) index []) ≡ length (log_at (with_entry_at logs i e) index).entries
     lengths index within = elim (cases_eq index i) [
-      | inl same ↦ ap (λ (j : ℕ). length (get_or (set answers i list) j [])) same ∙ ap length own ∙ lack_long recent _ list lack ∙ all_long ∙ sym long ∙ ap (λ (j : ℕ). length (log_at (with_entry_at logs i e) j).entries) (sym same)
+      | inl same ↦ ap (λ (j : ℕ). length (get_or (set answers i list) j [])) same ∙ ap length own ∙ lack.size ∙ all_long ∙ sym long ∙ ap (λ (j : ℕ). length (log_at (with_entry_at logs i e) j).entries) (sym same)
       | inr other ↦ ap length (get_or-set_other answers i index list [] other) ∙ run.kept.lengths index within ∙ ap (λ (l : Log). length l.entries) (sym (others_at logs i e index other))
     ]
 
@@ -172,7 +201,7 @@ are_kept fronts logs newest_stamp recent answers run steps messages i e new list
     still index place what within at = still_kept fronts logs (steps_behind fronts run.order) steps run.messages messages i e index place what steps_still messages_still inside (run.kept.each index place what within at)
 
     mine : (place : ℕ) (what : Kept) → slice_get list place ≡ Some what → IsKept fronts (with_entry_at logs i e) steps messages i place what
-    mine place what at = elim (lack_cases recent _ list place what lack at) [
+    mine place what at = elim (left_cases recent _ list place what lack at) [
       | inl was ↦ elim (more_cases (get_or answers i []) new what place was) [
         | inl before ↦ still i place what inside before.1
         | inr last ↦
@@ -180,7 +209,7 @@ are_kept fronts logs newest_stamp recent answers run steps messages i e new list
             subst (λ (p : ℕ). IsKept fronts (with_entry_at logs i e) steps messages i p what) (sym place_is)
             (subst (λ (w : Kept). IsKept fronts (with_entry_at logs i e) steps messages i (length (log_at logs i).entries) w) last.1 is_kept))
       ]
-      | inr gone ↦ subst (λ (w : Kept). IsKept fronts (with_entry_at logs i e) steps messages i place w) (sym gone.0) tt
+      | inr gone ↦ subst (λ (w : Kept). IsKept fronts (with_entry_at logs i e) steps messages i place w) (sym gone) tt
     ]
 
     each : (index place : ℕ) (what : Kept) → index < length logs → kept_at (set answers i list) index place ≡ Some what → IsKept fronts (with_entry_at logs i e) steps messages index place what
@@ -190,22 +219,16 @@ are_kept fronts logs newest_stamp recent answers run steps messages i e new list
       | inr other ↦ still index place what within (ap (λ (xs : List Kept). slice_get xs place) (sym (get_or-set_other answers i index list [] other)) ∙ at)
     ]
 
-    recently : (index place : ℕ) → index < length logs → kept_at (set answers i list) index place ≡ Some kept.GivenUp → place + recent < length (log_at (with_entry_at logs i e) index).entries
-    recently index place within at = elim (cases_eq index i) [
+    left_at : (index : ℕ) → index < length logs → (all : List Kept) × AreAnswers fronts (with_entry_at logs i e) index all × IsLeft recent all (get_or (set answers i list) index [])
+    left_at index within = elim (cases_eq index i) [
       | inl same ↦
-          (let at' : slice_get list place ≡ Some kept.GivenUp = ap (λ (xs : List Kept). slice_get xs place) (sym own) ∙ ap (λ (j : ℕ). slice_get (get_or (set answers i list) j []) place) (sym same) ∙ at in
-          let long' : length (log_at (with_entry_at logs i e) index).entries ≡ length (log_at logs i).entries + 1 = ap (λ (j : ℕ). length (log_at (with_entry_at logs i e) j).entries) same ∙ long in
-          elim (lack_cases recent _ list place kept.GivenUp lack at') [
-            | inl was ↦ elim (more_cases (get_or answers i []) new kept.GivenUp place was) [
-              | inl before ↦ (let r = run.kept.recently i place inside before.1 in omega (arith, r, long'))
-              | inr last ↦ absurd (newest last.1)
-            ]
-            | inr gone ↦ omega (arith, gone.1, all_long, long')
-          ])
+          (let was = run.kept.left i inside in
+          let more = left_more recent was.0 (get_or answers i []) list new was.2 lack in
+          subst (λ (j : ℕ). (all : List Kept) × AreAnswers fronts (with_entry_at logs i e) j all × IsLeft recent all (get_or (set answers i list) j [])) (sym same)
+          (was.0 ++ new ∷ [], answers_more fronts logs i e was.0 new inside was.1 (answer_kept fronts (with_entry_at logs i e) steps messages i (length (log_at logs i).entries) new newest is_kept), subst (λ (l : List Kept). IsLeft recent (was.0 ++ new ∷ []) l) (sym own) more))
       | inr other ↦
-          (let r = run.kept.recently index place within (ap (λ (xs : List Kept). slice_get xs place) (sym (get_or-set_other answers i index list [] other)) ∙ at) in
-          let same : length (log_at (with_entry_at logs i e) index).entries ≡ length (log_at logs index).entries = ap (λ (l : Log). length l.entries) (others_at logs i e index other) in
-          omega (arith, r, same))
+          (let was = run.kept.left index within in
+          (was.0, answers_still fronts logs i e index was.0 inside other was.1, subst (λ (l : List Kept). IsLeft recent was.0 l) (sym (get_or-set_other answers i index list [] other)) was.2))
     ]
 
 -- what is kept of a new entry isn't given up
@@ -224,12 +247,12 @@ below_next None order stamp none above t c = absurd (let h = subst (λ (o : List
 below_next (Some s) order stamp le above t c = let h = le t c in omega (arith, h, above)
 
 -- so are those of the entries
-pub after_all : (fronts : List ℕ) (logs : List Log) (last : Option ℕ) (recent : ℕ) (answers : List (List Kept)) → HasFollowed fronts logs last recent answers → (e : Entry) → IsAbove last (stamp_of e) → IsAfterAll logs e
+pub after_all : (fronts : List ℕ) (logs : List Log) (last : Option ℕ) (recent : Recent) (answers : List (List Kept)) → HasFollowed fronts logs last recent answers → (e : Entry) → IsAbove last (stamp_of e) → IsAfterAll logs e
 after_all fronts logs last recent answers run e above index place a there =
     below_next last run.order (stamp_of e) run.below above (step_at index place a) (Contains-permutation (steps_of 0 logs) run.order (step_at index place a) run.all (step_in 0 index logs index place a (omega arith) there))
 
 -- an entry that has its source names a read that answered its state
-pub has_read : (fronts : List ℕ) (logs : List Log) (last : Option ℕ) (recent : ℕ) (answers : List (List Kept)) → HasFollowed fronts logs last recent answers → (e : Entry) → HasSource logs answers e → HasReadOf fronts logs e
+pub has_read : (fronts : List ℕ) (logs : List Log) (last : Option ℕ) (recent : Recent) (answers : List (List Kept)) → HasFollowed fronts logs last recent answers → (e : Entry) → HasSource logs answers e → HasReadOf fronts logs e
 has_read fronts logs last recent answers run (Merge stamp key from at state) (index, inside, id, there) =
     let h : IsReadKept fronts logs (steps_behind fronts run.order) run.messages index at key state = run.kept.each index at (kept.Read key state) inside there in
     ((index, id, (h.stamp, h.there), h.behind), (index, inside, id, h.answer))
@@ -237,7 +260,28 @@ has_read fronts logs last recent answers run (Put stamp key seen content dot) h 
 has_read fronts logs last recent answers run (Read stamp key) h = tt
 has_read fronts logs last recent answers run (Restart stamp) h = tt
 
-pub founded : (fronts : List ℕ) (logs : List Log) (last : Option ℕ) (recent : ℕ) (answers : List (List Kept)) (i : ℕ) (e : Entry) → HasFollowed fronts logs last recent answers → IsExpected fronts logs answers i e → IsFounded fronts logs i e
+-- what was given up, and what is held
+pub given_up : (fronts : List ℕ) (logs : List Log) (last : Option ℕ) (recent : Recent) (answers : List (List Kept)) → HasFollowed fronts logs last recent answers → (index at : ℕ) → index < length logs → kept_at answers index at ≡ Some kept.GivenUp → IsGivenUpAt fronts logs recent index at
+given_up fronts logs last recent answers run index at inside gone =
+    let all = run.kept.left index inside in
+    elim (over_or_not recent (drop at all.0)) [
+      | inl over ↦ (all.0, all.1, over)
+      | inr not ↦ absurd (all.1.each at kept.GivenUp (sym (all.2.stays at not) ∙ gone))
+    ]
+
+pub held : (fronts : List ℕ) (logs : List Log) (last : Option ℕ) (recent : Recent) (answers : List (List Kept)) (i : ℕ) (e : Entry) → HasFollowed fronts logs last recent answers → IsExpected fronts logs answers i e → IsHeld fronts logs recent i e
+held fronts logs last recent answers i e run (inl front) = inl front
+held fronts logs last recent answers i e run (inr (whole, source)) = inr (go e source)
+  where
+    go : (x : Entry) → HasSource logs answers x → NamesHeld fronts logs recent x
+    go (Merge stamp key from at state) (index, inside, id, there) =
+        let all = run.kept.left index inside in
+        (index, inside, id, (all.0, all.1, λ over. (let both : Some kept.GivenUp ≡ Some (kept.Read key state) = sym (all.2.gone at over) ∙ there in cc)))
+    go (Put stamp key seen content dot) h = tt
+    go (Read stamp key) h = tt
+    go (Restart stamp) h = tt
+
+pub founded : (fronts : List ℕ) (logs : List Log) (last : Option ℕ) (recent : Recent) (answers : List (List Kept)) (i : ℕ) (e : Entry) → HasFollowed fronts logs last recent answers → IsExpected fronts logs answers i e → IsFounded fronts logs i e
 founded fronts logs last recent answers i e run (inl front) = inl front
 founded fronts logs last recent answers i e run (inr (whole, source)) = inr (whole, has_read fronts logs last recent answers run e source)
 
@@ -255,8 +299,8 @@ first_more fronts order s first under none u t has_u has_t before behind = elim 
 ]
 
 -- what is alike of an entry of a front and of a step
-followed_with : (fronts : List ℕ) (logs : List Log) (last : Option ℕ) (recent : ℕ) (answers : List (List Kept)) (i : ℕ) (e : Entry) (new : Kept) (list : List Kept) (run : HasFollowed fronts logs last recent answers) (messages : List (Option Message)) → i < length logs → IsAbove last (stamp_of e)
-    → IsFounded fronts logs i e → MayLack recent (get_or answers i [] ++ new ∷ []) list → (new ≡ kept.GivenUp → ⊥)
+followed_with : (fronts : List ℕ) (logs : List Log) (last : Option ℕ) (recent : Recent) (answers : List (List Kept)) (i : ℕ) (e : Entry) (new : Kept) (list : List Kept) (run : HasFollowed fronts logs last recent answers) (messages : List (Option Message)) → i < length logs → IsAbove last (stamp_of e)
+    → IsFounded fronts logs i e → IsLeft recent (get_or answers i [] ++ new ∷ []) list → (new ≡ kept.GivenUp → ⊥)
     → ((n : ℕ) (s : Step) → slice_get (steps_behind fronts run.order) n ≡ Some s → slice_get (steps_behind fronts (run.order ++ step_at i (length (log_at logs i).entries) e ∷ [])) n ≡ Some s)
     → ((n : ℕ) (m : Option Message) → slice_get run.messages n ≡ Some m → slice_get messages n ≡ Some m)
     → IsKept fronts (with_entry_at logs i e) (steps_behind fronts (run.order ++ step_at i (length (log_at logs i).entries) e ∷ [])) messages i (length (log_at logs i).entries) new
@@ -306,8 +350,8 @@ kept_by fronts logs i e a true new where_is is = inl (where_is, is)
 kept_by fronts logs i e a false new where_is is = inr (where_is, is)
 
 -- an entry of a front more
-front_more : (fronts : List ℕ) (logs : List Log) (last : Option ℕ) (recent : ℕ) (answers : List (List Kept)) (i : ℕ) (e : Entry) (list : List Kept) → HasFollowed fronts logs last recent answers → i < length logs → IsAbove last (stamp_of e) → IsInFront fronts logs i
-    → MayLack recent (get_or answers i [] ++ kept.Other ∷ []) list → HasFollowed fronts (with_entry_at logs i e) (Some (stamp_of e)) recent (set answers i list)
+front_more : (fronts : List ℕ) (logs : List Log) (last : Option ℕ) (recent : Recent) (answers : List (List Kept)) (i : ℕ) (e : Entry) (list : List Kept) → HasFollowed fronts logs last recent answers → i < length logs → IsAbove last (stamp_of e) → IsInFront fronts logs i
+    → IsLeft recent (get_or answers i [] ++ kept.Other ∷ []) list → HasFollowed fronts (with_entry_at logs i e) (Some (stamp_of e)) recent (set answers i list)
 front_more fronts logs last recent answers i e list run inside above front lack = elim run.begun [
   | inr whole ↦ absurd (let all = whole i inside in omega (arith, all, front))
   | inl alone ↦
@@ -331,8 +375,8 @@ front_more fronts logs last recent answers i e list run inside above front lack 
 ]
 
 -- a step more
-step_more : (fronts : List ℕ) (logs : List Log) (last : Option ℕ) (recent : ℕ) (answers : List (List Kept)) (i : ℕ) (e : Entry) (a : Answer) (list : List Kept) → HasFollowed fronts logs last recent answers → i < length logs → MayFollow (log_at logs i).vnode (log_at logs i).entries e
-    → Answers (log_at logs i).vnode (log_at logs i).entries e a → IsAbove last (stamp_of e) → AreWhole fronts logs → HasSource logs answers e → MayLack recent (get_or answers i [] ++ kept_of e a ∷ []) list
+step_more : (fronts : List ℕ) (logs : List Log) (last : Option ℕ) (recent : Recent) (answers : List (List Kept)) (i : ℕ) (e : Entry) (a : Answer) (list : List Kept) → HasFollowed fronts logs last recent answers → i < length logs → MayFollow (log_at logs i).vnode (log_at logs i).entries e
+    → Answers (log_at logs i).vnode (log_at logs i).entries e a → IsAbove last (stamp_of e) → AreWhole fronts logs → HasSource logs answers e → IsLeft recent (get_or answers i [] ++ kept_of e a ∷ []) list
     → HasFollowed fronts (with_entry_at logs i e) (Some (stamp_of e)) recent (set answers i list)
 step_more fronts logs last recent answers i e a list run inside follows answer above whole source lack =
     let s = step_at i (length (log_at logs i).entries) e in
@@ -349,19 +393,19 @@ step_more fronts logs last recent answers i e a list run inside follows answer a
     (so_far_more fronts begin logs last recent answers run i e a (run.so_far begin begun (fronts_before fronts logs begun i e inside whole are) begins_so) inside follows answer source)))
 
 -- one entry more
-pub followed_more : (fronts : List ℕ) (logs : List Log) (last : Option ℕ) (recent : ℕ) (answers : List (List Kept)) (i : ℕ) (e : Entry) (a : Answer) (new : Kept) (list : List Kept) → HasFollowed fronts logs last recent answers → i < length logs
+pub followed_more : (fronts : List ℕ) (logs : List Log) (last : Option ℕ) (recent : Recent) (answers : List (List Kept)) (i : ℕ) (e : Entry) (a : Answer) (new : Kept) (list : List Kept) → HasFollowed fronts logs last recent answers → i < length logs
     → MayFollow (log_at logs i).vnode (log_at logs i).entries e → Answers (log_at logs i).vnode (log_at logs i).entries e a → IsAbove last (stamp_of e) → IsExpected fronts logs answers i e
-    → (IsInFront fronts logs i × (new ≡ kept.Other)) ⊎ (IsBehind fronts i (length (log_at logs i).entries) × (new ≡ kept_of e a)) → MayLack recent (get_or answers i [] ++ new ∷ []) list
+    → (IsInFront fronts logs i × (new ≡ kept.Other)) ⊎ (IsBehind fronts i (length (log_at logs i).entries) × (new ≡ kept_of e a)) → IsLeft recent (get_or answers i [] ++ new ∷ []) list
     → HasFollowed fronts (with_entry_at logs i e) (Some (stamp_of e)) recent (set answers i list)
 followed_more fronts logs last recent answers i e a new list run inside follows answer above (inr (whole, source)) (inr (behind, is)) lack =
-    step_more fronts logs last recent answers i e a list run inside follows answer above whole source (subst (λ (k : Kept). MayLack recent (get_or answers i [] ++ k ∷ []) list) is lack)
+    step_more fronts logs last recent answers i e a list run inside follows answer above whole source (subst (λ (k : Kept). IsLeft recent (get_or answers i [] ++ k ∷ []) list) is lack)
 followed_more fronts logs last recent answers i e a new list run inside follows answer above (inl front) (inl (also, is)) lack =
-    front_more fronts logs last recent answers i e list run inside above front (subst (λ (k : Kept). MayLack recent (get_or answers i [] ++ k ∷ []) list) is lack)
+    front_more fronts logs last recent answers i e list run inside above front (subst (λ (k : Kept). IsLeft recent (get_or answers i [] ++ k ∷ []) list) is lack)
 followed_more fronts logs last recent answers i e a new list run inside follows answer above (inl front) (inr (behind, is)) lack = absurd (omega (arith, front, behind))
 followed_more fronts logs last recent answers i e a new list run inside follows answer above (inr (whole, source)) (inl (front, is)) lack = absurd (let all = whole i inside in omega (arith, all, front))
 
 -- what was followed is a run from each beginning
-run_from : (fronts : List ℕ) (logs : List Log) (last : Option ℕ) (recent : ℕ) (answers : List (List Kept)) → HasFollowed fronts logs last recent answers → (begin : Knowledge) (begun : List Log) → AreFronts logs fronts begun → Begins begun [] begin → IsInterleavingFrom begin fronts logs
+run_from : (fronts : List ℕ) (logs : List Log) (last : Option ℕ) (recent : Recent) (answers : List (List Kept)) → HasFollowed fronts logs last recent answers → (begin : Knowledge) (begun : List Log) → AreFronts logs fronts begun → Begins begun [] begin → IsInterleavingFrom begin fronts logs
 run_from fronts logs last recent answers run begin begun are begins_so =
     let so_far = run.so_far begin begun are begins_so in
     let ran = run_of begin logs (steps_behind fronts run.order) so_far.replies so_far.known so_far.happened in
@@ -378,7 +422,7 @@ run_from fronts logs last recent answers run begin begun are begins_so =
       siblings = λ vnode key lt. shown logs so_far.known vnode key so_far.represents lt;
     }
 
-pub interleaved : (fronts : List ℕ) (logs : List Log) (last : Option ℕ) (recent : ℕ) (answers : List (List Kept)) → HasFollowed fronts logs last recent answers → IsRunFrom fronts logs
+pub interleaved : (fronts : List ℕ) (logs : List Log) (last : Option ℕ) (recent : Recent) (answers : List (List Kept)) → HasFollowed fronts logs last recent answers → IsRunFrom fronts logs
 interleaved fronts logs last recent answers run = record {
   from = run_from fronts logs last recent answers run;
   whole = λ none. subst (λ (ns : List ℕ). IsInterleavingFrom (opened (ids_of logs)) ns logs) none

@@ -1,6 +1,6 @@
 -- One entry more: what stays where it is, and what is new.
-use Rattle.std.proofs.Common.{◌≡◌, ℕ, zero, suc, ◌+◌, ◌<◌, ◌≤◌, ◌⊎◌, List, [], ◌∷◌, ◌++◌, length, get_or, set, take, refl, sym, ap, subst, ◌∙◌, inl, inr, arith, Option, Some, None, length-set, append-nil, true, false, Bool, cond}
-use Rattle.std.specs.Prelude.{slice_get, Contains, filter, leb}
+use Rattle.std.proofs.Common.{◌≡◌, ℕ, zero, suc, ◌+◌, ◌<◌, ◌≤◌, ◌⊎◌, List, [], ◌∷◌, ◌++◌, length, get_or, take, refl, sym, ap, subst, ◌∙◌, inl, inr, arith, Some, None, length-set, append-nil, Bool, cond}
+use Rattle.std.specs.Prelude.{slice_get, Contains, leb}
 use Rattle.std.proofs.lemmas.Bool.{cases_eq, le-leb, lt-leb}
 use Rattle.std.proofs.lemmas.List.{get_or-set_same, get_or-set_other, length_push, length-map, take-append-le, take_all}
 use Rattle.std.proofs.lemmas.List.Elements.{Contains-append_left, Contains-append_right, filter-append}
@@ -16,7 +16,7 @@ use Rattle.world.specs.Represents.{AreDistinct, log_at, empty_logs, with_entry_a
 use Rattle.world.specs.Running.{Begins}
 use Rattle.world.proofs.Steps.{opened_represents}
 use Rattle.world.proofs.Whole.{more_cases, still_at}
-use Rattle.rerun.specs.Beginnings.{AreFronts, AreWhole, IsBehind, IsInFront, steps_behind}
+use Rattle.rerun.specs.Beginnings.{AreFronts, AreWhole, IsBehind, steps_behind}
 use Rattle.rerun.specs.Faulty.{NoneFalls, NoneTwice}
 use Rattle.rerun.specs.Interleaved.{ids_of}
 use Rattle.rerun.specs.Order.{Step, steps_from, steps_of}

@@ -17,7 +17,10 @@ use Rattle.rerun.proofs.Grown.{fronts_are}
 use Rattle.rerun.proofs.Steps.{begins}
 use Rattle.findings.specs.declared.fault.FollowFault.{FollowFault}
 use Rattle.rerun.specs.declared.kept.Kept.{Kept}
+use Rattle.rerun.specs.declared.kept.Recent.{Recent}
+use Rattle.rerun.specs.Kept.{IsLeft}
 use Rattle.rerun.specs.Followed.{HasFollowed}
+use Rattle.rerun.proofs.Keeping.{none_left}
 
 pub empties : {X : Type 0} (n index : ℕ) → get_or (replicate n (let l : List X = [] in l)) index [] ≡ []
 empties zero index = refl
@@ -65,7 +68,7 @@ pub vnodes_all : (ids : List ℕ) (index : ℕ) → index ≡ length ids → tak
 vnodes_all ids index is = take_all index (empty_logs ids) (omega (arith, is, as_many ids))
 
 -- no fronts are whole, or all are, where nothing was followed
-pub opened : (fronts : List ℕ) (ids : List ℕ) (recent : ℕ) → AreDistinct ids → HasFollowed fronts (empty_logs ids) None recent (replicate (length ids) [])
+pub opened : (fronts : List ℕ) (ids : List ℕ) (recent : Recent) → AreDistinct ids → HasFollowed fronts (empty_logs ids) None recent (replicate (length ids) [])
 opened fronts ids recent distinct = record {
   order = [];
   messages = [];
@@ -81,7 +84,11 @@ opened fronts ids recent distinct = record {
     size = length-replicate (length ids) [] ∙ sym (as_many ids);
     lengths = λ index inside. ap length (empties (length ids) index) ∙ sym (ap length (no_entries ids index));
     each = λ index place what inside at. absurd (let none : None ≡ Some what = sym (ap (λ (l : List Kept). slice_get l place) (empties (length ids) index)) ∙ at in cc);
-    recently = λ index place inside at. absurd (let none = sym (ap (λ (l : List Kept). slice_get l place) (empties (length ids) index)) ∙ at in cc);
+    left = λ index inside. (
+      [],
+      record { size = sym (ap length (no_entries ids index)); each = λ place what at. absurd (let none : None ≡ Some what = at in cc) },
+      subst (λ (l : List Kept). IsLeft recent [] l) (sym (empties (length ids) index)) (none_left recent),
+    );
   };
   rises = λ vnode place falls. none_there falls.0 falls.2.0 falls.2.1 falls.2.4;
   single = λ vnode place stamp twice. none_there twice.4.0 twice.1 twice.2 twice.4.2;

@@ -1,10 +1,8 @@
 -- What is told of an entry is so.
-use Rattle.std.proofs.Common.{◌≡◌, ℕ, zero, suc, ◌+◌, ◌<◌, List, [], ◌∷◌, length, get_or, take, ◌≤◌, refl, sym, ap, subst, ◌∙◌, inl, inr, arith, Option, Some, None, length-set}
-use Rattle.std.specs.Prelude.{slice_get, Contains, Result, Err, IfErr}
+use Rattle.std.proofs.Common.{◌≡◌, ℕ, ◌+◌, ◌<◌, List, [], length, get_or, take, ◌≤◌, refl, sym, ap, subst, ◌∙◌, inl, inr, arith, Option, Some, None, length-set}
+use Rattle.std.specs.Prelude.{slice_get, Result, Err, IfErr}
 use Rattle.std.proofs.lemmas.List.{get_or-set_same, length_push}
-use Rattle.std.proofs.lemmas.List.Elements.{Contains-append_left, Contains-append_right}
-use Rattle.std.proofs.lemmas.List.Sorted.{Contains-permutation}
-use Rattle.std.proofs.lemmas.Option.{same_Some, slice_get_within, slice_get-get_or}
+use Rattle.std.proofs.lemmas.Option.{slice_get_within, slice_get-get_or}
 use Rattle.object.specs.declared.content.Key.{Key}
 use Rattle.object.specs.State.{State}
 use Rattle.journal.specs.Entry.{Entry, Put, Merge, Read, Restart}
@@ -13,9 +11,8 @@ use Rattle.journal.specs.Replay.{IsReplay}
 use Rattle.journal.specs.Stamps.{stamp_of}
 use Rattle.journal.proofs.Unique.{one_replay}
 use Rattle.world.specs.Represents.{log_at, with_entry_at}
-use Rattle.rerun.specs.Order.{steps_from, steps_of}
 use Rattle.rerun.specs.Turns.{EntryIn}
-use Rattle.rerun.proofs.Next.{step_at, at_end}
+use Rattle.rerun.proofs.Next.{at_end}
 use Rattle.rerun.proofs.Rising.{one_entry}
 use Rattle.findings.specs.declared.fault.FollowCode.{FollowCode}
 use Rattle.findings.specs.declared.fault.FollowCode.TheVariants.{Twice, Falls, NoSource, OtherState, GivenUp, Late, Illegal}
@@ -23,21 +20,22 @@ use Rattle.findings.specs.declared.fault.FollowFault.{FollowFault}
 use Rattle.findings.specs.declared.fault.FollowFault.TheVariants.{Found, NoMemory}
 use Rattle.rerun.specs.declared.kept.Kept.{Kept}
 use Rattle.rerun.specs.declared.kept.Kept.TheVariants as kept
+use Rattle.rerun.specs.declared.kept.Recent.{Recent}
 use Rattle.rerun.specs.Wrong.{IsWrong, IsToldOf, IsNewest, IsStampFault, IsNotKept, IsMergeFault, IsSourceFault, IsPlaceFault, IsFoundWrong}
 use Rattle.rerun.specs.Followed.{kept_at, HasFollowed, IsAbove, IsExpected, IsReadKept, IsNoRead}
 use Rattle.rerun.specs.Beginnings.{IsBehind, steps_behind}
 use Rattle.rerun.proofs.Sorting.{one_index}
-use Rattle.rerun.proofs.Going.{after_all, founded}
+use Rattle.rerun.proofs.Going.{after_all, founded, given_up}
 
 -- ---- merges
 
 -- one identifier stands for one vnode
-same_index : (fronts : List ℕ) (logs : List Log) (last : Option ℕ) (recent : ℕ) (answers : List (List Kept)) → HasFollowed fronts logs last recent answers → (u v from : ℕ) → u < length logs → v < length logs → (log_at logs u).vnode ≡ from → (log_at logs v).vnode ≡ from → u ≡ v
+same_index : (fronts : List ℕ) (logs : List Log) (last : Option ℕ) (recent : Recent) (answers : List (List Kept)) → HasFollowed fronts logs last recent answers → (u v from : ℕ) → u < length logs → v < length logs → (log_at logs u).vnode ≡ from → (log_at logs v).vnode ≡ from → u ≡ v
 same_index fronts logs last recent answers run u v from lu lv is also =
     one_index logs u v run.distinct lu lv (is ∙ sym also)
 
 -- no read of the key stands where none is kept
-not_read : (fronts : List ℕ) (logs : List Log) (last : Option ℕ) (recent : ℕ) (answers : List (List Kept)) → HasFollowed fronts logs last recent answers → (index at stamp : ℕ) (key : Key) → IsNotKept answers index at key → IsBehind fronts index at → EntryIn logs index at (Read stamp key) → ⊥
+not_read : (fronts : List ℕ) (logs : List Log) (last : Option ℕ) (recent : Recent) (answers : List (List Kept)) → HasFollowed fronts logs last recent answers → (index at stamp : ℕ) (key : Key) → IsNotKept answers index at key → IsBehind fronts index at → EntryIn logs index at (Read stamp key) → ⊥
 not_read fronts logs last recent answers run index at stamp key (inl none) behind there =
     let within : at < length (log_at logs index).entries = slice_get_within (log_at logs index).entries at (Read stamp key) there.1 in
     let some : kept_at answers index at ≡ Some (get_or (get_or answers index []) at kept.Other) = slice_get-get_or (get_or answers index []) at kept.Other (omega (arith, run.kept.lengths index there.0, within)) in
@@ -54,7 +52,7 @@ not_read fronts logs last recent answers run index at stamp key (inr (inr (other
     let e : Read h.stamp other ≡ Read stamp key = one_entry logs index at (Read h.stamp other) (Read stamp key) h.there there in
     differs (let k : other ≡ key = cc in k)
 
-merge_wrong : (fronts : List ℕ) (logs : List Log) (last : Option ℕ) (recent : ℕ) (answers : List (List Kept)) → HasFollowed fronts logs last recent answers → (i stamp : ℕ) (key : Key) (from at : ℕ) (state : State) (code : FollowCode) → IsBehind fronts i (length (log_at logs i).entries) → IsMergeFault logs answers key from at state code
+merge_wrong : (fronts : List ℕ) (logs : List Log) (last : Option ℕ) (recent : Recent) (answers : List (List Kept)) → HasFollowed fronts logs last recent answers → (i stamp : ℕ) (key : Key) (from at : ℕ) (state : State) (code : FollowCode) → IsBehind fronts i (length (log_at logs i).entries) → IsMergeFault logs answers key from at state code
     → IsWrong fronts logs recent i (Merge stamp key from at state) code
 merge_wrong fronts logs last recent answers run i stamp key from at state NoSource behind (inl none) = (stamp, key, from, at, state, (refl, behind), λ read. none read.0 read.2.1.0 read.1)
 merge_wrong fronts logs last recent answers run i stamp key from at state NoSource behind (inr (index, is, not)) = (
@@ -80,13 +78,13 @@ merge_wrong fronts logs last recent answers run i stamp key from at state OtherS
       λ answer. differs (one_replay (take at (log_at logs index).entries) key other state h.answer
           (subst (λ (j : ℕ). IsReplay (take at (log_at logs j).entries) key state) (same_index fronts logs last recent answers run answer.0 index from answer.1 is.0 answer.2 is.1) answer.3)),
     )
-merge_wrong fronts logs last recent answers run i stamp key from at state GivenUp behind (index, is, gone) = (stamp, key, from, at, state, (refl, behind), (index, is.0, is.1, run.kept.recently index at is.0 gone))
+merge_wrong fronts logs last recent answers run i stamp key from at state GivenUp behind (index, is, gone) = (stamp, key, from, at, state, (refl, behind), (index, is.0, is.1, given_up fronts logs last recent answers run index at is.0 gone))
 merge_wrong fronts logs last recent answers run i stamp key from at state Twice behind h = absurd h
 merge_wrong fronts logs last recent answers run i stamp key from at state Falls behind h = absurd h
 merge_wrong fronts logs last recent answers run i stamp key from at state Late behind h = absurd h
 merge_wrong fronts logs last recent answers run i stamp key from at state Illegal behind h = absurd h
 
-source_wrong : (fronts : List ℕ) (logs : List Log) (last : Option ℕ) (recent : ℕ) (answers : List (List Kept)) → HasFollowed fronts logs last recent answers → (i : ℕ) (e : Entry) (code : FollowCode) → IsBehind fronts i (length (log_at logs i).entries) → IsSourceFault logs answers e code → IsWrong fronts logs recent i e code
+source_wrong : (fronts : List ℕ) (logs : List Log) (last : Option ℕ) (recent : Recent) (answers : List (List Kept)) → HasFollowed fronts logs last recent answers → (i : ℕ) (e : Entry) (code : FollowCode) → IsBehind fronts i (length (log_at logs i).entries) → IsSourceFault logs answers e code → IsWrong fronts logs recent i e code
 source_wrong fronts logs last recent answers run i (Merge stamp key from at state) code behind h = merge_wrong fronts logs last recent answers run i stamp key from at state code behind h
 source_wrong fronts logs last recent answers run i (Put stamp key seen content dot) code behind h = absurd h
 source_wrong fronts logs last recent answers run i (Read stamp key) code behind h = absurd h
@@ -94,7 +92,7 @@ source_wrong fronts logs last recent answers run i (Restart stamp) code behind h
 
 -- ---- stamps
 
-stamp_wrong : (fronts : List ℕ) (logs : List Log) (recent : ℕ) (last : Option ℕ) (newest i : ℕ) (e : Entry) (code : FollowCode) → IsNewest logs last newest → IsStampFault last newest i (stamp_of e) code → IsWrong fronts logs recent i e code
+stamp_wrong : (fronts : List ℕ) (logs : List Log) (recent : Recent) (last : Option ℕ) (newest i : ℕ) (e : Entry) (code : FollowCode) → IsNewest logs last newest → IsStampFault last newest i (stamp_of e) code → IsWrong fronts logs recent i e code
 stamp_wrong fronts logs recent None newest i e code is h = absurd h
 stamp_wrong fronts logs recent (Some s) newest i e Twice (place, a, there, end, same) h = (newest, place, a, there, h.0, same ∙ h.1)
 stamp_wrong fronts logs recent (Some s) newest i e Falls (place, a, there, end, same) h =
@@ -118,18 +116,18 @@ newest_more logs i e inside =
 
 -- ---- what is told
 
-placed_wrong : (fronts : List ℕ) (logs : List Log) (last : Option ℕ) (recent : ℕ) (answers : List (List Kept)) → HasFollowed fronts logs last recent answers → (i : ℕ) (e : Entry) (code : FollowCode) → IsPlaceFault fronts logs answers i e code → IsWrong fronts logs recent i e code
+placed_wrong : (fronts : List ℕ) (logs : List Log) (last : Option ℕ) (recent : Recent) (answers : List (List Kept)) → HasFollowed fronts logs last recent answers → (i : ℕ) (e : Entry) (code : FollowCode) → IsPlaceFault fronts logs answers i e code → IsWrong fronts logs recent i e code
 placed_wrong fronts logs last recent answers run i e code (behind, inl (is, lacks)) = subst (λ (c : FollowCode). IsWrong fronts logs recent i e c) (sym is) (inr (behind, lacks))
 placed_wrong fronts logs last recent answers run i e code (behind, inr source) = source_wrong fronts logs last recent answers run i e code behind source
 
-pub checked : (fronts : List ℕ) (logs : List Log) (last : Option ℕ) (recent : ℕ) (answers : List (List Kept)) (newest i : ℕ) (e : Entry) (code : FollowCode) → HasFollowed fronts logs last recent answers → IsNewest logs last newest → IsFoundWrong fronts logs answers last newest i e code → IsWrong fronts logs recent i e code
+pub checked : (fronts : List ℕ) (logs : List Log) (last : Option ℕ) (recent : Recent) (answers : List (List Kept)) (newest i : ℕ) (e : Entry) (code : FollowCode) → HasFollowed fronts logs last recent answers → IsNewest logs last newest → IsFoundWrong fronts logs answers last newest i e code → IsWrong fronts logs recent i e code
 checked fronts logs last recent answers newest i e code run is (inl stamp) = stamp_wrong fronts logs recent last newest i e code is stamp
 checked fronts logs last recent answers newest i e code run is (inr place) = placed_wrong fronts logs last recent answers run i e code place
 
 -- where it stops at this code
-pub stopped : (r : Result (Unit {0}) FollowFault) (fronts : List ℕ) (logs : List Log) (recent i vnode place : ℕ) (e : Entry) (code : FollowCode) → r ≡ Err (Found code vnode place) → (log_at logs i).vnode ≡ vnode → length (log_at logs i).entries ≡ place → IsWrong fronts logs recent i e code
+pub stopped : (r : Result (Unit {0}) FollowFault) (fronts : List ℕ) (logs : List Log) (recent : Recent) (i vnode place : ℕ) (e : Entry) (code : FollowCode) → r ≡ Err (Found code vnode place) → (log_at logs i).vnode ≡ vnode → length (log_at logs i).entries ≡ place → IsWrong fronts logs recent i e code
     → IfErr r (λ fault. IsToldOf fronts logs recent i e fault)
 stopped r fronts logs recent i vnode place e code is id end wrong = subst (λ (s : Result (Unit {0}) FollowFault). IfErr s (λ fault. IsToldOf fronts logs recent i e fault)) (sym is) (id, end, wrong)
 
-pub lacked : (fronts : List ℕ) (logs : List Log) (last : Option ℕ) (recent : ℕ) (answers : List (List Kept)) (i : ℕ) (e : Entry) → HasFollowed fronts logs last recent answers → IsAbove last (stamp_of e) → IsExpected fronts logs answers i e → IsToldOf fronts logs recent i e NoMemory
+pub lacked : (fronts : List ℕ) (logs : List Log) (last : Option ℕ) (recent : Recent) (answers : List (List Kept)) (i : ℕ) (e : Entry) → HasFollowed fronts logs last recent answers → IsAbove last (stamp_of e) → IsExpected fronts logs answers i e → IsToldOf fronts logs recent i e NoMemory
 lacked fronts logs last recent answers i e run above place = (after_all fronts logs last recent answers run e above, founded fronts logs last recent answers i e run place)

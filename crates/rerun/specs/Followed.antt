@@ -1,5 +1,5 @@
 -- What was followed of some vnodes' journals: so many of their first entries, in the order of stamps, as a run of the world from where they began.
-use Rattle.std.specs.Prelude.{◌≡◌, ◌<◌, ◌≤◌, ◌+◌, ◌⊎◌, ℕ, List, [], length, take, slice_get, slice_index_or, Option, Some, MatchOption, Contains}
+use Rattle.std.specs.Prelude.{◌≡◌, ◌<◌, ◌≤◌, ◌⊎◌, ℕ, List, [], length, take, slice_get, slice_index_or, Option, Some, MatchOption, Contains}
 use Rattle.std.specs.List.Sorted.{IsPermutation}
 use Rattle.object.specs.declared.content.Key.{Key}
 use Rattle.object.specs.State.{State}
@@ -21,6 +21,8 @@ use Rattle.rerun.specs.Rerun.{IsSoFar}
 use Rattle.rerun.specs.Turns.{EntryIn, count_at}
 use Rattle.rerun.specs.declared.kept.Kept.{Kept}
 use Rattle.rerun.specs.declared.kept.Kept.TheVariants as kept
+use Rattle.rerun.specs.declared.kept.Recent.{Recent}
+use Rattle.rerun.specs.Kept.{IsLeft}
 
 -- what is kept at a place of the vnode with this index
 abbrev pub kept_at : List (List Kept) → ℕ → ℕ → Option Kept
@@ -49,12 +51,23 @@ IsKept fronts logs steps messages index place (kept.Read key state) = IsReadKept
 IsKept fronts logs steps messages index place kept.Other = (e : Entry) × EntryIn logs index place e × (IsNoRead e ⊎ (place < count_at fronts index))
 IsKept fronts logs steps messages index place kept.GivenUp = Unit {0}
 
--- what is kept of each entry that was followed; of the last ones at each vnode, so many as are recent, nothing was given up
-pub record AreKept (fronts : List ℕ) (logs : List Log) (steps : List Step) (messages : List (Option Message)) (recent : ℕ) (answers : List (List Kept)) : Type 0 where
+-- what an entry answered that is behind its vnode's front: a read its state
+abbrev pub IsAnswer : List ℕ → List Log → ℕ → ℕ → Kept → Type 0
+IsAnswer fronts logs index place (kept.Read key state) = ((stamp : ℕ) × EntryIn logs index place (Read stamp key)) × IsReplay (take place (log_at logs index).entries) key state × IsBehind fronts index place
+IsAnswer fronts logs index place kept.Other = (e : Entry) × EntryIn logs index place e × (IsNoRead e ⊎ (place < count_at fronts index))
+IsAnswer fronts logs index place kept.GivenUp = ⊥
+
+-- what all entries of the vnode with this index answered
+pub record AreAnswers (fronts : List ℕ) (logs : List Log) (index : ℕ) (all : List Kept) : Type 0 where
+  pub size : length all ≡ length (log_at logs index).entries
+  pub each : (place : ℕ) (what : Kept) → slice_get all place ≡ Some what → IsAnswer fronts logs index place what
+
+-- what is kept of each entry that was followed: of what those of each vnode answered that is left which is recent
+pub record AreKept (fronts : List ℕ) (logs : List Log) (steps : List Step) (messages : List (Option Message)) (recent : Recent) (answers : List (List Kept)) : Type 0 where
   pub size : length answers ≡ length logs
   pub lengths : (index : ℕ) → index < length logs → length (slice_index_or answers index []) ≡ length (log_at logs index).entries
   pub each : (index place : ℕ) (what : Kept) → index < length logs → kept_at answers index place ≡ Some what → IsKept fronts logs steps messages index place what
-  pub recently : (index place : ℕ) → index < length logs → kept_at answers index place ≡ Some kept.GivenUp → place + recent < length (log_at logs index).entries
+  pub left : (index : ℕ) → index < length logs → (all : List Kept) × AreAnswers fronts logs index all × IsLeft recent all (slice_index_or answers index [])
 
 -- no stamp of these steps is above the last one
 abbrev pub AreBelow : Option ℕ → List Step → Type 0
@@ -68,7 +81,7 @@ pub record AreFrontsAlone (fronts : List ℕ) (logs : List Log) (steps : List St
 
 -- These entries happened, each of those behind the fronts the event that it says, in the order of their stamps, up to the last one, from each beginning that led
 -- to the fronts; and of each it is kept what it answered. No step is taken before the fronts are whole.
-pub record HasFollowed (fronts : List ℕ) (logs : List Log) (last : Option ℕ) (recent : ℕ) (answers : List (List Kept)) : Type 0 where
+pub record HasFollowed (fronts : List ℕ) (logs : List Log) (last : Option ℕ) (recent : Recent) (answers : List (List Kept)) : Type 0 where
   pub order : List Step
   pub messages : List (Option Message)
   pub so_far : (begin : Knowledge) (begun : List Log) → AreFronts logs fronts begun → Begins begun [] begin → IsSoFar begin logs (steps_behind fronts order) logs messages

@@ -1,5 +1,5 @@
 -- Why entries stop happening again: what is wrong with the one that is next.
-use Rattle.std.specs.Prelude.{◌≡◌, ◌≢◌, ◌<◌, ◌≤◌, ◌+◌, ◌⊎◌, ℕ, List, length, take, Option, Some, None, MatchOption}
+use Rattle.std.specs.Prelude.{◌≡◌, ◌≢◌, ◌<◌, ◌≤◌, ◌+◌, ◌⊎◌, ℕ, List, drop, length, take, Option, Some, None, MatchOption}
 use Rattle.object.specs.declared.content.Key.{Key}
 use Rattle.object.specs.State.{State}
 use Rattle.journal.specs.Entry.{Entry, Put, Read, Merge, Restart}
@@ -16,7 +16,9 @@ use Rattle.findings.specs.declared.fault.FollowFault.TheVariants.{Found, NoMemor
 use Rattle.rerun.specs.declared.kept.Kept.{Kept}
 use Rattle.rerun.specs.declared.kept.Kept.TheVariants as kept
 use Rattle.rerun.specs.Beginnings.{AreWhole, IsBehind, IsInFront}
-use Rattle.rerun.specs.Followed.{kept_at}
+use Rattle.rerun.specs.declared.kept.Recent.{Recent}
+use Rattle.rerun.specs.Kept.{IsOver}
+use Rattle.rerun.specs.Followed.{AreAnswers, kept_at}
 
 -- a read of this key stands at a place of the vnode with an identifier, behind its front
 abbrev pub IsReadAt : List ℕ → List Log → ℕ → ℕ → Key → Type 0
@@ -30,9 +32,17 @@ IsAnswerAt logs from at key state = (index : ℕ) × (index < length logs) × ((
 abbrev pub IsMergeBehind : List ℕ → List Log → ℕ → Entry → ℕ → Key → ℕ → ℕ → State → Type 0
 IsMergeBehind fronts logs index e stamp key from at state = (e ≡ Merge stamp key from at state) × IsBehind fronts index (length (log_at logs index).entries)
 
+-- what the entry at a place of the vnode with this index answered isn't kept: the end from there on of what the entries answered is more than is kept
+abbrev pub IsGivenUpAt : List ℕ → List Log → Recent → ℕ → ℕ → Type 0
+IsGivenUpAt fronts logs recent index at = (all : List Kept) × AreAnswers fronts logs index all × IsOver recent (drop at all)
+
+-- it is kept: that end isn't more
+abbrev pub IsHeldAt : List ℕ → List Log → Recent → ℕ → ℕ → Type 0
+IsHeldAt fronts logs recent index at = (all : List Kept) × AreAnswers fronts logs index all × (IsOver recent (drop at all) → ⊥)
+
 -- What is wrong with an entry that is the next one of the vnode with this index, where these entries were followed, the first ones of each vnode as what was there
--- before, and of so many of the last ones of each vnode answers were kept.
-abbrev pub IsWrong : List ℕ → List Log → ℕ → ℕ → Entry → FollowCode → Type 0
+-- before, and of the recent ones of each vnode answers were kept.
+abbrev pub IsWrong : List ℕ → List Log → Recent → ℕ → Entry → FollowCode → Type 0
 -- its stamp stands in the journal of another vnode
 IsWrong fronts logs recent index e Twice = (other place : ℕ) × (a : Entry) × EntryIn logs other place a × (other ≢ index) × (stamp_of a ≡ stamp_of e)
 -- its stamp is not above that of the entry before it in its journal
@@ -41,9 +51,9 @@ IsWrong fronts logs recent index e Falls = (place : ℕ) × (a : Entry) × Entry
 IsWrong fronts logs recent index e NoSource = (stamp : ℕ) × (key : Key) × (from at : ℕ) × (state : State) × IsMergeBehind fronts logs index e stamp key from at state × (IsReadAt fronts logs from at key → ⊥)
 -- it is a merge that names an earlier read of its key, which answered another state
 IsWrong fronts logs recent index e OtherState = (stamp : ℕ) × (key : Key) × (from at : ℕ) × (state : State) × IsMergeBehind fronts logs index e stamp key from at state × IsReadAt fronts logs from at key × (IsAnswerAt logs from at key state → ⊥)
--- it is a merge that names an earlier entry, after which more were followed of that vnode than answers are kept of
+-- it is a merge that names an earlier entry, whose answer isn't kept
 IsWrong fronts logs recent index e GivenUp =
-    (stamp : ℕ) × (key : Key) × (from at : ℕ) × (state : State) × IsMergeBehind fronts logs index e stamp key from at state × ((other : ℕ) × (other < length logs) × ((log_at logs other).vnode ≡ from) × (at + recent < length (log_at logs other).entries))
+    (stamp : ℕ) × (key : Key) × (from at : ℕ) × (state : State) × IsMergeBehind fronts logs index e stamp key from at state × ((other : ℕ) × (other < length logs) × ((log_at logs other).vnode ≡ from) × IsGivenUpAt fronts logs recent other at)
 -- its stamp is below that of one that was followed; or it is behind its front, and another vnode's front isn't whole
 IsWrong fronts logs recent index e Late =
     ((other place : ℕ) × (a : Entry) × EntryIn logs other place a × (stamp_of e < stamp_of a)) ⊎ (IsBehind fronts index (length (log_at logs index).entries) × ((other : ℕ) × (other < length logs) × IsInFront fronts logs other))
@@ -61,13 +71,24 @@ HasReadOf fronts logs (Restart stamp) = Unit {0}
 abbrev pub IsFounded : List ℕ → List Log → ℕ → Entry → Type 0
 IsFounded fronts logs index e = IsInFront fronts logs index ⊎ (AreWhole fronts logs × HasReadOf fronts logs e)
 
+-- an entry that is a merge names one whose answer is kept
+abbrev pub NamesHeld : List ℕ → List Log → Recent → Entry → Type 0
+NamesHeld fronts logs recent (Merge stamp key from at state) = (index : ℕ) × (index < length logs) × ((log_at logs index).vnode ≡ from) × IsHeldAt fronts logs recent index at
+NamesHeld fronts logs recent (Put stamp key seen content dot) = Unit {0}
+NamesHeld fronts logs recent (Read stamp key) = Unit {0}
+NamesHeld fronts logs recent (Restart stamp) = Unit {0}
+
+-- an entry that is the next one of the vnode with this index is of its front, or names one whose answer is kept where it is a merge
+abbrev pub IsHeld : List ℕ → List Log → Recent → ℕ → Entry → Type 0
+IsHeld fronts logs recent index e = IsInFront fronts logs index ⊎ NamesHeld fronts logs recent e
+
 -- an entry's stamp is above those of all that were followed
 abbrev pub IsAfterAll : List Log → Entry → Type 0
 IsAfterAll logs e = (index place : ℕ) (a : Entry) → EntryIn logs index place a → stamp_of a < stamp_of e
 
 -- what is told of the next entry of the vnode with this index: what is wrong with it, at its identifier and place; or memory was refused, and none of
 -- these faults, but that it may not be legal
-abbrev pub IsToldOf : List ℕ → List Log → ℕ → ℕ → Entry → FollowFault → Type 0
+abbrev pub IsToldOf : List ℕ → List Log → Recent → ℕ → Entry → FollowFault → Type 0
 IsToldOf fronts logs recent index e (Found code vnode place) = ((log_at logs index).vnode ≡ vnode) × (length (log_at logs index).entries ≡ place) × IsWrong fronts logs recent index e code
 IsToldOf fronts logs recent index e NoMemory = IsAfterAll logs e × IsFounded fronts logs index e
 

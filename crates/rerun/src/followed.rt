@@ -4,12 +4,12 @@ ghost use Rattle.std.specs.Prelude.{◌≡◌, ◌≢◌, ◌<◌, ℕ, IfOk, If
 ghost use Rattle.journal.specs.Stamps.{stamp_of};
 ghost use Rattle.world.specs.Represents.{AreDistinct, empty_logs, log_at, with_entry_at};
 ghost use Rattle.rerun.specs.Again.{answer_of};
-ghost use Rattle.rerun.specs.Wrong.{IsNewest, IsStampFault, IsMergeFault, IsSourceFault, IsPlaceFault, IsFoundWrong, IsAfterAll, IsFounded, IsToldOf};
+ghost use Rattle.rerun.specs.Wrong.{IsNewest, IsStampFault, IsMergeFault, IsSourceFault, IsPlaceFault, IsFoundWrong, IsAfterAll, IsFounded, IsHeld, IsToldOf};
 ghost use Rattle.rerun.specs.Beginnings.{AreWhole, IsBehind, IsInFront};
 ghost use Rattle.rerun.specs.Followed.{HasFollowed, HasSource, IsAbove, IsExpected, IsSourceKept, kept_of};
 
 use crate::again::{Again, Refusal, happen};
-use crate::kept::{Answers, Found, Kept};
+use crate::kept::{Answers, Found, Kept, Recent};
 use findings::{FollowCode, FollowFault};
 use journal::{Entry, Said};
 use object::{Key, KeyState};
@@ -89,8 +89,8 @@ pub(crate) struct Followed {
     /// The highest stamp, and whose it was.
     pub(crate) last: Option<u64>,
     pub(crate) last_index: usize,
-    /// Of so many entries of each vnode, the last ones, answers are kept.
-    pub(crate) recent: usize,
+    /// Of which of the last entries of each vnode answers are kept.
+    pub(crate) recent: Recent,
     /// The fault that was found, after which nothing is followed.
     pub(crate) fault: Option<FollowFault>,
 }
@@ -100,7 +100,7 @@ pub(crate) fn open(
     alloc: Global,
     ids: &[u32],
     fronts: Vec<usize>,
-    recent: usize,
+    recent: Recent,
 ) -> Result<Followed, AllocError>
     requires distinct { AreDistinct ids.now }
     ensures run { IfOk result (λ followed. HasFollowed followed.fronts.items followed.vnodes.items followed.last followed.recent followed.answers.items) }
@@ -287,6 +287,7 @@ impl Followed {
         ensures next { OnOk result (self.new.vnodes.items ≡ with_entry_at self.old.vnodes.items index entry.now) }
         ensures newest { OnOk result (IsNewest self.new.vnodes.items self.new.last self.new.last_index) }
         ensures right { OnOk result (IsAfterAll self.old.vnodes.items entry.now × IsFounded self.old.fronts.items self.old.vnodes.items index entry.now) }
+        ensures held { OnOk result (IsHeld self.old.fronts.items self.old.vnodes.items self.old.recent index entry.now) }
         ensures size { length self.new.vnodes.items ≡ length self.old.vnodes.items }
         ensures recent { self.new.recent ≡ self.old.recent }
         ensures fronts { self.new.fronts ≡ self.old.fronts }

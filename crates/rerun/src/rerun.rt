@@ -4,9 +4,10 @@ ghost use Rattle.std.specs.Prelude.{[], ◌≡◌, ◌≢◌, ◌<◌, ◌≤◌
 ghost use Rattle.world.specs.Represents.{AreDistinct, empty_logs, log_at, with_entry_at};
 ghost use Rattle.rerun.specs.Interleaved.{IsInterleaving};
 ghost use Rattle.rerun.specs.Runs.{IsRunFrom};
-ghost use Rattle.rerun.specs.Wrong.{IsAfterAll, IsFounded, IsToldOf};
+ghost use Rattle.rerun.specs.Wrong.{IsAfterAll, IsFounded, IsHeld, IsToldOf};
 
 use crate::followed::{Followed, index_of, open};
+use crate::kept::Recent;
 use findings::FollowFault;
 use journal::Entry;
 use std::alloc::{AllocError, Global};
@@ -35,9 +36,9 @@ impl Model for Rerun {
 }
 
 impl Rerun {
-    /// Nothing has happened at vnodes with these identifiers. Of each vnode it is kept what the last entries answered, so many as are
-    /// recent: a merge may name any of these.
-    pub fn new(alloc: Global, ids: &[u32], recent: usize) -> Result<Rerun, AllocError>
+    /// Nothing has happened at vnodes with these identifiers. Of each vnode it is kept what the recent entries answered: a merge may
+    /// name any of these.
+    pub fn new(alloc: Global, ids: &[u32], recent: Recent) -> Result<Rerun, AllocError>
         requires distinct { AreDistinct ids.now }
         ensures logs { IfOk result (λ rerun. rerun.logs ≡ empty_logs ids.now) }
         ensures run { IfOk result (λ rerun. IsInterleaving rerun.logs) }
@@ -54,7 +55,7 @@ impl Rerun {
         alloc: Global,
         ids: &[u32],
         fronts: Vec<usize>,
-        recent: usize,
+        recent: Recent,
     ) -> Result<Rerun, AllocError>
         requires distinct { AreDistinct ids.now }
         ensures logs { IfOk result (λ rerun. rerun.logs ≡ empty_logs ids.now) }
@@ -118,14 +119,15 @@ impl Rerun {
     /// The next entry of the vnode with this index happens again, where no fault was found: a put with its dot, a merge as the delivery
     /// of what the earlier read that it names answered, or as what it says where it is one of its vnode's front.
     ///
-    /// A fault is that of this entry, and the last: from then on nothing happens. A merge that names an answer that was given up is told as such,
-    /// though it may be right.
+    /// A fault is that of this entry, and the last: from then on nothing happens. A merge that names an answer that is no longer kept is told
+    /// as such, and only then, though it may be right.
     pub fn go_on(&mut self, index: usize, entry: &Entry) -> Result<(), FollowFault>
         requires going { self.old.fault ≡ None }
         requires inside { index < length self.old.logs }
         ensures run { OnOk result (IsRunFrom self.old.fronts self.new.logs) }
         ensures next { OnOk result (self.new.logs ≡ with_entry_at self.old.logs index entry.now) }
         ensures right { OnOk result (IsAfterAll self.old.logs entry.now × IsFounded self.old.fronts self.old.logs index entry.now) }
+        ensures held { OnOk result (IsHeld self.old.fronts self.old.logs self.old.recent index entry.now) }
         ensures going { OnOk result (self.new.fault ≡ None) }
         ensures fault { IfErr result (λ fault. self.new.fault ≡ Some fault) }
         ensures told { IfErr result (λ fault. IsToldOf self.old.fronts self.old.logs self.old.recent index entry.now fault) }

@@ -11,6 +11,7 @@ ghost use Rattle.rerun.specs.Turns.{IsNextBelow, count_at};
 
 use crate::audit_fault::{AuditCode, AuditFault};
 use crate::heads::Head;
+use crate::kept::Recent;
 use crate::rerun::Rerun;
 use crate::turns::{entry_at, heads_of, join, next_of, vnode_at};
 use findings::{FollowCode, FollowFault};
@@ -34,11 +35,16 @@ fn open(alloc: Global, journals: &[Whole<'_>]) -> Result<Rerun, AllocError>
     ensures logs { IfOk result (λ rerun. rerun.logs ≡ empty_logs (ids_of journals.now)) }
     ensures run { IfOk result (λ rerun. IsInterleaving rerun.logs) }
     ensures fault { IfOk result (λ rerun. rerun.fault ≡ None) }
-    ensures all { IfOk result (λ rerun. max_entries ≤ rerun.recent) }
+    ensures all { IfOk result (λ rerun. max_entries ≤ rerun.recent.always) }
     ensures fronts { IfOk result (λ rerun. rerun.fronts ≡ []) }
 {
     let ids = identifiers(alloc, journals)?;
-    Rerun::new(alloc, &ids, usize::MAX)
+    let all = Recent {
+        always: usize::MAX,
+        entries: usize::MAX,
+        bytes: u64::MAX,
+    };
+    Rerun::new(alloc, &ids, all)
 }
 
 // The code of an audit for a merge without its source.
@@ -68,7 +74,7 @@ fn go_on(
     requires legal { AreJournals journals.now }
     requires run { HasRun journals.now counts.old rerun.old.logs }
     requires going { rerun.old.fault ≡ None }
-    requires all { max_entries ≤ rerun.old.recent }
+    requires all { max_entries ≤ rerun.old.recent.always }
     requires fronts { rerun.old.fronts ≡ [] }
     requires next { IsNextBelow journals.now counts.old (length journals.now) head }
     requires place { place ≡ count_at counts.old head.index }

@@ -3,7 +3,9 @@
 mod beginnings;
 mod blocks;
 mod building;
+mod contents;
 mod gates;
+mod idle;
 mod pieces;
 mod putting;
 mod quorums;

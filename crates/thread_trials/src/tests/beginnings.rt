@@ -1,6 +1,6 @@
 //! A follower of vnodes that began with what was kept.
 
-use crate::tests::building::{key_of, value_of};
+use crate::tests::building::{SIXTEEN, key_of, value_of};
 use code_parts::expect;
 use follow::{FollowCode, FollowFault, Follower};
 use journal::{Entry, Merged};
@@ -22,7 +22,7 @@ fn kept_state(alloc: Global, key: &Key) -> Result<KeyState, Fail> {
 }
 
 /// A merge of a state.
-fn merge_of(
+pub(super) fn merge_of(
     alloc: Global,
     stamp: u64,
     key: &Key,
@@ -47,7 +47,7 @@ fn begun(
     stamps: (u64, u64),
 ) -> Result<Follower, Fail> {
     let state = kept_state(alloc, key)?;
-    let mut follower = Follower::new_from(alloc, &[0, 1], fronts, 16)?;
+    let mut follower = Follower::new_from(alloc, &[0, 1], fronts, SIXTEEN)?;
     follower.take(
         0,
         0,

@@ -2,7 +2,7 @@
 
 ghost use Rattle.std.specs.Prelude.{◌<◌, ◌^◌};
 
-use crate::tests::building::{key_of, value_of};
+use crate::tests::building::{SIXTEEN, key_of, value_of};
 use code_parts::expect;
 use follow::Follower;
 use journal::Handout;
@@ -101,7 +101,7 @@ fn blocks_are_followed(rt: HostRuntime) -> Result<(), Fail> {
     let mut pair = Pair {
         a: Vnode::new(alloc, 0),
         b: Vnode::new(alloc, 1),
-        follower: Follower::new(alloc, &[0, 1], 16)?,
+        follower: Follower::new(alloc, &[0, 1], SIXTEEN)?,
     };
     pair.rounds(alloc, &key, &content)?;
     expect(pair.has_taken(HANDED_OUT), &HANDED_OUT)

@@ -1,5 +1,6 @@
 //! What the tests start from.
 
+use follow::Recent;
 use object::{Bytes, Content, Key};
 use pool::Gate;
 use std::alloc::{AllocError, Global};
@@ -16,6 +17,13 @@ pub(super) fn value_of(alloc: Global, value: &[u8]) -> Result<Content, AllocErro
         bytes: Bytes::from_slice(alloc, value)?,
     })
 }
+
+/// Of the last 16 entries of each vnode answers are kept.
+pub(super) const SIXTEEN: Recent = Recent {
+    always: 16,
+    entries: 16,
+    bytes: 0,
+};
 
 /// A gate that holds no call.
 pub(super) struct Open;

@@ -5,7 +5,7 @@ use crate::tests::putting::THREE_BY_FOUR;
 use crate::tests::rounds::Rounders;
 use crate::tests::running::served;
 use code_parts::expect;
-use follow::Follower;
+use follow::{Follower, Recent};
 use journal::Entry;
 use object::Key;
 use std::alloc::Global;
@@ -25,7 +25,11 @@ const PIECES: usize = 16;
 const FOLLOWED: usize = 326 * PIECES * PIECE;
 
 /// A merge may name any of so many last entries of a vnode: a worker may be stopped for long.
-const RECENT: usize = 1 << 20;
+const RECENT: Recent = Recent {
+    always: 1 << 20,
+    entries: 1 << 20,
+    bytes: 0,
+};
 
 /// A stamp above all that are drawn.
 const LATE: u64 = 1 << 62;

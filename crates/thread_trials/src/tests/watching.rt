@@ -25,7 +25,7 @@ const ROUNDS: usize = 3_000;
 const TURNS: u64 = 400;
 
 /// Hears nothing.
-struct Silent;
+pub(super) struct Silent;
 
 impl Alarm for Silent {
     fn raise(&self, _notice: Notice) {}

@@ -1,9 +1,9 @@
-use Rattle.std.proofs.Common.{arith, ◌≡◌, ◌++◌, List, ap, sym, subst, ◌∙◌, refl}
+use Rattle.std.proofs.Common.{◌≡◌, ◌++◌, List, sym, subst, refl}
 use Rattle.std.specs.List.{flat_map}
 use Rattle.journal.specs.Logs.{Log}
 use Rattle.stamps.specs.declared.view.Told.{Told}
 use Rattle.stamps.specs.declared.view.View.{View}
-use Rattle.closing.specs.Following.{Watched, AreFronts}
+use Rattle.closing.specs.Following.{AreFronts}
 use Rattle.closing.proofs.Ends.{are_fronts, told_last}
 use Rattle.closing.proofs.ending.close_keeping.Goals as goal
 

@@ -1,4 +1,4 @@
-use Rattle.std.proofs.Common.{◌≡◌, ◌∙◌, List, ℕ, subst}
+use Rattle.std.proofs.Common.{List, ℕ, subst}
 use Rattle.rerun.specs.Runs.{IsRunFrom}
 use Rattle.closing.specs.Following.{IsLong}
 use Rattle.closing.proofs.Ends.{a_yes}

@@ -3,6 +3,7 @@ use Rattle.std.specs.Vec.{with_items}
 use Rattle.std.proofs.lemmas.Option.{slice_get_within}
 use Rattle.journal.specs.Logs.{Log}
 use Rattle.rerun.specs.Interleaved.{IsInterleaving}
+use Rattle.rerun.specs.declared.kept.Recent.{Recent}
 use Rattle.rerun.specs.Fronts.{HasRun}
 use Rattle.rerun.specs.Sorting.{left}
 use Rattle.rerun.specs.Turns.{AreHeads, Joins, NoneBelow, count_at}
@@ -50,7 +51,7 @@ loop-head-preserved c =
     record {
       run = subst (λ (cs : List ℕ). HasRun logs cs c.go_on.new.rerun.logs) (sym given) gone.run;
       going = gone.going;
-      all = subst (λ (n : ℕ). max_entries ≤ n) (sym gone.all) so_far.all;
+      all = subst (λ (r : Recent). max_entries ≤ r.always) (sym gone.all) so_far.all;
       fronts = gone.fronts ∙ so_far.fronts;
       heads = subst (λ (cs : List ℕ). AreHeads logs cs c.join.new.heads) (sym same) (heads_go_on logs counts (count_at counts head.index + 1) c.loop-head.heads c.next_of.new.heads c.join.new.heads head so_far.run.split.size so_far.heads told.2 joins);
     }

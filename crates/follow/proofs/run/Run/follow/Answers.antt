@@ -6,6 +6,7 @@ use Rattle.world.specs.Represents.{with_entry_at}
 use Rattle.follow.specs.Waiting.{AreTakenAlike, count_waiting}
 use Rattle.journal.specs.Stamps.{stamp_of}
 use Rattle.findings.specs.declared.fault.FollowFault.{FollowFault}
+use Rattle.rerun.specs.declared.kept.Recent.{Recent}
 use Rattle.rerun.specs.Runs.{IsRunFrom}
 use Rattle.rerun.specs.Wrong.{IsToldOf}
 use Rattle.follow.specs.Stops.{IsStop}
@@ -56,5 +57,5 @@ returns-in_err-step-clause-stop c =
       next = told.1;
       bound = subst (λ (e : Entry). stamp_of e < c.args.below) same head.2;
       told = subst (λ (ns : List ℕ). IsToldOf ns now.rerun.logs own.rerun.recent c.in-Some.index told.0 c.in_err-step.field-0.0) c.loop-index.invariant.fronts
-          (subst (λ (n : ℕ). IsToldOf now.rerun.fronts now.rerun.logs n c.in-Some.index told.0 c.in_err-step.field-0.0) c.loop-index.invariant.recent told.2);
+          (subst (λ (r : Recent). IsToldOf now.rerun.fronts now.rerun.logs r c.in-Some.index told.0 c.in_err-step.field-0.0) c.loop-index.invariant.recent told.2);
     })

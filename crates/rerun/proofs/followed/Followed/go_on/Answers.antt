@@ -1,4 +1,5 @@
 use Rattle.rerun.proofs.Opening.{on_any}
+use Rattle.rerun.proofs.Going.{held}
 use Rattle.rerun.proofs.Telling.{lacked}
 use Rattle.rerun.proofs.followed.Followed.go_on.Goals as goal
 
@@ -6,3 +7,8 @@ pub returns-in_default-clause-right : goal.returns-in_default-clause-right
 returns-in_default-clause-right c =
     let own = c.args.self.now in
     on_any c.step-gone.result _ (lacked own.fronts.items own.vnodes.items own.last own.recent own.answers.items c.args.index c.args.entry.now c.requires.run c.requires.above c.requires.place)
+
+pub returns-in_default-clause-held : goal.returns-in_default-clause-held
+returns-in_default-clause-held c =
+    let own = c.args.self.now in
+    on_any c.step-gone.result _ (held own.fronts.items own.vnodes.items own.last own.recent own.answers.items c.args.index c.args.entry.now c.requires.run c.requires.place)

@@ -6,8 +6,8 @@ use Rattle.world.specs.Represents.{log_at, with_entry_at}
 use Rattle.rerun.proofs.Sorting.{same_default}
 use Rattle.rerun.specs.Again.{answer_of}
 use Rattle.rerun.specs.declared.kept.Kept.{Kept}
-use Rattle.rerun.specs.Followed.{HasFollowed, kept_of}
-use Rattle.rerun.specs.Kept.{MayLack}
+use Rattle.rerun.specs.Followed.{HasFollowed}
+use Rattle.rerun.specs.Kept.{IsLeft}
 use Rattle.rerun.specs.Wrong.{IsNewest, IsToldOf}
 use Rattle.findings.specs.declared.fault.FollowFault.{FollowFault}
 use Rattle.findings.specs.declared.fault.FollowFault.TheVariants.{NoMemory}
@@ -32,7 +32,7 @@ returns-clause-run c =
     let list : c.index_mut-2.result.now ≡ get_or answers i [] = c.index_mut-2.ensures.value ∙ same_default answers i c.index_mut-2.result.now [] also in
     let follows : MayFollow (log_at logs i).vnode (log_at logs i).entries e = subst (λ (l : Log). MayFollow l.vnode l.entries e) vnode c.in-Ok.ensures.legal in
     let answer : Answers (log_at logs i).vnode (log_at logs i).entries e a = subst (λ (l : Log). Answers l.vnode l.entries e a) vnode c.in-Ok.ensures.answer in
-    let lack : MayLack recent (get_or answers i [] ++ c.in_ok-kept.kept ∷ []) c.keep.new.self = subst (λ (xs : List Kept). MayLack recent (xs ++ c.in_ok-kept.kept ∷ []) c.keep.new.self) list c.in_ok-keep.ensures in
+    let lack : IsLeft recent (get_or answers i [] ++ c.in_ok-kept.kept ∷ []) c.keep.new.self = subst (λ (xs : List Kept). IsLeft recent (xs ++ c.in_ok-kept.kept ∷ []) c.keep.new.self) list c.in_ok-keep.ensures in
     let kept_is = kept_by c.args.self.now.fronts.items logs i e a c.is_in_front-in_front.result c.in_ok-kept.kept c.is_in_front-in_front.ensures c.in_ok-kept.ensures in
     let vnodes : c.happen.new.vnode ≡ with_entry (log_at logs i) e = c.in-Ok.ensures.entry ∙ ap (λ (l : Log). with_entry l e) vnode in
     subst (λ (l : Log). HasFollowed c.args.self.now.fronts.items (set logs i l) (Some c.stamp.result) recent (set answers i c.keep.new.self)) (sym vnodes)

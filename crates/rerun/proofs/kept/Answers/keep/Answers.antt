@@ -1,7 +1,14 @@
-use Rattle.std.proofs.Common.{arith, sym}
-use Rattle.rerun.proofs.Keeping.{gives_up}
+use Rattle.std.proofs.Common.{◌≡◌, ◌+◌, List, length, replicate, arith, ap, sym, ◌∙◌, length-append}
+use Rattle.std.proofs.lemmas.List.{length-replicate}
+use Rattle.rerun.specs.declared.kept.Kept.{Kept}
+use Rattle.rerun.specs.declared.kept.Kept.TheVariants.{GivenUp}
+use Rattle.rerun.proofs.Keeping.{few_bytes}
 use Rattle.rerun.proofs.kept.Answers.keep.Goals as goal
 
-pub returns-then-len-recent : goal.returns-then-len-recent
-returns-then-len-recent c = gives_up c.args.recent c.self.inside.first c.args.self.now c.self.inside.here.items c.push_back.new.self.items c.pop_front.new.self.items c.args.kept (sym c.self.view_is) c.in_ok-push_back.ensures.items c.pop_front.ensures.rest
-    (omega (arith, c.len.ensures, c.push_back.new.self.ok.0, c.if-len-recent.true))
+pub overflow_add-self : goal.overflow_add-self
+overflow_add-self c =
+    let own = c.self.inside in
+    let few = few_bytes own.here.items in
+    let long : length c.args.self.now ≡ own.first + length own.here.items =
+    ap (λ (xs : List Kept). length xs) (sym c.self.view_is) ∙ length-append (replicate own.first GivenUp) own.here.items ∙ ap (λ n. n + length own.here.items) (length-replicate own.first GivenUp) in
+    omega (arith, c.self.invariant, few, long, c.requires.few, c.from-bytes.type_inv, c.bytes.type_inv, c.from-bytes.ensures)

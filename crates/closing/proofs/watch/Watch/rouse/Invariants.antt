@@ -1,0 +1,11 @@
+use Rattle.std.proofs.Common.{◌≡◌}
+use Rattle.closing.proofs.Taken.{RousesUpTo}
+use Rattle.closing.proofs.watch.Watch.rouse.Given as goal
+
+-- so many vnodes were roused, and nothing else has changed
+abbrev pub invariant-loop-index : goal.invariant-loop-index
+invariant-loop-index g l = record {
+  told : RousesUpTo l.index g.B.Spot.first l.initial.self-inside.follower l.initial.self-inside.pass.told l.self-inside.pass.told;
+  follower : l.self-inside.follower ≡ l.initial.self-inside.follower;
+  lost : l.self-inside.lost ≡ l.initial.self-inside.lost;
+}
