@@ -1,1 +1,3 @@
+mod SeatSent
 mod Sent
+mod Taking

@@ -1,42 +1,43 @@
-//! Workers on threads, and a thread that follows what they do.
+//! Workers on threads, and a thread that hands them connections and follows what they do.
 
-ghost use Rattle.std.specs.Prelude.{◌≡◌, ◌+◌, ◌*◌, ◌≤◌, List, IfOk, max, min, vec_len};
+ghost use Rattle.std.specs.Prelude.{◌≡◌, ◌+◌, ◌≤◌, List, IfOk, vec_len};
 ghost use Rattle.stamps.specs.declared.view.Told.{Told};
 ghost use Rattle.closing.specs.Following.{IsFollowedTo};
 
-use closing::{Alarm, Notice, Spot, Watch, close_watched};
+use crate::pace::Pace;
+use crate::reporter::{Aloud, Reporter};
+use closing::{Spot, Watch, close_watched};
 use findings::{Followed, WatchFault};
 use hooks::{HookChanges, Hooks};
-use httpfront::{Backend, Front};
-use listener::{Door, Entrance, NoConnection, Pace, PacedEntrance};
+use httpfront::Backend;
+use listener::{Lobby, Post, Timer};
 use place::Placement;
 use pool::{Cluster, Gate, Pass, Room};
 use quorum::Hooking;
+use sockets::{Orders, Stance, Worker};
 use std::alloc::{AllocError, Global};
-use std::io::{Eprint, Stderr};
+use std::io::Stderr;
 use std::sync::atomic::AtomicBool;
 use std::sync::atomic::Ordering::SeqCst;
 use std::sync::{Mutex, Wait};
 use std::thread;
-use std::thread::{Parker, Threads};
+use std::thread::Threads;
 use std::time::Duration;
 use store::Store;
+use troubles::{Noted, Trouble};
 use workers::PassPeers;
 
-/// How long the thread that follows rests between its turns, in milliseconds.
-const REST: u64 = 20;
+/// How long the thread that follows waits for a connection before it follows again, in milliseconds.
+const TICK: u64 = 20;
 
-/// So many stamps are followed in one turn.
-const PIECE: u64 = 4_096;
+/// So many stamps are followed in one turn. Connections that come meanwhile wait.
+const PIECE: u64 = 1_024;
 
-/// While so many entries wait to be followed, or more, workers rest before they read.
-const MOST_WAITING: usize = 100_000;
+/// How long a worker waits at the most for something to do, in milliseconds.
+const LONGEST_WAIT: u64 = 500;
 
-/// How long a worker rests before it looks again, in milliseconds.
-const NAP: u64 = 1;
-
-/// How long a worker rests at the most after it could take no connection, in milliseconds.
-const LONGEST_REST: u64 = 1_000;
+/// How long it does where it also accepts and follows, or reads nothing, in milliseconds.
+const NAP: u64 = 5;
 
 /// A gate that lets every call through.
 #[derive(Clone, Copy, Debug)]
@@ -55,6 +56,8 @@ pub struct Seat<B: Room, H> {
     pub hooking: Hooking<H>,
     /// Where keys stand among the vnodes.
     pub placement: Placement,
+    /// The place of its worker among the lobby's.
+    pub place: usize,
 }
 
 /// A follower, and where it tells what can't wait.
@@ -66,23 +69,21 @@ pub struct Lookout<B: Room + Spot> {
     pub err: Stderr,
 }
 
-/// What the workers share.
+/// What the workers and the thread that follows share.
 #[derive(Drop)]
 struct Shared<B: Room + Spot> {
     /// The follower of what they do.
     watch: Mutex<Watch<B>>,
     /// Where is told what can't wait.
     err: Stderr,
-    /// What the thread that follows rests on.
-    rest: Parker,
-    /// Whether so much waits to be followed that workers rest. It is being followed then.
+    /// Where is told what goes wrong while requests are answered.
+    reporter: Reporter,
+    /// Whether workers rest, so that what they did can be followed.
     is_behind: AtomicBool,
-    /// Whether a thread has begun that follows, so that no worker has to.
+    /// Whether a thread has begun that accepts and follows, so that no worker has to.
     is_followed: AtomicBool,
     /// Whether all workers have ended.
     over: AtomicBool,
-    /// Whether a worker lacked memory to read requests with.
-    lack: AtomicBool,
 }
 
 impl<B: Room + Spot> Shared<B> {
@@ -91,194 +92,189 @@ impl<B: Room + Spot> Shared<B> {
         Shared {
             watch: Mutex::new(watch),
             err,
-            rest: Parker::new(),
+            reporter: Reporter::new(err),
             is_behind: AtomicBool::new(false),
             is_followed: AtomicBool::new(false),
             over: AtomicBool::new(false),
-            lack: AtomicBool::new(false),
         }
     }
 }
 
-/// Tells notices on standard error.
-#[derive(Clone, Copy)]
-struct Aloud(Stderr);
-
-impl Alarm for Aloud {
-    fn raise(&self, notice: Notice) {
-        // A notice that can't be told is lost; a fault is told again at the end.
-        let _ = self.0.eprintln(notice);
-    }
-}
-
-/// The pace of a worker: it rests while the thread that follows is behind.
+/// Where workers work: the vnodes that they call, and what they share.
 #[derive(Drop)]
-struct Behind<'a, R: Wait> {
-    rt: &'a R,
-    is_behind: &'a AtomicBool,
-    /// What the worker rests on.
-    rest: Parker,
-}
-
-impl<R: Wait> Pace for Behind<'_, R> {
-    fn rest(&self) {
-        for _ in self.rt.forever() {
-            if !self.is_behind.load(SeqCst) {
-                break;
-            }
-            self.rest.park_timeout(self.rt, Duration::from_millis(NAP));
-        }
-    }
-}
-
-/// How a worker bears that no connection could be taken: it rests, longer each time in a row, and tells of the first.
-#[derive(Drop)]
-struct Patience<'a, R: Wait> {
-    rt: &'a R,
-    /// Where it tells.
-    err: Stderr,
-    /// What the worker rests on.
-    rest: Parker,
-    /// How long it rested last, in milliseconds; nothing where a connection came since.
-    millis: u64,
-}
-
-impl<R: Wait> Patience<'_, R> {
-    /// A connection came.
-    fn renew(&mut self) {
-        self.millis = 0;
-    }
-
-    /// None could be taken.
-    fn bear(&mut self) {
-        if self.millis == 0 {
-            // What can't be told is lost, and the worker goes on.
-            let _ = self
-                .err
-                .eprintln("no connection could be taken; trying again");
-        }
-        self.millis = next_rest(self.millis);
-        self.rest
-            .park_timeout(self.rt, Duration::from_millis(self.millis));
-    }
-}
-
-/// How long a worker rests after one more failure in a row, in milliseconds: 1, and twice as long each time, but never more than a second.
-fn next_rest(millis: u64) -> u64
-    ensures { result ≡ min (max (2 * millis) 1) 1000 }
-{
-    millis.saturating_mul(2).max(1).min(LONGEST_REST)
-}
-
-/// Follows so many stamps of what the vnodes of a cluster have handed out. Whether there is more to follow. Where that is much, workers
-/// rest until it is followed.
-fn take_turn<B: Room + Spot, R: Wait>(
+struct Floor<'a, B: Room + Spot> {
     alloc: Global,
+    cluster: &'a Cluster<B>,
+    lobby: &'a Lobby,
+    shared: &'a Shared<B>,
+    ghost first: { cluster.now.first ≡ B.first },
+}
+
+/// Has the vnodes hand out what they did, and follows so many stamps of it. Whether there is more to follow. Workers rest from then on,
+/// or no longer, as the pace says.
+fn follow<B: Room + Spot, R: Wait>(
     rt: &R,
-    cluster: &Cluster<B>,
-    shared: &Shared<B>,
+    floor: &Floor<'_, B>,
+    pace: &mut Pace,
     stamps: u64,
-) -> bool
-    requires first { cluster.now.first ≡ B.first }
-{
+) -> bool {
+    let shared = floor.shared;
     let alarm = Aloud(shared.err);
     let mut watch = shared.watch.lock(rt);
-    watch.hear_all(alloc, rt, cluster, &alarm);
+    watch.hear_all(floor.alloc, rt, floor.cluster, &alarm);
     let is_more = watch.follow_some(stamps, &alarm);
-    shared
-        .is_behind
-        .store(is_more && !watch.can_go_on(MOST_WAITING), SeqCst);
+    let rests = pace.look(&watch, is_more);
+    drop(watch);
+    if shared.is_behind.swap(rests, SeqCst) && !rests {
+        floor.lobby.roster.wake_all();
+    }
     is_more
 }
 
-/// Follows, turn by turn, until all workers have ended.
-fn follow_along<B: Room + Spot, R: Wait>(
-    alloc: Global,
-    rt: &R,
-    cluster: &Cluster<B>,
-    shared: &Shared<B>,
-)
-    requires first { cluster.now.first ≡ B.first }
-{
-    shared.is_followed.store(true, SeqCst);
+/// Hands out the connections that come, and follows what workers do, turn by turn, until all workers have ended.
+fn attend<B: Room + Spot, R: Wait>(rt: &R, floor: &Floor<'_, B>) {
+    floor.shared.is_followed.store(true, SeqCst);
+    let mut pace = Pace::new();
+    let mut is_more = false;
     for _ in rt.forever() {
-        if shared.over.load(SeqCst) {
+        if floor.shared.over.load(SeqCst) {
             break;
         }
-        if !take_turn(alloc, rt, cluster, shared, PIECE) {
-            shared.rest.park_timeout(rt, Duration::from_millis(REST));
-        }
+        let most = if is_more { 0 } else { TICK };
+        floor.lobby.accept(rt, Duration::from_millis(most));
+        is_more = follow(rt, floor, &mut pace, PIECE);
     }
 }
 
-/// Answers connections at an entrance, until no more may come. Where none can be had for a time it rests and goes on. After each connection
-/// it takes a turn to follow, where no thread does.
-fn answer_all<B: Room + Spot, K: Backend, R: Wait>(
-    alloc: Global,
+/// Tells what went wrong in a store, and how many connections ended for want of memory.
+fn tell<R: Wait>(rt: &R, reporter: &Reporter, noted: &Noted, lacks: u32, now: u64) {
+    reporter.tell(rt, Trouble::NoMemory, u64::from(lacks), None, now);
+    for note in noted.iter() {
+        let bucket = note.bucket.as_ref().map(|it| it.name());
+        reporter.tell(rt, note.trouble, note.count, bucket, now);
+    }
+}
+
+/// What a worker goes by from turn to turn.
+#[derive(Clone, Copy)]
+struct Shift {
+    timer: Timer,
+    pace: Pace,
+    /// Whether its next turn may be its last.
+    is_last: bool,
+}
+
+/// What a turn of a worker came to.
+#[derive(Clone, Copy)]
+struct Worked {
+    /// Whether it goes on.
+    goes_on: bool,
+    /// So many connections ended for want of memory.
+    lacks: u32,
+    /// When it began.
+    now: u64,
+}
+
+/// One turn of a worker over a store. It goes on until no more connections come and all have ended, or it is told to end at once. Where no
+/// thread has begun that accepts and follows, it does that, too.
+fn work_once<B: Room + Spot, K: Backend, R: Wait>(
     rt: &R,
-    cluster: &Cluster<B>,
-    entrance: &Entrance,
-    front: &mut Front,
+    floor: &Floor<'_, B>,
+    post: &Post,
+    worker: &mut Worker,
     store: &mut K,
-    shared: &Shared<B>,
-)
-    requires first { cluster.now.first ≡ B.first }
-{
-    let pace = Behind {
-        rt,
-        is_behind: &shared.is_behind,
-        rest: Parker::new(),
+    shift: &mut Shift,
+) -> Worked {
+    let ending = &floor.lobby.roster.ending;
+    let is_alone = !floor.shared.is_followed.load(SeqCst);
+    let orders = Orders {
+        now: shift.timer.now(),
+        may_read: !floor.shared.is_behind.load(SeqCst),
+        stance: ending.stance(),
     };
-    let mut patience = Patience {
-        rt,
-        err: shared.err,
-        rest: Parker::new(),
-        millis: 0,
-    };
-    let mut door = PacedEntrance::new(entrance, &pace);
-    for _ in rt.forever() {
-        match door.admit(front, store) {
-            // However the connection ended, the next one comes.
-            Ok(_) => patience.renew(),
-            Err(NoConnection::Failed) => patience.bear(),
-            Err(NoConnection::Closed) => break,
-        }
-        if !shared.is_followed.load(SeqCst) {
-            take_turn(alloc, rt, cluster, shared, u64::MAX);
-        }
+    let most = longest_wait(&orders, is_alone, shift.is_last);
+    let turned = worker.turn(rt, &post.inlet, store, &orders, most);
+    if post.is_to_shed() {
+        worker.shed();
+    }
+    if is_alone {
+        floor.lobby.accept(rt, Duration::ZERO);
+        follow(rt, floor, &mut shift.pace, u64::MAX);
+    }
+    let has_ended = orders.stance != Stance::Serving && turned.open == 0;
+    let goes_on = !ending.is_cut() && !(has_ended && shift.is_last);
+    if has_ended && goes_on {
+        // What was offered before is taken by one more turn.
+        post.inlet.end();
+        shift.is_last = true;
+    }
+    Worked {
+        goes_on,
+        lacks: turned.lacks,
+        now: orders.now,
     }
 }
 
-/// Answers connections at an entrance, until no more may come, over the vnodes of a cluster, which are called by the seat's pass.
-/// The pass is handed back. Without memory to read requests with none is answered, and that is noted.
+/// How long a worker waits at the most for something to do: not at all in its last turn, and not for long where it also accepts and
+/// follows, or rests.
+fn longest_wait(orders: &Orders, is_alone: bool, is_last: bool) -> Duration {
+    let millis = if is_last {
+        0
+    } else if is_alone || !orders.may_read {
+        NAP
+    } else {
+        LONGEST_WAIT
+    };
+    Duration::from_millis(millis)
+}
+
+/// Has the worker at the seat's place answer its connections until it ends, over the vnodes of the floor, which are called by the seat's
+/// pass. The pass is handed back.
 fn work<B: Room + Spot, H: Hooks + HookChanges + Drop, R: Wait>(
-    alloc: Global,
     rt: &R,
-    cluster: &Cluster<B>,
+    floor: &Floor<'_, B>,
     seat: Seat<B, H>,
-    entrance: &Entrance,
-    shared: &Shared<B>,
-) -> Pass<B>
-    requires first { cluster.now.first ≡ B.first }
-{
+) -> Pass<B> {
     let Seat {
         mut pass,
         hooking,
         placement,
+        place,
     } = seat;
-    let Ok(mut front) = Front::new(alloc) else {
-        shared.lack.store(true, SeqCst);
+    let Some(post) = floor.lobby.roster.posts.get(place) else {
         return pass;
     };
-    let peers = PassPeers::new(alloc, rt, cluster, &mut pass, &Open);
-    let mut store = Store::new(alloc, peers, hooking, placement);
-    answer_all(alloc, rt, cluster, entrance, &mut front, &mut store, shared);
+    let Some(mut worker) = post.take_worker(rt) else {
+        return pass;
+    };
+    post.inlet.begin();
+    let peers = PassPeers::new(floor.alloc, rt, floor.cluster, &mut pass, &Open);
+    let mut store = Store::new(floor.alloc, peers, hooking, placement);
+    let mut shift = Shift {
+        timer: Timer::new(),
+        pace: Pace::new(),
+        is_last: false,
+    };
+    for _ in rt.forever() {
+        let worked = work_once(rt, floor, post, &mut worker, &mut store, &mut shift);
+        tell(
+            rt,
+            &floor.shared.reporter,
+            &store.take_troubles(),
+            worked.lacks,
+            worked.now,
+        );
+        if !worked.goes_on {
+            break;
+        }
+    }
+    post.inlet.end();
     drop(store);
     pass
 }
 
-/// Has a worker for each seat answer connections at an entrance that all share, each on a thread of its own, or on the caller's where
-/// no thread can be made. That all have ended is noted.
+/// Has each seat's worker answer its connections, each on a thread of its own, or on the caller's where no thread can be made. That all
+/// have ended is noted.
 fn work_all<
     B: Room + Spot + Send + Sync,
     H: Hooks + HookChanges + Send + Drop,
@@ -288,7 +284,7 @@ fn work_all<
     rt: &R,
     cluster: &Cluster<B>,
     seats: Vec<Seat<B, H>>,
-    entrance: &Entrance,
+    lobby: &Lobby,
     shared: &Shared<B>,
 ) -> Result<Vec<Pass<B>>, AllocError>
     requires first { cluster.now.first ≡ B.first }
@@ -299,20 +295,29 @@ fn work_all<
         seats,
         &|seat: Seat<B, H>| -> Pass<B>
             requires { cluster.now.first ≡ B.first }
-        { work(alloc, rt, cluster, seat, entrance, shared) },
+        {
+            let floor = Floor {
+                alloc,
+                cluster,
+                lobby,
+                shared,
+            };
+            work(rt, &floor, seat)
+        },
     );
     shared.over.store(true, SeqCst);
-    shared.rest.unpark();
+    lobby.wake();
     back
 }
 
-/// Has a worker for each seat answer connections at an entrance that all share, and a thread of its own follow meanwhile what they do to
-/// the vnodes, whose journals are handed out for that; where no thread can be made for it, a worker follows after each of its connections.
-/// What can't wait is told on standard error, and the workers go on. Once all have ended, the cluster is gathered, and what is left of the journals
-/// is followed.
+/// Has the worker of each seat answer the connections that it is handed, while a thread of its own accepts them in a lobby and follows
+/// what the workers do to the vnodes, whose journals are handed out for that; where no thread can be made for it, workers do so after
+/// each of their turns. What can't wait is told on standard error, and the workers go on; what goes wrong while they answer is told
+/// there, too, at most once a second and kind. Once all have ended, the cluster is gathered, and what is left of the journals is
+/// followed.
 ///
-/// The fault is that of [`close_watched`]. `NoMemory` also where a growth was refused for the threads, or for what a worker reads requests with;
-/// some workers may have answered no connection then.
+/// The fault is that of [`close_watched`]. `NoMemory` also where a growth was refused for the threads; some workers may have answered no
+/// connection then.
 pub fn serve<
     B: Room + Spot + Send + Sync,
     H: Hooks + HookChanges + Send + Drop,
@@ -322,7 +327,7 @@ pub fn serve<
     rt: &R,
     cluster: Cluster<B>,
     seats: Vec<Seat<B, H>>,
-    entrance: &Entrance,
+    lobby: &Lobby,
     lookout: Lookout<B>,
 ) -> Followed
     requires first { cluster.first ≡ B.first }
@@ -335,20 +340,23 @@ pub fn serve<
         rt,
         ||
             requires { lent.now.first ≡ B.first }
-        { follow_along(alloc, rt, lent, both) },
+        {
+            let floor = Floor {
+                alloc,
+                cluster: lent,
+                lobby,
+                shared: both,
+            };
+            attend(rt, &floor)
+        },
         || -> Result<Vec<Pass<B>>, AllocError>
             requires { lent.now.first ≡ B.first }
             ensures { IfOk result (λ passes. vec_len passes ≡ vec_len seats) }
-        { work_all(alloc, rt, lent, seats, entrance, both) },
+        { work_all(alloc, rt, lent, seats, lobby, both) },
     );
-    let Shared { watch, lack, .. } = shared;
+    let Shared { watch, .. } = shared;
     match back {
-        Ok(passes) if !lack.load(SeqCst) => close_watched(
-            alloc,
-            cluster,
-            passes,
-            watch.into_inner(),
-        ),
-        _ => Err(WatchFault::NoMemory),
+        Ok(passes) => close_watched(alloc, cluster, passes, watch.into_inner()),
+        Err(AllocError) => Err(WatchFault::NoMemory),
     }
 }

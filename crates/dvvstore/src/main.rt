@@ -4,8 +4,12 @@
 mod crew;
 mod disk;
 mod network;
+mod pace;
+mod reporter;
 mod session;
 mod start;
+#[cfg(test)]
+mod tests;
 
 use crate::disk::Disk;
 use crate::network::Network;
@@ -60,6 +64,7 @@ fn main(rt: HostRuntime) -> io::Result<ExitCode> {
     let mut disk = Disk { rt: &rt, alloc };
     let mut network = Network {
         rt: &rt,
+        input: rt.stdin(),
         err: rt.stderr(),
     };
     match command_with_helpers(

@@ -3,11 +3,11 @@
 use crate::session;
 use crate::start::start_at;
 use commands::server::{Server, Unserved};
-use findings::Followed;
+use findings::{Followed, WatchFault};
 use helpers::Table;
-use listener::{Entrance, listen};
+use listener::{Setup, listen, open};
 use std::alloc::Global;
-use std::io::{Stderr, Write};
+use std::io::{ErrorKind, Stderr, Stdin, Write};
 use std::net::{Net, TcpListener, TcpStream};
 use std::rt::Clock;
 use std::sync::Wait;
@@ -17,10 +17,12 @@ use std::time::Duration;
 /// How many identifiers of vnodes a start has.
 const IDENTIFIERS: u32 = 65_536;
 
-/// The network of the system.
+/// The network of the system, and the streams on which who runs a server says and is told things.
 #[derive(Drop)]
 pub struct Network<'a, R> {
     pub rt: &'a R,
+    /// Where the server is told to stop.
+    pub input: Stdin,
     /// Where is told what can't wait.
     pub err: Stderr,
 }
@@ -67,9 +69,20 @@ impl<R: Clock + Threads + Wait + Net<Listener = TcpListener, Stream = TcpStream>
         if more.push(table).is_err() {
             return Err(Unserved::NoMemory);
         }
-        let listener = listen(self.rt, addr, out)?;
+        let setup = Setup {
+            listener: listen(self.rt, addr, out)?,
+            count,
+            input: self.input,
+            err: self.err,
+        };
+        let lobby = match open(alloc, self.rt, more.len(), setup) {
+            Ok(opened) => opened,
+            Err(error) if error.kind() == ErrorKind::OutOfMemory => {
+                return Ok(Err(WatchFault::NoMemory));
+            }
+            Err(_) => return Err(Unserved::Unreadable),
+        };
         let first = u32::from(self.begin()) * IDENTIFIERS;
-        let entrance = Entrance::new(listener, count);
-        Ok(session::serve(alloc, self.rt, first, more, &entrance, self.err))
+        Ok(session::serve(alloc, self.rt, first, more, &lobby, self.err))
     }
 }

@@ -1,8 +1,9 @@
 //! The store of several workers, from its opening to what is said of its journals.
 
-ghost use Rattle.std.specs.Prelude.{◌≡◌, ◌+◌, ◌<◌, ◌≤◌, ◌^◌, [], IfOk, vec_len};
+ghost use Rattle.std.specs.Prelude.{◌≡◌, ◌+◌, ◌<◌, ◌≤◌, ◌^◌, [], IfOk, map, reverse, vec_len};
 ghost use Rattle.shared_hooks.specs.Lists.{list_of};
 ghost use Rattle.stamps.specs.Rule.{newcomer};
+ghost use Rattle.dvvstore.specs.Crews.{AreAllPlaced};
 
 use crate::crew;
 use crate::crew::{Lookout, Seat};
@@ -11,7 +12,7 @@ use findings::{Followed, WatchFault};
 use fronts::Naming;
 use helpers::Table;
 use hooks::{HookChanges, Hooks};
-use listener::Entrance;
+use listener::Lobby;
 use place::Placement;
 use pool::{Cluster, Pass, Room};
 use quorum::Hooking;
@@ -30,15 +31,16 @@ const VNODES: u32 = 3;
 /// What is said where memory is refused for the store.
 const NO_MEMORY: Followed = Err(WatchFault::NoMemory);
 
-/// Opens vnodes numbered from the first identifier on, and hooks that may call the helpers of the tables, and has a worker for each table
-/// answer connections that come to an entrance, while what they do is followed; what can't wait is told on standard error. Answers what is said of the vnodes' journals then,
-/// `NoMemory` where memory was refused for any of it.
+/// Opens vnodes numbered from the first identifier on, and has as many workers of a lobby as there are tables of helpers answer the
+/// connections that they are handed there, each by hooks that may call the helpers of one of the tables, while what they do is followed;
+/// what can't wait is told on standard error. Answers what is said of the vnodes' journals then, `NoMemory` where memory was refused for
+/// any of it.
 pub fn serve<R: Threads + Wait + Sync>(
     alloc: Global,
     rt: &R,
     first: u32,
     tables: Vec<Table>,
-    entrance: &Entrance,
+    lobby: &Lobby,
     err: Stderr,
 ) -> Followed
     requires first { first + 3 ≤ 2 ^ 32 }
@@ -52,7 +54,7 @@ pub fn serve<R: Threads + Wait + Sync>(
     };
     match Stamps::new(alloc, &size) {
         Ok((stamps, card)) => over_stamps::<Brand, R>(
-            alloc, rt, first, stamps, card, tables, entrance, err,
+            alloc, rt, first, stamps, card, tables, lobby, err,
         ),
         Err(_) => NO_MEMORY,
     }
@@ -66,7 +68,7 @@ fn over_stamps<B: Room + Spot + Send + Sync, R: Threads + Wait + Sync>(
     stamps: Stamps,
     card: Card,
     tables: Vec<Table>,
-    entrance: &Entrance,
+    lobby: &Lobby,
     err: Stderr,
 ) -> Followed
     requires first { first + 3 ≤ 2 ^ 32 }
@@ -93,7 +95,7 @@ fn over_stamps<B: Room + Spot + Send + Sync, R: Threads + Wait + Sync>(
         passes,
         tables,
         Opening::new(),
-        entrance,
+        lobby,
         Lookout { watch, err },
     )
 }
@@ -106,7 +108,7 @@ fn over_cluster<B: Room + Spot + Send + Sync, J: Naming + Send + Sync, R: Thread
     passes: Vec<Pass<B>>,
     tables: Vec<Table>,
     opening: Opening,
-    entrance: &Entrance,
+    lobby: &Lobby,
     lookout: Lookout<B>,
 ) -> Followed
     requires list { list_of opening ≡ J.book }
@@ -117,9 +119,7 @@ fn over_cluster<B: Room + Spot + Send + Sync, J: Naming + Send + Sync, R: Thread
     requires spot { cluster.first ≡ B.first }
 {
     let ground = opening.named::<J>(alloc);
-    over_ground(
-        alloc, rt, cluster, passes, tables, ground, entrance, lookout,
-    )
+    over_ground(alloc, rt, cluster, passes, tables, ground, lobby, lookout)
 }
 
 /// The same, over what an installer of hooks begins with.
@@ -135,7 +135,7 @@ fn over_ground<
     passes: Vec<Pass<B>>,
     tables: Vec<Table>,
     ground: Ground<J, T>,
-    entrance: &Entrance,
+    lobby: &Lobby,
     lookout: Lookout<B>,
 ) -> Followed
     requires ground { (ground.front ≡ []) × (T.state ground.first ≡ []) × (T.state ground.second ≡ []) }
@@ -147,7 +147,7 @@ fn over_ground<
 {
     match open(alloc, rt, ground, tables.len()) {
         Ok((installer, readers)) => over_hooks(
-            alloc, rt, &rt, cluster, passes, tables, &installer, readers, entrance, lookout,
+            alloc, rt, &rt, cluster, passes, tables, &installer, readers, lobby, lookout,
         ),
         Err(_) => NO_MEMORY,
     }
@@ -170,7 +170,7 @@ fn over_hooks<
     tables: Vec<Table>,
     installer: &'a Mutex<Installer<J, T, &'r R>>,
     readers: Vec<HookReader<J, T>>,
-    entrance: &Entrance,
+    lobby: &Lobby,
     lookout: Lookout<B>,
 ) -> Followed
     requires each { vec_len passes ≡ vec_len tables }
@@ -179,12 +179,13 @@ fn over_hooks<
     requires spot { cluster.first ≡ B.first }
 {
     match seats_of(alloc, passes, tables, installer, handle, readers) {
-        Ok(seats) => { crew::serve(alloc, rt, cluster, seats, entrance, lookout) }
+        Ok(seats) => { crew::serve(alloc, rt, cluster, seats, lobby, lookout) }
         Err(_) => NO_MEMORY,
     }
 }
 
-/// A seat for each pass.
+/// A seat for each pass, with a table and a reader of hooks of its own: the last of those that are left. Keys stand where their digests
+/// say, at three vnodes.
 fn seats_of<'a, B: Room, J: Naming, T: Rack<J> + Drop, R: Wait + Drop>(
     alloc: Global,
     passes: Vec<Pass<B>>,
@@ -195,7 +196,11 @@ fn seats_of<'a, B: Room, J: Naming, T: Rack<J> + Drop, R: Wait + Drop>(
 ) -> Result<Vec<Seat<B, WorkerHooks<'a, J, T, R>>>, AllocError>
     requires each { vec_len passes ≡ vec_len tables }
     requires readers { vec_len readers ≡ vec_len tables }
-    ensures { IfOk result (λ seats. vec_len seats ≡ vec_len passes) }
+    ensures count { IfOk result (λ seats. vec_len seats ≡ vec_len passes) }
+    ensures passes { IfOk result (λ seats. map (λ s. s.pass) seats.items ≡ passes.items) }
+    ensures tables { IfOk result (λ seats. map (λ s. s.hooking.table) seats.items ≡ reverse tables.items) }
+    ensures readers { IfOk result (λ seats. map (λ s. s.hooking.hooks) seats.items ≡ reverse readers.items) }
+    ensures placed { IfOk result (λ seats. AreAllPlaced (map (λ s. s.placement) seats.items)) }
 {
     let mut seats = Vec::with_capacity(alloc, passes.len())?;
     for pass in passes {
@@ -207,6 +212,7 @@ fn seats_of<'a, B: Room, J: Naming, T: Rack<J> + Drop, R: Wait + Drop>(
             pass,
             hooking: Hooking::new(alloc, hooks, table),
             placement: Placement::by_digest(VNODES),
+            place: tables.len(),
         });
     }
     Ok(seats)

@@ -1,17 +1,18 @@
-//! The store behind a TCP socket: connections are answered one after the other, over the same vnodes and hooks, by one worker or by each
-//! of several that share the socket.
+//! The store behind a TCP socket: one thread takes the connections that come and hands them out to workers in turn, and hears when it is
+//! to stop.
 #![tactic(auto)]
 
-mod connection;
-mod door;
-mod guests;
-mod pace;
-mod shared;
+mod acceptor;
+mod console;
+mod ending;
+mod lobby;
+mod roster;
 mod start;
+mod timer;
 
-pub use connection::converse_over;
-pub use door::{Door, NoConnection};
-pub use guests::Guests;
-pub use pace::{Pace, PacedSource};
-pub use shared::{Entrance, PacedEntrance};
+pub use acceptor::{Acceptor, Setup};
+pub use ending::Ending;
+pub use lobby::{Lobby, open};
+pub use roster::{Post, Roster};
 pub use start::listen;
+pub use timer::Timer;

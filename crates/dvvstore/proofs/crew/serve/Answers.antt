@@ -5,17 +5,18 @@ use denote.Struct.Tuple.{TupleAt}
 use mir.Syntax.{Sym, erased}
 use mathlib.Core.List.{[], ◌∷◌}
 use Rattle.std.proofs.alloc.Global.TheSendSync as heap
+use Rattle.listener.proofs.Sent.{lobby_sync}
 use Rattle.pool.proofs.Sent.{cluster_sync}
 use Rattle.dvvstore.proofs.Sent.{shared_sync}
 use Rattle.dvvstore.proofs.crew.serve.Goals as goal
 
--- four captures
-captures_send : (ν : Sym) (A B C D : RattleType) → IsSend A → IsSend B → IsSend C → IsSend D → IsSend (TupleAt ν (A ∷ B ∷ C ∷ D ∷ []))
-captures_send ν A B C D a b c d = search (sendable) depth 30
+-- five captures
+captures_send : (ν : Sym) (A B C D E : RattleType) → IsSend A → IsSend B → IsSend C → IsSend D → IsSend E → IsSend (TupleAt ν (A ∷ B ∷ C ∷ D ∷ E ∷ []))
+captures_send ν A B C D E a b c d e = search (sendable) depth 30
 
 pub join-back-requires-send-F : goal.join-back-requires-send-F
 join-back-requires-send-F g c κs within =
     let cluster = cluster_sync (param 0 g.row.B) g.B.Room c.type_bounds.send-B c.type_bounds.sync-B in
     let shared = shared_sync (param 0 g.row.B) g.B.Room g.B.Spot c.type_bounds.send-B in
-    let captured = captures_send [] _ _ _ _ (shr_send erased [] _ heap.the_sync) (shr_send erased _ _ c.type_bounds.sync-R) (shr_send erased _ _ cluster) (shr_send erased _ _ shared) in
+    let captured = captures_send [] _ _ _ _ _ (shr_send erased [] _ heap.the_sync) (shr_send erased _ _ cluster) (shr_send erased _ _ lobby_sync) (shr_send erased _ _ shared) (shr_send erased _ _ c.type_bounds.sync-R) in
     record { owned = captured.owned; leaving = (param_send 1 _ captured).leaving }

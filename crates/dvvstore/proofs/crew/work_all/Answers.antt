@@ -1,12 +1,17 @@
 use denote.RattleType.{RattleType}
-use denote.Param.Send.{IsSync, sendable, shr_sync}
+use denote.Param.Send.{IsSync, sendable, shr_sync, arg_send, param_send}
+use denote.Exit.{no}
+use denote.Param.Object.{Vt, ghosts_of}
+use denote.Param.Callables.{held_fn}
 use denote.Param.{param}
 use denote.Struct.Tuple.{TupleAt}
 use mir.Syntax.{Sym, erased}
 use mathlib.Core.List.{[], ◌∷◌}
 use Rattle.std.proofs.alloc.Global.TheSendSync as heap
-use Rattle.listener.proofs.shared.Entrance.TheSendSync as entrance
+use Rattle.listener.proofs.Sent.{lobby_sync}
 use Rattle.dvvstore.proofs.Sent.{shared_sync}
+use Rattle.dvvstore.proofs.SeatSent.{seat_send}
+use Rattle.dvvstore.specs.contracts.crew.work_all as work_all
 use Rattle.pool.proofs.Sent.{cluster_sync}
 use Rattle.dvvstore.proofs.crew.work_all.Goals as goal
 
@@ -18,4 +23,10 @@ pub map_vec-back-requires-sync-F : goal.map_vec-back-requires-sync-F
 map_vec-back-requires-sync-F g c κs within =
     let cluster = cluster_sync (param 0 g.row.B) g.B.Room c.type_bounds.send-B c.type_bounds.sync-B in
     let shared = shared_sync (param 0 g.row.B) g.B.Room g.B.Spot c.type_bounds.send-B in
-    record { shared = (captures_sync [] _ _ _ _ _ (shr_sync erased [] _ heap.the_sync) (shr_sync erased _ _ c.type_bounds.sync-R) (shr_sync erased _ _ cluster) (shr_sync erased _ _ entrance.the_sync) (shr_sync erased _ _ shared)).shared }
+    record { shared = (captures_sync [] _ _ _ _ _ (shr_sync erased [] _ heap.the_sync) (shr_sync erased _ _ cluster) (shr_sync erased _ _ lobby_sync) (shr_sync erased _ _ shared) (shr_sync erased _ _ c.type_bounds.sync-R)).shared }
+
+pub map_vec-back-requires-send-J : goal.map_vec-back-requires-send-J
+map_vec-back-requires-send-J g c κs within =
+    let slots = work_all.dyn-1.slots g.row.B g.row.H g.row.R in
+    param_send 1 _ (arg_send _ no _ (seat_send (Vt slots g.dyn-1.0) (ghosts_of slots g.dyn-1.0 g.dyn-1.1) (held_fn g.dyn-1.0) (search sendable depth 10) g.dyn-1.2
+    (param 0 g.row.B) (param 1 g.row.H) g.B.Room c.type_bounds.send-B c.type_bounds.send-H))

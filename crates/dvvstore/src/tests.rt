@@ -1,0 +1,179 @@
+//! The program's own workers, over loopback.
+
+ghost use Rattle.std.specs.Prelude.{◌≡◌, IfOk, vec_len};
+
+use crate::session;
+use code_parts::expect;
+use helpers::Table;
+use listener::{Lobby, Setup, open};
+use mio::net::TcpListener;
+use std::alloc::{AllocError, Global};
+use std::io::{Read as _, Write as _};
+use std::net::{Ipv4Addr, Net, SocketAddr, TcpListener as StdListener, TcpStream};
+use std::test::Fail;
+use std::time::Duration;
+use std::{io, thread};
+
+/// How many clients there are, each with a connection of its own.
+const CLIENTS: usize = 3;
+
+/// Which client asks what, and what it is told.
+type Line = (usize, &'static [u8], &'static [u8]);
+
+/// What is asked by whom, and what the client is told, in order. The first identifier is 7 times 65,536.
+const TALK: [Line; 9] = [
+    (
+        0,
+        b"GET /buckets/b/keys/k HTTP/1.1\r\nHost: h\r\n\r\n",
+        b"HTTP/1.1 404 Not Found\r\nContent-Type: text/plain\r\nContent-Length: 10\r\n\r\nnot found\n",
+    ),
+    (
+        0,
+        b"PUT /buckets/b/keys/k HTTP/1.1\r\nHost: h\r\nContent-Type: text/plain\r\nContent-Length: 1\r\n\r\na",
+        b"HTTP/1.1 204 No Content\r\nX-Riak-Tag: 458752-1\r\n\r\n",
+    ),
+    (
+        1,
+        b"GET /buckets/b/keys/k HTTP/1.1\r\nHost: h\r\n\r\n",
+        b"HTTP/1.1 200 OK\r\nContent-Type: text/plain\r\nX-Riak-Vclock: AgABAAAHAAAAAAAAAAE=\r\nContent-Length: 1\r\n\r\na",
+    ),
+    // A hook that rejects is installed and bound by one, and is in force for the others.
+    (
+        0,
+        b"PUT /hooks/no HTTP/1.1\r\nHost: h\r\nContent-Length: 32\r\n\r\nRBPF\x01\x01\x00\x00\x80\x00\x00\x00\x00\x00\x00\x00\xb7\x00\x00\x00\x01\x01\x00\x00\x95\x00\x00\x00\x00\x00\x00\x00",
+        b"HTTP/1.1 204 No Content\r\n\r\n",
+    ),
+    (
+        0,
+        b"PUT /buckets/b/props HTTP/1.1\r\nHost: h\r\nContent-Length: 28\r\n\r\n{\"props\":{\"precommit\":\"no\"}}",
+        b"HTTP/1.1 204 No Content\r\n\r\n",
+    ),
+    (
+        1,
+        b"PUT /buckets/b/keys/k HTTP/1.1\r\nHost: h\r\nContent-Length: 1\r\n\r\nb",
+        b"HTTP/1.1 403 Forbidden\r\nContent-Type: text/plain\r\nContent-Length: 5\r\n\r\nX3 1\n",
+    ),
+    // What each stores, another reads.
+    (
+        1,
+        b"PUT /buckets/c/keys/k HTTP/1.1\r\nHost: h\r\nContent-Type: text/plain\r\nContent-Length: 1\r\n\r\nc",
+        b"HTTP/1.1 204 No Content\r\nX-Riak-Tag: 458752-1\r\n\r\n",
+    ),
+    (
+        2,
+        b"GET /buckets/c/keys/k HTTP/1.1\r\nHost: h\r\n\r\n",
+        b"HTTP/1.1 200 OK\r\nContent-Type: text/plain\r\nX-Riak-Vclock: AgABAAAHAAAAAAAAAAE=\r\nContent-Length: 1\r\n\r\nc",
+    ),
+    (
+        2,
+        b"PUT /buckets/d/keys/k HTTP/1.1\r\nHost: h\r\nConnection: close\r\nContent-Length: 1\r\n\r\nd",
+        b"HTTP/1.1 204 No Content\r\nX-Riak-Tag: 458753-1\r\nConnection: close\r\n\r\n",
+    ),
+];
+
+/// So many seconds an answer is waited for.
+const PATIENCE: u64 = 10;
+
+/// Whether a client that asks this is told that.
+fn is_told(client: &mut TcpStream, asked: &[u8], told: &[u8]) -> io::Result<bool> {
+    let mut answer = [0u8; 256];
+    let Some(answer) = answer.get_mut(..told.len()) else {
+        return Ok(false);
+    };
+    client.write_all(asked)?;
+    client.read_exact(answer)?;
+    Ok(&*answer == told)
+}
+
+/// Clients that have connected.
+fn clients_of<R: Net<Listener = StdListener, Stream = TcpStream>>(
+    alloc: Global,
+    rt: &R,
+    addr: SocketAddr,
+) -> io::Result<Vec<TcpStream>> {
+    let mut clients = Vec::new(alloc);
+    for _ in 0..CLIENTS {
+        let client = TcpStream::connect(rt, addr)?;
+        client.set_read_timeout(Some(Duration::from_secs(PATIENCE)))?;
+        clients.push(client)?;
+    }
+    Ok(clients)
+}
+
+/// How many lines of the talk the clients are told as they should be.
+fn talk(clients: &mut [TcpStream]) -> io::Result<usize> {
+    for (place, (who, asked, told)) in TALK.iter().enumerate() {
+        let Some(client) = clients.get_mut(*who) else {
+            return Ok(place);
+        };
+        if !is_told(client, asked, told)? {
+            return Ok(place);
+        }
+    }
+    Ok(TALK.len())
+}
+
+/// How many lines of the talk clients are told as they should be that connect there, and, where they leave only once the server hung up,
+/// how many of them see that it did. The server is told to stop where it doesn't count connections.
+fn visit<R: Net<Listener = StdListener, Stream = TcpStream>>(
+    alloc: Global,
+    rt: &R,
+    addr: SocketAddr,
+    lobby: &Lobby,
+    counts: bool,
+) -> io::Result<(usize, usize)> {
+    let mut clients = clients_of(alloc, rt, addr)?;
+    let lines = talk(&mut clients)?;
+    if counts {
+        return Ok((lines, CLIENTS));
+    }
+    lobby.stop();
+    let mut ended = 0usize;
+    for client in &mut clients {
+        if client.read(&mut [0u8; 1])? == 0 {
+            ended = ended.saturating_add(1);
+        }
+    }
+    Ok((lines, ended))
+}
+
+/// The tables of two workers, without a helper of their own.
+fn two_tables(alloc: Global) -> Result<Vec<Table>, AllocError>
+    ensures { IfOk result (λ tables. vec_len tables ≡ 2) }
+{
+    let mut tables = Vec::new(alloc);
+    tables.push(Table::new(alloc))?;
+    tables.push(Table::new(alloc))?;
+    Ok(tables)
+}
+
+/// Two workers answer three clients, each over what all do, and it is said of the journals that they are one run: where three connections
+/// may come, once these have ended, and where any number may, once the server is told to stop.
+#[test]
+fn two_workers(rt: HostRuntime) -> Result<(), Fail> {
+    for count in [Some(CLIENTS as u32), None] {
+        let alloc = rt.alloc();
+        let listener = TcpListener::bind(&rt, SocketAddr::from((Ipv4Addr::LOCALHOST, 0)))?;
+        let addr = listener.local_addr()?;
+        let setup = Setup {
+            listener,
+            count,
+            input: rt.stdin(),
+            err: rt.stderr(),
+        };
+        let lobby = open(alloc, &rt, 2, setup)?;
+        let tables = two_tables(alloc)?;
+        let (lent, hall) = (&rt, &lobby);
+        let err = rt.stderr();
+        let (answered, said) = thread::join(
+            lent,
+            || { visit(alloc, lent, addr, hall, count.is_some()) },
+            ||
+                requires { vec_len tables ≡ 2 }
+            { session::serve(alloc, lent, 458_752, tables, hall, err) },
+        );
+        expect(answered? == (TALK.len(), CLIENTS), &458_752)?;
+        expect(said == Ok(()), &said)?;
+    }
+    Ok(())
+}

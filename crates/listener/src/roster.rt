@@ -1,0 +1,119 @@
+//! The workers, as the thread that accepts sees them.
+
+ghost use Rattle.std.specs.Prelude.{◌≡◌};
+
+use crate::ending::Ending;
+use mio::net::TcpStream;
+use sockets::{Inlet, Worker};
+use std::sync::atomic::AtomicBool;
+use std::sync::atomic::Ordering::SeqCst;
+use std::sync::{Mutex, Wait};
+
+/// A worker, until a thread takes it, and where it is told what others want of it.
+#[derive(Drop)]
+pub struct Post {
+    worker: Mutex<Option<Worker>>,
+    /// Where its connections come.
+    pub inlet: Inlet,
+    is_to_shed: AtomicBool,
+}
+
+impl Post {
+    /// The post of a worker with this inlet.
+    pub(crate) fn new(worker: Worker, inlet: Inlet) -> Post {
+        Post {
+            worker: Mutex::new(Some(worker)),
+            inlet,
+            is_to_shed: AtomicBool::new(false),
+        }
+    }
+
+    /// Hands the worker over to the thread that is to run it: the first that asks.
+    pub fn take_worker<R: Wait>(&self, rt: &R) -> Option<Worker> {
+        self.worker.lock(rt).take()
+    }
+
+    /// Whether the worker was asked, since it last looked, to let its longest idle connection go.
+    pub fn is_to_shed(&self) -> bool {
+        self.is_to_shed.swap(false, SeqCst)
+    }
+
+    // Asks it to.
+    fn ask_to_shed(&self) {
+        self.is_to_shed.store(true, SeqCst);
+        self.inlet.wake();
+    }
+}
+
+/// The workers' posts, and how far the end has come.
+#[derive(Drop)]
+pub struct Roster {
+    /// The posts, in the order of their places.
+    pub posts: Vec<Post>,
+    /// How far the end has come.
+    pub ending: Ending,
+}
+
+impl Roster {
+    /// Workers with these posts.
+    pub(crate) fn new(posts: Vec<Post>) -> Roster
+        ensures { result.posts ≡ posts }
+    {
+        Roster {
+            posts,
+            ending: Ending::new(),
+        }
+    }
+
+    /// Has all workers look up from their waits.
+    pub fn wake_all(&self) {
+        for post in &self.posts {
+            post.inlet.wake();
+        }
+    }
+
+    /// Tells all workers to stop: in order, the first time, and the second time at once.
+    pub(crate) fn stop(&self) {
+        self.ending.stop();
+        self.wake_all();
+    }
+
+    /// Tells all workers that no more connections come.
+    pub(crate) fn finish(&self) {
+        self.ending.finish();
+        self.wake_all();
+    }
+
+    /// Hands a connection to the first worker from a place on that takes it. It comes back where none does, as where none has begun.
+    pub(crate) fn hand<R: Wait>(
+        &self,
+        rt: &R,
+        turn: &mut usize,
+        mut stream: TcpStream,
+    ) -> Result<(), TcpStream> {
+        for _ in 0..self.posts.len() {
+            let Some(post) = self.next(turn) else {
+                break;
+            };
+            match post.inlet.offer(rt, stream) {
+                Ok(()) => return Ok(()),
+                Err(back) => stream = back,
+            }
+        }
+        Err(stream)
+    }
+
+    /// Asks the next worker to let its longest idle connection go.
+    pub(crate) fn shed(&self, turn: &mut usize) {
+        if let Some(post) = self.next(turn) {
+            post.ask_to_shed();
+        }
+    }
+
+    // The post whose turn it is, and whose it is then.
+    fn next(&self, turn: &mut usize) -> Option<&Post> {
+        let place = if *turn < self.posts.len() { *turn } else { 0 };
+        *turn = place.saturating_add(1);
+        self.posts.get(place)
+    }
+}
