@@ -140,29 +140,63 @@ fn time_run(
     Ok((least, done.answer))
 }
 
-/// Times the verifier on the bytes of an image, and the run of the program that they were let in as, on an input that has room in its window.
-pub fn time_both(
+/// Times the run on an input that has room in the window, and tells what it came to.
+fn time_on_input(
     clock: &impl Clock,
     alloc: Global,
-    table: &Table,
-    bytes: &[u8],
     verified: &Verified,
+    table: &Table,
     input: &[u8],
     turns: u32,
-) -> io::Result<Figures>
+) -> io::Result<(Least, u64)>
     requires agrees { AgreesWith table.now.listed verified.now.sigs }
     requires fits { length input.now ≤ verified.now.in_len }
 {
     let image = verified.image();
     let window = padded(alloc, input, image.in_len as usize)?;
     let mut output = vec![in alloc; 0u8; image.out_len as usize]?;
-    let slots = image.code.len() as u32;
-    let verifying = time_verify(clock, alloc, table, bytes, slots, turns)?;
     let used = input.len() as u32;
-    let (running, answer) = time_run(clock, verified, table, &window, used, &mut output, turns)?;
+    time_run(clock, verified, table, &window, used, &mut output, turns)
+}
+
+/// Times the run and the verifier, from the image's bytes on, of a program that was let in, on an input that has room in its window.
+fn time_both(
+    clock: &impl Clock,
+    alloc: Global,
+    verified: &Verified,
+    table: &Table,
+    bytes: &[u8],
+    input: &[u8],
+    turns: u32,
+) -> io::Result<Figures>
+    requires agrees { AgreesWith table.now.listed verified.now.sigs }
+    requires fits { length input.now ≤ verified.now.in_len }
+{
+    let slots = verified.image().code.len() as u32;
+    let verifying = time_verify(clock, alloc, table, bytes, slots, turns)?;
+    let (running, answer) = time_on_input(clock, alloc, verified, table, input, turns)?;
     Ok(Figures {
         verifying,
         running,
         answer,
     })
+}
+
+/// Times the verifier and the run of an image on an input; nothing where the image calls a helper of a table or is not let in otherwise, or where
+/// the input has no room.
+pub fn figures_of(
+    clock: &impl Clock,
+    alloc: Global,
+    bytes: &[u8],
+    input: &[u8],
+    turns: u32,
+) -> io::Result<Option<Figures>> {
+    let table = Table::new(alloc);
+    match admit_program(alloc, bytes, &table.listed) {
+        Ok(verified)
+            if table.agrees(verified.sigs()) && input.len() <= verified.image().in_len as usize => {
+            time_both(clock, alloc, &verified, &table, bytes, input, turns).map(Some)
+        }
+        _ => Ok(None),
+    }
 }

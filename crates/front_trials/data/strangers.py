@@ -3,10 +3,10 @@
 
     strangers.py DVVSTORE [CONNECTIONS]
 
-It starts `DVVSTORE serve` with four workers. Three clients are stuck at a time, which have a worker each: one sends nothing, half a head or half a
+It starts `DVVSTORE serve` with four workers. Three clients are stuck at a time: each sends nothing, half a head or half a
 body, or reads nothing of its answers. Meanwhile another client writes and reads, and its slowest answer is told. The stuck ones leave, and so
 many connections (10,000) are opened and left in five ways, twice: what the server then has in open files and in memory (resident, in MB) is told
-before, between and behind. At last one client of each kind that sends too little stays until the server gives it up, which takes 60 to 80 seconds.
+before, between and behind. At last one client of each kind that sends half of something stays until the server gives it up, which takes 60 to 65 seconds.
 The status is 0 where each answer was right and came within a second, no open file was left, and the second round took less than 1 MB.
 """
 import http.client
@@ -152,15 +152,15 @@ def left_behind(server, files, connections):
 
 
 def given_up(server):
-    """Whether clients that send too little are given up after 60 to 80 seconds."""
+    """Whether clients that send half of something are given up after 60 to 65 seconds."""
     start = time.monotonic()
-    clients = [stuck(server) for name, stuck in STUCK.items() if name.startswith("sends")]
+    clients = [stuck(server) for name, stuck in STUCK.items() if name.startswith("sends half")]
     for client in clients:
         read_out(client)
         client.close()
     took = time.monotonic() - start
-    print(f"three clients that send too little were given up after {took:.0f} seconds")
-    return 55 < took < 85
+    print(f"{len(clients)} clients that send half of something were given up after {took:.0f} seconds")
+    return 60 <= took < 65
 
 
 def main(program, connections="10000"):
@@ -168,6 +168,7 @@ def main(program, connections="10000"):
     try:
         put_big(server)
         slowest(server, ROUNDS)
+        time.sleep(2)
         files = server.files()
         goes = beside_stuck(server)
         goes = left_behind(server, files, int(connections)) and goes

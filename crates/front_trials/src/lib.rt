@@ -1,4 +1,4 @@
-//! Tests of the HTTP front over sources and sinks in memory, and of the listener.
+//! Tests of the HTTP front over sources and sinks in memory, and of halls.
 #![tactic(auto)]
 
 #[cfg(test)]

@@ -4,7 +4,6 @@ mod commanding;
 mod connections;
 mod halls;
 mod interrupted;
-mod listening;
 mod noting;
 mod opening;
 mod rows;

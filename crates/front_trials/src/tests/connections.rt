@@ -51,15 +51,26 @@ fn writes_of(
 /// The most bytes in a piece.
 const STEPS: [usize; 5] = [1, 2, 3, 61, 200];
 
-/// The rows are answered in each of these sizes of pieces by one front, and then together by one write.
+/// The requests are answered in each of these sizes of pieces by one front, and then together by one write.
+fn in_steps(
+    alloc: Global,
+    front: &mut Front,
+    asked: &[u8],
+    told: &[u8],
+    requests: usize,
+) -> Result<(), Fail> {
+    for step in STEPS {
+        writes_of(alloc, front, asked, told, requests, step)?;
+    }
+    let writes = writes_of(alloc, front, asked, told, requests, usize::MAX)?;
+    expect(writes == 1, &writes)
+}
+
+/// The same of the requests of some rows.
 fn in_pieces(alloc: Global, rows: &[Row]) -> Result<(), Fail> {
     let (asked, told) = bytes_of(alloc, rows)?;
     let mut front = Front::new(alloc)?;
-    for step in STEPS {
-        writes_of(alloc, &mut front, &asked, &told, rows.len(), step)?;
-    }
-    let writes = writes_of(alloc, &mut front, &asked, &told, rows.len(), usize::MAX)?;
-    expect(writes == 1, &writes)
+    in_steps(alloc, &mut front, &asked, &told, rows.len())
 }
 
 #[test]
@@ -70,20 +81,31 @@ fn pieces_of_each_size(rt: HostRuntime) -> Result<(), Fail> {
 }
 
 /// A client that closes after any byte of a request gets the answers to those before it, by one front.
-fn close_after_each(alloc: Global, rows: &[Row]) -> Result<(), Fail> {
-    let (asked, told) = bytes_of(alloc, rows)?;
-    let mut front = Front::new(alloc)?;
+fn close_in_each(
+    alloc: Global,
+    front: &mut Front,
+    asked: &[u8],
+    told: &[u8],
+    rows: &[Row],
+) -> Result<(), Fail> {
     let (mut first, mut told_before) = (0usize, 0usize);
     for (number, (request, answer)) in rows.iter().enumerate() {
         let last = first.saturating_add(request.len());
+        let told = cut(told, told_before);
         for end in first..last {
-            let (asked, told) = (cut(&asked, end), cut(&told, told_before));
-            writes_of(alloc, &mut front, asked, told, number, usize::MAX)?;
+            writes_of(alloc, front, cut(asked, end), told, number, usize::MAX)?;
         }
         first = last;
         told_before = told_before.saturating_add(answer.len());
     }
     Ok(())
+}
+
+/// The same of the requests of some rows.
+fn close_after_each(alloc: Global, rows: &[Row]) -> Result<(), Fail> {
+    let (asked, told) = bytes_of(alloc, rows)?;
+    let mut front = Front::new(alloc)?;
+    close_in_each(alloc, &mut front, &asked, &told, rows)
 }
 
 /// So many first bytes.
@@ -134,15 +156,26 @@ fn has_ended(
 }
 
 /// At how many calls a device may fail until the connection has ended before.
-fn calls_that_fail(alloc: Global, rows: &[Row], device: Device) -> Result<u64, Fail> {
-    let (asked, told) = bytes_of(alloc, rows)?;
-    let mut front = Front::new(alloc)?;
+fn first_without_failure(
+    alloc: Global,
+    front: &mut Front,
+    asked: &[u8],
+    told: &[u8],
+    device: Device,
+) -> Result<u64, Fail> {
     for call in 0..1_000 {
-        if has_ended(alloc, &mut front, &asked, &told, device, call)? {
+        if has_ended(alloc, front, asked, told, device, call)? {
             return Ok(call);
         }
     }
     Err(Fail::new("no end"))
+}
+
+/// The same of the requests of some rows.
+fn calls_that_fail(alloc: Global, rows: &[Row], device: Device) -> Result<u64, Fail> {
+    let (asked, told) = bytes_of(alloc, rows)?;
+    let mut front = Front::new(alloc)?;
+    first_without_failure(alloc, &mut front, &asked, &told, device)
 }
 
 /// Whichever read or write fails, that is told, and a front of the answers was written. 625 bytes that come seven at a time are 90 reads and one

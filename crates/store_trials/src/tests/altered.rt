@@ -2,10 +2,12 @@
 
 ghost use Rattle.std.specs.Prelude.{[]};
 
+use crate::parts::altering::{Alteration, Altered, alter};
+use crate::parts::building::three_losing;
+use crate::parts::judging::{Told, judge};
 use crate::tests::late::deliver_late;
 use crate::tests::operations::{Operation, operate_losing};
 use audit::AuditCode;
-use audit_parts::{Alteration, Altered, Told, alter, judge};
 use bpfimage::ImageKind;
 use code_parts::expect;
 use events::{Images, NoHook, parse};
@@ -13,7 +15,6 @@ use helpers::Table;
 use local::Local;
 use std::alloc::Global;
 use std::test::Fail;
-use trial_parts::building::three_losing;
 use verifier::Verified;
 use vnode::Vnode;
 use world::World;

@@ -1,9 +1,10 @@
 //! What is told of journals: of some that are one run nothing, and of others where they are none.
 
+use crate::parts::building::key_of;
+use crate::parts::judging::{Told, judge};
 use crate::tests::audits::Step::{Merge, Put, Read, Restart};
 use crate::tests::verdicts::shown_content;
 use audit::AuditCode;
-use audit_parts::{Told, judge};
 use code_parts::expect;
 use journal::{Entry, Journal};
 use object::{Key, KeyState};
@@ -11,7 +12,6 @@ use peers::Answer;
 use std::alloc::{AllocError, Global};
 use std::mem::swap;
 use std::test::Fail;
-use trial_parts::building::key_of;
 use vnode::Vnode;
 
 /// What happens at a vnode. What reads answer is kept, and named by its number from 1 on; 0 is the answer of none, which found nothing.

@@ -1,5 +1,6 @@
 //! Exchanges: what is brought to the other side, and what is sent for it.
 
+use crate::parts::building::{key_of, lengths, put_alone, vnodes_of};
 use crate::tests::watched::Watched;
 use code_parts::expect;
 use local::Local;
@@ -7,7 +8,6 @@ use peers::Peers;
 use repair::exchange;
 use std::alloc::Global;
 use std::test::Fail;
-use trial_parts::building::{key_of, lengths, put_alone, vnodes_of};
 
 /// Key `o` is at vnode 0 and `t` at vnode 1, and of key `b` each has a value that has not seen the other.
 const APART: &[(usize, u8)] = &[(0, b'o'), (1, b't'), (0, b'b'), (1, b'b')];

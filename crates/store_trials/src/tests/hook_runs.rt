@@ -1,5 +1,9 @@
 //! A hook whose helper a table lacks, and a resolver beside a put.
 
+use crate::parts::building::{content_of, key_of, lengths, put_alone, shows, three_losing};
+use crate::parts::calling::{put, resolve_hooked, two_siblings};
+use crate::parts::hooking::{program, registry_of};
+use crate::parts::programs::{CALLS_64, PRE_COMMIT, RESOLVER, answer, hook};
 use bpfimage::ImageKind;
 use code_parts::expect;
 use dvv::{Clock, Dot};
@@ -10,10 +14,6 @@ use quorum::{Hooking, QuorumFault, ResolveFault, Resolved};
 use std::alloc::{AllocError, Global};
 use std::sync::Arc;
 use std::test::Fail;
-use trial_parts::building::{content_of, key_of, lengths, put_alone, shows, three_losing};
-use trial_parts::calling::{put, resolve_hooked, two_siblings};
-use trial_parts::hooking::{program, registry_of};
-use trial_parts::programs::{CALLS_64, PRE_COMMIT, RESOLVER, answer, hook};
 
 /// A table with the helper 64, which answers 256: the refusal 0 of a pre-commit hook.
 fn table_of_64(alloc: Global) -> Result<Table, Fail> {

@@ -1,6 +1,6 @@
 //! Copies of what was read that come late.
 
-use audit_parts::{Alteration, Altered, alter, repeat};
+use crate::parts::altering::{Alteration, Altered, alter, repeat};
 use journal::{Entry, Journal, Said};
 use local::Local;
 use object::KeyState;

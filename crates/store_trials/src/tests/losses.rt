@@ -1,15 +1,15 @@
 //! Each call and each answer of an operation is lost in turn.
 
+use crate::parts::building::three_losing;
+use crate::parts::judging::{Told, judge};
 use crate::tests::late::deliver_late;
 use crate::tests::operations::{Operation, operate_losing};
 use crate::tests::shown::all_are_kept;
-use audit_parts::{Told, judge};
 use code_parts::expect;
 use local::Local;
 use quorum::QuorumFault;
 use std::alloc::Global;
 use std::test::Fail;
-use trial_parts::building::three_losing;
 use vnode::VnodeFault;
 
 /// What an operation comes to of which something was lost: why it was refused, and how many calls have failed by its end; whether at its

@@ -1,5 +1,7 @@
 //! What the tests lose calls of, over three vnodes, and the puts that come before and are acknowledged.
 
+use crate::parts::building::{clock_of, key_of};
+use crate::parts::calling::{get, put_value};
 use dvv::Dot;
 use local::Local;
 use object::{Key, KeyState};
@@ -8,8 +10,6 @@ use quorum::QuorumFault;
 use repair::{exchange, repair};
 use std::alloc::{AllocError, Global};
 use std::test::Fail;
-use trial_parts::building::{clock_of, key_of};
-use trial_parts::calling::{get, put_value};
 
 /// What is done over the vnodes, once they are ready for it.
 #[derive(Clone, Copy)]

@@ -3,6 +3,8 @@
 ghost use Rattle.std.specs.Prelude.{◌∷◌, ◌<◌, ◌^◌, length};
 ghost use Rattle.place.specs.Places.{AreDifferent};
 
+use crate::parts::building::{clock_of, key_of, lengths, shows, three_losing, vnodes_of};
+use crate::parts::calling::{get, put_value};
 use code_parts::expect;
 use dvv::Dot;
 use local::Local;
@@ -11,8 +13,6 @@ use peers::Peers;
 use quorum::QuorumFault;
 use std::alloc::Global;
 use std::test::Fail;
-use trial_parts::building::{clock_of, key_of, lengths, shows, three_losing, vnodes_of};
-use trial_parts::calling::{get, put_value};
 use vnode::VnodeFault;
 
 /// What a put answers.

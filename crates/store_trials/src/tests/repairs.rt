@@ -1,5 +1,7 @@
 //! Gets and read repair behind puts of which calls or answers are lost.
 
+use crate::parts::building::{is_value, key_of, lengths, shows, three_losing};
+use crate::parts::calling::put_value;
 use crate::tests::operations::get_and_repair;
 use code_parts::expect;
 use dvv::{Clock, Dot};
@@ -8,8 +10,6 @@ use object::Key;
 use quorum::QuorumFault;
 use std::alloc::Global;
 use std::test::Fail;
-use trial_parts::building::{is_value, key_of, lengths, shows, three_losing};
-use trial_parts::calling::put_value;
 
 /// A put at vnode 0: which of its calls are lost and of which the answers are, what it answers, whether the get after it finds it and how
 /// many vnodes the repair after that reaches, and the journals' lengths after the put and after the repair.

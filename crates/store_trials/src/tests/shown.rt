@@ -1,5 +1,6 @@
 //! What vnodes show, by the writes that they know.
 
+use crate::parts::building::key_of;
 use crate::tests::operations::Stored;
 use dvv::{Clock, Dot};
 use journal::{Entry, Journal, Said};
@@ -8,7 +9,6 @@ use object::{Content, Key, KeyState, Sibling};
 use peers::Peers;
 use std::alloc::Global;
 use std::test::Fail;
-use trial_parts::building::key_of;
 use vnode::Vnode;
 
 /// Whether each of these puts has its copies, and no vnode shows of their keys what a write that it knows had seen.

@@ -1,5 +1,6 @@
 //! What hooks are shown, and the table of their answers.
 
+use crate::parts::building::content_of;
 use abi::{BadAnswer, TooLarge, Verdict, fill_input, read_answer};
 use bpfimage::ImageKind;
 use code_parts::expect;
@@ -7,7 +8,6 @@ use dvv::Dot;
 use object::{Content, Sibling};
 use std::alloc::{AllocError, Global};
 use std::test::Fail;
-use trial_parts::building::content_of;
 
 /// A sibling by its dot, and its value if it is no tombstone.
 type Shown = (u32, u64, Option<&'static [u8]>);

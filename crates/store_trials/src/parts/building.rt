@@ -2,7 +2,7 @@
 
 ghost use Rattle.std.specs.Prelude.{◌≤◌};
 
-use crate::calling::put_value;
+use crate::parts::calling::put_value;
 use dvv::{Clock, ClockFault, Dot};
 use local::Local;
 use object::{Bytes, Content, Key, KeyState};
@@ -10,12 +10,12 @@ use std::alloc::{AllocError, Global};
 use std::test::Fail;
 
 /// A key of bucket `b`.
-pub fn key_of(alloc: Global, key: &[u8]) -> Result<Key, AllocError> {
+pub(crate) fn key_of(alloc: Global, key: &[u8]) -> Result<Key, AllocError> {
     Key::new(alloc, b"b", key)
 }
 
 /// A value of media type `text/plain`.
-pub fn content_of(alloc: Global, value: &[u8]) -> Result<Content, AllocError> {
+pub(crate) fn content_of(alloc: Global, value: &[u8]) -> Result<Content, AllocError> {
     Ok(Content::Value {
         media: Bytes::from_slice(alloc, b"text/plain")?,
         bytes: Bytes::from_slice(alloc, value)?,
@@ -23,7 +23,7 @@ pub fn content_of(alloc: Global, value: &[u8]) -> Result<Content, AllocError> {
 }
 
 /// The clock of so many events of one vnode.
-pub fn clock_of(alloc: Global, vnode: u32, count: u64) -> Result<Clock, ClockFault> {
+pub(crate) fn clock_of(alloc: Global, vnode: u32, count: u64) -> Result<Clock, ClockFault> {
     let mut clock = Clock::new(alloc);
     for _ in 0..count {
         let n = clock.counter(vnode) + 1;
@@ -33,7 +33,7 @@ pub fn clock_of(alloc: Global, vnode: u32, count: u64) -> Result<Clock, ClockFau
 }
 
 /// Puts a value at one vnode, without a context and with no hook.
-pub fn put_alone(
+pub(crate) fn put_alone(
     alloc: Global,
     local: &mut Local,
     vnode: usize,
@@ -45,21 +45,21 @@ pub fn put_alone(
 }
 
 /// So many vnodes of an incarnation. A key's place is by its digest.
-pub fn vnodes_of(alloc: Global, n: u32, incarnation: u16) -> Result<Local, AllocError>
+pub(crate) fn vnodes_of(alloc: Global, n: u32, incarnation: u16) -> Result<Local, AllocError>
     requires { n ≤ 255 }
 {
     Local::open(alloc, n, incarnation)
 }
 
 /// Three vnodes of incarnation 0, the first of which is each key's place. The calls of these numbers are lost.
-pub fn three_losing(alloc: Global, lost: &[u64]) -> Result<Local, AllocError> {
+pub(crate) fn three_losing(alloc: Global, lost: &[u64]) -> Result<Local, AllocError> {
     let mut local = Local::open_first(alloc, 3, 0, 0)?;
     local.lose(Vec::from_slice(alloc, lost)?);
     Ok(local)
 }
 
 /// How many entries the journals of the first three vnodes have.
-pub fn lengths(local: &Local) -> [usize; 3] {
+pub(crate) fn lengths(local: &Local) -> [usize; 3] {
     [length(local, 0), length(local, 1), length(local, 2)]
 }
 
@@ -72,7 +72,7 @@ fn length(local: &Local, i: usize) -> usize {
 }
 
 /// Whether the state's siblings have these dots, in this order.
-pub fn shows(state: &KeyState, dots: &[(u32, u64)]) -> bool {
+pub(crate) fn shows(state: &KeyState, dots: &[(u32, u64)]) -> bool {
     let siblings = state.siblings();
     siblings.len() == dots.len()
         && siblings.iter().zip(dots).all(|(sibling, want)| sibling.dot.vnode == want.0
@@ -80,7 +80,7 @@ pub fn shows(state: &KeyState, dots: &[(u32, u64)]) -> bool {
 }
 
 /// Whether the one sibling is this value.
-pub fn is_value(state: &KeyState, want_media: &[u8], want: &[u8]) -> bool {
+pub(crate) fn is_value(state: &KeyState, want_media: &[u8], want: &[u8]) -> bool {
     match state.siblings() {
         [sibling] => match &sibling.content {
             Content::Value { media, bytes } => {

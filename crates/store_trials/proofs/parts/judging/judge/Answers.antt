@@ -4,8 +4,8 @@ use Rattle.journal.specs.Logs.{Log}
 use Rattle.world.specs.Represents.{AreDistinct, log_at}
 use Rattle.rerun.specs.Interleaved.{ids_of}
 use Rattle.rerun.specs.Rerun.{AreJournals}
-use Rattle.audit_parts.proofs.Judged.{distinct_more, legal_more}
-use Rattle.audit_parts.proofs.judging.judge.Goals as goal
+use Rattle.store_trials.proofs.Judged.{distinct_more, legal_more}
+use Rattle.store_trials.proofs.parts.judging.judge.Goals as goal
 
 pub loop-vnode-preserved : goal.loop-vnode-preserved
 loop-vnode-preserved c =

@@ -12,7 +12,7 @@ use std::test::Fail;
 use vnode::Vnode;
 
 /// What is told of journals: nothing, or a fault at a vnode and a place.
-pub type Told = Option<(AuditCode, u32, u32)>;
+pub(crate) type Told = Option<(AuditCode, u32, u32)>;
 
 /// Whose journal the one with this index is.
 fn id_at(journals: &[Whole<'_>], index: usize) -> u32
@@ -47,7 +47,7 @@ fn told(alloc: Global, journals: &[Whole<'_>]) -> Result<Told, Fail>
 }
 
 /// What is told of the journals of vnodes with different identifiers.
-pub fn judge(alloc: Global, vnodes: &[Vnode]) -> Result<Told, Fail> {
+pub(crate) fn judge(alloc: Global, vnodes: &[Vnode]) -> Result<Told, Fail> {
     let mut journals = Vec::with_capacity(alloc, vnodes.len())?;
     for vnode in vnodes {
         let Some(journal) = vnode.journal().whole() else {

@@ -1,11 +1,12 @@
 // Asks this store, etcd (its v2 interface) or redis, and prints requests a second:
 //
-//     asker store|etcd|redis PUT|GET|REWRITE PORT CONNECTIONS SECONDS [THREADS [FIRST]]
+//     asker store|etcd|redis PUT|GET|REWRITE PORT CONNECTIONS SECONDS [THREADS [FIRST [TOGETHER [REQUESTS]]]]
 //
-// Values of 100 bytes under 1,000 keys, over loopback. One request at a time on each connection: the next is sent once the answer to the last
-// one has come. The connections are shared out among the threads, which wait for answers by epoll: one thread, where nothing is said.
+// Values of 100 bytes under 1,000 keys, over loopback. One request at a time on each connection, or so many TOGETHER: the next are sent once the
+// answers to the last ones have come. The connections are shared out among the threads, which wait for answers by epoll: one thread, where nothing is said.
 // A write without a context is a sibling of what stands there, so this store's writes go to a further bucket after each 1,000, the first of them
-// the bucket with the number FIRST, which is read. REWRITE is for this store alone: each connection reads in turn 50 keys of its own, and writes each
+// the bucket with the number FIRST, which is read. Where REQUESTS are said, no more writes are sent than that (and those that are sent together), each of
+// a key of its own, in a scattered order, and reads go over the keys of such writes again and again until the time is over. REWRITE is for this store alone: each connection reads in turn 50 keys of its own, and writes each
 // again in the context that it was told, so that what is stored doesn't grow. A line is printed: requests a second, and the microseconds in which half of the answers, and
 // 99 of 100 of them, came. An answer that isn't that of a write or a read that succeeded ends it with status 1.
 //
@@ -24,7 +25,7 @@
 #include <time.h>
 #include <unistd.h>
 
-enum { KEYS = 1000, OWN = 50, VALUE = 100, ROOM = 8192, CONTEXT = 600, SLOWEST = 100000, MOST = 256 };
+enum { STRIDE = 7919, KEYS = 1000, OWN = 50, VALUE = 100, ROOM = 32768, CONTEXT = 600, REQUEST = 2048, SLOWEST = 100000, MOST = 4096, EVENTS = 256, MOST_TOGETHER = 64 };
 
 enum server { STORE, ETCD, REDIS };
 enum method { PUT, GET, REWRITE };
@@ -34,15 +35,19 @@ static enum method method;
 static int port;
 static double seconds;
 static unsigned long first;
+static int together = 1;
+static unsigned long requests;
 static char value[VALUE + 1];
 static atomic_ulong asked;
 
-// A connection, what it asks for and how often it asked, the context that it was told last, what came of its answer, and when its request was sent.
+// A connection, what it asks for and how often it asked, how many answers it waits for, the context that it was told last, what came of its answers, and
+// when its requests were sent.
 struct connection {
     int socket;
     int number;
     enum method method;
     unsigned long asked;
+    int waiting;
     size_t length;
     double sent;
     char context[CONTEXT];
@@ -76,16 +81,18 @@ static int request(char *to, enum method method, unsigned long turn, unsigned lo
     switch (server) {
     case STORE:
         if (method == GET)
-            return sprintf(to, "GET /buckets/load%lu/keys/%lu HTTP/1.1\r\nHost: load\r\n\r\n", first, key);
+            return sprintf(to, "GET /buckets/load%lu/keys/%lu HTTP/1.1\r\nHost: load\r\n\r\n", first + (requests ? turn : 0), key);
         return sprintf(to, "PUT /buckets/load%lu/keys/%lu HTTP/1.1\r\nHost: load\r\nContent-Type: text/plain\r\nContent-Length: %d\r\n\r\n%s", first + turn, key, VALUE, value);
     case ETCD:
         if (method == GET)
             return sprintf(to, "GET /v2/keys/load/%lu HTTP/1.1\r\nHost: load\r\n\r\n", key);
         return sprintf(to, "PUT /v2/keys/load/%lu HTTP/1.1\r\nHost: load\r\nContent-Type: application/x-www-form-urlencoded\r\nContent-Length: %d\r\n\r\nvalue=%s", key, VALUE + 6, value);
     default:
+        if (requests)
+            key += turn * KEYS;
         if (method == GET)
-            return sprintf(to, "*2\r\n$3\r\nGET\r\n$8\r\nload%04lu\r\n", key);
-        return sprintf(to, "*3\r\n$3\r\nSET\r\n$8\r\nload%04lu\r\n$%d\r\n%s\r\n", key, VALUE, value);
+            return sprintf(to, "*2\r\n$3\r\nGET\r\n$12\r\nload%08lu\r\n", key);
+        return sprintf(to, "*3\r\n$3\r\nSET\r\n$12\r\nload%08lu\r\n$%d\r\n%s\r\n", key, VALUE, value);
     }
 }
 
@@ -99,15 +106,22 @@ static int rewrite(struct connection *c, char *to) {
     return sprintf(to, "PUT /buckets/own%d/keys/%lu HTTP/1.1\r\nHost: load\r\nContent-Type: text/plain\r\n%sContent-Length: %d\r\n\r\n%s", c->number, key, c->context, VALUE, value);
 }
 
+// The next request of a connection.
+static int next_request(struct connection *c, char *to) {
+    if (method == REWRITE)
+        return rewrite(c, to);
+    unsigned long number = atomic_fetch_add(&asked, 1);
+    c->method = method;
+    if (requests && (method == GET || number < requests))
+        number = number % requests * STRIDE % requests;
+    return request(to, method, number / KEYS, number % KEYS);
+}
+
 static void ask(struct connection *c) {
-    char bytes[2048];
-    int length;
-    if (method == REWRITE) {
-        length = rewrite(c, bytes);
-    } else {
-        unsigned long number = atomic_fetch_add(&asked, 1);
-        length = request(bytes, c->method = method, number / KEYS, number % KEYS);
-    }
+    char bytes[MOST_TOGETHER * REQUEST];
+    int length = 0;
+    for (c->waiting = 0; c->waiting < together; c->waiting++)
+        length += next_request(c, bytes + length);
     c->length = 0;
     c->sent = now();
     if (send(c->socket, bytes, length, MSG_NOSIGNAL) != length)
@@ -151,32 +165,45 @@ static void keep_context(struct connection *c) {
     c->context[length] = 0;
 }
 
-// Reads what has come. Whether the answer is whole.
-static int hear(struct connection *c) {
-    ssize_t n = recv(c->socket, c->answer + c->length, ROOM - c->length, 0);
-    if (n <= 0)
-        fail("the connection ended");
-    c->length += n;
-    c->answer[c->length] = 0;
-    size_t whole = server == REDIS ? redis_length(c->answer) : http_length(c->answer);
-    if (!whole || c->length < whole)
-        return 0;
-    if (c->length > whole || !is_right(c))
-        fail("the answer was %s", c->answer);
-    if (method == REWRITE && c->method == GET)
-        keep_context(c);
-    return 1;
-}
-
 static void note(struct asker *a, const struct connection *c, double time) {
     unsigned long took = (time - c->sent) * 1e6;
     a->times[took < SLOWEST ? took : SLOWEST]++;
     a->told++;
 }
 
+// Takes the answer that stands in front of what has come, if it is whole.
+static int take(struct asker *a, struct connection *c) {
+    size_t whole = server == REDIS ? redis_length(c->answer) : http_length(c->answer);
+    if (!whole || c->length < whole)
+        return 0;
+    if (!c->waiting || !is_right(c))
+        fail("the answer was %s", c->answer);
+    if (method == REWRITE && c->method == GET)
+        keep_context(c);
+    note(a, c, now());
+    c->waiting--;
+    c->length -= whole;
+    memmove(c->answer, c->answer + whole, c->length + 1);
+    return 1;
+}
+
+// Reads what has come. Whether all answers have.
+static int hear(struct asker *a, struct connection *c) {
+    ssize_t n = recv(c->socket, c->answer + c->length, ROOM - c->length, 0);
+    if (n <= 0)
+        fail("the connection ended");
+    c->length += n;
+    c->answer[c->length] = 0;
+    while (take(a, c))
+        ;
+    if (!c->waiting && c->length)
+        fail("the answer was %s", c->answer);
+    return !c->waiting;
+}
+
 static void *ask_all(void *given) {
     struct asker *a = given;
-    struct epoll_event events[MOST];
+    struct epoll_event events[EVENTS];
     int waits = epoll_create1(0);
     double end = now() + seconds;
     for (int i = 0; i < a->count; i++) {
@@ -185,16 +212,14 @@ static void *ask_all(void *given) {
         ask(&a->connections[i]);
     }
     for (int open = a->count; open > 0;) {
-        int ready = epoll_wait(waits, events, MOST, 10000);
+        int ready = epoll_wait(waits, events, EVENTS, 10000);
         if (ready <= 0)
             fail("no answer came for ten seconds");
         for (int i = 0; i < ready; i++) {
             struct connection *c = events[i].data.ptr;
-            if (!hear(c))
+            if (!hear(a, c))
                 continue;
-            double time = now();
-            note(a, c, time);
-            if (time < end)
+            if (now() < end && (!requests || method == GET || atomic_load(&asked) < requests))
                 ask(c);
             else
                 open--;
@@ -227,15 +252,21 @@ static unsigned within(struct asker *askers, int threads, unsigned long told, do
 
 int main(int count, char **words) {
     if (count < 6)
-        fail("asker store|etcd|redis PUT|GET|REWRITE PORT CONNECTIONS SECONDS [THREADS [FIRST]]");
+        fail("asker store|etcd|redis PUT|GET|REWRITE PORT CONNECTIONS SECONDS [THREADS [FIRST [TOGETHER [REQUESTS]]]]");
     server = words[1][0] == 's' ? STORE : words[1][0] == 'e' ? ETCD : REDIS;
     method = words[2][0] == 'P' ? PUT : words[2][0] == 'G' ? GET : REWRITE;
     port = atoi(words[3]);
     seconds = atof(words[5]);
     first = count > 7 ? strtoul(words[7], NULL, 10) : 0;
+    together = count > 8 ? atoi(words[8]) : 1;
+    requests = count > 9 ? strtoul(words[9], NULL, 10) : 0;
     int connections = atoi(words[4]), threads = count > 6 ? atoi(words[6]) : 1;
     if (server != STORE && method == REWRITE)
         fail("only this store has contexts");
+    if (requests && requests % STRIDE == 0)
+        fail("no multiple of %d requests", STRIDE);
+    if (together < 1 || together > MOST_TOGETHER || (method == REWRITE && (together > 1 || requests)))
+        fail("1 to %d requests together, and one where contexts are told", MOST_TOGETHER);
     if (threads < 1 || connections < threads || connections > MOST)
         fail("1 to %d connections, and no more threads than connections", MOST);
     memset(value, 'x', VALUE);

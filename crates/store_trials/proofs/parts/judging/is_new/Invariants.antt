@@ -1,6 +1,6 @@
 use Rattle.std.specs.Prelude.{◌≢◌, ◌<◌, ℕ}
 use Rattle.world.specs.Represents.{log_at}
-use Rattle.audit_parts.proofs.judging.is_new.Given as goal
+use Rattle.store_trials.proofs.parts.judging.is_new.Given as goal
 
 -- none of those so far is this vnode's
 abbrev pub invariant-loop-index : goal.invariant-loop-index

@@ -1,7 +1,7 @@
 use Rattle.world.specs.Represents.{AreDistinct}
 use Rattle.rerun.specs.Interleaved.{ids_of}
 use Rattle.rerun.specs.Rerun.{AreJournals}
-use Rattle.audit_parts.proofs.judging.judge.Given as goal
+use Rattle.store_trials.proofs.parts.judging.judge.Given as goal
 
 -- the journals so far are those of vnodes with different identifiers
 abbrev pub invariant-loop-vnode : goal.invariant-loop-vnode

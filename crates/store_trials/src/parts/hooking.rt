@@ -1,6 +1,6 @@
 //! Buckets with a hook.
 
-use crate::programs::hook;
+use crate::parts::programs::hook;
 use bpfimage::ImageKind;
 use helpers::Sigs;
 use hooks::{HookFault, Registry};
@@ -11,7 +11,7 @@ use std::test::Fail;
 use verifier::Verified;
 
 /// A hook of a kind that calls no helper, with an input window of so many bytes, an output window of 8 and this code.
-pub fn program(
+pub(crate) fn program(
     alloc: Global,
     kind: u8,
     in_len: u16,
@@ -22,7 +22,7 @@ pub fn program(
 }
 
 /// Binds a hook to bucket `b`.
-pub fn bind(
+pub(crate) fn bind(
     alloc: Global,
     registry: &mut Registry,
     kind: ImageKind,
@@ -41,7 +41,7 @@ fn bind_hook(alloc: Global, registry: &mut Registry, kind: ImageKind) -> Result<
 }
 
 /// A registry where bucket `b` has this hook.
-pub fn registry_of(
+pub(crate) fn registry_of(
     alloc: Global,
     kind: ImageKind,
     program: Arc<Verified>,

@@ -8,7 +8,7 @@ use vnode::Vnode;
 
 /// What is altered of an entry.
 #[derive(Clone, Copy)]
-pub enum Alteration {
+pub(crate) enum Alteration {
     /// The value of the put is `x`.
     OtherContent,
     /// It is taken out.
@@ -16,10 +16,10 @@ pub enum Alteration {
 }
 
 /// The vnode and the place of an entry, and what is altered of it.
-pub type Altered = (u32, u32, Alteration);
+pub(crate) type Altered = (u32, u32, Alteration);
 
 /// The vnodes once more, entry by entry, one of which is altered.
-pub fn alter(alloc: Global, vnodes: &[Vnode], altered: Altered) -> Result<Vec<Vnode>, Fail> {
+pub(crate) fn alter(alloc: Global, vnodes: &[Vnode], altered: Altered) -> Result<Vec<Vnode>, Fail> {
     let mut copies = Vec::with_capacity(alloc, vnodes.len())?;
     for vnode in vnodes {
         copies.push(alter_one(alloc, vnode.journal(), altered)?)?;
@@ -101,7 +101,7 @@ fn put_other(alloc: Global, copy: &mut Vnode, entry: &Entry) -> Result<(), Fail>
 }
 
 /// Has an entry happen once more, at another vnode of the same identifier. Answers the state that it read, if it is a read.
-pub fn repeat(copy: &mut Vnode, entry: &Entry) -> Result<Option<KeyState>, Fail> {
+pub(crate) fn repeat(copy: &mut Vnode, entry: &Entry) -> Result<Option<KeyState>, Fail> {
     match entry.said() {
         Said::Put {
             stamp,

@@ -7,16 +7,16 @@ use std::test::Fail;
 use verifier::Verified;
 
 /// The kind of a pre-commit hook in an image.
-pub const PRE_COMMIT: u8 = 1;
+pub(crate) const PRE_COMMIT: u8 = 1;
 
 /// The kind of a resolver in an image.
-pub const RESOLVER: u8 = 2;
+pub(crate) const RESOLVER: u8 = 2;
 
 /// Ends the run: the answer is register 0.
-pub const EXIT: [u8; 8] = [0x95, 0, 0, 0, 0, 0, 0, 0];
+pub(crate) const EXIT: [u8; 8] = [0x95, 0, 0, 0, 0, 0, 0, 0];
 
 /// The code that writes the one byte `x` to the output and answers 1.
-pub const WRITE_X: [[u8; 8]; 4] = [
+pub(crate) const WRITE_X: [[u8; 8]; 4] = [
     [0x62, 3, 0, 0, 1, 0, 0, 0],
     [0x72, 3, 4, 0, b'x', 0, 0, 0],
     [0xb7, 0, 0, 0, 1, 0, 0, 0],
@@ -24,16 +24,16 @@ pub const WRITE_X: [[u8; 8]; 4] = [
 ];
 
 /// The code that answers what helper 64 does.
-pub const CALLS_64: [[u8; 8]; 2] = [[0x85, 0, 0, 0, 64, 0, 0, 0], EXIT];
+pub(crate) const CALLS_64: [[u8; 8]; 2] = [[0x85, 0, 0, 0, 64, 0, 0, 0], EXIT];
 
 /// The code that answers so.
-pub fn answer(code: u16) -> [[u8; 8]; 2] {
+pub(crate) fn answer(code: u16) -> [[u8; 8]; 2] {
     let [low, high] = code.to_le_bytes();
     [[0xb7, 0, 0, 0, low, high, 0, 0], EXIT]
 }
 
 /// The bytes of an image of a kind, with windows of these lengths and this code.
-pub fn image(
+pub(crate) fn image(
     alloc: Global,
     kind: u8,
     in_len: u16,
@@ -50,7 +50,7 @@ pub fn image(
 }
 
 /// Such an image, verified for tables with these helpers.
-pub fn hook(
+pub(crate) fn hook(
     alloc: Global,
     sigs: &Sigs,
     kind: u8,

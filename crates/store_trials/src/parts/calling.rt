@@ -3,8 +3,8 @@
 ghost use Rattle.std.specs.Prelude.{◌∷◌, ◌<◌, ◌≤◌, ◌^◌, length, IfOk};
 ghost use Rattle.place.specs.Places.{AreDifferent};
 
-use crate::building::{content_of, put_alone, three_losing};
-use crate::hooking::registry_of;
+use crate::parts::building::{content_of, put_alone, three_losing};
+use crate::parts::hooking::registry_of;
 use bpfimage::ImageKind;
 use dvv::{Clock, Dot};
 use helpers::Table;
@@ -19,7 +19,7 @@ use std::test::Fail;
 use verifier::Verified;
 
 /// Puts a content.
-pub fn put<P: Peers, H: Hooks>(
+pub(crate) fn put<P: Peers, H: Hooks>(
     peers: &mut P,
     hooking: &mut Hooking<H>,
     coordinator: usize,
@@ -36,7 +36,7 @@ pub fn put<P: Peers, H: Hooks>(
 }
 
 /// Puts a value of media type `text/plain`, with no hook at all.
-pub fn put_value<P: Peers>(
+pub(crate) fn put_value<P: Peers>(
     alloc: Global,
     peers: &mut P,
     coordinator: usize,
@@ -81,7 +81,7 @@ fn put_unhooked<P: Peers>(
 }
 
 /// Gets a key, and what each vnode answered, each at most once.
-pub fn get<P: Peers>(
+pub(crate) fn get<P: Peers>(
     alloc: Global,
     peers: &mut P,
     key: &Key,
@@ -95,7 +95,7 @@ pub fn get<P: Peers>(
 }
 
 /// Resolves what a get answered where bucket `b` has this resolver, which calls no helper.
-pub fn resolve_hooked<P: Peers>(
+pub(crate) fn resolve_hooked<P: Peers>(
     alloc: Global,
     peers: &mut P,
     hook: Arc<Verified>,
@@ -110,7 +110,10 @@ pub fn resolve_hooked<P: Peers>(
 }
 
 /// Vnode 0 holds `a`, vnode 1 `b`, vnode 2 nothing, and none has seen the other's. Each has been read by a get.
-pub fn two_siblings(alloc: Global, key: &Key) -> Result<(Local, KeyState, Vec<Answer>), Fail> {
+pub(crate) fn two_siblings(
+    alloc: Global,
+    key: &Key,
+) -> Result<(Local, KeyState, Vec<Answer>), Fail> {
     let mut local = three_losing(alloc, &[])?;
     put_alone(alloc, &mut local, 0, key, b"a")?;
     put_alone(alloc, &mut local, 1, key, b"b")?;

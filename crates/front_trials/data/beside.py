@@ -1,12 +1,13 @@
 #!/usr/bin/env python3
 """Asks this store, etcd (its v2 interface) and redis in turn, and tells the requests a second of each and their ratios.
 
-    beside.py DVVSTORE [ROUNDS [SECONDS [THREADS]]]
+    beside.py DVVSTORE [ROUNDS [SECONDS [THREADS [WORKERS [CONNECTIONS..]]]]]
 
-Values of 100 bytes under 1,000 keys, over loopback, at 1, 2 and 4 connections that are asked at the same time, one request at a time each.
-The store has as many workers as there are connections. All three are asked by one client, asker.c, which cc compiles, on one thread, or, where THREADS
-is said, on so many at most: 4 gives each connection its own. etcd's data lie in memory, and redis saves nothing. What is told is the middle of the
-rounds. Debian: etcd-server redis-server gcc.
+Values of 100 bytes under 1,000 keys, over loopback, at 1, 2, 4, 64, 256 and 1,000 connections (or those that are said) that are asked at the same time,
+one request at a time each. The store has as many workers as there are connections, but no more than WORKERS (4). All three are asked by one
+client, asker.c, which cc compiles, on so many threads as there are connections, but no more than THREADS (4); each thread waits for its connections'
+answers by epoll. etcd's data lie in memory, and redis saves nothing. What is told is the middle of the rounds, and the milliseconds in
+which 99 of 100 answers came. Debian: etcd-server redis-server gcc.
 """
 import os
 import statistics
@@ -17,7 +18,7 @@ import time
 import urllib.request
 from pathlib import Path
 
-CONNECTIONS = (1, 2, 4)
+CONNECTIONS = (1, 2, 4, 64, 256, 1000)
 STORE, ETCD, ETCD_PEERS, REDIS = 8170, 23790, 23800, 6399
 
 
@@ -27,18 +28,19 @@ def compile_asker(folder):
 
 
 def ask(folder, who, method, port, connections, seconds, threads):
-    """Requests a second."""
+    """Requests a second, and the microseconds in which 99 of 100 answers came."""
     words = [folder / "asker", who, method, str(port), str(connections), str(seconds), str(min(connections, threads))]
     asked = subprocess.run(words, stdout=subprocess.PIPE, stderr=subprocess.PIPE, text=True, timeout=seconds + 30)
     if asked.returncode:
         sys.exit(f"{who} {method}: {asked.stderr}")
-    return float(asked.stdout.split()[0])
+    rate, _, slow = asked.stdout.split()
+    return float(rate), float(slow)
 
 
-def of_store(program, folder, port, connections, seconds, threads):
+def of_store(program, folder, port, workers, connections, seconds, threads):
     """Requests a second, of writes and of reads, by a server of their own whose journals are one run at the end."""
-    words = [program, "serve", f"127.0.0.1:{port}", str(connections), str(connections * 2)]
-    with subprocess.Popen(words, stdout=subprocess.PIPE, text=True) as server:
+    words = [program, "serve", f"127.0.0.1:{port}", str(min(connections, workers)), str(connections * 2)]
+    with subprocess.Popen(words, stdin=subprocess.PIPE, stdout=subprocess.PIPE, text=True) as server:
         try:
             time.sleep(0.3)
             rates = [ask(folder, "store", method, port, connections, seconds, threads) for method in ("PUT", "GET")]
@@ -66,7 +68,8 @@ def load():
     return os.getloadavg()[0]
 
 
-def main(program, rounds=3, seconds=2, threads=1):
+def main(program, rounds=3, seconds=2, threads=4, workers=4, *which):
+    which = which or CONNECTIONS
     rates = {}
     with tempfile.TemporaryDirectory(dir="/dev/shm") as name:
         folder = Path(name)
@@ -75,12 +78,12 @@ def main(program, rounds=3, seconds=2, threads=1):
         try:
             time.sleep(3)
             urllib.request.urlopen(f"http://127.0.0.1:{ETCD}/v2/keys/", timeout=5).read()
-            print(f"{os.cpu_count()} processors, load {load():.1f}; {rounds} rounds of {seconds} seconds, a client of at most {threads} threads", flush=True)
+            print(f"{os.cpu_count()} processors, load {load():.1f}; {rounds} rounds of {seconds} seconds, at most {threads} threads and {workers} workers", flush=True)
             port = STORE
             for _ in range(rounds):
-                for connections in CONNECTIONS:
+                for connections in which:
                     port += 1
-                    given = {"store": of_store(program, folder, port, connections, seconds, threads)}
+                    given = {"store": of_store(program, folder, port, workers, connections, seconds, threads)}
                     for who, at in (("etcd", ETCD), ("redis", REDIS)):
                         given[who] = [ask(folder, who, method, at, connections, seconds, threads) for method in ("PUT", "GET")]
                     for who, both in given.items():
@@ -91,13 +94,15 @@ def main(program, rounds=3, seconds=2, threads=1):
                 server.kill()
                 server.wait()
     print(f"load at the end {load():.1f}")
-    print("              store     etcd    redis  to etcd  to redis   (least and greatest of the store, of redis)")
+    print("                  store     etcd    redis  to etcd  to redis   (least and greatest of the store, of redis; 99 of 100 in ms)")
     for method in ("PUT", "GET"):
-        for connections in CONNECTIONS:
-            told = {who: rates[who, method, connections] for who in ("store", "etcd", "redis")}
+        for connections in which:
+            told = {who: [rate for rate, _ in rates[who, method, connections]] for who in ("store", "etcd", "redis")}
+            slow = {who: statistics.median(slow for _, slow in rates[who, method, connections]) / 1000 for who in ("store", "redis")}
             store, etcd, redis = (statistics.median(told[who]) for who in ("store", "etcd", "redis"))
             ends = "  ".join(f"{min(told[who]):.0f}..{max(told[who]):.0f}" for who in ("store", "redis"))
-            print(f"{method}, {connections} at once {store:7.0f}  {etcd:7.0f}  {redis:7.0f}  {store / etcd:7.2f}  {store / redis:8.2f}   ({ends})")
+            late = "  ".join(f"{slow[who]:.1f}" for who in ("store", "redis"))
+            print(f"{method}, {connections:4} at once {store:7.0f}  {etcd:7.0f}  {redis:7.0f}  {store / etcd:7.2f}  {store / redis:8.2f}   ({ends}; {late})")
 
 
 if __name__ == "__main__":
