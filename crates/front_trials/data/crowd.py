@@ -13,54 +13,22 @@ go, each idle connection took at most 2,048 resident bytes, all of the system's 
 It needs as many open files as it has connections, and raises its own limit and the server's where it may.
 """
 import multiprocessing
-import os
 import resource
 import selectors
 import socket
 import struct
-import subprocess
 import sys
 import threading
 import time
+
+from strangers import BIG, Server
 
 PING = b"GET /ping HTTP/1.1\r\nHost: h\r\n\r\n"
 PONG = b"HTTP/1.1 200 OK\r\nContent-Type: text/plain\r\nContent-Length: 2\r\n\r\nOK"
 HEAD = b"PUT /buckets/b/keys/slow HTTP/1.1\r\nHost: h\r\nX-Slow: " + b"x" * 200
 BODY = b"PUT /buckets/b/keys/half HTTP/1.1\r\nHost: h\r\nContent-Length: 60000\r\n\r\n" + bytes(30_000)
-BIG = b"GET /buckets/b/keys/big HTTP/1.1\r\nHost: h\r\n\r\n"
 LONGEST = 0.1
 SECONDS = 5
-
-
-class Server:
-    """The store's server, on a port that the system chose."""
-
-    def __init__(self, program):
-        words = [program, "serve", "127.0.0.1:0", "2"]
-        self.process = subprocess.Popen(words, stdin=subprocess.PIPE, stdout=subprocess.PIPE, text=True)
-        host, _, port = self.process.stdout.readline().removeprefix("listening ").strip().rpartition(":")
-        self.address = host, int(port)
-
-    def connect(self, sent=b""):
-        client = socket.create_connection(self.address, timeout=30)
-        client.sendall(sent)
-        return client
-
-    def files(self):
-        return len(os.listdir(f"/proc/{self.process.pid}/fd"))
-
-    def settled_files(self, wanted, seconds=30):
-        """The number of open files, once it is as wanted or the time is over."""
-        for _ in range(seconds * 10):
-            if self.files() == wanted:
-                break
-            time.sleep(0.1)
-        return self.files()
-
-    def memory(self):
-        """Resident bytes."""
-        with open(f"/proc/{self.process.pid}/status", encoding="ascii") as status:
-            return next(int(line.split()[1]) for line in status if line.startswith("VmRSS:")) * 1024
 
 
 def received(client, count):
@@ -201,7 +169,7 @@ def main(program, idle="10000", busy="100", count="300"):
     wanted = idle + int(busy) + 5 * count + 200
     if soft < wanted:
         resource.setrlimit(resource.RLIMIT_NOFILE, (min(max(wanted, soft), hard), hard))
-    server = Server(program)
+    server = Server(program, workers=2, patience=30)
     try:
         big = server.connect(b"PUT /buckets/b/keys/big HTTP/1.1\r\nHost: h\r\nContent-Length: 65536\r\n\r\n" + bytes(65_536))
         received(big, 20)

@@ -28,14 +28,15 @@ BIG = b"GET /buckets/b/keys/big HTTP/1.1\r\nHost: h\r\n\r\n"
 class Server:
     """The store's server, on a port that the system chose."""
 
-    def __init__(self, program):
-        words = [program, "serve", "127.0.0.1:0", str(WORKERS)]
-        self.process = subprocess.Popen(words, stdout=subprocess.PIPE, text=True)
+    def __init__(self, program, workers=WORKERS, patience=100):
+        words = [program, "serve", "127.0.0.1:0", str(workers)]
+        self.process = subprocess.Popen(words, stdin=subprocess.PIPE, stdout=subprocess.PIPE, text=True)
         host, _, port = self.process.stdout.readline().removeprefix("listening ").strip().rpartition(":")
         self.address = host, int(port)
+        self.patience = patience
 
     def connect(self, sent=b""):
-        client = socket.create_connection(self.address, timeout=100)
+        client = socket.create_connection(self.address, timeout=self.patience)
         client.sendall(sent)
         return client
 
@@ -51,8 +52,9 @@ class Server:
         return self.files()
 
     def memory(self):
+        """Resident bytes."""
         with open(f"/proc/{self.process.pid}/status", encoding="ascii") as status:
-            return next(int(line.split()[1]) for line in status if line.startswith("VmRSS:")) / 1024
+            return next(int(line.split()[1]) for line in status if line.startswith("VmRSS:")) * 1024
 
 
 def reads_nothing(server):
@@ -139,12 +141,12 @@ def beside_stuck(server):
 
 def left_behind(server, files, connections):
     """Whether connections that are left leave no open file and, the second time, less than 1 MB."""
-    memories = [server.memory()]
+    memories = [server.memory() / 2**20]
     for _ in range(2):
         for number in range(connections):
             leave(server, number)
         after = server.settled_files(files)
-        memories.append(server.memory())
+        memories.append(server.memory() / 2**20)
         print(f"{connections} connections left: open files {files} and {after}, memory {memories[-2]:.1f} and {memories[-1]:.1f} MB", flush=True)
         if after != files:
             return False
