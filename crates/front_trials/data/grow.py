@@ -14,6 +14,9 @@ import tempfile
 import time
 from pathlib import Path
 
+from beside import compile_asker
+from strangers import resident
+
 KEYS = (1_000, 10_000, 100_000, 400_000, 1_000_000)
 CONNECTIONS, TOGETHER, SECONDS, LONGEST = 2, 16, 3, 600
 STORE, REDIS = 8190, 6398
@@ -29,20 +32,12 @@ def ask(asker, who, method, port, keys):
     return float(asked.stdout.split()[0])
 
 
-def memory(pid):
-    """Bytes that a process holds."""
-    for line in Path(f"/proc/{pid}/status").read_text(encoding="utf-8").splitlines():
-        if line.startswith("VmRSS:"):
-            return int(line.split()[1]) * 1024
-    return 0
-
-
 def measure(asker, who, port, server, keys):
     """Writes a second, reads a second, and bytes."""
     time.sleep(1)
     writes = ask(asker, who, "PUT", port, keys)
     time.sleep(1)
-    held = memory(server.pid)
+    held = resident(server.pid)
     return writes, ask(asker, who, "GET", port, keys), held
 
 
@@ -70,8 +65,8 @@ def of_redis(folder, asker, keys):
 
 def main(program, sizes):
     with tempfile.TemporaryDirectory(dir="/dev/shm") as name:
+        compile_asker(Path(name))
         asker = Path(name) / "asker"
-        subprocess.run(["cc", "-O2", "-pthread", "-o", asker, Path(__file__).with_name("asker.c")], check=True)
         print("     keys      PUT      GET  bytes a key   redis: SET      GET  bytes a key   PUT to SET  GET to GET", flush=True)
         for keys in sizes:
             writes, reads, held = of_store(program, asker, keys)

@@ -25,6 +25,12 @@ PING = b"GET /ping HTTP/1.1\r\nHost: h\r\nConnection: close\r\n\r\n"
 BIG = b"GET /buckets/b/keys/big HTTP/1.1\r\nHost: h\r\n\r\n"
 
 
+def resident(pid):
+    """The resident bytes of a process."""
+    with open(f"/proc/{pid}/status", encoding="ascii") as status:
+        return next(int(line.split()[1]) for line in status if line.startswith("VmRSS:")) * 1024
+
+
 class Server:
     """The store's server, on a port that the system chose."""
 
@@ -52,9 +58,7 @@ class Server:
         return self.files()
 
     def memory(self):
-        """Resident bytes."""
-        with open(f"/proc/{self.process.pid}/status", encoding="ascii") as status:
-            return next(int(line.split()[1]) for line in status if line.startswith("VmRSS:")) * 1024
+        return resident(self.process.pid)
 
 
 def reads_nothing(server):
