@@ -15,6 +15,7 @@ use journal::Entry;
 use rerun::{Recent, Rerun};
 use std::alloc::{AllocError, Global};
 use std::marker::Model;
+use vnode::Seed;
 
 /// An auditor that goes along with vnodes: their journals are handed over in blocks, and happen again in the order of stamps, at
 /// vnodes of its own that settle. What it has followed of all vnodes is one run of the world, as long as it has found no fault. So many of the first
@@ -59,7 +60,7 @@ impl Follower {
         ensures recent { IfOk result (λ follower. follower.recent ≡ recent) }
         ensures fronts { IfOk result (λ follower. follower.fronts ≡ []) }
     {
-        Follower::new_from(alloc, ids, Vec::new(alloc), recent)
+        Follower::new_seeded(alloc, Seed::fixed(), ids, Vec::new(alloc), recent)
     }
 
     /// The same of vnodes of which so many of the first entries of each, by index, were there before the run: its front, as a store that begins with
@@ -78,10 +79,28 @@ impl Follower {
         ensures recent { IfOk result (λ follower. follower.recent ≡ recent) }
         ensures fronts { IfOk result (λ follower. follower.fronts ≡ fronts.items) }
     {
+        Follower::new_seeded(alloc, Seed::fixed(), ids, fronts, recent)
+    }
+
+    /// The same, by vnodes that are made by a seed.
+    pub fn new_seeded(
+        alloc: Global,
+        seed: Seed,
+        ids: &[u32],
+        fronts: Vec<usize>,
+        recent: Recent,
+    ) -> Result<Follower, AllocError>
+        requires distinct { AreDistinct ids.now }
+        ensures followed { IfOk result (λ follower. follower.followed ≡ empty_logs ids.now) }
+        ensures waiting { IfOk result (λ follower. follower.waiting ≡ replicate (length ids.now) []) }
+        ensures fault { IfOk result (λ follower. follower.fault ≡ None) }
+        ensures recent { IfOk result (λ follower. follower.recent ≡ recent) }
+        ensures fronts { IfOk result (λ follower. follower.fronts ≡ fronts.items) }
+    {
         let waiting = queues(alloc, ids.len())?;
         Ok(Follower {
             run: Run {
-                rerun: Rerun::new_from(alloc, ids, fronts, recent)?,
+                rerun: Rerun::new_seeded(alloc, seed, ids, fronts, recent)?,
                 waiting,
             },
         })

@@ -6,6 +6,7 @@ use crate::bytes::Bytes;
 use dvv::Dot;
 use std::alloc::{AllocError, Global};
 use std::cmp::Ordering;
+use std::hash::{Hash, Hasher};
 use std::marker::Model;
 
 /// What a write stores: a value of 0 to 65,536 bytes with its media type of 1 to 127 bytes, or the mark of a delete.
@@ -155,6 +156,23 @@ impl Eq for Key {
     ghost use Rattle.std.proofs.Common.{rules};
 
     ghost laws = { Prim.search (comparing, rules) };
+}
+
+impl Hash for Key {
+    ghost use Rattle.std.specs.Prelude.{length, ◌++◌, ◌∷◌, []};
+    ghost use Rattle.std.specs.Hash as fed;
+    ghost use Rattle.std.specs.Cmp.Rules.{hashing};
+    ghost use Rattle.std.proofs.Common.{rules};
+
+    ghost hash_input = { λ k. fed.usize (length k.bucket) ++ (k.bucket ++ k.key) ∷ [] };
+
+    ghost respects_eq = { Prim.search (hashing, rules) };
+
+    // The length of the bucket's bytes tells keys apart whose names are the same bytes in a row.
+    fn hash<H: Hasher>(&self, state: &mut H) {
+        state.write_usize(self.split);
+        state.write(self.names.as_slice());
+    }
 }
 
 impl PartialOrd for Key {

@@ -15,7 +15,7 @@ use stamps::{Card, STAMPS_EACH, Stamps};
 use std::alloc::{AllocError, Global};
 use std::marker::{Model, PhantomData};
 use std::sync::{Mutex, Wait};
-use vnode::{Vnode, VnodeFault};
+use vnode::{Seed, Vnode, VnodeFault};
 use vnode_locks::{
     CallFault, GatherFault, Locked, Pass, Receipt, Room, deal_passes, deal_vnodes, gathered,
 };
@@ -180,6 +180,25 @@ impl<B: Room> Cluster<B> {
     pub fn open(
         alloc: Global,
         stamps: Stamps,
+        card: Card,
+        first: u32,
+        vnodes: usize,
+        passes: usize,
+    ) -> Result<(Cluster<B>, Vec<Pass<B>>), AllocError>
+        requires table { (stamps.table.shared.table_id ≡ B.table) × (card.table_id ≡ B.table) }
+        requires size { stamps.table.shared.key ≡ record { first = first; vnodes = vnodes; passes = passes } }
+        requires few { first + vnodes ≤ 2 ^ 32 }
+        requires card { card.me ≡ (newcomer stamps.table.shared.key, []) }
+        ensures { IfOk result (λ r. (r.0 ≡ record { first = first; vnodes = vnodes; passes = passes }) × (vec_len r.1 ≡ passes) × All (λ p. p ≡ pass_view 0 []) r.1.items) }
+    {
+        Cluster::open_seeded(alloc, Seed::fixed(), stamps, card, first, vnodes, passes)
+    }
+
+    /// The same of vnodes that are made by a seed.
+    pub fn open_seeded(
+        alloc: Global,
+        seed: Seed,
+        stamps: Stamps,
         mut card: Card,
         first: u32,
         vnodes: usize,
@@ -194,7 +213,7 @@ impl<B: Room> Cluster<B> {
         let mut locks = Vec::with_capacity(alloc, vnodes)?;
         let mut dealt = Vec::with_capacity(alloc, passes)?;
         deal_passes(&stamps, &mut card, &mut dealt, passes);
-        deal_vnodes(alloc, &stamps, card, &mut locks, first, vnodes);
+        deal_vnodes(alloc, seed, &stamps, card, &mut locks, first, vnodes);
         Ok((
             Cluster {
                 alloc,

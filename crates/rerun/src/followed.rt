@@ -14,7 +14,7 @@ use findings::{FollowCode, FollowFault};
 use journal::{Entry, Said};
 use object::{Key, KeyState};
 use std::alloc::{AllocError, Global};
-use vnode::Vnode;
+use vnode::{Seed, Vnode};
 
 /// The vnode with an identifier.
 pub(crate) fn index_of(vnodes: &[Vnode], id: u32) -> Option<usize>
@@ -98,6 +98,7 @@ pub(crate) struct Followed {
 /// Nothing was followed of vnodes with these identifiers, of whose journals these are the fronts.
 pub(crate) fn open(
     alloc: Global,
+    seed: Seed,
     ids: &[u32],
     fronts: Vec<usize>,
     recent: Recent,
@@ -113,7 +114,7 @@ pub(crate) fn open(
     let mut vnodes = Vec::new(alloc);
     let mut answers = Vec::new(alloc);
     for index in 0..ids.len() {
-        vnodes.push(Vnode::new(alloc, ids[index]))?;
+        vnodes.push(Vnode::seeded(alloc, ids[index], seed))?;
         answers.push(Answers::new(alloc))?;
     }
     Ok(Followed {

@@ -12,6 +12,7 @@ use findings::FollowFault;
 use journal::Entry;
 use std::alloc::{AllocError, Global};
 use std::marker::Model;
+use vnode::Seed;
 
 /// Entries of several vnodes that happen again, one after another, at vnodes of its own that settle. As long as it has found no
 /// fault, all that has happened is one run of the world. So many of the first entries of each vnode, its front, may be no part of it: they were there
@@ -46,7 +47,7 @@ impl Rerun {
         ensures recent { IfOk result (λ rerun. rerun.recent ≡ recent) }
         ensures fronts { IfOk result (λ rerun. rerun.fronts ≡ []) }
     {
-        Rerun::new_from(alloc, ids, Vec::new(alloc), recent)
+        Rerun::new_seeded(alloc, Seed::fixed(), ids, Vec::new(alloc), recent)
     }
 
     /// The same of vnodes of which so many of the first entries of each, by index, were there before the run: its front. Where there is no number
@@ -64,9 +65,27 @@ impl Rerun {
         ensures recent { IfOk result (λ rerun. rerun.recent ≡ recent) }
         ensures fronts { IfOk result (λ rerun. rerun.fronts ≡ fronts.items) }
     {
+        Rerun::new_seeded(alloc, Seed::fixed(), ids, fronts, recent)
+    }
+
+    /// The same of vnodes that are made by a seed.
+    pub fn new_seeded(
+        alloc: Global,
+        seed: Seed,
+        ids: &[u32],
+        fronts: Vec<usize>,
+        recent: Recent,
+    ) -> Result<Rerun, AllocError>
+        requires distinct { AreDistinct ids.now }
+        ensures logs { IfOk result (λ rerun. rerun.logs ≡ empty_logs ids.now) }
+        ensures run { IfOk result (λ rerun. IsRunFrom rerun.fronts rerun.logs) }
+        ensures fault { IfOk result (λ rerun. rerun.fault ≡ None) }
+        ensures recent { IfOk result (λ rerun. rerun.recent ≡ recent) }
+        ensures fronts { IfOk result (λ rerun. rerun.fronts ≡ fronts.items) }
+    {
         Ok(Rerun {
             alloc,
-            followed: open(alloc, ids, fronts, recent)?,
+            followed: open(alloc, seed, ids, fronts, recent)?,
         })
     }
 

@@ -1,54 +1,39 @@
 -- All that a vnode knows, read at once.
-use Rattle.std.proofs.Common.{◌≡◌, ℕ, ◌+◌, ◌<◌, ◌≤◌, Bool, true, false, cond, List, [], ◌∷◌, ◌++◌, map, length, get_or, take, unwrap_or, refl, sym, ap, subst, ◌∙◌, arith, append_assoc, length-append}
-use Rattle.std.specs.Prelude.{Contains, filter, not, ◌==◌}
+use Rattle.std.proofs.Common.{◌≡◌, ℕ, ◌+◌, ◌<◌, ◌≤◌, Bool, true, false, cond, List, [], ◌∷◌, ◌++◌, map, length, get_or, take, refl, sym, ap, subst, ◌∙◌, arith, append_assoc, length-append}
+use Rattle.std.specs.Prelude.{filter, not, ◌==◌}
 use Rattle.std.specs.List.{All}
-use Rattle.std.specs.BTreeMap.{BTreeMap, IsOrdered}
+use Rattle.std.specs.HashMap.{IsUnique}
 use Rattle.std.proofs.lemmas.List.{append-nil, take_more, length-map, length-take-le, map-append}
-use Rattle.std.proofs.lemmas.List.Elements.{All-nil, All-cons}
-use Rattle.std.proofs.lemmas.Map.Views.{btree_map_get_iff}
+use Rattle.std.proofs.lemmas.List.Elements.{All-weaker}
+use Rattle.std.proofs.lemmas.List.Sorted.{IsPermutation-sym, Contains-permutation, length_permutation}
 use Rattle.object.specs.declared.content.Key.{Key}
-use Rattle.object.specs.State.{State, empty}
+use Rattle.object.specs.State.{State}
 use Rattle.journal.specs.Entry.{Entry, Read}
-use Rattle.journal.specs.Keys.{key_cmp}
 use Rattle.journal.specs.Logs.{Log, with_entry, with_entries, max_entries}
 use Rattle.journal.specs.Replay.{IsReplay}
-use Rattle.journal.proofs.Keyed.{keys_total}
 use Rattle.vnode.specs.declared.steps.Copied.{Copied}
 use Rattle.vnode.specs.Keys.{AreKeys, reads_of}
-use Rattle.vnode.specs.States.{Replays, known_keys, known_copies, keys_of}
-use Rattle.vnode.proofs.Listed.{known_is_key, key_is_known, known_rising, exact, at_head, further}
+use Rattle.vnode.specs.States.{States, key_eq, state_at, Replays, known_keys, AreKnown, AreCopied, keys_of}
+use Rattle.vnode.proofs.Listed.{known_is_key, key_is_known}
 use Rattle.vnode.proofs.Stepped.{read_kept}
 
--- the copies are of the known keys
-pub copied_keys : (es : List (Key × State)) → keys_of (known_copies es) ≡ known_keys es
-copied_keys es = each (filter (λ e. not (length e.1.clock == 0)) es)
-  where
-    each : (es : List (Key × State)) → keys_of (map (λ e. record { key = e.0; state = e.1 }) es) ≡ map (λ e. e.0) es
-    each [] = refl
-    each (e ∷ es) = ap (λ ks. e.0 ∷ ks) (each es)
-
 -- the known keys are the keys of the vnode
-pub are_keys : (states : BTreeMap Key State) (log : Log) → IsOrdered key_cmp states → Replays states log → AreKeys log (known_keys states.entries)
-are_keys states log ordered h = record {
-  each = λ k. (known_is_key states log k ordered h, key_is_known states log k ordered h);
-  rising = known_rising states ordered;
+pub are_keys : (states : States) (log : Log) (keys : List Key) → IsUnique key_eq states → Replays states log → AreKnown states keys → AreKeys log keys
+are_keys states log keys unique h known = record {
+  each = λ k. (
+    λ listed. known_is_key states log k unique h (Contains-permutation keys (known_keys states.entries) k (IsPermutation-sym (known_keys states.entries) keys known.each) listed),
+    λ key. Contains-permutation (known_keys states.entries) keys k known.each (key_is_known states log k unique h key),
+  );
+  rising = known.rising;
 }
 
 -- and each copy has the state that the journal leaves
-pub copied_states : (states : BTreeMap Key State) (log : Log) → IsOrdered key_cmp states → Replays states log → All (λ c. IsReplay log.entries c.key c.state) (known_copies states.entries)
-copied_states states log ordered h = each states.entries (λ e listed. listed)
-  where
-    one : (e : Key × State) → Contains states.entries e → IsReplay log.entries e.0 e.1
-    one e listed = subst (IsReplay log.entries e.0) (ap (λ o. unwrap_or o empty) ((btree_map_get_iff keys_total exact states ordered e.0 e.1).1 listed)) (h.leaves e.0)
+pub copied_states : (states : States) (log : Log) (copies : List Copied) → Replays states log → AreCopied states copies → All (λ c. IsReplay log.entries c.key c.state) copies
+copied_states states log copies h copied = All-weaker (λ (c : Copied). c.state ≡ state_at states c.key) (λ (c : Copied). IsReplay log.entries c.key c.state) (λ c is. subst (IsReplay log.entries c.key) (sym is) (h.leaves c.key)) copies copied.each
 
-    each : (es : List (Key × State)) → ((e : Key × State) → Contains es e → Contains states.entries e) → All (λ c. IsReplay log.entries c.key c.state) (known_copies es)
-    each [] within = All-nil (λ (c : Copied). IsReplay log.entries c.key c.state)
-    each (e ∷ es) within = split (not (length e.1.clock == 0)) (each es (λ other listed. within other (further e es other listed)))
-      where
-        split : (b : Bool) → All (λ c. IsReplay log.entries c.key c.state) (known_copies es)
-            → All (λ (c : Copied). IsReplay log.entries c.key c.state) (map (λ e. record { key = e.0; state = e.1 }) (cond b (e ∷ filter (λ e. not (length e.1.clock == 0)) es) (filter (λ e. not (length e.1.clock == 0)) es)))
-        split true rest = All-cons (λ (c : Copied). IsReplay log.entries c.key c.state) (record { key = e.0; state = e.1 }) (known_copies es) (one e (within e (at_head e es))) rest
-        split false rest = rest
+-- as many states are copied as keys are known
+pub copies_count : (states : States) (copies : List Copied) → AreCopied states copies → length (keys_of copies) ≡ length (known_keys states.entries)
+copies_count states copies copied = length_permutation (known_keys states.entries) (keys_of copies) copied.keys.each
 
 -- one key more
 pub reads-push : (stamp : ℕ) (keys : List Key) (key : Key) → reads_of stamp (keys ++ key ∷ []) ≡ reads_of stamp keys ++ Read (stamp + length keys) key ∷ []
@@ -72,7 +57,7 @@ length-reads stamp [] = refl
 length-reads stamp (key ∷ keys) = let rest = length-reads (stamp + 1) keys in omega (arith, rest)
 
 -- reads change nothing
-pub reads_kept : (states : BTreeMap Key State) (log after : Log) (stamp : ℕ) (keys : List Key) → length log.entries + length keys ≤ max_entries → Replays states log
+pub reads_kept : (states : States) (log after : Log) (stamp : ℕ) (keys : List Key) → length log.entries + length keys ≤ max_entries → Replays states log
     → after ≡ with_entries log (reads_of stamp keys) → Replays states after
 reads_kept states log after stamp [] fits h is = subst (Replays states) (sym (is ∙ ap (λ es. record { vnode = log.vnode; entries = es }) (append-nil log.entries))) h
 reads_kept states log after stamp (key ∷ keys) fits h is =

@@ -6,16 +6,16 @@ ghost use Rattle.vnode.specs.Parts.{RefusesPartAt};
 ghost use Rattle.vnode.specs.States.{state_at};
 
 use crate::fault::{PartFault, VnodeFault};
+use crate::seed::States;
 use journal::{Journal, Merged};
 use object::{Key, KeyState, Part, PreparedPart, Summary};
 use std::alloc::{AllocError, Global};
-use std::collections::BTreeMap;
 
 // A copy of a key and the summary of the state at it. A key that is kept shares its bytes with its copy, so that the bytes of the
 // caller's key may go.
 pub(crate) fn summary_at(
     alloc: Global,
-    states: &BTreeMap<Key, KeyState>,
+    states: &States,
     key: &Key,
 ) -> Result<(Key, Summary), AllocError>
     ensures key { IfOk result (λ told. told.0 ≡ key.now) }
@@ -49,7 +49,7 @@ pub fn merged_part_of<'a>(
 // Gives what the entry of a part's merge keeps its state: the whole one for which the part stands at the key.
 pub(crate) fn make_whole(
     alloc: Global,
-    states: &BTreeMap<Key, KeyState>,
+    states: &States,
     merged: &mut Merged,
     part: PreparedPart<'_>,
 ) -> Result<(), object::PartFault>
@@ -84,7 +84,7 @@ fn part_refusal(state: &KeyState, journal: &Journal, part: &Part) -> PartFault
 // Why a part at a key is refused that lacks a content or finds no memory.
 pub(crate) fn part_refusal_at(
     alloc: Global,
-    states: &BTreeMap<Key, KeyState>,
+    states: &States,
     journal: &Journal,
     key: &Key,
     part: &Part,

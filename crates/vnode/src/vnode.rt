@@ -4,6 +4,7 @@ ghost use Rattle.std.specs.Prelude.{◌≡◌, ◌≢◌, ◌↔◌, Contains, I
 
 use crate::fault::{PartFault, VnodeFault};
 use crate::parts::{make_whole, merged_part_of, part_refusal_at, summary_at};
+use crate::seed::{Seed, States};
 use crate::steps::{
     Copied, copies_at, has_places_for, keys_in, merge_at, merge_refusal_at, merged_of, put_at,
     put_refusal_at, read_all_at, write_of,
@@ -12,14 +13,13 @@ use dvv::{Clock, Dot};
 use journal::{Entry, Handout, Journal, Merged, Write};
 use object::{Content, Key, KeyState, Part, PreparedPart, Summary};
 use std::alloc::{AllocError, Global};
-use std::collections::BTreeMap;
 use std::marker::Model;
 
 /// One vnode. It is seen as its journal: at each key it has the state that the journal leaves there.
 #[derive(Drop)]
 pub struct Vnode {
     alloc: Global,
-    states: BTreeMap<Key, KeyState>,
+    states: States,
     journal: Journal,
 }
 
@@ -54,13 +54,21 @@ impl Vnode {
     ghost use Rattle.vnode.specs.Refusals.{RefusesPut, RefusesMerge, RefusesEntry};
     ghost use Rattle.vnode.specs.Parts.{RefusesPart};
 
-    /// A vnode at which nothing has happened.
+    /// A vnode at which nothing has happened, for keys that no stranger chooses.
     pub fn new(alloc: Global, id: u32) -> Self
+        ensures { result ≡ record { vnode = id; entries = [] } }
+    {
+        Vnode::seeded(alloc, id, Seed::fixed())
+    }
+
+    /// A vnode at which nothing has happened. The hashes of its keys begin with a seed, by which strangers who choose keys can't make it
+    /// slow.
+    pub fn seeded(alloc: Global, id: u32, seed: Seed) -> Self
         ensures { result ≡ record { vnode = id; entries = [] } }
     {
         Vnode {
             alloc,
-            states: BTreeMap::new(alloc),
+            states: States::with_hasher(alloc, seed),
             journal: Journal::new(alloc, id),
         }
     }

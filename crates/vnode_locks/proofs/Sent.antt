@@ -2,7 +2,7 @@
 use denote.RattleType.{RattleType}
 use denote.Param.Send.{IsSend, IsSync, sendable}
 use Rattle.std.proofs.Crossing.{crosses, Vec-sync}
-use Rattle.std.proofs.MapsCrossing.{BTreeMap-send}
+use Rattle.std.proofs.MapsCrossing.{HashMap-send}
 use Rattle.std.specs.contracts.sync.Mutex as Mutex
 use Rattle.std.specs.contracts.vec.Vec as Vec
 use Rattle.std.specs.contracts.alloc.Global as Heap
@@ -13,6 +13,7 @@ use Rattle.journal.specs.contracts.journal.Journal as Journal
 use Rattle.object.proofs.content.Key.TheSendSync as key
 use Rattle.object.proofs.state.KeyState.TheSendSync as state
 use Rattle.atomic_table.proofs.shared.Seat.TheSendSync as seat
+use Rattle.vnode.proofs.seed.Seed.TheSendSync as seed
 use Rattle.vnode.specs.contracts.vnode.Vnode as Vnode
 use Rattle.vnode_locks.specs.contracts.locked.Locked as Locked
 use Rattle.vnode_locks.specs.declared.pass.Room.{Ghosts}
@@ -21,7 +22,7 @@ journal_send : IsSend Journal.the_row
 journal_send = search (sendable, crosses, blocks.the_send) depth 40
 
 vnode_send : IsSend Vnode.the_row
-vnode_send = search (key.the_send, state.the_send, journal_send, BTreeMap-send, sendable) depth 40
+vnode_send = search (key.the_send, state.the_send, seed.the_send, journal_send, HashMap-send, sendable) depth 40
 
 locked_send : (B : RattleType) (g : Ghosts B.Denot) → IsSend B → IsSend (Locked.the_row B g)
 locked_send B g s = search (vnode_send, seat.the_send, sendable) depth 40

@@ -11,7 +11,7 @@ use stamps::{Card, Stamps};
 use std::alloc::Global;
 use std::marker::PhantomData;
 use std::sync::Mutex;
-use vnode::Vnode;
+use vnode::{Seed, Vnode};
 
 /// Takes a pass for each part of the card.
 pub fn deal_passes<B: Room>(
@@ -40,6 +40,7 @@ pub fn deal_passes<B: Room>(
 /// Puts a new vnode under a lock for each history of the card.
 pub fn deal_vnodes<B: Room>(
     alloc: Global,
+    seed: Seed,
     stamps: &Stamps,
     mut card: Card,
     locks: &mut Vec<Mutex<Locked<B>>>,
@@ -54,7 +55,7 @@ pub fn deal_vnodes<B: Room>(
 {
     for number in 0..count {
         let rest = stamps.take_rest(&mut card);
-        let vnode = Vnode::new(alloc, first + number as u32);
+        let vnode = Vnode::seeded(alloc, first + number as u32, seed);
         locks.push_reserved(Mutex::new(Locked::new(vnode, card)));
         card = rest;
     }

@@ -8,8 +8,8 @@ new-requires-clause-vnode g c =
     let i = c.loop-number.invariant in record {
       history = record { vnode = c.args.first + c.loop-number.number; told = [] };
       view = ap (λ m. m.0) c.take_rest-rest.ensures.left.1 ∙ first_of_fresh c.args.first c.loop-number.number c.args.count c.loop-number.card.me.0 c.loop-number-test.true (ap (λ m. m.0) i.card);
-      number_is = ap (λ (l : Log). l.vnode) (sym c.new-vnode.ensures);
-      journal_is = ap (λ (l : Log). l.entries) (sym c.new-vnode.ensures);
+      number_is = ap (λ (l : Log). l.vnode) (sym c.seeded-vnode.ensures);
+      journal_is = ap (λ (l : Log). l.entries) (sym c.seeded-vnode.ensures);
       answered = tt;
     }
 

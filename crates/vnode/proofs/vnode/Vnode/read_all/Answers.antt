@@ -1,37 +1,39 @@
-use Rattle.std.proofs.Common.{◌≡◌, ◌+◌, ◌<◌, ◌↔◌, length, ap, sym, subst, ◌∙◌}
+use Rattle.std.proofs.Common.{◌≡◌, ℕ, ◌+◌, ◌<◌, ◌↔◌, length, sym, subst}
 use Rattle.std.specs.Prelude.{Err}
 use Rattle.std.specs.List.{All}
+use Rattle.std.proofs.lemmas.List.Sorted.{length_permutation}
 use Rattle.std.proofs.lemmas.Result.{IfOk-weaker}
 use Rattle.journal.specs.Logs.{Log, max_entries}
 use Rattle.journal.specs.Replay.{IsReplay}
 use Rattle.vnode.specs.declared.fault.VnodeFault.TheVariants.{JournalFull}
 use Rattle.vnode.specs.declared.steps.Copied.{Copied}
 use Rattle.vnode.specs.Keys.{AreKeys}
-use Rattle.vnode.specs.States.{known_keys, known_copies, keys_of}
+use Rattle.vnode.specs.States.{known_keys, AreCopied, keys_of}
 use Rattle.vnode.proofs.ReadAll.{all_kept, places_told}
-use Rattle.vnode.proofs.ReadLemmas.{copied_keys, are_keys, copied_states}
+use Rattle.vnode.proofs.ReadLemmas.{are_keys, copied_states}
+use Rattle.vnode.proofs.Sorted.{known_ordered}
 use Rattle.vnode.proofs.vnode.Vnode.read_all.Goals as goal
 
 pub returns-clause-keys : goal.returns-clause-keys
 returns-clause-keys c =
-    IfOk-weaker c.read_all_at.result (λ read. read.0.items ≡ known_copies c.self.inside.states.entries) (λ read. AreKeys c.args.self.now (keys_of read.0.items))
-    (λ read is. subst (λ (log : Log). AreKeys log (keys_of read.0.items)) c.self.view_is
-    (subst (AreKeys c.self.inside.journal.log) (sym (ap keys_of is ∙ copied_keys c.self.inside.states.entries)) (are_keys c.self.inside.states c.self.inside.journal.log c.read_all_at.ensures.ordered c.self.invariant)))
+    IfOk-weaker c.read_all_at.result (λ read. AreCopied c.self.inside.states read.0.items) (λ read. AreKeys c.args.self.now (keys_of read.0.items))
+    (λ read copied. subst (λ (log : Log). AreKeys log (keys_of read.0.items)) c.self.view_is (are_keys c.self.inside.states c.self.inside.journal.log (keys_of read.0.items) c.read_all_at.ensures.unique c.self.invariant copied.keys))
     c.read_all_at.ensures.copies
 
 pub returns-clause-states : goal.returns-clause-states
 returns-clause-states c =
-    IfOk-weaker c.read_all_at.result (λ read. read.0.items ≡ known_copies c.self.inside.states.entries) (λ read. All (λ (one : Copied). IsReplay c.args.self.now.entries one.key one.state) read.0.items)
-    (λ read is. subst (λ (log : Log). All (λ (one : Copied). IsReplay log.entries one.key one.state) read.0.items) c.self.view_is
-    (subst (All (λ (one : Copied). IsReplay c.self.inside.journal.log.entries one.key one.state)) (sym is) (copied_states c.self.inside.states c.self.inside.journal.log c.read_all_at.ensures.ordered c.self.invariant)))
+    IfOk-weaker c.read_all_at.result (λ read. AreCopied c.self.inside.states read.0.items) (λ read. All (λ (one : Copied). IsReplay c.args.self.now.entries one.key one.state) read.0.items)
+    (λ read copied. subst (λ (log : Log). All (λ (one : Copied). IsReplay log.entries one.key one.state) read.0.items) c.self.view_is (copied_states c.self.inside.states c.self.inside.journal.log read.0.items c.self.invariant copied))
     c.read_all_at.ensures.copies
 
 pub returns-clause-full : goal.returns-clause-full
-returns-clause-full c = (
-  known_keys c.self.inside.states.entries,
-  subst (λ (log : Log). AreKeys log (known_keys c.self.inside.states.entries)) c.self.view_is (are_keys c.self.inside.states c.self.inside.journal.log c.read_all_at.ensures.ordered c.self.invariant),
-  subst (λ (log : Log). c.read_all_at.result ≡ Err JournalFull ↔ (max_entries < length log.entries + length (known_keys c.self.inside.states.entries))) c.self.view_is c.read_all_at.ensures.full,
-)
+returns-clause-full c =
+    let known = known_ordered c.self.inside.states c.read_all_at.ensures.unique in (
+      known.0,
+      subst (λ (log : Log). AreKeys log known.0) c.self.view_is (are_keys c.self.inside.states c.self.inside.journal.log known.0 c.read_all_at.ensures.unique c.self.invariant known.1),
+      subst (λ (log : Log). c.read_all_at.result ≡ Err JournalFull ↔ (max_entries < length log.entries + length known.0)) c.self.view_is
+          (subst (λ (n : ℕ). c.read_all_at.result ≡ Err JournalFull ↔ (max_entries < length c.self.inside.journal.log.entries + n)) (sym (length_permutation (known_keys c.self.inside.states.entries) known.0 known.1.each)) c.read_all_at.ensures.full),
+    )
 
 pub returns-clause-places : goal.returns-clause-places
 returns-clause-places c = places_told c.read_all_at.result (λ read. read.0.items) c.self.inside.states c.self.inside.journal.log c.args.self.now c.self.view_is c.read_all_at.ensures.places c.read_all_at.ensures.copies

@@ -1,0 +1,44 @@
+//! What the hashes of a vnode's keys begin with.
+
+use object::{Key, KeyState};
+use std::collections::HashMap;
+use std::hash::{BuildHasher, DefaultHasher, RandomState};
+use std::io;
+use std::random::RandomSource;
+
+/// What the hashes of a vnode's keys begin with. Nothing that a vnode answers depends on it, only how long it takes: who can guess a seed can
+/// choose keys that hash alike.
+#[derive(Clone, Copy)]
+pub struct Seed {
+    begun: DefaultHasher,
+}
+
+impl Seed {
+    /// The same seed each time: for keys that no stranger chooses, as those of scripts and tests.
+    pub fn fixed() -> Seed {
+        Seed {
+            begun: DefaultHasher::new(),
+        }
+    }
+
+    /// A seed of 128 random bits.
+    pub fn random(source: &impl RandomSource) -> io::Result<Seed> {
+        let state = RandomState::new(source)?;
+        Ok(Seed {
+            begun: state.build_hasher(),
+        })
+    }
+}
+
+impl BuildHasher for Seed {
+    type Hasher = DefaultHasher;
+
+    ghost build_hasher = { λ seed. seed.begun };
+
+    fn build_hasher(&self) -> DefaultHasher {
+        self.begun
+    }
+}
+
+/// The state of each key, found by the key's hash. They lie in no order that means anything.
+pub(crate) type States = HashMap<Key, KeyState, Seed>;
