@@ -4,7 +4,7 @@ use Rattle.std.proofs.lemmas.List.{append-nil}
 use Rattle.std.proofs.Math.Seq.{drop-append_seam}
 use Rattle.std.proofs.lemmas.Option.{same_Some}
 use Rattle.std.specs.Prelude.{slice_get, None, Some, Contains, Result, Ok, Err, is_ok, is_err}
-use Rattle.std.proofs.lemmas.List.Elements.{Contains-append_right}
+use Rattle.std.proofs.lemmas.List.Elements.{Contains-append_left, Contains-append_right}
 use Rattle.journal.specs.Entry.{Entry}
 use Rattle.journal.specs.Logs.{Log}
 use Rattle.stamps.specs.declared.view.Told.{Told}
@@ -15,11 +15,15 @@ use Rattle.vnode_locks.specs.Gathers.{IsGathered, Stands, Differ, AreInTurn, all
 use Rattle.world.specs.Represents.{log_at}
 use Rattle.world.proofs.Lists.{Contains-nil, Contains-cases, Contains-first, Contains-later}
 use Rattle.rerun.specs.Runs.{IsRunFrom}
+use Rattle.rerun.specs.Wrong.{IsToldOf}
+use Rattle.rerun.specs.declared.kept.Recent.{Recent}
 use Rattle.rerun.proofs.Faultless.{faultless}
+use Rattle.findings.specs.declared.fault.FollowFault.{FollowFault}
 use Rattle.findings.specs.declared.fault.WatchFault.{WatchFault}
 use Rattle.findings.specs.declared.fault.WatchFault.TheVariants.{Found, Lost, NoMemory}
-use Rattle.follow.specs.Waiting.{Taken, AreTakenAlike, taken_at, waiting_at}
-use Rattle.closing.specs.Following.{told_of, is_hand_out, all_taken, HasTaken, AreFronts, IsTakenTo, IsSaidOf, IsFollowedTo}
+use Rattle.follow.specs.Stops.{IsStop}
+use Rattle.follow.specs.Waiting.{Taken, AreTakenAlike, IsNext, taken_at, waiting_at}
+use Rattle.closing.specs.Following.{told_of, is_hand_out, all_taken, answers_kept, AreFronts, HasStopped, HasTaken, IsFollowedTo, IsSaidOf, IsTakenTo, StopsIn}
 
 -- ---- what was taken are fronts
 
@@ -41,16 +45,76 @@ stands_at [] index inside = absurd (omega (arith, inside))
 stands_at (log ∷ logs) zero inside = Contains-first log logs
 stands_at (log ∷ logs) (suc index) inside = Contains-later log logs (log_at logs index) (stands_at logs index (omega (arith, inside)))
 
-pub are_fronts : (first : ℕ) (told before all : List Told) (taken : Taken) (logs : List Log) → HasTaken first told taken → all ≡ before ++ told → Differ logs → ((t : Told) → Contains all t → Stands logs t)
-    → ((vs : List Log) (v : Log) (ts : List Told) → Differ vs → Contains vs v → ((t : Told) → Contains ts t → Stands vs t) → AreInTurn v.vnode 0 ts → (rest : List Entry) × (v.entries ≡ all_handed ts ++ rest))
-    → AreFronts taken logs
-are_fronts first told before all taken logs has is differ stand law index inside within same =
+-- parts of a journal that were handed out in turn are a front of it
+abbrev Law : Type 0
+Law = (vs : List Log) (v : Log) (ts : List Told) → Differ vs → Contains vs v → ((t : Told) → Contains ts t → Stands vs t) → AreInTurn v.vnode 0 ts → (rest : List Entry) × (v.entries ≡ all_handed ts ++ rest)
+
+fronts_of : (first : ℕ) (told : List Told) (taken : Taken) (logs : List Log) → HasTaken first told taken → Differ logs → ((t : Told) → Contains told t → Stands logs t) → Law → AreFronts taken logs
+fronts_of first told taken logs has differ stand law index inside within same =
     let h = has index inside in
     let id : (log_at logs index).vnode ≡ first + index = sym same ∙ h.0 in
     let v = log_at logs index in
     let ts = told_of (first + index) told in
-    let front = law logs v ts differ (stands_at logs index within) (λ t c. stand t (subst (λ (xs : List Told). Contains xs t) (sym is) (Contains-append_right before told t (told_also (first + index) told t c)))) (subst (λ (n : ℕ). AreInTurn n 0 ts) (sym id) h.1.0) in
+    let front = law logs v ts differ (stands_at logs index within) (λ t c. stand t (told_also (first + index) told t c)) (subst (λ (n : ℕ). AreInTurn n 0 ts) (sym id) h.1.0) in
     (front.0, front.1 ∙ ap (λ (es : List Entry). es ++ front.0) h.1.1)
+
+-- what is told last stands there, as all does
+stands_last : (before told all : List Told) (logs : List Log) → all ≡ before ++ told → ((t : Told) → Contains all t → Stands logs t) → (t : Told) → Contains told t → Stands logs t
+stands_last before told all logs is stand t c = stand t (subst (λ (xs : List Told). Contains xs t) (sym is) (Contains-append_right before told t c))
+
+pub are_fronts : (first : ℕ) (told before all : List Told) (taken : Taken) (logs : List Log) → HasTaken first told taken → all ≡ before ++ told → Differ logs → ((t : Told) → Contains all t → Stands logs t) → Law → AreFronts taken logs
+are_fronts first told before all taken logs has is differ stand law = fronts_of first told taken logs has differ (stands_last before told all logs is stand) law
+
+-- ---- where it stopped
+
+-- a list is its first one and the others
+split_first : (queue : List Entry) (e : Entry) → slice_get queue 0 ≡ Some e → queue ≡ e ∷ drop 1 queue
+split_first [] e is = absurd (let none : None ≡ Some e = is in cc)
+split_first (x ∷ queue) e is = ap (λ (y : Entry). y ∷ queue) (same_Some x e is)
+
+-- so much was followed, and what waits stands behind it
+stop_in : (fronts : List ℕ) (followed logs : List Log) (waiting : List (List Entry)) (index : ℕ) (entry : Entry) (fault : FollowFault) → length followed ≡ length logs → ((i : ℕ) → i < length logs → (log_at followed i).vnode ≡ (log_at logs i).vnode)
+    → ((i : ℕ) → i < length logs → (rest : List Entry) × ((log_at logs i).entries ≡ ((log_at followed i).entries ++ waiting_at waiting i) ++ rest)) → IsRunFrom fronts followed → index < length logs → IsNext waiting index entry → IsToldOf fronts followed answers_kept index entry fault
+    → StopsIn fronts logs fault
+stop_in fronts followed logs waiting index entry fault size ids goes run inside next told =
+    let here = goes index inside in
+    let queue = waiting_at waiting index in
+    record {
+      followed = followed;
+      size = size;
+      each = λ i within. record { vnode = ids i within; rest = waiting_at waiting i ++ (goes i within).0; goes_on = (goes i within).1 ∙ append_assoc (log_at followed i).entries (waiting_at waiting i) (goes i within).0 };
+      run = run;
+      index = index;
+      inside = inside;
+      entry = entry;
+      behind = drop 1 queue ++ here.0;
+      next = here.1 ∙ append_assoc (log_at followed index).entries queue here.0 ∙ ap (λ (es : List Entry). (log_at followed index).entries ++ (es ++ here.0)) (split_first queue entry next);
+      told = told;
+    }
+
+-- the watch noticed it while the cluster served
+pub stopped_in : (first n : ℕ) (told before all : List Told) (fronts : List ℕ) (logs : List Log) (fault : FollowFault) → HasStopped first n told fronts fault → all ≡ before ++ told → Differ logs → ((t : Told) → Contains all t → Stands logs t) → Law → length logs ≡ n
+    → ((i : ℕ) → i < length logs → (log_at logs i).vnode ≡ first + i) → StopsIn fronts logs fault
+stopped_in first n told before all fronts logs fault was is differ stand law long numbers =
+    stop_in fronts taken.followed logs taken.waiting was.index was.entry fault size ids goes was.run (let i = was.inside in omega (arith, i, long)) was.next was.is_wrong
+  where
+    taken : Taken
+    taken = was.taken
+
+    size : length taken.followed ≡ length logs
+    size = was.size ∙ sym long
+
+    within : (i : ℕ) → i < length logs → i < length taken.followed
+    within i inside = omega (arith, inside, size)
+
+    ids : (i : ℕ) → i < length logs → (log_at taken.followed i).vnode ≡ (log_at logs i).vnode
+    ids i inside = (was.has i (within i inside)).0 ∙ sym (numbers i inside)
+
+    heard_stand : (t : Told) → Contains was.heard t → Stands logs t
+    heard_stand t c = stands_last before told all logs is stand t (subst (λ (xs : List Told). Contains xs t) (sym was.all) (Contains-append_left was.heard was.unheard t c))
+
+    goes : (i : ℕ) → i < length logs → (rest : List Entry) × ((log_at logs i).entries ≡ ((log_at taken.followed i).entries ++ waiting_at taken.waiting i) ++ rest)
+    goes i inside = fronts_of first was.heard taken logs was.has differ heard_stand law i (within i inside) inside (ids i inside)
 
 -- ---- what was followed are the journals
 
@@ -66,28 +130,40 @@ same_lists [] (y ∷ ys) d size each = absurd (omega arith)
 same_lists (x ∷ xs) [] d size each = absurd (omega arith)
 same_lists (x ∷ xs) (y ∷ ys) d size each = ap (λ z. z ∷ xs) (each 0 (omega arith)) ∙ ap (λ zs. y ∷ zs) (same_lists xs ys d (omega arith) (λ i lt. each (suc i) (omega arith)))
 
+-- what was taken, and then the rest, is the journal
+whole_taken : (old new : Taken) (logs followed : List Log) (waiting : List (List Entry)) → AreFronts old logs → IsTakenTo old new logs (length logs) → AreTakenAlike new.followed new.waiting followed waiting → (i : ℕ) → i < length logs
+    → ((log_at followed i).vnode ≡ (log_at logs i).vnode) × ((log_at followed i).entries ++ waiting_at waiting i ≡ (log_at logs i).entries)
+whole_taken old new logs followed waiting fronts taken alike i inside =
+    let within : i < length old.followed = (let n = taken.inside in omega (arith, n, inside)) in
+    let whole = (log_at logs i).entries in
+    let front = fronts i within inside (taken.ids i inside) in
+    let seam : drop (taken_at old i) whole ≡ front.0 =
+    ap (λ (n : ℕ). drop n whole) (sym (length-append (log_at old.followed i).entries (waiting_at old.waiting i))) ∙ ap (λ (es : List Entry). drop (length (all_taken old i)) es) front.1 ∙ drop-append_seam (all_taken old i) front.0 in (
+      alike.vnodes i ∙ ap (λ (ls : List Log). (log_at ls i).vnode) taken.followed ∙ taken.ids i inside,
+      alike.entries i ∙ ap (λ (ls : List Log). (log_at ls i).entries ++ waiting_at new.waiting i) taken.followed ∙ ap (λ (es : List Entry). (log_at old.followed i).entries ++ es) (taken.waits i inside)
+          ∙ sym (append_assoc (log_at old.followed i).entries (waiting_at old.waiting i) (drop (taken_at old i) whole)) ∙ ap (λ (es : List Entry). all_taken old i ++ es) seam ∙ sym front.1,
+    )
+
 -- all that was taken, and then the rest, is what was followed: the journals
 all_followed : (old new : Taken) (logs followed : List Log) (waiting : List (List Entry)) → AreFronts old logs → IsTakenTo old new logs (length logs) → AreTakenAlike new.followed new.waiting followed waiting → length followed ≡ length logs
     → ((index : ℕ) → index < length logs → length (log_at followed index).entries ≡ length (log_at logs index).entries) → followed ≡ logs
 all_followed old new logs followed waiting fronts taken alike size long =
     same_lists followed logs (record { vnode = 0; entries = [] }) size one
   where
-    entries : (i : ℕ) → i < length logs → (log_at followed i).entries ≡ (log_at logs i).entries
-    entries i inside =
-        let within : i < length old.followed = (let n = taken.inside in omega (arith, n, inside)) in
-        let whole = (log_at logs i).entries in
-        let front = fronts i within inside (taken.ids i inside) in
-        let seam : drop (taken_at old i) whole ≡ front.0 =
-        ap (λ (n : ℕ). drop n whole) (sym (length-append (log_at old.followed i).entries (waiting_at old.waiting i))) ∙ ap (λ (es : List Entry). drop (length (all_taken old i)) es) front.1 ∙ drop-append_seam (all_taken old i) front.0 in
-        let joined : (log_at followed i).entries ++ waiting_at waiting i ≡ whole =
-        alike.entries i ∙ ap (λ (ls : List Log). (log_at ls i).entries ++ waiting_at new.waiting i) taken.followed ∙ ap (λ (es : List Entry). (log_at old.followed i).entries ++ es) (taken.waits i inside)
-        ∙ sym (append_assoc (log_at old.followed i).entries (waiting_at old.waiting i) (drop (taken_at old i) whole)) ∙ ap (λ (es : List Entry). all_taken old i ++ es) seam ∙ sym front.1 in
-        no_rest (log_at followed i).entries (waiting_at waiting i) whole joined (long i inside)
-
     one : (i : ℕ) → i < length logs → log_at followed i ≡ log_at logs i
     one i inside =
-        let id : (log_at followed i).vnode ≡ (log_at logs i).vnode = alike.vnodes i ∙ ap (λ (ls : List Log). (log_at ls i).vnode) taken.followed ∙ taken.ids i inside in
-        ap (λ (v : ℕ). let l : Log = record { vnode = v; entries = (log_at followed i).entries } in l) id ∙ ap (λ (es : List Entry). let l : Log = record { vnode = (log_at logs i).vnode; entries = es } in l) (entries i inside)
+        let whole = whole_taken old new logs followed waiting fronts taken alike i inside in
+        ap (λ (v : ℕ). let l : Log = record { vnode = v; entries = (log_at followed i).entries } in l) whole.0
+        ∙ ap (λ (es : List Entry). let l : Log = record { vnode = (log_at logs i).vnode; entries = es } in l) (no_rest (log_at followed i).entries (waiting_at waiting i) (log_at logs i).entries whole.1 (long i inside))
+
+-- or it stopped there
+pub a_stop : (fronts : List ℕ) (old new : Taken) (logs : List Log) (below : ℕ) (recent : Recent) (fault : FollowFault) → AreFronts old logs → IsTakenTo old new logs (length logs) → length old.followed ≡ length logs → recent ≡ answers_kept
+    → IsStop fronts new.followed new.waiting below recent fault → StopsIn fronts logs fault
+a_stop fronts old new logs below recent fault are taken size kept stop =
+    let whole = whole_taken old new logs stop.logs stop.waiting are taken stop.alike in
+    let long : length stop.logs ≡ length logs = stop.alike.size ∙ ap length taken.followed ∙ size in
+    stop_in fronts stop.logs logs stop.waiting stop.index stop.entry fault long (λ i inside. (whole i inside).0) (λ i inside. ([], sym (whole i inside).1 ∙ sym (append-nil ((log_at stop.logs i).entries ++ waiting_at stop.waiting i)))) stop.run
+    (let i = stop.inside in omega (arith, i, long)) stop.next (subst (λ (r : Recent). IsToldOf fronts stop.logs r stop.index stop.entry fault) kept stop.told)
 
 -- so they are one run
 pub a_yes : (fronts : List ℕ) (old new : Taken) (logs followed : List Log) (waiting : List (List Entry)) → AreFronts old logs → IsTakenTo old new logs (length logs) → AreTakenAlike new.followed new.waiting followed waiting → length followed ≡ length logs
@@ -123,6 +199,6 @@ told_last passes all pass told is same =
 -- what is said of gathered journals of which nothing was there before
 pub said_at_end : (told : List Told) (vnodes : ℕ) (logs : List Log) (r : Result (Unit {0}) WatchFault) → IsGathered told logs → length logs ≡ vnodes → IsSaidOf [] logs r → IsFollowedTo told vnodes r
 said_at_end told vnodes logs (Ok done) gathered size said = (logs, gathered, size, said.whole refl, faultless logs said)
-said_at_end told vnodes logs (Err (Found fault)) gathered size said = said
+said_at_end told vnodes logs (Err (Found fault)) gathered size said = (logs, gathered, size, said)
 said_at_end told vnodes logs (Err Lost) gathered size said = tt
 said_at_end told vnodes logs (Err NoMemory) gathered size said = tt

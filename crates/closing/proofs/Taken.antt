@@ -1,9 +1,10 @@
 -- What a watch has taken is what its pass was told.
 use Rattle.std.proofs.Common.{◌≡◌, ◌≢◌, ℕ, zero, suc, ◌+◌, ◌<◌, ◌==◌, Bool, true, false, ◌&&◌, ◌*◌, ◌≤◌, cond, List, [], ◌∷◌, ◌++◌, length, get_or, replicate, refl, sym, ap, subst, ◌∙◌, inl, inr, arith, append_assoc, length-append, length-set, eq-eqb, Option, Some, None}
-use Rattle.std.specs.Prelude.{All, Contains, MatchBool, Result, Ok, Err, OnOk, IfErr, slice_set}
+use Rattle.std.specs.Prelude.{is_some, All, Contains, MatchBool, Result, Ok, Err, OnOk, IfErr, slice_set}
 use Rattle.std.specs.Global.{Vec}
 use Rattle.std.proofs.lemmas.Bool.{cases_eq}
 use Rattle.std.proofs.lemmas.Bool.Decides.{nat_tests}
+use Rattle.std.proofs.lemmas.Option.{same_Some}
 use Rattle.std.proofs.lemmas.Grind.{flat_map-append}
 use Rattle.std.proofs.lemmas.List.{append-nil, length_push, get_or-set_same, get_or-set_other}
 use Rattle.std.proofs.lemmas.List.Elements.{filter-append, All-append, All-cons, All-contains, All-head, All-nil, All-push, All-tail, All-weaker, Contains-append_right}
@@ -27,8 +28,11 @@ use Rattle.vnode_locks.specs.Calls.{IsFault, IsHandedOut, IsRefusal, outcome_ok,
 use Rattle.vnode_locks.specs.Gathers.{handed, BeginsAt, AreInTurn, all_handed}
 use Rattle.world.specs.Represents.{AreDistinct, log_at, empty_logs}
 use Rattle.findings.specs.declared.fault.FollowFault.{FollowFault}
+use Rattle.rerun.specs.declared.kept.Recent.{Recent}
+use Rattle.rerun.specs.Wrong.{IsToldOf}
+use Rattle.follow.specs.Stops.{IsStop}
 use Rattle.follow.specs.Waiting.{Taken, AreTakenAlike, taken_at, waiting_at}
-use Rattle.closing.specs.Following.{told_of, is_hand_out, all_taken, AreRestarts, IsHandedTo, HasTaken, IsIdle, IsOfWatch, IsRestart, IsTakenMore, IsToldMore, Rouses}
+use Rattle.closing.specs.Following.{told_of, is_hand_out, all_taken, answers_kept, AreRestarts, HasStopped, IsHandedTo, HasTaken, IsIdle, IsOfWatch, IsRestart, IsTakenMore, IsToldMore, Rouses, Watches}
 
 -- ---- one hand-out more
 
@@ -153,15 +157,96 @@ taken_alike first told old new was alike i inside =
     let h = was i (omega (arith, alike.size, inside)) in
     (alike.vnodes i ∙ h.0, subst (λ (es : List Entry). IsHandedTo told (first + i) es) (sym (alike.entries i)) h.1)
 
--- where no fault was found, what was taken is as before
-pub followed_alike : (first : ℕ) (told : List Told) (old new : Taken) (r : Result (Unit {0}) FollowFault) → (old.fault ≡ None → HasTaken first told old) → OnOk r (AreTakenAlike old.followed old.waiting new.followed new.waiting) → IfErr r (λ fault. new.fault ≡ Some fault)
-    → ((fault : FollowFault) → old.fault ≡ Some fault → (r ≡ Err fault) × (new ≡ old)) → new.fault ≡ None → HasTaken first told new
-followed_alike first told old new (Err why) was alike found again none = absurd (let clash : Some why ≡ None = sym found ∙ none in cc)
-followed_alike first told old new (Ok done) was alike found again none = go old.fault refl
+-- ---- what a watch keeps
+
+-- a fault that was found stays found, whatever is told behind it
+pub stopped_on : (first n : ℕ) (old new more : List Told) (fronts : List ℕ) (fault : FollowFault) → HasStopped first n old fronts fault → new ≡ old ++ more → HasStopped first n new fronts fault
+stopped_on first n old new more fronts fault was is = record {
+  heard = was.heard;
+  unheard = was.unheard ++ more;
+  all = is ∙ ap (λ (ts : List Told). ts ++ more) was.all ∙ append_assoc was.heard was.unheard more;
+  taken = was.taken;
+  size = was.size;
+  has = was.has;
+  run = was.run;
+  index = was.index;
+  inside = was.inside;
+  entry = was.entry;
+  next = was.next;
+  is_wrong = was.is_wrong;
+}
+
+-- nothing was taken, and no fault was found
+pub watches_none : (first n : ℕ) (told : List Told) (taken : Taken) → taken.fault ≡ None → length taken.followed ≡ n → HasTaken first told taken → Watches first n told taken
+watches_none first n told taken none size has = record { size = λ is. size; has = λ is. has; stopped = λ fault is. absurd (let clash : Some fault ≡ None = sym is ∙ none in cc) }
+
+-- vnodes were started again
+pub watches_still : (first n : ℕ) (old new more : List Told) (taken : Taken) → Watches first n old taken → new ≡ old ++ more → All (λ t. IsRestart t.news) more → Watches first n new taken
+watches_still first n old new more taken was is all = record {
+  size = was.size;
+  has = λ none. taken_still first old new taken (was.has none) more is all;
+  stopped = λ fault found. stopped_on first n old new more taken.fronts fault (was.stopped fault found) is;
+}
+
+-- after a fault what is handed out is let go
+pub watches_let_go : (first n : ℕ) (old new : View) (taken : Taken) (id place : ℕ) (blocks : List (Vec Entry)) → Watches first n old.told taken → is_some taken.fault ≡ true → IsHandedOut old new id place blocks → Watches first n new.told taken
+watches_let_go first n old new taken id place blocks was some (at, stamp, news, full, few) = record {
+  size = λ none. absurd (found none);
+  has = λ none. absurd (found none);
+  stopped = λ fault is. stopped_on first n old.told new.told (hand_out_of id at stamp place (all_of blocks) ∷ []) taken.fronts fault (was.stopped fault is) news.0;
+}
   where
-    go : (f : Option FollowFault) → old.fault ≡ f → HasTaken first told new
-    go None is = taken_alike first told old new (was is) alike
-    go (Some why) is = absurd (let r : Ok done ≡ Err why = (again why is).0 in cc)
+    found : taken.fault ≡ None → ⊥
+    found none = let clash : false ≡ true = sym (ap is_some none) ∙ some in cc
+
+-- what was handed out was taken
+pub watches_more : (first n : ℕ) (old_pass new_pass : View) (old taken : Taken) (index id place : ℕ) (blocks : List (Vec Entry)) → Watches first n old_pass.told old → taken.fault ≡ old.fault → taken.fronts ≡ old.fronts → IsTakenMore old taken index place (all_of blocks) → id ≡ first + index
+    → IsHandedOut old_pass new_pass id place blocks → Watches first n new_pass.told taken
+watches_more first n old_pass new_pass old taken index id place blocks was same fronts m is (at, stamp, news, full, few) = record {
+  size = λ none. ap length m.followed ∙ was.size (sym same ∙ none);
+  has = λ none. handed_more first old_pass new_pass old taken index id place blocks (was.has (sym same ∙ none)) m is (at, stamp, news, full, few);
+  stopped = λ fault found. subst (λ (ns : List ℕ). HasStopped first n new_pass.told ns fault) (sym fronts)
+      (stopped_on first n old_pass.told new_pass.told (hand_out_of id at stamp place (all_of blocks) ∷ []) old.fronts fault (was.stopped fault (sym same ∙ found)) news.0);
+}
+
+-- the follower stopped at what waited
+stopped_at : (first n : ℕ) (told : List Told) (old : Taken) (below : ℕ) (fault : FollowFault) → HasTaken first told old → length old.followed ≡ n → old.recent ≡ answers_kept → IsStop old.fronts old.followed old.waiting below old.recent fault → HasStopped first n told old.fronts fault
+stopped_at first n told old below fault has size recent stop =
+    let then : Taken = record { fronts = old.fronts; followed = stop.logs; waiting = stop.waiting; fault = None; recent = old.recent } in
+    record {
+      heard = told;
+      unheard = [];
+      all = sym (append-nil told);
+      taken = then;
+      size = stop.alike.size ∙ size;
+      has = taken_alike first told old then has stop.alike;
+      run = stop.run;
+      index = stop.index;
+      inside = (let i = stop.inside in let s = stop.alike.size in omega (arith, i, s, size));
+      entry = stop.entry;
+      next = stop.next;
+      is_wrong = subst (λ (r : Recent). IsToldOf old.fronts stop.logs r stop.index stop.entry fault) recent stop.told;
+    }
+
+-- so it was followed
+pub watches_followed : (first n : ℕ) (told : List Told) (old new : Taken) (below : ℕ) (r : Result (Unit {0}) FollowFault) → Watches first n told old → old.recent ≡ answers_kept → OnOk r (AreTakenAlike old.followed old.waiting new.followed new.waiting) → OnOk r (new.fault ≡ None)
+    → IfErr r (λ fault. new.fault ≡ Some fault) → (old.fault ≡ None → IfErr r (λ fault. IsStop old.fronts old.followed old.waiting below old.recent fault)) → ((fault : FollowFault) → old.fault ≡ Some fault → (r ≡ Err fault) × (new ≡ old)) → new.fronts ≡ old.fronts → Watches first n told new
+watches_followed first n told old new below r was recent alike none found stop again fronts = by old.fault refl r refl
+  where
+    by : (f : Option FollowFault) → old.fault ≡ f → (q : Result (Unit {0}) FollowFault) → r ≡ q → Watches first n told new
+    by (Some why) is q same = subst (λ (t : Taken). Watches first n told t) (sym (again why is).1) was
+    by None is (Ok done) same =
+        let ok : AreTakenAlike old.followed old.waiting new.followed new.waiting = subst (λ (x : Result (Unit {0}) FollowFault). OnOk x (AreTakenAlike old.followed old.waiting new.followed new.waiting)) same alike in
+        watches_none first n told new (subst (λ (x : Result (Unit {0}) FollowFault). OnOk x (new.fault ≡ None)) same none) (ok.size ∙ was.size is) (taken_alike first told old new (was.has is) ok)
+    by None is (Err why) same =
+        let told_fault : new.fault ≡ Some why = subst (λ (x : Result (Unit {0}) FollowFault). IfErr x (λ fault. new.fault ≡ Some fault)) same found in
+        let at : IsStop old.fronts old.followed old.waiting below old.recent why = subst (λ (x : Result (Unit {0}) FollowFault). IfErr x (λ fault. IsStop old.fronts old.followed old.waiting below old.recent fault)) same (stop is) in
+        record {
+          size = λ no. absurd (let clash : Some why ≡ None = sym told_fault ∙ no in cc);
+          has = λ no. absurd (let clash : Some why ≡ None = sym told_fault ∙ no in cc);
+          stopped = λ fault is_found. subst (λ (ns : List ℕ). HasStopped first n told ns fault) (sym fronts)
+              (subst (λ (f : FollowFault). HasStopped first n told old.fronts f) (same_Some why fault (sym told_fault ∙ is_found)) (stopped_at first n told old below why (was.has is) (was.size is) recent at));
+        }
 
 -- ---- nothing was taken yet
 

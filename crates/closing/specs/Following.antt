@@ -1,5 +1,5 @@
 -- What is said of the journals of a gathered cluster that was followed while it served (this store's profile).
-use Rattle.std.specs.Prelude.{◌≡◌, ◌<◌, ◌≤◌, ◌+◌, ◌*◌, ◌⊎◌, ◌&&◌, ◌==◌, ℕ, Bool, true, false, IsTrue, List, [], ◌++◌, All, drop, filter, length, Result, Ok, Err}
+use Rattle.std.specs.Prelude.{◌≡◌, ◌<◌, ◌≤◌, ◌+◌, ◌*◌, ◌⊎◌, ◌&&◌, ◌==◌, ℕ, Bool, true, false, IsTrue, List, [], ◌∷◌, ◌++◌, All, drop, filter, length, Some, None, Result, Ok, Err}
 use Rattle.calls.specs.declared.request.Request.TheVariants as request
 use Rattle.journal.specs.Entry.{Entry}
 use Rattle.journal.specs.Logs.{Log}
@@ -11,9 +11,10 @@ use Rattle.rerun.specs.Faulty.{IsFaultless}
 use Rattle.rerun.specs.Interleaved.{IsInterleaving}
 use Rattle.rerun.specs.Runs.{IsRunFrom}
 use Rattle.world.specs.Represents.{log_at}
-use Rattle.follow.specs.Stops.{HasStopped}
-use Rattle.follow.specs.Waiting.{Taken, bytes_waiting, count_waiting, taken_at, waiting_at}
+use Rattle.follow.specs.Waiting.{IsNext, Taken, bytes_waiting, count_waiting, taken_at, waiting_at}
 use Rattle.rerun.specs.declared.kept.Recent.{Recent}
+use Rattle.rerun.specs.Wrong.{IsToldOf}
+use Rattle.findings.specs.declared.fault.FollowFault.{FollowFault}
 use Rattle.findings.specs.declared.fault.WatchFault.{WatchFault}
 use Rattle.findings.specs.declared.fault.WatchFault.TheVariants.{Found, Lost, NoMemory}
 
@@ -21,20 +22,39 @@ use Rattle.findings.specs.declared.fault.WatchFault.TheVariants.{Found, Lost, No
 abbrev pub answers_kept : Recent
 answers_kept = record { always = 256; entries = 16384; bytes = 33554432 }
 
+-- a log is the front of a journal
+pub record IsFrontOf (followed journal : Log) : Type 0 where
+  pub vnode : followed.vnode ≡ journal.vnode
+  pub rest : List Entry
+  pub goes_on : journal.entries ≡ followed.entries ++ rest
+
+-- So much of these journals, a front of each, is one run of the world from the fronts on that were there before, and the entry that comes next in one of them
+-- is the fault's.
+pub record StopsIn (fronts : List ℕ) (logs : List Log) (fault : FollowFault) : Type 0 where
+  pub followed : List Log
+  pub size : length followed ≡ length logs
+  pub each : (index : ℕ) → index < length logs → IsFrontOf (log_at followed index) (log_at logs index)
+  pub run : IsRunFrom fronts followed
+  pub index : ℕ
+  pub inside : index < length logs
+  pub entry : Entry
+  pub behind : List Entry
+  pub next : (log_at logs index).entries ≡ (log_at followed index).entries ++ entry ∷ behind
+  pub told : IsToldOf fronts followed answers_kept index entry fault
+
 -- Where it is said of journals that they are one run, they are one from their fronts on, for each beginning of the world that has led to these. A fault that
--- was found is so of what was taken. Entries that weren't taken, other fronts and want of memory say nothing of them.
+-- was found is so of these journals. Entries that weren't taken, other fronts and want of memory say nothing of them.
 abbrev pub IsSaidOf : List ℕ → List Log → Result (Unit {0}) WatchFault → Type 0
 IsSaidOf fronts logs (Ok all) = IsRunFrom fronts logs
-IsSaidOf fronts logs (Err (Found fault)) = HasStopped fronts answers_kept fault
+IsSaidOf fronts logs (Err (Found fault)) = StopsIn fronts logs fault
 IsSaidOf fronts logs (Err Lost) = Unit {0}
 IsSaidOf fronts logs (Err NoMemory) = Unit {0}
 
--- Where it is said that the journals are one run, it is said of so many journals that hold what was told, each of it once: they are one run of the world, of which
--- nothing was there before, and no fault stands anywhere. A fault that was found is so of what was taken. Entries that weren't taken and want of memory say nothing of
--- them.
+-- What is said is said of so many journals that hold what was told, each of it once. Where they are one run, they are one of the world, of which nothing was there
+-- before, and no fault stands anywhere. A fault that was found is so of them. Entries that weren't taken and want of memory say nothing of them.
 abbrev pub IsFollowedTo : List Told → ℕ → Result (Unit {0}) WatchFault → Type 0
 IsFollowedTo told vnodes (Ok all) = (logs : List Log) × IsGathered told logs × (length logs ≡ vnodes) × IsInterleaving logs × IsFaultless logs
-IsFollowedTo told vnodes (Err (Found fault)) = HasStopped [] answers_kept fault
+IsFollowedTo told vnodes (Err (Found fault)) = (logs : List Log) × IsGathered told logs × (length logs ≡ vnodes) × StopsIn [] logs fault
 IsFollowedTo told vnodes (Err Lost) = Unit {0}
 IsFollowedTo told vnodes (Err NoMemory) = Unit {0}
 
@@ -65,6 +85,29 @@ IsHandedTo told vnode entries = AreInTurn vnode 0 (told_of vnode told) × (all_h
 -- Vnodes are followed that are numbered from the first on, and of each of them was taken what it has handed out.
 abbrev pub HasTaken : ℕ → List Told → Taken → Type 0
 HasTaken first told taken = (index : ℕ) → index < length taken.followed → ((log_at taken.followed index).vnode ≡ first + index) × IsHandedTo told (first + index) (all_taken taken index)
+
+-- Of what so many vnodes had handed out to begin with, as it was told, all was taken, so much was followed as one run of the world from the fronts on, and the
+-- entry that was next then is the fault's.
+pub record HasStopped (first vnodes : ℕ) (told : List Told) (fronts : List ℕ) (fault : FollowFault) : Type 0 where
+  pub heard : List Told
+  pub unheard : List Told
+  pub all : told ≡ heard ++ unheard
+  pub taken : Taken
+  pub size : length taken.followed ≡ vnodes
+  pub has : HasTaken first heard taken
+  pub run : IsRunFrom fronts taken.followed
+  pub index : ℕ
+  pub inside : index < vnodes
+  pub entry : Entry
+  pub next : IsNext taken.waiting index entry
+  pub is_wrong : IsToldOf fronts taken.followed answers_kept index entry fault
+
+-- What a watch of so many vnodes keeps, as long as all that was handed out could be taken: all of it was taken; or a fault was found, which is so of what was taken
+-- until then.
+pub record Watches (first vnodes : ℕ) (told : List Told) (taken : Taken) : Type 0 where
+  pub size : taken.fault ≡ None → length taken.followed ≡ vnodes
+  pub has : taken.fault ≡ None → HasTaken first told taken
+  pub stopped : (fault : FollowFault) → taken.fault ≡ Some fault → HasStopped first vnodes told taken.fronts fault
 
 -- what a watch was told, and what was taken
 pub record Watched : Type 0 where

@@ -1,10 +1,12 @@
 //! The end of a cluster that was followed.
 
-ghost use Rattle.std.specs.Prelude.{◌≡◌, ◌≤◌, ◌+◌, ◌++◌, length, true, vec_len, None, OnOk, IfOk, IfErr, IsTrue};
+ghost use Rattle.std.specs.Prelude.{◌≡◌, ◌<◌, ◌≤◌, ◌+◌, ◌++◌, ℕ, length, vec_len, None, Some, OnOk, IfOk, IfErr, IsTrue};
 ghost use Rattle.std.specs.List.{flat_map};
+ghost use Rattle.findings.specs.declared.fault.FollowFault.{FollowFault as Faulted};
 ghost use Rattle.findings.specs.Unsaid.{IsNoYes};
 ghost use Rattle.vnode_locks.specs.Gathers.{IsGathered};
-ghost use Rattle.closing.specs.Following.{AreFronts, IsFollowedTo, IsLong, IsSaidOf, IsTakenTo, answers_kept};
+ghost use Rattle.world.specs.Represents.{log_at};
+ghost use Rattle.closing.specs.Following.{AreFronts, IsFollowedTo, IsLong, IsSaidOf, IsTakenTo, StopsIn, answers_kept};
 
 use crate::copying::rest_of;
 use crate::watch::{Spot, Watch};
@@ -26,8 +28,8 @@ pub struct Closed {
 /// Gathers a cluster, all of whose passes are back, the watch's too, and has what is left of the journals of its vnodes followed. Nothing was there before: the
 /// journals are one run from their first entries on.
 ///
-/// The fault is the follower's, which may have found it while the cluster served. `Lost` where it didn't take all that the vnodes handed
-/// out, or follows others, or began from fronts. `NoMemory` where a growth was refused.
+/// The fault is the follower's, which may have found it while the cluster served: so much of the journals is one run, and the entry that comes next is wrong
+/// so. `Lost` where it didn't take all that the vnodes handed out, or follows others, or began from fronts. `NoMemory` where a growth was refused.
 pub fn close_watched<B: Room + Spot>(
     alloc: Global,
     cluster: Cluster<B>,
@@ -60,6 +62,8 @@ pub fn close_keeping<B: Room + Spot>(
 {
     let Watch {
         pass,
+        first,
+        vnodes: count,
         mut follower,
         lost,
         ..
@@ -68,11 +72,31 @@ pub fn close_keeping<B: Room + Spot>(
     hand_outs_are_a_front();
     match cluster.gather(passes) {
         Ok(vnodes) => {
-            let said = say(alloc, &mut follower, lost, &vnodes, fronts);
+            let said = if are_numbered(&vnodes, first, count) {
+                say(alloc, &mut follower, lost, &vnodes, fronts)
+            } else {
+                Err(WatchFault::Lost)
+            };
             Ok(Closed { vnodes, said })
         }
         Err(_) => Err(AllocError),
     }
+}
+
+// Whether these are so many vnodes, numbered from the first identifier on.
+fn are_numbered(vnodes: &[Vnode], first: u32, count: usize) -> bool
+    ensures count { IsTrue result → length vnodes.now ≡ count }
+    ensures numbers { IsTrue result → (index : ℕ) → index < length vnodes.now → (log_at vnodes.now index).vnode ≡ first + index }
+{
+    if vnodes.len() != count {
+        return false;
+    }
+    for index in 0..count {
+        if vnodes[index].id() as usize != first as usize + index {
+            return false;
+        }
+    }
+    true
 }
 
 // What is said of the journals of vnodes, from their fronts on.
@@ -83,18 +107,19 @@ fn say(
     vnodes: &[Vnode],
     fronts: &[usize],
 ) -> Followed
-    requires fronts { lost ≡ None → follower.old.fault ≡ None → AreFronts follower.old vnodes.now }
+    requires fronts { lost ≡ None → follower.old.fault ≡ None → AreFronts follower.old vnodes.now × (length follower.old.followed ≡ length vnodes.now) }
+    requires stopped { lost ≡ None → (fault : Faulted) → follower.old.fault ≡ Some fault → StopsIn follower.old.fronts vnodes.now fault }
     requires recent { follower.old.recent ≡ answers_kept }
     ensures said { IsSaidOf fronts.now vnodes.now result }
 {
     if follower.fronts() != fronts {
         return Err(WatchFault::Lost);
     }
-    if let Some(fault) = follower.fault() {
-        return Err(WatchFault::Found(fault));
+    if let Some(why) = lost {
+        return Err(WatchFault::from(why));
     }
-    match lost {
-        Some(why) => Err(WatchFault::from(why)),
+    match follower.fault() {
+        Some(fault) => Err(WatchFault::Found(fault)),
         None => follow_rest(alloc, follower, vnodes),
     }
 }
@@ -102,16 +127,16 @@ fn say(
 // Has what is left of the journals of vnodes followed.
 fn follow_rest(alloc: Global, follower: &mut Follower, vnodes: &[Vnode]) -> Followed
     requires fronts { AreFronts follower.old vnodes.now }
+    requires size { length follower.old.followed ≡ length vnodes.now }
     requires none { follower.old.fault ≡ None }
     requires recent { follower.old.recent ≡ answers_kept }
     ensures said { IsSaidOf follower.old.fronts vnodes.now result }
 {
     take_rest(alloc, follower, vnodes)?;
-    follower.follow(u64::MAX)?;
-    if has_all(follower, vnodes) {
-        Ok(())
-    } else {
-        Err(WatchFault::Lost)
+    match follower.follow(u64::MAX) {
+        Ok(()) if has_all(follower, vnodes) => Ok(()),
+        Ok(()) => Err(WatchFault::Lost),
+        Err(fault) => Err(WatchFault::Found(fault)),
     }
 }
 

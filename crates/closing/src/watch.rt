@@ -16,6 +16,7 @@ use std::alloc::{AllocError, Global};
 use std::marker::{Brand, Model};
 use std::sync::Wait;
 use thiserror::Error;
+use vnode::Seed;
 
 /// Of which of the last entries of each vnode the answers are kept: a merge may name any of these.
 pub const RECENT: Recent = Recent {
@@ -100,6 +101,9 @@ impl Seen {
 #[derive(Drop)]
 pub struct Watch<B: Room + Spot> {
     pub(crate) pass: Pass<B>,
+    /// The identifier from which on the vnodes are numbered, and how many are followed.
+    pub(crate) first: u32,
+    pub(crate) vnodes: usize,
     pub(crate) follower: Follower,
     seen: Vec<Seen>,
     /// The number below which all was followed.
@@ -112,13 +116,13 @@ pub struct Watch<B: Room + Spot> {
 
 impl<B: Room + Spot> Model for Watch<B> {
     ghost use Rattle.std.specs.Prelude.{◌≡◌, None};
-    ghost use Rattle.closing.specs.Following.{Watched, HasTaken, answers_kept};
+    ghost use Rattle.closing.specs.Following.{Watched, Watches, answers_kept};
 
     ghost Value = { Watched };
 
     ghost view = { λ w. record { told = w.pass.told; taken = w.follower } };
 
-    ghost invariant = { λ w. (w.follower.recent ≡ answers_kept) × (w.lost ≡ None → w.follower.fault ≡ None → HasTaken B.first w.pass.told w.follower) };
+    ghost invariant = { λ w. (w.first ≡ B.first) × (w.follower.recent ≡ answers_kept) × (w.lost ≡ None → Watches B.first w.vnodes w.pass.told w.follower) };
 }
 
 // The number after the stamp of the last entry that was handed out.
@@ -142,6 +146,7 @@ fn take_blocks(
     ensures taken { OnOk result (IsTakenMore follower.old follower.new index handout.first (all_of handout.blocks.items)) }
     ensures fault { follower.new.fault ≡ follower.old.fault }
     ensures recent { follower.new.recent ≡ follower.old.recent }
+    ensures fronts { follower.new.fronts ≡ follower.old.fronts }
 {
     if index >= follower.count() {
         return Err(TakeFault::Unknown);
@@ -200,13 +205,34 @@ impl<B: Room + Spot> Watch<B> {
         ensures vnodes { IfOk result (λ watch. length watch.taken.followed ≡ vnodes) }
         ensures fronts { IfOk result (λ watch. watch.taken.fronts ≡ []) }
     {
-        Watch::new_from(alloc, passes, first, vnodes, Vec::new(alloc))
+        Watch::new_seeded(alloc, Seed::fixed(), passes, first, vnodes, Vec::new(alloc))
     }
 
     /// The same of vnodes of which so many of the first entries of each, by index, are there before anything else happens, as a store that begins with what it kept
     /// makes them: its front. What comes behind the fronts is followed as a run from there on.
     pub fn new_from(
         alloc: Global,
+        passes: &mut Vec<Pass<B>>,
+        first: u32,
+        vnodes: usize,
+        fronts: Vec<usize>,
+    ) -> Result<Watch<B>, AllocError>
+        requires first { first ≡ B.first }
+        requires few { first + vnodes ≤ 2 ^ 32 }
+        requires some { 0 < vec_len passes.old }
+        requires fresh { All (λ p. p ≡ pass_view 0 []) passes.old.items }
+        ensures passes { vec_len passes.new + 1 ≡ vec_len passes.old }
+        ensures told { IfOk result (λ watch. watch.told ≡ []) }
+        ensures vnodes { IfOk result (λ watch. length watch.taken.followed ≡ vnodes) }
+        ensures fronts { IfOk result (λ watch. watch.taken.fronts ≡ fronts.items) }
+    {
+        Watch::new_seeded(alloc, Seed::fixed(), passes, first, vnodes, fronts)
+    }
+
+    /// The same, by vnodes of its own that are made by a seed.
+    pub fn new_seeded(
+        alloc: Global,
+        seed: Seed,
         passes: &mut Vec<Pass<B>>,
         first: u32,
         vnodes: usize,
@@ -237,7 +263,9 @@ impl<B: Room + Spot> Watch<B> {
         }
         Ok(Watch {
             pass,
-            follower: Follower::new_from(alloc, &ids, fronts, RECENT)?,
+            first,
+            vnodes,
+            follower: Follower::new_seeded(alloc, seed, &ids, fronts, RECENT)?,
             seen,
             reached: 0,
             lost: None,

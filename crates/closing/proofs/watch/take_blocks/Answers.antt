@@ -14,4 +14,5 @@ loop-block-preserved c =
           (all_of-push c.loop-block.yielded c.in-Some.block);
       fault = ap (λ (t : Taken). t.fault) is ∙ i.fault;
       recent = ap (λ (t : Taken). t.recent) is ∙ i.recent;
+      fronts = ap (λ (t : Taken). t.fronts) is ∙ i.fronts;
     }

@@ -10,4 +10,5 @@ invariant-loop-block l = record {
   taken : IsTakenMore l.initial.follower l.follower l.index l.first (all_of l.yielded);
   fault : l.follower.fault ≡ l.initial.follower.fault;
   recent : l.follower.recent ≡ l.initial.follower.recent;
+  fronts : l.follower.fronts ≡ l.initial.follower.fronts;
 }

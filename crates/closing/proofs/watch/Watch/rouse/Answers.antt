@@ -1,14 +1,14 @@
 use Rattle.std.proofs.Common.{◌∙◌, ◌+◌, ◌<◌, ◌≤◌, ℕ, List, length, ap, refl, sym, subst, arith}
 use Rattle.stamps.specs.declared.view.Told.{Told}
 use Rattle.follow.specs.Waiting.{Taken, waiting_at}
-use Rattle.closing.specs.Following.{Watched, HasTaken, IsIdle, Rouses}
+use Rattle.closing.specs.Following.{Watched, Watches, IsIdle, Rouses}
 use Rattle.closing.specs.declared.watch.Watch.TheInside.{Inside}
-use Rattle.closing.proofs.Taken.{RousesUpTo, nothing_waits, restarts_alone, rouses_all, rouses_more, rouses_none, rouses_on, taken_still}
+use Rattle.closing.proofs.Taken.{RousesUpTo, nothing_waits, restarts_alone, rouses_all, rouses_more, rouses_none, rouses_on, watches_still}
 use Rattle.closing.proofs.watch.Watch.rouse.Goals as goal
 use Rattle.closing.proofs.watch.Watch.rouse.Goals.{then-waiting-eq0, else-waiting-eq0}
 
 pub loop-index-init : goal.loop-index-init
-loop-index-init g c = record { told = rouses_none 0 g.B.Spot.first c.self.inside.follower c.self.inside.pass.told; follower = refl; lost = refl }
+loop-index-init g c = record { told = rouses_none 0 g.B.Spot.first c.self.inside.follower c.self.inside.pass.told; follower = refl; lost = refl; first = refl; vnodes = refl }
 
 pub waiting-requires : goal.waiting-requires
 waiting-requires g c =
@@ -37,6 +37,8 @@ loop-index-preserved g c =
                 (rouses_more i first taken c.self.inside.pass.told c.loop-index.self-inside.pass.told w.fill_block.new.pass.told (c.args.cluster.now.first + i) was.told w.fill_block.ensures idle);
             follower = ap (λ (s : Inside g.row.B.Denot). s.follower) w.self-inside-is ∙ was.follower;
             lost = ap (λ (s : Inside g.row.B.Denot). s.lost) w.self-inside-is ∙ was.lost;
+            first = ap (λ (s : Inside g.row.B.Denot). s.first) w.self-inside-is ∙ was.first;
+            vnodes = ap (λ (s : Inside g.row.B.Denot). s.vnodes) w.self-inside-is ∙ was.vnodes;
           })
       | else-waiting-eq0 w ↦
           (let was = c.loop-index.invariant in
@@ -46,6 +48,8 @@ loop-index-preserved g c =
                 (rouses_on c.loop-index.index g.B.Spot.first c.self.inside.follower c.self.inside.pass.told c.loop-index.self-inside.pass.told was.told);
             follower = ap (λ (s : Inside g.row.B.Denot). s.follower) w.self-inside-is ∙ was.follower;
             lost = ap (λ (s : Inside g.row.B.Denot). s.lost) w.self-inside-is ∙ was.lost;
+            first = ap (λ (s : Inside g.row.B.Denot). s.first) w.self-inside-is ∙ was.first;
+            vnodes = ap (λ (s : Inside g.row.B.Denot). s.vnodes) w.self-inside-is ∙ was.vnodes;
           })
     ]
 
@@ -53,10 +57,11 @@ pub invariant_of-self : goal.invariant_of-self
 invariant_of-self g c =
     let told = c.loop-index.invariant.told in
     let same = c.loop-index.invariant.follower in (
-      ap (λ (t : Taken). t.recent) same ∙ c.self.invariant.0,
-      λ lost none. taken_still g.B.Spot.first c.self.inside.pass.told c.loop-index.self-inside.pass.told c.loop-index.self-inside.follower
-          (subst (λ (t : Taken). HasTaken g.B.Spot.first c.self.inside.pass.told t) (sym same) (c.self.invariant.1 (sym c.loop-index.invariant.lost ∙ lost) (sym (ap (λ (t : Taken). t.fault) same) ∙ none)))
-          told.0 told.1 (restarts_alone g.B.Spot.first c.self.inside.follower told.0 told.2),
+      c.loop-index.invariant.first ∙ c.self.invariant.0,
+      ap (λ (t : Taken). t.recent) same ∙ c.self.invariant.1,
+      λ lost. subst (λ (n : ℕ). Watches g.B.Spot.first n c.loop-index.self-inside.pass.told c.loop-index.self-inside.follower) (sym c.loop-index.invariant.vnodes) (watches_still g.B.Spot.first c.self.inside.vnodes c.self.inside.pass.told c.loop-index.self-inside.pass.told told.0 c.loop-index.self-inside.follower
+          (subst (λ (t : Taken). Watches g.B.Spot.first c.self.inside.vnodes c.self.inside.pass.told t) (sym same) (c.self.invariant.2 (sym c.loop-index.invariant.lost ∙ lost)))
+          told.1 (restarts_alone g.B.Spot.first c.self.inside.follower told.0 told.2)),
     )
 
 pub returns-clause-told : goal.returns-clause-told

@@ -1,6 +1,6 @@
 use Rattle.std.proofs.Common.{◌≡◌, vec_len}
 use Rattle.closing.proofs.Taken.{AreNumbered}
-use Rattle.closing.proofs.watch.Watch.new_from.Given as goal
+use Rattle.closing.proofs.watch.Watch.new_seeded.Given as goal
 
 -- so many identifiers, numbered from the first on
 abbrev pub invariant-loop-index : goal.invariant-loop-index
