@@ -88,6 +88,14 @@ row_there [] k h = absurd (omega arith)
 row_there (r ∷ rows) zero h = refl
 row_there (r ∷ rows) (suc k) h = row_there rows k (omega arith)
 
+-- the row at hand is the table's
+pub known_here : (p : Program) (rows : List (Option Row)) (here : Option Row) (i slot : ℕ) → IsPass p rows here i → i ≡ slot → slot < length p.code → row_at (table p) slot ≡ here
+known_here p rows here i slot pass is within =
+    let long = length_rows p (length p.code) in
+    let there = row_there (table p) slot (omega (arith, long, within)) in
+    let known = row_here p rows here slot (subst (IsPass p rows here) is pass) within in
+    same_Some _ _ (sym there ∙ known)
+
 missed : (profile : Profile) (k : ℕ) (es : List Edge) (o : Option Row) → Misses k es → into profile k es o ≡ o
 missed profile k [] o m = refl
 missed profile k (e ∷ es) o m = ap (into profile k es) (cond-false (eqb e.0 k) (joined profile o e.1) o (ne_eqb e.0 k m.0)) ∙ missed profile k es o m.1

@@ -105,7 +105,7 @@ pub fn whole_cell(profile: Profile, address: Kind, offset: i16, size: u32) -> Op
 }
 
 /// Whether the cell that begins at a place has a byte of a span.
-fn is_touched(span: Span, place: u32) -> bool
+pub fn is_touched(span: Span, place: u32) -> bool
     requires near { place ≤ 2 ^ 20 }
     ensures { result ≡ is_touched span place }
 {
@@ -277,7 +277,7 @@ pub fn is_readable(cell: Option<usize>, span: Option<Span>, row: &[Kind]) -> boo
 }
 
 /// The places of the bytes that a pointer and a number up to a limit name.
-fn span_given(limit: u32, address: Kind, len: Kind) -> Option<Span>
+pub fn span_given(limit: u32, address: Kind, len: Kind) -> Option<Span>
     requires { IsKind address }
     ensures { result ≡ span_given limit address len }
 {

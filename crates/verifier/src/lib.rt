@@ -21,12 +21,15 @@ mod windows;
 // What the pass does at one slot: the rules on its instruction, the kinds after it, those that its jump takes along, and the sum that
 // is known there.
 pub use bpfimage::{FormRule, Image, ImageFault, ImageKind, raw_image, read_image};
-pub use callee::Called;
+pub use callee::{Called, callee_in};
 pub use candidate::Candidate;
+pub use cells::{is_touched, span_given, span_of};
 pub use edges::taken_edge;
+pub use kinds::kind_of;
 pub use rule::{KindRule, Refused, Rule};
 pub use rules::advance;
+pub use span::Span;
 pub use sum::Sum;
 pub use sums::{Sums, tell};
 pub use verified::Verified;
-pub use verifying::verify;
+pub use verifying::{judge, row_before, verify};

@@ -7,8 +7,8 @@ ghost use Rattle.verifier.specs.Program.{program_of, IsSafeProgram};
 ghost use Rattle.verifier.specs.Candidates.{program_in};
 ghost use Rattle.verifier.specs.Registers.{cell_count, entry};
 ghost use Rattle.verifier.specs.Sums.{sum_at};
-ghost use Rattle.verifier.specs.Table.{IsAccepted, IsFirstRule, broken_at};
-ghost use Rattle.verifier.specs.Rows.{IsKnown, HasKinds, IsPass};
+ghost use Rattle.verifier.specs.Table.{IsAccepted, IsFirstRule, AreKinds, broken_at, table};
+ghost use Rattle.verifier.specs.Rows.{IsKnown, HasKinds, IsPass, row_at};
 ghost use Rattle.verifier.specs.Waiting.{waiting, IsPool};
 ghost use Rattle.verifier.specs.Lowered.{AreSlots};
 ghost use Rattle.verifier.specs.Verdict.{IsRefused};
@@ -170,6 +170,79 @@ fn check_kinds(alloc: Global, program: &Candidate) -> Result<Vec<Low>, Refused>
         Profile::First => check_rows::<11>(alloc, program),
         Profile::Second => check_rows::<75>(alloc, program),
     }
+}
+
+/// The kinds before a slot, or the refusal where a lower one breaks a rule.
+fn kinds_before<const N: usize>(
+    alloc: Global,
+    program: &Candidate,
+    slot: usize,
+) -> Result<Option<Vec<Kind>>, Refused>
+    requires formed { IsFormed program.now.image.code.items }
+    requires within { slot < length program.now.image.code.items }
+    requires long { N ≡ 11 + cell_count program.now.image.profile }
+    requires some { 11 ≤ N }
+    requires short { N ≤ 75 }
+    ensures row { IfOk result (λ row. IfSome row (λ kinds. row_at (table (program_in program.now)) slot ≡ Some kinds.items)) }
+    ensures none { IfOk result (λ row. IfNone row (row_at (table (program_in program.now)) slot ≡ None)) }
+    ensures long { IfOk result (λ row. IfSome row (λ kinds. length kinds.items ≡ 11 + cell_count program.now.image.profile)) }
+    ensures kinds { IfOk result (λ row. IfSome row (λ kinds. AreKinds kinds.items)) }
+    ensures refused { IfErr result (λ refused. IsRefused (program_in program.now) refused.rule refused.slot) }
+{
+    let slots = program.image.code.len();
+    let Ok(mut rows) = Waiting::new(alloc, slots + 1) else {
+        return Err(no_memory());
+    };
+    let Ok(mut sums) = Sums::new(alloc, slots + 1) else {
+        return Err(no_memory());
+    };
+    let first: [Kind; N] = entry(program);
+    let mut here = Some(first);
+    let mut taken = first;
+    for at in 0..slot {
+        visit(program, at, &mut rows, &mut here, sums.now, &mut taken)?;
+        sums.advance(program, at);
+    }
+    let Some(row) = here else {
+        return Ok(None);
+    };
+    match Vec::from_array(alloc, row) {
+        Ok(kinds) => Ok(Some(kinds)),
+        Err(_) => Err(no_memory()),
+    }
+}
+
+/// The kinds of the registers, and behind them those of the stack's cells, before a slot of a program that keeps the rules of form: the
+/// row of its table at this slot, or none where no run comes there. Where a lower slot breaks a rule, and for want of memory, a refusal
+/// as [`verify`] tells it.
+pub fn row_before(
+    alloc: Global,
+    program: &Candidate,
+    slot: usize,
+) -> Result<Option<Vec<Kind>>, Refused>
+    requires formed { IsFormed program.now.image.code.items }
+    requires within { slot < length program.now.image.code.items }
+    ensures row { IfOk result (λ row. IfSome row (λ kinds. row_at (table (program_in program.now)) slot ≡ Some kinds.items)) }
+    ensures none { IfOk result (λ row. IfNone row (row_at (table (program_in program.now)) slot ≡ None)) }
+    ensures long { IfOk result (λ row. IfSome row (λ kinds. length kinds.items ≡ 11 + cell_count program.now.image.profile)) }
+    ensures kinds { IfOk result (λ row. IfSome row (λ kinds. AreKinds kinds.items)) }
+    ensures refused { IfErr result (λ refused. IsRefused (program_in program.now) refused.rule refused.slot) }
+{
+    match program.image.profile {
+        Profile::First => kinds_before::<11>(alloc, program, slot),
+        Profile::Second => kinds_before::<75>(alloc, program, slot),
+    }
+}
+
+/// What [`verify`] says of a program that keeps the rules of form, which is only lent.
+pub fn judge(alloc: Global, program: &Candidate) -> Result<(), Refused>
+    requires { IsFormed program.now.image.code.items }
+    ensures accepted { IfOk result (λ _. IsAccepted (program_in program.now)) }
+    ensures only { IsAccepted (program_in program.now) → IfErr result (λ refused. refused.rule ≡ Rule.NoMemory) }
+    ensures refused { IfErr result (λ refused. IsRefused (program_in program.now) refused.rule refused.slot) }
+{
+    check_kinds(alloc, program)?;
+    Ok(())
 }
 
 /// The first rule of form that an image breaks.

@@ -1,0 +1,5 @@
+pub mod Looks
+pub mod Words
+pub mod Texts
+pub mod Answered
+pub mod Explained

@@ -1,0 +1,46 @@
+use Rattle.std.proofs.Common.{◌+◌, ◌≤◌, Some, ap, sym, ◌∙◌, subst, ⊎_elim, arith}
+use Rattle.std.proofs.lemmas.Bool.{cases_eq}
+use Rattle.verifier.specs.Candidates.{program_in}
+use Rattle.verifier.specs.Table.{broken_at}
+use Rattle.verifier.specs.Rows.{IsKnown, AreRowKinds, IsPass}
+use Rattle.verifier.specs.Waiting.{waiting}
+use Rattle.verifier.specs.Known.{AreSums}
+use Rattle.verifier.proofs.Tables.{pass_first, none_kinds, known_here}
+use Rattle.verifier.proofs.verifying.kinds_before.Goals as goal
+
+pub loop-at-init : goal.loop-at-init
+loop-at-init g c =
+    let p = program_in c.args.program.now in
+    let rows = waiting c.in-Ok.rows in
+    let empty = c.in-Ok.ensures.rows in
+    let low = c.in-Ok.ensures.low in
+    let code = c.args.program.now.image.code in
+    record {
+      pass = subst (λ r. IsPass p rows (Some r) 0) (sym c.entry-first.ensures.table) (pass_first p rows (c.len-slots.result + 1) (omega (arith, c.len-slots.ensures, code.ok.0)) empty);
+      pool = record {
+        kinds = subst (AreRowKinds p.profile c.in-Ok.rows.low) (sym empty) (none_kinds p.profile c.in-Ok.rows.low (c.len-slots.result + 1));
+        owned = c.in-Ok.ensures.owned;
+        registers = subst (λ l. 11 ≤ l) (sym low) c.requires.some;
+        short = omega (arith, low);
+      };
+      sums = subst (λ n. AreSums code.items n 0 c.in-Ok-new.sums) (omega (arith, c.len-slots.ensures, code.ok.0)) (c.in-Ok-new.ensures code.items);
+      here = subst (λ l. IsKnown p.profile l c.entry-first.result) (sym low) c.entry-first.ensures.known;
+      unbroken = λ k lt. absurd (omega arith);
+    }
+
+pub loop-at-preserved : goal.loop-at-preserved
+loop-at-preserved g c = record {
+  pass = c.in_ok-visit.ensures.pass;
+  pool = c.in_ok-visit.ensures.pool;
+  sums = c.advance.ensures;
+  here = c.in_ok-visit.ensures.here;
+  unbroken = λ k lt. ⊎_elim (λ same. ap (broken_at (program_in c.args.program.now)) same ∙ c.in_ok-visit.ensures.unbroken) (λ other. c.loop-at.invariant.unbroken k (omega arith)) (cases_eq k c.loop-at.at);
+}
+
+pub returns-in_default-here-clause-none : goal.returns-in_default-here-clause-none
+returns-in_default-here-clause-none g c =
+    known_here (program_in c.args.program.now) (waiting c.loop-at.rows) c.loop-at.here c.loop-at.at c.args.slot c.loop-at.invariant.pass (omega (arith, c.loop-at-test.false, c.loop-at.auto.at-end)) c.requires.within ∙ c.in_default-here.is
+
+pub returns-in-Ok-from_array-clause-row : goal.returns-in-Ok-from_array-clause-row
+returns-in-Ok-from_array-clause-row g c =
+    known_here (program_in c.args.program.now) (waiting c.loop-at.rows) c.loop-at.here c.loop-at.at c.args.slot c.loop-at.invariant.pass (omega (arith, c.loop-at-test.false, c.loop-at.auto.at-end)) c.requires.within ∙ c.in-Some.is ∙ ap Some (sym c.in-Ok-from_array.ensures.items)
