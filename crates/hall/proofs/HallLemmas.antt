@@ -8,13 +8,13 @@ use Rattle.httpfront.specs.declared.fault.FrontFault.TheVariants as fault
 use Rattle.httpfront.specs.Dialogue.{Exchange}
 use Rattle.hall.specs.Sockets.{State, not_yet, here, gone, Socket, Sockets, OnlyAt, Changes, unborn, after_accept, after_close}
 use Rattle.hall.specs.Spoken.{Speaks, Serves, Rests, IsAnswered, Ends, BreaksOff, Attended, Attends}
-use Rattle.hall.specs.Halls.{Log, part, Stands, AllStand, HallStands, OnlySeat, RestsAt, AllRestBut}
+use Rattle.hall.specs.Halls.{AllRestBut, AllStand, Goes, HallStands, IsOfOne, Log, OnlySeat, RestsAt, Stands, part}
 use Rattle.hall.specs.declared.ring.Closing.{Closing}
 use Rattle.hall.specs.declared.ring.Closing.TheVariants.{InOrder, Broken, GivenUp}
 use Rattle.hall.specs.declared.seat.Phase.{Phase}
 use Rattle.hall.specs.declared.seat.Seat.{Seat}
 use Rattle.hall.proofs.MoveLemmas.{only_then}
-use Rattle.hall.proofs.LogLemmas.{stands_with}
+use Rattle.hall.proofs.LogLemmas.{goes_stands, goes_with}
 use Rattle.hall.proofs.SpokenLemmas.{speaks_given_up}
 
 -- a seat whose parts are those of another serves as that does
@@ -31,7 +31,7 @@ attended_same copies None a b p w o s xs rests =
 
 -- the connection is closed, and all that is known of it stays
 pub ends_closed : (copies : ℕ) (closing how : Closing) (s : Socket) (xs : List Exchange) → Ends copies closing s xs → Ends copies closing (after_close how s) xs
-ends_closed copies InOrder how s xs e = record { after = e.after; talks = e.talks; over = e.over; answers = e.answers }
+ends_closed copies InOrder how s xs e = record { over = e.over; answers = e.answers }
 ends_closed copies (Broken why) how s xs e = record { after = e.after; talks = e.talks; rest = e.rest; answers = e.answers; blames = e.blames }
 ends_closed copies GivenUp how s xs e = record { after = e.after; talks = e.talks; rest = e.rest; answers = e.answers }
 
@@ -80,78 +80,90 @@ module _ (copies : ℕ) (log : Log) (n : ℕ) (old mid : Sockets) (seats seats' 
       (subst (λ (s : Socket). Stands copies s.state (seats' n) s (part n log)) (sym (closed.there ∙ ap (after_close (Broken fault.NoMemory)) mid_is))
       (subst (Stands copies (gone (Broken fault.NoMemory)) (seats' n) (after_close (Broken fault.NoMemory) (after_accept unborn))) (sym unborn_part.1) own))
 
-module _ {B R : Type 0} (gives : B → Call → Reply → B → Type 0) (copies : B → ℕ) (shows : R → Sockets → Type 0) (start from now : B) (old : Sockets) (seats seats' : ℕ → Option Seat)
-    (h : HallStands gives copies start from old seats) (n : ℕ) (ring ring' : R) (result : Option Closing) (shown : shows ring old)
-    (attends : (s : Sockets) (xs : List Exchange) (seat : Seat) → shows ring s → seats n ≡ Some seat → Serves (copies from) seat (s n) xs
-    → (it : Seat) × (seats' n ≡ Some it) × Attends gives (shows ring') n s from now xs (Attended (copies from) result it))
+module _ {B R : Type 0} (gives : B → Call → Reply → B → Type 0) (copies : ℕ) (shows : R → Sockets → Type 0) (from now : B) (log : Log) (old : Sockets) (seats seats' : ℕ → Option Seat)
+    (all : AllStand copies log old seats) (n : ℕ) (ring ring' : R) (result : Option Closing) (shown : shows ring old)
+    (attends : (s : Sockets) (xs : List Exchange) (seat : Seat) → shows ring s → seats n ≡ Some seat → Serves copies seat (s n) xs
+    → (it : Seat) × (seats' n ≡ Some it) × Attends gives (shows ring') n s from now xs (Attended copies result it))
     (absent : seats n ≡ None → (result ≡ None) × (seats' n ≡ None) × (ring' ≡ ring) × (now ≡ from))
-    (others : OnlySeat n seats seats') (stays : copies now ≡ copies from) where
-  attended : (seat : Seat) → seats n ≡ Some seat → Serves (copies start) seat (old n) (part n h.log)
-      → (it : Seat) × (seats' n ≡ Some it) × Attends gives (shows ring') n old from now (part n h.log) (Attended (copies start) result it)
-  attended seat is serves =
-      subst (λ k. (it : Seat) × (seats' n ≡ Some it) × Attends gives (shows ring') n old from now (part n h.log) (Attended k result it)) h.same
-      (attends old (part n h.log) seat shown is (subst (λ k. Serves k seat (old n) (part n h.log)) (sym h.same) serves))
+    (others : OnlySeat n seats seats') where
+  -- what became of it
+  abbrev Went : R → (ℕ → Option Seat) → Type 0
+  Went after seated = (new : Sockets) × shows after new × (goes : Goes gives copies log from now new seated) × IsOfOne n goes.made × OnlyAt n old new × RestsAt n new seated
+
+  attended : (seat : Seat) → seats n ≡ Some seat → Serves copies seat (old n) (part n log)
+      → (it : Seat) × (seats' n ≡ Some it) × Attends gives (shows ring') n old from now (part n log) (Attended copies result it)
+  attended seat is serves = attends old (part n log) seat shown is serves
 
   -- nobody has the number: nothing changes
-  passed : seats n ≡ None → (new : Sockets) × shows ring' new × HallStands gives copies start now new seats' × OnlyAt n old new × RestsAt n new seats'
+  passed : seats n ≡ None → Went ring' seats'
   passed none =
       let same = absent none in
-      let own = subst (λ (o : Option Seat). Stands (copies start) (old n).state o (old n) (part n h.log)) (none ∙ sym same.1) (h.each n) in (
+      let own = subst (λ (o : Option Seat). Stands copies (old n).state o (old n) (part n log)) (none ∙ sym same.1) (all n) in
+      let goes = goes_with gives copies log n [] from now old old seats seats' all (λ m apart. refl) others (subst (Stands copies (old n).state (seats' n) (old n)) (sym (append-nil (part n log))) own) same.3 in (
         old,
         subst (λ (r : R). shows r old) (sym same.2) shown,
-        stands_with gives copies start from old seats h n now [] old seats' stays same.3 (λ m apart. refl) others
-            (subst (Stands (copies start) (old n).state (seats' n) (old n)) (sym (append-nil (part n h.log))) own),
+        goes.0,
+        goes.1,
         λ m apart. refl,
         λ it seated. nobody (seats' n) same.1 it seated,
       )
 
   -- it rests
-  pub stands_resting : result ≡ None → (new : Sockets) × shows ring' new × HallStands gives copies start now new seats' × OnlyAt n old new × RestsAt n new seats'
-  stands_resting rests = at (old n).state refl (h.each n)
+  pub goes_resting : result ≡ None → Went ring' seats'
+  goes_resting rests = at (old n).state refl (all n)
     where
-      at : (st : State) → (old n).state ≡ st → Stands (copies start) st (seats n) (old n) (part n h.log)
-          → (new : Sockets) × shows ring' new × HallStands gives copies start now new seats' × OnlyAt n old new × RestsAt n new seats'
+      at : (st : State) → (old n).state ≡ st → Stands copies st (seats n) (old n) (part n log) → Went ring' seats'
       at not_yet is own = passed own.1
       at (gone closing) is own = passed own.0
       at here is own =
           let t = attended own.0 own.1 own.2 in
-          let a : Attends gives (shows ring') n old from now (part n h.log) (Attended (copies start) None t.0) =
-          subst (λ (r : Option Closing). Attends gives (shows ring') n old from now (part n h.log) (Attended (copies start) r t.0)) rests t.2 in (
+          let a : Attends gives (shows ring') n old from now (part n log) (Attended copies None t.0) =
+          subst (λ (r : Option Closing). Attends gives (shows ring') n old from now (part n log) (Attended copies r t.0)) rests t.2 in
+          let goes = goes_with gives copies log n a.made from now old a.new seats seats' all a.only others
+          (subst (λ (s : State). Stands copies s (seats' n) (a.new n) (part n log ++ a.made)) (sym (a.state ∙ is)) (t.0, t.1, a.to.0, inl a.to.1)) a.runs in (
             a.new,
             a.shown,
-            stands_with gives copies start from old seats h n now a.made a.new seats' stays a.runs a.only others
-                (subst (λ (s : State). Stands (copies start) s (seats' n) (a.new n) (part n h.log ++ a.made)) (sym (a.state ∙ is)) (t.0, t.1, a.to.0, inl a.to.1)),
+            goes.0,
+            goes.1,
             a.only,
             λ it seated. subst (λ (s : Seat). Rests s (a.new n)) (one_seat t.0 it (sym t.1 ∙ seated)) a.to.1,
           )
 
   -- it ends
-  pub stands_closed : (closing : Closing) → result ≡ Some closing → (seats'' : ℕ → Option Seat) → seats'' n ≡ None → OnlySeat n seats' seats''
-      → (ring'' : R) → ((s : Sockets) → shows ring' s → (new : Sockets) × shows ring'' new × Changes n (after_close closing) s new)
-      → (new : Sockets) × shows ring'' new × HallStands gives copies start now new seats'' × OnlyAt n old new × RestsAt n new seats''
-  stands_closed closing ends seats'' none unseated ring'' close = at (old n).state refl (h.each n)
+  pub goes_closed : (closing : Closing) → result ≡ Some closing → (seats'' : ℕ → Option Seat) → seats'' n ≡ None → OnlySeat n seats' seats''
+      → (ring'' : R) → ((s : Sockets) → shows ring' s → (new : Sockets) × shows ring'' new × Changes n (after_close closing) s new) → Went ring'' seats''
+  goes_closed closing ends seats'' none unseated ring'' close = at (old n).state refl (all n)
     where
-      never : seats n ≡ None → (new : Sockets) × shows ring'' new × HallStands gives copies start now new seats'' × OnlyAt n old new × RestsAt n new seats''
+      never : seats n ≡ None → Went ring'' seats''
       never nobody = let rests : None ≡ Some closing = sym (absent nobody).0 ∙ ends in cc
 
-      at : (st : State) → (old n).state ≡ st → Stands (copies start) st (seats n) (old n) (part n h.log)
-          → (new : Sockets) × shows ring'' new × HallStands gives copies start now new seats'' × OnlyAt n old new × RestsAt n new seats''
+      at : (st : State) → (old n).state ≡ st → Stands copies st (seats n) (old n) (part n log) → Went ring'' seats''
       at not_yet is own = never own.1
       at (gone how) is own = never own.0
       at here is own =
           let t = attended own.0 own.1 own.2 in
-          let a : Attends gives (shows ring') n old from now (part n h.log) (Attended (copies start) (Some closing) t.0) =
-          subst (λ (r : Option Closing). Attends gives (shows ring') n old from now (part n h.log) (Attended (copies start) r t.0)) ends t.2 in
-          let c = close a.new a.shown in (
+          let a : Attends gives (shows ring') n old from now (part n log) (Attended copies (Some closing) t.0) =
+          subst (λ (r : Option Closing). Attends gives (shows ring') n old from now (part n log) (Attended copies r t.0)) ends t.2 in
+          let c = close a.new a.shown in
+          let only : OnlyAt n old c.0 = only_then n old a.new c.0 a.only c.2.only in
+          let goes = goes_with gives copies log n a.made from now old c.0 seats seats'' all only (λ m apart. unseated m apart ∙ others m apart)
+          (subst (λ (s : Socket). Stands copies s.state (seats'' n) s (part n log ++ a.made)) (sym c.2.there) (none, ends_closed copies closing closing (a.new n) (part n log ++ a.made) a.to)) a.runs in (
             c.0,
             c.1,
-            stands_with gives copies start from old seats h n now a.made c.0 seats'' stays a.runs (only_then n old a.new c.0 a.only c.2.only)
-                (λ m apart. unseated m apart ∙ others m apart)
-                (subst (λ (s : Socket). Stands (copies start) s.state (seats'' n) s (part n h.log ++ a.made)) (sym c.2.there)
-                (none, ends_closed (copies start) closing closing (a.new n) (part n h.log ++ a.made) a.to)),
-            only_then n old a.new c.0 a.only c.2.only,
+            goes.0,
+            goes.1,
+            only,
             λ it seated. nobody (seats'' n) none it seated,
           )
+
+-- where a hall goes on, it stands again
+pub stands_again : {B R : Type 0} (gives : B → Call → Reply → B → Type 0) (copies : B → ℕ) (shows : R → Sockets → Type 0) (start from now : B) (old : Sockets) (seats seats' : ℕ → Option Seat) (h : HallStands gives copies start from old seats) (n : ℕ) (ring : R)
+    → copies now ≡ copies from
+    → ((log : Log) → AllStand (copies from) log old seats → (new : Sockets) × shows ring new × (goes : Goes gives (copies from) log from now new seats') × IsOfOne n goes.made × OnlyAt n old new × RestsAt n new seats')
+    → (new : Sockets) × shows ring new × HallStands gives copies start now new seats' × OnlyAt n old new × RestsAt n new seats'
+stands_again gives copies shows start from now old seats seats' h n ring stays goes =
+    let w = goes h.log (subst (λ k. AllStand k h.log old seats) (sym h.same) h.each) in
+    (w.0, w.1, goes_stands gives copies start from now old w.0 seats seats' h stays w.2, w.4, w.5)
 
 -- one of those that were reported was attended
 pub rest_more : (reported : List ℕ) (k n : ℕ) (old new : Sockets) (seats seats' : ℕ → Option Seat) → slice_index reported k ≡ n → OnlyAt n old new → OnlySeat n seats seats'

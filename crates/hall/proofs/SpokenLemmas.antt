@@ -10,7 +10,7 @@ use Rattle.httpfront.specs.declared.fault.FrontFault.TheVariants as fault
 use Rattle.httpfront.specs.Dialogue.{Exchange, Talks, answer_of, answers_of}
 use Rattle.httpfront.specs.Turns.{Makes}
 use Rattle.hall.specs.Sockets.{Socket, after_read, after_write}
-use Rattle.hall.specs.Spoken.{Reads, Speaks, Completes, BreaksOff, Blames, IsGivenUp}
+use Rattle.hall.specs.Spoken.{IsOverAt, Reads, Speaks, Completes, BreaksOff, Blames, IsGivenUp}
 use Rattle.hall.specs.declared.ring.Heard.TheVariants as heard
 use Rattle.hall.specs.declared.ring.Told.TheVariants as told
 use Rattle.hall.specs.declared.seat.Phase.{Phase}
@@ -25,12 +25,17 @@ module _ (copies : ℕ) where
     answers = sym (append-nil s.written ∙ written);
   }
 
+  -- where no request is left, what is left to read
+  pub over_front : (heard : List ℕ) (ended : Bool) (xs : List Exchange) → IsOverAt copies heard ended xs → (after : List ℕ) × Talks copies heard xs after
+  over_front heard ended xs (inl last) = ([], subst (λ l. Talks copies l xs []) (append-nil heard) (last []))
+  over_front heard ended xs (inr (is, after, talks, unfinished)) = (after, talks)
+
   -- the requests of a front of what was heard
   pub reads_front : (p : Phase) (waits heard : List ℕ) (ended : Bool) (xs : List Exchange) → Reads copies p waits heard ended xs
       → (after : List ℕ) × Talks copies heard xs after
   reads_front phase.Open waits heard ended xs reads = (waits ++ [], subst (λ l. Talks copies l xs (waits ++ [])) (append-nil heard) (reads []))
   reads_front phase.Ended waits heard ended xs reads = (waits ++ [], subst (λ l. Talks copies l xs (waits ++ [])) (append-nil heard) (reads.0 []))
-  reads_front phase.Closing waits heard ended xs reads = (reads.0, reads.1)
+  reads_front phase.Closing waits heard ended xs reads = over_front heard ended xs reads
 
   module _ (p : Phase) (waits out : List ℕ) (s : Socket) (xs : List Exchange) (speaks : Speaks copies p waits out s xs) where
     -- some of what waits to be written was
@@ -72,9 +77,7 @@ module _ (copies : ℕ) where
     -- nothing is left to be asked, nor to be written
     pub speaks_done : Speaks copies phase.Closing waits out s xs → out ≡ [] → Completes copies s xs
     speaks_done speaks none = record {
-      after = speaks.reads.0;
-      talks = speaks.reads.1;
-      over = speaks.reads.2;
+      over = speaks.reads;
       answers = speaks.answers ∙ (ap (λ l. s.written ++ l) none ∙ append-nil s.written);
     }
 
@@ -85,10 +88,11 @@ module _ (copies : ℕ) where
     -- it ended before a whole request
     pub speaks_over : Speaks copies phase.Ended waits out s xs → IsUnfinished waits → Speaks copies phase.Closing waits out s xs
     speaks_over speaks unfinished = record {
-      reads = (
+      reads = inr (
+        speaks.reads.1,
         waits,
         subst (λ l. Talks copies l xs waits) (append-nil s.heard) (subst (λ l. Talks copies (s.heard ++ []) xs l) (append-nil waits) (speaks.reads.0 [])),
-        inr (speaks.reads.1, unfinished),
+        unfinished,
       );
       answers = speaks.answers;
     }
@@ -139,11 +143,7 @@ module _ (copies : ℕ) where
         -- the last request was answered
         pub speaks_last : ((more : List ℕ) → Makes gives copies (waits ++ more) from now x []) → Speaks copies phase.Closing waits' out' s (xs ++ x ∷ [])
         speaks_last makes = record {
-          reads = (
-            [],
-            subst (λ l. Talks copies l (xs ++ x ∷ []) []) (append-nil s.heard) (Talks-snoc copies (s.heard ++ []) xs (waits ++ []) x [] (speaks.reads []) (makes []).asks),
-            inl refl,
-          );
+          reads = inl (λ more. Talks-snoc copies (s.heard ++ more) xs (waits ++ more) x [] (speaks.reads more) (makes more).asks);
           answers = answers_more;
         }
 

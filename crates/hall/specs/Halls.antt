@@ -1,5 +1,5 @@
 -- A worker with many connections: one log of calls for all of them.
-use Rattle.std.specs.Prelude.{◌≡◌, ◌≢◌, ℕ, ◌==◌, ◌<◌, ◌≤◌, ◌⊎◌, cond, length, slice_index, is_some, Bool, List, [], ◌∷◌, Option, Some, None, Result, Ok, Err}
+use Rattle.std.specs.Prelude.{◌≡◌, ◌≢◌, ℕ, ◌==◌, ◌<◌, ◌≤◌, ◌⊎◌, cond, length, slice_index, is_some, Bool, List, [], ◌∷◌, ◌++◌, Option, Some, None, Result, Ok, Err}
 use Rattle.std.specs.BTreeMap.{get}
 use Rattle.std.specs.Ordering.{nat_cmp}
 use Rattle.httpask.specs.declared.ask.Call.{Call}
@@ -50,6 +50,17 @@ RestsAt n sockets seats = (it : Seat) → seats n ≡ Some it → Rests it (sock
 abbrev pub AllRestBut : List ℕ → ℕ → Sockets → (ℕ → Option Seat) → Type 0
 AllRestBut reported from sockets seats =
     (n : ℕ) (it : Seat) → seats n ≡ Some it → Rests it (sockets n) ⊎ ((k : ℕ) × (from ≤ k) × (k < length reported) × (slice_index reported k ≡ n))
+
+-- nobody but this connection has a part of it
+abbrev pub IsOfOne : ℕ → Log → Type 0
+IsOfOne n log = (m : ℕ) → m ≢ n → part m log ≡ []
+
+-- the calls of these exchanges were made since, in order, and each connection's part of the longer log is its own
+module _ {B : Type 0} (gives : B → Call → Reply → B → Type 0) (copies : ℕ) (log : Log) where
+  pub record Goes (from now : B) (sockets : Sockets) (seats : ℕ → Option Seat) : Type 0 where
+    pub made : Log
+    pub runs : Runs gives from (all_parts made) now
+    pub each : AllStand copies (log ++ made) sockets seats
 
 module _ {B : Type 0} (gives : B → Call → Reply → B → Type 0) (copies : B → ℕ) where
   -- the backend went through the calls of one log, in order, and each connection's part of the log is its own

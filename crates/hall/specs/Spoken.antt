@@ -33,10 +33,6 @@ abbrev pub FitsTold : ℕ → Told → Type 0
 FitsTold len (told.Bytes n) = (0 < n) × (n ≤ len)
 FitsTold len told.NotNow = Unit {0}
 
--- no request is left: the last one ended the connection, or the input ended before a whole one
-abbrev pub IsOverAt : Bool → List ℕ → Type 0
-IsOverAt has_ended after = (after ≡ []) ⊎ ((has_ended ≡ true) × IsUnfinished after)
-
 -- what a fault says of a connection: a call on it failed, or memory was wanting
 abbrev pub Blames : FrontFault → Bool → Type 0
 Blames fault.Read has_failed = has_failed ≡ true
@@ -45,12 +41,17 @@ Blames fault.NoMemory has_failed = Unit {0}
 
 -- so many copies of each key
 module _ (copies : ℕ) where
+  -- the exchanges are those of all requests of what was heard, in order: the last one ends the connection, whatever comes behind what was heard; or the input ended
+  -- before a whole one more
+  abbrev pub IsOverAt : List ℕ → Bool → List Exchange → Type 0
+  IsOverAt heard has_ended xs = ((more : List ℕ) → Talks copies (heard ++ more) xs []) ⊎ ((has_ended ≡ true) × (after : List ℕ) × Talks copies heard xs after × IsUnfinished after)
+
   -- the exchanges are those of the requests of what was heard, in order. Of an open connection what waits is left to read, whatever comes
   -- behind it; of one that closes no request is left
   abbrev pub Reads : Phase → List ℕ → List ℕ → Bool → List Exchange → Type 0
   Reads phase.Open waits heard has_ended xs = (more : List ℕ) → Talks copies (heard ++ more) xs (waits ++ more)
   Reads phase.Ended waits heard has_ended xs = ((more : List ℕ) → Talks copies (heard ++ more) xs (waits ++ more)) × (has_ended ≡ true)
-  Reads phase.Closing waits heard has_ended xs = (after : List ℕ) × Talks copies heard xs after × IsOverAt has_ended after
+  Reads phase.Closing waits heard has_ended xs = IsOverAt heard has_ended xs
 
   -- the same, and their answers are what was written and what waits to be
   pub record Speaks (p : Phase) (waits out : List ℕ) (s : Socket) (xs : List Exchange) : Type 0 where
@@ -59,9 +60,7 @@ module _ (copies : ℕ) where
 
   -- the exchanges are those of all requests of what was heard, and all their answers were written
   pub record Completes (s : Socket) (xs : List Exchange) : Type 0 where
-    pub after : List ℕ
-    pub talks : Talks copies s.heard xs after
-    pub over : IsOverAt s.has_ended after
+    pub over : IsOverAt s.heard s.has_ended xs
     pub answers : answers_of copies xs ≡ s.written
 
   -- the exchanges are those of a front of what was heard, and a front of their answers was written

@@ -1,7 +1,7 @@
 //! Clients in memory, for tests: what comes from each, and what each takes, is said step by step.
 
-ghost use Rattle.std.specs.Prelude.{◌≡◌, ◌<◌, ◌≤◌, ℕ, ◌+◌, ◌++◌, [], true, false, length, take, slice_get, Some, Ok, IfOk, OnOk, OnErr};
-ghost use Rattle.hall.specs.Sockets.{unborn, after_accept, after_read, after_write, after_call, after_close};
+ghost use Rattle.std.specs.Prelude.{◌≡◌, ◌<◌, ◌≤◌, ℕ, ◌+◌, ◌++◌, [], true, false, length, take, slice_get, Some, None, Ok, IfOk, OnOk, OnErr};
+ghost use Rattle.hall.specs.Sockets.{Socket, unborn, after_accept, after_read, after_write, after_call, after_close};
 ghost use Rattle.hall.specs.Spoken.{FitsHeard, FitsTold};
 ghost use Rattle.hall.specs.Clients.{Alters, socket_of};
 ghost use Rattle.hall.specs.declared.clients.Client.{Client as Given};
@@ -305,6 +305,7 @@ fn read_at(clients: &mut Vec<Client>, i: usize, buf: &mut [u8]) -> Result<Heard,
     requires { 0 < length buf.old }
     ensures fits { IfOk result (FitsHeard (length buf.new)) }
     ensures alters { Alters i (after_read result buf.new) clients.old.items clients.new.items }
+    ensures absent { slice_get clients.old.items i ≡ None → (s : Socket) → (after_read result buf.new s).heard ≡ s.heard }
 {
     match clients.get_mut(i) {
         Some(client) => client.read(buf),

@@ -5,7 +5,7 @@ ghost use Rattle.httpfront.specs.Dialogue.{Exchange};
 ghost use Rattle.httpfront.specs.declared.device.Failed.{Failed as Failure};
 ghost use Rattle.hall.specs.Sockets.{Socket, Sockets, OnlyAt, Changes, unborn, after_accept};
 ghost use Rattle.hall.specs.Spoken.{Serves, Attended, Attends, standing_of};
-ghost use Rattle.hall.specs.Halls.{Log, AllStand, AllRestBut, HallStands, OnlySeat, RestsAt, Greets, comes_to, seat_at};
+ghost use Rattle.hall.specs.Halls.{Log, AllStand, AllRestBut, Goes, HallStands, IsOfOne, OnlySeat, RestsAt, Greets, comes_to, seat_at};
 ghost use Rattle.hall.specs.declared.seat.Seat.{Seat as Place};
 
 use crate::buffer::Buffer;
@@ -86,9 +86,13 @@ impl Hall {
     }
 
     /// Does a bounded piece of work for one connection: what it sent is read, its whole requests make their calls and are answered, and the
-    /// answers are written, until it has nothing to give or take now, or ends, or had its share. No other connection is touched. One that
-    /// nobody has, as one that ended meanwhile, is passed over.
+    /// answers are written, until it has nothing to give or take now, or ends, or had its share. No other connection is touched, and no call is
+    /// made but those of its own exchanges. One that nobody has, as one that ended meanwhile, is passed over.
     pub fn attend<R: Ring, B: Backend>(&mut self, number: u64, ring: &mut R, backend: &mut B)
+        ensures goes { (log : Log) (old : Sockets) → R.shows ring.old old → AllStand (B.copies backend.old) log old (seat_at self.old)
+            → (new : Sockets) × R.shows ring.new new × (goes : Goes B.gives (B.copies backend.old) log backend.old backend.new new (seat_at self.new)) × IsOfOne number goes.made
+            × OnlyAt number old new × RestsAt number new (seat_at self.new) }
+        ensures stays { B.copies backend.new ≡ B.copies backend.old }
         ensures stands { (start : B) (old : Sockets) → R.shows ring.old old → HallStands B.gives B.copies start backend.old old (seat_at self.old)
             → (new : Sockets) × R.shows ring.new new × HallStands B.gives B.copies start backend.new new (seat_at self.new) × OnlyAt number old new
             × RestsAt number new (seat_at self.new) }

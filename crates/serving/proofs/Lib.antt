@@ -7,3 +7,5 @@ mod GetLemmas
 mod AnswerLemmas
 mod RunLemmas
 mod TogetherLemmas
+mod PassLemmas
+mod CameLemmas

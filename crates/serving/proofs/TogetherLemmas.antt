@@ -1,5 +1,6 @@
 -- What several connections to a store of one thread come to together.
-use Rattle.std.proofs.Common.{◌≡◌, ◌⊎◌, inl, inr, ℕ, zero, suc, List, [], ◌∷◌, ◌++◌, ap, ◌∙◌, sym, subst, refl, append-nil, Option, Some, slice_get, ◌↔◌}
+use Rattle.std.proofs.Common.{◌≡◌, ◌≤◌, ◌⊎◌, inl, inr, ℕ, zero, suc, Bool, true, false, List, [], ◌∷◌, ◌++◌, length, ap, ◌∙◌, sym, subst, refl, arith, append-nil, append_assoc, Option, Some, None, slice_get, ◌↔◌}
+use Rattle.std.specs.Prelude.{IsTrue}
 use Rattle.std.proofs.lemmas.Bool.{cases_eq}
 use Rattle.dvv.specs.declared.Dot.{Dot}
 use Rattle.object.specs.declared.content.Key.{Key}
@@ -14,11 +15,12 @@ use Rattle.journal.specs.Journals.{IsJournal, MayFollow}
 use Rattle.journal.specs.Replay.{sibling_in, known_in, IsMergeOf}
 use Rattle.httpask.specs.declared.ask.Call.{Call}
 use Rattle.httpreply.specs.declared.reply.Reply.{Reply}
-use Rattle.httpfront.specs.Dialogue.{Exchange, Talks, answers_of}
+use Rattle.httpfront.specs.declared.fault.FrontFault.{FrontFault}
+use Rattle.httpfront.specs.declared.fault.FrontFault.TheVariants as fault
+use Rattle.httpfront.specs.Dialogue.{Exchange, Talks}
 use Rattle.hall.specs.declared.clients.Client.{Client}
 use Rattle.hall.specs.declared.clients.Stage.{Stage}
 use Rattle.hall.specs.declared.clients.Stage.TheVariants.{NotYet, Here, Gone}
-use Rattle.hall.specs.declared.ring.Closing.{Closing}
 use Rattle.hall.specs.declared.ring.Closing.TheVariants.{InOrder, Broken, GivenUp}
 use Rattle.hall.specs.declared.seat.Phase.{Phase}
 use Rattle.hall.specs.declared.seat.Phase.TheVariants.{Open, Ended, Closing as Ending}
@@ -27,86 +29,104 @@ use Rattle.hall.specs.declared.hall.Hall.{Hall}
 use Rattle.hall.specs.Clients.{Alters, socket_of, state_of}
 use Rattle.hall.specs.Clients as clients
 use Rattle.hall.specs.Halls.{Stands, all_parts, part, seat_at}
-use Rattle.hall.specs.Sockets.{Socket, Sockets, unborn}
-use Rattle.hall.specs.Spoken.{Reads}
+use Rattle.hall.specs.Sockets.{State as SocketState, not_yet, here, gone, IsReported, Socket, Sockets, unborn}
+use Rattle.hall.specs.Spoken.{BreaksOff, IsAnswered, IsOverAt, Rests, Speaks}
+use Rattle.hall.proofs.ClientLemmas.{none_is}
+use Rattle.hall.proofs.SpokenLemmas.{over_front, reads_front}
 use Rattle.place.specs.Places.{copies_of}
 use Rattle.serving.specs.Journals.{AreJournals}
-use Rattle.serving.specs.Past.{Now, past}
+use Rattle.serving.specs.Past.{Now}
 use Rattle.serving.specs.Stores.{IsOfOneThread}
-use Rattle.serving.specs.Together.{IsTold, Plays, ServesAll}
+use Rattle.serving.specs.declared.together.Came.{Came}
+use Rattle.serving.specs.declared.together.Delivery.{Delivery}
+use Rattle.serving.specs.Together.{IsCome, IsCut, IsDone, IsDoneAt, IsOver, IsServed, IsTold, Plays, ServesAll, sent_by}
 use Rattle.serving.proofs.RunLemmas.{runs_lead}
 
 one_client : (a b : Client) → Some a ≡ Some b → a ≡ b
 one_client a b e = cc
 
+-- no clients, and nothing came
+pub shows_none : clients.Shows [] (λ n. unborn)
+shows_none = record { each = λ n c is. absurd cc; nobody = λ n none. refl }
+
+each_push : (l : List Client) (c : Client) → ((n : ℕ) (d : Client) → slice_get l n ≡ Some d → unborn ≡ socket_of d) → socket_of c ≡ unborn → (n : ℕ) (d : Client) → slice_get (l ++ c ∷ []) n ≡ Some d → unborn ≡ socket_of d
+each_push [] c each is zero d at = sym is ∙ ap socket_of (one_client c d at)
+each_push [] c each is (suc n) d at = absurd cc
+each_push (x ∷ l) c each is zero d at = each zero d at
+each_push (x ∷ l) c each is (suc n) d at = each_push l c (λ m. each (suc m)) is n d at
+
 -- one more client that nothing came from
 pub shows_push : (l : List Client) (c : Client) → clients.Shows l (λ n. unborn) → socket_of c ≡ unborn → clients.Shows (l ++ c ∷ []) (λ n. unborn)
-shows_push [] c shows is zero d at = sym is ∙ ap socket_of (one_client c d at)
-shows_push [] c shows is (suc n) d at = absurd cc
-shows_push (x ∷ l) c shows is zero d at = shows zero d at
-shows_push (x ∷ l) c shows is (suc n) d at = shows_push l c (λ m. shows (suc m)) is n d at
+shows_push l c shows is = record { each = each_push l c shows.each is; nobody = λ n none. refl }
 
 -- where a client's connection stays as it was, so do all
 pub shows_kept : (i : ℕ) (old new : List Client) (s : Sockets) → Alters i (λ x. x) old new → clients.Shows old s → clients.Shows new s
-shows_kept i old new s alters shows n c is = at (cases_eq n i)
+shows_kept i old new s alters shows = record { each = λ n c is. at n c is (cases_eq n i); nobody = λ n none. no n none (cases_eq n i) }
   where
-    at : (n ≡ i) ⊎ (n ≡ i → ⊥) → s n ≡ socket_of c
-    at (inl same) =
+    at : (n : ℕ) (c : Client) → slice_get new n ≡ Some c → (n ≡ i) ⊎ (n ≡ i → ⊥) → s n ≡ socket_of c
+    at n c is (inl same) =
         let was = alters.there c (subst (λ k. slice_get new k ≡ Some c) same is) in
-        shows n was.0 (subst (λ k. slice_get old k ≡ Some was.0) (sym same) was.1) ∙ sym was.2
-    at (inr apart) = shows n c (sym (alters.others n apart) ∙ is)
+        shows.each n was.0 (subst (λ k. slice_get old k ≡ Some was.0) (sym same) was.1) ∙ sym was.2
+    at n c is (inr apart) = shows.each n c (sym (alters.others n apart) ∙ is)
 
-module _ (copies : ℕ) (c : Client) (xs : List Exchange) where
-  other_end : (closing : Closing) → (closing ≡ InOrder → ⊥) → c.stage ≡ Gone closing → {A : Type 0} → c.stage ≡ Gone InOrder → A
-  other_end closing apart is in_order = absurd (apart (one_closing (sym is ∙ in_order)))
+    no : (n : ℕ) → slice_get new n ≡ None → (n ≡ i) ⊎ (n ≡ i → ⊥) → (s n).heard ≡ []
+    no n none (inl same) = shows.nobody n (subst (λ k. slice_get old k ≡ None) (sym same) (alters.absent (subst (λ k. slice_get new k ≡ None) same none)))
+    no n none (inr apart) = shows.nobody n (sym (alters.others n apart) ∙ none)
+
+-- ---- one client
+
+-- the exchanges of a connection are those of requests of what was read, whatever became of it
+talks_of : (copies : ℕ) (state : SocketState) (seat : Option Seat) (s : Socket) (xs : List Exchange) → Stands copies state seat s xs → (after : List ℕ) × Talks copies s.heard xs after
+talks_of copies not_yet seat s xs (fresh, none, nothing) = ([], subst (λ l. Talks copies s.heard l []) (sym nothing) (sym (ap (λ (t : Socket). t.heard) fresh)))
+talks_of copies here seat s xs (it, seated, speaks, rests) = reads_front copies it.phase it.talk.waits s.heard s.has_ended xs speaks.reads
+talks_of copies (gone InOrder) seat s xs (none, e) = over_front copies s.heard s.has_ended xs e.over
+talks_of copies (gone (Broken why)) seat s xs (none, e) = (e.after, e.talks)
+talks_of copies (gone GivenUp) seat s xs (none, e) = (e.after, e.talks)
+
+module _ (copies n : ℕ) (deliveries : List Delivery) (c : Client) (xs : List Exchange) (all : c.heard.items ++ c.coming.items ≡ sent_by n deliveries) (came : Came) (is_come : IsCome n deliveries came) where
+  -- where nothing is left to be read, all that came was
+  all_heard : c.coming.items ≡ [] → c.heard.items ≡ sent_by n deliveries
+  all_heard none = sym (append-nil c.heard.items) ∙ ap (λ (l : List ℕ). c.heard.items ++ l) (sym none) ∙ all
+
+  cut : (why : FrontFault) → IsTrue came.fails → BreaksOff copies why (socket_of c) xs → IsCut copies n deliveries c xs
+  cut why fails e = record { fails = is_come.fails fails; after = e.after; talks = e.talks; rest = e.rest; answers = e.answers }
+
+  over : (c.has_ended ≡ true → IsTrue came.ends × (c.coming.items ≡ [])) → IsOverAt copies c.heard.items c.has_ended xs → IsOver copies n deliveries xs
+  over done (inl last) = inl (λ more.
+      subst (λ (l : List ℕ). Talks copies l xs []) (sym (append_assoc c.heard.items c.coming.items more) ∙ ap (λ (l : List ℕ). l ++ more) all) (last (c.coming.items ++ more)))
+  over done (inr (ended, after, talks, unfinished)) =
+      inr (is_come.ends (done ended).0, after, subst (λ (l : List ℕ). Talks copies l xs after) (all_heard (done ended).1) talks, unfinished)
+
+  here_done : (seat : Option Seat) → Stands copies here seat (socket_of c) xs → IsDoneAt c came.ends came.fails Here → IsServed copies n deliveries c xs Here
+  here_done seat (it, seated, speaks, rests) (dry, stuffed, called, none) = by rests
     where
-      one_closing : Gone closing ≡ Gone InOrder → closing ≡ InOrder
-      one_closing e = cc
+      apart : {A : Type 0} (b : Bool) → b ≡ true → b ≡ false → A
+      apart b set unset = let both : true ≡ false = sym set ∙ unset in cc
 
-  told_at : (stage : Stage) (seat : Option Seat) → c.stage ≡ stage → Stands copies (state_of stage) seat (socket_of c) xs → IsTold copies c xs
-  told_at NotYet seat is (fresh, none, nothing) = record {
-    after = [];
-    talks = subst (λ l. Talks copies c.heard.items l []) (sym nothing) (sym (ap (λ (s : Socket). s.heard) fresh));
-    rest = [];
-    answers = ap (answers_of copies) nothing ∙ sym (ap (λ (s : Socket). s.written ++ []) fresh);
-    all = λ in_order. let both : NotYet ≡ Gone InOrder = sym is ∙ in_order in cc;
-  }
-  told_at Here seat is (it, seated, speaks, rests) = by_phase it.phase speaks.reads
-    where
-      at_here : {A : Type 0} → c.stage ≡ Gone InOrder → A
-      at_here in_order = let both : Here ≡ Gone InOrder = sym is ∙ in_order in cc
+      answered : (p : Phase) (waits out : List ℕ) → Speaks copies p waits out (socket_of c) xs → IsAnswered p waits out (socket_of c) → IsServed copies n deliveries c xs Here
+      answered Open waits out speaks (is_dry, empty, pending) = (
+        waits,
+        subst (λ (l : List ℕ). Talks copies l xs waits) (all_heard none) (subst (λ (l : List ℕ). Talks copies l xs waits) (append-nil c.heard.items) (subst (λ (l : List ℕ). Talks copies (c.heard.items ++ []) xs l) (append-nil waits) (speaks.reads []))),
+        pending,
+        speaks.answers ∙ ap (λ (l : List ℕ). c.written.items ++ l) empty ∙ append-nil c.written.items,
+      )
+      answered Ended waits out speaks h = absurd h
+      answered Ending waits out speaks h = absurd h
 
-      by_phase : (p : Phase) → Reads copies p it.talk.waits c.heard.items c.has_ended xs → IsTold copies c xs
-      by_phase Open reads = record {
-        after = it.talk.waits ++ [];
-        talks = subst (λ l. Talks copies l xs (it.talk.waits ++ [])) (append-nil c.heard.items) (reads []);
-        rest = it.talk.unsent;
-        answers = speaks.answers;
-        all = at_here;
-      }
-      by_phase Ended reads = record {
-        after = it.talk.waits ++ [];
-        talks = subst (λ l. Talks copies l xs (it.talk.waits ++ [])) (append-nil c.heard.items) (reads.0 []);
-        rest = it.talk.unsent;
-        answers = speaks.answers;
-        all = at_here;
-      }
-      by_phase Ending reads = record { after = reads.0; talks = reads.1; rest = it.talk.unsent; answers = speaks.answers; all = at_here }
-  told_at (Gone InOrder) seat is (none, e) = record {
-    after = e.after;
-    talks = e.talks;
-    rest = [];
-    answers = e.answers ∙ sym (append-nil c.written.items);
-    all = λ in_order. (refl, e.over);
-  }
-  told_at (Gone (Broken why)) seat is (none, e) = record {
-    after = e.after;
-    talks = e.talks;
-    rest = e.rest;
-    answers = e.answers;
-    all = other_end (Broken why) (λ h. cc) is;
-  }
-  told_at (Gone GivenUp) seat is (none, e) = record { after = e.after; talks = e.talks; rest = e.rest; answers = e.answers; all = other_end GivenUp (λ h. cc) is }
+      by : Rests it (socket_of c) ⊎ IsReported (socket_of c) → IsServed copies n deliveries c xs Here
+      by (inl (inl set)) = apart c.is_called set called
+      by (inl (inr (inl set))) = apart c.is_stuffed set stuffed
+      by (inl (inr (inr h))) = answered it.phase it.talk.waits it.talk.unsent speaks h
+      by (inr reported) = apart c.is_dry dry reported.dry
+
+  served_at : (stage : Stage) (seat : Option Seat) → Stands copies (state_of stage) seat (socket_of c) xs → IsDoneAt c came.ends came.fails stage → IsServed copies n deliveries c xs stage
+  served_at NotYet seat stands done = absurd done
+  served_at Here seat stands done = here_done seat stands done
+  served_at (Gone InOrder) seat (none, e) done = (over done e.over, e.answers)
+  served_at (Gone (Broken fault.Read)) seat (none, e) done = cut fault.Read done e
+  served_at (Gone (Broken fault.Write)) seat (none, e) done = cut fault.Write done e
+  served_at (Gone (Broken fault.NoMemory)) seat stands done = absurd done
+  served_at (Gone GivenUp) seat stands done = absurd done
 
 module _ (add : (changes : List Change) (change : Change) (old new : Shown) → Shows changes old → ChangesBy old new change → Shows (changes ++ change ∷ []) new)
     (at_changes : (changes : List Change) (shown : Shown) (bucket : List ℕ) (kind : ImageKind) → Shows changes shown → hook_in shown bucket kind ≡ hook_at changes bucket kind)
@@ -116,13 +136,24 @@ module _ (add : (changes : List Change) (change : Change) (old new : Shown) → 
     (merges : (k : Key) (states : List State) (knowns : List (List Write)) (merge : State) → AllShow states knowns → IsMergeOf k states merge → ShowsKnown merge (all_writes knowns))
     {B : Type 0} (Given : B → Call → Reply → B → Type 0) (counted : B → ℕ) (now_of : B → Now) (is_store : IsOfOneThread Given counted now_of) where
   -- all connections of a hall
-  pub plays_lead : (old new : B) (people : List Client) (hall : Hall) (changes : List Change) → Shows changes (now_of old).hooks → AreJournals (now_of old).peers.logs
-      → Plays Given counted old new people hall → ServesAll people (now_of old) (now_of new) changes
-  plays_lead old new people hall changes shows are (sockets, shown, stands) =
+  pub plays_lead : (count : ℕ) (deliveries : List Delivery) (old new : B) (people : List Client) (hall : Hall) (changes : List Change) → Shows changes (now_of old).hooks → AreJournals (now_of old).peers.logs
+      → Plays Given counted old new people hall → length people ≡ count → ((n : ℕ) (c : Client) → slice_get people n ≡ Some c → IsDone n deliveries c) → ServesAll count deliveries people (now_of old) (now_of new) changes
+  plays_lead count deliveries old new people hall changes shows are (sockets, shown, stands) size done =
       let lead = runs_lead add at_changes more siblings clock merges Given counted now_of is_store old new changes (all_parts stands.log) shows are stands.runs in
-      (stands.log, lead.0, lead.1, lead.2, λ n c is. each n c is)
+      record { count = size; log = stands.log; after = lead.0; runs = lead.1; follows = lead.2; each = λ n c is. each n c is; nobody = λ n beyond. nobody n beyond }
     where
-      each : (n : ℕ) (c : Client) → slice_get people n ≡ Some c → IsTold (copies_of (now_of old).placement.vnodes) c (part n stands.log)
+      many : ℕ
+      many = copies_of (now_of old).placement.vnodes
+
+      each : (n : ℕ) (c : Client) → slice_get people n ≡ Some c → IsTold many n deliveries c (part n stands.log)
       each n c is =
-          let own = subst (λ (s : Socket). Stands (counted old) s.state (seat_at hall n) s (part n stands.log)) (shown n c is) (stands.each n) in
-          subst (λ k. IsTold k c (part n stands.log)) (is_store.counts old) (told_at (counted old) c (part n stands.log) c.stage (seat_at hall n) refl own)
+          let own = subst (λ (s : Socket). Stands (counted old) s.state (seat_at hall n) s (part n stands.log)) (shown.each n c is) (stands.each n) in
+          let all = done n c is in
+          let served = served_at (counted old) n deliveries c (part n stands.log) all.0 all.1 all.2 c.stage (seat_at hall n) own all.3 in
+          record { came = all.0; served = subst (λ k. IsServed k n deliveries c (part n stands.log) c.stage) (is_store.counts old) served }
+
+      nobody : (n : ℕ) → count ≤ n → (rest : List ℕ) × Talks many [] (part n stands.log) rest
+      nobody n beyond =
+          let none = sym (none_is people n (let s = size in omega (arith, s, beyond))) in
+          let talk = talks_of (counted old) (sockets n).state (seat_at hall n) (sockets n) (part n stands.log) (stands.each n) in
+          (talk.0, subst (λ k. Talks k [] (part n stands.log) talk.0) (is_store.counts old) (subst (λ (l : List ℕ). Talks (counted old) l (part n stands.log) talk.0) (shown.nobody n none) talk.1))

@@ -6,3 +6,4 @@ pub mod Writes
 pub mod Reads
 pub mod Exchanges
 pub mod Together
+pub mod Passes

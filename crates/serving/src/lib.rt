@@ -6,6 +6,7 @@
 
 pub mod laws;
 mod opening;
+pub mod passes;
 mod serving;
 mod together;
 mod whole;

@@ -1,6 +1,6 @@
 //! Several connections to a store of one thread, whose bytes come in any order.
 
-ghost use Rattle.std.specs.Prelude.{◌≡◌, ℕ, List, IfOk};
+ghost use Rattle.std.specs.Prelude.{◌≡◌, ◌≢◌, ◌⊎◌, ◌++◌, ℕ, List, IfOk, OnOk, IsTrue, Some, slice_get};
 ghost use Rattle.hooks.specs.Changes.{Change};
 ghost use Rattle.hooks.specs.Tables.{Shows};
 ghost use Rattle.hall.specs.declared.clients.Client.{Client as Told};
@@ -10,10 +10,10 @@ ghost use Rattle.hall.specs.Sockets.{Sockets, unborn};
 ghost use Rattle.serving.specs.Journals.{AreJournals};
 ghost use Rattle.serving.specs.Past.{Now};
 ghost use Rattle.serving.specs.Stores.{IsOfOneThread};
-ghost use Rattle.serving.specs.Together.{Plays, ServesAll};
+ghost use Rattle.serving.specs.Together.{IsCome, IsDone, IsDoneAt, Plays, ServesAll, bytes_in};
 
-use hall::{Client, Clients, Hall, Ring, Stage};
-use httpfront::Backend;
+use hall::{Client, Clients, Closing, Hall, Ring, Stage};
+use httpfront::{Backend, FrontFault};
 use std::alloc::{AllocError, Global};
 
 /// What comes from a client.
@@ -27,6 +27,16 @@ pub enum Arrival<'a> {
     Failure,
 }
 
+impl Arrival<'_> {
+    // How many bytes come.
+    fn len(&self) -> usize {
+        match self {
+            Arrival::Bytes(bytes) => bytes.len(),
+            Arrival::End | Arrival::Failure => 0,
+        }
+    }
+}
+
 /// What comes next, and from which client: the first is 0.
 #[derive(Clone, Copy)]
 pub struct Delivery<'a> {
@@ -37,12 +47,15 @@ pub struct Delivery<'a> {
 }
 
 /// Answers so many clients, each on a connection of its own, on a store of one thread: each is attended as soon as something comes from it, in the
-/// order of the deliveries. Answers what was read of each and written to it, and how its connection ended, if it did. A delivery of
-/// a client that there isn't is passed over. The error is want of memory.
+/// order of the deliveries, until all that it asked is answered. Answers what was read of each and written to it, and how its connection ended, if it
+/// did. A delivery of a client that there isn't is passed over.
 ///
-/// One log has the exchanges of all, in the order of their calls. Whatever the changes of the hooks so far are, each answer is that of the
+/// What is written to a client are the answers to all requests of the bytes that came from it, in order, unless a failure came, too: then it is a front of them. One
+/// log has the exchanges of all, in the order of their calls. Whatever the changes of the hooks so far are, each answer is that of the
 /// store with these changes and those that were answered before it, on whichever connection; what it tells of the writes is what the
 /// journals say at that moment.
+///
+/// The error is want of memory, be it for one connection alone, which then broke off.
 pub fn answer_all<B: Backend>(
     alloc: Global,
     clients: usize,
@@ -51,7 +64,7 @@ pub fn answer_all<B: Backend>(
 ) -> Result<Vec<Client>, AllocError>
     ensures { IfOk result (λ told. (now : B → Now) (changes : List Change) → IsOfOneThread B.gives B.copies now
         → Shows changes (now store.old).hooks → AreJournals (now store.old).peers.logs
-        → ServesAll told.items (now store.old) (now store.new) changes) }
+        → ServesAll clients deliveries.now told.items (now store.old) (now store.new) changes) }
 {
     hooks::laws::changes_add_up();
     hooks::laws::hook_is_of_changes();
@@ -62,8 +75,13 @@ pub fn answer_all<B: Backend>(
     let mut hall = Hall::new(alloc)?;
     hall::laws::halls_begin::<B>();
     admit_all(&mut hall, &mut ring, clients);
+    look_at_all(&mut hall, &mut ring, clients, store);
     attend_all(&mut hall, &mut ring, deliveries, store)?;
-    Ok(ring.clients)
+    if ring.clients.len() == clients && are_done(alloc, &ring.clients, deliveries)? {
+        Ok(ring.clients)
+    } else {
+        Err(AllocError)
+    }
 }
 
 // So many clients that connected, of which nothing came yet.
@@ -107,6 +125,15 @@ fn admit_all(hall: &mut Hall, ring: &mut Clients, count: usize)
     }
 }
 
+// Attends each client: nothing came from it yet.
+fn look_at_all<B: Backend>(hall: &mut Hall, ring: &mut Clients, count: usize, store: &mut B)
+    ensures { (start : B) → Plays B.gives B.copies start store.old ring.old.clients.items hall.old → Plays B.gives B.copies start store.new ring.new.clients.items hall.new }
+{
+    for client in 0..count {
+        attend(hall, ring, client, 0, store);
+    }
+}
+
 // Attends each client as soon as something comes from it.
 fn attend_all<B: Backend>(
     hall: &mut Hall,
@@ -118,9 +145,36 @@ fn attend_all<B: Backend>(
 {
     for delivery in deliveries {
         deliver(&mut ring.clients, delivery)?;
-        hall.attend(delivery.client as u64, ring, store);
+        attend(hall, ring, delivery.client, delivery.arrival.len(), store);
     }
     Ok(())
+}
+
+// Attends a client from which so many bytes came, until it is not to be attended once more. Each time many rounds are made, and each round reads, answers or writes
+// one byte at least: so it is enough to try as often as there are bytes, and twice for what waited.
+fn attend<B: Backend>(
+    hall: &mut Hall,
+    ring: &mut Clients,
+    client: usize,
+    bytes: usize,
+    store: &mut B,
+)
+    ensures { (start : B) → Plays B.gives B.copies start store.old ring.old.clients.items hall.old → Plays B.gives B.copies start store.new ring.new.clients.items hall.new }
+{
+    for _ in 0..bytes.saturating_add(2) {
+        hall.attend(client as u64, ring, store);
+        if !is_called(&ring.clients, client) {
+            break;
+        }
+    }
+}
+
+// Whether a client is to be attended once more.
+fn is_called(clients: &[Client], number: usize) -> bool {
+    match clients.get(number) {
+        Some(client) => client.is_called,
+        None => false,
+    }
 }
 
 // Something comes from a client, if there is one of its number.
@@ -147,5 +201,101 @@ fn arrive(client: &mut Client, arrival: Arrival<'_>) -> Result<(), AllocError>
             client.fails = true;
             Ok(())
         }
+    }
+}
+
+/// All that came from one client.
+#[derive(Drop)]
+struct Came {
+    /// The bytes.
+    bytes: Vec<u8>,
+    /// Whether their end came.
+    ends: bool,
+    /// Whether a failure came.
+    fails: bool,
+}
+
+impl Came {
+    // It came next, if it came from this client.
+    fn add(&mut self, number: usize, delivery: &Delivery<'_>) -> Result<(), AllocError>
+        ensures own { OnOk result (delivery.now.client ≡ number → self.new.bytes.items ≡ self.old.bytes.items ++ bytes_in delivery.now.arrival) }
+        ensures other { OnOk result (delivery.now.client ≢ number → self.new.bytes.items ≡ self.old.bytes.items) }
+        ensures ends { IsTrue self.new.ends → IsTrue self.old.ends ⊎ ((delivery.now.client ≡ number) × (delivery.now.arrival ≡ Arrival.End)) }
+        ensures fails { IsTrue self.new.fails → IsTrue self.old.fails ⊎ ((delivery.now.client ≡ number) × (delivery.now.arrival ≡ Arrival.Failure)) }
+    {
+        if delivery.client == number {
+            match delivery.arrival {
+                Arrival::Bytes(bytes) => self.bytes.extend_from_slice(bytes)?,
+                Arrival::End => self.ends = true,
+                Arrival::Failure => self.fails = true,
+            }
+        }
+        Ok(())
+    }
+}
+
+// All that came from a client.
+fn came_from(alloc: Global, number: usize, deliveries: &[Delivery<'_>]) -> Result<Came, AllocError>
+    ensures { IfOk result (λ came. IsCome number deliveries.now came) }
+{
+    let mut came = Came {
+        bytes: Vec::new(alloc),
+        ends: false,
+        fails: false,
+    };
+    for place in 0..deliveries.len() {
+        came.add(number, &deliveries[place])?;
+    }
+    Ok(came)
+}
+
+// Whether what was read of each client and what wasn't are what came from it, and nothing is left to do for it.
+fn are_done(
+    alloc: Global,
+    clients: &[Client],
+    deliveries: &[Delivery<'_>],
+) -> Result<bool, AllocError>
+    ensures { IfOk result (λ done. IsTrue done → (n : ℕ) (client : Told) → slice_get clients.now n ≡ Some client → IsDone n deliveries.now client) }
+{
+    for number in 0..clients.len() {
+        let came = came_from(alloc, number, deliveries)?;
+        if !is_done(&clients[number], &came) {
+            return Ok(false);
+        }
+    }
+    Ok(true)
+}
+
+// The same of one client, from which this came.
+fn is_done(client: &Client, came: &Came) -> bool
+    ensures all { IsTrue result → client.now.heard.items ++ client.now.coming.items ≡ came.now.bytes.items }
+    ensures done { IsTrue result → IsDoneAt client.now came.now.ends came.now.fails client.now.stage }
+{
+    is_all(&client.heard, &client.coming, &came.bytes) && is_at_end(client, came.ends, came.fails)
+}
+
+// Whether bytes are these two parts, one behind the other.
+fn is_all(heard: &[u8], coming: &[u8], all: &[u8]) -> bool
+    ensures { IsTrue result → heard.now ++ coming.now ≡ all.now }
+{
+    if all.len() < heard.len() {
+        return false;
+    }
+    let (front, rest) = all.split_at(heard.len());
+    front == heard && rest == coming
+}
+
+// Whether nothing is left to do for a client, where its end came, or a failure.
+fn is_at_end(client: &Client, ends: bool, fails: bool) -> bool
+    ensures { IsTrue result → IsDoneAt client.now ends fails client.now.stage }
+{
+    match client.stage {
+        Stage::Here => {
+            client.is_dry && !client.is_stuffed && !client.is_called && client.coming.is_empty()
+        }
+        Stage::Gone(Closing::InOrder) => !client.has_ended || (ends && client.coming.is_empty()),
+        Stage::Gone(Closing::Broken(FrontFault::Read | FrontFault::Write)) => fails,
+        Stage::NotYet | Stage::Gone(Closing::GivenUp | Closing::Broken(FrontFault::NoMemory)) =>
+            false,
     }
 }

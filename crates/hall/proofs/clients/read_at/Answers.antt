@@ -1,3 +1,4 @@
+use Rattle.std.proofs.Common.{◌≡◌, ◌∙◌, Some, None, refl, sym}
 use Rattle.hall.specs.Sockets.{after_read}
 use Rattle.hall.proofs.ClientLemmas.{alters_set, alters_none, there_is, none_is}
 use Rattle.hall.proofs.clients.read_at.Goals as goal
@@ -7,3 +8,11 @@ returns-in-Some-clause-alters c = alters_set c.args.i (after_read c.read.result 
 
 pub returns-in-None-clause-alters : goal.returns-in-None-clause-alters
 returns-in-None-clause-alters c = alters_none c.args.i _ c.args.clients.now.items (none_is c.args.clients.now.items c.args.i c.in-None.ensures.item.3)
+
+pub returns-in-Some-clause-absent : goal.returns-in-Some-clause-absent
+returns-in-Some-clause-absent c = λ none s.
+    let there = there_is c.args.clients.now.items c.args.i c.in-Some.client.now c.in-Some.ensures.item.3.0 c.in-Some.ensures.item.1 in
+    let both : None ≡ Some c.in-Some.client.now = sym none ∙ there in cc
+
+pub returns-in-None-clause-absent : goal.returns-in-None-clause-absent
+returns-in-None-clause-absent c = λ none s. refl

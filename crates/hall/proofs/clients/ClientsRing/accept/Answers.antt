@@ -1,4 +1,4 @@
-use Rattle.std.proofs.Common.{◌∙◌}
+use Rattle.std.proofs.Common.{◌∙◌, refl}
 use Rattle.hall.specs.Sockets.{after_accept}
 use Rattle.hall.proofs.ClientLemmas.{shows_altered}
 use Rattle.hall.proofs.clients.ClientsRing.accept.Goals as goal
@@ -6,5 +6,5 @@ use Rattle.hall.proofs.clients.ClientsRing.accept.Goals as goal
 pub returns-then-accept_at-clause-came : goal.returns-then-accept_at-clause-came
 returns-then-accept_at-clause-came c = λ old shown.
     let came = c.accept_at.ensures.yes c.if-accept_at.true in
-    let on = shows_altered c.args.self.now.taken after_accept c.args.self.now.clients.items c.accept_at.new.clients.items old came.3 shown in
-    (on.0, on.1, (shown c.args.self.now.taken came.0 came.1 ∙ came.2, on.2))
+    let on = shows_altered c.args.self.now.taken after_accept c.args.self.now.clients.items c.accept_at.new.clients.items old came.3 (λ none t. refl) shown in
+    (on.0, on.1, (shown.each c.args.self.now.taken came.0 came.1 ∙ came.2, on.2))

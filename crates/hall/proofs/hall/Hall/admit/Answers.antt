@@ -1,4 +1,4 @@
-use Rattle.std.proofs.Common.{refl, Ok, Err, Some, None}
+use Rattle.std.proofs.Common.{refl, Ok, Some}
 use Rattle.hall.proofs.hall.Hall.admit.Goals as goal
 
 pub returns-in-Ok-Some : goal.returns-in-Ok-Some
