@@ -1,5 +1,5 @@
 -- On what is known of the sockets of the system.
-use Rattle.std.proofs.Common.{◌≡◌, ℕ, ◌+◌, ◌-◌, ◌^◌, ◌<◌, ◌≤◌, ◌⊎◌, inl, inr, max, min, sym, ap, ◌∙◌, subst, refl, arith}
+use Rattle.std.proofs.Common.{◌≡◌, ℕ, ◌+◌, ◌-◌, ◌^◌, ◌<◌, ◌≤◌, ◌⊎◌, inl, inr, max, min, ◌∙◌, subst, arith}
 use Rattle.std.proofs.lemmas.Bool.{cases_eq}
 use Rattle.hall.specs.Sockets.{Socket, Sockets, Changes, changed_at, unborn, after_accept}
 use Rattle.hall.proofs.ClientLemmas.{at_other, changes_at}

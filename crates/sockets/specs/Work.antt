@@ -1,9 +1,9 @@
 -- What becomes of a worker's connections.
-use Rattle.std.specs.Prelude.{ℕ, Option}
+use Rattle.std.specs.Prelude.{◌≡◌, ℕ, Option}
 use Rattle.httpask.specs.declared.ask.Call.{Call}
 use Rattle.httpreply.specs.declared.reply.Reply.{Reply}
 use Rattle.hall.specs.Sockets.{Sockets}
-use Rattle.hall.specs.Halls.{Log, AllStand, HallStands, seat_at}
+use Rattle.hall.specs.Halls.{AllStand, Goes, Log, seat_at}
 use Rattle.hall.specs.declared.seat.Seat.{Seat}
 use Rattle.sockets.specs.Shows.{Shows}
 use Rattle.sockets.specs.declared.worker.Worker.{Worker}
@@ -23,8 +23,9 @@ Stays old new =
     → (t : Sockets) × shows new t × AllStand copies log t (seats_of new)
 
 module _ {B : Type 0} (gives : B → Call → Reply → B → Type 0) (copies : B → ℕ) where
-  -- where the hall stood, it stands again: one log has the calls of all connections
+  -- where all connections stood with a log of their calls, they stand again with a longer one: what is behind it are the calls that were made since, in order
   abbrev pub Works : Worker → Worker → B → B → Type 0
   Works old new from now =
-      (start : B) (s : Sockets) → shows old s → HallStands gives copies start from s (seats_of old)
-      → (t : Sockets) × shows new t × HallStands gives copies start now t (seats_of new)
+      (copies now ≡ copies from)
+      × ((log : Log) (s : Sockets) → shows old s → AllStand (copies from) log s (seats_of old)
+      → (t : Sockets) × shows new t × Goes gives (copies from) log from now t (seats_of new))

@@ -37,10 +37,22 @@ pub(crate) enum Drained {
     Over,
 }
 
+/// What the next read of a connection may find.
+#[derive(Clone, Copy, Debug, PartialEq, Eq)]
+enum Inflow {
+    /// Bytes may be there.
+    Ready,
+    /// The last read found no more than was there: nothing is, until the socket is reported once more.
+    Dry,
+    /// Its client sends nothing more, or it failed, which is reported once: what is left is read to its end.
+    Closing,
+}
+
 /// One connection's socket.
 #[derive(Drop)]
 pub(crate) struct Line {
     stream: TcpStream,
+    inflow: Inflow,
     pub(crate) course: Course,
     /// For how long its client has kept it waiting.
     pub(crate) watch: Watch,
@@ -56,6 +68,7 @@ impl Line {
         let _ = stream.set_nodelay(true);
         Line {
             stream,
+            inflow: Inflow::Ready,
             course: Course::Served,
             watch: Watch::new(now),
             has_taken: false,
@@ -87,6 +100,15 @@ impl Line {
         Ok(())
     }
 
+    /// It was reported, and whether its client sends nothing more, or it failed.
+    pub(crate) fn report(&mut self, closes: bool) {
+        if closes {
+            self.inflow = Inflow::Closing;
+        } else if self.inflow == Inflow::Dry {
+            self.inflow = Inflow::Ready;
+        }
+    }
+
     /// Reads some bytes. One that was interrupted is reported once more.
     pub(crate) fn read(
         &mut self,
@@ -97,9 +119,17 @@ impl Line {
         requires { 0 < length buf.old }
         ensures fits { IfOk result (FitsHeard (length buf.new)) }
     {
+        if self.inflow == Inflow::Dry {
+            return Ok(Heard::NotNow);
+        }
         match self.stream.read(buf) {
             Ok(0) => Ok(Heard::End),
-            Ok(n) => Ok(Heard::Bytes(n)),
+            Ok(n) => {
+                if n < buf.len() && self.inflow == Inflow::Ready {
+                    self.inflow = Inflow::Dry;
+                }
+                Ok(Heard::Bytes(n))
+            }
             Err(error) if error.kind() == ErrorKind::WouldBlock => Ok(Heard::NotNow),
             Err(error) if error.kind() == ErrorKind::Interrupted => {
                 self.register_again(registry, number)?;

@@ -110,6 +110,15 @@ impl Sockets {
         self.poll.poll(events, Some(most))
     }
 
+    /// A connection was reported, and whether its client sends nothing more, or it failed.
+    pub(crate) fn report(&mut self, number: u64, closes: bool)
+        ensures next { self.new.next ≡ self.old.next }
+    {
+        if let Some(line) = self.lines.get_mut(&number) {
+            line.report(closes);
+        }
+    }
+
     /// A connection waits to be taken.
     pub(crate) fn offer(&mut self, stream: TcpStream)
         ensures next { self.new.next ≡ self.old.next }

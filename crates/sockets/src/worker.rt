@@ -120,7 +120,7 @@ impl Worker {
         if self.sockets.wait(&mut self.events, most).is_err() {
             self.rest.park_timeout(rt, Duration::from_millis(REST));
         }
-        note_reported(&self.events, &mut self.reported);
+        note_reported(&self.events, &mut self.sockets, &mut self.reported);
     }
 
     // Seats the connections that were offered. Where more were than one turn takes, the next one doesn't wait.
@@ -228,11 +228,15 @@ impl Worker {
     }
 }
 
-// Keeps the numbers of the connections that were reported.
-fn note_reported(events: &Events, reported: &mut Vec<u64>) {
+// Keeps the numbers of the connections that were reported, and what was reported of each.
+fn note_reported(events: &Events, sockets: &mut Sockets, reported: &mut Vec<u64>)
+    ensures next { sockets.new.next ≡ sockets.old.next }
+{
     reported.clear();
     for event in events {
         let Token(number) = event.token();
+        let closes = event.is_read_closed() || event.is_error();
+        sockets.report(number as u64, closes);
         // There is room for each: so many are reported at the most.
         let _ = reported.push(number as u64);
     }

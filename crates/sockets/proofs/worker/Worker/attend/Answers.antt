@@ -3,9 +3,17 @@ use Rattle.sockets.specs.Shows.{Shows}
 use Rattle.sockets.proofs.worker.Worker.attend.Goals as goal
 
 pub returns-in-Some : goal.returns-in-Some
-returns-in-Some g c = λ start s shown h.
-    let done = c.attend.ensures.stands start s shown h in (done.0, subst (λ (k : ℕ). Shows k done.0) (sym c.note.ensures.next) done.1, done.2)
+returns-in-Some g c = (
+  c.attend.ensures.stays,
+  λ log s shown all.
+      let done = c.attend.ensures.goes log s shown all in
+      (done.0, subst (λ (k : ℕ). Shows k done.0) (sym c.note.ensures.next) done.1, done.2),
+)
 
 pub returns-in-None : goal.returns-in-None
-returns-in-None g c = λ start s shown h.
-    let done = c.attend.ensures.stands start s shown h in (done.0, subst (λ (k : ℕ). Shows k done.0) (sym c.drain.ensures.next) done.1, done.2)
+returns-in-None g c = (
+  c.attend.ensures.stays,
+  λ log s shown all.
+      let done = c.attend.ensures.goes log s shown all in
+      (done.0, subst (λ (k : ℕ). Shows k done.0) (sym c.drain.ensures.next) done.1, done.2),
+)

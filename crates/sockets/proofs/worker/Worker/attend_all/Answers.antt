@@ -1,5 +1,8 @@
-use Rattle.sockets.proofs.WorkLemmas.{works_then}
+use Rattle.sockets.proofs.WorkLemmas.{works_same, works_then}
 use Rattle.sockets.proofs.worker.Worker.attend_all.Goals as goal
+
+pub loop-number-init : goal.loop-number-init
+loop-number-init g c = works_same g.B.Backend.gives g.B.Backend.copies c.args.self.now c.args.backend.now
 
 pub loop-number-preserved : goal.loop-number-preserved
 loop-number-preserved g c =

@@ -1,5 +1,8 @@
-use Rattle.sockets.proofs.WorkLemmas.{works_then}
+use Rattle.sockets.proofs.WorkLemmas.{works_same, works_then}
 use Rattle.sockets.proofs.worker.Worker.attend_each.Goals as goal
+
+pub loop-init : goal.loop-init
+loop-init g c = works_same g.B.Backend.gives g.B.Backend.copies c.args.self.now c.args.backend.now
 
 pub loop-preserved : goal.loop-preserved
 loop-preserved g c =
