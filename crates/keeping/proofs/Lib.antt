@@ -2,3 +2,4 @@ mod Spelled
 mod Above
 mod Made
 mod Ending
+mod Held

@@ -1,69 +1,17 @@
--- Calls of starts and snapshots, one more each time.
-use Rattle.std.proofs.Common.{◌≡◌, ℕ, suc, ◌+◌, ◌<◌, ◌≤◌, List, [], ◌∷◌, ◌++◌, length, length-append, take, get_or, refl, sym, ap, subst, ◌∙◌, arith, append_assoc, Option, Some, None, Ok, Err, Bool, Result}
-use Rattle.std.specs.Prelude.{slice_get, IsErrAnd, IfErr}
+-- Calls of snapshots, one more each time.
+use Rattle.std.proofs.Common.{◌≡◌, ℕ, suc, ◌+◌, ◌<◌, List, [], ◌∷◌, ◌++◌, length, length-append, get_or, refl, sym, ap, subst, ◌∙◌, arith, append_assoc, Option, Some, None, Ok}
 use Rattle.std.specs.Global.{Vec}
 use Rattle.std.specs.Io.KnownBytes.{Appends}
 use Rattle.std.proofs.lemmas.List.{append-nil}
-use Rattle.std.proofs.lemmas.Option.{slice_get_read}
 use Rattle.object.specs.declared.content.Key.{Key}
 use Rattle.wire.specs.declared.record.Record.{Record}
-use Rattle.peers.specs.declared.fault.PeerFault.{PeerFault}
 use Rattle.peers.specs.declared.peers.Answer.{Answer}
-use Rattle.peers.specs.Calls.{Call, MergeAt, StateOf, KeysOf, Made}
+use Rattle.peers.specs.Calls.{Call, StateOf, KeysOf, Made}
 use Rattle.peers.proofs.CallLemmas.{made_end}
-use Rattle.keeping.specs.Starts.{merges_at, refused_at}
 use Rattle.keeping.specs.Files.{IsFileOf, end_of}
 use Rattle.keeping.specs.Snapshots.{reads_at, record_read, records_read, snapshot_calls}
-use Rattle.keeping.specs.declared.start.Refusal.{Refusal}
 use Rattle.keeping.specs.Records.{AreSpelledBy}
 use Rattle.keeping.proofs.Spelled.{both_spelled, none_spelled}
-
-merges_end : (i : ℕ) (records : List Record) (changed : List Bool) (c : Bool) (r : Record) → length changed < length records → r ≡ get_or records (length changed) r
-    → merges_at i records (changed ++ c ∷ []) ≡ merges_at i records changed ++ MergeAt i r.key r.from r.at r.state (Ok c) ∷ []
-merges_end i [] changed c r lt is = absurd (omega (arith, lt))
-merges_end i (x ∷ records) [] c r lt is = nothing_more i records ∙ ap (λ (y : Record). MergeAt i y.key y.from y.at y.state (Ok c) ∷ []) (sym is)
-  where
-    nothing_more : (i : ℕ) (records : List Record) → MergeAt i x.key x.from x.at x.state (Ok c) ∷ merges_at i records [] ≡ MergeAt i x.key x.from x.at x.state (Ok c) ∷ []
-    nothing_more i [] = refl
-    nothing_more i (y ∷ records) = refl
-merges_end i (x ∷ records) (d ∷ changed) c r lt is = ap (λ (calls : List Call). MergeAt i x.key x.from x.at x.state (Ok d) ∷ calls) (merges_end i records changed c r (omega (arith, lt)) is)
-
-merges_front : (i : ℕ) (records : List Record) (changed : List Bool) → merges_at i (take (length changed) records) changed ≡ merges_at i records changed
-merges_front i [] [] = refl
-merges_front i [] (c ∷ changed) = refl
-merges_front i (r ∷ records) [] = refl
-merges_front i (r ∷ records) (c ∷ changed) = ap (λ (calls : List Call). MergeAt i r.key r.from r.at r.state (Ok c) ∷ calls) (merges_front i records changed)
-
--- so many records were merged
-pub record AreMerging {S : Type 0} (happens : S → Call → S → Type 0) (old new : S) (i : ℕ) (records : List Record) (count : ℕ) : Type 0 where
-  pub changed : List Bool
-  pub each : length changed ≡ count
-  pub made : Made happens old (merges_at i records changed) new
-
-pub merging_none : {S : Type 0} (happens : S → Call → S → Type 0) (s : S) (i : ℕ) (records : List Record) → AreMerging happens s s i records 0
-merging_none happens s i [] = record { changed = []; each = refl; made = refl }
-merging_none happens s i (r ∷ records) = record { changed = []; each = refl; made = refl }
-
-pub merging_more : {S : Type 0} (happens : S → Call → S → Type 0) (old now new : S) (i : ℕ) (records : List Record) (count : ℕ) (r : Record) → count < length records → r ≡ get_or records count r → AreMerging happens old now i records count
-    → (c : Bool) × happens now (MergeAt i r.key r.from r.at r.state (Ok c)) new → AreMerging happens old new i records (count + 1)
-merging_more happens old now new i records count r lt is so (c, made) = record {
-  changed = so.changed ++ c ∷ [];
-  each = simp length-append (let e = so.each in omega (arith, e));
-  made = subst (λ (calls : List Call). Made happens old calls new) (sym (merges_end i records so.changed c r (let e = so.each in omega (arith, lt, e)) (subst (λ (n : ℕ). r ≡ get_or records n r) (sym so.each) is)))
-      (made_end happens old now new (merges_at i records so.changed) (MergeAt i r.key r.from r.at r.state (Ok c)) so.made made);
-}
-
-pub merging_refused : {S : Type 0} (happens : S → Call → S → Type 0) (old now new : S) (i : ℕ) (records : List Record) (count : ℕ) (r : Record) (fault : PeerFault) → AreMerging happens old now i records count
-    → slice_get records count ≡ Some r → happens now (MergeAt i r.key r.from r.at r.state (Err fault)) new
-    → (changed : List Bool) × (x : Record) × (length changed ≡ count) × (slice_get records count ≡ Some x) × Made happens old (refused_at i records changed x fault) new
-merging_refused happens old now new i records count r fault so here made = (
-  so.changed,
-  r,
-  so.each,
-  here,
-  made_end happens old now new (merges_at i (take (length so.changed) records) so.changed) (MergeAt i r.key r.from r.at r.state (Err fault))
-      (subst (λ (calls : List Call). Made happens old calls now) (sym (merges_front i records so.changed)) so.made) made,
-)
 
 reads_end : (i : ℕ) (keys : List Key) (answers : List Answer) (a : Answer) (k : Key) → length answers < length keys → k ≡ get_or keys (length answers) k
     → reads_at i keys (answers ++ a ∷ []) ≡ reads_at i keys answers ++ StateOf i k (Ok a) ∷ []
@@ -148,20 +96,3 @@ whole_snapshot happens old mid new i id keys slice n count before between after 
           (subst (λ (k : ℕ). AreSpelledBy (end_of id k ∷ []) more) (n_is ∙ sym (count_read keys.items answers len)) end_spelled),
       appends_then before between after bytes more written end_written,
     )
-
-pub merged_all : {S : Type 0} (happens : S → Call → S → Type 0) (old new : S) (i : ℕ) (records : List Record) (count : ℕ) → length records ≤ count → count ≤ length records → AreMerging happens old new i records count
-    → (changed : List Bool) × (length changed ≡ length records) × Made happens old (merges_at i records changed) new
-merged_all happens old new i records count low high so = (so.changed, (let e = so.each in omega (arith, e, low, high)), so.made)
-
--- what is told of a refusal holds of what is returned
-pub if_refused : {T E : Type 0} (P : E → Type 0) (r : Result T E) (f : E) → IsErrAnd r (λ e. e ≡ f) → P f → IfErr r P
-if_refused P (Ok x) f is h = tt
-if_refused P (Err e) f is h = subst P (sym is) h
-
--- the record at a place was refused
-pub refused_so : {S : Type 0} (happens : S → Call → S → Type 0) (old now new : S) (i : ℕ) (records : List Record) (count : ℕ) (r : Record) (why : Refusal) → count < length records → r ≡ get_or records count r → AreMerging happens old now i records count
-    → (why.place ≡ count) × happens now (MergeAt i r.key r.from r.at r.state (Err why.fault)) new
-    → (changed : List Bool) × (x : Record) × (length changed ≡ why.place) × (slice_get records why.place ≡ Some x) × Made happens old (refused_at i records changed x why.fault) new
-refused_so happens old now new i records count r why lt is so (place, made) =
-    subst (λ (n : ℕ). (changed : List Bool) × (x : Record) × (length changed ≡ n) × (slice_get records n ≡ Some x) × Made happens old (refused_at i records changed x why.fault) new) (sym place)
-    (merging_refused happens old now new i records count r why.fault so (slice_get_read records (length records) count r refl lt is) made)

@@ -1,9 +1,10 @@
 -- The file of a vnode's records that a folder keeps: the records of a dump, and one more that ends it (this store's profile).
-use Rattle.std.specs.Prelude.{◌≡◌, ℕ, List, [], ◌∷◌, ◌++◌, length}
+use Rattle.std.specs.Prelude.{◌≡◌, ℕ, ◌%◌, ◌==◌, if◌then◌else◌, List, [], ◌∷◌, ◌++◌, length}
 use Rattle.object.specs.declared.content.Key.{Key}
 use Rattle.object.specs.State.{empty}
 use Rattle.wire.specs.declared.record.Record.{Record}
 use Rattle.keeping.specs.Records.{AreSpelledBy, FaultAt}
+use Rattle.keeping.specs.declared.file.KeptFile.{KeptFile}
 use Rattle.keeping.specs.declared.file.Unkept.{Unkept}
 use Rattle.keeping.specs.declared.file.Unkept.TheVariants as unkept
 
@@ -28,3 +29,8 @@ abbrev pub IsUnkept : List ℕ → Unkept → Type 0
 IsUnkept bytes (unkept.Faulty place fault) = FaultAt bytes place fault
 IsUnkept bytes unkept.NoEnd = (records : List Record) × AreSpelledBy records bytes × HaveNoEnd records
 IsUnkept bytes unkept.NoMemory = Unit {0}
+
+-- the records of the vnode with an index: those of the first file whose vnode has that index; none where there is no such file
+abbrev pub records_at : List KeptFile → ℕ → List Record
+records_at [] index = []
+records_at (file ∷ files) index = if (file.from % 65536) == index then file.records.items else records_at files index

@@ -1,5 +1,4 @@
 pub mod Records
 pub mod Files
 pub mod Numbers
-pub mod Starts
 pub mod Snapshots

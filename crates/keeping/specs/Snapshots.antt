@@ -1,10 +1,12 @@
 -- The calls by which a vnode's records are taken while it serves, and the records.
-use Rattle.std.specs.Prelude.{ℕ, List, [], ◌∷◌, Ok}
+use Rattle.std.specs.Prelude.{ℕ, ◌+◌, List, [], ◌∷◌, Ok}
 use Rattle.std.specs.Global.{Vec}
 use Rattle.object.specs.declared.content.Key.{Key}
 use Rattle.wire.specs.declared.record.Record.{Record}
 use Rattle.peers.specs.declared.peers.Answer.{Answer}
 use Rattle.peers.specs.Calls.{Call, StateOf, KeysOf}
+use Rattle.vnode.specs.declared.steps.Copied.{Copied}
+use Rattle.keeping.specs.Records.{record_of}
 
 -- a read of each key at a vnode, in order, and what each answered
 abbrev pub reads_at : ℕ → List Key → List Answer → List Call
@@ -25,3 +27,8 @@ records_read (key ∷ keys) (answer ∷ answers) = record_read key answer ∷ re
 -- the vnode names its keys, and each is read
 abbrev pub snapshot_calls : ℕ → Vec Key → List Answer → List Call
 snapshot_calls i keys answers = KeysOf i (Ok keys) ∷ reads_at i keys.items answers
+
+-- the record of each copy of a vnode, the first of which was read at a place of its journal
+abbrev pub records_held : ℕ → ℕ → List Copied → List Record
+records_held from at [] = []
+records_held from at (c ∷ held) = record_of c.key from at c.state ∷ records_held from (at + 1) held

@@ -1,14 +1,14 @@
-//! What outlives a process of the store, but for files and threads: the file of a vnode's records, the number of the next start, the
-//! merges by which a start takes records over, and the records of a vnode that serves.
+//! What outlives a process of the store, but for files and threads: the file of a vnode's records, the number of the next start, and
+//! the records of a vnode that serves, or serves no more.
 #![tactic(auto)]
 
 mod file;
 mod number;
 mod records;
 mod snapshot;
-mod start;
+mod whole;
 
 pub use file::{KeptFile, Unkept, read_file};
 pub use number::{Spent, next_incarnation};
 pub use snapshot::{SnapshotFault, write_snapshot};
-pub use start::{Refusal, merge_records};
+pub use whole::write_whole;

@@ -109,7 +109,7 @@ fn write_key<P: Peers, W: Write>(
 }
 
 /// Writes the record that ends a file of so many.
-fn write_end<W: Write>(
+pub(crate) fn write_end<W: Write>(
     alloc: Global,
     id: u32,
     count: usize,
@@ -125,7 +125,7 @@ fn write_end<W: Write>(
 }
 
 /// Writes the record of a key's state.
-fn write_record<W: Write>(
+pub(crate) fn write_record<W: Write>(
     alloc: Global,
     key: &Key,
     from: u32,

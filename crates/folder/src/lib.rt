@@ -1,0 +1,19 @@
+//! A folder that outlives its process: what is read from it at a start, and how its files are replaced.
+//!
+//! It holds `incarnation`, the number of the last start as a decimal; `vnode-0.records` to `vnode-2.records`, a file of records for each
+//! vnode; and `hooks.requests`, the requests that install and bind hooks. Each file stands for itself: a vnode's records are merges, and
+//! merges of records of another moment are as true. So files are replaced one by one, and no file has to be of the same moment as another.
+#![tactic(auto)]
+
+mod files;
+mod names;
+mod opening;
+mod sealing;
+#[cfg(test)]
+mod tests;
+mod writing;
+
+pub use files::{FileFault, Folder};
+pub use names::HOOKS;
+pub use opening::{Held, OpenFault, Opened, open};
+pub use writing::{Unreplaced, WriteFault, keep_all};

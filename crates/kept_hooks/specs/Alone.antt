@@ -1,0 +1,32 @@
+-- What calls do to hooks without a store of keys (this store's profile).
+use Rattle.std.specs.Prelude.{◌≡◌, ℕ, List, [], ◌∷◌, ◌++◌, Some, None, Result, Ok, Err}
+use Rattle.bpfimage.specs.declared.image.ImageKind.{ImageKind}
+use Rattle.bpfimage.specs.declared.image.ImageKind.TheVariants.{PreCommit, Resolver}
+use Rattle.helpers.specs.declared.sig.Entry.{Entry}
+use Rattle.verifier.specs.Program.{Program}
+use Rattle.admission.specs.Admissions.{IsLetIn}
+use Rattle.hooks.specs.declared.fault.HookFault.{HookFault}
+use Rattle.hooks.specs.Changes as registry
+use Rattle.httpask.specs.declared.ask.Change.{Change}
+use Rattle.httpask.specs.declared.ask.Change.TheVariants.{Kept, Unbound, Bound}
+use Rattle.httpask.specs.declared.ask.Call.{Call}
+use Rattle.httpask.specs.declared.ask.Call.TheVariants as call
+use Rattle.httpreply.specs.declared.reply.Reply.{Reply}
+use Rattle.httpreply.specs.declared.reply.Reply.TheVariants as reply
+
+-- the binding that a change of one kind makes, if any
+abbrev pub binding_of : ImageKind → Change → List registry.Binding
+binding_of kind Kept = []
+binding_of kind Unbound = (kind, None) ∷ []
+binding_of kind (Bound name) = (kind, Some name) ∷ []
+
+abbrev pub bindings_of : Change → Change → List registry.Binding
+bindings_of precommit resolver = binding_of PreCommit precommit ++ binding_of Resolver resolver
+
+module _ {H : Type 0} (takes : H → registry.Change → Result Unit HookFault → H → Type 0) (sigs : List Entry) where
+  -- a change that was answered Ok was made, of an image that is let in; of what is refused nothing is said
+  abbrev pub Changes : H → H → Call → Reply → Type 0
+  Changes old new (call.Install name image) (reply.Installed (Ok done)) = (program : Program) × IsLetIn image sigs program × takes old (registry.Install name program) (Ok done) new
+  Changes old new (call.Remove name) (reply.Removed (Ok done)) = takes old (registry.Remove name) (Ok done) new
+  Changes old new (call.SetProps bucket precommit resolver) (reply.Set (Ok done)) = takes old (registry.Bind bucket (bindings_of precommit resolver)) (Ok done) new
+  Changes old new other answer = Unit {0}

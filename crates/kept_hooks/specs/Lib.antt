@@ -1,0 +1,4 @@
+pub mod Spelling
+pub mod Lists
+pub mod Replays
+pub mod Alone

@@ -1,0 +1,104 @@
+//! A store whose changes of hooks are written down.
+
+ghost use Rattle.std.specs.Prelude.{◌≡◌};
+
+use crate::list::Requests;
+use admission::Refusal;
+use dvv::{Clock, Dot};
+use hooks::{HookFault, NameFault};
+use httpask::Change;
+use httpfront::Backend;
+use httpreply::Bound;
+use object::{Bytes, Content, Key, KeyState};
+use quorum::QuorumFault;
+use std::sync::{Mutex, Wait};
+
+/// A store that writes down which requests changed its hooks, in a list that it shares with other stores of the same hooks.
+///
+/// The list stays locked while the change is made, so that it has the changes in their order. A change that was refused for want of memory
+/// may stand all the same: the list is not whole any more then.
+#[derive(Drop)]
+pub struct Recorder<'a, K: Backend + Drop, R: Wait> {
+    /// The store.
+    pub store: K,
+    list: &'a Mutex<Requests>,
+    rt: &'a R,
+}
+
+impl<'a, K: Backend + Drop, R: Wait> Recorder<'a, K, R> {
+    /// A store, and where its changes of hooks are written down.
+    pub fn new(store: K, list: &'a Mutex<Requests>, rt: &'a R) -> Recorder<'a, K, R>
+        ensures { result.store ≡ store }
+    {
+        Recorder { store, list, rt }
+    }
+}
+
+impl<K: Backend + Drop, R: Wait> Backend for Recorder<'_, K, R> {
+    ghost gives = { λ old call reply new. K.gives old.store call reply new.store };
+
+    ghost copies = { λ s. K.copies s.store };
+
+    ghost stays = { λ old new call reply h. K.stays old.store new.store call reply h };
+
+    fn copies(&self) -> u32 {
+        self.store.copies()
+    }
+
+    fn get(&mut self, key: &Key, r: u32, at: u32) -> Result<KeyState, QuorumFault> {
+        self.store.get(key, r, at)
+    }
+
+    fn put(
+        &mut self,
+        key: &Key,
+        seen: &Clock,
+        content: &Content,
+        w: u32,
+        at: u32,
+    ) -> Result<Dot, QuorumFault> {
+        self.store.put(key, seen, content, w, at)
+    }
+
+    fn install(&mut self, name: &Bytes, image: &Bytes) -> Result<(), Refusal> {
+        let mut list = self.list.lock(self.rt);
+        let done = self.store.install(name, image);
+        match &done {
+            Ok(()) => list.install(name, image),
+            Err(Refusal::NoMemory) => list.doubt(),
+            Err(_) => {}
+        }
+        done
+    }
+
+    fn remove(&mut self, name: &Bytes) -> Result<(), HookFault> {
+        let mut list = self.list.lock(self.rt);
+        let done = self.store.remove(name);
+        match &done {
+            Ok(()) => list.remove(name),
+            Err(HookFault::NoMemory) => list.doubt(),
+            Err(_) => {}
+        }
+        done
+    }
+
+    fn props(&mut self, bucket: &Bytes) -> Result<Bound, NameFault> {
+        self.store.props(bucket)
+    }
+
+    fn set_props(
+        &mut self,
+        bucket: &Bytes,
+        precommit: &Change,
+        resolver: &Change,
+    ) -> Result<(), HookFault> {
+        let mut list = self.list.lock(self.rt);
+        let done = self.store.set_props(bucket, precommit, resolver);
+        match &done {
+            Ok(()) => list.bind(bucket, precommit, resolver),
+            Err(HookFault::NoMemory) => list.doubt(),
+            Err(_) => {}
+        }
+        done
+    }
+}

@@ -1,0 +1,30 @@
+-- What the vnodes of a cluster begin with that take over what files hold (this store's profile).
+use Rattle.std.specs.Prelude.{◌≡◌, ◌≢◌, ◌<◌, ℕ, zero, suc, ◌+◌, List, [], ◌∷◌, ◌++◌, length, Contains}
+use Rattle.carrying.specs.Records.{AreMergesOf}
+use Rattle.journal.specs.Entry.{Entry}
+use Rattle.journal.specs.Logs.{Log}
+use Rattle.keeping.specs.Files.{records_at}
+use Rattle.keeping.specs.declared.file.KeptFile.{KeptFile}
+use Rattle.stamps.specs.declared.view.View.{View}
+use Rattle.wire.specs.declared.record.Record.{Record}
+use Rattle.loading.specs.Loads.{HasLoaded}
+
+-- how many records each of so many vnodes begins with, by index
+abbrev pub fronts_to : List KeptFile → ℕ → List ℕ
+fronts_to files zero = []
+fronts_to files (suc n) = fronts_to files n ++ length (records_at files n) ∷ []
+
+-- a pass was told that each of so many vnodes, numbered from the first on, merged its records, vnode by vnode and in order, from the first entry of its journal
+-- on, and nothing else
+abbrev pub HaveLoaded : View → View → ℕ → List KeptFile → ℕ → Type 0
+HaveLoaded old new first files zero = new.told ≡ old.told
+HaveLoaded old new first files (suc n) = (mid : View) × HaveLoaded old mid first files n × HasLoaded mid new (first + n) (records_at files n)
+
+-- of these journals that of the vnode with this identifier begins with the merges of these records, if there are any, each once and in order
+abbrev pub BeginsWith : List Log → ℕ → List Record → Type 0
+BeginsWith logs id records =
+    records ≢ [] → (log : Log) × Contains logs log × (log.vnode ≡ id) × (es rest : List Entry) × AreMergesOf es records × (log.entries ≡ es ++ rest)
+
+-- so do those of so many vnodes, numbered from the first on, each with the records that are its own by index
+abbrev pub BeginWithFiles : List Log → ℕ → List KeptFile → ℕ → Type 0
+BeginWithFiles logs first files vnodes = (index : ℕ) → index < vnodes → BeginsWith logs (first + index) (records_at files index)

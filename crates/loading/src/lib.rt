@@ -1,0 +1,11 @@
+//! Records that the vnodes of a cluster take over before anybody else calls them.
+#![tactic(auto)]
+
+mod beginning;
+mod fault;
+pub mod laws;
+mod loads;
+
+pub use beginning::{Unloaded, fronts_of, load_all};
+pub use fault::LoadFault;
+pub use loads::load;
