@@ -1,6 +1,6 @@
 -- What the first bytes of files come to is what all of them come to.
-use Rattle.std.proofs.Common.{◌≡◌, ℕ, ◌<◌, ◌≤◌, inl, inr, List, length, take, arith, refl, sym, ap, subst, ◌∙◌}
-use Rattle.std.specs.Prelude.{Bool, MatchBool, true, false, Option, None, Some, IfSome}
+use Rattle.std.proofs.Common.{◌≡◌, ℕ, ◌<◌, ◌≤◌, inl, inr, List, ◌++◌, length, take, arith, refl, sym, ap, subst, ◌∙◌}
+use Rattle.std.specs.Prelude.{Bool, MatchBool, true, false, Option, None, Some, IfSome, Result, Ok, Err, OnOk, IfOk, codes}
 use Rattle.std.specs.Io.KnownBytes.{Appends}
 use Rattle.std.proofs.lemmas.List.{take_all, take-take, length-take}
 use Rattle.bpfimage.specs.Image.{number_at, IsImage, IsRaw, is_marked}
@@ -8,11 +8,15 @@ use Rattle.bpfimage.specs.declared.image.ImageFault.TheVariants.{Window, NoMemor
 use Rattle.helpers.specs.declared.sig.Entry.{Entry}
 use Rattle.verifier.specs.Program.{Program}
 use Rattle.admission.specs.Enough.{AreReadAlike}
-use Rattle.admission.specs.Admissions.{IsProgramOf, IsNotRun}
+use Rattle.admission.specs.Admissions.{IsProgramOf, IsNotRun, refusal_text}
 use Rattle.admission.specs.declared.refusal.Refusal.{Refusal}
 use Rattle.admission.specs.declared.refusal.Refusal.TheVariants as refusal
-use Rattle.commands.specs.Command.{Ran, Judged}
-use Rattle.commands.specs.Outcome.{text_of, status_of}
+use Rattle.explain.specs.Explained.{IsExplained, IsUnexplained}
+use Rattle.explain.specs.Texts.{explanation_text}
+use Rattle.explain.specs.declared.explanation.Explanation.{Explanation}
+use Rattle.commands.specs.Command.{Ran, Judged, Explained, explained, unexplained, explanation_status}
+use Rattle.commands.specs.declared.failure.Failure.{Failure}
+use Rattle.commands.specs.Outcome.{line, text_of, status_of}
 use Rattle.commands.specs.Run.{IsLetIn, IsRunOf, ComesTo}
 use Rattle.commands.specs.Verdict.{IsVerdict, verdict_text, verdict_status}
 use Rattle.commands.specs.declared.outcome.Outcome.{Outcome}
@@ -131,6 +135,38 @@ judged sigs held_image before after status some v alike x told is = record {
   told = told;
   status_is = is;
 }
+
+-- ---- explanations
+
+explained_of_all : (some all : List ℕ) (sigs : List Entry) (e : Explanation) → AreReadAlike some all → IsExplained some sigs e → IsExplained all sigs e
+explained_of_all some all sigs e alike (p, of, is) = (p, program_of_all some all sigs p alike of, is)
+
+explained_of_held : (sigs : List Entry) (some : List ℕ) (held : Option (List ℕ)) (e : Explanation) → IfSome held (λ known. AreReadAlike some known) → IsExplained some sigs e → IsExplained (all_of some held) sigs e
+explained_of_held sigs some None e alike x = x
+explained_of_held sigs some (Some known) e alike x = explained_of_all some known sigs e alike x
+
+unexplained_of_all : (some all : List ℕ) (why : Refusal) → AreReadAlike some all → IsUnexplained some why → IsUnexplained all why
+unexplained_of_all some all (refusal.Image fault) alike x = (x.0, (alike.no_programs fault).0 x.1)
+unexplained_of_all some all (refusal.Rule refused) alike x = absurd x
+unexplained_of_all some all refusal.OtherKind alike x = absurd x
+unexplained_of_all some all refusal.NoMemory alike x = x
+
+unexplained_of_held : (some : List ℕ) (held : Option (List ℕ)) (why : Refusal) → IfSome held (λ known. AreReadAlike some known) → IsUnexplained some why → IsUnexplained (all_of some held) why
+unexplained_of_held some None why alike x = x
+unexplained_of_held some (Some known) why alike x = unexplained_of_all some known why alike x
+
+pub explained_by : (sigs : List Entry) (held_image before after : Option (List ℕ)) (status : ℕ) (some : List ℕ) (e : Explanation) → IfSome held_image (λ known. AreReadAlike some known) → IsExplained some sigs e → Appends before after (explanation_text e) → status ≡ explanation_status e → Explained sigs held_image before after status
+explained_by sigs held_image before after status some e alike x told is =
+    explained (all_of some held_image) e (all_known some held_image) (explained_of_held sigs some held_image e alike x) told is
+
+unexplained_by : (sigs : List Entry) (held_image before after : Option (List ℕ)) (status : ℕ) (some : List ℕ) (why : Refusal) → IfSome held_image (λ known. AreReadAlike some known) → IsUnexplained some why → Appends before after (line (codes "refused " ++ refusal_text why)) → status ≡ 1 → Explained sigs held_image before after status
+unexplained_by sigs held_image before after status some why alike x told is =
+    unexplained (all_of some held_image) why (all_known some held_image) (unexplained_of_held some held_image why alike x) told is
+
+-- where it was told that there is none
+pub unexplained_told : (sigs : List Entry) (held_image before after : Option (List ℕ)) (told : Result ℕ Failure) (some : List ℕ) (why : Refusal) → IfSome held_image (λ known. AreReadAlike some known) → IsUnexplained some why → OnOk told (Appends before after (line (codes "refused " ++ refusal_text why))) → IfOk told (λ status. status ≡ 1) → IfOk told (Explained sigs held_image before after)
+unexplained_told sigs held_image before after (Ok status) some why alike x told is = unexplained_by sigs held_image before after status some why alike x told is
+unexplained_told sigs held_image before after (Err failure) some why alike x told is = is
 
 -- ---- the part of a file that is kept
 

@@ -1,5 +1,11 @@
 -- What a command leaves on its output (this store's profile).
-use Rattle.std.specs.Prelude.{◌≡◌, ℕ, List, ◌++◌, codes, Option, IfSome, Result}
+use Rattle.std.specs.Prelude.{◌≡◌, ℕ, List, ◌++◌, codes, decimal, Option, IfSome, Result}
+use Rattle.admission.specs.Admissions.{refusal_text}
+use Rattle.admission.specs.declared.refusal.Refusal.{Refusal}
+use Rattle.explain.specs.Explained.{IsExplained, IsUnexplained}
+use Rattle.explain.specs.Texts.{explanation_text}
+use Rattle.explain.specs.declared.explanation.Explanation.{Explanation}
+use Rattle.explain.specs.declared.explanation.Explanation.TheVariants.{Accepted, Broken}
 use Rattle.std.specs.Io.KnownBytes.{Appends}
 use Rattle.findings.specs.declared.fault.WatchFault.{WatchFault}
 use Rattle.helpers.specs.declared.sig.Entry.{Entry}
@@ -7,6 +13,8 @@ use Rattle.script.specs.Printing.{Simulated}
 use Rattle.commands.specs.Audited.{audit_text, audit_status}
 use Rattle.commands.specs.Help.{help_text}
 use Rattle.commands.specs.declared.outcome.Outcome.{Outcome}
+use Rattle.commands.specs.declared.server.Ended.{Ended}
+use Rattle.commands.specs.declared.server.Ended.TheVariants.{Kept, Unkept}
 use Rattle.commands.specs.declared.verify.Verdict.{Verdict}
 use Rattle.commands.specs.Outcome.{line, text_of, status_of}
 use Rattle.commands.specs.Run.{ComesTo}
@@ -33,6 +41,16 @@ pub record Judged (sigs : List Entry) (held_image before after : Option (List �
   pub told : Appends before after (verdict_text verdict)
   pub status_is : status ≡ verdict_status verdict
 
+-- the status that goes with an explanation
+abbrev pub explanation_status : Explanation → ℕ
+explanation_status (Accepted slots answers) = 0
+explanation_status (Broken refused x facts) = 1
+
+-- What the verifier says of the program in a file, and what it looked at, was told; or that the bytes are no program, or that memory ran out.
+pub data Explained (sigs : List Entry) (held_image before after : Option (List ℕ)) (status : ℕ) : Type 0 where
+  explained : (image : List ℕ) (explanation : Explanation) → IfSome held_image (λ known. image ≡ known) → IsExplained image sigs explanation → Appends before after (explanation_text explanation) → status ≡ explanation_status explanation → Explained sigs held_image before after status
+  unexplained : (image : List ℕ) (why : Refusal) → IfSome held_image (λ known. image ≡ known) → IsUnexplained image why → Appends before after (line (codes "refused " ++ refusal_text why)) → status ≡ 1 → Explained sigs held_image before after status
+
 -- The script in a file was run, and what its lines print was told: at status 2 what the lines before the bad one print, and which it is.
 pub record SimulatedFile (sigs : List Entry) (held_script before after : Option (List ℕ)) (status : ℕ) : Type 0 where
   pub script : List ℕ
@@ -42,6 +60,27 @@ pub record SimulatedFile (sigs : List Entry) (held_script before after : Option 
 -- the address at which connections are answered was told
 abbrev pub Listened : Option (List ℕ) → Option (List ℕ) → Type 0
 Listened before after = (bound : List ℕ) × Appends before after (line (codes "listening " ++ bound))
+
+-- how many records a store that is kept begins with, and the address at which connections are answered
+abbrev pub begun : ℕ → List ℕ → List ℕ
+begun loaded bound = line (codes "loaded " ++ decimal loaded) ++ line (codes "listening " ++ bound)
+
+-- how a store that is kept began was told, and then how it ended: how many records were written, or why they weren't
+abbrev pub HasKept : Option (List ℕ) → Option (List ℕ) → Ended → Type 0
+HasKept before after (Kept followed) = (loaded kept : ℕ) × (bound : List ℕ) × Appends before after (begun loaded bound ++ line (codes "kept " ++ decimal kept))
+HasKept before after (Unkept followed) = (loaded : ℕ) × (bound why : List ℕ) × Appends before after (begun loaded bound ++ line (codes "not kept " ++ why))
+
+-- why a folder isn't taken was told
+abbrev pub HasRefused : Option (List ℕ) → Option (List ℕ) → Type 0
+HasRefused before after = (why : List ℕ) × Appends before after (line (codes "refused " ++ why))
+
+-- a store that is kept was served: how it began, how it ended, and what is said of the journals was told; or why its folder isn't taken; or memory was refused
+-- for it, and that alone was told
+pub data KeptFolder (before after : Option (List ℕ)) (status : ℕ) : Type 0 where
+  kept : (loaded kept : ℕ) (bound : List ℕ) (audited : Result (Unit {0}) WatchFault) → status ≡ audit_status audited → Appends before after (begun loaded bound ++ line (codes "kept " ++ decimal kept) ++ audit_text audited) → KeptFolder before after status
+  unkept : (loaded : ℕ) (bound why : List ℕ) (audited : Result (Unit {0}) WatchFault) → status ≡ 1 → Appends before after (begun loaded bound ++ line (codes "not kept " ++ why) ++ audit_text audited) → KeptFolder before after status
+  refused : status ≡ 1 → HasRefused before after → KeptFolder before after status
+  no_memory : status ≡ 1 → Appends before after (line (codes "E1")) → KeptFolder before after status
 
 -- connections were answered at an address that was told, and then what is said of the journals; or memory was refused for the store,
 -- and that alone was told

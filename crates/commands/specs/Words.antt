@@ -6,7 +6,7 @@ use Rattle.std.specs.Str.Parse.{digits_value}
 use Rattle.std.specs.Cmp.Lexicographic.{pointwise}
 use Rattle.std.specs.Borrow.{Bor}
 use Rattle.commands.specs.declared.words.Request.{Request}
-use Rattle.commands.specs.declared.words.Request.TheVariants.{Help, Run, Verify, Sim, Dump, Load, Serve}
+use Rattle.commands.specs.declared.words.Request.TheVariants.{Help, Run, Verify, Explain, Sim, Dump, Load, Serve, Keep}
 
 -- a decimal of 1 or more, without sign and leading zeros
 abbrev pub is_count : List ℕ → Bool
@@ -54,22 +54,40 @@ abbrev pub served_so_many : Bor (List ℕ) → Option ℕ → Option ℕ → Opt
 served_so_many addr workers None = None
 served_so_many addr workers (Some count) = served_by addr workers (Some count)
 
+-- to keep a store in a folder and serve it at an address, by so many workers, 16 at most
+abbrev pub kept_by : Bor (List ℕ) → Bor (List ℕ) → Option ℕ → Option ℕ → Option Request
+kept_by folder addr None count = None
+kept_by folder addr (Some workers) count = if nat_lt 16 workers then None else Some (Keep folder addr workers count)
+
+-- the same, so many connections
+abbrev pub kept_so_many : Bor (List ℕ) → Bor (List ℕ) → Option ℕ → Option ℕ → Option Request
+kept_so_many folder addr workers None = None
+kept_so_many folder addr workers (Some count) = kept_by folder addr workers (Some count)
+
 -- what a name and three more words ask for
 abbrev pub three_words_of : List ℕ → Bor (List ℕ) → Bor (List ℕ) → Bor (List ℕ) → Option Request
 three_words_of name first second third =
     if pointwise nat_eq name (codes "dump") then dumped_by first second (vnode_of third.now)
     else (if pointwise nat_eq name (codes "load") then loaded_by first (incarnation_of second.now) third
-    else (if pointwise nat_eq name (codes "serve") then served_so_many first (count_of second.now) (count_of third.now) else None))
+    else (if pointwise nat_eq name (codes "serve") then served_so_many first (count_of second.now) (count_of third.now)
+    else (if pointwise nat_eq name (codes "keep") then kept_by first second (count_of third.now) None else None)))
+
+-- what a name and four more words ask for
+abbrev pub four_words_of : List ℕ → Bor (List ℕ) → Bor (List ℕ) → List ℕ → List ℕ → Option Request
+four_words_of name first second third fourth =
+    if pointwise nat_eq name (codes "keep") then kept_so_many first second (count_of third) (count_of fourth) else None
 
 -- what words ask for
 abbrev pub request_of : List (Bor (List ℕ)) → Option Request
+request_of (name ∷ first ∷ second ∷ third ∷ fourth ∷ []) = four_words_of name.now first second third.now fourth.now
 request_of (name ∷ first ∷ second ∷ third ∷ []) = three_words_of name.now first second third
 request_of (name ∷ first ∷ second ∷ []) =
     if pointwise nat_eq name.now (codes "run") then Some (Run first second)
     else (if pointwise nat_eq name.now (codes "serve") then served_by first (count_of second.now) None else None)
 request_of (name ∷ file ∷ []) =
     if pointwise nat_eq name.now (codes "verify") then Some (Verify file)
-    else (if pointwise nat_eq name.now (codes "sim") then Some (Sim file) else None)
+    else (if pointwise nat_eq name.now (codes "explain") then Some (Explain file)
+    else (if pointwise nat_eq name.now (codes "sim") then Some (Sim file) else None))
 request_of (name ∷ []) =
     if pointwise nat_eq name.now (codes "help") then Some Help
     else (if pointwise nat_eq name.now (codes "--help") then Some Help else None)

@@ -2,17 +2,18 @@
 ghost use Rattle.std.specs.Prelude.{◌≡◌, ℕ, ◌<◌, ◌≤◌, List, Option, OnOk, IfOk, IsErr, vec_len};
 ghost use Rattle.std.specs.Borrow.{Bor};
 ghost use Rattle.commands.specs.Words.{request_of};
-ghost use Rattle.commands.specs.Command.{Helped, Judged, Ran, Served, SimulatedFile};
+ghost use Rattle.commands.specs.Command.{Explained, Helped, Judged, KeptFolder, Ran, Served, SimulatedFile};
 ghost use Rattle.commands.specs.Dumped.{DumpedFile, LoadedFile};
 
 use crate::audited::tell;
 use crate::dump::dump;
+use crate::explained::explain;
 use crate::failure::Failure;
 use crate::files::Files;
 use crate::help::help;
 use crate::load::load;
 use crate::run::run;
-use crate::server::{Server, Unserved};
+use crate::server::{Ended, Server, Site, Unserved};
 use crate::simulate::simulate;
 use crate::verify::verify;
 use crate::words::{Request, parse};
@@ -44,11 +45,13 @@ pub fn command<F: Files, S: Server, O: Write, E: Write>(
     ensures status { result ≤ 2 }
     ensures ran { (image input : Bor (List ℕ)) → request_of words.now ≡ Some (Request.Run image input) → result < 2 → Ran table.listed (F.held files.old image.now) (F.held files.old input.now) (O.contents out.old) (O.contents out.new) result }
     ensures judged { (image : Bor (List ℕ)) → request_of words.now ≡ Some (Request.Verify image) → result < 2 → Judged table.listed (F.held files.old image.now) (O.contents out.old) (O.contents out.new) result }
+    ensures explained { (image : Bor (List ℕ)) → request_of words.now ≡ Some (Request.Explain image) → result < 2 → Explained table.listed (F.held files.old image.now) (O.contents out.old) (O.contents out.new) result }
     ensures simulated { (script : Bor (List ℕ)) → request_of words.now ≡ Some (Request.Sim script) → result < 2 → SimulatedFile table.listed (F.held files.old script.now) (O.contents out.old) (O.contents out.new) result }
     ensures dumped { (file script : Bor (List ℕ)) (vnode : ℕ) → request_of words.now ≡ Some (Request.Dump file script vnode) → result < 2 → DumpedFile table.listed vnode (F.held files.old script.now) (F.held files.new file.now) (O.contents out.old) (O.contents out.new) result }
     ensures unwritten { (file script : Bor (List ℕ)) (vnode : ℕ) → request_of words.now ≡ Some (Request.Dump file script vnode) → result ≡ 1 → files.new ≡ files.old }
     ensures loaded { (file script : Bor (List ℕ)) (incarnation : ℕ) → request_of words.now ≡ Some (Request.Load file incarnation script) → result < 2 → LoadedFile table.listed incarnation (F.held files.old file.now) (F.held files.old script.now) (O.contents out.old) (O.contents out.new) result }
     ensures served { (addr : Bor (List ℕ)) (workers : ℕ) (count : Option ℕ) → request_of words.now ≡ Some (Request.Serve addr workers count) → result < 2 → Served (O.contents out.old) (O.contents out.new) result }
+    ensures kept { (folder addr : Bor (List ℕ)) (workers : ℕ) (count : Option ℕ) → request_of words.now ≡ Some (Request.Keep folder addr workers count) → result < 2 → KeptFolder (O.contents out.old) (O.contents out.new) result }
     ensures helped { request_of words.now ≡ Some Request.Help → result < 2 → Helped (O.contents out.old) (O.contents out.new) result }
     ensures wrong_words { request_of words.now ≡ None → result ≡ 2 }
     ensures untouched { request_of words.now ≡ None → out.new ≡ out.old }
@@ -79,11 +82,13 @@ fn done<F: Files, S: Server, O: Write, E: Write>(
     ensures status { IfOk result (λ status. status ≤ 2) }
     ensures ran { (image input : Bor (List ℕ)) → request_of words.now ≡ Some (Request.Run image input) → IfOk result (λ status. status < 2 → Ran table.listed (F.held files.old image.now) (F.held files.old input.now) (O.contents out.old) (O.contents out.new) status) }
     ensures judged { (image : Bor (List ℕ)) → request_of words.now ≡ Some (Request.Verify image) → IfOk result (λ status. status < 2 → Judged table.listed (F.held files.old image.now) (O.contents out.old) (O.contents out.new) status) }
+    ensures explained { (image : Bor (List ℕ)) → request_of words.now ≡ Some (Request.Explain image) → IfOk result (λ status. status < 2 → Explained table.listed (F.held files.old image.now) (O.contents out.old) (O.contents out.new) status) }
     ensures simulated { (script : Bor (List ℕ)) → request_of words.now ≡ Some (Request.Sim script) → IfOk result (λ status. status < 2 → SimulatedFile table.listed (F.held files.old script.now) (O.contents out.old) (O.contents out.new) status) }
     ensures dumped { (file script : Bor (List ℕ)) (vnode : ℕ) → request_of words.now ≡ Some (Request.Dump file script vnode) → IfOk result (λ status. status < 2 → DumpedFile table.listed vnode (F.held files.old script.now) (F.held files.new file.now) (O.contents out.old) (O.contents out.new) status) }
     ensures unwritten { (file script : Bor (List ℕ)) (vnode : ℕ) → request_of words.now ≡ Some (Request.Dump file script vnode) → IfOk result (λ status. status ≡ 1 → files.new ≡ files.old) }
     ensures loaded { (file script : Bor (List ℕ)) (incarnation : ℕ) → request_of words.now ≡ Some (Request.Load file incarnation script) → IfOk result (λ status. status < 2 → LoadedFile table.listed incarnation (F.held files.old file.now) (F.held files.old script.now) (O.contents out.old) (O.contents out.new) status) }
     ensures served { (addr : Bor (List ℕ)) (workers : ℕ) (count : Option ℕ) → request_of words.now ≡ Some (Request.Serve addr workers count) → IfOk result (λ status. status < 2 → Served (O.contents out.old) (O.contents out.new) status) }
+    ensures kept { (folder addr : Bor (List ℕ)) (workers : ℕ) (count : Option ℕ) → request_of words.now ≡ Some (Request.Keep folder addr workers count) → IfOk result (λ status. status < 2 → KeptFolder (O.contents out.old) (O.contents out.new) status) }
     ensures helped { request_of words.now ≡ Some Request.Help → IfOk result (λ status. status < 2 → Helped (O.contents out.old) (O.contents out.new) status) }
     ensures wrong_words { request_of words.now ≡ None → IsErr result × (out.new ≡ out.old) }
 {
@@ -91,6 +96,7 @@ fn done<F: Files, S: Server, O: Write, E: Write>(
         Some(Request::Help) => help(out),
         Some(Request::Run { image, input }) => run(alloc, &table, image, input, files, out),
         Some(Request::Verify { image }) => verify(alloc, &table, image, files, out),
+        Some(Request::Explain { image }) => explain(alloc, &table, image, files, out),
         Some(Request::Sim { script }) => simulate(alloc, &table, script, files, out, err),
         Some(
             Request::Dump {
@@ -108,6 +114,25 @@ fn done<F: Files, S: Server, O: Write, E: Write>(
         ) => load(alloc, &table, file, incarnation, script, files, out, err),
         Some(Request::Serve { addr, count, .. }) => serve(
             alloc, table, more, addr, count, server, out,
+        ),
+        Some(
+            Request::Keep {
+                folder,
+                addr,
+                count,
+                ..
+            },
+        ) => keep(
+            alloc,
+            table,
+            more,
+            &Site {
+                folder,
+                addr,
+                count,
+            },
+            server,
+            out,
         ),
         None => Err(Failure::Usage),
     }
@@ -131,6 +156,36 @@ fn serve<S: Server, O: Write>(
 {
     match server.serve(alloc, table, more, addr, count, out) {
         Ok(audited) => tell(audited, out),
+        Err(Unserved::NoMemory) => {
+            out.write_all(b"E1\n")?;
+            Ok(REFUSED)
+        }
+        Err(Unserved::Refused | Unserved::Unreadable) => Err(Failure::Unreadable),
+    }
+}
+
+/// Serves the store that a folder keeps, tells what is said of its journals then, and gives the status. Want of memory before anything is
+/// told is told on `out`.
+fn keep<S: Server, O: Write>(
+    alloc: Global,
+    table: Table,
+    more: Vec<Table>,
+    site: &Site<'_>,
+    server: &mut S,
+    out: &mut O,
+) -> Result<u8, Failure>
+    requires ready { S.ready }
+    requires few { vec_len more < 16 }
+    ensures status { IfOk result (λ status. status ≤ 2) }
+    ensures kept { IfOk result (KeptFolder (O.contents out.old) (O.contents out.new)) }
+{
+    match server.keep(alloc, table, more, site, out) {
+        Ok(Ended::Kept(audited)) => tell(audited, out),
+        Ok(Ended::Unkept(audited)) => {
+            tell(audited, out)?;
+            Ok(REFUSED)
+        }
+        Err(Unserved::Refused) => Ok(REFUSED),
         Err(Unserved::NoMemory) => {
             out.write_all(b"E1\n")?;
             Ok(REFUSED)

@@ -4,6 +4,7 @@
 pub mod audited;
 pub mod command;
 pub mod dump;
+pub mod explained;
 pub mod failure;
 pub mod files;
 pub mod help;

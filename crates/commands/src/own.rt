@@ -8,7 +8,7 @@ ghost use Rattle.helpers.specs.Shapes.{shape_of, written_shape};
 ghost use Rattle.helpers.specs.declared.sig.Entry.{Entry};
 ghost use Rattle.helpers.specs.Entries.{IsAdmitted};
 ghost use Rattle.helpers.specs.Answers.{IsCallableOn, AnswersOn};
-ghost use Rattle.commands.specs.Command.{Helped, Judged, Ran, Served, SimulatedFile};
+ghost use Rattle.commands.specs.Command.{Explained, Helped, Judged, KeptFolder, Ran, Served, SimulatedFile};
 ghost use Rattle.commands.specs.Dumped.{DumpedFile, LoadedFile};
 ghost use Rattle.commands.specs.Own.{one_number, shapes_of, own_shapes};
 ghost use Rattle.commands.specs.Words.{request_of};
@@ -65,11 +65,13 @@ pub fn command_with_helpers<F: Files, S: Server, O: Write, E: Write>(
     ensures status { IfOk result (λ status. status ≤ 2) }
     ensures ran { (image input : Bor (List ℕ)) → request_of words.now ≡ Some (Request.Run image input) → IfOk result (λ status. status < 2 → (sigs : List Entry) × (shapes_of sigs ≡ own_shapes) × Ran sigs (F.held files.old image.now) (F.held files.old input.now) (O.contents out.old) (O.contents out.new) status) }
     ensures judged { (image : Bor (List ℕ)) → request_of words.now ≡ Some (Request.Verify image) → IfOk result (λ status. status < 2 → (sigs : List Entry) × (shapes_of sigs ≡ own_shapes) × Judged sigs (F.held files.old image.now) (O.contents out.old) (O.contents out.new) status) }
+    ensures explained { (image : Bor (List ℕ)) → request_of words.now ≡ Some (Request.Explain image) → IfOk result (λ status. status < 2 → (sigs : List Entry) × (shapes_of sigs ≡ own_shapes) × Explained sigs (F.held files.old image.now) (O.contents out.old) (O.contents out.new) status) }
     ensures simulated { (script : Bor (List ℕ)) → request_of words.now ≡ Some (Request.Sim script) → IfOk result (λ status. status < 2 → (sigs : List Entry) × (shapes_of sigs ≡ own_shapes) × SimulatedFile sigs (F.held files.old script.now) (O.contents out.old) (O.contents out.new) status) }
     ensures dumped { (file script : Bor (List ℕ)) (vnode : ℕ) → request_of words.now ≡ Some (Request.Dump file script vnode) → IfOk result (λ status. status < 2 → (sigs : List Entry) × (shapes_of sigs ≡ own_shapes) × DumpedFile sigs vnode (F.held files.old script.now) (F.held files.new file.now) (O.contents out.old) (O.contents out.new) status) }
     ensures unwritten { (file script : Bor (List ℕ)) (vnode : ℕ) → request_of words.now ≡ Some (Request.Dump file script vnode) → IfOk result (λ status. status ≡ 1 → files.new ≡ files.old) }
     ensures loaded { (file script : Bor (List ℕ)) (incarnation : ℕ) → request_of words.now ≡ Some (Request.Load file incarnation script) → IfOk result (λ status. status < 2 → (sigs : List Entry) × (shapes_of sigs ≡ own_shapes) × LoadedFile sigs incarnation (F.held files.old file.now) (F.held files.old script.now) (O.contents out.old) (O.contents out.new) status) }
     ensures served { (addr : Bor (List ℕ)) (workers : ℕ) (count : Option ℕ) → request_of words.now ≡ Some (Request.Serve addr workers count) → IfOk result (λ status. status < 2 → Served (O.contents out.old) (O.contents out.new) status) }
+    ensures kept { (folder addr : Bor (List ℕ)) (workers : ℕ) (count : Option ℕ) → request_of words.now ≡ Some (Request.Keep folder addr workers count) → IfOk result (λ status. status < 2 → KeptFolder (O.contents out.old) (O.contents out.new) status) }
     ensures helped { request_of words.now ≡ Some Request.Help → IfOk result (λ status. status < 2 → Helped (O.contents out.old) (O.contents out.new) status) }
     ensures wrong_words { request_of words.now ≡ None → IfOk result (λ status. status ≡ 2) }
     ensures untouched { request_of words.now ≡ None → out.new ≡ out.old }
@@ -134,7 +136,9 @@ fn tables_for(words: &[&str]) -> u32
     ensures few { result ≤ 16 }
 {
     match parse(words) {
-        Some(Request::Serve { workers, .. }) => workers.max(1).min(MOST_WORKERS),
+        Some(Request::Serve { workers, .. } | Request::Keep { workers, .. }) => {
+            workers.max(1).min(MOST_WORKERS)
+        }
         _ => 1,
     }
 }

@@ -1,6 +1,6 @@
 //! Who serves the store.
-ghost use Rattle.std.specs.Prelude.{◌≡◌, ◌<◌, OnOk, IfErr, vec_len};
-ghost use Rattle.commands.specs.Command.{Listened};
+ghost use Rattle.std.specs.Prelude.{◌≡◌, ◌<◌, OnOk, IfOk, IfErr, vec_len};
+ghost use Rattle.commands.specs.Command.{HasKept, HasRefused, Listened};
 
 use findings::Followed;
 use helpers::Table;
@@ -15,6 +15,28 @@ pub enum Unserved {
     NoMemory,
     /// The address can't be bound, the output can't be written, or no connection can be had any more.
     Unreadable,
+    /// The folder isn't taken, and nothing in it is changed: why was told.
+    Refused,
+}
+
+/// How a store that is kept has ended, and what is said of its vnodes' journals.
+#[derive(Clone, Copy)]
+pub enum Ended {
+    /// All that it held was written.
+    Kept(Followed),
+    /// Not all of it was, or none.
+    Unkept(Followed),
+}
+
+/// Where a store is kept, and where it answers.
+#[derive(Clone, Copy)]
+pub struct Site<'a> {
+    /// The folder.
+    pub folder: &'a str,
+    /// The address.
+    pub addr: &'a str,
+    /// How many connections are answered; any number where that isn't said.
+    pub count: Option<u32>,
 }
 
 impl From<io::Error> for Unserved {
@@ -48,6 +70,22 @@ pub trait Server {
         requires few { vec_len more < 16 }
         ensures told { OnOk result (Listened (O.contents out.old) (O.contents out.new)) }
         ensures untold { IfErr result (λ why. why ≡ Unserved.NoMemory → O.contents out.new ≡ O.contents out.old) };
+
+    /// Takes the store that a folder keeps, tells on `out` how many records it has, and then answers connections as [`serve`](Server::serve)
+    /// does. At the end all that the store holds is written into the folder, and how many records it has is told, or why it isn't.
+    fn keep<O: Write>(
+        &mut self,
+        alloc: Global,
+        table: Table,
+        more: Vec<Table>,
+        site: &Site<'_>,
+        out: &mut O,
+    ) -> Result<Ended, Unserved>
+        requires ready { ready }
+        requires few { vec_len more < 16 }
+        ensures told { IfOk result (HasKept (O.contents out.old) (O.contents out.new)) }
+        ensures refused { IfErr result (λ why. why ≡ Unserved.Refused → HasRefused (O.contents out.old) (O.contents out.new)) }
+        ensures untold { IfErr result (λ why. why ≡ Unserved.NoMemory → O.contents out.new ≡ O.contents out.old) };
 }
 
 /// Serves nothing: no address can be bound.
@@ -64,6 +102,17 @@ impl Server for Offline {
         _count: Option<u32>,
         _out: &mut O,
     ) -> Result<Followed, Unserved> {
+        Err(Unserved::Unreadable)
+    }
+
+    fn keep<O: Write>(
+        &mut self,
+        _alloc: Global,
+        _table: Table,
+        _more: Vec<Table>,
+        _site: &Site<'_>,
+        _out: &mut O,
+    ) -> Result<Ended, Unserved> {
         Err(Unserved::Unreadable)
     }
 }

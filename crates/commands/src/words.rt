@@ -2,7 +2,7 @@
 ghost use Rattle.std.specs.Prelude.{◌≡◌};
 ghost use Rattle.std.specs.Char.{is_ascii_digit};
 ghost use Rattle.std.specs.List.{list_all};
-ghost use Rattle.commands.specs.Words.{count_of, incarnation_of, is_count, number_of, request_of, served_by, three_words_of, vnode_of};
+ghost use Rattle.commands.specs.Words.{count_of, four_words_of, incarnation_of, is_count, kept_by, number_of, request_of, served_by, three_words_of, vnode_of};
 
 /// What the words ask for.
 #[derive(Clone, Copy)]
@@ -16,6 +16,10 @@ pub enum Request<'a> {
     },
     /// To say whether the program in the file is let in.
     Verify {
+        image: &'a str,
+    },
+    /// To say what the verifier looked at of the program in the file.
+    Explain {
         image: &'a str,
     },
     /// To run the script in the file.
@@ -41,6 +45,13 @@ pub enum Request<'a> {
         workers: u32,
         count: Option<u32>,
     },
+    /// The same of a store that is kept in the folder `folder`.
+    Keep {
+        folder: &'a str,
+        addr: &'a str,
+        workers: u32,
+        count: Option<u32>,
+    },
 }
 
 /// The most workers.
@@ -57,6 +68,7 @@ pub fn parse<'a>(words: &[&'a str]) -> Option<Request<'a>>
         },
         [name, file] => match *name {
             "verify" => Some(Request::Verify { image: file }),
+            "explain" => Some(Request::Explain { image: file }),
             "sim" => Some(Request::Sim { script: file }),
             _ => None,
         },
@@ -69,6 +81,7 @@ pub fn parse<'a>(words: &[&'a str]) -> Option<Request<'a>>
             _ => None,
         },
         [name, first, second, third] => three_words(name, first, second, third),
+        [name, first, second, third, fourth] => four_words(name, first, second, third, fourth),
         _ => None,
     }
 }
@@ -94,8 +107,46 @@ fn three_words<'a>(
             script: third,
         }),
         "serve" => served(first, second, Some(count_in(third)?)),
+        "keep" => kept(first, second, third, None),
         _ => None,
     }
+}
+
+/// What the words of a command with four words behind its name ask for.
+fn four_words<'a>(
+    name: &str,
+    first: &'a str,
+    second: &'a str,
+    third: &str,
+    fourth: &str,
+) -> Option<Request<'a>>
+    ensures { result ≡ four_words_of name.now first.entry second.entry third.now fourth.now }
+{
+    match name {
+        "keep" => kept(first, second, third, Some(count_in(fourth)?)),
+        _ => None,
+    }
+}
+
+/// To keep a store in a folder and serve it at an address, where the word asks for so many workers as there may be.
+fn kept<'a>(
+    folder: &'a str,
+    addr: &'a str,
+    workers: &str,
+    count: Option<u32>,
+) -> Option<Request<'a>>
+    ensures { result ≡ kept_by folder.entry addr.entry (count_of workers.now) count }
+{
+    let workers = count_in(workers)?;
+    if workers > MOST_WORKERS {
+        return None;
+    }
+    Some(Request::Keep {
+        folder,
+        addr,
+        workers,
+        count,
+    })
 }
 
 /// To serve at an address, where the word asks for so many workers as there may be.

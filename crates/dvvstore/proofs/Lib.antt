@@ -1,3 +1,5 @@
 mod SeatSent
 mod Sent
+mod Staying
 mod Taking
+mod Told

@@ -1,15 +1,17 @@
 //! Workers on threads, and a thread that hands them connections and follows what they do.
 
-ghost use Rattle.std.specs.Prelude.{◌≡◌, ◌+◌, ◌≤◌, List, IfOk, vec_len};
+ghost use Rattle.std.specs.Prelude.{◌≡◌, ◌+◌, ◌++◌, ◌≤◌, List, IfOk, vec_len};
 ghost use Rattle.stamps.specs.declared.view.Told.{Told};
-ghost use Rattle.closing.specs.Following.{IsFollowedTo};
+ghost use Rattle.closing.specs.Following.{IsFollowedTo, IsSaidOf};
+ghost use Rattle.vnode_locks.specs.Gathers.{IsGathered};
 
 use crate::pace::Pace;
 use crate::reporter::{Aloud, Reporter};
-use closing::{Spot, Watch, close_watched};
+use closing::{Closed, Spot, Watch, close_keeping, close_watched};
 use findings::{Followed, WatchFault};
 use hooks::{HookChanges, Hooks};
 use httpfront::Backend;
+use kept_hooks::{Recorder, Requests};
 use listener::{Lobby, Post, Timer};
 use place::Placement;
 use pool::{Cluster, Gate, Pass, Room};
@@ -65,6 +67,8 @@ pub struct Seat<B: Room, H> {
 pub struct Lookout<B: Room + Spot> {
     /// The follower.
     pub watch: Watch<B>,
+    /// The requests that changed the hooks so far, if they are written down.
+    pub requests: Requests,
     /// Where it tells.
     pub err: Stderr,
 }
@@ -74,6 +78,8 @@ pub struct Lookout<B: Room + Spot> {
 struct Shared<B: Room + Spot> {
     /// The follower of what they do.
     watch: Mutex<Watch<B>>,
+    /// Where requests that change the hooks are written down.
+    requests: Mutex<Requests>,
     /// Where is told what can't wait.
     err: Stderr,
     /// Where is told what goes wrong while requests are answered.
@@ -88,9 +94,14 @@ struct Shared<B: Room + Spot> {
 
 impl<B: Room + Spot> Shared<B> {
     fn new(lookout: Lookout<B>) -> Shared<B> {
-        let Lookout { watch, err } = lookout;
+        let Lookout {
+            watch,
+            requests,
+            err,
+        } = lookout;
         Shared {
             watch: Mutex::new(watch),
+            requests: Mutex::new(requests),
             err,
             reporter: Reporter::new(err),
             is_behind: AtomicBool::new(false),
@@ -249,7 +260,8 @@ fn work<B: Room + Spot, H: Hooks + HookChanges + Drop, R: Wait>(
     };
     post.inlet.begin();
     let peers = PassPeers::new(floor.alloc, rt, floor.cluster, &mut pass, &Open);
-    let mut store = Store::new(floor.alloc, peers, hooking, placement);
+    let store = Store::new(floor.alloc, peers, hooking, placement);
+    let mut store = Recorder::new(store, &floor.shared.requests, rt);
     let mut shift = Shift {
         timer: Timer::new(),
         pace: Pace::new(),
@@ -260,7 +272,7 @@ fn work<B: Room + Spot, H: Hooks + HookChanges + Drop, R: Wait>(
         tell(
             rt,
             &floor.shared.reporter,
-            &store.take_troubles(),
+            &store.store.take_troubles(),
             worked.lacks,
             worked.now,
         );
@@ -310,11 +322,67 @@ fn work_all<
     back
 }
 
+/// What is left of a crew: the passes of its workers, and what they shared.
+#[derive(Drop)]
+struct Back<B: Room + Spot> {
+    passes: Vec<Pass<B>>,
+    watch: Watch<B>,
+    requests: Requests,
+}
+
 /// Has the worker of each seat answer the connections that it is handed, while a thread of its own accepts them in a lobby and follows
 /// what the workers do to the vnodes, whose journals are handed out for that; where no thread can be made for it, workers do so after
 /// each of their turns. What can't wait is told on standard error, and the workers go on; what goes wrong while they answer is told
-/// there, too, at most once a second and kind. Once all have ended, the cluster is gathered, and what is left of the journals is
-/// followed.
+/// there, too, at most once a second and kind. The error: a growth was refused for the threads; some workers may have answered no connection
+/// then.
+fn run<
+    B: Room + Spot + Send + Sync,
+    H: Hooks + HookChanges + Send + Drop,
+    R: Threads + Wait + Sync,
+>(
+    alloc: Global,
+    rt: &R,
+    cluster: &Cluster<B>,
+    seats: Vec<Seat<B, H>>,
+    lobby: &Lobby,
+    lookout: Lookout<B>,
+) -> Result<Back<B>, AllocError>
+    requires first { cluster.now.first ≡ B.first }
+    ensures { IfOk result (λ left. vec_len left.passes ≡ vec_len seats) }
+{
+    let shared = Shared::new(lookout);
+    let (lent, both) = (cluster, &shared);
+    let (_, back) = thread::join(
+        rt,
+        ||
+            requires { lent.now.first ≡ B.first }
+        {
+            let floor = Floor {
+                alloc,
+                cluster: lent,
+                lobby,
+                shared: both,
+            };
+            attend(rt, &floor)
+        },
+        || -> Result<Vec<Pass<B>>, AllocError>
+            requires { lent.now.first ≡ B.first }
+            ensures { IfOk result (λ passes. vec_len passes ≡ vec_len seats) }
+        { work_all(alloc, rt, lent, seats, lobby, both) },
+    );
+    let Shared {
+        watch,
+        requests,
+        ..
+    } = shared;
+    Ok(Back {
+        passes: back?,
+        watch: watch.into_inner(),
+        requests: requests.into_inner(),
+    })
+}
+
+/// Has a crew serve. Once all workers have ended, the cluster is gathered, and what is left of the journals is followed.
 ///
 /// The fault is that of [`close_watched`]. `NoMemory` also where a growth was refused for the threads; some workers may have answered no
 /// connection then.
@@ -334,29 +402,58 @@ pub fn serve<
     requires all { cluster.passes ≤ vec_len seats + 1 }
     ensures followed { (told : List Told) × IsFollowedTo told cluster.vnodes result }
 {
-    let shared = Shared::new(lookout);
-    let (lent, both) = (&cluster, &shared);
-    let (_, back) = thread::join(
-        rt,
-        ||
-            requires { lent.now.first ≡ B.first }
-        {
-            let floor = Floor {
-                alloc,
-                cluster: lent,
-                lobby,
-                shared: both,
-            };
-            attend(rt, &floor)
-        },
-        || -> Result<Vec<Pass<B>>, AllocError>
-            requires { lent.now.first ≡ B.first }
-            ensures { IfOk result (λ passes. vec_len passes ≡ vec_len seats) }
-        { work_all(alloc, rt, lent, seats, lobby, both) },
-    );
-    let Shared { watch, .. } = shared;
-    match back {
-        Ok(passes) => close_watched(alloc, cluster, passes, watch.into_inner()),
+    match run(alloc, rt, &cluster, seats, lobby, lookout) {
+        Ok(Back { passes, watch, .. }) => close_watched(alloc, cluster, passes, watch),
         Err(AllocError) => Err(WatchFault::NoMemory),
     }
+}
+
+/// What a store that was served has begun with.
+#[derive(Drop)]
+pub struct Begun<B: Room> {
+    /// The pass by which that was brought to its vnodes.
+    pub pass: Pass<B>,
+    /// So many of the first entries of each vnode were there then.
+    pub fronts: Vec<usize>,
+}
+
+/// A store that was served: its vnodes, what is said of their journals, and the requests that changed its hooks.
+#[derive(Drop)]
+pub struct Served {
+    /// The vnodes, and what is said of their journals from their fronts on.
+    pub closed: Closed,
+    /// The requests.
+    pub requests: Requests,
+}
+
+/// Has a crew serve a store that has begun with something. Once all workers have ended, the cluster is gathered, and what is left of the
+/// journals is followed; the vnodes are handed back, whatever is said of them, and what the pass was told of that brought them what they
+/// began with stands in their journals. The error: memory was refused before the vnodes were gathered, and they are lost.
+pub fn keep<
+    B: Room + Spot + Send + Sync,
+    H: Hooks + HookChanges + Send + Drop,
+    R: Threads + Wait + Sync,
+>(
+    alloc: Global,
+    rt: &R,
+    cluster: Cluster<B>,
+    seats: Vec<Seat<B, H>>,
+    lobby: &Lobby,
+    lookout: Lookout<B>,
+    begun: Begun<B>,
+) -> Result<Served, AllocError>
+    requires first { cluster.first ≡ B.first }
+    requires all { cluster.passes ≤ vec_len seats + 2 }
+    ensures kept { IfOk result (λ served. (before after : List Told) × IsGathered (before ++ begun.pass.told ++ after) served.closed.vnodes.items × (vec_len served.closed.vnodes ≡ cluster.vnodes)) }
+    ensures said { IfOk result (λ served. IsSaidOf begun.fronts.items served.closed.vnodes.items served.closed.said) }
+{
+    let Begun { pass, fronts } = begun;
+    let Back {
+        mut passes,
+        watch,
+        requests,
+    } = run(alloc, rt, &cluster, seats, lobby, lookout)?;
+    passes.push(pass)?;
+    let closed = close_keeping(alloc, cluster, passes, watch, &fronts)?;
+    Ok(Served { closed, requests })
 }

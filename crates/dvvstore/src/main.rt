@@ -3,11 +3,13 @@
 
 mod crew;
 mod disk;
+mod keeper;
 mod network;
 mod pace;
 mod reporter;
 mod session;
 mod start;
+mod system_folder;
 #[cfg(test)]
 mod tests;
 

@@ -1,23 +1,41 @@
 //! The network of the system.
 
+ghost use Rattle.std.specs.Prelude.{◌≡◌, ◌≢◌, ◌++◌, ◌∷◌, [], ℕ, List, IfOk, IfErr, OnOk};
+ghost use Rattle.std.specs.Io.KnownBytes.{Appends};
+ghost use Rattle.commands.specs.Command.{HasRefused};
+ghost use Rattle.dvvstore.specs.Keeping.{HasEnded};
+
+use crate::crew::Served;
+use crate::keeper::{Keeper, Unbegun};
 use crate::session;
+use crate::session::{Left, Making, Tenant};
 use crate::start::start_at;
-use commands::server::{Server, Unserved};
+use crate::system_folder::SystemFolder;
+use closing::Closed;
+use commands::server::{Ended, Server, Site, Unserved};
 use findings::{Followed, WatchFault};
+use folder::{Folder, OpenFault, keep_all};
 use helpers::Table;
 use listener::{Setup, listen, open};
 use std::alloc::Global;
+use std::fmt::Display;
 use std::io::{ErrorKind, Stderr, Stdin, Write};
 use std::net::{Net, TcpListener, TcpStream};
-use std::rt::Clock;
+use std::random::RandomSource;
+use std::rt::{Clock, Files};
 use std::sync::Wait;
 use std::thread::{Parker, Threads};
 use std::time::Duration;
+use std::{fs, io};
+use vnode::Seed;
+
+/// What is said where memory is refused for the store.
+const NO_MEMORY: Followed = Err(WatchFault::NoMemory);
 
 /// How many identifiers of vnodes a start has.
 const IDENTIFIERS: u32 = 65_536;
 
-/// The network of the system, and the streams on which who runs a server says and is told things.
+/// The network and the files of the system, and the streams on which who runs a server says and is told things.
 #[derive(Drop)]
 pub struct Network<'a, R> {
     pub rt: &'a R,
@@ -51,8 +69,15 @@ impl<R: Clock + Wait> Network<'_, R> {
     }
 }
 
-impl<R: Clock + Threads + Wait + Net<Listener = TcpListener, Stream = TcpStream> + Sync> Server
-    for Network<'_, R> {
+impl<
+    R: Clock
+        + Files<File = fs::File>
+        + Threads
+        + Wait
+        + Net<Listener = TcpListener, Stream = TcpStream>
+        + RandomSource
+        + Sync,
+> Server for Network<'_, R> {
     ghost use denote.Param.Send.{IsSync};
 
     ghost ready = { IsSync R.row };
@@ -69,6 +94,7 @@ impl<R: Clock + Threads + Wait + Net<Listener = TcpListener, Stream = TcpStream>
         if more.push(table).is_err() {
             return Err(Unserved::NoMemory);
         }
+        let seed = Seed::random(self.rt)?;
         let setup = Setup {
             listener: listen(self.rt, addr, out)?,
             count,
@@ -82,7 +108,117 @@ impl<R: Clock + Threads + Wait + Net<Listener = TcpListener, Stream = TcpStream>
             }
             Err(_) => return Err(Unserved::Unreadable),
         };
-        let first = u32::from(self.begin()) * IDENTIFIERS;
-        Ok(session::serve(alloc, self.rt, first, more, &lobby, self.err))
+        let making = Making {
+            first: u32::from(self.begin()) * IDENTIFIERS,
+            seed,
+        };
+        let tenant: Tenant<'_, R> = Tenant::Guest(&lobby);
+        match session::live(
+            alloc,
+            self.rt,
+            making,
+            more,
+            tenant,
+            self.err,
+            &mut io::sink(),
+        ) {
+            Ok(Left::Said(said)) => Ok(said),
+            _ => Ok(NO_MEMORY),
+        }
+    }
+
+    fn keep<O: Write>(
+        &mut self,
+        alloc: Global,
+        table: Table,
+        mut more: Vec<Table>,
+        site: &Site<'_>,
+        out: &mut O,
+    ) -> Result<Ended, Unserved> {
+        if more.push(table).is_err() {
+            return Err(Unserved::NoMemory);
+        }
+        let seed = Seed::random(self.rt)?;
+        let mut folder = match SystemFolder::take(self.rt, alloc, site.folder) {
+            Ok(folder) => folder,
+            Err(why) => return Err(refused(alloc, out, &why)),
+        };
+        let opened = match folder::open(alloc, &mut folder) {
+            Ok(opened) => opened,
+            Err(OpenFault::NoMemory) => return Err(Unserved::NoMemory),
+            Err(why) => return Err(refused(alloc, out, &why)),
+        };
+        let making = Making {
+            first: u32::from(opened.number) * IDENTIFIERS,
+            seed,
+        };
+        let keeper = Keeper {
+            rt: self.rt,
+            held: &opened.held,
+            addr: site.addr,
+            count: site.count,
+            input: self.input,
+        };
+        let tenant = Tenant::Keeper(keeper);
+        match session::live(alloc, self.rt, making, more, tenant, self.err, out) {
+            Ok(Left::Kept(served)) => finish(alloc, &mut folder, served, out),
+            Ok(Left::Lost) => lose(alloc, out),
+            // Of a store that a folder keeps all is left, or nothing.
+            Ok(Left::Said(_)) | Err(Unbegun::Unreadable) => Err(Unserved::Unreadable),
+            Err(Unbegun::NoMemory) => Err(Unserved::NoMemory),
+            Err(why) => Err(refused(alloc, out, &why)),
+        }
+    }
+}
+
+/// Tells a word and why it is said, in a line. The error: the output can't be written, or memory was refused.
+fn tell<O: Write, D: Display>(alloc: Global, out: &mut O, word: &str, why: &D) -> io::Result<()>
+    ensures told { OnOk result ((text : List ℕ) × Appends (O.contents out.old) (O.contents out.new) (word.now ++ 32 ∷ text ++ 10 ∷ [])) }
+{
+    let text = format!(in alloc; "{why}")?;
+    writeln!(out, "{word} {text}")
+}
+
+/// Tells why a folder isn't taken.
+fn refused<O: Write, D: Display>(alloc: Global, out: &mut O, why: &D) -> Unserved
+    ensures told { result ≡ Unserved.Refused → HasRefused (O.contents out.old) (O.contents out.new) }
+    ensures memory { result ≢ Unserved.NoMemory }
+{
+    match tell(alloc, out, "refused", why) {
+        Ok(()) => Unserved::Refused,
+        Err(_) => Unserved::Unreadable,
+    }
+}
+
+/// Tells that nothing is left of a store, since memory was refused.
+fn lose<O: Write>(alloc: Global, out: &mut O) -> Result<Ended, Unserved>
+    ensures told { IfOk result (HasEnded (O.contents out.old) (O.contents out.new)) }
+    ensures why { IfErr result (λ why. why ≡ Unserved.Unreadable) }
+{
+    tell(alloc, out, "not kept", &"E1")?;
+    Ok(Ended::Unkept(NO_MEMORY))
+}
+
+/// Writes what is left of a store into its folder, and tells how many records that is, or why it isn't written.
+fn finish<F: Folder, O: Write>(
+    alloc: Global,
+    folder: &mut F,
+    served: Served,
+    out: &mut O,
+) -> Result<Ended, Unserved>
+    ensures told { IfOk result (HasEnded (O.contents out.old) (O.contents out.new)) }
+    ensures why { IfErr result (λ why. why ≡ Unserved.Unreadable) }
+{
+    let Served { closed, requests } = served;
+    let Closed { mut vnodes, said } = closed;
+    match keep_all(alloc, folder, &mut vnodes, requests.bytes()) {
+        Ok(kept) => {
+            writeln!(out, "kept {kept}")?;
+            Ok(Ended::Kept(said))
+        }
+        Err(why) => {
+            tell(alloc, out, "not kept", &why)?;
+            Ok(Ended::Unkept(said))
+        }
     }
 }

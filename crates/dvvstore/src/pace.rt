@@ -8,8 +8,8 @@ use pool::Room;
 /// Workers rest where so many entries wait to be followed, or more, or the contents of as many.
 const MOST_WAITING: usize = 100_000;
 
-/// They rest until fewer than so many do.
-const LEAST_WAITING: usize = 80_000;
+/// They rest until fewer than so many do: for some ten milliseconds at a time, so that no client waits longer than that for its turn.
+const LEAST_WAITING: usize = 98_000;
 
 /// For each entry that may wait, so many bytes of contents may: 64 MiB for 100,000.
 const BYTES_EACH: u64 = 671;

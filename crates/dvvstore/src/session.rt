@@ -1,17 +1,21 @@
-//! The store of several workers, from its opening to what is said of its journals.
+//! The store of several workers, from its opening to what is left of it.
 
-ghost use Rattle.std.specs.Prelude.{◌≡◌, ◌+◌, ◌<◌, ◌≤◌, ◌^◌, [], IfOk, map, reverse, vec_len};
+ghost use Rattle.std.specs.Prelude.{◌≡◌, ◌+◌, ◌<◌, ◌≤◌, ◌^◌, [], All, IfOk, map, reverse, vec_len};
 ghost use Rattle.shared_hooks.specs.Lists.{list_of};
 ghost use Rattle.stamps.specs.Rule.{newcomer};
+ghost use Rattle.vnode_locks.specs.Calls.{pass_view};
 ghost use Rattle.dvvstore.specs.Crews.{AreAllPlaced};
+ghost use Rattle.dvvstore.specs.Keeping.{HasBegunRight, HasBegunWith, Leaves, Tells, files_for, files_of, passes_for, passes_of};
 
-use crate::crew;
-use crate::crew::{Lookout, Seat};
+use crate::crew::{Begun, Lookout, Seat, Served};
+use crate::keeper::{Keeper, Unbegun};
+use crate::{crew, keeper};
 use closing::{Spot, Watch};
-use findings::{Followed, WatchFault};
+use findings::Followed;
 use fronts::Naming;
 use helpers::Table;
 use hooks::{HookChanges, Hooks};
+use kept_hooks::Requests;
 use listener::Lobby;
 use place::Placement;
 use pool::{Cluster, Pass, Room};
@@ -19,107 +23,231 @@ use quorum::Hooking;
 use shared_hooks::{Ground, HookReader, Installer, Opening, Rack};
 use stamps::{Card, Size, Stamps};
 use std::alloc::{AllocError, Global};
-use std::io::Stderr;
+use std::io::{Stderr, Write};
 use std::marker::Brand;
+use std::net::{Net, TcpListener, TcpStream};
 use std::sync::{Mutex, Wait};
 use std::thread::Threads;
+use vnode::Seed;
 use worker_hooks::{WorkerHooks, open};
 
 /// How many vnodes there are.
 const VNODES: u32 = 3;
 
-/// What is said where memory is refused for the store.
-const NO_MEMORY: Followed = Err(WatchFault::NoMemory);
+/// How the vnodes of a start are made.
+#[derive(Clone, Copy)]
+pub struct Making {
+    /// The first of their identifiers.
+    pub first: u32,
+    /// What the hashes of their keys begin with.
+    pub seed: Seed,
+}
 
-/// Opens vnodes numbered from the first identifier on, and has as many workers of a lobby as there are tables of helpers answer the
-/// connections that they are handed there, each by hooks that may call the helpers of one of the tables, while what they do is followed;
-/// what can't wait is told on standard error. Answers what is said of the vnodes' journals then, `NoMemory` where memory was refused for
-/// any of it.
-pub fn serve<R: Threads + Wait + Sync>(
+/// For whom a store is opened.
+#[derive(Drop)]
+pub enum Tenant<'a, N> {
+    /// For who comes to a lobby: the store is forgotten then.
+    Guest(&'a Lobby),
+    /// For a folder that keeps it.
+    Keeper(Keeper<'a, N>),
+}
+
+impl<N> Tenant<'_, N> {
+    /// How many passes there are besides those of workers: the follower's, and one more by which a store that is kept begins.
+    fn passes(&self) -> usize
+        ensures exact { result ≡ passes_for self.now }
+        ensures few { (0 < result) × (result ≤ 2) }
+    {
+        match self {
+            Tenant::Guest(_) => 1,
+            Tenant::Keeper(_) => 2,
+        }
+    }
+}
+
+/// For whom a store has begun, and with what.
+#[derive(Drop)]
+pub enum Stay<'a, N, B: Room> {
+    /// For who comes to a lobby, with nothing.
+    Guest(&'a Lobby),
+    /// For a folder, with what that held.
+    Keeper(Keeper<'a, N>, Begun<B>),
+}
+
+/// What is left of a store.
+#[derive(Drop)]
+pub enum Left {
+    /// What is said of its vnodes' journals.
+    Said(Followed),
+    /// All of it.
+    Kept(Served),
+    /// Nothing: memory was refused before the vnodes were gathered.
+    Lost,
+}
+
+/// Opens vnodes numbered from the first identifier on, and hooks that may call the helpers of the tables, and has a worker for each table
+/// answer the connections that come, while what they do is followed; what can't wait is told on `err`. Answers what is left of the store:
+/// that of a folder has begun with what the folder held. `NoMemory` where memory was refused before anything was told on `out`.
+pub fn live<R: Threads + Wait + Sync, N: Net<Listener = TcpListener, Stream = TcpStream>, O: Write>(
     alloc: Global,
     rt: &R,
-    first: u32,
+    making: Making,
     tables: Vec<Table>,
-    lobby: &Lobby,
+    tenant: Tenant<'_, N>,
     err: Stderr,
-) -> Followed
-    requires first { first + 3 ≤ 2 ^ 32 }
+    out: &mut O,
+) -> Result<Left, Unbegun>
+    requires first { making.first + 3 ≤ 2 ^ 32 }
     requires some { 0 < vec_len tables }
     requires few { vec_len tables ≤ 16 }
+    ensures told { Tells result (O.contents out.old) (O.contents out.new) }
+    ensures kept { Leaves making.first (files_for tenant.entry) result }
 {
     let size = Size {
-        first,
+        first: making.first,
         vnodes: VNODES as usize,
-        passes: tables.len() + 1,
+        passes: tables.len() + tenant.passes(),
     };
     match Stamps::new(alloc, &size) {
-        Ok((stamps, card)) => over_stamps::<Brand, R>(
-            alloc, rt, first, stamps, card, tables, lobby, err,
+        Ok((stamps, card)) => over_stamps::<Brand, R, N, O>(
+            alloc, rt, making, stamps, card, tables, tenant, err, out,
         ),
-        Err(_) => NO_MEMORY,
+        Err(_) => Err(Unbegun::NoMemory),
     }
 }
 
 /// The same, over a word that nobody has drawn from.
-fn over_stamps<B: Room + Spot + Send + Sync, R: Threads + Wait + Sync>(
+fn over_stamps<
+    B: Room + Spot + Send + Sync,
+    R: Threads + Wait + Sync,
+    N: Net<Listener = TcpListener, Stream = TcpStream>,
+    O: Write,
+>(
     alloc: Global,
     rt: &R,
-    first: u32,
+    making: Making,
     stamps: Stamps,
     card: Card,
     tables: Vec<Table>,
-    lobby: &Lobby,
+    tenant: Tenant<'_, N>,
     err: Stderr,
-) -> Followed
-    requires first { first + 3 ≤ 2 ^ 32 }
+    out: &mut O,
+) -> Result<Left, Unbegun>
+    requires first { making.first + 3 ≤ 2 ^ 32 }
     requires some { 0 < vec_len tables }
     requires few { vec_len tables ≤ 16 }
     requires table { (stamps.table.shared.table_id ≡ B.table) × (card.table_id ≡ B.table) }
-    requires size { stamps.table.shared.key ≡ record { first = first; vnodes = 3; passes = vec_len tables + 1 } }
-    requires spot { first ≡ B.first }
+    requires size { stamps.table.shared.key ≡ record { first = making.first; vnodes = 3; passes = vec_len tables + passes_for tenant } }
+    requires spot { making.first ≡ B.first }
     requires card { card.me ≡ (newcomer stamps.table.shared.key, []) }
+    ensures told { Tells result (O.contents out.old) (O.contents out.new) }
+    ensures kept { Leaves making.first (files_for tenant.entry) result }
 {
+    let Making { first, seed } = making;
     let vnodes = VNODES as usize;
-    let passes = tables.len() + 1;
-    let Ok((cluster, mut passes)) = Cluster::<B>::open(alloc, stamps, card, first, vnodes, passes)
-    else {
-        return NO_MEMORY;
+    let passes = tables.len() + tenant.passes();
+    let (cluster, mut passes) = Cluster::<B>::open_seeded(
+        alloc, seed, stamps, card, first, vnodes, passes,
+    )?;
+    let (stay, fronts) = begin(alloc, rt, &cluster, &mut passes, tenant)?;
+    let watch = Watch::new_seeded(alloc, seed, &mut passes, first, vnodes, fronts)?;
+    let requests = Requests::none(alloc);
+    let lookout = Lookout {
+        watch,
+        requests,
+        err,
     };
-    let Ok(watch) = Watch::new(alloc, &mut passes, first, vnodes) else {
-        return NO_MEMORY;
-    };
-    over_cluster::<B, Brand, R>(
+    over_cluster::<B, Brand, R, N, O>(
         alloc,
         rt,
         cluster,
         passes,
         tables,
         Opening::new(),
-        lobby,
-        Lookout { watch, err },
+        lookout,
+        stay,
+        out,
     )
 }
 
+/// Has the vnodes take over what they begin with, by one of the passes where a folder held something. Answers for whom they have begun, and from
+/// which fronts what they do is followed.
+fn begin<'a, B: Room, R: Wait, N>(
+    alloc: Global,
+    rt: &R,
+    cluster: &Cluster<B>,
+    passes: &mut Vec<Pass<B>>,
+    tenant: Tenant<'a, N>,
+) -> Result<(Stay<'a, N, B>, Vec<usize>), Unbegun>
+    requires vnodes { cluster.now.vnodes ≡ 3 }
+    requires some { 2 ≤ vec_len passes.old }
+    requires fresh { All (λ p. p ≡ pass_view 0 []) passes.old.items }
+    ensures fresh { IfOk result (λ begun. All (λ p. p ≡ pass_view 0 []) passes.new.items) }
+    ensures left { IfOk result (λ begun. vec_len passes.new + passes_of begun.0 ≡ vec_len passes.old + 1) }
+    ensures passes { IfOk result (λ begun. passes_of begun.0 ≡ passes_for tenant.entry) }
+    ensures files { IfOk result (λ begun. files_of begun.0 ≡ files_for tenant.entry) }
+    ensures begun { IfOk result (λ begun. HasBegunRight cluster.now.first begun.0) }
+{
+    let keeper = match tenant {
+        Tenant::Guest(lobby) => return Ok((Stay::Guest(lobby), Vec::new(alloc))),
+        Tenant::Keeper(keeper) => keeper,
+    };
+    let Some(pass) = passes.pop() else {
+        unreachable!();
+    };
+    let begun = begin_kept(alloc, rt, cluster, pass, &keeper)?;
+    let fronts = begun.fronts.as_slice().to_vec(alloc)?;
+    Ok((Stay::Keeper(keeper, begun), fronts))
+}
+
+/// Has the vnodes take over what a folder held, by a pass.
+fn begin_kept<B: Room, R: Wait, N>(
+    alloc: Global,
+    rt: &R,
+    cluster: &Cluster<B>,
+    mut pass: Pass<B>,
+    keeper: &Keeper<'_, N>,
+) -> Result<Begun<B>, Unbegun>
+    requires vnodes { cluster.now.vnodes ≡ 3 }
+    ensures { IfOk result (HasBegunWith cluster.now.first keeper.now.held.now.files.items) }
+{
+    let fronts = keeper::begin(alloc, rt, cluster, &mut pass, &keeper.held.files)?;
+    Ok(Begun { pass, fronts })
+}
+
 /// The same, over a cluster and the empty list of changes of hooks.
-fn over_cluster<B: Room + Spot + Send + Sync, J: Naming + Send + Sync, R: Threads + Wait + Sync>(
+fn over_cluster<
+    B: Room + Spot + Send + Sync,
+    J: Naming + Send + Sync,
+    R: Threads + Wait + Sync,
+    N: Net<Listener = TcpListener, Stream = TcpStream>,
+    O: Write,
+>(
     alloc: Global,
     rt: &R,
     cluster: Cluster<B>,
     passes: Vec<Pass<B>>,
     tables: Vec<Table>,
     opening: Opening,
-    lobby: &Lobby,
     lookout: Lookout<B>,
-) -> Followed
+    stay: Stay<'_, N, B>,
+    out: &mut O,
+) -> Result<Left, Unbegun>
     requires list { list_of opening ≡ J.book }
     requires some { 0 < vec_len tables }
     requires few { vec_len tables ≤ 16 }
     requires each { vec_len passes ≡ vec_len tables }
-    requires all { cluster.passes ≡ vec_len passes + 1 }
+    requires all { cluster.passes ≡ vec_len passes + passes_of stay }
     requires spot { cluster.first ≡ B.first }
+    requires vnodes { cluster.vnodes ≡ 3 }
+    requires begun { HasBegunRight cluster.first stay }
+    ensures told { Tells result (O.contents out.old) (O.contents out.new) }
+    ensures kept { Leaves cluster.first (files_of stay.entry) result }
 {
     let ground = opening.named::<J>(alloc);
-    over_ground(alloc, rt, cluster, passes, tables, ground, lobby, lookout)
+    over_ground(
+        alloc, rt, cluster, passes, tables, ground, lookout, stay, out,
+    )
 }
 
 /// The same, over what an installer of hooks begins with.
@@ -128,6 +256,8 @@ fn over_ground<
     J: Naming + Send + Sync,
     T: Rack<J> + Drop + Send + Sync,
     R: Threads + Wait + Sync,
+    N: Net<Listener = TcpListener, Stream = TcpStream>,
+    O: Write,
 >(
     alloc: Global,
     rt: &R,
@@ -135,21 +265,26 @@ fn over_ground<
     passes: Vec<Pass<B>>,
     tables: Vec<Table>,
     ground: Ground<J, T>,
-    lobby: &Lobby,
     lookout: Lookout<B>,
-) -> Followed
+    stay: Stay<'_, N, B>,
+    out: &mut O,
+) -> Result<Left, Unbegun>
     requires ground { (ground.front ≡ []) × (T.state ground.first ≡ []) × (T.state ground.second ≡ []) }
     requires some { 0 < vec_len tables }
     requires few { vec_len tables ≤ 16 }
     requires each { vec_len passes ≡ vec_len tables }
-    requires all { cluster.passes ≡ vec_len passes + 1 }
+    requires all { cluster.passes ≡ vec_len passes + passes_of stay }
     requires spot { cluster.first ≡ B.first }
+    requires vnodes { cluster.vnodes ≡ 3 }
+    requires begun { HasBegunRight cluster.first stay }
+    ensures told { Tells result (O.contents out.old) (O.contents out.new) }
+    ensures kept { Leaves cluster.first (files_of stay.entry) result }
 {
     match open(alloc, rt, ground, tables.len()) {
         Ok((installer, readers)) => over_hooks(
-            alloc, rt, &rt, cluster, passes, tables, &installer, readers, lobby, lookout,
+            alloc, rt, &rt, cluster, passes, tables, &installer, readers, lookout, stay, out,
         ),
-        Err(_) => NO_MEMORY,
+        Err(_) => Err(Unbegun::NoMemory),
     }
 }
 
@@ -161,6 +296,8 @@ fn over_hooks<
     J: Naming + Send + Sync,
     T: Rack<J> + Drop + Send + Sync,
     R: Threads + Wait + Sync,
+    N: Net<Listener = TcpListener, Stream = TcpStream>,
+    O: Write,
 >(
     alloc: Global,
     rt: &'r R,
@@ -170,17 +307,55 @@ fn over_hooks<
     tables: Vec<Table>,
     installer: &'a Mutex<Installer<J, T, &'r R>>,
     readers: Vec<HookReader<J, T>>,
-    lobby: &Lobby,
     lookout: Lookout<B>,
-) -> Followed
+    stay: Stay<'_, N, B>,
+    out: &mut O,
+) -> Result<Left, Unbegun>
+    requires some { 0 < vec_len tables }
     requires each { vec_len passes ≡ vec_len tables }
     requires readers { vec_len readers ≡ vec_len tables }
-    requires all { cluster.passes ≡ vec_len passes + 1 }
+    requires all { cluster.passes ≡ vec_len passes + passes_of stay }
     requires spot { cluster.first ≡ B.first }
+    requires vnodes { cluster.vnodes ≡ 3 }
+    requires begun { HasBegunRight cluster.first stay }
+    ensures told { Tells result (O.contents out.old) (O.contents out.new) }
+    ensures kept { Leaves cluster.first (files_of stay.entry) result }
 {
-    match seats_of(alloc, passes, tables, installer, handle, readers) {
-        Ok(seats) => { crew::serve(alloc, rt, cluster, seats, lobby, lookout) }
-        Err(_) => NO_MEMORY,
+    let seats = seats_of(alloc, passes, tables, installer, handle, readers)?;
+    over_seats(alloc, rt, cluster, seats, lookout, stay, out)
+}
+
+/// The same, over the seats of workers.
+fn over_seats<
+    B: Room + Spot + Send + Sync,
+    H: Hooks + HookChanges + Send + Drop,
+    R: Threads + Wait + Sync,
+    N: Net<Listener = TcpListener, Stream = TcpStream>,
+    O: Write,
+>(
+    alloc: Global,
+    rt: &R,
+    cluster: Cluster<B>,
+    seats: Vec<Seat<B, H>>,
+    lookout: Lookout<B>,
+    stay: Stay<'_, N, B>,
+    out: &mut O,
+) -> Result<Left, Unbegun>
+    requires some { 0 < vec_len seats }
+    requires all { cluster.passes ≡ vec_len seats + passes_of stay }
+    requires spot { cluster.first ≡ B.first }
+    requires vnodes { cluster.vnodes ≡ 3 }
+    requires begun { HasBegunRight cluster.first stay }
+    ensures told { Tells result (O.contents out.old) (O.contents out.new) }
+    ensures kept { Leaves cluster.first (files_of stay.entry) result }
+{
+    match stay {
+        Stay::Guest(lobby) => Ok(Left::Said(crew::serve(
+            alloc, rt, cluster, seats, lobby, lookout,
+        ))),
+        Stay::Keeper(keeper, begun) => keeper::live(
+            alloc, rt, cluster, seats, lookout, begun, keeper, out,
+        ),
     }
 }
 

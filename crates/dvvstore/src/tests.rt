@@ -2,8 +2,11 @@
 
 ghost use Rattle.std.specs.Prelude.{◌≡◌, IfOk, vec_len};
 
+use crate::keeper::Unbegun;
 use crate::session;
+use crate::session::{Left, Making, Tenant};
 use code_parts::expect;
+use findings::{Followed, WatchFault};
 use helpers::Table;
 use listener::{Lobby, Setup, open};
 use mio::net::TcpListener;
@@ -13,6 +16,7 @@ use std::net::{Ipv4Addr, Net, SocketAddr, TcpListener as StdListener, TcpStream}
 use std::test::Fail;
 use std::time::Duration;
 use std::{io, thread};
+use vnode::Seed;
 
 /// How many clients there are, each with a connection of its own.
 const CLIENTS: usize = 3;
@@ -147,6 +151,14 @@ fn two_tables(alloc: Global) -> Result<Vec<Table>, AllocError>
     Ok(tables)
 }
 
+/// What is said of the journals of a store that is forgotten.
+fn said_of(left: Result<Left, Unbegun>) -> Followed {
+    match left {
+        Ok(Left::Said(said)) => said,
+        _ => Err(WatchFault::Lost),
+    }
+}
+
 /// Two workers answer three clients, each over what all do, and it is said of the journals that they are one run: where three connections
 /// may come, once these have ended, and where any number may, once the server is told to stop.
 #[test]
@@ -170,7 +182,14 @@ fn two_workers(rt: HostRuntime) -> Result<(), Fail> {
             || { visit(alloc, lent, addr, hall, count.is_some()) },
             ||
                 requires { vec_len tables ≡ 2 }
-            { session::serve(alloc, lent, 458_752, tables, hall, err) },
+            {
+                let making = Making {
+                    first: 458_752,
+                    seed: Seed::fixed(),
+                };
+                let tenant: Tenant<'_, HostRuntime> = Tenant::Guest(hall);
+                said_of(session::live(alloc, lent, making, tables, tenant, err, &mut io::sink()))
+            },
         );
         expect(answered? == (TALK.len(), CLIENTS), &458_752)?;
         expect(said == Ok(()), &said)?;

@@ -6,6 +6,9 @@ returns-clause-ran g c image input words done = (c.split-table.result.0.listed, 
 pub returns-clause-judged : goal.returns-clause-judged
 returns-clause-judged g c image words done = (c.split-table.result.0.listed, c.split-table.ensures.own, c.command.ensures.judged image words done)
 
+pub returns-clause-explained : goal.returns-clause-explained
+returns-clause-explained g c image words done = (c.split-table.result.0.listed, c.split-table.ensures.own, c.command.ensures.explained image words done)
+
 pub returns-clause-simulated : goal.returns-clause-simulated
 returns-clause-simulated g c script words done = (c.split-table.result.0.listed, c.split-table.ensures.own, c.command.ensures.simulated script words done)
 

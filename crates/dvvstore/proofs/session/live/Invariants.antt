@@ -1,4 +1,4 @@
-use Rattle.dvvstore.proofs.session.serve.Given as goal
+use Rattle.dvvstore.proofs.session.live.Given as goal
 
 -- the word's own table
 abbrev pub ghosts-over_stamps-B-Room : goal.ghosts-over_stamps-B-Room
@@ -6,4 +6,4 @@ ghosts-over_stamps-B-Room g a = record { table = a.stamps.table.shared.table_id 
 
 -- the first identifier
 abbrev pub ghosts-over_stamps-B-Spot : goal.ghosts-over_stamps-B-Spot
-ghosts-over_stamps-B-Spot g a = record { first = a.first }
+ghosts-over_stamps-B-Spot g a = record { first = a.making.first }

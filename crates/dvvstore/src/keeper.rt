@@ -1,0 +1,206 @@
+//! A store that a folder keeps, from what it held to what is to be written.
+
+ghost use Rattle.std.specs.Prelude.{◌≡◌, ◌+◌, ◌<◌, ◌≤◌, ℕ, List, IfOk, OnOk, vec_len};
+ghost use Rattle.std.specs.Io.KnownBytes.{Appends};
+ghost use Rattle.commands.specs.Command.{begun};
+ghost use Rattle.loading.specs.Beginnings.{HaveLoaded, fronts_to};
+ghost use Rattle.dvvstore.specs.Keeping.{HasBegunWith, Leaves, Tells};
+
+use crate::crew;
+use crate::crew::{Begun, Lookout, Seat};
+use crate::session::Left;
+use closing::Spot;
+use folder::{HOOKS, Held};
+use helpers::Sigs;
+use hooks::{HookChanges, Hooks};
+use keeping::KeptFile;
+use kept_hooks::{HooksAlone, Recorder, ReplayFault, Requests, replay};
+use listener::{Lobby, Setup, listen, open};
+use loading::laws::loads_stand;
+use loading::{Unloaded, fronts_of, load_all};
+use pool::{Cluster, Pass, Room};
+use std::alloc::{AllocError, Global};
+use std::io;
+use std::io::{Stderr, Stdin, Write};
+use std::net::{Net, TcpListener, TcpStream};
+use std::sync::{Mutex, Wait};
+use std::thread::Threads;
+use thiserror::Error;
+
+/// Why a store doesn't begin with what its folder held.
+#[derive(Clone, Copy, Debug, PartialEq, Eq, Error)]
+pub enum Unbegun {
+    /// A vnode doesn't take its records over.
+    #[error("{0}")]
+    Records(Unloaded),
+    /// A request that changes hooks isn't done.
+    #[error("{HOOKS}: {0}")]
+    Hooks(ReplayFault),
+    /// The address can't be bound, the output can't be written, or the system has no descriptor for a worker.
+    #[error("unreadable")]
+    Unreadable,
+    /// Memory ran out.
+    #[error("E1")]
+    NoMemory,
+}
+
+impl From<AllocError> for Unbegun {
+    ghost use Rattle.dvvstore.specs.declared.keeper.Unbegun.TheVariants.{NoMemory};
+
+    ghost from_gives = { λ _ why. why ≡ NoMemory };
+
+    fn from(_: AllocError) -> Unbegun {
+        Unbegun::NoMemory
+    }
+}
+
+impl From<io::Error> for Unbegun {
+    ghost use Rattle.dvvstore.specs.declared.keeper.Unbegun.TheVariants.{Unreadable};
+
+    ghost from_gives = { λ _ why. why ≡ Unreadable };
+
+    fn from(_: io::Error) -> Unbegun {
+        Unbegun::Unreadable
+    }
+}
+
+/// What a store begins with that a folder keeps, and where it answers.
+#[derive(Drop)]
+pub struct Keeper<'a, R> {
+    /// Where the address is bound.
+    pub rt: &'a R,
+    /// What the folder held.
+    pub held: &'a Held,
+    /// The address.
+    pub addr: &'a str,
+    /// How many connections may come in all; any number where that isn't said.
+    pub count: Option<u32>,
+    /// Where the server is told to stop.
+    pub input: Stdin,
+}
+
+/// Has hooks begin with the requests that the folder held, binds the address, and has the workers of the seats answer the connections that
+/// come there.
+pub fn live<
+    B: Room + Spot + Send + Sync,
+    H: Hooks + HookChanges + Send + Drop,
+    R: Threads + Wait + Sync,
+    N: Net<Listener = TcpListener, Stream = TcpStream>,
+    O: Write,
+>(
+    alloc: Global,
+    rt: &R,
+    cluster: Cluster<B>,
+    mut seats: Vec<Seat<B, H>>,
+    lookout: Lookout<B>,
+    begun: Begun<B>,
+    keeper: Keeper<'_, N>,
+    out: &mut O,
+) -> Result<Left, Unbegun>
+    requires some { 0 < vec_len seats }
+    requires all { cluster.passes ≤ vec_len seats + 2 }
+    requires spot { cluster.first ≡ B.first }
+    requires vnodes { cluster.vnodes ≡ 3 }
+    requires begun { HasBegunWith cluster.first keeper.held.now.files.items begun }
+    ensures told { Tells result (O.contents out.old) (O.contents out.new) }
+    ensures kept { Leaves cluster.first keeper.entry.held.now.files.items result }
+{
+    let Some(mut seat) = seats.pop() else {
+        unreachable!();
+    };
+    let table = &seat.hooking.table;
+    let requests = begin_hooks(
+        alloc,
+        rt,
+        &table.listed,
+        &mut seat.hooking.hooks,
+        &keeper.held.hooks,
+    )?;
+    seats.push_reserved(seat);
+    let Lookout { watch, err, .. } = lookout;
+    let lobby = open_lobby(alloc, keeper, seats.len(), err, out)?;
+    let lookout = Lookout {
+        watch,
+        requests,
+        err,
+    };
+    loads_stand();
+    match crew::keep(alloc, rt, cluster, seats, &lobby, lookout, begun) {
+        Ok(served) => Ok(Left::Kept(served)),
+        Err(AllocError) => Ok(Left::Lost),
+    }
+}
+
+/// Tells how many records a store begins with, binds its address, and opens a lobby for so many workers. The error: the address can't be bound,
+/// the output can't be written, the system has no descriptor for a worker, or memory was refused.
+fn open_lobby<N: Net<Listener = TcpListener, Stream = TcpStream>, O: Write>(
+    alloc: Global,
+    keeper: Keeper<'_, N>,
+    workers: usize,
+    err: Stderr,
+    out: &mut O,
+) -> io::Result<Lobby>
+    ensures told { OnOk result ((loaded : ℕ) × (bound : List ℕ) × Appends (O.contents out.old) (O.contents out.new) (begun loaded bound)) }
+{
+    let Keeper {
+        rt,
+        held,
+        addr,
+        count,
+        input,
+    } = keeper;
+    let loaded = loaded_in(&held.files);
+    writeln!(out, "loaded {loaded}")?;
+    let setup = Setup {
+        listener: listen(rt, addr, out)?,
+        count,
+        input,
+        err,
+    };
+    open(alloc, rt, workers, setup)
+}
+
+/// Has each vnode take over its records. Answers how many of them each has, by index.
+pub fn begin<B: Room, R: Wait>(
+    alloc: Global,
+    rt: &R,
+    cluster: &Cluster<B>,
+    pass: &mut Pass<B>,
+    files: &[KeptFile],
+) -> Result<Vec<usize>, Unbegun>
+    ensures loaded { IfOk result (λ fronts. HaveLoaded pass.old pass.new cluster.now.first files.now cluster.now.vnodes) }
+    ensures fronts { IfOk result (λ fronts. fronts.items ≡ fronts_to files.now cluster.now.vnodes) }
+{
+    match load_all(alloc, rt, cluster, pass, files) {
+        Ok(()) => Ok(fronts_of(alloc, files, cluster.count())?),
+        Err(unloaded) => Err(Unbegun::Records(unloaded)),
+    }
+}
+
+/// How many records there are.
+fn loaded_in(files: &[KeptFile]) -> usize {
+    let mut loaded = 0usize;
+    for file in files {
+        loaded = loaded.saturating_add(file.records.len());
+    }
+    loaded
+}
+
+/// Has hooks that may call helpers with these signatures begin with requests. The requests are written down once more.
+fn begin_hooks<H: HookChanges, R: Wait>(
+    alloc: Global,
+    rt: &R,
+    sigs: &Sigs,
+    hooks: &mut H,
+    held: &[u8],
+) -> Result<Requests, Unbegun> {
+    let list = Mutex::new(Requests::new(alloc));
+    let mut recorder = Recorder::new(HooksAlone::new(alloc, sigs, hooks), &list, rt);
+    match replay(alloc, held, &mut recorder) {
+        Ok(_) => {}
+        Err(ReplayFault::NoMemory) => return Err(Unbegun::NoMemory),
+        Err(fault) => return Err(Unbegun::Hooks(fault)),
+    }
+    drop(recorder);
+    Ok(list.into_inner())
+}
