@@ -6,7 +6,7 @@ ghost use Rattle.helpers.specs.Entries.{AgreesWith};
 use crate::asking::ask;
 use admission::admit_program;
 use commands::files::Files;
-use commands::server::{Server, Unserved};
+use commands::server::{Ended, Server, Site, Unserved};
 use findings::Followed;
 use helpers::Table;
 use machine::{State, Stop, drive, padded, run};
@@ -93,6 +93,17 @@ impl Server for Both<'_> {
             }
             Err(AllocError) => Err(Unserved::NoMemory),
         }
+    }
+
+    fn keep<O: Write>(
+        &mut self,
+        _alloc: Global,
+        _table: Table,
+        _more: Vec<Table>,
+        _site: &Site<'_>,
+        _out: &mut O,
+    ) -> Result<Ended, Unserved> {
+        Err(Unserved::Unreadable)
     }
 }
 

@@ -1,20 +1,26 @@
 //! The bytes of connections, in the place of a network.
 
+ghost use Rattle.std.specs.Prelude.{◌≡◌, OnOk, IfErr};
+ghost use Rattle.commands.specs.Command.{Listened};
+
 use crate::asking::ask;
 use crate::folder::{Folder, read_ending};
 use crate::texts::first_difference;
 use commands::files::Files;
-use commands::server::{Server, Unserved};
+use commands::server::{Ended, Server, Site, Unserved};
 use findings::{Followed, WatchFault};
 use helpers::Table;
+use hooks::Registry;
+use httpfront::Backend;
 use local::Local;
 use serving::{answers_to, one_thread};
-use std::alloc::Global;
+use std::alloc::{AllocError, Global};
 use std::io::Write;
 use std::{io, rt};
+use store::Store;
 
 /// What stands between two connections of a file: the separator of records.
-const SEPARATOR: u8 = 0x1e;
+pub const SEPARATOR: u8 = 0x1e;
 
 /// How many vnodes there are.
 const VNODES: u32 = 3;
@@ -31,22 +37,20 @@ struct Dialogue<'a> {
     answers: Vec<u8>,
 }
 
-impl Server for Dialogue<'_> {
-    fn serve<O: Write>(
+impl Dialogue<'_> {
+    /// Tells the address, and answers the connection.
+    fn answer<B: Backend, O: Write>(
         &mut self,
         alloc: Global,
-        table: Table,
-        _more: Vec<Table>,
+        store: &mut B,
         addr: &str,
-        _count: Option<u32>,
         out: &mut O,
-    ) -> Result<Followed, Unserved> {
-        let Ok(vnodes) = Local::open(alloc, VNODES, INCARNATION) else {
-            return Err(Unserved::NoMemory);
-        };
+    ) -> Result<Followed, Unserved>
+        ensures told { OnOk result (Listened (O.contents out.old) (O.contents out.new)) }
+        ensures unserved { IfErr result (λ why. why ≡ Unserved.Unreadable) }
+    {
         writeln!(out, "listening {addr}")?;
-        let mut store = one_thread(alloc, vnodes, table);
-        match answers_to(alloc, self.requests, &mut store) {
+        match answers_to(alloc, self.requests, store) {
             Ok(answers) => {
                 self.answers = answers;
                 // The journals are gone with the store: nothing is said of them.
@@ -54,6 +58,41 @@ impl Server for Dialogue<'_> {
             }
             Err(_) => Err(Unserved::Unreadable),
         }
+    }
+}
+
+impl Server for Dialogue<'_> {
+    fn serve<O: Write>(
+        &mut self,
+        alloc: Global,
+        table: Table,
+        more: Vec<Table>,
+        addr: &str,
+        _count: Option<u32>,
+        out: &mut O,
+    ) -> Result<Followed, Unserved> {
+        drop(more);
+        let mut store = open(alloc, table)?;
+        self.answer(alloc, &mut store, addr, out)
+    }
+
+    fn keep<O: Write>(
+        &mut self,
+        _alloc: Global,
+        _table: Table,
+        _more: Vec<Table>,
+        _site: &Site<'_>,
+        _out: &mut O,
+    ) -> Result<Ended, Unserved> {
+        Err(Unserved::Unreadable)
+    }
+}
+
+/// The store that is served.
+pub fn open(alloc: Global, table: Table) -> Result<Store<Local, Registry>, Unserved> {
+    match Local::open(alloc, VNODES, INCARNATION) {
+        Ok(vnodes) => Ok(one_thread(alloc, vnodes, table)),
+        Err(AllocError) => Err(Unserved::NoMemory),
     }
 }
 

@@ -17,6 +17,7 @@ mod spellings;
 mod texts;
 mod trials;
 mod trying;
+mod turns;
 
 use crate::trying::try_all;
 use std::io;

@@ -8,6 +8,7 @@ use crate::rows::try_rows;
 use crate::spellings::{Kind, try_spellings};
 use crate::texts::words_in;
 use crate::trials::try_trials;
+use crate::turns::try_turns;
 use commands::files::Files;
 use commands::server::Offline;
 use std::alloc::Global;
@@ -69,6 +70,7 @@ fn try_named<R: rt::Files + AllocGlobal>(
         "function" => try_function(rt, name, counts, told),
         "dialogue" => try_dialogue(rt, name, told),
         "trials" => try_trials(rt, name, told),
+        "turns" => try_turns(rt, name, told),
         "verify" => try_rows(rt, &["verify", "file"], name, counts, told),
         "records" => try_spellings(rt, Kind::Record, name, told),
         "contexts" => try_spellings(rt, Kind::Context, name, told),

@@ -5,8 +5,8 @@
     make_hooks.py my.c pre-commit 4096 0       my.img, from the kind and the lengths of the input and the output window
     make_hooks.py --line my.c 3                the line of my.c that slot 3 of my.img comes from
 
-Where dvvstore is built (or named: --dvvstore PATH) it verifies what was made, and of a refusal the line of C, the rule in words and what
-to write instead are told at once. What is refused is compiled once more without jumps and arithmetic on 32 bits, whose spills are of 8
+Where dvvstore is built (or named: --dvvstore PATH) it verifies what was made, and of a refusal the line of C, the instruction, the rule in
+words, what to write instead and what was known there are told at once (the command `explain`). What is refused is compiled once more without jumps and arithmetic on 32 bits, whose spills are of 8
 bytes, which the verifier follows, and stays so where that is accepted.
 """
 import argparse
@@ -59,27 +59,6 @@ WORDS_ON_CONSTANTS = (
     "u8 text[3] = {'a', 'b', 'c'}, a longer table as a switch or as arithmetic"
 )
 WORDS_ON_FUNCTIONS = "a hook is one function: write 'static inline __attribute__((always_inline))' before each other one"
-
-# What each rule of the verifier asks, and what to write instead: as docs/HOOKS.md has it.
-RULES = {
-    "V10": "a jump leaves the code: the image isn't what the compiler made",
-    "V11": "a jump leads into the middle of a wide constant: the image isn't what the compiler made",
-    "V12": "a jump goes back, as that of a loop does: unroll the loop",
-    "V13": "the code runs past its end: let every path return",
-    "V14": "no path leads here, or only a jump back: unroll the loop",
-    "V20": "a register is read that isn't set on every path, or a number on one path and a pointer on another: set each variable where it is declared",
-    "V21": "the stack's pointer is written: the image isn't what the compiler made",
-    "V22": "arithmetic on a pointer that would not leave one: keep a number, and add it to the pointer where it is used",
-    "V23": "how far this pointer may go has no bound: test the number that is added, against a constant, before it is added",
-    "V24": "a read or write that may leave its window: test the offset against the window's length before it, or make the window longer",
-    "V25": "a write to the input: write to output, or to a local array",
-    "V26": "a pointer is stored elsewhere than in a whole word of the stack: keep the number, and make the pointer anew where it is used",
-    "V27": "a helper that isn't there: see dvvstore.h",
-    "V28": "an argument of a helper that may not fit: test its length, and its offset, before the call",
-    "V29": "the answer is a pointer: return a verdict",
-    "V30": "stack is read of which nothing is known, as a part of a pointer: set the variable first, and don't copy pointers in structs",
-}
-
 
 class Refused(Exception):
     """Why a source makes no image, in words for its author."""
@@ -276,17 +255,22 @@ def program():
     return next((path for path in built if path.is_file()), None)
 
 
+def told_by(dvvstore, command, image):
+    """The lines that a command of dvvstore prints of an image: none where it has no such command."""
+    words = [dvvstore.absolute(), command, image]
+    return subprocess.run(words, stdout=subprocess.PIPE, stderr=subprocess.DEVNULL, text=True).stdout.splitlines()
+
+
 def verdict(dvvstore, image, lines):
-    """What dvvstore says of an image, with the line of the slot that it refuses, and the rule in words; nothing where there is none."""
+    """What dvvstore says of an image, and of one that it refuses the line of the slot and what it looked at there; nothing where there is
+    none. An older one says its verdict alone."""
     if dvvstore is None:
         return ""
-    told = subprocess.run([dvvstore, "verify", image], stdout=subprocess.PIPE, text=True).stdout.strip()
-    refused = re.fullmatch(r"refused ([DV]\d+) (\d+)", told)
+    told, *looked_at = told_by(dvvstore, "explain", image) or told_by(dvvstore, "verify", image)
+    refused = re.fullmatch(r"refused [DV]\d+ (\d+)", told)
     if not refused:
         return told
-    rule, slot = refused.groups()
-    words = f": {RULES[rule]}" if rule in RULES else ""
-    return f"{told}, {lines[int(slot)]}{words}"
+    return "\n    ".join([f"{told}, {lines[int(refused[1])]}", *looked_at])
 
 
 def make(source, kind, in_len, out_len, image, dvvstore=None):

@@ -3,7 +3,7 @@
 use code_parts::expect;
 use commands::files::{Files, Part};
 use commands::own::command_with_helpers;
-use commands::server::{Server, Unserved};
+use commands::server::{Ended, Server, Site, Unserved};
 use findings::{FollowCode, FollowFault, Followed, WatchFault};
 use helpers::Table;
 use std::alloc::Global;
@@ -51,6 +51,17 @@ impl Server for Deserted {
         writeln!(out, "listening {addr}")?;
         self.asked = Some((1 + more.len(), count));
         Ok(said)
+    }
+
+    fn keep<O: Write>(
+        &mut self,
+        _alloc: Global,
+        _table: Table,
+        _more: Vec<Table>,
+        _site: &Site<'_>,
+        _out: &mut O,
+    ) -> Result<Ended, Unserved> {
+        Err(Unserved::Unreadable)
     }
 }
 

@@ -20,7 +20,7 @@ import make_hooks  # noqa: E402
 def said_of(source, image):
     """What the verifier says of a hook."""
     kind, in_len, out_len = re.match(r"/\* (\S+) (\d+) (\d+):", source.read_text()).groups()
-    return make_hooks.make(source, kind, int(in_len), int(out_len), image)
+    return make_hooks.make(source, kind, int(in_len), int(out_len), image).splitlines()[0]
 
 
 def main():
