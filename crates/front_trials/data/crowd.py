@@ -21,7 +21,7 @@ import sys
 import threading
 import time
 
-from strangers import BIG, Server
+from strangers import BIG, Server, reads_nothing
 
 PING = b"GET /ping HTTP/1.1\r\nHost: h\r\n\r\n"
 PONG = b"HTTP/1.1 200 OK\r\nContent-Type: text/plain\r\nContent-Length: 2\r\n\r\nOK"
@@ -114,24 +114,16 @@ class Busy(threading.Thread):
                 key.data[:] = [number, turn, found]
 
 
-def reads_nothing(server):
-    """A client that asks for 16 MB, many requests at a time, and reads none of it. It doesn't wait for its questions to be taken either."""
-    client = server.connect()
-    client.setblocking(False)
-    questions = memoryview(BIG * 256 + PING * 10_000)
-    try:
-        while questions:
-            questions = questions[client.send(questions) :]
-    except BlockingIOError:
-        pass
-    return client
+def asks_for_much(server):
+    """A client that asks for 16 MB, many requests at a time, and reads none of it."""
+    return reads_nothing(server, BIG * 256 + PING * 10_000)
 
 
 def strangers(server, count):
     """So many of each kind come, stay for some seconds, and leave."""
     slow = [server.connect() for _ in range(count)]
     half = [server.connect(BODY) for _ in range(count)]
-    deaf = [reads_nothing(server) for _ in range(count)]
+    deaf = [asks_for_much(server) for _ in range(count)]
     begun = time.monotonic()
     for place in range(len(HEAD)):
         for client in slow:

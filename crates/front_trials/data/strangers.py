@@ -61,11 +61,11 @@ class Server:
         return resident(self.process.pid)
 
 
-def reads_nothing(server):
-    """A client that asks for 64 MB and reads none of it. It doesn't wait for its questions to be taken either."""
+def reads_nothing(server, questions=BIG * 1024):
+    """A client that asks for much, 64 MB where nothing else is said, and reads none of it. It doesn't wait for its questions to be taken either."""
     client = server.connect()
     client.setblocking(False)
-    questions = memoryview(BIG * 1024)
+    questions = memoryview(questions)
     try:
         while questions:
             questions = questions[client.send(questions) :]
