@@ -238,12 +238,13 @@ none_further own (x ∷ xs) t = let p = and_parts _ _ t in let c = covers_true o
 pub unchanged_fits : (own other : State) → IsState own → is_changed_by own other ≡ false → vnodes_together own.clock other.clock ≤ 1024
 unchanged_fits own other a unchanged = let p : (not (is_within other.clock own.clock) ≡ false) × (list_any (λ s. has_dropped other s.dot) own.siblings ≡ false) = or_parts _ _ unchanged in omega (arith, none_further own.clock other.clock (not-false _ p.0), a.clock.few)
 
--- the count of the fields is that of the states
-pub same_count : {a b : State} {x y : State} → x ≡ a → y ≡ b → vnodes_together x.clock y.clock ≡ vnodes_together a.clock b.clock
-same_count {a = a} {y = y} p q = ap (λ (s : State). vnodes_together s.clock y.clock) p ∙ ap (λ (s : State). vnodes_together a.clock s.clock) q
+-- the lists that were merged are those of the two states
+pub same_merges : {own own' others others' : List Sibling} {own_clock own_clock' other_clock other_clock' : List Dot} {new : List Sibling} → own ≡ own' → own_clock ≡ own_clock' → others ≡ others' → other_clock ≡ other_clock' → MergesSiblings own own_clock others other_clock new → MergesSiblings own' own_clock' others' other_clock' new
+same_merges {own' = own'} {others = others} {others' = others'} {own_clock = own_clock} {own_clock' = own_clock'} {other_clock = other_clock} {new = new} p o q r m = subst (λ (c : List Dot). MergesSiblings own' own_clock' others' c new) r (subst (λ (xs : List Sibling). MergesSiblings own' own_clock' xs other_clock new) q (subst (λ (c : List Dot). MergesSiblings own' c others other_clock new) o (subst (λ (xs : List Sibling). MergesSiblings xs own_clock others other_clock new) p m)))
 
-pub own_count : {a x : State} {other clock : List Dot} → x ≡ a → other ≡ clock → vnodes_together x.clock other ≡ vnodes_together a.clock clock
-own_count {a = a} {other = other} p q = ap (λ (s : State). vnodes_together s.clock other) p ∙ ap (vnodes_together a.clock) q
+-- the count of equal clocks is one
+pub counted : {a a' b b' : List Dot} → a ≡ a' → b ≡ b' → vnodes_together a b ≡ vnodes_together a' b'
+counted {a' = a'} {b = b} p q = ap (λ (l : List Dot). vnodes_together l b) p ∙ ap (vnodes_together a') q
 
 -- a merge that was told of has other dots or events
 pub merged_state_differs : (own other new : State) → IsState other → is_changed_by own other ≡ true → Merges own other new → HaveSameDots own new → ⊥
@@ -257,6 +258,24 @@ within_told small large false good told = elim (cases_Bool (is_within small larg
   | inr f ↦ sym f
 ]
 
--- the tests of the fields are those of the states
-pub within_fields : {own other a b : State} → own ≡ a → other ≡ b → is_within other.clock own.clock ≡ is_within b.clock a.clock
-within_fields {own = own} {b = b} p q = ap (λ (s : State). is_within s.clock own.clock) q ∙ ap (λ (s : State). is_within b.clock s.clock) p
+-- the test of equal clocks is one
+pub within_clocks : {a a' b b' : List Dot} → a ≡ a' → b ≡ b' → is_within a b ≡ is_within a' b'
+within_clocks {a' = a'} {b = b} p q = ap (λ (l : List Dot). is_within l b) p ∙ ap (is_within a') q
+
+-- a merge of another state that counts all that is known and holds nothing of it leaves that one
+pub gives_way : (own other : State) → IsState own → Within own.clock other.clock → list_any (λ s. covers own.clock s.dot) other.siblings ≡ false → Merges own other other
+gives_way own other a within none = record { siblings = λ d. go d (content_at own.siblings d) (content_at other.siblings d) refl refl; clock = λ d. (λ h. inr h, λ h. elim h [ inl o ↦ within d o | inr t ↦ t ]) }
+  where
+    unknown : (xs : List Sibling) (d : Dot) (c : Content) → list_any (λ s. covers own.clock s.dot) xs ≡ false → content_at xs d ≡ Some c → covers own.clock d ≡ false
+    unknown [] d c f e = absurd (cc)
+    unknown (x ∷ xs) d c f e = let p = or_parts _ _ f in test p.0 (λ k. unknown xs d c p.1 k) (is_dot x.dot d) refl e
+      where
+        test : covers own.clock x.dot ≡ false → (content_at xs d ≡ Some c → covers own.clock d ≡ false) → (b : Bool) → is_dot x.dot d ≡ b → cond b (Some x.content) (content_at xs d) ≡ Some c → covers own.clock d ≡ false
+        test here later true q k = ap (covers own.clock) (sym (is_dot-true x.dot d q)) ∙ here
+        test here later false q k = later k
+
+    go : (d : Dot) (o t : Option Content) → content_at own.siblings d ≡ o → content_at other.siblings d ≡ t → t ≡ merged o t (covers own.clock d) (covers other.clock d)
+    go d (Some u) (Some v) eo et = absurd (let h : true ≡ false = sym (found_covered own.clock own.siblings d u a.covered eo) ∙ unknown other.siblings d v none et in cc)
+    go d (Some u) None eo et = rw (true_covers other.clock d (within d (covers_true own.clock d (found_covered own.clock own.siblings d u a.covered eo)))) refl
+    go d None (Some v) eo et = rw (unknown other.siblings d v none et) refl
+    go d None None eo et = refl

@@ -6,3 +6,4 @@ pub mod Placing
 pub mod Merging
 pub mod Parts
 pub mod Known
+pub mod Kept

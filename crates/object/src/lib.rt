@@ -12,6 +12,7 @@ mod part;
 mod placing;
 mod prepared;
 mod state;
+mod written;
 
 pub use bytes::Bytes;
 pub use content::{Content, Key, Sibling};

@@ -1,6 +1,8 @@
 //! The siblings of two sides, gone over together.
 
 ghost use Rattle.std.specs.Prelude.{◌≡◌, ◌++◌, ◌∷◌, [], ◌⊎◌, ◌<◌, length, drop, IfOk};
+ghost use Rattle.std.specs.List.{list_any};
+ghost use Rattle.dvv.specs.Clock.{covers};
 ghost use Rattle.object.specs.State.{kept, AreInOrder};
 
 use crate::content::Sibling;
@@ -73,6 +75,13 @@ pub(crate) fn drops_some(others: &[Sibling], other_clock: &Clock, own: &[Sibling
         }
     }
     false
+}
+
+// Whether a clock covers one of the siblings.
+pub(crate) fn covers_some(clock: &Clock, siblings: &[Sibling]) -> bool
+    ensures { result ≡ list_any (λ s. covers clock.now s.dot) siblings.now }
+{
+    siblings.iter().any(|sibling| clock.covers(sibling.dot))
 }
 
 // Adds a copy of a sibling that a clock doesn't cover.

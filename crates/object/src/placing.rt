@@ -1,31 +1,57 @@
 //! One sibling put into its place among others.
 
-ghost use Rattle.std.specs.Prelude.{◌≡◌, ◌<◌, ◌≤◌, None, length, vec_len, vec_capacity};
+ghost use Rattle.std.specs.Prelude.{◌≡◌, ◌<◌, ◌≤◌, None, IfOk, length, vec_len, vec_capacity};
 ghost use Rattle.object.specs.State.{kept, content_at, AreInOrder};
 ghost use Rattle.object.specs.Placing.{IsSiblingGap, InsertsSibling, ReplacesSeen};
 
 use crate::content::Sibling;
 use dvv::{Clock, Dot};
+use std::alloc::{AllocError, Global};
 
-// Drops the siblings that a context covers, and puts a new one at its place. There is room for it then.
-pub(crate) fn replace_seen(siblings: &mut Vec<Sibling>, seen: &Clock, sibling: Sibling)
-    requires room { length (kept seen.now siblings.old.items) < vec_capacity siblings.old }
-    requires order { AreInOrder siblings.old.items }
-    requires absent { content_at siblings.old.items sibling.dot ≡ None }
-    ensures replaced { ReplacesSeen siblings.old.items siblings.new.items seen.now sibling }
+// The siblings that a context doesn't cover, and a new one at its place among them.
+pub(crate) fn replacing_seen(
+    alloc: Global,
+    siblings: &[Sibling],
+    seen: &Clock,
+    sibling: Sibling,
+) -> Result<Vec<Sibling>, AllocError>
+    requires order { AreInOrder siblings.now }
+    requires absent { content_at siblings.now sibling.dot ≡ None }
+    ensures { IfOk result (λ new. ReplacesSeen siblings.now new.items seen.now sibling) }
 {
-    drop_seen(siblings, seen);
-    insert_sibling(siblings, sibling);
+    let mut new = copies_of_kept(alloc, siblings, seen)?;
+    insert_sibling(&mut new, sibling);
+    Ok(new)
 }
 
-// Drops the siblings that a context covers, and gives their memory back but for that of one.
-fn drop_seen(siblings: &mut Vec<Sibling>, seen: &Clock)
-    requires room { length (kept seen.now siblings.old.items) < vec_capacity siblings.old }
-    ensures kept { siblings.new.items ≡ kept seen.now siblings.old.items }
-    ensures room { vec_len siblings.new < vec_capacity siblings.new }
+// Copies of the siblings that a context doesn't cover, and room for one more: states are kept with each key, and take no more.
+fn copies_of_kept(
+    alloc: Global,
+    siblings: &[Sibling],
+    seen: &Clock,
+) -> Result<Vec<Sibling>, AllocError>
+    ensures kept { IfOk result (λ copies. copies.items ≡ kept seen.now siblings.now) }
+    ensures room { IfOk result (λ copies. vec_len copies < vec_capacity copies) }
 {
-    siblings.retain(|sibling| !seen.covers(sibling.dot));
-    siblings.shrink_to(siblings.len() + 1);
+    // No more of them than there are siblings.
+    let _all = siblings.len();
+    let mut copies = Vec::with_capacity(alloc, count_kept(siblings, seen) + 1)?;
+    for sibling in siblings {
+        if !seen.covers(sibling.dot) {
+            copies.push(sibling.copy()?)?;
+        }
+    }
+    Ok(copies)
+}
+
+// How many siblings a context doesn't cover.
+pub(crate) fn count_kept(siblings: &[Sibling], seen: &Clock) -> usize
+    ensures { result ≡ length (kept seen.now siblings.now) }
+{
+    siblings
+        .iter()
+        .filter(|sibling| !seen.covers(sibling.dot))
+        .count()
 }
 
 // Puts a sibling at its place. There is room for it, and none of its dot yet.

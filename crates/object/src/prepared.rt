@@ -9,9 +9,10 @@ use crate::exchange::content_of;
 use crate::fault::{MergeFault, PartFault};
 use crate::part::Part;
 use crate::state::KeyState;
-use dvv::Clock;
+use crate::written::Written;
 use std::alloc::{AllocError, Global};
 use std::marker::Model;
+use std::sync::Arc;
 
 /// A part, and the memory that the whole state takes for which it stands: a copy of its clock, and room for its siblings. Whoever holds
 /// what was left out builds the whole state in it, and asks for no memory.
@@ -19,18 +20,20 @@ use std::marker::Model;
 pub struct PreparedPart<'a> {
     part: &'a Part,
     siblings: Vec<Sibling>,
-    clock: Clock,
+    // Has the clock, and no siblings yet.
+    written: Arc<Written>,
 }
 
 impl<'a> Model for PreparedPart<'a> {
     ghost use Rattle.std.specs.Prelude.{◌≡◌, ◌≤◌, [], length, vec_capacity};
+    ghost use Rattle.std.specs.Arc.{arc_value};
     ghost use Rattle.object.specs.Parts.{Partial};
 
     ghost Value = { Partial };
 
     ghost view = { λ p. p.part.now };
 
-    ghost invariant = { λ p. (p.clock ≡ p.part.now.clock) × (p.siblings.items ≡ []) × (length p.part.now.siblings ≤ vec_capacity p.siblings) };
+    ghost invariant = { λ p. ((arc_value p.written).clock ≡ p.part.now.clock) × (p.siblings.items ≡ []) × (length p.part.now.siblings ≤ vec_capacity p.siblings) };
 }
 
 impl<'a> PreparedPart<'a> {
@@ -38,10 +41,14 @@ impl<'a> PreparedPart<'a> {
     pub fn new(alloc: Global, part: &'a Part) -> Result<Self, AllocError>
         ensures { IfOk result (λ prepared. prepared ≡ part.now) }
     {
+        let written = Written {
+            siblings: Vec::new(alloc),
+            clock: part.clock().copy(alloc)?,
+        };
         Ok(PreparedPart {
             part,
             siblings: Vec::with_capacity(alloc, part.siblings().len())?,
-            clock: part.clock().copy(alloc)?,
+            written: Arc::new(alloc, written)?,
         })
     }
 
@@ -65,7 +72,7 @@ impl KeyState {
         let PreparedPart {
             part,
             mut siblings,
-            clock,
+            written,
         } = prepared;
         for sent in part.siblings() {
             let Some(content) = content_of(self.siblings(), sent) else {
@@ -83,7 +90,10 @@ impl KeyState {
                 Err(_) => unreachable!(),
             }
         }
-        Ok(KeyState::from_parts(clock, siblings))
+        match KeyState::in_written(written, siblings) {
+            Ok(whole) => Ok(whole),
+            Err(_) => Err(self.uncopied(part)),
+        }
     }
 
     // Why there is no whole state of a part where a content has as many owners as can be counted: one that is missing is told first.

@@ -1,22 +1,24 @@
 //! The state of a key: siblings and one clock.
 
-ghost use Rattle.std.specs.Prelude.{◌≡◌, ◌≢◌, ◌<◌, ◌≤◌, ◌↔◌, false, length, IsTrue, OnOk, OnErr, IfOk, vec_capacity};
+ghost use Rattle.std.specs.Prelude.{◌≡◌, ◌≢◌, ◌<◌, ◌≤◌, ◌↔◌, false, length, IsTrue, OnOk, OnErr, IfOk};
 
 use crate::content::{Content, Sibling};
 use crate::fault::{MergeFault, PutFault, PutRefusal};
 use crate::limits::MAX_SIBLINGS;
-use crate::merging::{drops_some, merge_siblings};
-use crate::placing::replace_seen;
+use crate::merging::{covers_some, drops_some, merge_siblings};
+use crate::placing::{count_kept, replacing_seen};
+use crate::written::{Kept, Written};
 use dvv::{Clock, ClockFault, Dot};
 use std::alloc::{AllocError, Global};
 use std::marker::Model;
+use std::sync::Arc;
 
 /// The siblings and the clock of a key: what is kept of all its known writes (dotted version vectors, Preguiça et al.
-/// 2010; Riak KV documentation, siblings and causal contexts).
+/// 2010; Riak KV documentation, siblings and causal contexts). Copies share them until one of them is changed.
 #[derive(Drop)]
 pub struct KeyState {
-    siblings: Vec<Sibling>,
-    clock: Clock,
+    alloc: Global,
+    kept: Kept,
 }
 
 impl Model for KeyState {
@@ -24,9 +26,11 @@ impl Model for KeyState {
 
     ghost Value = { State };
 
-    ghost view = { λ s. record { siblings = s.siblings.items; clock = s.clock } };
+    ghost use Rattle.object.specs.Kept.{state_in, LendsNoEvent};
 
-    ghost invariant = { λ s. IsState (record { siblings = s.siblings.items; clock = s.clock }) };
+    ghost view = { λ s. state_in s.kept };
+
+    ghost invariant = { λ s. IsState (state_in s.kept) × LendsNoEvent s.kept };
 }
 
 impl KeyState {
@@ -34,25 +38,30 @@ impl KeyState {
     ghost use Rattle.object.specs.Limits.{most_siblings};
     ghost use Rattle.object.specs.State.{empty, next, kept, is_changed_by, Puts, Merges, AreInOrder, AreCovered, IsState, HaveSameDots};
 
-    /// Nothing written.
+    /// Nothing written. It takes no memory.
     pub fn new(alloc: Global) -> Self
         ensures { result ≡ empty }
     {
         KeyState {
-            siblings: Vec::new(alloc),
-            clock: Clock::new(alloc),
+            alloc,
+            kept: Kept::Nothing(Clock::new(alloc)),
         }
     }
 
     /// The state of these parts: siblings that rise by dot, each counted by the clock.
-    pub fn from_parts(clock: Clock, siblings: Vec<Sibling>) -> Self
+    pub fn from_parts(clock: Clock, siblings: Vec<Sibling>) -> Result<Self, AllocError>
         requires order { AreInOrder siblings.items }
         requires covered { AreCovered clock siblings.items }
-        ensures { result ≡ record { siblings = siblings.items; clock = clock } }
+        ensures { IfOk result (λ state. state ≡ record { siblings = siblings.items; clock = clock }) }
     {
         // What every clock keeps is told with its entries.
         let _entries = clock.entries();
-        KeyState { siblings, clock }
+        let alloc = *siblings.allocator();
+        let written = Written { siblings, clock };
+        Ok(KeyState {
+            alloc,
+            kept: Kept::Shared(Arc::new(alloc, written)?),
+        })
     }
 
     /// The siblings, rising by dot.
@@ -60,33 +69,42 @@ impl KeyState {
         ensures all { result.now ≡ self.now.siblings }
         ensures state { IsState self.now }
     {
-        &self.siblings
+        match &self.kept {
+            Kept::Nothing(_) => &[],
+            Kept::Shared(written) => written.siblings.as_slice(),
+        }
     }
 
     /// The clock: it counts each event that any known write had seen, and the known writes themselves.
     pub fn clock(&self) -> &Clock
         ensures { result.now ≡ self.now.clock }
     {
-        &self.clock
+        match &self.kept {
+            Kept::Nothing(clock) => clock,
+            Kept::Shared(written) => &written.clock,
+        }
     }
 
-    /// The same state, the siblings' bytes shared with this one.
+    /// The same state, its siblings and clock shared with this one. Refused where their owners can't be counted further.
     pub fn copy(&self, alloc: Global) -> Result<KeyState, AllocError>
         ensures same { IfOk result (λ copy. copy ≡ self.now) }
         ensures state { IsState self.now }
     {
-        Ok(KeyState {
-            siblings: copies_of(alloc, &self.siblings)?,
-            clock: self.clock.copy(alloc)?,
-        })
+        match &self.kept {
+            Kept::Nothing(_) => Ok(KeyState::new(alloc)),
+            Kept::Shared(written) => Ok(KeyState {
+                alloc,
+                kept: Kept::Shared(written.clone()?),
+            }),
+        }
     }
 
     /// Whether another state is the same: each sibling with its content, and the clock.
     pub fn is_same(&self, other: &KeyState) -> bool
         ensures { IsTrue result ↔ (self.now ≡ other.now) }
     {
-        have_same_entries(self.clock.entries(), other.clock.entries())
-            && are_same(&self.siblings, &other.siblings)
+        have_same_entries(self.clock().entries(), other.clock().entries())
+            && are_same(self.siblings(), other.siblings())
     }
 
     /// The dot that a put at a vnode would get, or what it would be refused for, want of memory aside.
@@ -99,17 +117,18 @@ impl KeyState {
         ensures many { result ≡ Err PutRefusal.TooManySiblings ↔ (Within seen.now self.now.clock × (most_siblings ≤ length (kept seen.now self.now.siblings))) }
         ensures full { result ≡ Err PutRefusal.ClockFull ↔ (Within seen.now self.now.clock × (length (kept seen.now self.now.siblings) < most_siblings) × (HasRoom self.now.clock (next self.now vnode) → ⊥)) }
     {
-        if !seen.le(&self.clock) {
+        let clock = self.clock();
+        if !seen.le(clock) {
             return Err(PutRefusal::ContextAhead);
         }
-        if count_kept(&self.siblings, seen) >= MAX_SIBLINGS {
+        if count_kept(self.siblings(), seen) >= MAX_SIBLINGS {
             return Err(PutRefusal::TooManySiblings);
         }
         let dot = Dot {
             vnode,
-            n: self.clock.counter(vnode) + 1,
+            n: clock.counter(vnode) + 1,
         };
-        if !self.clock.has_room(dot) {
+        if !clock.has_room(dot) {
             return Err(PutRefusal::ClockFull);
         }
         Ok(dot)
@@ -147,11 +166,12 @@ impl KeyState {
         ensures state { OnOk result (IsState self.new) }
         ensures err { OnErr result (self.new ≡ self.old) }
     {
-        make_room(&mut self.siblings, seen)?;
-        let Ok(()) = self.clock.add(dot) else {
+        let mut clock = self.clock().copy(self.alloc)?;
+        let Ok(()) = clock.add(dot) else {
             return Err(AllocError);
         };
-        replace_seen(&mut self.siblings, seen, Sibling { dot, content });
+        let siblings = replacing_seen(self.alloc, self.siblings(), seen, Sibling { dot, content })?;
+        *self = KeyState::from_parts(clock, siblings)?;
         Ok(())
     }
 
@@ -167,11 +187,12 @@ impl KeyState {
     pub fn can_merge(&self, other: &KeyState) -> bool
         ensures { IsTrue result ↔ (vnodes_together self.now.clock other.now.clock ≤ most_entries) }
     {
-        self.clock.can_join(&other.clock)
+        self.clock().can_join(other.clock())
     }
 
     /// Merges another state of the key into this one, and tells whether siblings or clock changed. A sibling stays that both
-    /// hold, or that one holds and the other's clock doesn't count; where both hold a dot, the own content stays.
+    /// hold, or that one holds and the other's clock doesn't count; where both hold a dot, the own content stays. A state that has
+    /// seen all that is known here, and holds nothing of that, is shared from then on.
     pub fn merge(&mut self, other: &KeyState) -> Result<bool, MergeFault>
         ensures ok { OnOk result (Merges self.old other.now self.new) }
         ensures state { OnOk result (IsState self.new) }
@@ -184,79 +205,98 @@ impl KeyState {
         ensures full { result ≡ Err MergeFault.ClockFull ↔ (most_entries < vnodes_together self.old.clock other.now.clock) }
         ensures err { OnErr result (self.new ≡ self.old) }
     {
-        let (others, other_clock) = (other.siblings(), other.clock());
+        // What every state keeps is told with its siblings.
+        let (_own, _others) = (self.siblings(), other.siblings());
         if !self.is_changed_by(other) {
             return Ok(false);
         }
-        let alloc = *self.siblings.allocator();
-        let clock = match join_clocks(alloc, &self.clock, other_clock) {
-            Ok(clock) => clock,
+        *self = self.merged_with(other)?;
+        Ok(true)
+    }
+
+    // The merge of another state into this one: that state, shared, where this one gives way to it.
+    fn merged_with(&self, other: &KeyState) -> Result<KeyState, MergeFault>
+        ensures merges { IfOk result (λ merged. Merges self.now other.now merged) }
+        ensures state { IfOk result (λ merged. IsState merged) }
+        ensures full { result ≡ Err MergeFault.ClockFull ↔ (most_entries < vnodes_together self.now.clock other.now.clock) }
+    {
+        if self.gives_way_to(other) {
+            return Ok(other.copy(self.alloc)?);
+        }
+        let (siblings, clock) = (self.siblings(), self.clock());
+        let (others, other_clock) = (other.siblings(), other.clock());
+        let union = match join_clocks(self.alloc, clock, other_clock) {
+            Ok(union) => union,
             Err(fault) => return Err(fault),
         };
-        let Ok(siblings) = merge_siblings(alloc, &self.siblings, &self.clock, others, other_clock)
-        else {
+        let Ok(merged) = merge_siblings(self.alloc, siblings, clock, others, other_clock) else {
             return Err(MergeFault::NoMemory);
         };
-        self.siblings = siblings;
-        self.clock = clock;
-        Ok(true)
+        Ok(KeyState::from_parts(union, merged)?)
     }
 
     // Where its memory is from.
     pub(crate) fn allocator(&self) -> Global {
-        *self.siblings.allocator()
+        self.alloc
+    }
+
+    // The state of these siblings, in memory that was taken for it with its clock. Refused where a copy shares that memory.
+    pub(crate) fn in_written(
+        mut written: Arc<Written>,
+        siblings: Vec<Sibling>,
+    ) -> Result<Self, AllocError>
+        requires order { AreInOrder siblings.items }
+        requires covered { AreCovered (arc_value written).clock siblings.items }
+        ensures { IfOk result (λ state. state ≡ record { siblings = siblings.items; clock = (arc_value written).clock }) }
+    {
+        let alloc = *siblings.allocator();
+        match Arc::get_mut(&mut written) {
+            Some(own) => own.siblings = siblings,
+            None => return Err(AllocError),
+        }
+        Ok(KeyState {
+            alloc,
+            kept: Kept::Shared(written),
+        })
+    }
+
+    // Whether a merge of another state leaves that one: its clock counts all that is known here, and none of its siblings is known.
+    fn gives_way_to(&self, other: &KeyState) -> bool
+        ensures merges { IsTrue result → Merges self.now other.now other.now }
+        ensures state { IsTrue result → IsState other.now }
+        ensures fits { IsTrue result → vnodes_together self.now.clock other.now.clock ≤ most_entries }
+    {
+        // What every state keeps is told with its siblings.
+        let _own = self.siblings();
+        let (clock, other_clock) = (self.clock(), other.clock());
+        let others = other.siblings();
+        if !self.can_merge(other) {
+            return false;
+        }
+        clock.le(other_clock) && !covers_some(clock, others)
     }
 
     // Whether each event that another state knows is known here.
     fn knows_all_of(&self, other: &KeyState) -> bool
         ensures { result ≡ is_within other.now.clock self.now.clock }
     {
-        other.clock.le(&self.clock)
+        // What every state keeps is told with its siblings.
+        let _siblings = other.siblings();
+        other.clock().le(self.clock())
     }
 
     // Whether another state has dropped a sibling that is held here.
     fn holds_what_is_dropped_by(&self, other: &KeyState) -> bool
         ensures { result ≡ drops_some other.now.siblings other.now.clock self.now.siblings }
     {
-        drops_some(&other.siblings, &other.clock, &self.siblings)
+        drops_some(other.siblings(), other.clock(), self.siblings())
     }
 }
 
 ghost use Rattle.dvv.specs.Clock.{IsClock, IsUnion, vnodes_together, most_entries};
-ghost use Rattle.object.specs.State.{kept, is_within};
+ghost use Rattle.object.specs.State.{is_within};
 ghost use Rattle.object.specs.Merging.{drops_some};
-
-// Room for one sibling more once those are dropped that a context covers, and no more than that: states are kept with each key.
-fn make_room(siblings: &mut Vec<Sibling>, seen: &Clock) -> Result<(), AllocError>
-    ensures items { siblings.new.items ≡ siblings.old.items }
-    ensures room { OnOk result (length (kept seen.now siblings.new.items) < vec_capacity siblings.new) }
-{
-    if count_kept(siblings, seen) < siblings.len() {
-        return Ok(());
-    }
-    siblings.reserve_exact(1)
-}
-
-// How many siblings a context doesn't cover.
-fn count_kept(siblings: &[Sibling], seen: &Clock) -> usize
-    ensures { result ≡ length (kept seen.now siblings.now) }
-{
-    siblings
-        .iter()
-        .filter(|sibling| !seen.covers(sibling.dot))
-        .count()
-}
-
-// Copies of siblings.
-fn copies_of(alloc: Global, siblings: &[Sibling]) -> Result<Vec<Sibling>, AllocError>
-    ensures { IfOk result (λ copies. copies.items ≡ siblings.now) }
-{
-    let mut copies = Vec::with_capacity(alloc, siblings.len())?;
-    for sibling in siblings {
-        copies.push(sibling.copy()?)?;
-    }
-    Ok(copies)
-}
+ghost use Rattle.std.specs.Arc.{arc_value};
 
 // Whether two clocks' entries are the same.
 pub(crate) fn have_same_entries(entries: &[Dot], others: &[Dot]) -> bool

@@ -1,5 +1,5 @@
 -- One vnode more of a put's ways.
-use Rattle.std.proofs.Common.{◌≡◌, ℕ, ◌+◌, ◌≤◌, ◌<◌, List, [], ◌∷◌, ◌++◌, length, get_or, refl, ap, sym, subst, arith, Result, Ok, Err, count_by, is_ok, cond, Bool, true, false, MatchBool}
+use Rattle.std.proofs.Common.{◌≡◌, ℕ, ◌+◌, ◌<◌, List, [], ◌∷◌, ◌++◌, length, get_or, refl, ap, sym, subst, arith, Result, Ok, Err, count_by, is_ok, cond, Bool, true, false, MatchBool}
 use Rattle.std.proofs.lemmas.List.Sums.{sum_by-append}
 use Rattle.dvv.specs.declared.Dot.{Dot}
 use Rattle.quorum.specs.declared.fault.QuorumFault.{QuorumFault}

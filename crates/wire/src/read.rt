@@ -223,7 +223,7 @@ fn state_at(alloc: Global, bytes: &[u8]) -> Result<(KeyState, &[u8]), WireFault>
 {
     let (clock, rest) = clock_at(alloc, bytes)?;
     let (siblings, rest) = siblings_at(alloc, &clock, rest)?;
-    Ok((KeyState::from_parts(clock, siblings), rest))
+    Ok((KeyState::from_parts(clock, siblings)?, rest))
 }
 
 /// Whose state it is, the place at which it was read, and the state.

@@ -9,7 +9,7 @@ use std::test::Fail;
 fn of_parts(alloc: Global) -> Result<KeyState, ClockFault> {
     let mut clock = Clock::new(alloc);
     clock.push(Dot { vnode: 3, n: 2 })?;
-    Ok(KeyState::from_parts(clock, Vec::new(alloc)))
+    Ok(KeyState::from_parts(clock, Vec::new(alloc))?)
 }
 
 /// Whether a copy of a state is the same.

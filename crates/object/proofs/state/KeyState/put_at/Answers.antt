@@ -1,17 +1,17 @@
-use Rattle.std.proofs.Common.{◌≡◌, ◌∙◌, ap, sym}
-use Rattle.object.specs.State.{State, next}
+use Rattle.std.proofs.Common.{List, ◌∙◌, subst}
+use Rattle.dvv.specs.declared.Dot.{Dot}
+use Rattle.dvv.specs.Clock.{AddsEvent}
+use Rattle.object.specs.declared.content.Sibling.{Sibling}
+use Rattle.object.specs.Placing.{ReplacesSeen}
 use Rattle.object.proofs.Siblings.{absent_uncovered, next_uncovered, puts_state}
 use Rattle.object.proofs.state.KeyState.put_at.Goals as goal
 
-pub replace_seen-requires-clause-absent : goal.replace_seen-requires-clause-absent
-replace_seen-requires-clause-absent c =
-    let dot : c.args.dot ≡ next (record { siblings = c.self.inside.siblings.items; clock = c.self.inside.clock }) c.args.dot.vnode = c.requires.next ∙ ap (λ (s : State). next s c.args.dot.vnode) (sym c.self.view_is) in
-    rw c.in_ok-make_room.ensures.items (absent_uncovered c.self.inside.clock c.self.inside.siblings.items c.args.dot c.self.invariant.covered (next_uncovered c.self.inside.clock c.args.dot.vnode c.args.dot dot))
+pub replacing_seen-requires-clause-absent : goal.replacing_seen-requires-clause-absent
+replacing_seen-requires-clause-absent c = rw c.siblings.ensures.all (absent_uncovered c.args.self.now.clock c.args.self.now.siblings c.args.dot c.siblings.ensures.state.covered (next_uncovered c.args.self.now.clock c.args.dot.vnode c.args.dot c.requires.next))
 
-pub invariant_of-self-2 : goal.invariant_of-self-2
-invariant_of-self-2 c =
-    let replaced = rw c.in_ok-make_room.ensures.items at c.replace_seen.ensures.replaced in
-    puts_state (record { siblings = c.self.inside.siblings.items; clock = c.self.inside.clock }) c.replace_seen.new.siblings.items c.add.new.self c.args.seen.now _ c.self.invariant replaced c.in-Ok.ensures.adds c.in-Ok.ensures.clock
-
-pub returns-clause-state : goal.returns-clause-state
-returns-clause-state c = invariant_of-self-2 c
+pub from_parts-requires-clause-covered : goal.from_parts-requires-clause-covered
+from_parts-requires-clause-covered c =
+    let s : Sibling = record { dot = c.args.dot; content = c.args.content } in
+    let replaced : ReplacesSeen c.args.self.now.siblings c.in_ok-siblings.siblings.items c.args.seen.now s = subst (λ (xs : List Sibling). ReplacesSeen xs c.in_ok-siblings.siblings.items c.args.seen.now s) c.siblings.ensures.all c.in_ok-siblings.ensures in
+    let adds : AddsEvent c.args.self.now.clock c.add.new.self c.args.dot = subst (λ (l : List Dot). AddsEvent l c.add.new.self c.args.dot) (c.in_ok-clock.ensures.same ∙ c.clock.ensures) c.in-Ok.ensures.adds in
+    (puts_state c.args.self.now c.in_ok-siblings.siblings.items c.add.new.self c.args.seen.now s c.siblings.ensures.state replaced adds c.in-Ok.ensures.clock).covered
