@@ -6,7 +6,7 @@ ghost use Rattle.stamps.specs.declared.view.Told.{Told};
 ghost use Rattle.stamps.specs.Rule.{newcomer, times, call_of};
 ghost use Rattle.vnode_locks.specs.Gathers.{IsGathered, AreCounted, Stands, Differ, journal_stamps};
 ghost use Rattle.vnode_locks.specs.GatherFaults.{IsGatherFault};
-ghost use Rattle.vnode_locks.specs.Calls.{pass_view, IsNews, IsFault, IsHandedOut, AreKeysOf, outcome_ok};
+ghost use Rattle.vnode_locks.specs.Calls.{pass_view, IsNews, IsFault, IsHandedOut, AreKeysOf, AreUnsortedOf, outcome_ok};
 
 use calls::{Prepared, Reply, Request};
 use journal::{Entry, Handout};
@@ -15,7 +15,7 @@ use stamps::{Card, STAMPS_EACH, Stamps};
 use std::alloc::{AllocError, Global};
 use std::marker::{Model, PhantomData};
 use std::sync::{Mutex, Wait};
-use vnode::{Seed, Vnode, VnodeFault};
+use vnode::{Seed, Vnode, VnodeFault, in_order};
 use vnode_locks::{
     CallFault, GatherFault, Locked, Pass, Receipt, Room, deal_passes, deal_vnodes, gathered,
 };
@@ -118,8 +118,23 @@ impl<B: Room> Cluster<B> {
         ensures same { (pass.new.told ≡ pass.old.told) × (pass.new.drawn ≡ pass.old.drawn) }
         ensures ok { IfOk result (λ keys. AreKeysOf self.now pass.old vnode keys.items) }
     {
+        let unsorted = self.unsorted_keys(rt, pass, vnode)?;
+        Ok(in_order(unsorted))
+    }
+
+    // The same in any order. Others that call the vnode wait no longer than it takes to copy them.
+    fn unsorted_keys<R: Wait>(
+        &self,
+        rt: &R,
+        pass: &mut Pass<B>,
+        vnode: usize,
+    ) -> Result<Vec<Key>, AllocError>
+        requires { vnode < self.now.vnodes }
+        ensures same { (pass.new.told ≡ pass.old.told) × (pass.new.drawn ≡ pass.old.drawn) }
+        ensures ok { IfOk result (λ keys. AreUnsortedOf self.now pass.old vnode keys.items) }
+    {
         let mut guard = self.vnodes[vnode].lock(rt);
-        guard.keys(&self.stamps, pass, self.first + vnode as u32)
+        guard.unsorted_keys(&self.stamps, pass, self.first + vnode as u32)
     }
 }
 

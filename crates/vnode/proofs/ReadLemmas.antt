@@ -3,18 +3,23 @@ use Rattle.std.proofs.Common.{◌≡◌, ℕ, ◌+◌, ◌<◌, ◌≤◌, Bool,
 use Rattle.std.specs.Prelude.{filter, not, ◌==◌}
 use Rattle.std.specs.List.{All}
 use Rattle.std.specs.HashMap.{IsUnique}
+use Rattle.std.specs.List.Sorted.{IsPermutation, IsSorted}
 use Rattle.std.proofs.lemmas.List.{append-nil, take_more, length-map, length-take-le, map-append}
 use Rattle.std.proofs.lemmas.List.Elements.{All-weaker}
 use Rattle.std.proofs.lemmas.List.Sorted.{IsPermutation-sym, Contains-permutation, length_permutation}
+use Rattle.std.proofs.lemmas.Map.Keys.{IsDistinct-IsPermutation}
 use Rattle.object.specs.declared.content.Key.{Key}
 use Rattle.object.specs.State.{State}
 use Rattle.journal.specs.Entry.{Entry, Read}
+use Rattle.journal.specs.Keys.{key_cmp}
 use Rattle.journal.specs.Logs.{Log, with_entry, with_entries, max_entries}
 use Rattle.journal.specs.Replay.{IsReplay}
 use Rattle.vnode.specs.declared.steps.Copied.{Copied}
-use Rattle.vnode.specs.Keys.{AreKeys, reads_of}
+use Rattle.vnode.specs.Keys.{AreKeys, AreUnsorted, reads_of}
 use Rattle.vnode.specs.States.{States, key_eq, state_at, Replays, known_keys, AreKnown, AreCopied, keys_of}
-use Rattle.vnode.proofs.Listed.{known_is_key, key_is_known}
+use Rattle.vnode.proofs.Listed.{known_is_key, key_is_known, known_distinct}
+use Rattle.vnode.proofs.Mapped.{key_laws}
+use Rattle.vnode.proofs.Sorted.{sorted_rises}
 use Rattle.vnode.proofs.Stepped.{read_kept}
 
 -- the known keys are the keys of the vnode
@@ -25,6 +30,23 @@ are_keys states log keys unique h known = record {
     λ key. Contains-permutation (known_keys states.entries) keys k known.each (key_is_known states log k unique h key),
   );
   rising = known.rising;
+}
+
+-- as they lie in a map they are so, too, in some order
+pub are_unsorted : (states : States) (log : Log) (keys : List Key) → IsUnique key_eq states → Replays states log → keys ≡ known_keys states.entries → AreUnsorted log keys
+are_unsorted states log keys unique h is = subst (AreUnsorted log) (sym is) (record {
+  each = λ k. (known_is_key states log k unique h, key_is_known states log k unique h);
+  once = known_distinct states unique;
+})
+
+-- and once they are sorted they stand in the order of bytes
+pub sorted_unsorted : (log : Log) (keys sorted : List Key) → AreUnsorted log keys → IsPermutation keys sorted → IsSorted key_cmp sorted → AreKeys log sorted
+sorted_unsorted log keys sorted are moves sorts = record {
+  each = λ k. (
+    λ listed. (are.each k).0 (Contains-permutation sorted keys k (IsPermutation-sym keys sorted moves) listed),
+    λ key. Contains-permutation keys sorted k moves ((are.each k).1 key),
+  );
+  rising = sorted_rises sorted (IsDistinct-IsPermutation key_eq key_laws.symm keys sorted moves are.once) sorts;
 }
 
 -- and each copy has the state that the journal leaves

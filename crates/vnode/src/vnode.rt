@@ -6,8 +6,8 @@ use crate::fault::{PartFault, VnodeFault};
 use crate::parts::{make_whole, merged_part_of, part_refusal_at, summary_at};
 use crate::seed::{Seed, States};
 use crate::steps::{
-    Copied, copies_at, has_places_for, keys_in, merge_at, merge_refusal_at, merged_of, put_at,
-    put_refusal_at, read_all_at, write_of,
+    Copied, copies_at, has_places_for, keys_in, known_in, merge_at, merge_refusal_at, merged_of,
+    put_at, put_refusal_at, read_all_at, write_of,
 };
 use dvv::{Clock, Dot};
 use journal::{Entry, Handout, Journal, Merged, Write};
@@ -49,7 +49,7 @@ impl Vnode {
     ghost use Rattle.vnode.specs.declared.fault.PartFault.{PartFault};
     ghost use Rattle.vnode.specs.declared.fault.VnodeFault.{VnodeFault};
     ghost use Rattle.journal.specs.Blocks.{AreHandedOut};
-    ghost use Rattle.vnode.specs.Keys.{AreKeys, reads_of};
+    ghost use Rattle.vnode.specs.Keys.{AreKeys, AreUnsorted, reads_of};
     ghost use Rattle.vnode.specs.States.{keys_of};
     ghost use Rattle.vnode.specs.Refusals.{RefusesPut, RefusesMerge, RefusesEntry};
     ghost use Rattle.vnode.specs.Parts.{RefusesPart};
@@ -87,6 +87,13 @@ impl Vnode {
         ensures leaves { (key : Key) → (state : State) × IsReplay self.now.entries key state }
     {
         &self.journal
+    }
+
+    /// The keys at which something is known, in any order: [`in_order`] sorts them, where nobody waits for the vnode.
+    pub fn unsorted_keys(&self) -> Result<Vec<Key>, AllocError>
+        ensures { IfOk result (λ keys. AreUnsorted self.now keys.items) }
+    {
+        known_in(self.alloc, &self.states)
     }
 
     /// The keys at which something is known, in the order of bytes.

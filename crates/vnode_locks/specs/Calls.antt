@@ -6,7 +6,7 @@ use Rattle.journal.specs.Entry.{Entry}
 use Rattle.std.specs.Global.{Vec}
 use Rattle.journal.specs.Journals.{IsJournal}
 use Rattle.object.specs.declared.content.Key.{Key}
-use Rattle.vnode.specs.Keys.{AreKeys}
+use Rattle.vnode.specs.Keys.{AreKeys, AreUnsorted}
 use Rattle.vnode.specs.declared.fault.PartFault.{PartFault}
 use Rattle.vnode.specs.declared.fault.PartFault.TheVariants as part
 use Rattle.calls.specs.declared.request.Reply.{Reply}
@@ -63,6 +63,10 @@ IsHandedOut old new vnode first blocks =
 -- the keys after some front of a journal of the vnode, which has all that the pass was told of it
 abbrev pub AreKeysOf : Size → View → ℕ → List Key → Type 0
 AreKeysOf size old i keys = (i < size.vnodes) × ((front : List Entry) × IsJournal (size.first + i) front × AreKeys (log_of (size.first + i) front) keys × IsWithin (size.first + i) (length front) old.told)
+
+-- the same in any order
+abbrev pub AreUnsortedOf : Size → View → ℕ → List Key → Type 0
+AreUnsortedOf size old i keys = (i < size.vnodes) × ((front : List Entry) × IsJournal (size.first + i) front × AreUnsorted (log_of (size.first + i) front) keys × IsWithin (size.first + i) (length front) old.told)
 
 -- a card from which passes and vnodes are still to be dealt
 abbrev pub undealt : ℕ → List History → View

@@ -6,7 +6,7 @@ ghost use Rattle.std.specs.Prelude.{List};
 ghost use Rattle.journal.specs.Blocks.{AreHandedOut, all_of};
 ghost use Rattle.journal.specs.Entry.{Entry as Entered};
 ghost use Rattle.journal.specs.Journals.{IsJournal};
-ghost use Rattle.vnode.specs.Keys.{AreKeys};
+ghost use Rattle.vnode.specs.Keys.{AreUnsorted};
 ghost use Rattle.calls.specs.Answered.{asked};
 ghost use Rattle.vnode_locks.specs.Answers.{IsVnodes, wants_memory, lacks_memory, log_of};
 ghost use Rattle.vnode_locks.specs.Calls.{pass_view, told_then, IsTold, IsNews, IsFault, IsHandedOut, outcome_ok};
@@ -165,7 +165,7 @@ impl<B: Room> Locked<B> {
     }
 }
 
-// The keys of the vnode, and that all that the pass was told of it lies within its journal.
+// The keys of the vnode, in any order, and that all that the pass was told of it lies within its journal.
 fn look(
     stamps: &Stamps,
     vnode: &Vnode,
@@ -179,12 +179,12 @@ fn look(
     ensures vnode { IsVnodes vnode.now card.new.me.0 }
     ensures pass { pass.new.me ≡ (pass_view pass.old.me.0.drawn pass.old.me.0.told, pass.old.me.1) }
     ensures within { IsWithin vnode.now.vnode (length vnode.now.entries) pass.old.me.0.told }
-    ensures keys { IfOk result (λ keys. AreKeys vnode.now keys.items) }
+    ensures keys { IfOk result (λ keys. AreUnsorted vnode.now keys.items) }
 {
     lend(stamps, card, pass);
     stamps.look(card);
     give_back(stamps, card, pass);
-    vnode.keys()
+    vnode.unsorted_keys()
 }
 
 // Tells the pass what the vnode's journal has handed out, and answers the stamp of it.
@@ -214,8 +214,8 @@ fn tell_hand_out(
 }
 
 impl<B: Room> Locked<B> {
-    /// The keys of this vnode, which has this identifier.
-    pub fn keys(
+    /// The keys of this vnode, which has this identifier, in any order.
+    pub fn unsorted_keys(
         &mut self,
         stamps: &Stamps,
         pass: &mut Pass<B>,
@@ -223,7 +223,7 @@ impl<B: Room> Locked<B> {
     ) -> Result<Vec<Key>, AllocError>
         requires { stamps.now.table.shared.table_id ≡ B.table }
         ensures same { (pass.new.told ≡ pass.old.told) × (pass.new.drawn ≡ pass.old.drawn) }
-        ensures ok { IfOk result (λ keys. (front : List Entered) × IsJournal id front × AreKeys (log_of id front) keys.items × IsWithin id (length front) pass.old.told) }
+        ensures ok { IfOk result (λ keys. (front : List Entered) × IsJournal id front × AreUnsorted (log_of id front) keys.items × IsWithin id (length front) pass.old.told) }
     {
         let Locked { vnode, card, .. } = self;
         // As in `make`.

@@ -3,7 +3,7 @@ use Rattle.std.proofs.lemmas.Bool.Decides.{nat_tests}
 use Rattle.stamps.specs.Rule.{IsWithin}
 use Rattle.stamps.specs.declared.view.View.{View}
 use Rattle.vnode_locks.proofs.Calls.{keys_ok}
-use Rattle.vnode_locks.proofs.locked.Locked.keys.Goals as goal
+use Rattle.vnode_locks.proofs.locked.Locked.unsorted_keys.Goals as goal
 
 pub returns-clause-ok : goal.returns-clause-ok
 returns-clause-ok g c =
