@@ -1,5 +1,5 @@
 -- Instructions, kinds and explanations as text (this store's profile).
-use Rattle.std.specs.Prelude.{ℕ, ◌*◌, ◌==◌, ℤ, pos, negsuc, ◌+ℤ◌, int_lt, if◌then◌else◌, List, [], ◌∷◌, ◌++◌, flat_map, codes, decimal}
+use Rattle.std.specs.Prelude.{ℕ, ◌*◌, ◌==◌, ℤ, pos, negsuc, ◌+ℤ◌, int_lt, if◌then◌else◌, Option, None, Some, List, [], ◌∷◌, ◌++◌, flat_map, codes, decimal}
 use Rattle.std.specs.Fmt.{signed_decimal}
 use Rattle.alu.specs.declared.Op.{Op}
 use Rattle.alu.specs.declared.Op.TheVariants as op
@@ -25,7 +25,8 @@ use Rattle.insn.specs.declared.Insn.TheVariants as insn
 use Rattle.memory.specs.declared.Region.{Region}
 use Rattle.memory.specs.declared.Region.TheVariants.{Stack, Input, Output}
 use Rattle.ranges.specs.declared.kind.Kind.{Kind}
-use Rattle.ranges.specs.declared.kind.Kind.TheVariants.{Unset, Dead, Num, Ptr}
+use Rattle.ranges.specs.declared.kind.Kind.TheVariants.{Unset, Dead, Num, Ptr, Halves}
+use Rattle.ranges.specs.declared.word.Word.{Word}
 use Rattle.admission.specs.Admissions.{rule_text}
 use Rattle.verifier.specs.Numbers.{rule_number}
 use Rattle.verifier.specs.declared.rule.Refused.{Refused}
@@ -153,12 +154,18 @@ region_text Output = codes "output"
 abbrev pub window_text : Region → List ℕ
 window_text region = codes "pointer to " ++ region_text region ++ codes " at "
 
--- a number by its range, a pointer by its region and its offsets from there
+-- a half of a cell
+abbrev pub word_text : Option Word → List ℕ
+word_text None = codes "nothing known"
+word_text (Some w) = codes "number " ++ numbers_text w.lo w.hi
+
+-- a number by its range, a pointer by its region and its offsets from there, a cell of two words by its halves
 abbrev pub kind_text : Kind → List ℕ
 kind_text Unset = codes "nothing known"
 kind_text Dead = codes "no value"
 kind_text (Num a) = codes "number " ++ numbers_text a.range.lo a.range.hi
 kind_text (Ptr region lo hi) = window_text region ++ offsets_text lo hi
+kind_text (Halves low high) = codes "low half " ++ word_text low ++ codes ", high half " ++ word_text high
 
 -- a register by its number, a cell by the offset of its first byte from the stack's end
 abbrev pub place_text : Place → List ℕ

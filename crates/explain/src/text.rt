@@ -1,7 +1,7 @@
 //! Explanations as text.
 
 ghost use Rattle.std.specs.Prelude.{◌≡◌, ◌++◌, IfOk, OnOk, flat_map, string_bytes};
-ghost use Rattle.explain.specs.Texts.{numbers_text, offsets_text, region_text, window_text, kind_text, place_text, fact_text, answer_text, broken_text, explanation_text};
+ghost use Rattle.explain.specs.Texts.{numbers_text, offsets_text, region_text, window_text, word_text, kind_text, place_text, fact_text, answer_text, broken_text, explanation_text};
 
 use crate::answer::Answer;
 use crate::explanation::Explanation;
@@ -11,7 +11,7 @@ use crate::rules::rule_words;
 use admission::Refusal;
 use insn::Insn;
 use memory::Region;
-use ranges::Kind;
+use ranges::{Kind, Word};
 use std::alloc::{AllocError, Global};
 use verifier::Refused;
 
@@ -56,6 +56,19 @@ fn print_window(region: Region, text: &mut String) -> Result<(), AllocError>
     write!(text, "pointer to {name} at ")
 }
 
+/// Adds what is known of a half of a cell.
+fn print_word(word: Option<Word>, text: &mut String) -> Result<(), AllocError>
+    ensures { OnOk result (string_bytes text.new ≡ string_bytes text.old ++ word_text word) }
+{
+    match word {
+        Some(word) => {
+            text.push_str("number ")?;
+            print_numbers(u64::from(word.lo), u64::from(word.hi), text)
+        }
+        None => text.push_str("nothing known"),
+    }
+}
+
 /// Adds what is known of a place.
 fn print_kind(kind: Kind, text: &mut String) -> Result<(), AllocError>
     ensures { OnOk result (string_bytes text.new ≡ string_bytes text.old ++ kind_text kind) }
@@ -70,6 +83,12 @@ fn print_kind(kind: Kind, text: &mut String) -> Result<(), AllocError>
         Kind::Ptr { region, lo, hi } => {
             print_window(region, text)?;
             print_offsets(lo, hi, text)
+        }
+        Kind::Halves { low, high } => {
+            text.push_str("low half ")?;
+            print_word(low, text)?;
+            text.push_str(", high half ")?;
+            print_word(high, text)
         }
     }
 }

@@ -4,11 +4,13 @@ use Rattle.std.proofs.lemmas.Int.{ints, clamps}
 use Rattle.memory.specs.declared.Region.TheVariants.{Stack, Input, Output}
 use Rattle.memory.specs.declared.profile.Profile.{Profile}
 use Rattle.ranges.specs.declared.kind.Kind.{Kind}
-use Rattle.ranges.specs.declared.kind.Kind.TheVariants.{Dead, Num, Ptr}
+use Rattle.ranges.specs.declared.kind.Kind.TheVariants.{Dead, Num, Ptr, Halves}
 use Rattle.ranges.specs.Kinds.{Admits, IsKind}
 use Rattle.ranges.specs.Transfer.{join_of}
 use Rattle.ranges.proofs.Rows.{joined_left, joined_right, joined_is_number}
+use Rattle.ranges.specs.Words.{low_word, high_word}
 use Rattle.ranges.proofs.Operations.{left_sound, left_is_kind}
+use Rattle.ranges.proofs.Words.{low_admits, high_admits, low_is_word, high_is_word, words_left, words_right, words_are}
 
 module _ (profile : Profile) where
   pub join_left : (a b : Kind) (v : Option ℕ) → IsKind a → IsKind b → Admits a v → Admits (join_of profile a b) v
@@ -20,6 +22,12 @@ module _ (profile : Profile) where
   join_left (Ptr Stack al ah) (Ptr Stack bl bh) (Some n) ka kb h = (omega (arith, ints, clamps), omega (arith, ints, clamps))
   join_left (Ptr Input al ah) (Ptr Input bl bh) (Some n) ka kb h = (omega (arith, ints, clamps), omega (arith, ints, clamps))
   join_left (Ptr Output al ah) (Ptr Output bl bh) (Some n) ka kb h = (omega (arith, ints, clamps), omega (arith, ints, clamps))
+  join_left (Halves low high) (Halves l h) None ka kb a = absurd a
+  join_left (Halves low high) (Halves l h) (Some n) ka kb a = (words_left low l _ a.0, words_left high h _ a.1)
+  join_left (Halves low high) (Num b) None ka kb a = absurd a
+  join_left (Halves low high) (Num b) (Some n) ka kb a = (words_left low (low_word (Num b)) _ a.0, words_left high (high_word (Num b)) _ a.1)
+  join_left (Num b) (Halves l h) None ka kb a = absurd a
+  join_left (Num b) (Halves l h) (Some n) ka kb a = (words_left (low_word (Num b)) l _ (low_admits (Num b) n a), words_left (high_word (Num b)) h _ (high_admits (Num b) n a))
   join_left a b v ka kb h = tt
 
   pub join_right : (a b : Kind) (v : Option ℕ) → IsKind a → IsKind b → Admits b v → Admits (join_of profile a b) v
@@ -31,6 +39,12 @@ module _ (profile : Profile) where
   join_right (Ptr Stack al ah) (Ptr Stack bl bh) (Some n) ka kb h = (omega (arith, ints, clamps), omega (arith, ints, clamps))
   join_right (Ptr Input al ah) (Ptr Input bl bh) (Some n) ka kb h = (omega (arith, ints, clamps), omega (arith, ints, clamps))
   join_right (Ptr Output al ah) (Ptr Output bl bh) (Some n) ka kb h = (omega (arith, ints, clamps), omega (arith, ints, clamps))
+  join_right (Halves low high) (Halves l h) None ka kb a = absurd a
+  join_right (Halves low high) (Halves l h) (Some n) ka kb a = (words_right low l _ a.0, words_right high h _ a.1)
+  join_right (Halves low high) (Num b) None ka kb a = absurd a
+  join_right (Halves low high) (Num b) (Some n) ka kb a = (words_right low (low_word (Num b)) _ (low_admits (Num b) n a), words_right high (high_word (Num b)) _ (high_admits (Num b) n a))
+  join_right (Num b) (Halves l h) None ka kb a = absurd a
+  join_right (Num b) (Halves l h) (Some n) ka kb a = (words_right (low_word (Num b)) l _ a.0, words_right (high_word (Num b)) h _ a.1)
   join_right a b v ka kb h = tt
 
 pub join_kind : (profile : Profile) (a b : Kind) → IsKind a → IsKind b → IsKind (join_of profile a b)
@@ -40,4 +54,7 @@ join_kind profile (Num a) (Num b) ka kb = left_is_kind _ (joined_is_number profi
 join_kind profile (Ptr Stack al ah) (Ptr Stack bl bh) ka kb = (omega (arith, ints, clamps), omega (arith, ints, clamps), omega (arith, ints, clamps))
 join_kind profile (Ptr Input al ah) (Ptr Input bl bh) ka kb = (omega (arith, ints, clamps), omega (arith, ints, clamps), omega (arith, ints, clamps))
 join_kind profile (Ptr Output al ah) (Ptr Output bl bh) ka kb = (omega (arith, ints, clamps), omega (arith, ints, clamps), omega (arith, ints, clamps))
+join_kind profile (Halves low high) (Halves l h) ka kb = (words_are low l ka.0 kb.0, words_are high h ka.1 kb.1)
+join_kind profile (Halves low high) (Num b) ka kb = (words_are low (low_word (Num b)) ka.0 (low_is_word (Num b) kb), words_are high (high_word (Num b)) ka.1 (high_is_word (Num b) kb))
+join_kind profile (Num a) (Halves l h) ka kb = (words_are (low_word (Num a)) l (low_is_word (Num a) ka) kb.0, words_are (high_word (Num a)) h (high_is_word (Num a) ka) kb.1)
 join_kind profile a b ka kb = tt

@@ -7,4 +7,5 @@ pub mod Halves
 pub mod Comparisons
 pub mod Pointers
 pub mod Operations
+pub mod Words
 pub mod Joins

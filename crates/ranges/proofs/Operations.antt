@@ -14,7 +14,7 @@ use Rattle.memory.specs.declared.profile.Profile.{Profile}
 use Rattle.memory.specs.declared.profile.Profile.TheVariants.{First, Second}
 use Rattle.ranges.specs.declared.number.Number.{Number}
 use Rattle.ranges.specs.declared.kind.Kind.{Kind}
-use Rattle.ranges.specs.declared.kind.Kind.TheVariants.{Unset, Dead, Num, Ptr}
+use Rattle.ranges.specs.declared.kind.Kind.TheVariants.{Unset, Dead, Num, Ptr, Halves}
 use Rattle.ranges.specs.Numbers.{InRange, IsOf, IsNumber, reads_first, reads_second}
 use Rattle.ranges.specs.declared.range.Range.{Range}
 use Rattle.ranges.specs.KnownBits.{nothing}
@@ -44,6 +44,7 @@ left_of_sound (Ptr region lo hi) (Some a) n k h l = pointer_left_sound region lo
 left_of_sound (Num a) o n k h l = left_sound o n l
 left_of_sound Dead o n k h l = left_sound o n l
 left_of_sound Unset o n k h l = left_sound o n l
+left_of_sound (Halves low high) o n k h l = left_sound o n l
 
 pair_sound : (a b : Kind) (o : Option (Number × Number)) (x y : ℕ) → IsKind a → IsKind b → Admits a (Some x) → Admits b (Some y) → LeavesBoth x y o → Admits (kinds_left a b o).0 (Some x) × Admits (kinds_left a b o).1 (Some y)
 pair_sound a b None x y ka kb p q h = absurd h
@@ -52,12 +53,14 @@ pair_sound a b (Some r) x y ka kb p q h = (left_of_sound a (Some r.0) x ka p h.0
 -- the number that a kind is
 number_in_sound : (k : Kind) (n : ℕ) → IsKind k → Admits k (Some n) → IfSome (number_in k) (λ a. IsOf a n)
 number_in_sound Unset n ka h = tt
+number_in_sound (Halves low high) n ka h = tt
 number_in_sound Dead n ka h = tt
 number_in_sound (Num a) n ka h = h
 number_in_sound (Ptr region lo hi) n ka h = as_number_sound region lo hi n ka h
 
 number_in_is : (k : Kind) → IsKind k → IfSome (number_in k) IsNumber
 number_in_is Unset ka = tt
+number_in_is (Halves low high) ka = tt
 number_in_is Dead ka = tt
 number_in_is (Num a) ka = ka
 number_in_is (Ptr region lo hi) ka = as_number_is region lo hi ka
@@ -99,6 +102,7 @@ module _ (profile : Profile) where
   of_one_sound op w (Num a) x ka p = left_sound _ _ (numbers_sound profile op w a a x x ka ka p p)
   of_one_sound op w Dead x ka p = absurd p
   of_one_sound op w Unset x ka p = tt
+  of_one_sound op w (Halves low high) x ka p = tt
   of_one_sound op w (Ptr r lo hi) x ka p = tt
 
   pub transfer_sound : (op : Op) (w : Width) (a b : Kind) (x y : ℕ) → IsKind a → IsKind b → x < 2 ^ 64 → y < 2 ^ 64 → (reads_first op ≡ true → Admits a (Some x)) → (reads_second op ≡ true → Admits b (Some y)) → IfOk (transfer_of profile op w a b) (λ k. Admits k (Some (value op w x y)))
@@ -127,12 +131,14 @@ module _ (profile : Profile) where
   swap_sound kind n (Num a) x p = left_sound _ _ (swapped_number_sound profile kind n a x p)
   swap_sound kind n Dead x p = absurd p
   swap_sound kind n Unset x p = tt
+  swap_sound kind n (Halves low high) x p = tt
   swap_sound kind n (Ptr r lo hi) x p = tt
 
   pub swap_is_kind : (kind : SwapKind) (n : SwapBits) (a : Kind) → IfOk (swap_of profile kind n a) IsKind
   swap_is_kind kind n (Num a) = left_is_kind _ (swapped_is_number profile kind n a)
   swap_is_kind kind n Dead = tt
   swap_is_kind kind n Unset = tt
+  swap_is_kind kind n (Halves low high) = tt
   swap_is_kind kind n (Ptr r lo hi) = tt
 
   -- the kinds of a compared pair after a jump, taken or not, still admit the pair
@@ -150,6 +156,7 @@ left_of_is_kind (Ptr region lo hi) (Some a) h l = pointer_left_kind region lo hi
 left_of_is_kind (Num a) o h l = left_is_kind o l
 left_of_is_kind Dead o h l = left_is_kind o l
 left_of_is_kind Unset o h l = left_is_kind o l
+left_of_is_kind (Halves low high) o h l = left_is_kind o l
 
 pair_kinds : (a b : Kind) (o : Option (Number × Number)) → IsKind a → IsKind b → IfSome o AreNumbers → IsKind (kinds_left a b o).0 × IsKind (kinds_left a b o).1
 pair_kinds a b None ka kb h = (left_of_is_kind a None ka tt, left_of_is_kind b None kb tt)
@@ -183,12 +190,14 @@ module _ (profile : Profile) where
   one_kind op w (Num a) ka = left_is_kind _ (numbers_are_numbers profile op w a a ka ka)
   one_kind op w Dead ka = tt
   one_kind op w Unset ka = tt
+  one_kind op w (Halves low high) ka = tt
   one_kind op w (Ptr r lo hi) ka = tt
 
   two_kind : (op : Op) (w : Width) (a b : Kind) → IsKind a → IsKind b → IfOk (of_two profile op w a b) IsKind
   two_kind op w Dead b ka kb = after_kind b op w kb
   two_kind op w (Num a) Dead ka kb = tt
   two_kind op w Unset Dead ka kb = tt
+  two_kind op w (Halves low high) Dead ka kb = tt
   two_kind op w (Ptr region lo hi) Dead ka kb = before_kind (Ptr region lo hi) op w ka
   two_kind op w (Num a) (Num b) ka kb = left_is_kind _ (numbers_are_numbers profile op w a b ka kb)
   two_kind Add W64 (Ptr region lo hi) (Num b) ka kb = up_kind profile region lo hi (signed_range b.range.lo b.range.hi) ka.1 (signed_in_order _ _ kb.range.ordered)

@@ -92,7 +92,7 @@ as_plain : {n m : ℕ} (r : Range) → n ≡ m → InRange r m → InRange r n
 as_plain r e h = subst (InRange r) (sym e) h
 
 -- what k bits keep of a number between two others lies between what they keep of these, where no multiple of 2 ^ k is passed
-wrapped_sound : (k lo hi n : ℕ) → lo ≤ n → n ≤ hi → InRange (wrapped_range k lo hi) (n % 2 ^ k)
+pub wrapped_sound : (k lo hi n : ℕ) → lo ≤ n → n ≤ hi → InRange (wrapped_range k lo hi) (n % 2 ^ k)
 wrapped_sound k lo hi n p q =
     let m = 2 ^ k in
     let pos = pow_pos k in

@@ -11,7 +11,8 @@ use Rattle.ranges.specs.declared.range.Range.{Range}
 use Rattle.ranges.specs.declared.kind.Kind.{Kind}
 use Rattle.ranges.specs.Kinds.{Admits, IsKind}
 use Rattle.ranges.specs.Numbers.{InRange, reads_first, reads_second}
-use Rattle.ranges.specs.Transfer.{kind_in, transfer_of, swap_of, refine_of, join_of}
+use Rattle.ranges.specs.declared.kind.Part.{Part}
+use Rattle.ranges.specs.Transfer.{kind_in, transfer_of, swap_of, refine_of, join_of, part_of, with_part, part_value, value_with}
 
 -- A profile's table loses no value: what the kinds before admit, the kinds after admit.
 pub record IsSoundTable (profile : Profile) : Type 0 where
@@ -31,3 +32,8 @@ pub record IsSoundTable (profile : Profile) : Type 0 where
   pub join_left : (a b : Kind) (v : Option ℕ) → IsKind a → IsKind b → Admits a v → Admits (join_of profile a b) v
   pub join_right : (a b : Kind) (v : Option ℕ) → IsKind a → IsKind b → Admits b v → Admits (join_of profile a b) v
   pub join_kind : (a b : Kind) → IsKind a → IsKind b → IsKind (join_of profile a b)
+  -- of a part of a cell that is read, and of a cell of which a part is written
+  pub part : (part : Part) (k : Kind) (v : ℕ) → IsKind k → v < 2 ^ 64 → Admits k (Some v) → Admits (part_of profile part k) (Some (part_value part v))
+  pub part_kind : (part : Part) (k : Kind) → IsKind k → IsKind (part_of profile part k)
+  pub written : (part : Part) (k cell : Kind) (v old : ℕ) → IsKind k → IsKind cell → old < 2 ^ 64 → Admits k (Some v) → Admits cell (Some old) → Admits (with_part part k cell) (Some (value_with part v old))
+  pub written_kind : (part : Part) (k cell : Kind) → IsKind k → IsKind cell → IsKind (with_part part k cell)

@@ -1,5 +1,5 @@
 -- The two tables of kinds (this store's profiles): what an operation, a byte swap, a comparison and a join leave known.
-use Rattle.std.specs.Prelude.{ℕ, ℤ, pos, negsuc, unsigned_abs, Bool, true, false, Option, Some, None, Result, Ok, Err, ◌&&◌, ◌-◌, ◌^◌, ◌+ℤ◌, ◌-ℤ◌, int_le, nat_lt, nat_le, min, max, if◌then◌else◌}
+use Rattle.std.specs.Prelude.{ℕ, ℤ, pos, negsuc, unsigned_abs, Bool, true, false, Option, Some, None, Result, Ok, Err, ◌&&◌, ◌+◌, ◌*◌, ◌-◌, ◌/◌, ◌%◌, ◌^◌, ◌+ℤ◌, ◌-ℤ◌, int_le, nat_lt, nat_le, min, max, if◌then◌else◌}
 use Rattle.std.specs.Int.{int_min, int_max}
 use Rattle.alu.specs.declared.Width.{Width}
 use Rattle.alu.specs.declared.Width.TheVariants.{W32, W64}
@@ -15,11 +15,15 @@ use Rattle.memory.specs.declared.profile.Profile.TheVariants.{First, Second}
 use Rattle.ranges.specs.declared.range.Range.{Range}
 use Rattle.ranges.specs.declared.number.Number.{Number}
 use Rattle.ranges.specs.declared.kind.Kind.{Kind}
-use Rattle.ranges.specs.declared.kind.Kind.TheVariants.{Unset, Dead, Num, Ptr}
+use Rattle.ranges.specs.declared.kind.Kind.TheVariants.{Unset, Dead, Num, Ptr, Halves}
+use Rattle.ranges.specs.declared.kind.Part.{Part}
+use Rattle.ranges.specs.declared.kind.Part.TheVariants.{Whole, Low, High}
+use Rattle.ranges.specs.declared.word.Word.{Word}
 use Rattle.ranges.specs.declared.kind.Bad.{Bad}
 use Rattle.ranges.specs.declared.kind.Bad.TheVariants.{V22, V23}
 use Rattle.ranges.specs.KnownBits.{nothing}
 use Rattle.ranges.specs.Kinds.{origin}
+use Rattle.ranges.specs.Words.{low_word, high_word, joined_words}
 use Rattle.ranges.specs.Numbers.{range, number_of, settled, numbers, swapped_number, joined_numbers}
 use Rattle.ranges.specs.Comparisons.{compared}
 
@@ -170,10 +174,49 @@ abbrev pub joined_pointers : Region → ℤ → ℤ → Region → ℤ → ℤ �
 joined_pointers r al ah s bl bh = if same_region r s then Ptr r (int_min al bl) (int_max ah bh) else Unset
 
 -- The least range over both of two numbers with the bits that they share, or over two pointers into one region; of what is
--- Dead the other; of any other two nothing is known.
+-- Dead the other; word by word where one is known so, and the other is a number or known so too; of any other two nothing is known.
 abbrev pub join_of : Profile → Kind → Kind → Kind
 join_of profile Dead b = b
 join_of profile a Dead = a
 join_of profile (Num a) (Num b) = kind_of (joined_numbers profile a b)
 join_of profile (Ptr r al ah) (Ptr s bl bh) = joined_pointers r al ah s bl bh
+join_of profile (Halves low high) (Halves l h) = Halves (joined_words low l) (joined_words high h)
+join_of profile (Halves low high) (Num b) = Halves (joined_words low (low_word (Num b))) (joined_words high (high_word (Num b)))
+join_of profile (Num a) (Halves l h) = Halves (joined_words (low_word (Num a)) l) (joined_words (high_word (Num a)) h)
 join_of profile a b = Unset
+
+-- ---- parts of a cell
+
+-- a word that is read alone, with zeros above it
+abbrev pub word_kind : Profile → Option Word → Kind
+word_kind profile None = Unset
+word_kind profile (Some w) = kind_in profile (range w.lo w.hi)
+
+-- two words that are read as one number
+abbrev pub whole_kind : Profile → Option Word → Option Word → Kind
+whole_kind profile (Some l) (Some h) = kind_in profile (range (l.lo + 2 ^ 32 * h.lo) (l.hi + 2 ^ 32 * h.hi))
+whole_kind profile low high = Unset
+
+-- what is read of a cell: all of it, or one half
+abbrev pub part_of : Profile → Part → Kind → Kind
+part_of profile Whole (Halves low high) = whole_kind profile low high
+part_of profile Whole k = k
+part_of profile Low k = word_kind profile (low_word k)
+part_of profile High k = word_kind profile (high_word k)
+
+-- a cell of which a part was written with the low bytes of what a kind admits: its other half is as it was
+abbrev pub with_part : Part → Kind → Kind → Kind
+with_part Whole k cell = k
+with_part Low k cell = Halves (low_word k) (high_word cell)
+with_part High k cell = Halves (low_word cell) (low_word k)
+
+-- the number that is read of a cell's number, and the cell's after a number's low bytes were written to a part of it
+abbrev pub part_value : Part → ℕ → ℕ
+part_value Whole n = n
+part_value Low n = n % 2 ^ 32
+part_value High n = n / 2 ^ 32
+
+abbrev pub value_with : Part → ℕ → ℕ → ℕ
+value_with Whole n old = n
+value_with Low n old = n % 2 ^ 32 + 2 ^ 32 * (old / 2 ^ 32)
+value_with High n old = old % 2 ^ 32 + 2 ^ 32 * (n % 2 ^ 32)

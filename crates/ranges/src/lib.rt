@@ -13,12 +13,14 @@ mod operation;
 mod pointer;
 mod range;
 mod refinement;
+mod word;
 
 pub use bits::Bits;
-pub use kind::{Bad, Kind, join, kind_in};
+pub use kind::{Bad, Kind, Part, join, kind_in};
 pub use laws::kinds_are_sound;
 pub use memory::Profile;
 pub use number::Number;
 pub use operation::{transfer, transfer_swap};
 pub use range::Range;
 pub use refinement::refine;
+pub use word::Word;

@@ -14,7 +14,7 @@ use Rattle.memory.specs.Step.{AreBytes}
 use Rattle.memory.specs.declared.Region.{Region}
 use Rattle.memory.specs.declared.Region.TheVariants.{Input}
 use Rattle.ranges.specs.declared.kind.Kind.{Kind}
-use Rattle.ranges.specs.declared.kind.Kind.TheVariants.{Unset, Dead, Num, Ptr}
+use Rattle.ranges.specs.declared.kind.Kind.TheVariants.{Unset, Dead, Num, Ptr, Halves}
 use Rattle.memory.specs.declared.profile.Profile.{Profile}
 use Rattle.ranges.specs.Kinds.{Admits}
 use Rattle.ranges.specs.Numbers.{range, single}
@@ -69,6 +69,7 @@ in_range lo hi (Num b) n a t =
     let above = leb-true b.range.hi hi parts.1 in
     (omega (arith, a.within.0), omega (arith, a.within.1))
 in_range lo hi (Ptr q low high) n a t = cc
+in_range lo hi (Halves l h) n a t = cc
 
 -- ---- places
 
@@ -135,6 +136,13 @@ reaches_bytes p limit (Num b) (Ptr r lo hi) a n h l = refl
 reaches_bytes p limit (Ptr q low high) Unset a n h l = refl
 reaches_bytes p limit (Ptr q low high) (Num b) a n h l = refl
 reaches_bytes p limit (Ptr q low high) (Ptr r lo hi) a n h l = refl
+reaches_bytes p limit (Halves low high) Unset a n h l = refl
+reaches_bytes p limit (Halves low high) (Num b) a n h l = refl
+reaches_bytes p limit (Halves low high) (Ptr r lo hi) a n h l = refl
+reaches_bytes p limit (Halves low high) (Halves l' h') a n h l = refl
+reaches_bytes p limit Unset (Halves l' h') a n h l = refl
+reaches_bytes p limit (Num b) (Halves l' h') a n h l = refl
+reaches_bytes p limit (Ptr q lo hi) (Halves l' h') a n h l = refl
 
 never : false ≡ true → ⊥
 never e = cc
@@ -148,6 +156,7 @@ module _ (sound : (profile : Profile) → IsSoundTable profile) (p : Program) (r
   inside : (k : Kind) (a n size : ℕ) → Admits k (Some a) → a < 2 ^ 64 → n ≤ size → is_inside p k (pos 0) size ≡ true → (region : Region) × Covers s.memory region a n × (is_input_pointer k ≡ false → region ≢ Input)
   inside Unset a n size h w le t = cc
   inside Dead a n size h w le t = cc
+  inside (Halves l u) a n size h w le t = cc
   inside (Num b) a n size h w le t = cc
   inside (Ptr region lo hi) a n size h w le t =
       let c = place_in p s.memory region lo hi a (pos 0) size limits memory h t in
@@ -160,6 +169,7 @@ module _ (sound : (profile : Profile) → IsSoundTable profile) (p : Program) (r
   place : (limit : ℕ) (k len : Kind) (a n : ℕ) → Admits k (Some a) → a < 2 ^ 64 → Admits len (Some n) → reaches p limit k len ≡ true → (region : Region) × Covers s.memory region a n × (n ≤ limit) × (is_input_pointer k ≡ false → region ≢ Input)
   place limit k Dead a n h w l t = absurd l
   place limit k Unset a n h w l t = absurd (no_length p limit k a h t)
+  place limit k (Halves m u) a n h w l t = absurd (never (sym (reaches_bytes p limit k (Halves m u) a n h l) ∙ t))
   place limit k (Ptr q lo hi) a n h w l t = absurd (never (sym (reaches_bytes p limit k (Ptr q lo hi) a n h l) ∙ t))
   place limit k (Num c) a n h w l t =
       let hi = c.range.hi in
@@ -175,6 +185,7 @@ module _ (sound : (profile : Profile) → IsSoundTable profile) (p : Program) (r
   own_inside : (k : Kind) (a n size : ℕ) → Admits k (Some a) → a < 2 ^ 64 → n ≤ size → is_inside p k (pos 0) size ≡ true → Covers s.memory (region_of k) a n
   unfolding inside
   own_inside Unset a n size h w le t = cc
+  own_inside (Halves l u) a n size h w le t = cc
   own_inside Dead a n size h w le t = cc
   own_inside (Num b) a n size h w le t = cc
   own_inside (Ptr region lo hi) a n size h w le t = (inside (Ptr region lo hi) a n size h w le t).1
@@ -182,6 +193,7 @@ module _ (sound : (profile : Profile) → IsSoundTable profile) (p : Program) (r
   own_place : (limit : ℕ) (k len : Kind) (a n : ℕ) → Admits k (Some a) → a < 2 ^ 64 → Admits len (Some n) → reaches p limit k len ≡ true → Covers s.memory (region_of k) a n
   own_place limit k Dead a n h w l t = absurd l
   own_place limit k Unset a n h w l t = absurd (no_length p limit k a h t)
+  own_place limit k (Halves m u) a n h w l t = absurd (never (sym (reaches_bytes p limit k (Halves m u) a n h l) ∙ t))
   own_place limit k (Ptr q lo hi) a n h w l t = absurd (never (sym (reaches_bytes p limit k (Ptr q lo hi) a n h l) ∙ t))
   own_place limit k (Num c) a n h w l t =
       let hi = c.range.hi in
@@ -336,6 +348,7 @@ module _ (sound : (profile : Profile) → IsSoundTable profile) (p : Program) (r
   span_fits : (limit : ℕ) (k len : Kind) (a n : ℕ) (to : Region) (new : List ℕ) → Admits k (Some a) → a < 2 ^ 64 → Admits len (Some n) → reaches p limit k len ≡ true → Covers s.memory to a n → length new ≡ n → AreBytes new → FitsRow (row_touched p.profile (span_given limit k len) row) (values_of p.profile s.registers (written s.memory to (a - base to) new).stack)
   span_fits limit k Dead a n to new h w l t c e bytes = absurd l
   span_fits limit k Unset a n to new h w l t c e bytes = absurd (no_length p limit k a h t)
+  span_fits limit k (Halves m u) a n to new h w l t c e bytes = absurd (never (sym (reaches_bytes p limit k (Halves m u) a n h l) ∙ t))
   span_fits limit k (Ptr q lo hi) a n to new h w l t c e bytes = absurd (never (sym (reaches_bytes p limit k (Ptr q lo hi) a n h l) ∙ t))
   span_fits limit k (Num b) a n to new h w l t c e bytes =
       let hi = b.range.hi in

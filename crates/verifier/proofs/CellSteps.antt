@@ -1,27 +1,34 @@
 -- Reads and writes of the stack by a pointer: what the rules of cells leave fits what was read and written.
-use Rattle.std.proofs.Common.{◌≡◌, ◌≢◌, ℕ, ℤ, pos, negsuc, ◌+◌, ◌-◌, ◌*◌, ◌/◌, ◌%◌, ◌^◌, ◌<◌, ◌≤◌, true, ◌&&◌, eqb, List, length, take, drop, Some, None, refl, sym, ap, ◌∙◌, subst, inl, inr, ⊎_elim, arith}
-use Rattle.std.specs.Prelude.{◌≤ℤ◌, ◌+ℤ◌, int_le, nat_lt}
+use Rattle.std.proofs.Common.{◌≡◌, ◌≢◌, ℕ, ℤ, pos, negsuc, ◌+◌, ◌-◌, ◌*◌, ◌/◌, ◌%◌, ◌^◌, ◌<◌, ◌≤◌, true, ◌&&◌, eqb, List, length, take, drop, Option, Some, None, refl, sym, ap, ◌∙◌, subst, inl, inr, ⊎_elim, arith}
+use Rattle.std.specs.Prelude.{◌≤ℤ◌, ◌+ℤ◌, ◌-ℤ◌, int_le, nat_lt}
+use Rattle.std.specs.Option.{option_or}
 use Rattle.std.proofs.lemmas.Int.{ints}
 use Rattle.std.proofs.lemmas.Bool.{cond_both, and_parts, eqb-true}
 use Rattle.alu.specs.Value.{wrapped}
-use Rattle.memory.specs.Windows.{Memory, Covers, base, written, little_endian, read}
+use Rattle.memory.specs.Windows.{Memory, Covers, base, written, little_endian, low_bytes, overwritten, read}
 use Rattle.memory.specs.State.{State}
 use Rattle.memory.specs.Step.{AreBytes}
 use Rattle.memory.specs.declared.Region.{Region}
 use Rattle.memory.specs.declared.Region.TheVariants.{Stack, Input, Output}
 use Rattle.memory.specs.declared.profile.Profile.{Profile}
 use Rattle.ranges.specs.declared.kind.Kind.{Kind}
-use Rattle.ranges.specs.declared.kind.Kind.TheVariants.{Unset, Dead, Num, Ptr}
-use Rattle.ranges.specs.Kinds.{Admits, InRegion}
+use Rattle.ranges.specs.declared.kind.Kind.TheVariants.{Unset, Dead, Num, Ptr, Halves}
+use Rattle.ranges.specs.Kinds.{Admits, IsKind, InRegion}
+use Rattle.ranges.specs.declared.kind.Part.{Part}
+use Rattle.ranges.specs.declared.kind.Part.TheVariants.{Whole, Low, High}
+use Rattle.ranges.specs.Transfer.{part_of, with_part, value_with}
 use Rattle.ranges.specs.Laws.{IsSoundTable}
 use Rattle.verifier.specs.Program.{Program, HasLimits}
 use Rattle.verifier.specs.Registers.{Row, cell_count, IsLong, is_inside}
-use Rattle.verifier.specs.Cells.{span_of, cell_from, whole_cell, cell_kind, with_cell, row_touched}
+use Rattle.verifier.specs.Cells.{span_of, cell_from, in_cell, part_from, part_at, cell_kind, with_cell, row_touched}
+use Rattle.verifier.specs.declared.cell_part.CellPart.{CellPart}
 use Rattle.verifier.specs.declared.span.Span.{Span}
-use Rattle.verifier.proofs.Words.{wrapped_small}
+use Rattle.verifier.specs.Table.{AreKinds}
+use Rattle.verifier.proofs.Words.{wrapped_small, bytes_low, length_low}
 use Rattle.verifier.proofs.Fits.{FitsRow}
 use Rattle.verifier.proofs.Places.{IsMemory, int_le_true, natural, place_in, written_kept}
-use Rattle.verifier.proofs.StackCells.{values_of, values, few_cells, KeepsWords, keeps_words, overwritten_keeps, row_kept, whole_read, cell_kept, cell_fits}
+use Rattle.verifier.proofs.StackCells.{values_of, values, few_cells, KeepsWords, keeps_words, overwritten_keeps, row_kept, cell_kept, cell_fits}
+use Rattle.verifier.proofs.Parts.{part_size, part_offset, part_ends, read_part, written_part}
 
 -- ---- whole cells
 
@@ -48,28 +55,74 @@ from_is count (pos n) i = cond_both (eqb (n % 8) 0 && nat_lt n (8 * count)) (Som
     few n i count e f h = omega arith
 from_is count (negsuc n) i = λ e. cc
 
--- an access that reads or writes cell i as a whole
-pub record IsWhole (profile : Profile) (k : Kind) (offset : ℤ) (size i : ℕ) : Type 0 where
+-- an access that reads or writes a part of a cell
+pub record IsPart (profile : Profile) (k : Kind) (offset : ℤ) (size : ℕ) (c : CellPart) : Type 0 where
   pub lo : ℤ
   pub hi : ℤ
   pub is : k ≡ Ptr Stack lo hi
   pub one : hi ≤ℤ lo
-  pub eight : size ≡ 8
-  pub place : (lo +ℤ offset +ℤ pos 512) ≡ pos (8 * i)
-  pub within : i < cell_count profile
+  pub long : size ≡ part_size c.part
+  pub place : (lo +ℤ offset +ℤ pos 512) ≡ pos (8 * c.cell + part_offset c.part)
+  pub within : c.cell < cell_count profile
 
-pub whole_is : (profile : Profile) (k : Kind) (offset : ℤ) (size i : ℕ) → whole_cell profile k offset size ≡ Some i → IsWhole profile k offset size i
-whole_is profile Unset offset size i e = cc
-whole_is profile Dead offset size i e = cc
-whole_is profile (Num a) offset size i e = cc
-whole_is profile (Ptr Input lo hi) offset size i e = cc
-whole_is profile (Ptr Output lo hi) offset size i e = cc
-whole_is profile (Ptr Stack lo hi) offset size i e =
-    cond_both (int_le hi lo && eqb size 8) (cell_from (cell_count profile) (lo +ℤ offset +ℤ pos 512)) None (λ o. o ≡ Some i → IsWhole profile (Ptr Stack lo hi) offset size i)
+-- the cell of a part
+in_is : (part : Part) (o : Option ℕ) (c : CellPart) → in_cell part o ≡ Some c → (o ≡ Some c.cell) × (c.part ≡ part)
+in_is part None c e = cc
+in_is part (Some i) c e = let same = some_part (record { cell = i; part = part }) c e in (ap (λ (d : CellPart). Some d.cell) same, sym (ap (λ (d : CellPart). d.part) same))
+  where
+    some_part : (c d : CellPart) → Some c ≡ Some d → c ≡ d
+    some_part c d e = cc
+
+-- so many bytes from a place of the stack on are those of a part
+record IsFrom (count : ℕ) (z : ℤ) (size : ℕ) (c : CellPart) : Type 0 where
+  long : size ≡ part_size c.part
+  place : z ≡ pos (8 * c.cell + part_offset c.part)
+  within : c.cell < count
+
+whole_from : (count : ℕ) (z : ℤ) (c : CellPart) → in_cell Whole (cell_from count z) ≡ Some c → IsFrom count z 8 c
+whole_from count z c e =
+    let h = in_is Whole (cell_from count z) c e in
+    let f = from_is count z c.cell h.0 in
+    record { long = ap part_size (sym h.1); place = f.0 ∙ ap pos (omega arith) ∙ ap (λ q. pos (8 * c.cell + part_offset q)) (sym h.1); within = f.1 }
+
+low_from : (count : ℕ) (z : ℤ) (c : CellPart) → in_cell Low (cell_from count z) ≡ Some c → IsFrom count z 4 c
+low_from count z c e =
+    let h = in_is Low (cell_from count z) c e in
+    let f = from_is count z c.cell h.0 in
+    record { long = ap part_size (sym h.1); place = f.0 ∙ ap pos (omega arith) ∙ ap (λ q. pos (8 * c.cell + part_offset q)) (sym h.1); within = f.1 }
+
+high_from : (count : ℕ) (z : ℤ) (c : CellPart) → in_cell High (cell_from count (z -ℤ pos 4)) ≡ Some c → IsFrom count z 4 c
+high_from count z c e =
+    let h = in_is High (cell_from count (z -ℤ pos 4)) c e in
+    let f = from_is count (z -ℤ pos 4) c.cell h.0 in
+    let at : z ≡ pos (8 * c.cell + 4) = omega (arith, ints, f.0) in
+    record { long = ap part_size (sym h.1); place = at ∙ ap (λ q. pos (8 * c.cell + part_offset q)) (sym h.1); within = f.1 }
+
+half_from : (count : ℕ) (z : ℤ) (c : CellPart) (o : Option CellPart) → in_cell Low (cell_from count z) ≡ o → option_or o (in_cell High (cell_from count (z -ℤ pos 4))) ≡ Some c → IsFrom count z 4 c
+half_from count z c None f e = high_from count z c e
+half_from count z c (Some d) f e = low_from count z c (f ∙ e)
+
+part_from_is : (count : ℕ) (z : ℤ) (size : ℕ) (c : CellPart) → part_from count z size ≡ Some c → IsFrom count z size c
+part_from_is count z size c e =
+    cond_both (eqb size 8) _ _ (λ o. o ≡ Some c → IsFrom count z size c)
+    (λ t f. subst (λ n. IsFrom count z n c) (sym (eqb-true size 8 t)) (whole_from count z c f))
+    (λ _. cond_both (eqb size 4) _ _ (λ o. o ≡ Some c → IsFrom count z size c)
+    (λ t f. subst (λ n. IsFrom count z n c) (sym (eqb-true size 4 t)) (half_from count z c (in_cell Low (cell_from count z)) refl f))
+    (λ _ f. cc))
+    e
+
+pub part_is : (profile : Profile) (k : Kind) (offset : ℤ) (size : ℕ) (c : CellPart) → part_at profile k offset size ≡ Some c → IsPart profile k offset size c
+part_is profile Unset offset size c e = cc
+part_is profile Dead offset size c e = cc
+part_is profile (Num a) offset size c e = cc
+part_is profile (Halves l h) offset size c e = cc
+part_is profile (Ptr Input lo hi) offset size c e = cc
+part_is profile (Ptr Output lo hi) offset size c e = cc
+part_is profile (Ptr Stack lo hi) offset size c e =
+    cond_both (int_le hi lo) _ _ (λ o. o ≡ Some c → IsPart profile (Ptr Stack lo hi) offset size c)
     (λ t f.
-    let parts = and_parts (int_le hi lo) (eqb size 8) t in
-    let h = from_is (cell_count profile) (lo +ℤ offset +ℤ pos 512) i f in
-    record { lo = lo; hi = hi; is = refl; one = int_le_true hi lo parts.0; eight = eqb-true size 8 parts.1; place = h.0; within = h.1 })
+    let h = part_from_is (cell_count profile) (lo +ℤ offset +ℤ pos 512) size c f in
+    record { lo = lo; hi = hi; is = refl; one = int_le_true hi lo t; long = h.long; place = h.place; within = h.within })
     (λ t f. cc)
     e
 
@@ -117,6 +170,7 @@ module _ (sound : (profile : Profile) → IsSoundTable profile) (p : Program) (r
   touched_fits Unset n offset size region new a t c few bytes = cc
   touched_fits Dead n offset size region new a t c few bytes = absurd a
   touched_fits (Num b) n offset size region new a t c few bytes = cc
+  touched_fits (Halves l h) n offset size region new a t c few bytes = cc
   touched_fits (Ptr Stack lo hi) n offset size Stack new a t c few bytes =
       let is = stack_address p lo hi n offset size a t in
       let at = wrapped 64 (pos n +ℤ offset) in
@@ -136,40 +190,54 @@ module _ (sound : (profile : Profile) → IsSoundTable profile) (p : Program) (r
   touched_fits (Ptr Output lo hi) n offset size Stack new a t c few bytes =
       let e : Output ≡ Stack = one_region p s.memory Output Stack _ size _ limits memory (place_in p s.memory Output lo hi n offset size limits memory a t) c in cc
 
-  -- where an access to a whole cell stands
-  whole_place : (k : Kind) (n : ℕ) (offset : ℤ) (size i : ℕ) (region : Region) (l : ℕ) (w : IsWhole p.profile k offset size i) → Admits k (Some n) → is_inside p k offset size ≡ true → Covers s.memory region (wrapped 64 (pos n +ℤ offset)) l → (region ≡ Stack) × (wrapped 64 (pos n +ℤ offset) - base Stack ≡ 8 * i) × (base Stack ≤ wrapped 64 (pos n +ℤ offset))
-  whole_place k n offset size i region l w a t c =
+  -- where an access to a part of a cell stands
+  part_place : (k : Kind) (n : ℕ) (offset : ℤ) (size : ℕ) (c : CellPart) (region : Region) (l : ℕ) (w : IsPart p.profile k offset size c) → Admits k (Some n) → is_inside p k offset size ≡ true → Covers s.memory region (wrapped 64 (pos n +ℤ offset)) l → (region ≡ Stack) × (wrapped 64 (pos n +ℤ offset) - base Stack ≡ 8 * c.cell + part_offset c.part) × (base Stack ≤ wrapped 64 (pos n +ℤ offset))
+  part_place k n offset size c region l w a t covers =
       let a' : InRegion Stack w.lo w.hi n = subst (λ x. Admits x (Some n)) w.is a in
       let t' = subst (λ x. is_inside p x offset size ≡ true) w.is t in
       let c' = place_in p s.memory Stack w.lo w.hi n offset size limits memory a' t' in
-      let same = one_region p s.memory Stack region _ size l limits memory c' c in
+      let same = one_region p s.memory Stack region _ size l limits memory c' covers in
       let is = stack_address p w.lo w.hi n offset size a' t' in
       (sym same, omega (arith, ints, is, c'.0, a'.0, a'.1, w.one, w.place), c'.0)
 
-  -- a store into a whole cell
-  pub stored_fits : (k : Kind) (n : ℕ) (offset : ℤ) (size i : ℕ) (region : Region) (new : List ℕ) (kind : Kind) (v : ℕ) → whole_cell p.profile k offset size ≡ Some i → Admits k (Some n) → is_inside p k offset size ≡ true → Covers s.memory region (wrapped 64 (pos n +ℤ offset)) (length new) → length new ≡ size → AreBytes new → little_endian new ≡ v → Admits kind (Some v) → FitsRow (with_cell row i kind) (values_of p.profile s.registers (written s.memory region (wrapped 64 (pos n +ℤ offset) - base region) new).stack)
-  stored_fits k n offset size i region new kind v e a t c len bytes is admits =
-      let w = whole_is p.profile k offset size i e in
-      let h = whole_place k n offset size i region (length new) w a t c in
-      let at = wrapped 64 (pos n +ℤ offset) in
-      let c' : Covers s.memory Stack at (length new) = subst (λ r. Covers s.memory r at (length new)) h.0 c in
-      let span : Span = record { from = pos (8 * i); to = pos (8 * i + 8) } in
-      let size_is = w.eight in
-      let there = h.1 in
-      let keep = stack_keeps span at new c' bytes (omega (arith, ints, there)) (omega (arith, ints, there, len, size_is)) in
-      let all : 8 * i ≤ length s.memory.stack = omega (arith, memory.stack_length, few_cells p.profile, w.within) in
-      let reads : take 8 (drop (8 * i) (written s.memory Stack (at - base Stack) new).stack) ≡ new =
-      ap (λ m. take 8 (drop (8 * i) (written s.memory Stack m new).stack)) there ∙ whole_read s.memory.stack (8 * i) new all (len ∙ size_is) in
-      subst (λ r. FitsRow (with_cell row i kind) (values_of p.profile s.registers (written s.memory r (at - base r) new).stack)) (sym h.0)
-      (cell_kept p.profile (sound p.profile) span i kind v row s.registers s.memory.stack _ long refl refl w.within keep (ap little_endian reads ∙ is) admits fits)
+  -- a cell ends where the stack does, or before
+  cell_ends : (i : ℕ) → i < cell_count p.profile → 8 * i + 8 ≤ length s.memory.stack
+  cell_ends i h = omega (arith, memory.stack_length, few_cells p.profile, h)
 
-  -- a load of a whole cell
-  pub loaded_fits : (k : Kind) (n : ℕ) (offset : ℤ) (size i : ℕ) (region : Region) → whole_cell p.profile k offset size ≡ Some i → Admits k (Some n) → is_inside p k offset size ≡ true → Covers s.memory region (wrapped 64 (pos n +ℤ offset)) size → Admits (cell_kind row i) (Some (little_endian (read s.memory region (wrapped 64 (pos n +ℤ offset) - base region) size))) × (size ≡ 8)
-  loaded_fits k n offset size i region e a t c =
-      let w = whole_is p.profile k offset size i e in
-      let h = whole_place k n offset size i region size w a t c in
+  -- a store into a part of a cell
+  pub stored_fits : (k : Kind) (n : ℕ) (offset : ℤ) (size : ℕ) (c : CellPart) (region : Region) (kind : Kind) (v : ℕ) → part_at p.profile k offset size ≡ Some c → Admits k (Some n) → is_inside p k offset size ≡ true → Covers s.memory region (wrapped 64 (pos n +ℤ offset)) size → AreKinds row → IsKind kind → v < 2 ^ 64 → Admits kind (Some v) → FitsRow (with_cell row c.cell (with_part c.part kind (cell_kind row c.cell))) (values_of p.profile s.registers (written s.memory region (wrapped 64 (pos n +ℤ offset) - base region) (low_bytes size v)).stack)
+  stored_fits k n offset size c region kind v e a t covers kinds is small admits =
+      let w = part_is p.profile k offset size c e in
+      let h = part_place k n offset size c region size w a t covers in
       let at = wrapped 64 (pos n +ℤ offset) in
+      let i = c.cell in
+      let old = little_endian (take 8 (drop (8 * i) s.memory.stack)) in
       let cell = cell_fits p.profile row s.registers s.memory.stack i long fits w.within in
-      let same : read s.memory region (at - base region) size ≡ take 8 (drop (8 * i) s.memory.stack) =
-      ap (λ r. read s.memory r (at - base r) size) h.0 ∙ ap (λ m. take m (drop (at - base Stack) s.memory.stack)) w.eight ∙ ap (λ m. take 8 (drop m s.memory.stack)) h.1 in
-      (subst (λ bs. Admits (cell_kind row i) (Some (little_endian bs))) (sym same) cell.0, w.eight)
+      let new = low_bytes size v in
+      let len : length new ≡ size = length_low size v in
+      let there = h.1 in
+      let ends = part_ends c.part in
+      let c' : Covers s.memory Stack at (length new) = subst (λ m. Covers s.memory Stack at m) (sym len) (subst (λ r. Covers s.memory r at size) h.0 covers) in
+      let span : Span = record { from = pos (8 * i); to = pos (8 * i + 8) } in
+      let keep = stack_keeps span at new c' (bytes_low size v) (omega (arith, ints, there)) (omega (arith, ints, there, len, w.long, ends)) in
+      let all = cell_ends i w.within in
+      let word : little_endian (take 8 (drop (8 * i) (written s.memory Stack (at - base Stack) new).stack)) ≡ value_with c.part v old =
+      ap (λ m. little_endian (take 8 (drop (8 * i) (overwritten s.memory.stack m new)))) there
+      ∙ ap (λ m. little_endian (take 8 (drop (8 * i) (overwritten s.memory.stack (8 * i + part_offset c.part) (low_bytes m v))))) w.long
+      ∙ written_part c.part s.memory.stack i v memory.stack_bytes all small in
+      subst (λ r. FitsRow (with_cell row i (with_part c.part kind (cell_kind row i))) (values_of p.profile s.registers (written s.memory r (at - base r) new).stack)) (sym h.0)
+      (cell_kept p.profile (sound p.profile) span i (with_part c.part kind (cell_kind row i)) (value_with c.part v old) row s.registers s.memory.stack _ long refl refl w.within keep word
+      ((sound p.profile).written c.part kind (cell_kind row i) v old is (kinds (11 + i)) cell.1 admits cell.0) fits)
+
+  -- a load of a part of a cell
+  pub loaded_fits : (k : Kind) (n : ℕ) (offset : ℤ) (size : ℕ) (c : CellPart) (region : Region) → part_at p.profile k offset size ≡ Some c → Admits k (Some n) → is_inside p k offset size ≡ true → Covers s.memory region (wrapped 64 (pos n +ℤ offset)) size → AreKinds row → Admits (part_of p.profile c.part (cell_kind row c.cell)) (Some (little_endian (read s.memory region (wrapped 64 (pos n +ℤ offset) - base region) size)))
+  loaded_fits k n offset size c region e a t covers kinds =
+      let w = part_is p.profile k offset size c e in
+      let h = part_place k n offset size c region size w a t covers in
+      let at = wrapped 64 (pos n +ℤ offset) in
+      let i = c.cell in
+      let cell = cell_fits p.profile row s.registers s.memory.stack i long fits w.within in
+      let same : read s.memory region (at - base region) size ≡ take (part_size c.part) (drop (8 * i + part_offset c.part) s.memory.stack) =
+      ap (λ r. read s.memory r (at - base r) size) h.0 ∙ ap (λ m. take m (drop (at - base Stack) s.memory.stack)) w.long ∙ ap (λ m. take (part_size c.part) (drop m s.memory.stack)) h.1 in
+      subst (λ m. Admits (part_of p.profile c.part (cell_kind row i)) (Some m)) (sym (ap little_endian same ∙ read_part c.part s.memory.stack i memory.stack_bytes (cell_ends i w.within)))
+      ((sound p.profile).part c.part (cell_kind row i) (little_endian (take 8 (drop (8 * i) s.memory.stack))) (kinds (11 + i)) cell.1 cell.0)

@@ -18,7 +18,6 @@ use Rattle.insn.specs.declared.Register.TheVariants.{R10}
 use Rattle.insn.specs.declared.Operand.{Operand}
 use Rattle.insn.specs.declared.Operand.TheVariants as operand
 use Rattle.insn.specs.declared.Size.{Size}
-use Rattle.insn.specs.declared.Size.TheVariants.{Byte, Half, Word, Double}
 use Rattle.insn.specs.declared.Extend.{Extend}
 use Rattle.insn.specs.declared.Extend.TheVariants.{Zero, Sign}
 use Rattle.insn.specs.declared.Distance.TheVariants as distance
@@ -31,7 +30,7 @@ use Rattle.memory.specs.declared.Region.TheVariants.{Input}
 use Rattle.memory.specs.declared.Fault.{Fault}
 use Rattle.memory.specs.declared.Fault.TheVariants as fault
 use Rattle.ranges.specs.declared.kind.Kind.{Kind}
-use Rattle.ranges.specs.declared.kind.Kind.TheVariants.{Unset, Dead, Num, Ptr}
+use Rattle.ranges.specs.declared.kind.Kind.TheVariants.{Unset, Dead, Num, Ptr, Halves}
 use Rattle.memory.specs.declared.profile.Profile.{Profile}
 use Rattle.memory.specs.declared.profile.Profile.TheVariants.{First, Second}
 use Rattle.ranges.specs.declared.range.Range.{Range}
@@ -47,14 +46,15 @@ use Rattle.verifier.specs.Program.{Program, HasLimits}
 use Rattle.verifier.specs.declared.rule.KindRule.{KindRule}
 use Rattle.verifier.specs.declared.rule.KindRule.TheVariants.{UnsetRead, FrameWritten, OutsideWindow, InputStored, ArgumentRule}
 use Rattle.verifier.specs.Registers.{Row, IsLong, kind_at, with_kind, one_number, kind_from, is_unset, is_input_pointer, any_unset, is_inside}
-use Rattle.verifier.specs.Cells.{span_of, whole_cell, cell_kind, row_stored_in, read_kind}
+use Rattle.verifier.specs.Cells.{span_of, part_at, row_stored_in, read_kind}
 use Rattle.verifier.specs.Rules.{callee_in, reads_by, broken_if, is_frame, bad_result, class_rules, rules_of, first_of, result_kind, loaded, refined}
 use Rattle.verifier.specs.Table.{target_edge, edges_from, AreKinds}
 use Rattle.verifier.proofs.SameReads.{reads_called}
-use Rattle.verifier.proofs.Words.{wrapped_below, cut_word, size_fits, some_bytes, bytes_low, length_low, low_whole}
+use Rattle.verifier.proofs.Words.{wrapped_below, cut_word, size_fits, some_bytes, bytes_low, length_low}
 use Rattle.verifier.proofs.Fits.{IsWord, FitsRow, at_learn, SomeEdge}
 use Rattle.verifier.proofs.StackCells.{values_of, values, value_at, register_fits, written_register}
-use Rattle.verifier.proofs.CellSteps.{whole_is, touched_fits, stored_fits, loaded_fits}
+use Rattle.verifier.proofs.CellSteps.{touched_fits, stored_fits, loaded_fits}
+use Rattle.verifier.specs.declared.cell_part.CellPart.{CellPart}
 use Rattle.verifier.specs.declared.sum.Sum.{Sum}
 use Rattle.verifier.proofs.Refined.{refined_is_long, refined_kinds}
 use Rattle.verifier.proofs.SumSteps.{Holds, told_fits}
@@ -97,6 +97,7 @@ is_set Unset None h a e = cc
 is_set Dead None h a e = absurd a
 is_set (Num b) None h a e = absurd a
 is_set (Ptr r lo hi) None h a e = absurd a
+is_set (Halves l u) None h a e = absurd a
 
 admits_number : (k : Kind) (v : Option ℕ) → Admits k v → Admits k (Some (unwrap_or v 0))
 admits_number k (Some n) a = a
@@ -104,6 +105,7 @@ admits_number Unset None a = tt
 admits_number Dead None a = absurd a
 admits_number (Num b) None a = absurd a
 admits_number (Ptr r lo hi) None a = absurd a
+admits_number (Halves l u) None a = absurd a
 
 number_fits : (v : Option ℕ) → IsWord v → unwrap_or v 0 < 2 ^ 64
 number_fits None w = omega arith
@@ -141,17 +143,6 @@ swapped_word : (sound : (profile : Profile) → IsSoundTable profile) (kind : Sw
 swapped_word sound kind n x =
     subst (λ (r : Range). r.hi < 2 ^ 64) (cond-true (eqb x x) (single (swapped kind n x)) (full (8 * byte_count n)) (eq-eqb x x refl)) ((sound First).swap_kind kind n (Num (number_of (single x)))).range.fits
 
--- a whole word is the number that it spells
-extended_is : (size : Size) (extend : Extend) (dst r : Register) (offset : ℤ) (n : ℕ) → size_bytes size ≡ 8 → IsInstruction (insn.Load size extend dst r offset) → extended extend size n ≡ n
-extended_is Byte Zero dst r offset n e is = refl
-extended_is Half Zero dst r offset n e is = refl
-extended_is Word Zero dst r offset n e is = refl
-extended_is Double Zero dst r offset n e is = refl
-extended_is Byte Sign dst r offset n e is = absurd (omega arith)
-extended_is Half Sign dst r offset n e is = absurd (omega arith)
-extended_is Word Sign dst r offset n e is = absurd (omega arith)
-extended_is Double Sign dst r offset n e is = absurd is
-
 module _ (sound : (profile : Profile) → IsSoundTable profile) (p : Program) (i : ℕ) (row : Row) (s : State) (limits : HasLimits p) (kinds : AreKinds row) (long : IsLong p.profile row) (fits : FitsRow row (values p.profile s)) (at : s.slot ≡ pos i) (memory : IsMemory p s.memory) (sum : Option Sum) (holds : Holds sum s) where
   -- ---- registers
   at_reg : (r : Register) → Admits (kind_at row r) (register s r) × IsWord (register s r)
@@ -183,6 +174,7 @@ module _ (sound : (profile : Profile) → IsSoundTable profile) (p : Program) (i
     where
       from : (k : Kind) (v : Option ℕ) → Admits k v → is_inside p k offset size ≡ true → (region : Region) × Covers s.memory region (wrapped 64 (pos (unwrap_or v 0) +ℤ offset)) size × (is_input_pointer k ≡ false → region ≢ Input)
       from Unset v a t = cc
+      from (Halves l u) v a t = cc
       from Dead v a t = cc
       from (Num b) v a t = cc
       from (Ptr region lo hi) None a t = absurd a
@@ -272,42 +264,37 @@ module _ (sound : (profile : Profile) → IsSoundTable profile) (p : Program) (i
       let b = wrapped_below 64 (signed (8 * size_bytes size) n) in
       ((sound p.profile).range (full 64) (wrapped 64 (signed (8 * size_bytes size) n)) (omega arith) (omega arith, omega arith), b)
 
-  read_admits : (size : Size) (extend : Extend) (dst r : Register) (offset : ℤ) (region : Region) (o : Option ℕ) → IsInstruction (insn.Load size extend dst r offset) → is_inside p (kind_at row r) offset (size_bytes size) ≡ true → Covers s.memory region (address s r offset) (size_bytes size) → whole_cell p.profile (kind_at row r) offset (size_bytes size) ≡ o → let n = extended extend size (little_endian (read s.memory region (address s r offset - base region) (size_bytes size))) in Admits (read_kind o (loaded p.profile size extend) row) (Some n) × (n < 2 ^ 64)
-  read_admits size extend dst r offset region None is t c e =
-      in_loaded size extend (little_endian (read s.memory region (address s r offset - base region) (size_bytes size))) (load_small p s.memory region (address s r offset) size memory c)
-  read_admits size extend dst r offset region (Some i) is t c e =
-      let n = little_endian (read s.memory region (address s r offset - base region) (size_bytes size)) in
-      let cell = loaded_fits sound p row s limits long fits memory (kind_at row r) (number_in s r) offset (size_bytes size) i region e (at_number r).0 t c in
-      let same = extended_is size extend dst r offset n cell.1 is in
-      (subst (λ m. Admits (cell_kind row i) (Some m)) (sym same) cell.0, (in_loaded size extend n (load_small p s.memory region (address s r offset) size memory c)).1)
+  read_admits : (size : Size) (extend : Extend) (r : Register) (offset : ℤ) (region : Region) (o : Option CellPart) → is_inside p (kind_at row r) offset (size_bytes size) ≡ true → Covers s.memory region (address s r offset) (size_bytes size) → part_at p.profile (kind_at row r) offset (size_bytes size) ≡ o → let n = extended extend size (little_endian (read s.memory region (address s r offset - base region) (size_bytes size))) in Admits (read_kind p.profile extend o (loaded p.profile size extend) row) (Some n) × (n < 2 ^ 64)
+  read_admits size Zero r offset region None t c e =
+      in_loaded size Zero (little_endian (read s.memory region (address s r offset - base region) (size_bytes size))) (load_small p s.memory region (address s r offset) size memory c)
+  read_admits size Sign r offset region o t c e =
+      in_loaded size Sign (little_endian (read s.memory region (address s r offset - base region) (size_bytes size))) (load_small p s.memory region (address s r offset) size memory c)
+  read_admits size Zero r offset region (Some at) t c e =
+      let n = little_endian (read s.memory region (address s r offset - base region) (size_bytes size)) in (
+        loaded_fits sound p row s limits long fits memory (kind_at row r) (number_in s r) offset (size_bytes size) at region e (at_number r).0 t c kinds,
+        (in_loaded size Zero n (load_small p s.memory region (address s r offset) size memory c)).1,
+      )
 
   load_lands : (size : Size) (extend : Extend) (dst r : Register) (offset : ℤ) (t : State) → IsInstruction (insn.Load size extend dst r offset) → AllNone (class_rules p Unknown row (insn.Load size extend dst r offset)) → Does (calls_of p.sigs) (insn.Load size extend dst r offset) s t → Lands (insn.Load size extend dst r offset) t
   load_lands size extend dst r offset t is h d =
       let n = little_endian (read s.memory d.0 (address s r offset - base d.0) (size_bytes size)) in
-      let o = whole_cell p.profile (kind_at row r) offset (size_bytes size) in
-      let k = read_admits size extend dst r offset d.0 o is (untold_not _ OutsideWindow h.0) d.1 refl in
-      written_lands (insn.Load size extend dst r offset) dst (read_kind o (loaded p.profile size extend) row) (extended extend size n) t refl k.0 k.1 d.2
+      let o = part_at p.profile (kind_at row r) offset (size_bytes size) in
+      let k = read_admits size extend r offset d.0 o (untold_not _ OutsideWindow h.0) d.1 refl in
+      written_lands (insn.Load size extend dst r offset) dst (read_kind p.profile extend o (loaded p.profile size extend) row) (extended extend size n) t refl k.0 k.1 d.2
 
-  store_fits : (size : Size) (r : Register) (offset : ℤ) (src : Operand) (region : Region) (o : Option ℕ) → is_inside p (kind_at row r) offset (size_bytes size) ≡ true → Covers s.memory region (address s r offset) (size_bytes size) → whole_cell p.profile (kind_at row r) offset (size_bytes size) ≡ o → FitsRow (row_stored_in p.profile o (span_of (kind_at row r) offset (size_bytes size)) (kind_from p.profile row src) row) (values_of p.profile s.registers (written s.memory region (address s r offset - base region) (low_bytes (size_bytes size) (operand_in s src))).stack)
-  store_fits size r offset src region o t c e = from o e
-    where
-      covers : Covers s.memory region (address s r offset) (length (low_bytes (size_bytes size) (operand_in s src)))
-      covers = subst (Covers s.memory region (address s r offset)) (sym (length_low (size_bytes size) (operand_in s src))) c
-
-      from : (o : Option ℕ) → whole_cell p.profile (kind_at row r) offset (size_bytes size) ≡ o → FitsRow (row_stored_in p.profile o (span_of (kind_at row r) offset (size_bytes size)) (kind_from p.profile row src) row) (values_of p.profile s.registers (written s.memory region (address s r offset - base region) (low_bytes (size_bytes size) (operand_in s src))).stack)
-      from None e =
-          let l = length_low (size_bytes size) (operand_in s src) in
-          touched_fits sound p row s limits long fits memory (kind_at row r) (number_in s r) offset (size_bytes size) region (low_bytes (size_bytes size) (operand_in s src)) (at_number r).0 t covers (omega (arith, l)) (bytes_low (size_bytes size) (operand_in s src))
-      from (Some i) e =
-          let a = at_operand src in
-          let eight = (whole_is p.profile (kind_at row r) offset (size_bytes size) i e).eight in
-          let spelled : little_endian (low_bytes (size_bytes size) (operand_in s src)) ≡ operand_in s src = ap (λ n. little_endian (low_bytes n (operand_in s src))) eight ∙ low_whole 8 (operand_in s src) a.1 in
-          stored_fits sound p row s limits long fits memory (kind_at row r) (number_in s r) offset (size_bytes size) i region (low_bytes (size_bytes size) (operand_in s src)) (kind_from p.profile row src) (operand_in s src) e (at_number r).0 t covers (length_low (size_bytes size) (operand_in s src)) (bytes_low (size_bytes size) (operand_in s src)) spelled a.0
+  store_fits : (size : Size) (r : Register) (offset : ℤ) (src : Operand) (region : Region) (o : Option CellPart) → is_inside p (kind_at row r) offset (size_bytes size) ≡ true → Covers s.memory region (address s r offset) (size_bytes size) → part_at p.profile (kind_at row r) offset (size_bytes size) ≡ o → FitsRow (row_stored_in p.profile o (span_of (kind_at row r) offset (size_bytes size)) (kind_from p.profile row src) row) (values_of p.profile s.registers (written s.memory region (address s r offset - base region) (low_bytes (size_bytes size) (operand_in s src))).stack)
+  store_fits size r offset src region None t c e =
+      let l = length_low (size_bytes size) (operand_in s src) in
+      let covers : Covers s.memory region (address s r offset) (length (low_bytes (size_bytes size) (operand_in s src))) = subst (Covers s.memory region (address s r offset)) (sym l) c in
+      touched_fits sound p row s limits long fits memory (kind_at row r) (number_in s r) offset (size_bytes size) region (low_bytes (size_bytes size) (operand_in s src)) (at_number r).0 t covers (omega (arith, l)) (bytes_low (size_bytes size) (operand_in s src))
+  store_fits size r offset src region (Some at) t c e =
+      let a = at_operand src in
+      stored_fits sound p row s limits long fits memory (kind_at row r) (number_in s r) offset (size_bytes size) at region (kind_from p.profile row src) (operand_in s src) e (at_number r).0 t c kinds (operand_kind src) a.1 a.0
 
   store_lands : (size : Size) (r : Register) (offset : ℤ) (src : Operand) (t : State) → AllNone (class_rules p Unknown row (insn.Store size r offset src)) → Does (calls_of p.sigs) (insn.Store size r offset src) s t → Lands (insn.Store size r offset src) t
   store_lands size r offset src t h d =
       let P : State → Type 0 = λ u. SomeEdge u.slot (values p.profile u) (edges_from p.profile Unknown sum i row (insn.Store size r offset src)) × IsMemory p u.memory in
-      let kept = store_fits size r offset src d.0 (whole_cell p.profile (kind_at row r) offset (size_bytes size)) (untold_not _ OutsideWindow h.0) d.1 refl in
+      let kept = store_fits size r offset src d.0 (part_at p.profile (kind_at row r) offset (size_bytes size)) (untold_not _ OutsideWindow h.0) d.1 refl in
       subst P (sym d.2) (inl (one_on s.slot i at, kept), store_kept p s.memory d.0 (address s r offset) size (operand_in s src) memory d.1)
 
   -- ---- jumps

@@ -6,6 +6,7 @@ pub mod SameReads
 pub mod Fits
 pub mod Shape
 pub mod StackCells
+pub mod Parts
 pub mod Places
 pub mod CellSteps
 pub mod Zeros

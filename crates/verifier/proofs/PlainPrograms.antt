@@ -14,14 +14,14 @@ use Rattle.memory.specs.State.{no_calls, reads, writes, operand_reads}
 use Rattle.memory.specs.declared.Region.{Region}
 use Rattle.memory.specs.declared.Region.TheVariants.{Stack, Input, Output}
 use Rattle.ranges.specs.declared.kind.Kind.{Kind}
-use Rattle.ranges.specs.declared.kind.Kind.TheVariants.{Unset, Dead, Num, Ptr}
+use Rattle.ranges.specs.declared.kind.Kind.TheVariants.{Unset, Dead, Num, Ptr, Halves}
 use Rattle.memory.specs.declared.profile.Profile.{Profile}
 use Rattle.memory.specs.declared.profile.Profile.TheVariants.{First, Second}
 use Rattle.bpfimage.specs.Form.{next_of, target_of, GoesTo, IsSuccessor, IsPath, IsFormed}
 use Rattle.verifier.specs.Program.{Program}
 use Rattle.verifier.specs.declared.rule.KindRule.{KindRule}
 use Rattle.verifier.specs.declared.rule.KindRule.TheVariants.{UnsetRead, FrameWritten, PointerOperand, OutsideWindow, InputStored, PointerStored, PointerAnswer, StackRead}
-use Rattle.verifier.specs.Cells.{span_of, whole_cell}
+use Rattle.verifier.specs.Cells.{span_of, part_at}
 use Rattle.verifier.specs.Registers.{Row, cell_count, IsLong, kind_at, one_number, entry, is_unset, is_pointer, is_input_pointer, any_unset, first_offset, end_offset, is_inside}
 use Rattle.helpers.specs.Calls.{Callee}
 use Rattle.verifier.specs.Rules.{callee_in, compares_pointer, is_frame, broken_if, bad_result, class_rules, rules_of, first_of, row_taken}
@@ -36,7 +36,7 @@ use Rattle.verifier.proofs.SameReads.{reads_plain}
 use Rattle.verifier.proofs.Tables.{length_rows, table_at}
 use Rattle.verifier.proofs.SumSteps.{told_long}
 use Rattle.verifier.proofs.PlainSums.{told_follows}
-use Rattle.verifier.proofs.PlainRows.{plain_number, IsNum, IsNumOrUnset, left_number, not_number, PlainAt, PlainRow, AllNum, PlainCells, readable, join_cells, GivesNumber, operand_number, register_number, alu_number, swap_result, Follows, after_follows, taken_follows, join_plain, unset_of_one}
+use Rattle.verifier.proofs.PlainRows.{plain_number, IsNum, IsNumOrUnset, num_held, left_number, not_number, PlainAt, PlainRow, AllNum, PlainCells, readable, join_cells, GivesNumber, operand_number, register_number, alu_number, swap_result, Follows, after_follows, taken_follows, join_plain, unset_of_one}
 
 -- on some path to slot k the register is not written, and it is not set at the start
 abbrev pub Unwritten : List Insn → ℕ → Register → Type 0
@@ -114,7 +114,7 @@ entry_cells p = zeros (cell_count p.profile)
   where
     zeros : (n : ℕ) → AllNum (replicate n (one_number p.profile 0))
     zeros zero = tt
-    zeros (suc n) = (left_number _, zeros n)
+    zeros (suc n) = (num_held _ (left_number _), zeros n)
 
 entry_unset : (p : Program) (r : Register) → kind_at (entry p) r ≡ Unset → SetAtStart r → ⊥
 entry_unset p R0 u s = s
@@ -204,6 +204,7 @@ some_unset row (r ∷ rs) h =
     unset_kind Dead t = cc
     unset_kind (Num a) t = cc
     unset_kind (Ptr q lo hi) t = cc
+    unset_kind (Halves l h) t = cc
 
     or_rest : (a b : Bool) → a ≡ false → (a || b) ≡ true → b ≡ true
     or_rest true b f h = cc
@@ -253,6 +254,7 @@ no_pointer Unset h = absurd h
 no_pointer Dead h = refl
 no_pointer (Num a) h = refl
 no_pointer (Ptr q lo hi) h = absurd h
+no_pointer (Halves l u) h = absurd h
 
 no_compared : (profile : Profile) (j k : Kind) → IsNum j → IsNum k → compares_pointer profile j k ≡ false
 no_compared First j k h g = ap₂ (λ s t. s || t) (no_pointer j h) (no_pointer k g)
@@ -297,6 +299,7 @@ kind_no_pointer Unset h = refl
 kind_no_pointer Dead h = refl
 kind_no_pointer (Num a) h = refl
 kind_no_pointer (Ptr q lo hi) h = absurd h
+kind_no_pointer (Halves l u) h = absurd h
 
 no_store : (k : Kind) (b : Bool) → IsNum k → (is_pointer k && b) ≡ false
 no_store k b h = ap (λ t. t && b) (no_pointer k h)
@@ -304,7 +307,7 @@ no_store k b h = ap (λ t. t && b) (no_pointer k h)
 class_kept : (p : Program) (callee : Callee) (row : Row) (x : Insn) → IsLong p.profile row → PlainCells row → PlainRow row → IsPlainInsn x → StaysInside p x → any_unset row (reads no_calls x) ≡ false → AllNone (class_rules p callee row x)
 class_kept p callee row (insn.Alu o w dst src) long cells plain is inside u = (no_bad _ (alu_number p.profile row plain w dst src is.no_address o u), tt)
 class_kept p callee row (insn.Swap kind n dst) long cells plain is inside u = (no_bad _ (swap_result p.profile kind n (kind_at row dst) (register_number row dst [] plain (is.no_address dst (inl refl)) u)), tt)
-class_kept p callee row (insn.Load size extend dst base offset) long cells plain is inside u = (not_told _ OutsideWindow (not_true _ (inside_at p base (kind_at row base) offset (size_bytes size) (plain base) inside)), (not_told _ StackRead (not_true _ (readable p.profile row (kind_at row base) offset (size_bytes size) (whole_cell p.profile (kind_at row base) offset (size_bytes size)) (span_of (kind_at row base) offset (size_bytes size)) long refl cells)), tt))
+class_kept p callee row (insn.Load size extend dst base offset) long cells plain is inside u = (not_told _ OutsideWindow (not_true _ (inside_at p base (kind_at row base) offset (size_bytes size) (plain base) inside)), (not_told _ StackRead (not_true _ (readable p.profile row (kind_at row base) offset (size_bytes size) (part_at p.profile (kind_at row base) offset (size_bytes size)) (span_of (kind_at row base) offset (size_bytes size)) long refl cells)), tt))
 class_kept p callee row (insn.Store size base offset src) long cells plain is inside u = (
   not_told _ OutsideWindow (not_true _ (inside_at p base (kind_at row base) offset (size_bytes size) (plain base) inside.0)),
   (

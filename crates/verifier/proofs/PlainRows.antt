@@ -12,6 +12,7 @@ use Rattle.alu.specs.declared.Cond.{Cond}
 use Rattle.insn.specs.Encoding.{number, size_bytes}
 use Rattle.insn.specs.declared.Size.{Size}
 use Rattle.insn.specs.declared.Extend.{Extend}
+use Rattle.insn.specs.declared.Extend.TheVariants.{Zero, Sign}
 use Rattle.insn.specs.declared.Register.{Register}
 use Rattle.insn.specs.declared.Register.TheVariants.{R0, R1, R2, R3, R4, R5, R6, R7, R8, R9, R10}
 use Rattle.insn.specs.declared.Operand.{Operand}
@@ -21,22 +22,27 @@ use Rattle.insn.specs.declared.Insn.TheVariants as insn
 use Rattle.memory.specs.State.{no_calls, reads, writes, operand_reads}
 use Rattle.memory.specs.declared.Region.TheVariants.{Stack, Input, Output}
 use Rattle.ranges.specs.declared.kind.Kind.{Kind}
-use Rattle.ranges.specs.declared.kind.Kind.TheVariants.{Unset, Dead, Num, Ptr}
+use Rattle.ranges.specs.declared.kind.Kind.TheVariants.{Unset, Dead, Num, Ptr, Halves}
+use Rattle.ranges.specs.declared.kind.Part.{Part}
+use Rattle.ranges.specs.declared.kind.Part.TheVariants.{Whole, Low, High}
+use Rattle.ranges.specs.declared.word.Word.{Word}
+use Rattle.ranges.specs.Words.{low_word, high_word, joined_words}
 use Rattle.ranges.specs.declared.number.Number.{Number}
 use Rattle.memory.specs.declared.profile.Profile.{Profile}
 use Rattle.ranges.specs.declared.kind.Bad.{Bad}
 use Rattle.ranges.specs.Comparisons.{compared}
-use Rattle.ranges.specs.Transfer.{kind_of, transfer_of, of_one, of_two, swap_of, kinds_left, refine_of, join_of}
+use Rattle.ranges.specs.Transfer.{kind_of, transfer_of, of_one, of_two, swap_of, kinds_left, refine_of, join_of, word_kind, part_of, with_part}
 use Rattle.bpfimage.specs.Form.{target_of}
 use Rattle.helpers.specs.Calls.{Callee}
 use Rattle.verifier.specs.Registers.{Row, cell_count, IsLong, kind_at, with_kind, kind_from, one_number, is_unset, any_unset}
-use Rattle.verifier.specs.Cells.{span_of, whole_cell, is_touched, cell_kind, touched, cells_touched, row_stored_in, row_stored, read_kind, is_known, is_numeric, are_numeric, is_readable}
+use Rattle.verifier.specs.Cells.{span_of, part_at, is_touched, cell_kind, touched, cells_touched, row_stored_in, row_stored, read_kind, is_known, is_numeric, are_numeric, is_readable}
+use Rattle.verifier.specs.declared.cell_part.CellPart.{CellPart}
 use Rattle.verifier.specs.declared.span.Span.{Span}
 use Rattle.verifier.specs.Rules.{result_kind, loaded, refined, row_after, row_taken}
 use Rattle.verifier.specs.Table.{join_rows}
 use Rattle.verifier.specs.Plain.{IsIn, window_of, IsPlainInsn}
 use Rattle.verifier.proofs.StackCells.{number_small, stored_register, seam}
-use Rattle.verifier.proofs.CellSteps.{whole_is}
+use Rattle.verifier.proofs.CellSteps.{part_is}
 use Rattle.verifier.proofs.Classes.{or_left, or_right}
 
 -- ---- kinds
@@ -47,18 +53,21 @@ IsNum Unset = ⊥
 IsNum Dead = Unit {0}
 IsNum (Num a) = Unit {0}
 IsNum (Ptr region lo hi) = ⊥
+IsNum (Halves low high) = ⊥
 
 abbrev pub IsNumOrUnset : Kind → Type 0
 IsNumOrUnset Unset = Unit {0}
 IsNumOrUnset Dead = Unit {0}
 IsNumOrUnset (Num a) = Unit {0}
 IsNumOrUnset (Ptr region lo hi) = ⊥
+IsNumOrUnset (Halves low high) = ⊥
 
 pub num_or_unset : (k : Kind) → IsNum k → IsNumOrUnset k
 num_or_unset Unset h = tt
 num_or_unset Dead h = tt
 num_or_unset (Num a) h = tt
 num_or_unset (Ptr region lo hi) h = h
+num_or_unset (Halves low high) h = h
 
 -- the kinds that a register may have
 abbrev pub PlainAt : Register → Kind → Type 0
@@ -70,10 +79,27 @@ PlainAt other k = IsNumOrUnset k
 abbrev pub PlainRow : Row → Type 0
 PlainRow row = (r : Register) → PlainAt r (kind_at row r)
 
+-- a number, or two words
+abbrev pub HoldsNum : Kind → Type 0
+HoldsNum (Halves (Some low) (Some high)) = Unit {0}
+HoldsNum (Halves (Some low) None) = ⊥
+HoldsNum (Halves None high) = ⊥
+HoldsNum Unset = ⊥
+HoldsNum Dead = Unit {0}
+HoldsNum (Num a) = Unit {0}
+HoldsNum (Ptr region lo hi) = ⊥
+
+pub num_held : (k : Kind) → IsNum k → HoldsNum k
+num_held Unset h = h
+num_held Dead h = h
+num_held (Num a) h = h
+num_held (Ptr region lo hi) h = h
+num_held (Halves low high) h = absurd h
+
 -- every cell holds a number
 abbrev pub AllNum : List Kind → Type 0
 AllNum [] = Unit {0}
-AllNum (k ∷ ks) = IsNum k × AllNum ks
+AllNum (k ∷ ks) = HoldsNum k × AllNum ks
 
 abbrev pub PlainCells : Row → Type 0
 PlainCells row = AllNum (drop 11 row)
@@ -126,6 +152,7 @@ num_of_kind Unset h u = cc
 num_of_kind Dead h u = tt
 num_of_kind (Num a) h u = tt
 num_of_kind (Ptr region lo hi) h u = absurd h
+num_of_kind (Halves low high) h u = absurd h
 
 -- a register that is set, and no address, is a number
 pub num_of : (r : Register) (k : Kind) → PlainAt r k → window_of r ≡ None → is_unset k ≡ false → IsNum k
@@ -157,17 +184,21 @@ two_result profile o w Dead Unset ha hb = absurd hb
 two_result profile o w Dead Dead ha hb = (Dead, refl, tt)
 two_result profile o w Dead (Num b) ha hb = (Dead, refl, tt)
 two_result profile o w Dead (Ptr q lo hi) ha hb = absurd hb
+two_result profile o w Dead (Halves l h) ha hb = absurd hb
 two_result profile o w (Num a) Unset ha hb = absurd hb
 two_result profile o w (Num a) Dead ha hb = (Dead, refl, tt)
 two_result profile o w (Num a) (Num b) ha hb = (_, refl, left_number _)
 two_result profile o w (Num a) (Ptr q lo hi) ha hb = absurd hb
+two_result profile o w (Num a) (Halves l h) ha hb = absurd hb
 two_result profile o w (Ptr q lo hi) b ha hb = absurd ha
+two_result profile o w (Halves l h) b ha hb = absurd ha
 
 one_result : (profile : Profile) (o : Op) (w : Width) (a : Kind) → IsNum a → GivesNumber (of_one profile o w a)
 one_result profile o w Unset ha = absurd ha
 one_result profile o w Dead ha = (Dead, refl, tt)
 one_result profile o w (Num a) ha = (_, refl, left_number _)
 one_result profile o w (Ptr q lo hi) ha = absurd ha
+one_result profile o w (Halves l h) ha = absurd ha
 
 move_result : (profile : Profile) (w : Width) (a b : Kind) → IsNum b → GivesNumber (transfer_of profile op.Mov w a b)
 move_result profile W64 a b hb = (b, refl, hb)
@@ -178,6 +209,7 @@ swap_result profile kind n Unset ha = absurd ha
 swap_result profile kind n Dead ha = (Dead, refl, tt)
 swap_result profile kind n (Num a) ha = (_, refl, left_number _)
 swap_result profile kind n (Ptr q lo hi) ha = absurd ha
+swap_result profile kind n (Halves l h) ha = absurd ha
 
 abbrev AreNum : Kind × Kind → Type 0
 AreNum k = IsNum k.0 × IsNum k.1
@@ -192,11 +224,14 @@ refined_numbers profile c w Dead Unset t ha hb = absurd hb
 refined_numbers profile c w Dead Dead t ha hb = (tt, tt)
 refined_numbers profile c w Dead (Num b) t ha hb = (tt, tt)
 refined_numbers profile c w Dead (Ptr q lo hi) t ha hb = absurd hb
+refined_numbers profile c w Dead (Halves l h) t ha hb = absurd hb
 refined_numbers profile c w (Num a) Unset t ha hb = absurd hb
 refined_numbers profile c w (Num a) Dead t ha hb = (tt, tt)
 refined_numbers profile c w (Num a) (Num b) t ha hb = left_numbers a b (compared profile c w t a b)
 refined_numbers profile c w (Num a) (Ptr q lo hi) t ha hb = absurd hb
+refined_numbers profile c w (Num a) (Halves l h) t ha hb = absurd hb
 refined_numbers profile c w (Ptr q lo hi) b t ha hb = absurd ha
+refined_numbers profile c w (Halves l h) b t ha hb = absurd ha
 
 loaded_number : (profile : Profile) (size : Size) (extend : Extend) → IsNum (loaded profile size extend)
 loaded_number profile size extend = left_number _
@@ -294,53 +329,117 @@ drop_set_behind zero row i k = ap (λ n. set row n k) (omega arith)
 drop_set_behind (suc m) [] i k = refl
 drop_set_behind (suc m) (x ∷ row) i k = let e : suc m + i ≡ suc (m + i) = omega arith in ap (λ n. drop (suc m) (set (x ∷ row) n k)) e ∙ drop_set_behind m row i k
 
-num_set : (ks : List Kind) (i : ℕ) (k : Kind) → AllNum ks → IsNum k → AllNum (set ks i k)
+num_set : (ks : List Kind) (i : ℕ) (k : Kind) → AllNum ks → HoldsNum k → AllNum (set ks i k)
 num_set [] i k h g = h
 num_set (x ∷ ks) zero k h g = (g, h.1)
 num_set (x ∷ ks) (suc i) k h g = (h.0, num_set ks i k h.1 g)
 
-num_at : (ks : List Kind) (i : ℕ) → i < length ks → AllNum ks → IsNum (get_or ks i Unset)
+num_at : (ks : List Kind) (i : ℕ) → i < length ks → AllNum ks → HoldsNum (get_or ks i Unset)
 num_at [] i l h = absurd (omega arith)
 num_at (k ∷ ks) zero l h = h.0
 num_at (k ∷ ks) (suc i) l h = num_at ks i (omega arith) h.1
 
-touched_num : (profile : Profile) (k : Kind) → IsNum k → IsNum (touched profile k)
+touched_num : (profile : Profile) (k : Kind) → HoldsNum k → HoldsNum (touched profile k)
 touched_num profile Unset h = absurd h
-touched_num profile Dead h = left_number _
-touched_num profile (Num a) h = left_number _
+touched_num profile Dead h = num_held _ (left_number _)
+touched_num profile (Num a) h = num_held _ (left_number _)
 touched_num profile (Ptr q lo hi) h = absurd h
+touched_num profile (Halves (Some low) (Some high)) h = num_held _ (left_number _)
+touched_num profile (Halves (Some low) None) h = absurd h
+touched_num profile (Halves None high) h = absurd h
 
 num_touched : (profile : Profile) (span : Span) (place : ℕ) (ks : List Kind) → AllNum ks → AllNum (cells_touched profile span place ks)
 num_touched profile span place [] h = tt
 num_touched profile span place (k ∷ ks) h =
-    (cond_both (is_touched span place) (touched profile k) k IsNum (λ _. touched_num profile k h.0) (λ _. h.0), num_touched profile span (place + 8) ks h.1)
+    (cond_both (is_touched span place) (touched profile k) k HoldsNum (λ _. touched_num profile k h.0) (λ _. h.0), num_touched profile span (place + 8) ks h.1)
 
-stored_num : (profile : Profile) (o : Option ℕ) (span : Option Span) (k : Kind) (row : Row) → 11 ≤ length row → IsNum k → PlainCells row → PlainCells (row_stored_in profile o span k row)
-stored_num profile (Some i) span k row l h cells = subst AllNum (sym (drop_set_behind 11 row i k)) (num_set (drop 11 row) i k cells h)
-stored_num profile None None k row l h cells = cells
-stored_num profile None (Some span) k row l h cells =
-    subst AllNum (sym (seam (take 11 row) (cells_touched profile span 0 (drop 11 row)) 11 (length-take-le 11 row l))) (num_touched profile span 0 (drop 11 row) cells)
+-- the words of what holds a number are known
+IsSome : Option Word → Type 0
+IsSome None = ⊥
+IsSome (Some w) = Unit {0}
 
-cell_num : (profile : Profile) (row : Row) (i : ℕ) → IsLong profile row → i < cell_count profile → PlainCells row → IsNum (cell_kind row i)
+low_known : (k : Kind) → HoldsNum k → IsSome (low_word k)
+unfolding IsSome
+low_known Unset h = absurd h
+low_known Dead h = tt
+low_known (Num a) h = tt
+low_known (Ptr q lo hi) h = absurd h
+low_known (Halves (Some low) (Some high)) h = tt
+low_known (Halves (Some low) None) h = absurd h
+low_known (Halves None high) h = absurd h
+
+high_known : (k : Kind) → HoldsNum k → IsSome (high_word k)
+unfolding IsSome
+high_known Unset h = absurd h
+high_known Dead h = tt
+high_known (Num a) h = tt
+high_known (Ptr q lo hi) h = absurd h
+high_known (Halves (Some low) (Some high)) h = tt
+high_known (Halves (Some low) None) h = absurd h
+high_known (Halves None high) h = absurd h
+
+both_known : (low high : Option Word) → IsSome low → IsSome high → HoldsNum (Halves low high)
+unfolding IsSome
+both_known (Some low) (Some high) h g = tt
+both_known (Some low) None h g = absurd g
+both_known None high h g = absurd h
+
+part_num : (part : Part) (k cell : Kind) → IsNum k → HoldsNum cell → HoldsNum (with_part part k cell)
+part_num Whole k cell h g = num_held k h
+part_num Low k cell h g = both_known (low_word k) (high_word cell) (low_known k (num_held k h)) (high_known cell g)
+part_num High k cell h g = both_known (low_word cell) (low_word k) (low_known cell g) (low_known k (num_held k h))
+
+cell_num : (profile : Profile) (row : Row) (i : ℕ) → IsLong profile row → i < cell_count profile → PlainCells row → HoldsNum (cell_kind row i)
 cell_num profile row i long within cells =
-    subst IsNum (get_or-drop 11 row i Unset) (num_at (drop 11 row) i (omega (arith, long, within, length-drop 11 row)) cells)
+    subst HoldsNum (get_or-drop 11 row i Unset) (num_at (drop 11 row) i (omega (arith, long, within, length-drop 11 row)) cells)
+
+stored_num : (profile : Profile) (address : Kind) (offset : ℤ) (size : ℕ) (o : Option CellPart) (span : Option Span) (k : Kind) (row : Row) → IsLong profile row → part_at profile address offset size ≡ o → IsNum k → PlainCells row → PlainCells (row_stored_in profile o span k row)
+stored_num profile address offset size (Some at) span k row long e h cells =
+    let new = with_part at.part k (cell_kind row at.cell) in
+    subst AllNum (sym (drop_set_behind 11 row at.cell new))
+    (num_set (drop 11 row) at.cell new cells (part_num at.part k (cell_kind row at.cell) h (cell_num profile row at.cell long (part_is profile address offset size at e).within cells)))
+stored_num profile address offset size None None k row long e h cells = cells
+stored_num profile address offset size None (Some span) k row long e h cells =
+    subst AllNum (sym (seam (take 11 row) (cells_touched profile span 0 (drop 11 row)) 11 (length-take-le 11 row (omega (arith, long))))) (num_touched profile span 0 (drop 11 row) cells)
 
 -- a load gives a number, and may be made
-read_num : (profile : Profile) (row : Row) (address : Kind) (offset : ℤ) (size : ℕ) (o : Option ℕ) (k : Kind) → IsLong profile row → whole_cell profile address offset size ≡ o → IsNum k → PlainCells row → IsNum (read_kind o k row)
-read_num profile row address offset size None k long e h cells = h
-read_num profile row address offset size (Some i) k long e h cells = cell_num profile row i long (whole_is profile address offset size i e).within cells
+word_num : (profile : Profile) (o : Option Word) → IsSome o → IsNum (word_kind profile o)
+unfolding IsSome
+word_num profile None h = absurd h
+word_num profile (Some w) h = left_number _
+
+part_read : (profile : Profile) (part : Part) (k : Kind) → HoldsNum k → IsNum (part_of profile part k)
+part_read profile Whole Unset h = absurd h
+part_read profile Whole Dead h = tt
+part_read profile Whole (Num a) h = tt
+part_read profile Whole (Ptr q lo hi) h = absurd h
+part_read profile Whole (Halves (Some low) (Some high)) h = left_number _
+part_read profile Whole (Halves (Some low) None) h = absurd h
+part_read profile Whole (Halves None high) h = absurd h
+part_read profile Low k h = word_num profile (low_word k) (low_known k h)
+part_read profile High k h = word_num profile (high_word k) (high_known k h)
+
+read_num : (profile : Profile) (row : Row) (address : Kind) (offset : ℤ) (size : ℕ) (extend : Extend) (o : Option CellPart) (k : Kind) → IsLong profile row → part_at profile address offset size ≡ o → IsNum k → PlainCells row → IsNum (read_kind profile extend o k row)
+read_num profile row address offset size Zero None k long e h cells = h
+read_num profile row address offset size Sign o k long e h cells = h
+read_num profile row address offset size Zero (Some at) k long e h cells =
+    part_read profile at.part (cell_kind row at.cell) (cell_num profile row at.cell long (part_is profile address offset size at e).within cells)
 
 known_num : (k : Kind) → IsNum k → is_known k ≡ true
 known_num Unset h = absurd h
 known_num Dead h = refl
 known_num (Num a) h = refl
 known_num (Ptr q lo hi) h = absurd h
+known_num (Halves l u) h = absurd h
 
-numeric_num : (k : Kind) → IsNum k → is_numeric k ≡ true
+numeric_num : (k : Kind) → HoldsNum k → is_numeric k ≡ true
 numeric_num Unset h = absurd h
 numeric_num Dead h = refl
 numeric_num (Num a) h = refl
 numeric_num (Ptr q lo hi) h = absurd h
+numeric_num (Halves (Some low) (Some high)) h = refl
+numeric_num (Halves (Some low) None) h = absurd h
+numeric_num (Halves None high) h = absurd h
 
 all_numeric : (span : Span) (place : ℕ) (ks : List Kind) → AllNum ks → are_numeric span place ks ≡ true
 all_numeric span place [] h = refl
@@ -349,8 +448,9 @@ all_numeric span place (k ∷ ks) h =
     (cond_both (is_touched span place) (is_numeric k) true (λ b. b ≡ true) (λ _. numeric_num k h.0) (λ _. refl))
     (all_numeric span (place + 8) ks h.1)
 
-pub readable : (profile : Profile) (row : Row) (address : Kind) (offset : ℤ) (size : ℕ) (o : Option ℕ) (span : Option Span) → IsLong profile row → whole_cell profile address offset size ≡ o → PlainCells row → is_readable o span row ≡ true
-readable profile row address offset size (Some i) span long e cells = known_num (cell_kind row i) (cell_num profile row i long (whole_is profile address offset size i e).within cells)
+pub readable : (profile : Profile) (row : Row) (address : Kind) (offset : ℤ) (size : ℕ) (o : Option CellPart) (span : Option Span) → IsLong profile row → part_at profile address offset size ≡ o → PlainCells row → is_readable profile o span row ≡ true
+readable profile row address offset size (Some at) span long e cells =
+    known_num _ (part_read profile at.part (cell_kind row at.cell) (cell_num profile row at.cell long (part_is profile address offset size at e).within cells))
 readable profile row address offset size None None long e cells = refl
 readable profile row address offset size None (Some span) long e cells = all_numeric span 0 (drop 11 row) cells
 
@@ -406,19 +506,19 @@ refined_follows profile row c w left (operand.Immediate i) o t long plain cells 
 
 stored_follows : (profile : Profile) (row : Row) (size : Size) (base : Register) (offset : ℤ) (src : Operand) → IsLong profile row → PlainRow row → PlainCells row → IsNum (kind_from profile row src) → Follows row (row_stored profile (kind_at row base) offset (size_bytes size) (kind_from profile row src) row) (insn.Store size base offset src)
 stored_follows profile row size base offset src long plain cells h =
-    let o = whole_cell profile (kind_at row base) offset (size_bytes size) in
+    let o = part_at profile (kind_at row base) offset (size_bytes size) in
     let span = span_of (kind_at row base) offset (size_bytes size) in
     let k = kind_from profile row src in
     record {
       plain = λ r. subst (PlainAt r) (sym (stored_register profile o span k row r)) (plain r);
-      cells = stored_num profile o span k row (some_registers profile row long) h cells;
+      cells = stored_num profile (kind_at row base) offset (size_bytes size) o span k row long refl h cells;
       unset = λ r u. (sym (stored_register profile o span k row r) ∙ u, λ q. cc);
     }
 
 pub after_follows : (profile : Profile) (callee : Callee) (row : Row) (x : Insn) → IsLong profile row → PlainRow row → PlainCells row → IsPlainInsn x → any_unset row (reads no_calls x) ≡ false → Follows row (row_after profile callee row x) x
 after_follows profile callee row (insn.Alu o w dst src) long plain cells is u = written_follows row _ dst _ (some_registers profile row long) plain cells (is.no_address dst (inl refl)) (result_number _ (alu_number profile row plain w dst src is.no_address o u)) refl
 after_follows profile callee row (insn.Swap kind n dst) long plain cells is u = written_follows row _ dst _ (some_registers profile row long) plain cells (is.no_address dst (inl refl)) (result_number _ (swap_result profile kind n (kind_at row dst) (register_number row dst [] plain (is.no_address dst (inl refl)) u))) refl
-after_follows profile callee row (insn.Load size extend dst base offset) long plain cells is u = written_follows row _ dst _ (some_registers profile row long) plain cells (is.no_address dst (inl refl)) (read_num profile row (kind_at row base) offset (size_bytes size) (whole_cell profile (kind_at row base) offset (size_bytes size)) (loaded profile size extend) long refl (loaded_number profile size extend) cells) refl
+after_follows profile callee row (insn.Load size extend dst base offset) long plain cells is u = written_follows row _ dst _ (some_registers profile row long) plain cells (is.no_address dst (inl refl)) (read_num profile row (kind_at row base) offset (size_bytes size) extend (part_at profile (kind_at row base) offset (size_bytes size)) (loaded profile size extend) long refl (loaded_number profile size extend) cells) refl
 after_follows profile callee row (insn.Store size base offset src) long plain cells is u = stored_follows profile row size base offset src long plain cells (operand_number profile row src plain is.no_address (or_right (is_unset (kind_at row base)) (any_unset row (operand_reads src)) u))
 after_follows profile callee row (insn.Jump distance) long plain cells is u = same_follows row _ plain cells refl
 after_follows profile callee row (insn.JumpIf c w left right o) long plain cells is u = refined_follows profile row c w left right o false (some_registers profile row long) plain cells is.no_address u
@@ -446,12 +546,14 @@ join_unset profile Unset = refl
 join_unset profile Dead = refl
 join_unset profile (Num a) = refl
 join_unset profile (Ptr s lo hi) = refl
+join_unset profile (Halves l h) = refl
 
 pub unset_join : (profile : Profile) (k : Kind) → join_of profile Unset k ≡ Unset
 unset_join profile Unset = refl
 unset_join profile Dead = refl
 unset_join profile (Num a) = refl
 unset_join profile (Ptr s lo hi) = refl
+unset_join profile (Halves l h) = refl
 
 pub at_join : (profile : Profile) (a b : Row) (r : ℕ) → get_or (join_rows profile a b) r Unset ≡ join_of profile (get_or a r Unset) (get_or b r Unset)
 at_join profile [] b r = sym (unset_join profile (get_or b r Unset))
@@ -467,7 +569,9 @@ module _ (profile : Profile) where
   join_plain_kinds (Num a) Dead h g = tt
   join_plain_kinds (Num a) (Num b) h g = num_or_unset _ (left_number _)
   join_plain_kinds (Num a) (Ptr q bl bh) h g = absurd g
+  join_plain_kinds (Num a) (Halves l u) h g = absurd g
   join_plain_kinds (Ptr q al ah) b h g = absurd h
+  join_plain_kinds (Halves l u) b h g = absurd h
 
   join_same : (a b k : Kind) → join_of profile k k ≡ k → a ≡ k → b ≡ k → join_of profile a b ≡ k
   join_same a b k j e f = ap (λ x. join_of profile x b) e ∙ ap (join_of profile k) f ∙ j
@@ -496,7 +600,9 @@ module _ (profile : Profile) where
   one_unset (Num a) Dead h g e = cc
   one_unset (Num a) (Num b) h g e = absurd (not_number _ (left_number _) e)
   one_unset (Num a) (Ptr q bl bh) h g e = absurd g
+  one_unset (Num a) (Halves l u) h g e = absurd g
   one_unset (Ptr q al ah) b h g e = absurd h
+  one_unset (Halves l u) b h g e = absurd h
 
   kept_pointer : (a b k : Kind) → join_of profile k k ≡ k → (k ≡ Unset → ⊥) → a ≡ k → b ≡ k → join_of profile a b ≡ Unset → (a ≡ Unset) ⊎ (b ≡ Unset)
   kept_pointer a b k j n e f u = absurd (n (sym (join_same a b k j e f) ∙ u))
@@ -528,14 +634,30 @@ module _ (profile : Profile) where
       join_none (k ∷ ks) = refl
   drop_join (suc m) (x ∷ a) (y ∷ b) = drop_join m a b
 
-  num_join : (a b : Kind) → IsNum a → IsNum b → IsNum (join_of profile a b)
+  words_known : (a b : Option Word) → IsSome a → IsSome b → IsSome (joined_words a b)
+  unfolding IsSome
+  words_known (Some a) (Some b) h g = tt
+  words_known (Some a) None h g = absurd g
+  words_known None b h g = absurd h
+
+  halves_join : (a b : Kind) → HoldsNum a → HoldsNum b → HoldsNum (Halves (joined_words (low_word a) (low_word b)) (joined_words (high_word a) (high_word b)))
+  halves_join a b h g =
+      both_known _ _ (words_known (low_word a) (low_word b) (low_known a h) (low_known b g)) (words_known (high_word a) (high_word b) (high_known a h) (high_known b g))
+
+  num_join : (a b : Kind) → HoldsNum a → HoldsNum b → HoldsNum (join_of profile a b)
   num_join Unset b h g = absurd h
   num_join Dead b h g = g
   num_join (Num a) Unset h g = absurd g
   num_join (Num a) Dead h g = tt
-  num_join (Num a) (Num b) h g = left_number _
+  num_join (Num a) (Num b) h g = num_held _ (left_number _)
+  num_join (Num a) (Halves l u) h g = halves_join (Num a) (Halves l u) h g
   num_join (Num a) (Ptr q bl bh) h g = absurd g
   num_join (Ptr q al ah) b h g = absurd h
+  num_join (Halves l u) Unset h g = absurd g
+  num_join (Halves l u) Dead h g = h
+  num_join (Halves l u) (Num b) h g = halves_join (Halves l u) (Num b) h g
+  num_join (Halves l u) (Ptr q bl bh) h g = absurd g
+  num_join (Halves l u) (Halves l' u') h g = halves_join (Halves l u) (Halves l' u') h g
 
   all_join : (a b : Row) → AllNum a → AllNum b → AllNum (join_rows profile a b)
   all_join [] b h g = tt

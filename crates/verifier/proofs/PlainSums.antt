@@ -13,7 +13,7 @@ use Rattle.insn.specs.declared.Insn.{Insn}
 use Rattle.memory.specs.declared.profile.Profile.{Profile}
 use Rattle.memory.specs.declared.profile.Profile.TheVariants.{Second}
 use Rattle.ranges.specs.declared.kind.Kind.{Kind}
-use Rattle.ranges.specs.declared.kind.Kind.TheVariants.{Unset, Dead, Num, Ptr}
+use Rattle.ranges.specs.declared.kind.Kind.TheVariants.{Unset, Dead, Num, Ptr, Halves}
 use Rattle.ranges.specs.declared.number.Number.{Number}
 use Rattle.ranges.specs.declared.range.Range.{Range}
 use Rattle.ranges.specs.Transfer.{address, pointer_left, kinds_left, refine_of}
@@ -34,6 +34,7 @@ at_most_number n Unset h = tt
 at_most_number n Dead h = tt
 at_most_number n (Num a) h = num_or_unset _ (narrowed_number n a)
 at_most_number n (Ptr q lo hi) h = absurd h
+at_most_number n (Halves l u) h = absurd h
 
 at_most_plain : (n : ℕ) (r : Register) (k : Kind) → PlainAt r k → PlainAt r (at_most n k)
 at_most_plain n R0 k h = at_most_number n k h
@@ -62,6 +63,7 @@ left_pair q lo hi k (Some p) = left_pointer q lo hi p.0.range
 
 refined_pointer : (q : Region) (lo hi : ℤ) (k : Kind) → IsPointer (refine_of Second LessEqual W64 (Ptr q lo hi) k true).0
 refined_pointer q lo hi Unset = tt
+refined_pointer q lo hi (Halves l h) = tt
 refined_pointer q lo hi Dead = tt
 refined_pointer q lo hi (Num b) = left_pair q lo hi (Num b) _
 refined_pointer q lo hi (Ptr s l h) = left_pair q lo hi (Ptr s l h) _
@@ -77,6 +79,7 @@ unset_before n Unset h = refl
 unset_before n Dead h = h
 unset_before n (Num a) h = absurd (not_number _ (narrowed_number n a) h)
 unset_before n (Ptr q lo hi) h = absurd (not_unset _ (pointer_stays n q lo hi) h)
+unset_before n (Halves l u) h = h
 
 -- ---- a row
 

@@ -17,14 +17,14 @@ use Rattle.memory.specs.State.{no_calls, reads, writes, operand_reads}
 use Rattle.memory.specs.declared.Region.{Region}
 use Rattle.memory.specs.declared.Region.TheVariants.{Stack, Input, Output}
 use Rattle.ranges.specs.declared.kind.Kind.{Kind}
-use Rattle.ranges.specs.declared.kind.Kind.TheVariants.{Unset, Dead, Num, Ptr}
+use Rattle.ranges.specs.declared.kind.Kind.TheVariants.{Unset, Dead, Num, Ptr, Halves}
 use Rattle.memory.specs.declared.profile.Profile.{Profile}
 use Rattle.ranges.specs.Transfer.{join_of}
 use Rattle.bpfimage.specs.declared.form.FormRule.TheVariants.{Unreachable}
 use Rattle.bpfimage.specs.Form.{next_of, GoesTo, IsPath}
 use Rattle.verifier.specs.Program.{Program}
 use Rattle.verifier.specs.declared.rule.KindRule.TheVariants.{UnsetRead, OutsideWindow, InputStored}
-use Rattle.verifier.specs.Cells.{span_of, whole_cell}
+use Rattle.verifier.specs.Cells.{span_of, part_at}
 use Rattle.verifier.specs.Registers.{Row, kind_at, kind_from, with_kind, entry, is_unset, is_input_pointer, any_unset, first_offset, end_offset, is_inside}
 use Rattle.helpers.specs.Calls.{Callee}
 use Rattle.verifier.specs.Rules.{callee_in, rules_of, class_rules, refined, row_after, row_taken}
@@ -145,7 +145,7 @@ after_unset profile callee row (insn.Alu o w dst src) r other h u = written_or_u
 after_unset profile callee row (insn.Swap kind n dst) r other h u = written_or_unset row (insn.Swap kind n dst) dst r _ refl u
 after_unset profile callee row (insn.Load size extend dst base offset) r other h u = written_or_unset row (insn.Load size extend dst base offset) dst r _ refl u
 after_unset profile callee row (insn.Store size base offset src) r other h u =
-    inr (stored_register profile (whole_cell profile (kind_at row base) offset (size_bytes size)) (span_of (kind_at row base) offset (size_bytes size)) (kind_from profile row src) row r ∙ u)
+    inr (stored_register profile (part_at profile (kind_at row base) offset (size_bytes size)) (span_of (kind_at row base) offset (size_bytes size)) (kind_from profile row src) row r ∙ u)
 after_unset profile callee row (insn.Jump d) r other h u = inr u
 after_unset profile callee row (insn.JumpIf c w left right o) r other h u = inr (refined_unset profile row c w left right false r h u)
 after_unset profile callee row (insn.Call n) r other h u = absurd (other n refl)
@@ -269,6 +269,7 @@ no_window p Unset offset size h t = cc
 no_window p Dead offset size h t = cc
 no_window p (Num a) offset size h t = cc
 no_window p (Ptr q lo hi) offset size h t = h
+no_window p (Halves l u) offset size h t = h
 
 window_at : (p : Program) (r : Register) (k : Kind) (offset : ℤ) (size : ℕ) → PlainAt r k → is_inside p k offset size ≡ true → InWindow p r offset size
 window_at p R0 k offset size h t = no_window p k offset size h t

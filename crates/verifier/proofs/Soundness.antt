@@ -30,7 +30,7 @@ use Rattle.bpfimage.specs.Form.{next_of, target_of}
 use Rattle.helpers.specs.Calls.{Callee, Copy, Fill, Same, Helper, Unknown, calls_of}
 use Rattle.verifier.specs.Program.{Program, HasLimits, IsSafeProgram}
 use Rattle.verifier.specs.Registers.{Row, cell_count, IsLong, kind_at, kind_from, one_number, entry}
-use Rattle.verifier.specs.Cells.{span_of, whole_cell, row_written}
+use Rattle.verifier.specs.Cells.{span_of, part_at, row_written}
 use Rattle.verifier.specs.Answered.{answer_kind}
 use Rattle.verifier.specs.Rules.{callee_in, loaded, row_after, row_taken, rules_of}
 use Rattle.verifier.specs.Sums.{sum_at, row_on}
@@ -54,7 +54,7 @@ pub after_is_long : (profile : Profile) (callee : Callee) (row : Row) (x : Insn)
 after_is_long profile callee row (insn.Alu o w d src) h = length-set _ _ _ ∙ h
 after_is_long profile callee row (insn.Swap k n d) h = length-set _ _ _ ∙ h
 after_is_long profile callee row (insn.Load size x d r o) h = length-set _ _ _ ∙ h
-after_is_long profile callee row (insn.Store size r o src) h = stored_long profile (whole_cell profile (kind_at row r) o (size_bytes size)) (span_of (kind_at row r) o (size_bytes size)) (kind_from profile row src) row ∙ h
+after_is_long profile callee row (insn.Store size r o src) h = stored_long profile (part_at profile (kind_at row r) o (size_bytes size)) (span_of (kind_at row r) o (size_bytes size)) (kind_from profile row src) row ∙ h
 after_is_long profile callee row (insn.Jump d) h = h
 after_is_long profile callee row (insn.JumpIf c w l r o) h = refined_is_long profile c w l r false row h
 after_is_long profile callee row (insn.Call n) h = let e = length-drop 6 (row_written profile callee row) in let w = written_long profile callee row in omega (arith, h, e, w)
@@ -103,8 +103,8 @@ module _ (profile : Profile) (sound : IsSoundTable profile) where
   after_kinds callee row (insn.Alu o w d src) is h =
       kinds_set row (number d) _ h (result_is_kind (transfer_of profile o w (kind_at row d) (kind_from profile row src)) (sound.operation_kind o w (kind_at row d) (kind_from profile row src) (h (number d)) (from_kind row src h)))
   after_kinds callee row (insn.Swap k n d) is h = kinds_set row (number d) _ h (result_is_kind (swap_of profile k n (kind_at row d)) (sound.swap_kind k n (kind_at row d)))
-  after_kinds callee row (insn.Load size x d r o) is h = kinds_set row (number d) _ h (read_kinds (whole_cell profile (kind_at row r) o (size_bytes size)) (loaded profile size x) row h (loaded_kind size x))
-  after_kinds callee row (insn.Store size r o src) is h = stored_kinds profile (whole_cell profile (kind_at row r) o (size_bytes size)) (span_of (kind_at row r) o (size_bytes size)) (kind_from profile row src) row h (from_kind row src h)
+  after_kinds callee row (insn.Load size x d r o) is h = kinds_set row (number d) _ h (read_kinds profile sound x (part_at profile (kind_at row r) o (size_bytes size)) (loaded profile size x) row h (loaded_kind size x))
+  after_kinds callee row (insn.Store size r o src) is h = stored_kinds profile sound (part_at profile (kind_at row r) o (size_bytes size)) (span_of (kind_at row r) o (size_bytes size)) (kind_from profile row src) row h (from_kind row src h)
   after_kinds callee row (insn.Jump d) is h = h
   after_kinds callee row (insn.JumpIf c w l r o) is h = refined_kinds profile sound c w l r false row h
   after_kinds callee row (insn.Call n) is h = call_kinds (answer_kind profile callee) (row_written profile callee row) (answer_is_kind callee) (written_kinds profile callee row h)

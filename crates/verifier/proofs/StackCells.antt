@@ -9,6 +9,8 @@ use Rattle.insn.specs.Encoding.{number}
 use Rattle.insn.specs.declared.Register.{Register}
 use Rattle.insn.specs.declared.Register.TheVariants.{R0, R1, R2, R3, R4, R5, R6, R7, R8, R9, R10}
 use Rattle.insn.specs.declared.Size.TheVariants.{Double}
+use Rattle.insn.specs.declared.Extend.{Extend}
+use Rattle.insn.specs.declared.Extend.TheVariants.{Zero, Sign}
 use Rattle.memory.specs.Windows.{little_endian, overwritten}
 use Rattle.memory.specs.State.{State, register}
 use Rattle.memory.specs.Step.{AreBytes}
@@ -16,7 +18,7 @@ use Rattle.memory.specs.declared.Region.{Region}
 use Rattle.memory.specs.declared.profile.Profile.{Profile}
 use Rattle.memory.specs.declared.profile.Profile.TheVariants.{First, Second}
 use Rattle.ranges.specs.declared.kind.Kind.{Kind}
-use Rattle.ranges.specs.declared.kind.Kind.TheVariants.{Unset, Dead, Num, Ptr}
+use Rattle.ranges.specs.declared.kind.Kind.TheVariants.{Unset, Dead, Num, Ptr, Halves}
 use Rattle.ranges.specs.Kinds.{Admits, IsKind}
 use Rattle.ranges.specs.Numbers.{full}
 use Rattle.ranges.specs.Transfer.{kind_in}
@@ -25,6 +27,7 @@ use Rattle.verifier.specs.Registers.{Row, cell_count, IsLong, kind_at, with_kind
 use Rattle.verifier.specs.Cells.{is_touched, cell_kind, with_cell, touched, cells_touched, row_touched, row_stored_in, read_kind, span_given, row_written}
 use Rattle.helpers.specs.Calls.{Callee, Copy, Fill, Same, Helper, Unknown}
 use Rattle.verifier.specs.Table.{AreKinds}
+use Rattle.verifier.specs.declared.cell_part.CellPart.{CellPart}
 use Rattle.verifier.specs.declared.span.Span.{Span}
 use Rattle.verifier.proofs.Words.{bytes_take, bytes_drop, read_small}
 use Rattle.verifier.proofs.RowSteps.{kinds_set, kinds_take, kinds_drop}
@@ -137,6 +140,9 @@ touched_kind profile Unset = tt
 touched_kind profile Dead = any_kind profile
 touched_kind profile (Num a) = any_kind profile
 touched_kind profile (Ptr r lo hi) = tt
+touched_kind profile (Halves (Some low) (Some high)) = any_kind profile
+touched_kind profile (Halves (Some low) None) = tt
+touched_kind profile (Halves None high) = tt
 
 cells_kinds : (profile : Profile) (span : Span) (place : ℕ) (ks : List Kind) → AreKinds ks → AreKinds (cells_touched profile span place ks)
 cells_kinds profile span place [] h r = tt
@@ -167,6 +173,9 @@ module _ (profile : Profile) (sound : IsSoundTable profile) where
   touched_admits Dead n h = sound.range (full 64) n (omega arith) (omega arith, omega arith)
   touched_admits (Num a) n h = sound.range (full 64) n (omega arith) (omega arith, omega arith)
   touched_admits (Ptr r lo hi) n h = tt
+  touched_admits (Halves (Some low) (Some high)) n h = sound.range (full 64) n (omega arith) (omega arith, omega arith)
+  touched_admits (Halves (Some low) None) n h = tt
+  touched_admits (Halves None high) n h = tt
 
   one_cell : (b : Bool) (k : Kind) (old new : ℕ) → new < 2 ^ 64 → (b ≡ false → new ≡ old) → Admits k (Some old) → Admits (cond b (touched profile k) k) (Some new)
   one_cell true k old new f keep h = touched_admits k new f
@@ -239,7 +248,7 @@ drop_none : (n : ℕ) → drop {A = ℕ} n [] ≡ []
 drop_none zero = refl
 drop_none (suc n) = refl
 
-drop_twice : (m n : ℕ) (bytes : List ℕ) → drop n (drop m bytes) ≡ drop (m + n) bytes
+pub drop_twice : (m n : ℕ) (bytes : List ℕ) → drop n (drop m bytes) ≡ drop (m + n) bytes
 drop_twice zero n bytes = ap (λ k. drop k bytes) (omega arith)
 drop_twice (suc m) n [] = drop_none n ∙ sym (drop_none (suc m + n))
 drop_twice (suc m) n (b ∷ bytes) = let e : suc (m + n) ≡ suc m + n = omega arith in drop_twice m n bytes ∙ ap (λ k. drop k (b ∷ bytes)) e
@@ -258,24 +267,6 @@ seam [] ys zero g = refl
 seam [] ys (suc n) g = absurd (omega arith)
 seam (x ∷ xs) ys zero g = absurd (omega arith)
 seam (x ∷ xs) ys (suc n) g = seam xs ys n (omega arith)
-
--- what is overwritten as a whole
-pub whole_read : (bytes : List ℕ) (at : ℕ) (new : List ℕ) → at ≤ length bytes → length new ≡ 8 → take 8 (drop at (overwritten bytes at new)) ≡ new
-whole_read bytes at new h e =
-    let front : length (take at bytes) ≡ at = length-take-le at bytes h in
-    ap (take 8) (behind (take at bytes) new (drop (at + length new) bytes) at front) ∙ front_of new (drop (at + length new) bytes) 8 e
-  where
-    behind : (xs ys zs : List ℕ) (n : ℕ) → length xs ≡ n → drop n (xs ++ ys ++ zs) ≡ ys ++ zs
-    behind [] ys zs zero g = refl
-    behind [] ys zs (suc n) g = absurd (omega arith)
-    behind (x ∷ xs) ys zs zero g = absurd (omega arith)
-    behind (x ∷ xs) ys zs (suc n) g = behind xs ys zs n (omega arith)
-
-    front_of : (xs ys : List ℕ) (n : ℕ) → length xs ≡ n → take n (xs ++ ys) ≡ xs
-    front_of [] ys zero g = refl
-    front_of [] ys (suc n) g = absurd (omega arith)
-    front_of (x ∷ xs) ys zero g = absurd (omega arith)
-    front_of (x ∷ xs) ys (suc n) g = ap (λ zs. x ∷ zs) (front_of xs ys n (omega arith))
 
 -- a write that fills cell i touches no other
 untouched : (profile : Profile) (span : Span) (place : ℕ) (ks : List Kind) → span.to ≤ℤ pos place → cells_touched profile span place ks ≡ ks
@@ -335,9 +326,9 @@ touched_long profile (Some span) row =
     ∙ sym (length-append (take 11 row) (drop 11 row))
     ∙ ap length (take-append-drop 11 row)
 
-pub stored_long : (profile : Profile) (o : Option ℕ) (span : Option Span) (k : Kind) (row : Row) → length (row_stored_in profile o span k row) ≡ length row
+pub stored_long : (profile : Profile) (o : Option CellPart) (span : Option Span) (k : Kind) (row : Row) → length (row_stored_in profile o span k row) ≡ length row
 stored_long profile None span k row = touched_long profile span row
-stored_long profile (Some i) span k row = length-set row (11 + i) k
+stored_long profile (Some at) span k row = length-set row (11 + at.cell) _
 
 pub written_long : (profile : Profile) (callee : Callee) (row : Row) → length (row_written profile callee row) ≡ length row
 written_long profile Copy row = touched_long profile (span_given 65536 (kind_at row R1) (kind_at row R3)) row
@@ -348,9 +339,15 @@ written_long profile Unknown row = refl
 
 -- ---- kinds
 
-pub stored_kinds : (profile : Profile) (o : Option ℕ) (span : Option Span) (k : Kind) (row : Row) → AreKinds row → IsKind k → AreKinds (row_stored_in profile o span k row)
-stored_kinds profile None span k row h hk = row_touched_kinds profile span row h
-stored_kinds profile (Some i) span k row h hk = kinds_set row (11 + i) k h hk
+module _ (profile : Profile) (sound : IsSoundTable profile) where
+  pub stored_kinds : (o : Option CellPart) (span : Option Span) (k : Kind) (row : Row) → AreKinds row → IsKind k → AreKinds (row_stored_in profile o span k row)
+  stored_kinds None span k row h hk = row_touched_kinds profile span row h
+  stored_kinds (Some at) span k row h hk = kinds_set row (11 + at.cell) _ h (sound.written_kind at.part k (cell_kind row at.cell) hk (h (11 + at.cell)))
+
+  pub read_kinds : (extend : Extend) (o : Option CellPart) (k : Kind) (row : Row) → AreKinds row → IsKind k → IsKind (read_kind profile extend o k row)
+  read_kinds Zero None k row h hk = hk
+  read_kinds Sign o k row h hk = hk
+  read_kinds Zero (Some at) k row h hk = sound.part_kind at.part (cell_kind row at.cell) (h (11 + at.cell))
 
 pub written_kinds : (profile : Profile) (callee : Callee) (row : Row) → AreKinds row → AreKinds (row_written profile callee row)
 written_kinds profile Copy row h = row_touched_kinds profile (span_given 65536 (kind_at row R1) (kind_at row R3)) row h
@@ -358,10 +355,6 @@ written_kinds profile Fill row h = row_touched_kinds profile (span_given 65536 (
 written_kinds profile Same row h = h
 written_kinds profile (Helper sig) row h = h
 written_kinds profile Unknown row h = h
-
-pub read_kinds : (o : Option ℕ) (k : Kind) (row : Row) → AreKinds row → IsKind k → IsKind (read_kind o k row)
-read_kinds None k row h hk = hk
-read_kinds (Some i) k row h hk = h (11 + i)
 
 -- ---- the start
 
@@ -399,9 +392,9 @@ set_away (x ∷ row) zero j k h = absurd (omega arith)
 set_away (x ∷ row) (suc i) zero k h = refl
 set_away (x ∷ row) (suc i) (suc j) k h = set_away row i j k (omega arith)
 
-pub stored_register : (profile : Profile) (o : Option ℕ) (span : Option Span) (k : Kind) (row : Row) (r : Register) → kind_at (row_stored_in profile o span k row) r ≡ kind_at row r
+pub stored_register : (profile : Profile) (o : Option CellPart) (span : Option Span) (k : Kind) (row : Row) (r : Register) → kind_at (row_stored_in profile o span k row) r ≡ kind_at row r
 stored_register profile None span k row r = touched_register profile span row r
-stored_register profile (Some i) span k row r = set_away row (11 + i) (number r) k (omega (arith, number_small r))
+stored_register profile (Some at) span k row r = set_away row (11 + at.cell) (number r) _ (omega (arith, number_small r))
 
 -- ---- what the code does
 

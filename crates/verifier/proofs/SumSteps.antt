@@ -18,7 +18,7 @@ use Rattle.memory.specs.State.{State, register, number_in, operand_in}
 use Rattle.memory.specs.declared.profile.Profile.{Profile}
 use Rattle.memory.specs.declared.profile.Profile.TheVariants.{First, Second}
 use Rattle.ranges.specs.declared.kind.Kind.{Kind}
-use Rattle.ranges.specs.declared.kind.Kind.TheVariants.{Unset, Dead, Num, Ptr}
+use Rattle.ranges.specs.declared.kind.Kind.TheVariants.{Unset, Dead, Num, Ptr, Halves}
 use Rattle.ranges.specs.Kinds.{Admits, IsKind, origin}
 use Rattle.ranges.specs.Transfer.{address}
 use Rattle.memory.specs.declared.Region.{Region}
@@ -104,18 +104,21 @@ address_is region z low = let bounds = origin_bounds region in abs_is (pos (orig
 
 least_of : (k : Kind) (x : ℕ) → IsKind k → Admits k (Some x) → least k ≤ x
 least_of Unset x is h = omega arith
+least_of (Halves l u) x is h = omega arith
 least_of Dead x is h = absurd h
 least_of (Num a) x is h = h.within.0
 least_of (Ptr q lo hi) x is h = let first = address_is q lo is.0 in omega (arith, ints, first, h)
 
 most_of : (k : Kind) (x : ℕ) → IsKind k → x < 2 ^ 64 → Admits k (Some x) → x ≤ most k
 most_of Unset x is w h = omega (arith, w)
+most_of (Halves l u) x is w h = omega (arith, w)
 most_of Dead x is w h = absurd h
 most_of (Num a) x is w h = h.within.1
 most_of (Ptr q lo hi) x is w h = let last = address_is q hi (omega (arith, ints, is)) in omega (arith, ints, last, h)
 
 pub most_word : (k : Kind) → IsKind k → most k < 2 ^ 64
 most_word Unset h = omega arith
+most_word (Halves l u) h = omega arith
 most_word Dead h = omega arith
 most_word (Num a) h = h.range.fits
 most_word (Ptr q lo hi) h = let last = address_is q hi (omega (arith, ints, h)) in let bounds = origin_bounds q in omega (arith, ints, last, bounds, h)
@@ -138,6 +141,7 @@ module _ (sound : IsSoundTable Second) where
   -- ---- kinds stay kinds
   at_most_kind : (n : ℕ) (k : Kind) → n < 2 ^ 64 → IsKind k → IsKind (at_most n k)
   at_most_kind n Unset lt h = h
+  at_most_kind n (Halves l u) lt h = h
   at_most_kind n Dead lt h = h
   at_most_kind n (Num a) lt h = (sound.comparison_kind LessEqual W64 (Num a) (one_number Second n) true h (sound.range_kind (single n) (omega arith) lt)).0
   at_most_kind n (Ptr q lo hi) lt h =
@@ -163,6 +167,7 @@ module _ (sound : IsSoundTable Second) where
   -- ---- what is told is so
   at_most_value : (n : ℕ) (k : Kind) (v : Option ℕ) → n < 2 ^ 64 → IsKind k → unwrap_or v 0 ≤ n → Admits k v → Admits (at_most n k) v
   at_most_value n Unset v lt is le h = h
+  at_most_value n (Halves l u) v lt is le h = h
   at_most_value n Dead v lt is le h = h
   at_most_value n (Num a) None lt is le h = absurd h
   at_most_value n (Num a) (Some x) lt is le h =
@@ -189,6 +194,7 @@ module _ (sound : IsSoundTable Second) where
     admits_number Dead None a = absurd a
     admits_number (Num b) None a = absurd a
     admits_number (Ptr r lo hi) None a = absurd a
+    admits_number (Halves l u) None a = absurd a
 
     number_fits : (v : Option ℕ) → IsWord v → unwrap_or v 0 < 2 ^ 64
     number_fits None w = omega arith

@@ -16,15 +16,17 @@ use Rattle.ranges.specs.declared.kind.Kind.TheVariants.{Unset, Ptr}
 use Rattle.memory.specs.declared.Region.TheVariants.{Stack}
 use Rattle.ranges.specs.Transfer.{join_of}
 use Rattle.helpers.specs.Calls.{Callee, Copy, Fill, Same, Helper, Unknown}
+use Rattle.verifier.specs.declared.cell_part.CellPart.{CellPart}
 use Rattle.verifier.specs.declared.span.Span.{Span}
 use Rattle.verifier.specs.Registers.{Row, cell_count, one_number, kind_at, with_kind}
-use Rattle.verifier.specs.Cells.{is_touched, touched, cells_touched, row_touched, row_stored_in, whole_cell, span_of, span_by_call, span_written, row_written}
+use Rattle.verifier.specs.Cells.{is_touched, touched, cells_touched, row_touched, row_stored_in, part_at, span_of, span_by_call, span_written, row_written}
 use Rattle.verifier.specs.Answered.{answer_kind, row_after_call}
 use Rattle.verifier.specs.Rules.{row_after, row_taken, refined}
 use Rattle.verifier.specs.Table.{join_rows}
 use Rattle.verifier.specs.Rows.{StartsZero, IsKnown, HasKinds, AreRowKinds}
 use Rattle.verifier.proofs.StackCells.{number_small, put_first, first_row}
-use Rattle.verifier.proofs.CellSteps.{whole_is}
+use Rattle.verifier.proofs.CellSteps.{part_is}
+use Rattle.verifier.proofs.Parts.{offset_few}
 
 -- ---- joins
 
@@ -173,15 +175,16 @@ touched_zeros profile low row (Some span) long ends z = λ i ge lt.
     ∙ ap (λ n. get_or row n Unset) there
     ∙ z i ge lt
 
-whole_below : (profile : Profile) (k : Kind) (offset : ℤ) (size c low : ℕ) → whole_cell profile k offset size ≡ Some c → Ends low (span_of k offset size) → low ≤ 11 + c
-whole_below profile k offset size c low e ends =
-    let w = whole_is profile k offset size c e in
+part_below : (profile : Profile) (k : Kind) (offset : ℤ) (size : ℕ) (c : CellPart) (low : ℕ) → part_at profile k offset size ≡ Some c → Ends low (span_of k offset size) → low ≤ 11 + c.cell
+part_below profile k offset size c low e ends =
+    let w = part_is profile k offset size c e in
+    let first = offset_few c.part in
     let far : Ends low (span_of (Ptr Stack w.lo w.hi) offset size) = subst (λ a. Ends low (span_of a offset size)) w.is ends in
-    ⊎_elim (λ lt. let h = far lt in let p = w.place in omega (arith, ints, h, p, lt)) (λ ge. omega (arith, ge)) (cases_lt 11 low)
+    ⊎_elim (λ lt. let h = far lt in let p = w.place in omega (arith, ints, h, p, lt, first)) (λ ge. omega (arith, ge)) (cases_lt 11 low)
 
-stored_zeros : (profile : Profile) (low : ℕ) (row : Row) (o : Option ℕ) (span : Option Span) (k : Kind) → 11 ≤ length row → ((c : ℕ) → o ≡ Some c → low ≤ 11 + c) → Ends low span → StartsZero profile low row → StartsZero profile low (row_stored_in profile o span k row)
+stored_zeros : (profile : Profile) (low : ℕ) (row : Row) (o : Option CellPart) (span : Option Span) (k : Kind) → 11 ≤ length row → ((c : CellPart) → o ≡ Some c → low ≤ 11 + c.cell) → Ends low span → StartsZero profile low row → StartsZero profile low (row_stored_in profile o span k row)
 stored_zeros profile low row None span k long whole ends z = touched_zeros profile low row span long ends z
-stored_zeros profile low row (Some c) span k long whole ends z = λ i ge lt. let le = whole c refl in set_later row (11 + c) i k (omega (arith, le, lt)) ∙ z i ge lt
+stored_zeros profile low row (Some c) span k long whole ends z = λ i ge lt. let le = whole c refl in set_later row (11 + c.cell) i _ (omega (arith, le, lt)) ∙ z i ge lt
 
 written_zeros : (profile : Profile) (low : ℕ) (callee : Callee) (row : Row) → 11 ≤ length row → Ends low (span_by_call callee row) → StartsZero profile low row → StartsZero profile low (row_written profile callee row)
 written_zeros profile low Copy row long ends z = touched_zeros profile low row _ long ends z
@@ -203,8 +206,8 @@ after_zeros profile low callee row (insn.Alu o w dst src) long ends z = register
 after_zeros profile low callee row (insn.Swap kind n dst) long ends z = register_zeros profile low row dst _ z
 after_zeros profile low callee row (insn.Load size extend dst base o) long ends z = register_zeros profile low row dst _ z
 after_zeros profile low callee row (insn.Store size base o src) long ends z =
-    stored_zeros profile low row (whole_cell profile (kind_at row base) o (size_bytes size)) (span_of (kind_at row base) o (size_bytes size)) _ long
-    (λ c e. whole_below profile (kind_at row base) o (size_bytes size) c low e ends) ends z
+    stored_zeros profile low row (part_at profile (kind_at row base) o (size_bytes size)) (span_of (kind_at row base) o (size_bytes size)) _ long
+    (λ c e. part_below profile (kind_at row base) o (size_bytes size) c low e ends) ends z
 after_zeros profile low callee row (insn.Jump o) long ends z = z
 after_zeros profile low callee row (insn.JumpIf c w left right o) long ends z = refined_zeros profile low row c w left right false z
 after_zeros profile low callee row (insn.Call n) long ends z = called_zeros profile low callee row long ends z

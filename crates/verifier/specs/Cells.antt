@@ -1,21 +1,27 @@
 -- What is known of the stack's cells, which the second table of kinds has, and the first one not (this store's profiles).
-use Rattle.std.specs.Prelude.{ℕ, ◌+◌, ◌*◌, ◌/◌, ◌%◌, ◌==◌, ℤ, pos, negsuc, ◌+ℤ◌, int_le, int_lt, nat_lt, Bool, true, false, ◌&&◌, if◌then◌else◌, Option, None, Some, List, [], ◌∷◌, ◌++◌, take, drop, slice_index_or, slice_set}
+use Rattle.std.specs.Prelude.{ℕ, ◌+◌, ◌*◌, ◌/◌, ◌%◌, ◌==◌, ℤ, pos, negsuc, ◌+ℤ◌, ◌-ℤ◌, int_le, int_lt, nat_lt, Bool, true, false, ◌&&◌, if◌then◌else◌, Option, None, Some, List, [], ◌∷◌, ◌++◌, take, drop, slice_index_or, slice_set}
+use Rattle.std.specs.Option.{option_or}
 use Rattle.memory.specs.Windows.{longest_window}
 use Rattle.memory.specs.declared.Region.TheVariants.{Stack}
 use Rattle.insn.specs.Encoding.{size_bytes}
 use Rattle.insn.specs.declared.Register.TheVariants.{R1, R2, R3}
+use Rattle.insn.specs.declared.Extend.{Extend}
+use Rattle.insn.specs.declared.Extend.TheVariants.{Zero}
 use Rattle.insn.specs.declared.Insn.{Insn}
 use Rattle.insn.specs.declared.Insn.TheVariants as insn
 use Rattle.ranges.specs.Numbers.{full}
-use Rattle.ranges.specs.Transfer.{kind_in}
+use Rattle.ranges.specs.Transfer.{kind_in, part_of, with_part}
 use Rattle.memory.specs.declared.profile.Profile.{Profile}
 use Rattle.ranges.specs.declared.kind.Kind.{Kind}
-use Rattle.ranges.specs.declared.kind.Kind.TheVariants.{Unset, Dead, Num, Ptr}
+use Rattle.ranges.specs.declared.kind.Kind.TheVariants.{Unset, Dead, Num, Ptr, Halves}
+use Rattle.ranges.specs.declared.kind.Part.{Part}
+use Rattle.ranges.specs.declared.kind.Part.TheVariants.{Whole, Low, High}
 use Rattle.helpers.specs.declared.sig.ArgRule.{ArgRule}
 use Rattle.helpers.specs.declared.sig.ArgRule.TheVariants as rule
 use Rattle.helpers.specs.Calls.{Callee, Copy, Fill, Same, Helper, Unknown}
 use Rattle.verifier.specs.Registers.{Row, cell_count, kind_at}
 use Rattle.verifier.specs.CallKinds.{number_up_to, first_kind, argument_kinds}
+use Rattle.verifier.specs.declared.cell_part.CellPart.{CellPart}
 use Rattle.verifier.specs.declared.span.Span.{Span}
 
 -- ---- places on the stack, counted from its lowest byte
@@ -35,11 +41,21 @@ abbrev pub cell_from : ℕ → ℤ → Option ℕ
 cell_from count (pos n) = if n % 8 == 0 && nat_lt n (8 * count) then Some (n / 8) else None
 cell_from count (negsuc n) = None
 
--- the cell that an access reads or writes as a whole, if it does: its 8 bytes at one offset that is known
-abbrev pub whole_cell : Profile → Kind → ℤ → ℕ → Option ℕ
-whole_cell profile (Ptr Stack lo hi) offset size =
-    if int_le hi lo && size == 8 then cell_from (cell_count profile) (place_of lo offset) else None
-whole_cell profile k offset size = None
+-- that part of a cell, if there is such a cell
+abbrev pub in_cell : Part → Option ℕ → Option CellPart
+in_cell part None = None
+in_cell part (Some i) = Some (record { cell = i; part = part })
+
+-- the part of a cell, of so many, that begins at a place and has so many bytes: all 8, or a half of 4, the low one first
+abbrev pub part_from : ℕ → ℤ → ℕ → Option CellPart
+part_from count place size =
+    if size == 8 then in_cell Whole (cell_from count place)
+    else (if size == 4 then option_or (in_cell Low (cell_from count place)) (in_cell High (cell_from count (place -ℤ pos 4))) else None)
+
+-- the part of a cell that an access reads or writes, and no other byte, if it does: its bytes are at one offset that is known
+abbrev pub part_at : Profile → Kind → ℤ → ℕ → Option CellPart
+part_at profile (Ptr Stack lo hi) offset size = if int_le hi lo then part_from (cell_count profile) (place_of lo offset) size else None
+part_at profile k offset size = None
 
 -- whether the cell that begins at a place has a byte of a span, which may be empty
 abbrev pub is_touched : Span → ℕ → Bool
@@ -53,11 +69,12 @@ cell_kind row i = slice_index_or row (11 + i) Unset
 abbrev pub with_cell : Row → ℕ → Kind → Row
 with_cell row i k = slice_set row (11 + i) k
 
--- Of a cell that may have been written to in part, or as a part of more: where it held a number it holds some number, and
--- else nothing is known.
+-- Of a cell that may have been written to at places that aren't known, or as a part of more: where it held a number, or two words, it
+-- holds some number, and else nothing is known.
 abbrev pub touched : Profile → Kind → Kind
 touched profile (Num a) = kind_in profile (full 64)
 touched profile Dead = kind_in profile (full 64)
+touched profile (Halves (Some low) (Some high)) = kind_in profile (full 64)
 touched profile k = Unset
 
 -- the kinds of cells, of which the first begins at a place, after a write to some byte or all of a span
@@ -70,36 +87,42 @@ abbrev pub row_touched : Profile → Option Span → Row → Row
 row_touched profile None row = row
 row_touched profile (Some span) row = take 11 row ++ cells_touched profile span 0 (drop 11 row)
 
--- ---- stores: a cell that is written as a whole has the kind that is stored
+-- ---- stores: a cell that is written as a whole has the kind that is stored, and one of which a half is keeps the other
 
-abbrev pub row_stored_in : Profile → Option ℕ → Option Span → Kind → Row → Row
-row_stored_in profile (Some i) span k row = with_cell row i k
+abbrev pub row_stored_in : Profile → Option CellPart → Option Span → Kind → Row → Row
+row_stored_in profile (Some at) span k row = with_cell row at.cell (with_part at.part k (cell_kind row at.cell))
 row_stored_in profile None span k row = row_touched profile span row
 
 abbrev pub row_stored : Profile → Kind → ℤ → ℕ → Kind → Row → Row
 row_stored profile address offset size k row =
-    row_stored_in profile (whole_cell profile address offset size) (span_of address offset size) k row
+    row_stored_in profile (part_at profile address offset size) (span_of address offset size) k row
 
 -- a pointer may be stored where it fills a cell, and nowhere else
-abbrev pub is_cell : Option ℕ → Bool
+abbrev pub is_whole : Part → Bool
+is_whole Whole = true
+is_whole Low = false
+is_whole High = false
+
+abbrev pub is_cell : Option CellPart → Bool
 is_cell None = false
-is_cell (Some i) = true
+is_cell (Some at) = is_whole at.part
 
--- ---- loads: of a cell that is read as a whole they give its kind, else what is known by their size
+-- ---- loads: of a cell, or of a half with zeros above it, they give what is known of it, else what is known by their size
 
-abbrev pub read_kind : Option ℕ → Kind → Row → Kind
-read_kind (Some i) by_size row = cell_kind row i
-read_kind None by_size row = by_size
+abbrev pub read_kind : Profile → Extend → Option CellPart → Kind → Row → Kind
+read_kind profile Zero (Some at) by_size row = part_of profile at.part (cell_kind row at.cell)
+read_kind profile extend at by_size row = by_size
 
--- a cell that is read as a whole must be known
+-- what is read so must be known
 abbrev pub is_known : Kind → Bool
 is_known Unset = false
 is_known k = true
 
--- and each that any other read may touch must hold a number
+-- and each cell that any other read may touch must hold a number, or two words
 abbrev pub is_numeric : Kind → Bool
 is_numeric (Num a) = true
 is_numeric Dead = true
+is_numeric (Halves (Some low) (Some high)) = true
 is_numeric k = false
 
 abbrev pub are_numeric : Span → ℕ → List Kind → Bool
@@ -111,9 +134,9 @@ abbrev pub has_numbers : Row → Option Span → Bool
 has_numbers row None = true
 has_numbers row (Some span) = are_numeric span 0 (drop 11 row)
 
-abbrev pub is_readable : Option ℕ → Option Span → Row → Bool
-is_readable (Some i) span row = is_known (cell_kind row i)
-is_readable None span row = has_numbers row span
+abbrev pub is_readable : Profile → Option CellPart → Option Span → Row → Bool
+is_readable profile (Some at) span row = is_known (part_of profile at.part (cell_kind row at.cell))
+is_readable profile None span row = has_numbers row span
 
 -- ---- calls: they read and write bytes that a pointer and a number name, up to a limit, and no cell as a whole
 

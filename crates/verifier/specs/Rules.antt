@@ -28,7 +28,7 @@ use Rattle.helpers.specs.Calls.{Callee, Unknown, callee_of, arguments_with}
 use Rattle.verifier.specs.Program.{Program}
 use Rattle.verifier.specs.Registers.{Row, kind_at, with_kind, one_number, kind_from, is_pointer, is_input_pointer, any_unset, is_inside}
 use Rattle.verifier.specs.CallKinds.{is_unknown, is_given}
-use Rattle.verifier.specs.Cells.{span_of, whole_cell, row_stored, is_cell, read_kind, is_readable, call_reads_numbers}
+use Rattle.verifier.specs.Cells.{span_of, part_at, row_stored, is_cell, read_kind, is_readable, call_reads_numbers}
 use Rattle.verifier.specs.Answered.{row_after_call}
 use Rattle.verifier.specs.declared.rule.KindRule.{KindRule}
 use Rattle.verifier.specs.declared.rule.KindRule.TheVariants.{UnsetRead, FrameWritten, PointerOperand, FarOffset, OutsideWindow, InputStored, PointerStored, UnknownHelper, ArgumentRule, PointerAnswer, StackRead}
@@ -68,12 +68,12 @@ class_rules p callee row (insn.Alu op width dst src) = bad_result (transfer_of p
 class_rules p callee row (insn.Swap kind n dst) = bad_result (swap_of p.profile kind n (kind_at row dst)) ∷ []
 class_rules p callee row (insn.Load size extend dst base offset) =
     broken_if (not (is_inside p (kind_at row base) offset (size_bytes size))) OutsideWindow
-    ∷ broken_if (not (is_readable (whole_cell p.profile (kind_at row base) offset (size_bytes size)) (span_of (kind_at row base) offset (size_bytes size)) row)) StackRead
+    ∷ broken_if (not (is_readable p.profile (part_at p.profile (kind_at row base) offset (size_bytes size)) (span_of (kind_at row base) offset (size_bytes size)) row)) StackRead
     ∷ []
 class_rules p callee row (insn.Store size base offset src) =
     broken_if (not (is_inside p (kind_at row base) offset (size_bytes size))) OutsideWindow
     ∷ broken_if (is_input_pointer (kind_at row base)) InputStored
-    ∷ broken_if (is_pointer (kind_from p.profile row src) && not (is_cell (whole_cell p.profile (kind_at row base) offset (size_bytes size)))) PointerStored
+    ∷ broken_if (is_pointer (kind_from p.profile row src) && not (is_cell (part_at p.profile (kind_at row base) offset (size_bytes size)))) PointerStored
     ∷ []
 class_rules p callee row (insn.JumpIf c width left right offset) =
     broken_if (compares_pointer p.profile (kind_at row left) (kind_from p.profile row right)) PointerOperand ∷ []
@@ -131,7 +131,7 @@ abbrev pub row_after : Profile → Callee → Row → Insn → Row
 row_after profile callee row (insn.Alu op width dst src) = with_kind row dst (result_kind (transfer_of profile op width (kind_at row dst) (kind_from profile row src)))
 row_after profile callee row (insn.Swap kind n dst) = with_kind row dst (result_kind (swap_of profile kind n (kind_at row dst)))
 row_after profile callee row (insn.Load size extend dst base offset) =
-    with_kind row dst (read_kind (whole_cell profile (kind_at row base) offset (size_bytes size)) (loaded profile size extend) row)
+    with_kind row dst (read_kind profile extend (part_at profile (kind_at row base) offset (size_bytes size)) (loaded profile size extend) row)
 row_after profile callee row (insn.Store size base offset src) =
     row_stored profile (kind_at row base) offset (size_bytes size) (kind_from profile row src) row
 row_after profile callee row (insn.JumpIf c width left right offset) = refined profile c width left right false row

@@ -1,19 +1,22 @@
 //! What is known of the stack's cells.
 
-ghost use Rattle.std.specs.Prelude.{◌≡◌, ◌+◌, ◌-◌, ◌*◌, ◌≤◌, ◌<◌, ◌^◌, pos, negsuc, ◌+ℤ◌, ◌≤ℤ◌, int_le, if◌then◌else◌, IfSome, ◌++◌, length, take, drop};
+ghost use Rattle.std.specs.Prelude.{◌≡◌, ◌+◌, ◌-◌, ◌*◌, ◌≤◌, ◌<◌, ◌^◌, pos, negsuc, ◌+ℤ◌, ◌-ℤ◌, ◌≤ℤ◌, int_le, if◌then◌else◌, IfSome, ◌++◌, length, take, drop};
+ghost use Rattle.std.specs.Option.{option_or};
 ghost use Rattle.ranges.specs.Kinds.{IsKind};
+ghost use Rattle.ranges.specs.Transfer.{part_of};
 ghost use Rattle.verifier.specs.Registers.{cell_count};
 ghost use Rattle.verifier.specs.Table.{AreKinds};
 ghost use Rattle.verifier.specs.CallKinds.{callee_from};
-ghost use Rattle.verifier.specs.Cells.{place_of, span_of, cell_from, whole_cell, is_touched, touched, cells_touched, row_touched, row_stored_in, cell_kind, read_kind, is_numeric, are_numeric, has_numbers, is_readable, span_given, reads_numbers, own_numbers, call_reads_numbers, row_written, span_by_call, span_written};
+ghost use Rattle.verifier.specs.Cells.{place_of, span_of, cell_from, in_cell, part_from, part_at, is_touched, touched, cells_touched, row_touched, row_stored_in, cell_kind, is_whole, is_cell, read_kind, is_numeric, are_numeric, has_numbers, is_readable, span_given, reads_numbers, own_numbers, call_reads_numbers, row_written, span_by_call, span_written};
 
 use crate::callee::{Called, first_kind};
+use crate::cell_part::CellPart;
 use crate::kinds::{kind_of, put};
 use crate::span::Span;
 use helpers::ArgRule;
-use insn::{Insn, Register};
+use insn::{Extend, Insn, Register};
 use memory::{MAX_WINDOW, Region};
-use ranges::{Kind, Profile, Range, kind_in};
+use ranges::{Kind, Part, Profile, Range, kind_in};
 
 /// The place on the stack, counted from its lowest byte, at an offset from an offset that counts from its end.
 fn place_of(at: i64, offset: i16) -> i64
@@ -82,11 +85,52 @@ fn is_one(lo: i64, hi: i64) -> bool
     hi <= lo
 }
 
-/// The cell that an access reads or writes as a whole, if it does.
-pub fn whole_cell(profile: Profile, address: Kind, offset: i16, size: u32) -> Option<usize>
+/// A part of a cell, if there is such a cell.
+fn in_cell(part: Part, cell: Option<usize>) -> Option<CellPart>
+    requires { IfSome cell (λ i. i < 64) }
+    ensures table { result ≡ in_cell part cell }
+    ensures few { IfSome result (λ at. at.cell < 64) }
+{
+    match cell {
+        Some(cell) => Some(CellPart { cell, part }),
+        None => None,
+    }
+}
+
+/// The half of a cell, of so many, that begins at a place.
+fn half_from(count: u8, place: i64) -> Option<CellPart>
+    requires few { count ≤ 64 }
+    requires near { negsuc (2 ^ 34 - 1) ≤ℤ place }
+    ensures table { result ≡ option_or (in_cell Part.Low (cell_from count place)) (in_cell Part.High (cell_from count (place -ℤ pos 4))) }
+    ensures few { IfSome result (λ at. at.cell < 64) }
+{
+    match in_cell(Part::Low, cell_from(count, place)) {
+        Some(at) => Some(at),
+        None => in_cell(Part::High, cell_from(count, place - 4)),
+    }
+}
+
+/// The part of a cell, of so many, that begins at a place and has so many bytes.
+fn part_from(count: u8, place: i64, size: u32) -> Option<CellPart>
+    requires few { count ≤ 64 }
+    requires near { negsuc (2 ^ 34 - 1) ≤ℤ place }
+    ensures table { result ≡ part_from count place size }
+    ensures few { IfSome result (λ at. at.cell < 64) }
+{
+    if size == 8 {
+        in_cell(Part::Whole, cell_from(count, place))
+    } else if size == 4 {
+        half_from(count, place)
+    } else {
+        None
+    }
+}
+
+/// The part of a cell that an access reads or writes, and no other byte, if it does.
+pub fn part_at(profile: Profile, address: Kind, offset: i16, size: u32) -> Option<CellPart>
     requires { IsKind address }
-    ensures table { result ≡ whole_cell profile address offset size }
-    ensures few { IfSome result (λ i. i < 64) }
+    ensures table { result ≡ part_at profile address offset size }
+    ensures few { IfSome result (λ at. at.cell < 64) }
 {
     match address {
         Kind::Ptr {
@@ -94,8 +138,8 @@ pub fn whole_cell(profile: Profile, address: Kind, offset: i16, size: u32) -> Op
             lo,
             hi,
         } => {
-            if is_one(lo, hi) && size == 8 {
-                cell_from(cell_count(profile), place_of(lo, offset))
+            if is_one(lo, hi) {
+                part_from(cell_count(profile), place_of(lo, offset), size)
             } else {
                 None
             }
@@ -119,8 +163,13 @@ fn touched(profile: Profile, kind: Kind) -> Kind
     ensures kind { IsKind result }
 {
     match kind {
-        Kind::Num(_) | Kind::Dead => kind_in(profile, Range::up_to(u64::MAX)),
-        Kind::Unset | Kind::Ptr { .. } => Kind::Unset,
+        Kind::Num(_)
+        | Kind::Dead
+        | Kind::Halves {
+            low: Some(_),
+            high: Some(_),
+        } => kind_in(profile, Range::up_to(u64::MAX)),
+        Kind::Unset | Kind::Ptr { .. } | Kind::Halves { .. } => Kind::Unset,
     }
 }
 
@@ -184,25 +233,6 @@ fn touch(profile: Profile, span: Option<Span>, row: &mut [Kind])
     }
 }
 
-/// Stores a kind: into the cell that is written as a whole, if one is.
-pub fn store_kind(
-    profile: Profile,
-    cell: Option<usize>,
-    span: Option<Span>,
-    kind: Kind,
-    row: &mut [Kind],
-)
-    requires short { length row.old ≤ 75 }
-    requires cells { IfSome cell (λ i. i < 64) }
-    ensures table { row.new ≡ row_stored_in profile cell span kind row.old }
-    ensures kinds { AreKinds row.old → IsKind kind → AreKinds row.new }
-{
-    match cell {
-        Some(cell) => put(row, 11 + cell, kind),
-        None => touch(profile, span, row),
-    }
-}
-
 /// The kind of a cell.
 fn cell_kind(row: &[Kind], cell: usize) -> Kind
     requires { cell < 64 }
@@ -215,15 +245,70 @@ fn cell_kind(row: &[Kind], cell: usize) -> Kind
     }
 }
 
-/// What a load gives: the kind of the cell that it reads as a whole, or else what its size tells.
-pub fn read_kind(cell: Option<usize>, by_size: Kind, row: &[Kind]) -> Kind
-    requires { IfSome cell (λ i. i < 64) }
-    ensures table { result ≡ read_kind cell by_size row.now }
-    ensures kind { AreKinds row.now → IsKind by_size → IsKind result }
+/// Stores a kind: into the part of a cell that is written, if one is and no other byte.
+pub fn store_kind(
+    profile: Profile,
+    at: Option<CellPart>,
+    span: Option<Span>,
+    kind: Kind,
+    row: &mut [Kind],
+)
+    requires short { length row.old ≤ 75 }
+    requires cells { IfSome at (λ at. at.cell < 64) }
+    requires kinds { AreKinds row.old }
+    requires kind { IsKind kind }
+    ensures table { row.new ≡ row_stored_in profile at span kind row.old }
+    ensures kinds { AreKinds row.new }
 {
-    match cell {
-        Some(cell) => cell_kind(row, cell),
-        None => by_size,
+    match at {
+        Some(at) => {
+            let kind = cell_kind(row, at.cell).with_part(at.part, kind);
+            put(row, 11 + at.cell, kind)
+        }
+        None => touch(profile, span, row),
+    }
+}
+
+/// Whether it is all of a cell that is written.
+pub fn is_cell(at: Option<CellPart>) -> bool
+    ensures { result ≡ is_cell at }
+{
+    matches!(
+        at,
+        Some(CellPart {
+            part: Part::Whole,
+            ..
+        })
+    )
+}
+
+/// What is known of the part of a cell that is read, if one is and no other byte.
+fn part_kind(profile: Profile, at: CellPart, row: &[Kind]) -> Kind
+    requires cell { at.cell < 64 }
+    requires kinds { AreKinds row.now }
+    ensures table { result ≡ part_of profile at.part (cell_kind row.now at.cell) }
+    ensures kind { IsKind result }
+{
+    cell_kind(row, at.cell).part(profile, at.part)
+}
+
+/// What a load gives: what is known of the part of a cell that it reads, or else what its size tells.
+pub fn read_kind(
+    profile: Profile,
+    extend: Extend,
+    at: Option<CellPart>,
+    by_size: Kind,
+    row: &[Kind],
+) -> Kind
+    requires cells { IfSome at (λ at. at.cell < 64) }
+    requires kinds { AreKinds row.now }
+    requires kind { IsKind by_size }
+    ensures table { result ≡ read_kind profile extend at by_size row.now }
+    ensures kind { IsKind result }
+{
+    match (extend, at) {
+        (Extend::Zero, Some(at)) => part_kind(profile, at, row),
+        _ => by_size,
     }
 }
 
@@ -231,7 +316,15 @@ pub fn read_kind(cell: Option<usize>, by_size: Kind, row: &[Kind]) -> Kind
 fn is_numeric(kind: Kind) -> bool
     ensures { result ≡ is_numeric kind }
 {
-    matches!(kind, Kind::Num(_) | Kind::Dead)
+    matches!(
+        kind,
+        Kind::Num(_)
+            | Kind::Dead
+            | Kind::Halves {
+                low: Some(_),
+                high: Some(_),
+            }
+    )
 }
 
 /// Whether those cells hold numbers that a read may touch, of which the first begins at a place.
@@ -263,15 +356,16 @@ fn has_numbers(row: &[Kind], span: Option<Span>) -> bool
     }
 }
 
-/// Whether a load may read: the cell that it reads as a whole is known, and any others hold numbers.
-pub fn is_readable(cell: Option<usize>, span: Option<Span>, row: &[Kind]) -> bool
+/// Whether a load may read: the part of a cell that it reads is known, and any other cells hold numbers.
+pub fn is_readable(profile: Profile, at: Option<CellPart>, span: Option<Span>, row: &[Kind]) -> bool
     requires long { 11 ≤ length row.now }
     requires short { length row.now ≤ 75 }
-    requires cells { IfSome cell (λ i. i < 64) }
-    ensures { result ≡ is_readable cell span row.now }
+    requires cells { IfSome at (λ at. at.cell < 64) }
+    requires kinds { AreKinds row.now }
+    ensures { result ≡ is_readable profile at span row.now }
 {
-    match cell {
-        Some(cell) => cell_kind(row, cell) != Kind::Unset,
+    match at {
+        Some(at) => part_kind(profile, at, row) != Kind::Unset,
         None => has_numbers(row, span),
     }
 }

@@ -3,6 +3,7 @@
 
 mod callee;
 mod candidate;
+mod cell_part;
 mod cells;
 mod edges;
 mod kinds;

@@ -10,14 +10,17 @@ ghost use Rattle.verifier.specs.Candidates.{program_in};
 ghost use Rattle.verifier.specs.Registers.{kind_at, with_kind, kind_from, is_unset, is_pointer, any_unset, is_inside};
 ghost use Rattle.verifier.specs.CallKinds.{callee_from};
 ghost use Rattle.verifier.specs.Answered.{row_after_call};
-ghost use Rattle.verifier.specs.Cells.{span_of, whole_cell};
+ghost use Rattle.verifier.specs.Cells.{span_of, part_at};
 ghost use Rattle.verifier.specs.Rules.{is_frame, bad_result, result_kind, broken_if, first_of, compares_pointer, reads_by, call_rules, class_rules, rules_by, refined, row_after};
 ghost use Rattle.verifier.specs.Table.{AreKinds};
 ghost use Rattle.verifier.specs.declared.rule.KindRule.TheVariants.{PointerOperand};
 
 use crate::callee::{Called, is_argument_unset, is_given, leave_call};
 use crate::candidate::Candidate;
-use crate::cells::{call_reads_numbers, is_readable, read_kind, span_of, store_kind, whole_cell};
+use crate::cell_part::CellPart;
+use crate::cells::{
+    call_reads_numbers, is_cell, is_readable, part_at, read_kind, span_of, store_kind,
+};
 use crate::kinds::{kind_of, kind_of_operand, loaded, one_number, refine_row, set_kind};
 use crate::rule::KindRule;
 use crate::windows::is_inside;
@@ -103,7 +106,7 @@ fn settle(row: &mut [Kind], dst: Register, outcome: Result<Kind, Bad>) -> Option
     }
 }
 
-/// The first rule that a store breaks, of those that only it can break, by the cell that it writes as a whole, if it does.
+/// The first rule that a store breaks, of those that only it can break, by the part of a cell that it writes, if it does.
 fn store_rule(
     program: &Candidate,
     row: &[Kind],
@@ -111,10 +114,10 @@ fn store_rule(
     base: Register,
     offset: i16,
     src: Operand,
-    cell: Option<usize>,
+    at: Option<CellPart>,
 ) -> Option<KindRule>
     requires kinds { AreKinds row.now }
-    requires cell { cell ≡ whole_cell program.now.image.profile (kind_at row.now base) offset (size_bytes size) }
+    requires at { at ≡ part_at program.now.image.profile (kind_at row.now base) offset (size_bytes size) }
     ensures { result ≡ first_of (class_rules (program_in program.now) Unknown row.now (Insn.Store size base offset src)) }
 {
     let address = kind_of(row, base);
@@ -131,7 +134,7 @@ fn store_rule(
         return Some(KindRule::InputStored);
     }
     match kind_of_operand(program.image.profile, row, src) {
-        Kind::Ptr { .. } if cell.is_none() => Some(KindRule::PointerStored),
+        Kind::Ptr { .. } if !is_cell(at) => Some(KindRule::PointerStored),
         _ => None,
     }
 }
@@ -154,13 +157,13 @@ fn store(
 {
     let profile = program.image.profile;
     let address = kind_of(row, base);
-    let cell = whole_cell(profile, address, offset, size.bytes() as u32);
-    if let Some(rule) = store_rule(program, row, size, base, offset, src, cell) {
+    let at = part_at(profile, address, offset, size.bytes() as u32);
+    if let Some(rule) = store_rule(program, row, size, base, offset, src, at) {
         return Some(rule);
     }
     let kind = kind_of_operand(profile, row, src);
     let span = span_of(address, offset, size.bytes() as u32);
-    store_kind(profile, cell, span, kind, row);
+    store_kind(profile, at, span, kind, row);
     None
 }
 
@@ -245,12 +248,12 @@ fn load(
     if !is_access_inside(program, address, offset, size) {
         return Some(KindRule::OutsideWindow);
     }
-    let cell = whole_cell(profile, address, offset, size.bytes() as u32);
+    let at = part_at(profile, address, offset, size.bytes() as u32);
     let span = span_of(address, offset, size.bytes() as u32);
-    if !is_readable(cell, span, row) {
+    if !is_readable(profile, at, span, row) {
         return Some(KindRule::StackRead);
     }
-    let kind = read_kind(cell, loaded(profile, size, extend), row);
+    let kind = read_kind(profile, extend, at, loaded(profile, size, extend), row);
     set_kind(row, dst, kind);
     None
 }

@@ -1051,6 +1051,68 @@ SUMS = [
     ("a sum raised again", byte_where([copied(6, 7), raised(6, 1), raised(6, 1)]), TWO, refused(24, 7), refused(23, 6)),
 ]
 
+
+
+def store_word(offset, src):
+    return named(f"word r10{offset:+} = r{src}", 0x63, 10, src, offset, 0)
+
+
+def put_word(offset, n):
+    return named(f"word r10{offset:+} = {n}", 0x62, 10, 0, offset, n)
+
+
+def reload_word(dst, offset):
+    return named(f"r{dst} = word r10{offset:+}", 0x61, dst, 10, offset, 0)
+
+
+def at_word(offset, further=0):
+    """The byte of the input that a word of the stack names, or one so much further."""
+    return [reload_word(6, offset), added(1, 6), load_byte(0, 1, further), EXIT]
+
+
+# Words of 4 bytes in the stack's cells, with an input of 256 bytes and an output of 8.
+WORDS = [
+    # what a half holds
+    ("a word of the start", at_word(-4), PLACES, comes_to(0, 4), refused(23, 1)),
+    ("a word", [load_byte(6, 1, 9), store_word(-4, 6), *at_word(-4)], PLACES, comes_to(9, 6), refused(23, 3)),
+    ("the low word of two", [put_word(-8, 9), put_word(-4, 200), *at_word(-8)], PLACES, comes_to(9, 6), refused(23, 3)),
+    ("the high word of two", [put_word(-8, 9), put_word(-4, 200), *at_word(-4, 55)], PLACES, comes_to(255, 6), refused(23, 3)),
+    ("the high word of two, a byte too far", [put_word(-8, 9), put_word(-4, 200), *at_word(-4, 56)], PLACES, refused(24, 4), refused(23, 3)),
+    ("two words as one number", [put_word(-8, 9), put_word(-4, 0), *INDEX], PLACES, comes_to(9, 6), refused(23, 3)),
+    ("two words as one number, the high one not 0", [put_word(-8, 9), put_word(-4, 2), *INDEX], PLACES, refused(23, 3), refused(23, 3)),
+    ("a word with its sign", [put_word(-4, 9), fields(0x81, 6, 10, -4, 0), added(1, 6), CLEAR, EXIT], PLACES, refused(23, 2), refused(23, 2)),
+    # halves of numbers of 8 bytes
+    ("a word over the low half of a number", [store_number(10, -8, 9), put_word(-8, 7), *INDEX], PLACES, comes_to(7, 6), refused(23, 3)),
+    ("a word over the high half of a number", [store_number(10, -8, 9), put_word(-4, 7), *at_word(-8)], PLACES, comes_to(9, 6), refused(23, 3)),
+    ("the low half of a number", [load(6, 1, 0), store(10, -8, 6), *at_word(-8)], PLACES, refused(24, 4), refused(23, 3)),
+    ("the high half of a number", [load(6, 1, 0), fields(0x77, 6, 0, 0, 24), store(10, -8, 6), *at_word(-4)], PLACES, comes_to(7, 7), refused(23, 4)),
+    ("a word, and 8 bytes over it", [put_word(-8, 9), load(6, 1, 0), store(10, -8, 6), *at_word(-8)], PLACES, refused(24, 5), refused(23, 4)),
+    ("a wide number's low word stored", [load(6, 1, 0), store_word(-8, 6), *at_word(-8)], PLACES, refused(24, 4), refused(23, 3)),
+    # halves of pointers
+    ("a word over half a pointer", [SPILL, put_word(-8, 9), *at_word(-8)], PLACES, comes_to(9, 6), refused(26, 0)),
+    ("a word over a pointer's other half", [SPILL, put_word(-4, 9), *at_word(-4)], PLACES, comes_to(9, 6), refused(26, 0)),
+    ("the half of a pointer beside a word", [SPILL, put_word(-8, 9), reload_word(6, -4), CLEAR, EXIT], PLACES, refused(30, 2), refused(26, 0)),
+    ("the half of a pointer before a word", [SPILL, put_word(-4, 9), reload_word(6, -8), CLEAR, EXIT], PLACES, refused(30, 2), refused(26, 0)),
+    ("a word and half a pointer as one number", [SPILL, put_word(-8, 9), RELOAD, CLEAR, EXIT], PLACES, refused(30, 2), refused(26, 0)),
+    ("a byte of a word and half a pointer", [SPILL, put_word(-8, 9), load_byte(6, 10, -4), CLEAR, EXIT], PLACES, refused(30, 2), refused(26, 0)),
+    ("two words over a pointer", [SPILL, put_word(-8, 9), put_word(-4, 0), *INDEX], PLACES, comes_to(9, 7), refused(26, 0)),
+    ("a pointer over a word", [put_word(-8, 9), SPILL, *FIFTH], PLACES, comes_to(5, 5), refused(26, 1)),
+    # what may touch a word
+    ("a byte into a word", [put_word(-8, 9), store_byte(10, -8, 1), *at_word(-8)], PLACES, refused(24, 4), refused(23, 3)),
+    ("a byte into a word beside half a pointer", [SPILL, put_word(-8, 9), store_byte(10, -8, 1), reload_word(6, -8), CLEAR, EXIT], PLACES, refused(30, 3), refused(26, 0)),
+    ("four bytes across two words", [put_word(-8, 9), put_word(-6, 0), *at_word(-8)], PLACES, refused(24, 4), refused(23, 3)),
+    ("a word at one of two places", [SPILL, *ONE_OF_TWO, fields(0x62, 7, 0, -8, 9), reload_word(6, -8), CLEAR, EXIT], PLACES, refused(30, 6), refused(26, 0)),
+    ("a copy into a word", [put_word(-8, 9), copied(7, 1), copied(2, 1), copied(1, 10), raised(1, -8), put(3, 1), call(1), reload_word(6, -8), added(7, 6), load_byte(0, 7, 0), EXIT], PLACES, refused(24, 9), refused(23, 8)),
+    # where ways meet
+    ("two words on two ways", [put_word(-4, 3), ROUND_IF_EMPTY, put_word(-4, 7), *at_word(-4, 248)], PLACES, comes_to(255, 7), refused(23, 4)),
+    ("two words on two ways, a byte too far", [put_word(-4, 3), ROUND_IF_EMPTY, put_word(-4, 7), *at_word(-4, 249)], PLACES, refused(24, 5), refused(23, 4)),
+    ("a number on one way, a word on the other", [store_number(10, -8, 3), ROUND_IF_EMPTY, put_word(-8, 7), RELOAD, added(1, 6), load_byte(0, 1, 248), EXIT], PLACES, comes_to(255, 7), refused(23, 4)),
+    ("a pointer on one way, a word on the other", [SPILL, ROUND_IF_EMPTY, put_word(-8, 7), reload_word(6, -8), CLEAR, EXIT], PLACES, refused(30, 3), refused(26, 0)),
+    # calls
+    ("a copy of two words", [put_word(-8, 9), put_word(-4, 1), copied(1, 3), copied(2, 10), raised(2, -8), put(3, 8), call(1), EXIT], PLACES, comes_to(0, 8, [9, 0, 0, 0, 1, 0, 0, 0]), comes_to(0, 8, [9, 0, 0, 0, 1, 0, 0, 0])),
+    ("a copy of a word and half a pointer", [SPILL, put_word(-8, 9), copied(1, 3), copied(2, 10), raised(2, -8), put(3, 8), call(1), EXIT], PLACES, refused(30, 6), refused(26, 0)),
+]
+
 # A pointer that goes over the stack, with an input of 256 bytes.
 SPILLED = [SPILL, RELOAD, load_byte(0, 6, 0), EXIT]
 SPILLS = [
@@ -1061,7 +1123,7 @@ SPILLS = [
 
 
 def tables():
-    for windows, rows in [((256, 0), SPILLS), ((256, 8), CELLS), ((256, 0), NUMBERS), ((256, 8), POINTERS), ((256, 0), SUMS)]:
+    for windows, rows in [((256, 0), SPILLS), ((256, 8), CELLS), ((256, 0), NUMBERS), ((256, 8), POINTERS), ((256, 0), SUMS), ((256, 8), WORDS)]:
         for name, slots, given, second, first in rows:
             yield row(name, image(*windows, slots, 2), second, slots, given)
             yield row(f"{name}, version 1", image(*windows, slots), first, slots, given)

@@ -6,6 +6,7 @@ mod known;
 mod operations;
 mod pointers;
 mod wider;
+mod words;
 
 const MAX: u64 = u64::MAX;
 

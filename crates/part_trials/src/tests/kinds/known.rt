@@ -1,10 +1,10 @@
 //! What is known of a register, in words that a table can hold.
 
 ghost use Rattle.std.specs.Prelude.{◌↔◌, IsTrue};
-ghost use Rattle.ranges.specs.Kinds.{IsKind};
+ghost use Rattle.ranges.specs.Kinds.{IsKind, IsWord};
 
 use memory::Region;
-use ranges::{Bits, Kind, Number, Profile, Range};
+use ranges::{Bits, Kind, Number, Profile, Range, Word};
 
 /// What is known of a register.
 #[derive(Clone, Copy)]
@@ -19,11 +19,24 @@ pub enum Known {
     Bits(u64, u64, u64, u64),
     Stack(i64, i64),
     Input(i64, i64),
+    /// The two words of a cell, the low one first, each by its ends if it is known.
+    Words(Half, Half),
 }
+
+/// A word from its least number to its greatest, if it is known.
+pub type Half = Option<(u32, u32)>;
 
 pub const FULL: Known = Known::Num(0, u64::MAX);
 
 pub const FULL_32: Known = Known::Num(0, 0xffff_ffff);
+
+/// A word that says it.
+fn word(half: Half) -> Option<Word> {
+    match half {
+        Some((lo, hi)) => Some(Word { lo, hi }),
+        None => None,
+    }
+}
 
 /// A number of a range with some bits.
 fn number(lo: u64, hi: u64, zeros: u64, ones: u64) -> Kind {
@@ -53,11 +66,25 @@ impl Known {
                 lo,
                 hi,
             },
+            (Known::Words(low, high), _) => Kind::Halves {
+                low: word(low),
+                high: word(high),
+            },
         }
     }
 }
 
-/// Whether a kind may be known of a register.
+/// Whether a word may be known.
+fn is_word(word: Option<Word>) -> bool
+    ensures { IsTrue result ↔ IsWord word }
+{
+    match word {
+        Some(word) => word.lo <= word.hi,
+        None => true,
+    }
+}
+
+/// Whether a kind may be known of a register or a cell.
 pub fn is_kind(kind: Kind) -> bool
     ensures { IsTrue result ↔ IsKind kind }
 {
@@ -65,5 +92,6 @@ pub fn is_kind(kind: Kind) -> bool
         Kind::Unset | Kind::Dead => true,
         Kind::Num(a) => a.range.lo <= a.range.hi,
         Kind::Ptr { lo, hi, .. } => -(1 << 33) <= lo && lo <= hi && hi <= 1 << 33,
+        Kind::Halves { low, high } => is_word(low) && is_word(high),
     }
 }

@@ -1,5 +1,6 @@
 use Rattle.ranges.proofs.Operations.{range_sound, range_kind, transfer_sound, transfer_kind, swap_sound, swap_is_kind, refine_sound, refine_kinds}
 use Rattle.ranges.proofs.Joins.{join_left, join_right, join_kind}
+use Rattle.ranges.proofs.Words.{part_sound, part_kind, written_sound, written_kind}
 use Rattle.ranges.proofs.laws.kinds_are_sound.Goals as goal
 
 pub returns : goal.returns
@@ -16,4 +17,8 @@ returns c = λ profile.
       join_left = join_left profile;
       join_right = join_right profile;
       join_kind = join_kind profile;
+      part = part_sound profile;
+      part_kind = part_kind profile;
+      written = written_sound;
+      written_kind = written_kind;
     }
