@@ -14,8 +14,8 @@ use std::alloc::Global;
 /// With so many bytes the answers wait no longer for others.
 const MANY: usize = 65_536;
 
-/// So many rounds a connection has before others have their turn.
-const MOST_ROUNDS: u32 = 64;
+/// So many rounds a connection has before others have their turn: enough for a request or a few, and at most some tenth of a millisecond.
+const MOST_ROUNDS: u32 = 8;
 
 /// Whether requests are still taken.
 #[derive(Clone, Copy, Debug, PartialEq, Eq)]

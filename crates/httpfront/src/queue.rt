@@ -13,6 +13,9 @@ use std::alloc::{AllocError, Global};
 /// The most room that the buffer keeps while nothing waits.
 const KEPT: usize = 192;
 
+/// Room for a usual answer, made at once.
+const ANSWER: usize = 512;
+
 /// Bytes that wait, in order. Their buffer grows as it must, and is small while none wait.
 #[derive(Drop)]
 pub(crate) struct Queue {
@@ -77,7 +80,11 @@ impl Queue {
         ensures ok { OnOk result (waiting self.new ≡ waiting self.old ++ answer copies ask.now reply.now ends) }
         ensures err { OnErr result (waiting self.new ≡ []) }
     {
-        let pushed = desk.push_answer(&mut self.bytes, copies, ask, reply, ends);
+        self.give_up_gone();
+        let pushed = match self.bytes.reserve(ANSWER) {
+            Ok(()) => desk.push_answer(&mut self.bytes, copies, ask, reply, ends),
+            Err(error) => Err(error),
+        };
         if pushed.is_err() || self.bytes.len() <= self.start {
             self.bytes = Vec::new(self.alloc);
             self.start = 0;
@@ -106,6 +113,16 @@ impl Queue {
             self.bytes.clear();
         } else {
             self.bytes = Vec::new(self.alloc);
+        }
+    }
+
+    // Gives up the room of what went, where that is no less than what waits: so the buffer holds no more than twice what waited at a time,
+    // however long some do.
+    fn give_up_gone(&mut self)
+        ensures { waiting self.new ≡ waiting self.old }
+    {
+        if self.bytes.len() - self.start <= self.start {
+            self.close_up();
         }
     }
 

@@ -9,6 +9,7 @@ use httpfront::Failed;
 use mio::net::TcpStream;
 use mio::{Interest, Registry, Token};
 use std::io::{ErrorKind, Read as _, Write as _};
+use std::mem;
 use std::net::Shutdown;
 
 /// At most so many bytes are read and dropped after the last answer.
@@ -16,6 +17,9 @@ const MOST_DROPPED: usize = 262_144;
 
 /// So many reads of a connection that closes are made at once.
 const MOST_READS: u32 = 64;
+
+/// One of which so many bytes were read and written when it was attended takes its turn behind others, when it is reported next.
+const MUCH: usize = 65_536;
 
 /// What is done with a connection.
 #[derive(Clone, Copy, Debug, PartialEq, Eq)]
@@ -60,6 +64,12 @@ pub(crate) struct Line {
     pub(crate) has_taken: bool,
     /// Whether it was not read from, since nothing is read now.
     pub(crate) is_held: bool,
+    /// Whether it stands among those that are called again.
+    pub(crate) is_called: bool,
+    /// So many bytes were read and written since it was last noted how it stands.
+    moved: usize,
+    /// Whether that was much, when it was noted last.
+    pub(crate) moves_much: bool,
 }
 
 impl Line {
@@ -73,6 +83,9 @@ impl Line {
             watch: Watch::new(now),
             has_taken: false,
             is_held: false,
+            is_called: false,
+            moved: 0,
+            moves_much: false,
         }
     }
 
@@ -128,6 +141,7 @@ impl Line {
                 if n < buf.len() && self.inflow == Inflow::Ready {
                     self.inflow = Inflow::Dry;
                 }
+                self.moved = self.moved.saturating_add(n);
                 Ok(Heard::Bytes(n))
             }
             Err(error) if error.kind() == ErrorKind::WouldBlock => Ok(Heard::NotNow),
@@ -153,6 +167,7 @@ impl Line {
             Ok(0) => Err(Failed),
             Ok(n) => {
                 self.has_taken = true;
+                self.moved = self.moved.saturating_add(n);
                 Ok(Told::Bytes(n))
             }
             Err(error) if error.kind() == ErrorKind::WouldBlock => Ok(Told::NotNow),
@@ -164,14 +179,18 @@ impl Line {
         }
     }
 
-    /// It stands so in the hall now, and is read from or not. For the time for which it wasn't its client is not to blame.
-    pub(crate) fn note(&mut self, standing: Standing, reads: bool, now: u64) {
+    /// It stands so in the hall now, and is read from or not. For the time for which it wasn't its client is not to blame. Answers how many
+    /// bytes were read and written since this was noted last.
+    pub(crate) fn note(&mut self, standing: Standing, reads: bool, now: u64) -> usize {
         self.watch = self.watch.after(standing, self.has_taken, now);
         self.has_taken = false;
         if self.is_held && reads {
             self.is_held = false;
             self.watch.since = now;
         }
+        let moved = mem::replace(&mut self.moved, 0);
+        self.moves_much = moved >= MUCH;
+        moved
     }
 
     /// Tells the client that no more comes. Whether what it still sends is to be dropped.

@@ -42,6 +42,8 @@ pub(crate) struct Sockets {
     reading: Reading,
     /// The connections that were not read from, since nothing is read now.
     held: Vec<u64>,
+    /// The connections that are attended once more, in turn, behind those that are reported.
+    called: VecDeque<u64>,
     /// The connections whose last bytes are dropped, each with the time at which that ends.
     draining: VecDeque<(u64, u64)>,
     /// Room for bytes that are dropped.
@@ -64,6 +66,7 @@ impl Sockets {
             coming: None,
             reading: Reading::Allowed,
             held: Vec::new(alloc),
+            called: VecDeque::new(alloc),
             draining: VecDeque::new(alloc),
             room: vec![in alloc; 0; ROOM]?,
             now: 0,
@@ -102,21 +105,34 @@ impl Sockets {
     pub(crate) fn wait(&mut self, events: &mut Events, most: Duration) -> io::Result<()>
         ensures next { self.new.next ≡ self.old.next }
     {
-        let most = if self.draining.is_empty() {
-            most
-        } else {
-            most.min(Duration::from_millis(LINGER))
-        };
+        let most = self.longest_wait(most);
         self.poll.poll(events, Some(most))
     }
 
-    /// A connection was reported, and whether its client sends nothing more, or it failed.
-    pub(crate) fn report(&mut self, number: u64, closes: bool)
+    // How long is waited, if it is at most so long: not at all where connections are called again.
+    fn longest_wait(&self, most: Duration) -> Duration {
+        if !self.called.is_empty() {
+            Duration::ZERO
+        } else if self.draining.is_empty() {
+            most
+        } else {
+            most.min(Duration::from_millis(LINGER))
+        }
+    }
+
+    /// A connection was reported, and whether its client sends nothing more, or it failed. Whether it is attended at once: one that is called
+    /// again, or of which much was read and written when it was last attended, has its turn behind others.
+    pub(crate) fn report(&mut self, number: u64, closes: bool) -> bool
         ensures next { self.new.next ≡ self.old.next }
     {
-        if let Some(line) = self.lines.get_mut(&number) {
-            line.report(closes);
+        let Some(line) = self.lines.get_mut(&number) else {
+            return false;
+        };
+        line.report(closes);
+        if line.moves_much {
+            return self.call(number).is_err();
         }
+        !line.is_called
     }
 
     /// A connection waits to be taken.
@@ -136,13 +152,45 @@ impl Sockets {
         mem::replace(&mut self.held, Vec::new(self.alloc))
     }
 
-    /// A connection stands so in the hall now.
-    pub(crate) fn note(&mut self, number: u64, standing: Standing)
+    /// The connection that is called again and whose turn it is.
+    pub(crate) fn next_called(&mut self) -> Option<u64>
+        ensures next { self.new.next ≡ self.old.next }
+    {
+        let Some(number) = self.called.pop_front() else {
+            return None;
+        };
+        if let Some(line) = self.lines.get_mut(&number) {
+            line.is_called = false;
+        }
+        Some(number)
+    }
+
+    // A connection is called again.
+    fn call(&mut self, number: u64) -> Result<(), Failed>
+        ensures next { self.new.next ≡ self.old.next }
+    {
+        let Some(line) = self.lines.get_mut(&number) else {
+            return Err(Failed);
+        };
+        if line.is_called {
+            return Ok(());
+        }
+        if self.called.push_back(number).is_err() {
+            self.lacks = self.lacks.saturating_add(1);
+            return Err(Failed);
+        }
+        line.is_called = true;
+        Ok(())
+    }
+
+    /// A connection stands so in the hall now. Answers how many bytes of it were read and written since this was noted last.
+    pub(crate) fn note(&mut self, number: u64, standing: Standing) -> usize
         ensures next { self.new.next ≡ self.old.next }
     {
         let (reads, now) = (self.reading != Reading::Held, self.now);
-        if let Some(line) = self.lines.get_mut(&number) {
-            line.note(standing, reads, now);
+        match self.lines.get_mut(&number) {
+            Some(line) => line.note(standing, reads, now),
+            None => 0,
         }
     }
 
@@ -321,10 +369,7 @@ impl Ring for Sockets {
 
     fn call_again(&mut self, number: u64) -> Result<(), Failed> {
         self.skip(number);
-        match self.lines.get_mut(&number) {
-            Some(line) => line.register_again(self.poll.registry(), number),
-            None => Err(Failed),
-        }
+        self.call(number)
     }
 
     fn close(&mut self, number: u64, closing: Closing) {

@@ -18,7 +18,13 @@ use std::time::Duration;
 use std::{io, mem};
 
 /// At most so many connections are reported for one turn.
-const MOST_EVENTS: usize = 1_024;
+const MOST_EVENTS: usize = 256;
+
+/// Connections that are called again are attended at most so many times in one turn.
+const MOST_CALLED: u32 = 64;
+
+/// They are until so many bytes were read and written.
+const MOST_MOVED: usize = 1_048_576;
 
 /// At most so many connections are seated in one turn.
 const MOST_SEATED: u32 = 256;
@@ -74,8 +80,9 @@ pub fn open<R: Net<Listener = TcpListener, Stream = TcpStream>>(
 }
 
 impl Worker {
-    /// One turn: it waits at most `most` for something to do, seats what was offered, attends the connections that were reported, and gives
-    /// up those whose clients are too slow. Each connection has a bounded share of it.
+    /// One turn: it waits at most `most` for something to do, seats what was offered, attends the connections that were reported, then some of
+    /// those that had their share before and are called again, and gives up those whose clients are too slow. Each connection has a bounded
+    /// share of it, so that who asks for little waits for nobody who asks for much.
     pub fn turn<R: Wait, B: Backend>(
         &mut self,
         rt: &R,
@@ -91,6 +98,7 @@ impl Worker {
         self.seat(rt, inlet, orders.stance);
         self.attend_reported(backend);
         self.attend_held(backend);
+        self.attend_called(backend);
         self.stop(orders.stance, backend);
         self.sockets.end_draining(orders.now);
         self.give_up_overdue(orders.now);
@@ -166,14 +174,43 @@ impl Worker {
         }
     }
 
-    // Attends a connection.
-    fn attend<B: Backend>(&mut self, number: u64, backend: &mut B)
+    // Attends connections that are called again, in turn: so many times in all, or until much was read and written.
+    fn attend_called<B: Backend>(&mut self, backend: &mut B)
+        ensures { Works B.gives B.copies self.old self.new backend.old backend.new }
+    {
+        let mut moved = 0usize;
+        for _ in 0..MOST_CALLED {
+            if moved >= MOST_MOVED {
+                return;
+            }
+            match self.attend_next(backend) {
+                Some(more) => moved = moved.saturating_add(more),
+                None => return,
+            }
+        }
+    }
+
+    // Attends the connection that is called again and whose turn it is. Answers how many bytes of it were read and written.
+    fn attend_next<B: Backend>(&mut self, backend: &mut B) -> Option<usize>
+        ensures { Works B.gives B.copies self.old self.new backend.old backend.new }
+    {
+        match self.sockets.next_called() {
+            Some(number) => Some(self.attend(number, backend)),
+            None => None,
+        }
+    }
+
+    // Attends a connection. Answers how many bytes of it were read and written.
+    fn attend<B: Backend>(&mut self, number: u64, backend: &mut B) -> usize
         ensures { Works B.gives B.copies self.old self.new backend.old backend.new }
     {
         self.hall.attend(number, &mut self.sockets, backend);
         match self.hall.standing(number) {
             Some(standing) => self.sockets.note(number, standing),
-            None => self.sockets.drain(number),
+            None => {
+                self.sockets.drain(number);
+                0
+            }
         }
     }
 
@@ -228,7 +265,7 @@ impl Worker {
     }
 }
 
-// Keeps the numbers of the connections that were reported, and what was reported of each.
+// Keeps the numbers of the connections that were reported and are attended at once, and what was reported of each.
 fn note_reported(events: &Events, sockets: &mut Sockets, reported: &mut Vec<u64>)
     ensures next { sockets.new.next ≡ sockets.old.next }
 {
@@ -236,9 +273,10 @@ fn note_reported(events: &Events, sockets: &mut Sockets, reported: &mut Vec<u64>
     for event in events {
         let Token(number) = event.token();
         let closes = event.is_read_closed() || event.is_error();
-        sockets.report(number as u64, closes);
-        // There is room for each: so many are reported at the most.
-        let _ = reported.push(number as u64);
+        if sockets.report(number as u64, closes) {
+            // There is room for each: so many are reported at the most.
+            let _ = reported.push(number as u64);
+        }
     }
 }
 

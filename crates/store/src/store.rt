@@ -1,6 +1,7 @@
 //! The store, and the calls on its keys.
 
-ghost use Rattle.std.specs.Prelude.{◌≡◌, ◌<◌, ◌≤◌, ℕ};
+ghost use Rattle.std.specs.Prelude.{◌≡◌, ◌<◌, ◌≤◌, ℕ, nat_lt};
+ghost use Rattle.std.specs.List.{list_any};
 ghost use Rattle.object.specs.Limits.{IsKey};
 ghost use Rattle.place.specs.Places.{copies_of, place_in};
 ghost use Rattle.store.specs.Calls.{Gets, Puts};
@@ -17,7 +18,7 @@ use place::{Placement, others, preferred, vnode_at};
 use quorum::{Hooking, QuorumFault, ResolveFault, Unfit};
 use std::alloc::Global;
 use std::mem;
-use troubles::Noted;
+use troubles::{Note, Noted};
 
 /// What a read of a key comes to. Where the bucket's resolver wrote nothing though it was to, the siblings are answered, and why is told beside.
 #[derive(Drop)]
@@ -74,6 +75,13 @@ impl<P, H> Store<P, H> {
         mem::replace(&mut self.noted, Noted::new())
     }
 
+    /// Whether a trouble is noted that [`Store::take_troubles`] would take: what is noted is moved only where it is to be told.
+    pub fn has_troubles(&self) -> bool
+        ensures { result ≡ list_any (λ note. nat_lt 0 note.count) self.now.noted.kinds }
+    {
+        self.noted.iter().any(|note| has_come(note))
+    }
+
     /// How many copies of a key there are, 1 to 3.
     pub fn copies(&self) -> u32
         ensures copies { result ≡ copies_of self.now.placement.vnodes }
@@ -91,6 +99,13 @@ impl<P, H> Store<P, H> {
     {
         self.placement.place_of(key.bucket(), key.key())
     }
+}
+
+// Whether one of its kind came.
+fn has_come(note: &Note) -> bool
+    ensures { result ≡ nat_lt 0 note.now.count }
+{
+    note.count > 0
 }
 
 impl<P: Peers, H: Hooks> Store<P, H> {

@@ -14,7 +14,8 @@ returns g c =
     let first = works_stays gives copies c.args.self.now c.seat.new.self from before in
     let reported = works_then gives copies c.args.self.now c.seat.new.self c.attend_reported.new.self from from c.attend_reported.new.backend first c.attend_reported.ensures in
     let held = works_then gives copies c.args.self.now c.attend_reported.new.self c.attend_held.new.self from c.attend_reported.new.backend c.attend_held.new.backend reported c.attend_held.ensures in
-    let stopped = works_then gives copies c.args.self.now c.attend_held.new.self c.stop.new.self from c.attend_held.new.backend c.stop.new.backend held c.stop.ensures in
+    let called = works_then gives copies c.args.self.now c.attend_held.new.self c.attend_called.new.self from c.attend_held.new.backend c.attend_called.new.backend held c.attend_called.ensures in
+    let stopped = works_then gives copies c.args.self.now c.attend_called.new.self c.stop.new.self from c.attend_called.new.backend c.stop.new.backend called c.stop.ensures in
     let drained = stays_same c.stop.new.self (record c.stop.new.self { sockets = c.end_draining.new.self }) refl c.end_draining.ensures.next in
     let swept = stays_then c.stop.new.self (record c.stop.new.self { sockets = c.end_draining.new.self }) c.give_up_overdue.new.self drained c.give_up_overdue.ensures in
     let last : Worker = record c.give_up_overdue.new.self { sockets = c.take_lacks.new.self } in
