@@ -18,7 +18,9 @@ use Rattle.sockets.proofs.sockets.Sockets.TheSendSync as sockets
 use Rattle.sockets.specs.contracts.worker.Worker as Worker
 use Rattle.listener.proofs.acceptor.Acceptor.TheSendSync as acceptor
 use Rattle.listener.proofs.ending.Ending.TheSendSync as ending
+use Rattle.listener.proofs.snapshots.Snapshots.TheSendSync as snapshots
 use Rattle.listener.specs.contracts.roster.Post as Post
+use Rattle.listener.specs.contracts.roster.Waiting as Waiting
 use Rattle.listener.specs.contracts.roster.Roster as Roster
 use Rattle.listener.specs.contracts.lobby.Lobby as Lobby
 
@@ -37,11 +39,14 @@ hall_send = search (desk_send, buffer.the_field_send, seat.the_send, BTreeMap-se
 worker_send : IsSend (Worker.the_field).row
 worker_send = search (hall_send, sockets.the_field_send, events.the_field_send, sendable, crosses) depth 60 fits 20000
 
+waiting_send : IsSend (Waiting.the_field).row
+waiting_send = search (worker_send, sendable, crosses) depth 60 fits 20000
+
 post_sync : IsSync (Post.the_field).row
-post_sync = search (worker_send, inlet.the_field_sync, sendable, crosses) depth 60 fits 20000
+post_sync = search (waiting_send, inlet.the_field_sync, sendable, crosses) depth 60 fits 20000
 
 roster_sync : IsSync (Roster.the_field).row
-roster_sync = search (post_sync, ending.the_field_sync, sendable, crosses) depth 60 fits 20000
+roster_sync = search (post_sync, ending.the_field_sync, snapshots.the_field_sync, sendable, crosses) depth 60 fits 20000
 
 pub lobby_sync : IsSync Lobby.the_row
 lobby_sync = search (roster_sync, acceptor.the_send, waker.the_field_sync, sendable, crosses) depth 60 fits 20000

@@ -121,6 +121,8 @@ pub struct Setup {
     pub count: Option<u32>,
     /// Where the server is told to stop.
     pub input: Stdin,
+    /// Whether it makes snapshots, which it may be told there, too.
+    pub makes_snapshots: bool,
     /// Where is told what goes wrong.
     pub err: Stderr,
 }
@@ -133,6 +135,8 @@ pub struct Acceptor {
     /// Where connections come, as long as they may.
     listener: Option<TcpListener>,
     console: Console,
+    /// Whether snapshots may be asked for.
+    makes_snapshots: bool,
     err: Stderr,
     timer: Timer,
     /// What it rests on where it can't wait for anything.
@@ -157,6 +161,7 @@ impl Acceptor {
             mut listener,
             count,
             input,
+            makes_snapshots,
             err,
         } = setup;
         let registry = poll.registry();
@@ -169,6 +174,7 @@ impl Acceptor {
             events,
             listener: Some(listener),
             console,
+            makes_snapshots,
             err,
             timer: Timer::new(),
             rest: Parker::new(),
@@ -228,8 +234,16 @@ impl Acceptor {
 
     // Does what was said.
     fn obey(&self, said: Said, roster: &Roster) {
-        for _ in 0..said.others {
+        let unknown = if self.makes_snapshots {
+            said.others
+        } else {
+            said.others.saturating_add(said.snapshots)
+        };
+        for _ in 0..unknown {
             let _ = self.err.eprintln("unknown line");
+        }
+        if self.makes_snapshots && said.snapshots > 0 {
+            roster.snapshots.ask();
         }
         for _ in 0..said.stops {
             roster.stop();

@@ -10,38 +10,78 @@ use std::os::fd::AsRawFd as _;
 /// The line that stops a server.
 const STOP: &[u8] = b"stop";
 
+/// The line that asks for a snapshot.
+const SNAPSHOT: &[u8] = b"snapshot";
+
+/// No line that says something is longer.
+const LONGEST: usize = 8;
+
 /// So many bytes are read at a time.
 const ROOM: usize = 256;
 
-/// What lines said: how many were `stop`, and how many something else.
+/// What lines said: how many were `stop`, `snapshot`, and something else.
 #[derive(Clone, Copy, Debug, PartialEq, Eq)]
 pub struct Said {
     /// Those that were `stop`.
     pub stops: u32,
+    /// Those that were `snapshot`.
+    pub snapshots: u32,
     /// The others.
     pub others: u32,
 }
 
-/// A line as far as it came.
-#[derive(Clone, Copy, Debug, PartialEq, Eq)]
-enum Line {
-    /// It is the front of `stop` with so many bytes.
-    Begins(usize),
-    /// It is another one.
-    Differs,
-}
-
-impl Line {
-    /// With one byte more.
-    fn with(self, byte: u8) -> Line {
-        match self {
-            Line::Begins(n) if STOP.get(n) == Some(&byte) => Line::Begins(n.saturating_add(1)),
-            _ => Line::Differs,
+impl Said {
+    /// Nothing.
+    fn nothing() -> Said {
+        Said {
+            stops: 0,
+            snapshots: 0,
+            others: 0,
         }
     }
 
-    fn is_stop(self) -> bool {
-        self == Line::Begins(STOP.len())
+    // Counts a line. Of one that is too long there is no text.
+    fn count(&mut self, text: Option<&[u8]>) {
+        let lines = if text == Some(STOP) {
+            &mut self.stops
+        } else if text == Some(SNAPSHOT) {
+            &mut self.snapshots
+        } else {
+            &mut self.others
+        };
+        *lines = lines.saturating_add(1);
+    }
+}
+
+/// A line as far as it came.
+#[derive(Clone, Copy, Debug)]
+struct Line {
+    /// Its first bytes.
+    front: [u8; LONGEST],
+    /// How many bytes it has.
+    len: usize,
+}
+
+impl Line {
+    /// An empty one.
+    fn new() -> Line {
+        Line {
+            front: [0; LONGEST],
+            len: 0,
+        }
+    }
+
+    // Adds a byte.
+    fn add(&mut self, byte: u8) {
+        if let Some(place) = self.front.get_mut(self.len) {
+            *place = byte;
+        }
+        self.len = self.len.saturating_add(1);
+    }
+
+    /// Its bytes, unless it is too long to say something.
+    fn text(&self) -> Option<&[u8]> {
+        self.front.get(..self.len)
     }
 }
 
@@ -57,7 +97,7 @@ impl Console {
     pub(crate) fn new(input: Stdin) -> Console {
         Console {
             input,
-            line: Line::Begins(0),
+            line: Line::new(),
         }
     }
 
@@ -88,21 +128,14 @@ impl Console {
 
     // Goes on by these bytes.
     fn take(&mut self, bytes: &[u8]) -> Said {
-        let mut said = Said {
-            stops: 0,
-            others: 0,
-        };
+        let mut said = Said::nothing();
         for &byte in bytes {
-            if byte != b'\n' {
-                self.line = self.line.with(byte);
-                continue;
-            }
-            if self.line.is_stop() {
-                said.stops = said.stops.saturating_add(1);
+            if byte == b'\n' {
+                said.count(self.line.text());
+                self.line = Line::new();
             } else {
-                said.others = said.others.saturating_add(1);
+                self.line.add(byte);
             }
-            self.line = Line::Begins(0);
         }
         said
     }

@@ -7,6 +7,7 @@ mod console;
 mod ending;
 mod lobby;
 mod roster;
+mod snapshots;
 mod start;
 mod timer;
 
@@ -14,5 +15,6 @@ pub use acceptor::{Acceptor, Setup};
 pub use ending::Ending;
 pub use lobby::{Lobby, open};
 pub use roster::{Post, Roster};
+pub use snapshots::Snapshots;
 pub use start::listen;
 pub use timer::Timer;

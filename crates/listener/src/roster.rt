@@ -1,18 +1,27 @@
 //! The workers, as the thread that accepts sees them.
 
-ghost use Rattle.std.specs.Prelude.{◌≡◌};
+ghost use Rattle.std.specs.Prelude.{◌≡◌, IfSome};
+ghost use Rattle.listener.specs.Waiting.{HasHadNone};
 
 use crate::ending::Ending;
+use crate::snapshots::Snapshots;
 use mio::net::TcpStream;
 use sockets::{Inlet, Worker};
 use std::sync::atomic::AtomicBool;
 use std::sync::atomic::Ordering::SeqCst;
 use std::sync::{Mutex, Wait};
 
+/// A worker that nobody has taken yet, so that no connection ever came to it.
+#[derive(Drop)]
+struct Waiting {
+    worker: Worker,
+    ghost none: { HasHadNone worker },
+}
+
 /// A worker, until a thread takes it, and where it is told what others want of it.
 #[derive(Drop)]
 pub struct Post {
-    worker: Mutex<Option<Worker>>,
+    waiting: Mutex<Option<Waiting>>,
     /// Where its connections come.
     pub inlet: Inlet,
     is_to_shed: AtomicBool,
@@ -20,17 +29,22 @@ pub struct Post {
 
 impl Post {
     /// The post of a worker with this inlet.
-    pub(crate) fn new(worker: Worker, inlet: Inlet) -> Post {
+    pub(crate) fn new(worker: Worker, inlet: Inlet) -> Post
+        requires none { HasHadNone worker }
+    {
         Post {
-            worker: Mutex::new(Some(worker)),
+            waiting: Mutex::new(Some(Waiting { worker })),
             inlet,
             is_to_shed: AtomicBool::new(false),
         }
     }
 
-    /// Hands the worker over to the thread that is to run it: the first that asks.
-    pub fn take_worker<R: Wait>(&self, rt: &R) -> Option<Worker> {
-        self.worker.lock(rt).take()
+    /// Hands the worker over to the thread that is to run it: the first that asks. No connection ever came to it.
+    pub fn take_worker<R: Wait>(&self, rt: &R) -> Option<Worker>
+        ensures none { IfSome result HasHadNone }
+    {
+        let waiting = self.waiting.lock(rt).take()?;
+        Some(waiting.worker)
     }
 
     /// Whether the worker was asked, since it last looked, to let its longest idle connection go.
@@ -52,6 +66,8 @@ pub struct Roster {
     pub posts: Vec<Post>,
     /// How far the end has come.
     pub ending: Ending,
+    /// Whether a snapshot is asked for.
+    pub snapshots: Snapshots,
 }
 
 impl Roster {
@@ -62,6 +78,7 @@ impl Roster {
         Roster {
             posts,
             ending: Ending::new(),
+            snapshots: Snapshots::new(),
         }
     }
 

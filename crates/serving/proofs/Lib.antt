@@ -9,3 +9,4 @@ mod RunLemmas
 mod TogetherLemmas
 mod PassLemmas
 mod CameLemmas
+mod ByPassLemmas

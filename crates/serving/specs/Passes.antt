@@ -13,8 +13,9 @@ use Rattle.peers.specs.Calls.{Call as PeerCall}
 use Rattle.stamps.specs.declared.view.Size.{Size}
 use Rattle.stamps.specs.declared.view.Told.{Told}
 use Rattle.stamps.specs.declared.view.View.{View}
+use Rattle.troubles.specs.declared.noted.Note.{Note}
 use Rattle.store.specs.Gives.{Gives}
-use Rattle.store.specs.View.{StoreView}
+use Rattle.store.specs.View.{StoreView, shown}
 use Rattle.workers.specs.Peering.{PassStep}
 
 -- the vnodes of a cluster as one pass reaches them: how many there are, what the pass knows, how many calls failed, and who lent the pass
@@ -49,3 +50,22 @@ AreCallsOf {B} gives told old (x ∷ xs) (own ∷ owns) new = (mid : B) × Does 
 abbrev pub all_calls : List (List Told) → List Told
 all_calls [] = []
 all_calls (own ∷ owns) = own ++ all_calls owns
+
+-- ---- a store of one pass, as far as the pass shows it
+
+-- a store of which nothing is noted
+abbrev pub unnoted : {P H : Type 0} → StoreView P H → StoreView P H
+unnoted s = shown s.peers s.hooks s.listed s.placement []
+
+-- a call may be answered so, and leave the other store, whatever was noted of troubles: that is taken from it now and then
+abbrev pub GivesUnnoted : {P H : Type 0} → (P → PeerCall → P → Type 0) → (H → List ℕ → ImageKind → Result (Option Program) NotSeen → H → Type 0)
+    → (H → List ℕ → ImageKind → Result (Option (List ℕ)) NameFault → H → Type 0) → (H → Change → Result Unit HookFault → H → Type 0) → StoreView P H → Call → Reply → StoreView P H → Type 0
+GivesUnnoted happens finds names takes old call reply new = (before after : List Note) × Gives happens finds names takes (record old { noted = before }) (record new { noted = after }) call reply
+
+-- the store as its pass shows it: in place of the vnodes stands what reaches them
+abbrev pub by_pass : {P H : Type 0} → (P → Passing) → StoreView P H → StoreView Passing H
+by_pass passing s = shown (passing s.peers) s.hooks s.listed s.placement s.noted
+
+-- what its pass was told
+abbrev pub told_by : {H : Type 0} → StoreView Passing H → List Told
+told_by s = s.peers.pass.told

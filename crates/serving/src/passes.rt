@@ -3,9 +3,10 @@
 
 ghost use Rattle.std.specs.Prelude.{◌≡◌, ◌++◌, List};
 ghost use Rattle.httpfront.specs.Dialogue.{Exchange, Runs};
+ghost use Rattle.peers.specs.Calls.{Call as PeerCall};
 ghost use Rattle.stamps.specs.declared.view.Told.{Told};
 ghost use Rattle.store.specs.View.{StoreView, shown};
-ghost use Rattle.serving.specs.Passes.{AreCallsOf, IsOfOnePass, Passing, all_calls, told_to};
+ghost use Rattle.serving.specs.Passes.{AreCallsOf, GivesUnnoted, IsOfOnePass, PassCalls, Passing, all_calls, by_pass, told_by, told_to};
 
 use hooks::{HookChanges, Hooks};
 use httpfront::Backend;
@@ -30,4 +31,17 @@ pub fn exchanges_are_told<B: Backend, P: Peers, H: Hooks + HookChanges>()
     ensures { (now : B → StoreView P H) (passing : P → Passing) → IsOfOnePass B.gives P.happens H.finds H.names H.takes now passing
         → (xs : List Exchange) (start end : B) → Runs B.gives start xs end
         → (owns : List (List Told)) × AreCallsOf B.gives (told_to now passing) start xs owns end × (told_to now passing end ≡ told_to now passing start ++ all_calls owns) }
+{}
+
+/// Exchanges lead a store on as they lead on what one pass shows of it, where each call on a vnode is one by the pass; what is noted of troubles may be
+/// taken from the store meanwhile.
+pub fn exchanges_are_by_a_pass<P: Peers, H: Hooks + HookChanges>()
+    ensures { (passing : P → Passing) → ((old new : P) (call : PeerCall) → P.happens old call new → PassCalls (passing old) call (passing new))
+        → (xs : List Exchange) (start end : StoreView P H) → Runs (GivesUnnoted P.happens H.finds H.names H.takes) start xs end
+        → (owns : List (List Told)) × AreCallsOf (GivesUnnoted PassCalls H.finds H.names H.takes) told_by (by_pass passing start) xs owns (by_pass passing end) }
+{}
+
+/// No exchange changes whom the vnodes of a store were lent by.
+pub fn exchanges_keep_the_origin<P: Peers, H: Hooks + HookChanges>()
+    ensures { (xs : List Exchange) (start end : StoreView P H) → Runs (GivesUnnoted P.happens H.finds H.names H.takes) start xs end → P.origin end.peers ≡ P.origin start.peers }
 {}

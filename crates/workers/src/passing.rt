@@ -216,6 +216,7 @@ impl<'a, B: Room, R: Wait, G: Gate> PassPeers<'a, B, R, G> {
         gate: &'a G,
     ) -> Self
         ensures cluster { result.cluster.now ≡ cluster.now }
+        ensures pass { result.pass.now ≡ pass.entry.now }
         ensures lent { result.pass.ghost_name ≡ pass.entry.ghost_name }
         ensures none { result.failures ≡ 0 }
     {
