@@ -1,2 +1,3 @@
 pub mod Seals
 pub mod Reads
+pub mod Settings

@@ -27,7 +27,7 @@ impl From<AllocError> for FileFault {
 /// The files of a folder, by their names in it.
 pub trait Folder {
     /// A file that is written.
-    type File: Write + Drop;
+    type File: Write + Drop + Send;
 
     // Under a name these bytes may be found, or none where there is no file.
     ghost finds: { Self → List ℕ → Option (List ℕ) → Type 0 };

@@ -1,7 +1,7 @@
 //! A folder that outlives its process: what is read from it at a start, and how its files are replaced.
 //!
 //! It holds `incarnation`, the number of the last start as a decimal; `vnode-0.records` to `vnode-2.records`, a file of records for each
-//! vnode; and `hooks.requests`, the requests that install and bind hooks. Each file stands for itself: a vnode's records are merges, and
+//! vnode; `hooks.requests`, the requests that install and bind hooks; and `settings`, which who runs the store may have written. Each file stands for itself: a vnode's records are merges, and
 //! merges of records of another moment are as true. So files are replaced one by one, and no file has to be of the same moment as another.
 #![tactic(auto)]
 
@@ -9,6 +9,7 @@ mod files;
 mod names;
 mod opening;
 mod sealing;
+mod settings;
 #[cfg(test)]
 mod tests;
 mod writing;
@@ -16,4 +17,5 @@ mod writing;
 pub use files::{FileFault, Folder};
 pub use names::HOOKS;
 pub use opening::{Held, OpenFault, Opened, open};
-pub use writing::{Unreplaced, WriteFault, keep_all};
+pub use settings::Settings;
+pub use writing::{Unreplaced, WriteFault, keep_all, keep_requests, keep_served};

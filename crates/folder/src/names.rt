@@ -12,6 +12,9 @@ pub(crate) const INCARNATION: &str = "incarnation";
 /// The requests that install and bind hooks.
 pub const HOOKS: &str = "hooks.requests";
 
+/// What who runs the store has set.
+pub(crate) const SETTINGS: &str = "settings";
+
 /// The file of the records of the vnode with an index.
 pub(crate) fn name_of(index: usize) -> &'static str
     ensures { result.now ≡ name_of index }

@@ -1,12 +1,14 @@
 //! What a start reads of a folder, and the number that it takes.
 
-ghost use Rattle.std.specs.Prelude.{◌≡◌, ◌<◌, ◌/◌, ◌++◌, ℕ, IfOk, OnOk, Contains, length, option_to_list};
+ghost use Rattle.std.specs.Prelude.{◌≡◌, ◌<◌, ◌/◌, ◌++◌, ℕ, List, Option, IfOk, OnOk, Contains, codes, length, option_to_list};
 ghost use Rattle.keeping.specs.Numbers.{all_ids};
 ghost use Rattle.folder.specs.Reads.{IsFileAt, IsReadAt, bytes_in, name_of};
+ghost use Rattle.folder.specs.Settings.{IsSetBy};
 
 use crate::files::{FileFault, Folder};
-use crate::names::{HOOKS, INCARNATION, VNODES, name_of};
+use crate::names::{HOOKS, INCARNATION, SETTINGS, VNODES, name_of};
 use crate::sealing::{seal, unseal};
+use crate::settings::{Settings, USUAL, settings_in};
 use crate::writing::{WriteFault, replace};
 use keeping::{KeptFile, Spent, Unkept, next_incarnation, read_file};
 use std::alloc::{AllocError, Global};
@@ -26,6 +28,8 @@ pub struct Opened {
 pub struct Held {
     /// The number of the last start.
     pub last: Option<u16>,
+    /// What is set.
+    pub settings: Settings,
     /// The requests that install and bind hooks.
     pub hooks: Vec<u8>,
     /// The records of each vnode that has a file, with its identifier, whose lower half is the vnode's index. They stand in the order of indexes.
@@ -57,6 +61,9 @@ pub enum OpenFault {
     Unsealed {
         name: &'static str,
     },
+    /// What is set can't be read.
+    #[error("{SETTINGS}: not a line `snapshot SECONDS`")]
+    Unset,
     /// There are records, and no number of the start that they are of.
     #[error("{INCARNATION}: missing")]
     Numberless,
@@ -81,6 +88,7 @@ impl From<AllocError> for OpenFault {
 /// folder is a new store. Nothing is changed where a file is at fault.
 pub fn open<F: Folder>(alloc: Global, folder: &mut F) -> Result<Opened, OpenFault>
     ensures above { IfOk result (λ opened. (id : ℕ) → Contains (all_ids opened.held.files.items) id → id / 65536 < opened.number) }
+    ensures settings { IfOk result (λ opened. (found : Option (List ℕ)) × F.finds folder.old (codes "settings") found × IsSetBy found opened.held.settings.every) }
     ensures read { IfOk result (λ opened. (index : ℕ) → index < 3 → IsReadAt (F.finds folder.old) opened.held.files.items index) }
 {
     let held = read_all(alloc, folder)?;
@@ -103,15 +111,35 @@ fn take<F: Folder>(alloc: Global, folder: &mut F, number: u16) -> Result<(), Wri
 
 /// What a folder holds, all of it read.
 fn read_all<F: Folder>(alloc: Global, folder: &F) -> Result<Held, OpenFault>
-    ensures { IfOk result (λ held. (index : ℕ) → index < 3 → IsReadAt (F.finds folder.now) held.files.items index) }
+    ensures read { IfOk result (λ held. (index : ℕ) → index < 3 → IsReadAt (F.finds folder.now) held.files.items index) }
+    ensures settings { IfOk result (λ held. (found : Option (List ℕ)) × F.finds folder.now (codes "settings") found × IsSetBy found held.settings.every) }
 {
+    let settings = settings_of(alloc, folder)?;
     let last = last_in(alloc, folder)?;
     let hooks = sealed_in(alloc, folder, HOOKS)?.unwrap_or(Vec::new(alloc));
     let files = files_in(alloc, folder)?;
     if last.is_none() && !files.is_empty() {
         return Err(OpenFault::Numberless);
     }
-    Ok(Held { last, hooks, files })
+    Ok(Held {
+        last,
+        settings,
+        hooks,
+        files,
+    })
+}
+
+/// What is set.
+fn settings_of<F: Folder>(alloc: Global, folder: &F) -> Result<Settings, OpenFault>
+    ensures { IfOk result (λ settings. (found : Option (List ℕ)) × F.finds folder.now (codes "settings") found × IsSetBy found settings.every) }
+{
+    let Some(bytes) = bytes_of(alloc, folder, SETTINGS)? else {
+        return Ok(USUAL);
+    };
+    match settings_in(alloc, &bytes)? {
+        Some(settings) => Ok(settings),
+        None => Err(OpenFault::Unset),
+    }
 }
 
 /// The bytes of a file, if there is one.

@@ -56,6 +56,41 @@ fn no_number_is_taken_twice(rt: HostRuntime) -> Result<(), Fail> {
     Ok(())
 }
 
+/// What may stand in `settings`, and the seconds that it sets.
+const SET: [(&[u8], Option<u32>); 11] = [
+    (b"snapshot 60\n", Some(60)),
+    (b"snapshot 0\n", Some(0)),
+    (b"snapshot 4294967295\n", Some(4_294_967_295)),
+    (b"snapshot 4294967296\n", None),
+    (b"snapshot 060\n", None),
+    (b"snapshot +60\n", None),
+    (b"snapshot  60\n", None),
+    (b"snapshot 60", None),
+    (b"snapshot 60\n\n", None),
+    (b"snapshot \n", None),
+    (b"", None),
+];
+
+/// The seconds that a start reads, if it isn't refused for them.
+fn every(alloc: Global, folder: &mut Memory) -> Option<u32> {
+    match open(alloc, folder) {
+        Ok(opened) => Some(opened.held.settings.every),
+        Err(_) => None,
+    }
+}
+
+#[test]
+fn settings_are_one_line(rt: HostRuntime) -> Result<(), Fail> {
+    let mut folder = Memory::new(rt.alloc(), MANY);
+    expect(every(rt.alloc(), &mut folder) == Some(60), 0)?;
+    for (place, (bytes, seconds)) in SET.iter().enumerate() {
+        let place = place as u64;
+        let done = replace(rt.alloc(), &mut folder, "settings", bytes).is_ok();
+        expect(done && every(rt.alloc(), &mut folder) == *seconds, place)?;
+    }
+    Ok(())
+}
+
 /// Whether a file holds these bytes.
 fn holds(alloc: Global, folder: &Memory, bytes: &[u8]) -> bool {
     match folder.read(alloc, "file") {

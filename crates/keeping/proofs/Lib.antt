@@ -3,3 +3,4 @@ mod Above
 mod Made
 mod Ending
 mod Held
+mod Asked

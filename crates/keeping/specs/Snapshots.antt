@@ -1,10 +1,10 @@
 -- The calls by which a vnode's records are taken while it serves, and the records.
-use Rattle.std.specs.Prelude.{ℕ, ◌+◌, List, [], ◌∷◌, Ok}
+use Rattle.std.specs.Prelude.{◌≡◌, ℕ, ◌+◌, List, [], ◌∷◌, Ok}
 use Rattle.std.specs.Global.{Vec}
 use Rattle.object.specs.declared.content.Key.{Key}
 use Rattle.wire.specs.declared.record.Record.{Record}
 use Rattle.peers.specs.declared.peers.Answer.{Answer}
-use Rattle.peers.specs.Calls.{Call, StateOf, KeysOf}
+use Rattle.peers.specs.Calls.{Call, PutAt, MergeAt, StateOf, SummaryAt, MergePartAt, KeysOf}
 use Rattle.vnode.specs.declared.steps.Copied.{Copied}
 use Rattle.keeping.specs.Records.{record_of}
 
@@ -13,6 +13,15 @@ abbrev pub reads_at : ℕ → List Key → List Answer → List Call
 reads_at i [] answers = []
 reads_at i (key ∷ keys) [] = []
 reads_at i (key ∷ keys) (answer ∷ answers) = StateOf i key (Ok answer) ∷ reads_at i keys answers
+
+-- a call changes nothing: the vnode names its keys, or one is read, and it is this vnode
+abbrev pub IsReadAt : ℕ → Call → Type 0
+IsReadAt i (PutAt j key seen content back) = ⊥
+IsReadAt i (MergeAt j key from at state back) = ⊥
+IsReadAt i (StateOf j key back) = j ≡ i
+IsReadAt i (SummaryAt j key back) = ⊥
+IsReadAt i (MergePartAt j key from at part back) = ⊥
+IsReadAt i (KeysOf j back) = j ≡ i
 
 -- the record of what the read of a key answered
 abbrev pub record_read : Key → Answer → Record

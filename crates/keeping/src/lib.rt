@@ -10,5 +10,5 @@ mod whole;
 
 pub use file::{KeptFile, Unkept, read_file};
 pub use number::{Spent, next_incarnation};
-pub use snapshot::{SnapshotFault, write_snapshot};
+pub use snapshot::{Pace, SnapshotFault, Subject, write_snapshot};
 pub use whole::write_whole;

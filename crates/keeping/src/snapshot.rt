@@ -3,13 +3,14 @@
 ghost use Rattle.std.specs.Prelude.{◌≡◌, ℕ, ◌^◌, ◌<◌, List, ◌∷◌, [], Ok, length, OnOk, IfOk};
 ghost use Rattle.std.specs.Global.{Vec as List_};
 ghost use Rattle.std.specs.Io.KnownBytes.{Appends};
+ghost use Rattle.std.specs.List.{AllByRecursion};
 ghost use Rattle.object.specs.declared.content.Key.{Key as OneKey};
 ghost use Rattle.object.specs.State.{empty};
 ghost use Rattle.peers.specs.declared.peers.Answer.{Answer as OneAnswer};
-ghost use Rattle.peers.specs.Calls.{Made, StateOf};
+ghost use Rattle.peers.specs.Calls.{Call, Made, StateOf};
 ghost use Rattle.keeping.specs.Records.{AreSpelledBy, record_of};
 ghost use Rattle.keeping.specs.Files.{IsFileOf, end_key, end_of};
-ghost use Rattle.keeping.specs.Snapshots.{record_read, records_read, reads_at, snapshot_calls};
+ghost use Rattle.keeping.specs.Snapshots.{IsReadAt, record_read, records_read, reads_at, snapshot_calls};
 
 use crate::file::END;
 use crate::records::{Unspelled, spelled};
@@ -34,6 +35,15 @@ pub enum SnapshotFault {
     /// The bytes can't be written.
     #[error("unwritten")]
     Unwritten,
+    /// It was given up between two keys.
+    #[error("given up")]
+    GivenUp,
+}
+
+/// Who is asked before each key of a snapshot whether it goes on.
+pub trait Pace {
+    /// Whether it goes on. It may be made to wait first.
+    fn goes_on(&mut self) -> bool;
 }
 
 impl From<Unspelled> for SnapshotFault {
@@ -51,40 +61,57 @@ impl From<AllocError> for SnapshotFault {
     }
 }
 
-/// Writes the file of the vnode with an index and an identifier while it serves: it names its keys, each is read, and each answer's record
-/// is written before the next key is read. Answers how many keys there were. At an error what was written is no whole file.
-pub fn write_snapshot<P: Peers, W: Write>(
+/// Which vnode a snapshot is of.
+#[derive(Clone, Copy, Debug, PartialEq, Eq)]
+pub struct Subject {
+    /// Its index.
+    pub index: usize,
+    /// Its identifier.
+    pub id: u32,
+}
+
+/// Writes the file of a vnode while it serves: it names its keys, each is read, and each answer's record is written before the next key is
+/// read, as long as the pace goes on. Answers how many keys there were. At an error what was written is no whole file. Whatever comes of it,
+/// nothing but keys and reads is asked of the vnode, and nothing of others.
+pub fn write_snapshot<P: Peers, W: Write, G: Pace>(
     alloc: Global,
     peers: &mut P,
-    index: usize,
-    id: u32,
+    subject: Subject,
+    pace: &mut G,
     out: &mut W,
 ) -> Result<usize, SnapshotFault>
+    ensures asked { (calls : List Call) × AllByRecursion (IsReadAt subject.index) calls × Made P.happens peers.old calls peers.new }
     ensures calls { IfOk result (λ count. (keys : List_ OneKey) × (answers : List OneAnswer) × (bytes : List ℕ) × (length answers ≡ length keys.items) × (count ≡ length keys.items)
-        × Made P.happens peers.old (snapshot_calls index keys answers) peers.new
-        × IsFileOf id (records_read keys.items answers) bytes × Appends (W.contents out.old) (W.contents out.new) bytes) }
+        × Made P.happens peers.old (snapshot_calls subject.index keys answers) peers.new
+        × IsFileOf subject.id (records_read keys.items answers) bytes × Appends (W.contents out.old) (W.contents out.new) bytes) }
 {
+    let Subject { index, id } = subject;
     let keys = match peers.keys_of(index) {
         Ok(keys) => keys,
         Err(fault) => return Err(SnapshotFault::Unread(fault)),
     };
-    write_keys(alloc, peers, index, &keys, out)?;
+    write_keys(alloc, peers, index, &keys, pace, out)?;
     write_end(alloc, id, keys.len(), out)?;
     Ok(keys.len())
 }
 
-/// Writes the record of each key.
-fn write_keys<P: Peers, W: Write>(
+/// Writes the record of each key, as long as the pace goes on.
+fn write_keys<P: Peers, W: Write, G: Pace>(
     alloc: Global,
     peers: &mut P,
     index: usize,
     keys: &[Key],
+    pace: &mut G,
     out: &mut W,
 ) -> Result<(), SnapshotFault>
-    ensures { OnOk result ((answers : List OneAnswer) × (bytes : List ℕ) × (length answers ≡ length keys.now) × Made P.happens peers.old (reads_at index keys.now answers) peers.new
+    ensures asked { (calls : List Call) × AllByRecursion (IsReadAt index) calls × Made P.happens peers.old calls peers.new }
+    ensures read { OnOk result ((answers : List OneAnswer) × (bytes : List ℕ) × (length answers ≡ length keys.now) × Made P.happens peers.old (reads_at index keys.now answers) peers.new
         × AreSpelledBy (records_read keys.now answers) bytes × Appends (W.contents out.old) (W.contents out.new) bytes) }
 {
     for key in keys {
+        if !pace.goes_on() {
+            return Err(SnapshotFault::GivenUp);
+        }
         write_key(alloc, peers, index, key, out)?;
     }
     Ok(())
@@ -98,7 +125,8 @@ fn write_key<P: Peers, W: Write>(
     key: &Key,
     out: &mut W,
 ) -> Result<(), SnapshotFault>
-    ensures { OnOk result ((answer : OneAnswer) × (bytes : List ℕ) × P.happens peers.old (StateOf index key.now (Ok answer)) peers.new
+    ensures asked { (calls : List Call) × AllByRecursion (IsReadAt index) calls × Made P.happens peers.old calls peers.new }
+    ensures read { OnOk result ((answer : OneAnswer) × (bytes : List ℕ) × P.happens peers.old (StateOf index key.now (Ok answer)) peers.new
         × AreSpelledBy (record_read key.now answer ∷ []) bytes × Appends (W.contents out.old) (W.contents out.new) bytes) }
 {
     let answer = match peers.state_of(index, key) {

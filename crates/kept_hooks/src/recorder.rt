@@ -11,6 +11,8 @@ use httpfront::Backend;
 use httpreply::Bound;
 use object::{Bytes, Content, Key, KeyState};
 use quorum::QuorumFault;
+use std::sync::atomic::AtomicBool;
+use std::sync::atomic::Ordering::SeqCst;
 use std::sync::{Mutex, Wait};
 
 /// A store that writes down which requests changed its hooks, in a list that it shares with other stores of the same hooks.
@@ -23,6 +25,8 @@ pub struct Recorder<'a, K: Backend + Drop, R: Wait> {
     pub store: K,
     list: &'a Mutex<Requests>,
     rt: &'a R,
+    /// Where it is noted that something was written, if anybody asks.
+    written: Option<&'a AtomicBool>,
 }
 
 impl<'a, K: Backend + Drop, R: Wait> Recorder<'a, K, R> {
@@ -30,7 +34,41 @@ impl<'a, K: Backend + Drop, R: Wait> Recorder<'a, K, R> {
     pub fn new(store: K, list: &'a Mutex<Requests>, rt: &'a R) -> Recorder<'a, K, R>
         ensures { result.store ≡ store }
     {
-        Recorder { store, list, rt }
+        Recorder {
+            store,
+            list,
+            rt,
+            written: None,
+        }
+    }
+
+    /// The same, where it is noted that something was written: a key, or which hooks there are, or are bound. It is noted once that is done,
+    /// so who takes the note and reads the store then has it, or finds another note later.
+    pub fn noting(self, written: &'a AtomicBool) -> Recorder<'a, K, R>
+        ensures { result.store ≡ self.entry.store }
+    {
+        let Recorder {
+            store,
+            list,
+            rt,
+            ..
+        } = self;
+        Recorder {
+            store,
+            list,
+            rt,
+            written: Some(written),
+        }
+    }
+
+    // Notes that something may have been written.
+    fn note(&self) {
+        if let Some(written) = self.written {
+            // Most often it is noted already: then the others' copies of it stay.
+            if !written.load(SeqCst) {
+                written.store(true, SeqCst);
+            }
+        }
     }
 }
 
@@ -57,7 +95,9 @@ impl<K: Backend + Drop, R: Wait> Backend for Recorder<'_, K, R> {
         w: u32,
         at: u32,
     ) -> Result<Dot, QuorumFault> {
-        self.store.put(key, seen, content, w, at)
+        let done = self.store.put(key, seen, content, w, at);
+        self.note();
+        done
     }
 
     fn install(&mut self, name: &Bytes, image: &Bytes) -> Result<(), Refusal> {
@@ -68,6 +108,7 @@ impl<K: Backend + Drop, R: Wait> Backend for Recorder<'_, K, R> {
             Err(Refusal::NoMemory) => list.doubt(),
             Err(_) => {}
         }
+        self.note();
         done
     }
 
@@ -79,6 +120,7 @@ impl<K: Backend + Drop, R: Wait> Backend for Recorder<'_, K, R> {
             Err(HookFault::NoMemory) => list.doubt(),
             Err(_) => {}
         }
+        self.note();
         done
     }
 
@@ -99,6 +141,7 @@ impl<K: Backend + Drop, R: Wait> Backend for Recorder<'_, K, R> {
             Err(HookFault::NoMemory) => list.doubt(),
             Err(_) => {}
         }
+        self.note();
         done
     }
 }
