@@ -269,13 +269,15 @@ fn work<B: Room + Spot, H: Hooks + HookChanges + Drop, R: Wait>(
     };
     for _ in rt.forever() {
         let worked = work_once(rt, floor, post, &mut worker, &mut store, &mut shift);
-        tell(
-            rt,
-            &floor.shared.reporter,
-            &store.store.take_troubles(),
-            worked.lacks,
-            worked.now,
-        );
+        if worked.lacks > 0 || store.store.has_troubles() {
+            tell(
+                rt,
+                &floor.shared.reporter,
+                &store.store.take_troubles(),
+                worked.lacks,
+                worked.now,
+            );
+        }
         if !worked.goes_on {
             break;
         }

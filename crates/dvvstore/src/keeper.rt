@@ -8,6 +8,7 @@ ghost use Rattle.dvvstore.specs.Keeping.{HasBegunWith, Leaves, Tells};
 
 use crate::crew;
 use crate::crew::{Begun, Lookout, Seat};
+use crate::reasons::listen;
 use crate::session::Left;
 use closing::Spot;
 use folder::{HOOKS, Held};
@@ -15,7 +16,7 @@ use helpers::Sigs;
 use hooks::{HookChanges, Hooks};
 use keeping::KeptFile;
 use kept_hooks::{HooksAlone, Recorder, ReplayFault, Requests, replay};
-use listener::{Lobby, Setup, listen, open};
+use listener::{Lobby, Setup, open};
 use loading::laws::loads_stand;
 use loading::{Unloaded, fronts_of, load_all};
 use pool::{Cluster, Pass, Room};
@@ -152,9 +153,10 @@ fn open_lobby<N: Net<Listener = TcpListener, Stream = TcpStream>, O: Write>(
     let loaded = loaded_in(&held.files);
     writeln!(out, "loaded {loaded}")?;
     let setup = Setup {
-        listener: listen(rt, addr, out)?,
+        listener: listen(rt, addr, err, out)?,
         count,
         input,
+        makes_snapshots: false,
         err,
     };
     open(alloc, rt, workers, setup)

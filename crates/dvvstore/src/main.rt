@@ -6,6 +6,7 @@ mod disk;
 mod keeper;
 mod network;
 mod pace;
+mod reasons;
 mod reporter;
 mod session;
 mod start;
@@ -63,7 +64,11 @@ fn main(rt: HostRuntime) -> io::Result<ExitCode> {
     let Ok(words) = lent(alloc, &arguments) else {
         return refused(&rt);
     };
-    let mut disk = Disk { rt: &rt, alloc };
+    let mut disk = Disk {
+        rt: &rt,
+        alloc,
+        err: rt.stderr(),
+    };
     let mut network = Network {
         rt: &rt,
         input: rt.stdin(),

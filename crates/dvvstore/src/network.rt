@@ -7,6 +7,7 @@ ghost use Rattle.dvvstore.specs.Keeping.{HasEnded};
 
 use crate::crew::Served;
 use crate::keeper::{Keeper, Unbegun};
+use crate::reasons::listen;
 use crate::session;
 use crate::session::{Left, Making, Tenant};
 use crate::start::start_at;
@@ -16,7 +17,7 @@ use commands::server::{Ended, Server, Site, Unserved};
 use findings::{Followed, WatchFault};
 use folder::{Folder, OpenFault, keep_all};
 use helpers::Table;
-use listener::{Setup, listen, open};
+use listener::{Setup, open};
 use std::alloc::Global;
 use std::fmt::Display;
 use std::io::{ErrorKind, Stderr, Stdin, Write};
@@ -96,9 +97,10 @@ impl<
         }
         let seed = Seed::random(self.rt)?;
         let setup = Setup {
-            listener: listen(self.rt, addr, out)?,
+            listener: listen(self.rt, addr, self.err, out)?,
             count,
             input: self.input,
+            makes_snapshots: false,
             err: self.err,
         };
         let lobby = match open(alloc, self.rt, more.len(), setup) {

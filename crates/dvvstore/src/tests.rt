@@ -171,6 +171,7 @@ fn two_workers(rt: HostRuntime) -> Result<(), Fail> {
             listener,
             count,
             input: rt.stdin(),
+            makes_snapshots: false,
             err: rt.stderr(),
         };
         let lobby = open(alloc, &rt, 2, setup)?;
