@@ -56,6 +56,8 @@ use Rattle.verifier.proofs.StackCells.{values_of, values, value_at, register_fit
 use Rattle.verifier.proofs.CellSteps.{touched_fits, stored_fits, loaded_fits}
 use Rattle.verifier.specs.declared.cell_part.CellPart.{CellPart}
 use Rattle.verifier.specs.declared.sum.Sum.{Sum}
+use Rattle.verifier.specs.declared.pair.Pairs.{Pairs}
+use Rattle.verifier.proofs.Together.{HoldPairs}
 use Rattle.verifier.proofs.Refined.{refined_is_long, refined_kinds}
 use Rattle.verifier.proofs.SumSteps.{Holds, told_fits}
 use Rattle.verifier.proofs.Shape.{target_edge_at}
@@ -143,7 +145,7 @@ swapped_word : (sound : (profile : Profile) → IsSoundTable profile) (kind : Sw
 swapped_word sound kind n x =
     subst (λ (r : Range). r.hi < 2 ^ 64) (cond-true (eqb x x) (single (swapped kind n x)) (full (8 * byte_count n)) (eq-eqb x x refl)) ((sound First).swap_kind kind n (Num (number_of (single x)))).range.fits
 
-module _ (sound : (profile : Profile) → IsSoundTable profile) (p : Program) (i : ℕ) (row : Row) (s : State) (limits : HasLimits p) (kinds : AreKinds row) (long : IsLong p.profile row) (fits : FitsRow row (values p.profile s)) (at : s.slot ≡ pos i) (memory : IsMemory p s.memory) (sum : Option Sum) (holds : Holds sum s) where
+module _ (sound : (profile : Profile) → IsSoundTable profile) (p : Program) (i : ℕ) (row : Row) (s : State) (limits : HasLimits p) (kinds : AreKinds row) (long : IsLong p.profile row) (fits : FitsRow row (values p.profile s)) (at : s.slot ≡ pos i) (memory : IsMemory p s.memory) (sum : Option Sum) (holds : Holds sum s) (pairs : Pairs) (hold : HoldPairs pairs s) where
   -- ---- registers
   at_reg : (r : Register) → Admits (kind_at row r) (register s r) × IsWord (register s r)
   at_reg r = register_fits p.profile row s long fits r
@@ -181,7 +183,7 @@ module _ (sound : (profile : Profile) → IsSoundTable profile) (p : Program) (i
       from (Ptr region lo hi) (Some n) a t = (region, place_in p s.memory region lo hi n offset size limits memory a t, not_input region lo hi)
 
   -- ---- no fault
-  no_miss : (callee : Callee) (x : Insn) → AllNone (class_rules p callee row x) → ¬ MissesWindows x s
+  no_miss : (callee : Callee) (x : Insn) → AllNone (class_rules p callee pairs row x) → ¬ MissesWindows x s
   no_miss callee (insn.Load size extend dst r offset) h miss = let l = access r offset (size_bytes size) (untold_not _ OutsideWindow h.0) in miss l.0 l.1
   no_miss callee (insn.Store size r offset src) h miss = let l = access r offset (size_bytes size) (untold_not _ OutsideWindow h.0) in miss l.0 l.1
   no_miss callee (insn.Alu o w d src) h miss = miss
@@ -193,7 +195,7 @@ module _ (sound : (profile : Profile) → IsSoundTable profile) (p : Program) (i
   no_miss callee (insn.Wide d n) h miss = miss
   no_miss callee insn.Tail h miss = miss
 
-  no_input : (callee : Callee) (x : Insn) → AllNone (class_rules p callee row x) → ¬ StoresToInput x s
+  no_input : (callee : Callee) (x : Insn) → AllNone (class_rules p callee pairs row x) → ¬ StoresToInput x s
   no_input callee (insn.Store size r offset src) h c =
       let l = access r offset (size_bytes size) (untold_not _ OutsideWindow h.0) in
       not_in_input p s.memory l.0 (address s r offset) (size_bytes size) limits memory (some_bytes size) (l.2 (untold _ InputStored h.1.0)) l.1 c
@@ -207,8 +209,8 @@ module _ (sound : (profile : Profile) → IsSoundTable profile) (p : Program) (i
   no_input callee (insn.Wide d n) h c = c
   no_input callee insn.Tail h c = c
 
-  no_bad_call : (x : Insn) → AllNone (class_rules p (callee_in p.sigs x) row x) → ¬ Breaks (calls_of p.sigs) x s fault.Helper
-  no_bad_call (insn.Call n) h c = c (given_fits sound p row s limits long fits memory at_number (callee_of p.sigs n) (untold_not _ ArgumentRule h.1.0))
+  no_bad_call : (x : Insn) → AllNone (class_rules p (callee_in p.sigs x) pairs row x) → ¬ Breaks (calls_of p.sigs) x s fault.Helper
+  no_bad_call (insn.Call n) h c = c (given_fits sound p row s limits long fits memory at_number pairs hold (callee_of p.sigs n) (untold_not _ ArgumentRule h.1.0))
   no_bad_call (insn.Store size r offset src) h c = c
   no_bad_call (insn.Load size extend d r offset) h c = c
   no_bad_call (insn.Alu o w d src) h c = c
@@ -219,7 +221,7 @@ module _ (sound : (profile : Profile) → IsSoundTable profile) (p : Program) (i
   no_bad_call (insn.Wide d n) h c = c
   no_bad_call insn.Tail h c = c
 
-  pub no_fault : (x : Insn) → AllNone (rules_of p row x) → (f : Fault) → ¬ Breaks (calls_of p.sigs) x s f
+  pub no_fault : (x : Insn) → AllNone (rules_of p pairs row x) → (f : Fault) → ¬ Breaks (calls_of p.sigs) x s f
   no_fault x h fault.Unset b = reads_set (reads_by (callee_in p.sigs x) x) (untold _ UnsetRead h.0) (subst (SomeUnset s) (sym (reads_called p.sigs x)) b)
   no_fault x h fault.Address b = no_miss (callee_in p.sigs x) x h.1.1 b
   no_fault x h fault.Input b = no_input (callee_in p.sigs x) x h.1.1 b
@@ -238,7 +240,7 @@ module _ (sound : (profile : Profile) → IsSoundTable profile) (p : Program) (i
       let P : State → Type 0 = λ u. SomeEdge u.slot (values p.profile u) (edges_from p.profile (callee_in p.sigs x) sum i row x) × IsMemory p u.memory in
       subst P (sym e) (subst (SomeEdge (s.slot +ℤ pos 1) (values_of p.profile (set s.registers (number r) (Some v)) s.memory.stack)) (sym es) (inl (one_on s.slot i at, written_register p.profile row s long fits r k (Some v) a w)), memory)
 
-  alu_lands : (o : Op) (w : Width) (dst : Register) (src : Operand) (t : State) → AllNone (class_rules p Unknown row (insn.Alu o w dst src)) → Does (calls_of p.sigs) (insn.Alu o w dst src) s t → Lands (insn.Alu o w dst src) t
+  alu_lands : (o : Op) (w : Width) (dst : Register) (src : Operand) (t : State) → AllNone (class_rules p Unknown pairs row (insn.Alu o w dst src)) → Does (calls_of p.sigs) (insn.Alu o w dst src) s t → Lands (insn.Alu o w dst src) t
   alu_lands o w dst src t h d =
       let a = at_reg dst in
       let b = at_operand src in
@@ -247,7 +249,7 @@ module _ (sound : (profile : Profile) → IsSoundTable profile) (p : Program) (i
       let admitted = (sound p.profile).operation o w (kind_at row dst) (kind_from p.profile row src) m n (at_kind dst) (operand_kind src) (number_fits _ a.1) b.1 (λ _. admits_number _ _ a.0) (λ _. b.0) in
       written_lands (insn.Alu o w dst src) dst (result_kind (transfer_of p.profile o w (kind_at row dst) (kind_from p.profile row src))) (value o w m n) t refl (ok_result _ (Some (value o w m n)) h.0 admitted) (value_word o w m n) d
 
-  swap_lands : (kind : SwapKind) (n : SwapBits) (dst : Register) (t : State) → AllNone (class_rules p Unknown row (insn.Swap kind n dst)) → Does (calls_of p.sigs) (insn.Swap kind n dst) s t → Lands (insn.Swap kind n dst) t
+  swap_lands : (kind : SwapKind) (n : SwapBits) (dst : Register) (t : State) → AllNone (class_rules p Unknown pairs row (insn.Swap kind n dst)) → Does (calls_of p.sigs) (insn.Swap kind n dst) s t → Lands (insn.Swap kind n dst) t
   swap_lands kind n dst t h d =
       let a = at_reg dst in
       let m = number_in s dst in
@@ -275,7 +277,7 @@ module _ (sound : (profile : Profile) → IsSoundTable profile) (p : Program) (i
         (in_loaded size Zero n (load_small p s.memory region (address s r offset) size memory c)).1,
       )
 
-  load_lands : (size : Size) (extend : Extend) (dst r : Register) (offset : ℤ) (t : State) → IsInstruction (insn.Load size extend dst r offset) → AllNone (class_rules p Unknown row (insn.Load size extend dst r offset)) → Does (calls_of p.sigs) (insn.Load size extend dst r offset) s t → Lands (insn.Load size extend dst r offset) t
+  load_lands : (size : Size) (extend : Extend) (dst r : Register) (offset : ℤ) (t : State) → IsInstruction (insn.Load size extend dst r offset) → AllNone (class_rules p Unknown pairs row (insn.Load size extend dst r offset)) → Does (calls_of p.sigs) (insn.Load size extend dst r offset) s t → Lands (insn.Load size extend dst r offset) t
   load_lands size extend dst r offset t is h d =
       let n = little_endian (read s.memory d.0 (address s r offset - base d.0) (size_bytes size)) in
       let o = part_at p.profile (kind_at row r) offset (size_bytes size) in
@@ -291,7 +293,7 @@ module _ (sound : (profile : Profile) → IsSoundTable profile) (p : Program) (i
       let a = at_operand src in
       stored_fits sound p row s limits long fits memory (kind_at row r) (number_in s r) offset (size_bytes size) at region (kind_from p.profile row src) (operand_in s src) e (at_number r).0 t c kinds (operand_kind src) a.1 a.0
 
-  store_lands : (size : Size) (r : Register) (offset : ℤ) (src : Operand) (t : State) → AllNone (class_rules p Unknown row (insn.Store size r offset src)) → Does (calls_of p.sigs) (insn.Store size r offset src) s t → Lands (insn.Store size r offset src) t
+  store_lands : (size : Size) (r : Register) (offset : ℤ) (src : Operand) (t : State) → AllNone (class_rules p Unknown pairs row (insn.Store size r offset src)) → Does (calls_of p.sigs) (insn.Store size r offset src) s t → Lands (insn.Store size r offset src) t
   store_lands size r offset src t h d =
       let P : State → Type 0 = λ u. SomeEdge u.slot (values p.profile u) (edges_from p.profile Unknown sum i row (insn.Store size r offset src)) × IsMemory p u.memory in
       let kept = store_fits size r offset src d.0 (part_at p.profile (kind_at row r) offset (size_bytes size)) (untold_not _ OutsideWindow h.0) d.1 refl in
@@ -350,15 +352,15 @@ module _ (sound : (profile : Profile) → IsSoundTable profile) (p : Program) (i
       let two : pos (i + 2) ≡ (s.slot +ℤ pos 1 +ℤ pos 1) = two_on s.slot i at in
       subst P (sym d) (inl (two, written_register p.profile row s long fits dst (one_number p.profile n) (Some n) ((sound p.profile).range (single n) n small (omega arith, omega arith)) small), memory)
 
-  call_lands : (n : ℕ) (t : State) → AllNone (class_rules p (callee_of p.sigs n) row (insn.Call n)) → Does (calls_of p.sigs) (insn.Call n) s t → Lands (insn.Call n) t
+  call_lands : (n : ℕ) (t : State) → AllNone (class_rules p (callee_of p.sigs n) pairs row (insn.Call n)) → Does (calls_of p.sigs) (insn.Call n) s t → Lands (insn.Call n) t
   call_lands n t h d =
       let callee = callee_of p.sigs n in
       let P : State → Type 0 = λ u. SomeEdge u.slot (values p.profile u) (edges_from p.profile callee sum i row (insn.Call n)) × IsMemory p u.memory in
-      let a = answered sound p row s limits long fits memory at_number n callee d.0 d.1 d.2 in
-      subst P (sym d.3) (inl (one_on s.slot i at, row_fits sound p row s limits long fits memory at_number n callee d.0 d.1 (untold_not _ ArgumentRule h.1.0) d.2), a.2)
+      let a = answered sound p row s limits long fits memory at_number pairs hold n callee d.0 d.1 d.2 in
+      subst P (sym d.3) (inl (one_on s.slot i at, row_fits sound p row s limits long fits memory at_number pairs hold n callee d.0 d.1 (untold_not _ ArgumentRule h.1.0) d.2), a.2)
 
   -- ---- any instruction
-  pub lands : (x : Insn) (t : State) → IsInstruction x → ((z : ℤ) → target_of i x ≡ Some z → (k : ℕ) × (z ≡ pos k)) → AllNone (rules_of p row x) → Does (calls_of p.sigs) x s t → Lands x t
+  pub lands : (x : Insn) (t : State) → IsInstruction x → ((z : ℤ) → target_of i x ≡ Some z → (k : ℕ) × (z ≡ pos k)) → AllNone (rules_of p pairs row x) → Does (calls_of p.sigs) x s t → Lands x t
   lands (insn.Alu o w dst src) t is to h d = alu_lands o w dst src t h.1.1 d
   lands (insn.Swap kind n dst) t is to h d = swap_lands kind n dst t h.1.1 d
   lands (insn.Load size extend dst r offset) t is to h d = load_lands size extend dst r offset t is h.1.1 d

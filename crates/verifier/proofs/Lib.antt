@@ -13,9 +13,11 @@ pub mod Zeros
 pub mod Touches
 pub mod Refined
 pub mod SumSteps
+pub mod Together
 pub mod CallSteps
 pub mod Classes
 pub mod SumRuns
+pub mod PairRuns
 pub mod Counting
 pub mod Tables
 pub mod Soundness

@@ -4,7 +4,12 @@ use Rattle.std.specs.Prelude.{slice_get}
 use Rattle.insn.specs.declared.Insn.{Insn}
 use Rattle.bpfimage.specs.Form.{target_of}
 use Rattle.verifier.specs.Sums.{is_slot, target_at, leads_before, sum_after, sum_next, sum_at}
+use Rattle.verifier.specs.Program.{Program}
+use Rattle.verifier.specs.Registers.{Row}
+use Rattle.verifier.specs.Pairs.{no_pairs}
+use Rattle.verifier.specs.PairSteps.{pairs_next, pairs_at}
 use Rattle.verifier.specs.declared.sum.Sum.{Sum}
+use Rattle.verifier.specs.declared.pair.Pairs.{Pairs}
 
 -- the slots to which jumps lead from one slot more
 pub led_on : (code : List Insn) (i k : ℕ) (x : Insn) → slice_get code i ≡ Some x → (is_slot k (target_of i x) || leads_before code i k) ≡ leads_before code (i + 1) k
@@ -20,3 +25,14 @@ pub sum_on : (code : List Insn) (i : ℕ) (x : Insn) (b : Bool) (sum : Option Su
 sum_on code i x b sum at led is =
     let one : i + 1 ≡ suc i = omega arith in
     ap (λ s. cond b None (sum_after x s)) is ∙ next_is code i x b at (led ∙ ap (λ n. leads_before code n n) one) ∙ ap (sum_at code) (sym one)
+
+-- the pairs that are known at the next slot
+pub pairs_on : (p : Program) (rows : List (Option Row)) (i : ℕ) (b : Bool) (sum : Option Sum) (pairs next now : Pairs) → b ≡ leads_before p.code (i + 1) (i + 1) → sum ≡ sum_at p.code i → pairs ≡ pairs_at p rows i → next ≡ pairs_next p (slice_get p.code i) sum (slice_get rows i) pairs → now ≡ cond b no_pairs next → now ≡ pairs_at p rows (i + 1)
+pairs_on p rows i b sum pairs next now led summed paired is here =
+    let one : i + 1 ≡ suc i = omega arith in
+    here
+    ∙ ap (λ n. cond b no_pairs n) is
+    ∙ ap (λ s. cond b no_pairs (pairs_next p (slice_get p.code i) s (slice_get rows i) pairs)) summed
+    ∙ ap (λ q. cond b no_pairs (pairs_next p (slice_get p.code i) (sum_at p.code i) (slice_get rows i) q)) paired
+    ∙ ap (λ c. cond c no_pairs (pairs_next p (slice_get p.code i) (sum_at p.code i) (slice_get rows i) (pairs_at p rows i))) (led ∙ ap (λ n. leads_before p.code n n) one)
+    ∙ ap (pairs_at p rows) (sym one)

@@ -24,6 +24,8 @@ use Rattle.verifier.specs.declared.rule.KindRule.TheVariants.{UnsetRead, FrameWr
 use Rattle.verifier.specs.Cells.{span_of, part_at}
 use Rattle.verifier.specs.Registers.{Row, cell_count, IsLong, kind_at, one_number, entry, is_unset, is_pointer, is_input_pointer, any_unset, first_offset, end_offset, is_inside}
 use Rattle.helpers.specs.Calls.{Callee}
+use Rattle.verifier.specs.PairSteps.{pairs_at}
+use Rattle.verifier.specs.declared.pair.Pairs.{Pairs}
 use Rattle.verifier.specs.Rules.{callee_in, compares_pointer, is_frame, broken_if, bad_result, class_rules, rules_of, first_of, row_taken}
 use Rattle.verifier.specs.Sums.{sum_at, row_on}
 use Rattle.verifier.specs.Table.{Edge, next_edge, target_edge, edges_from, join_rows, joined, into, edges_of, arrivals, table, broken_with, IsAccepted}
@@ -304,27 +306,27 @@ kind_no_pointer (Halves l u) h = absurd h
 no_store : (k : Kind) (b : Bool) → IsNum k → (is_pointer k && b) ≡ false
 no_store k b h = ap (λ t. t && b) (no_pointer k h)
 
-class_kept : (p : Program) (callee : Callee) (row : Row) (x : Insn) → IsLong p.profile row → PlainCells row → PlainRow row → IsPlainInsn x → StaysInside p x → any_unset row (reads no_calls x) ≡ false → AllNone (class_rules p callee row x)
-class_kept p callee row (insn.Alu o w dst src) long cells plain is inside u = (no_bad _ (alu_number p.profile row plain w dst src is.no_address o u), tt)
-class_kept p callee row (insn.Swap kind n dst) long cells plain is inside u = (no_bad _ (swap_result p.profile kind n (kind_at row dst) (register_number row dst [] plain (is.no_address dst (inl refl)) u)), tt)
-class_kept p callee row (insn.Load size extend dst base offset) long cells plain is inside u = (not_told _ OutsideWindow (not_true _ (inside_at p base (kind_at row base) offset (size_bytes size) (plain base) inside)), (not_told _ StackRead (not_true _ (readable p.profile row (kind_at row base) offset (size_bytes size) (part_at p.profile (kind_at row base) offset (size_bytes size)) (span_of (kind_at row base) offset (size_bytes size)) long refl cells)), tt))
-class_kept p callee row (insn.Store size base offset src) long cells plain is inside u = (
+class_kept : (p : Program) (callee : Callee) (pairs : Pairs) (row : Row) (x : Insn) → IsLong p.profile row → PlainCells row → PlainRow row → IsPlainInsn x → StaysInside p x → any_unset row (reads no_calls x) ≡ false → AllNone (class_rules p callee pairs row x)
+class_kept p callee pairs row (insn.Alu o w dst src) long cells plain is inside u = (no_bad _ (alu_number p.profile row plain w dst src is.no_address o u), tt)
+class_kept p callee pairs row (insn.Swap kind n dst) long cells plain is inside u = (no_bad _ (swap_result p.profile kind n (kind_at row dst) (register_number row dst [] plain (is.no_address dst (inl refl)) u)), tt)
+class_kept p callee pairs row (insn.Load size extend dst base offset) long cells plain is inside u = (not_told _ OutsideWindow (not_true _ (inside_at p base (kind_at row base) offset (size_bytes size) (plain base) inside)), (not_told _ StackRead (not_true _ (readable p.profile row (kind_at row base) offset (size_bytes size) (part_at p.profile (kind_at row base) offset (size_bytes size)) (span_of (kind_at row base) offset (size_bytes size)) long refl cells)), tt))
+class_kept p callee pairs row (insn.Store size base offset src) long cells plain is inside u = (
   not_told _ OutsideWindow (not_true _ (inside_at p base (kind_at row base) offset (size_bytes size) (plain base) inside.0)),
   (
     not_told _ InputStored (not_input_at p base (kind_at row base) offset (size_bytes size) (plain base) inside.0 inside.1),
     (not_told _ PointerStored (no_store _ _ (operand_number p.profile row src plain is.no_address (or_right (is_unset (kind_at row base)) (any_unset row (operand_reads src)) u))), tt),
   ),
 )
-class_kept p callee row (insn.Jump d) long cells plain is inside u = tt
-class_kept p callee row (insn.JumpIf c w left right o) long cells plain is inside u = (
+class_kept p callee pairs row (insn.Jump d) long cells plain is inside u = tt
+class_kept p callee pairs row (insn.JumpIf c w left right o) long cells plain is inside u = (
   not_told _ PointerOperand
       (no_compared p.profile _ _ (register_number row left (operand_reads right) plain (is.no_address left (inl refl)) u) (operand_number p.profile row right plain (λ r h. is.no_address r (inr h)) (or_right (is_unset (kind_at row left)) (any_unset row (operand_reads right)) u))),
   tt,
 )
-class_kept p callee row (insn.Call h) long cells plain is inside u = absurd (is.no_call h refl)
-class_kept p callee row insn.Exit long cells plain is inside u = (not_told _ PointerAnswer (kind_no_pointer (kind_at row R0) (plain R0)), tt)
-class_kept p callee row (insn.Wide dst n) long cells plain is inside u = tt
-class_kept p callee row insn.Tail long cells plain is inside u = tt
+class_kept p callee pairs row (insn.Call h) long cells plain is inside u = absurd (is.no_call h refl)
+class_kept p callee pairs row insn.Exit long cells plain is inside u = (not_told _ PointerAnswer (kind_no_pointer (kind_at row R0) (plain R0)), tt)
+class_kept p callee pairs row (insn.Wide dst n) long cells plain is inside u = tt
+class_kept p callee pairs row insn.Tail long cells plain is inside u = tt
 
 none_first : {A : Type 0} (xs : List (Option A)) → AllNone xs → first_of xs ≡ None
 none_first [] h = refl
@@ -343,13 +345,13 @@ module _ (p : Program) (some : 1 ≤ length p.code) (starts : NextStarts p.code)
       (λ f. f)
       (cases_Bool (any_unset row (reads no_calls x)))
 
-  kept_here : (k : ℕ) (x : Option Insn) (o : Option (Option Row)) → slice_get p.code k ≡ x → slice_get (table p) k ≡ o → PlainSlot p.profile p.code k o → broken_with p x o ≡ None
+  kept_here : (k : ℕ) (x : Option Insn) (o : Option (Option Row)) → slice_get p.code k ≡ x → slice_get (table p) k ≡ o → PlainSlot p.profile p.code k o → broken_with p (pairs_at p (table p) k) x o ≡ None
   kept_here k None o at here h = refl
   kept_here k (Some x) None at here h = refl
   kept_here k (Some x) (Some None) at here h = refl
   kept_here k (Some x) (Some (Some row)) at here h =
       let u = reads_are_set k x row at here h in
-      none_first (rules_of p row x) (not_told _ UnsetRead (ap (any_unset row) (reads_plain (callee_in p.sigs x) x (plain k x at).no_call) ∙ u), (not_told _ FrameWritten (no_frame x (plain k x at)), class_kept p (callee_in p.sigs x) row x h.long h.cells h.plain (plain k x at) (good.inside k x at) u))
+      none_first (rules_of p (pairs_at p (table p) k) row x) (not_told _ UnsetRead (ap (any_unset row) (reads_plain (callee_in p.sigs x) x (plain k x at).no_call) ∙ u), (not_told _ FrameWritten (no_frame x (plain k x at)), class_kept p (callee_in p.sigs x) (pairs_at p (table p) k) row x h.long h.cells h.plain (plain k x at) (good.inside k x at) u))
 
   pub well_behaved_accepted : IsAccepted p
   well_behaved_accepted = record {

@@ -27,6 +27,8 @@ use Rattle.verifier.specs.declared.rule.KindRule.TheVariants.{UnsetRead, Outside
 use Rattle.verifier.specs.Cells.{span_of, part_at}
 use Rattle.verifier.specs.Registers.{Row, kind_at, kind_from, with_kind, entry, is_unset, is_input_pointer, any_unset, first_offset, end_offset, is_inside}
 use Rattle.helpers.specs.Calls.{Callee}
+use Rattle.verifier.specs.PairSteps.{pairs_at}
+use Rattle.verifier.specs.declared.pair.Pairs.{Pairs}
 use Rattle.verifier.specs.Rules.{callee_in, rules_of, class_rules, refined, row_after, row_taken}
 use Rattle.verifier.specs.Sums.{sum_at, row_on}
 use Rattle.verifier.specs.declared.sum.Sum.{Sum}
@@ -185,9 +187,9 @@ same_rows : (o : Option (Option Row)) (a b : Option Row) → o ≡ Some a → o 
 same_rows o a b e f = cc
 
 module _ (p : Program) (some : 1 ≤ length p.code) (accepted : IsAccepted p) where
-  rules_at : (i : ℕ) (x : Insn) (row : Row) → slice_get p.code i ≡ Some x → slice_get (table p) i ≡ Some (Some row) → AllNone (rules_of p row x)
+  rules_at : (i : ℕ) (x : Insn) (row : Row) → slice_get p.code i ≡ Some x → slice_get (table p) i ≡ Some (Some row) → AllNone (rules_of p (pairs_at p (table p) i) row x)
   rules_at i x row at here =
-      none_each (rules_of p row x) (subst (λ o. broken_with p (Some x) o ≡ None) here (subst (λ o. broken_with p o (slice_get (table p) i) ≡ None) at (accepted.unbroken i)))
+      none_each (rules_of p (pairs_at p (table p) i) row x) (subst (λ o. broken_with p (pairs_at p (table p) i) (Some x) o ≡ None) here (subst (λ o. broken_with p (pairs_at p (table p) i) o (slice_get (table p) i) ≡ None) at (accepted.unbroken i)))
 
   reads_set : (i : ℕ) (x : Insn) (row : Row) → slice_get p.code i ≡ Some x → slice_get (table p) i ≡ Some (Some row) → any_unset row (reads no_calls x) ≡ false
   reads_set i x row at here = reads_less (callee_in p.sigs x) row x (untold _ UnsetRead (rules_at i x row at here).0)
@@ -290,18 +292,18 @@ input_pointer k e f = let t : is_input_pointer k ≡ true = ap is_input_pointer 
     both_ways : (b : Bool) → b ≡ true → b ≡ false → ⊥
     both_ways b t f = cc
 
-stays : (p : Program) (callee : Callee) (row : Row) (x : Insn) → PlainRow row → AllNone (class_rules p callee row x) → StaysInside p x
-stays p callee row (insn.Alu o w dst src) plain h = tt
-stays p callee row (insn.Swap kind n dst) plain h = tt
-stays p callee row (insn.Load size extend dst base offset) plain h = window_at p base (kind_at row base) offset (size_bytes size) (plain base) (untold_not _ OutsideWindow h.0)
-stays p callee row (insn.Store size base offset src) plain h =
+stays : (p : Program) (callee : Callee) (pairs : Pairs) (row : Row) (x : Insn) → PlainRow row → AllNone (class_rules p callee pairs row x) → StaysInside p x
+stays p callee pairs row (insn.Alu o w dst src) plain h = tt
+stays p callee pairs row (insn.Swap kind n dst) plain h = tt
+stays p callee pairs row (insn.Load size extend dst base offset) plain h = window_at p base (kind_at row base) offset (size_bytes size) (plain base) (untold_not _ OutsideWindow h.0)
+stays p callee pairs row (insn.Store size base offset src) plain h =
     (window_at p base (kind_at row base) offset (size_bytes size) (plain base) (untold_not _ OutsideWindow h.0), λ e. input_pointer (kind_at row base) (subst (λ r. PlainAt r (kind_at row base)) e (plain base)) (untold _ InputStored h.1.0))
-stays p callee row (insn.Jump d) plain h = tt
-stays p callee row (insn.JumpIf c w left right o) plain h = tt
-stays p callee row (insn.Call n) plain h = tt
-stays p callee row insn.Exit plain h = tt
-stays p callee row (insn.Wide dst n) plain h = tt
-stays p callee row insn.Tail plain h = tt
+stays p callee pairs row (insn.Jump d) plain h = tt
+stays p callee pairs row (insn.JumpIf c w left right o) plain h = tt
+stays p callee pairs row (insn.Call n) plain h = tt
+stays p callee pairs row insn.Exit plain h = tt
+stays p callee pairs row (insn.Wide dst n) plain h = tt
+stays p callee pairs row insn.Tail plain h = tt
 
 module _ (p : Program) (some : 1 ≤ length p.code) (starts : NextStarts p.code) (plain : IsPlain p.code) (accepted : IsAccepted p) where
   inside_of : (k : ℕ) (x : Insn) → slice_get p.code k ≡ Some x → x ≢ insn.Tail → StaysInside p x
@@ -309,7 +311,7 @@ module _ (p : Program) (some : 1 ≤ length p.code) (starts : NextStarts p.code)
       let row = row_of p some accepted k x at begins in
       let known = table_plain p some accepted.formed starts plain (λ i y q at' here is. reads_set p some accepted i y q at' here) (suc k) k (omega arith) in
       let is : IsPlainAt p.profile p.code k row.0 = subst (PlainSlot p.profile p.code k) row.1 known in
-      stays p (callee_in p.sigs x) row.0 x is.plain (rules_at p some accepted k x row.0 at row.1).1.1
+      stays p (callee_in p.sigs x) (pairs_at p (table p) k) row.0 x is.plain (rules_at p some accepted k x row.0 at row.1).1.1
 
   inside_each : (k : ℕ) (x : Insn) → slice_get p.code k ≡ Some x → StaysInside p x
   inside_each k (insn.Alu o w dst src) at = tt

@@ -32,6 +32,9 @@ use Rattle.verifier.specs.Program.{Program, HasLimits, IsSafeProgram}
 use Rattle.verifier.specs.Registers.{Row, cell_count, IsLong, kind_at, kind_from, one_number, entry}
 use Rattle.verifier.specs.Cells.{span_of, part_at, row_written}
 use Rattle.verifier.specs.Answered.{answer_kind}
+use Rattle.verifier.specs.PairSteps.{pairs_at}
+use Rattle.verifier.proofs.Together.{HoldPairs}
+use Rattle.verifier.proofs.PairRuns.{pairs_held}
 use Rattle.verifier.specs.Rules.{callee_in, loaded, row_after, row_taken, rules_of}
 use Rattle.verifier.specs.Sums.{sum_at, row_on}
 use Rattle.verifier.specs.Table.{Edge, next_edge, target_edge, edges_from, edges_of, arrivals, table, broken_with, IsAccepted, AreKinds}
@@ -225,6 +228,7 @@ pub record Stands (p : Program) (n : ℕ) (s : State) : Type 0 where
   pub kinds : slice_get (table p) at ≡ Some (Some row)
   pub fits : FitsRow row (values p.profile s)
   pub holds : Holds (sum_at p.code at) s
+  pub together : HoldPairs (pairs_at p (table p) at) s
   pub memory : IsMemory p s.memory
   pub steps : n ≤ instruction_count (take at p.code)
 
@@ -243,9 +247,9 @@ found_first [] h = absurd (omega arith)
 found_first (x ∷ code) h = (x, refl)
 
 module _ (sound : (profile : Profile) → IsSoundTable profile) (p : Program) (limits : HasLimits p) (paired : IsPaired p.code) (some : 1 ≤ length p.code) (accepted : IsAccepted p) where
-  pub rules_kept : (n : ℕ) (s : State) (g : Stands p n s) → AllNone (rules_of p g.row g.here)
+  pub rules_kept : (n : ℕ) (s : State) (g : Stands p n s) → AllNone (rules_of p (pairs_at p (table p) g.at) g.row g.here)
   rules_kept n s g =
-      none_each (rules_of p g.row g.here) (subst (λ o. broken_with p (Some g.here) o ≡ None) g.kinds (subst (λ o. broken_with p o (slice_get (table p) g.at) ≡ None) g.found (accepted.unbroken g.at)))
+      none_each (rules_of p (pairs_at p (table p) g.at) g.row g.here) (subst (λ o. broken_with p (pairs_at p (table p) g.at) (Some g.here) o ≡ None) g.kinds (subst (λ o. broken_with p (pairs_at p (table p) g.at) o (slice_get (table p) g.at) ≡ None) g.found (accepted.unbroken g.at)))
 
   there : (n : ℕ) (s : State) (g : Stands p n s) → instruction_at p.code s.slot ≡ Some g.here
   there n s g = ap (instruction_at p.code) g.slot ∙ ap starting g.found ∙ starts_there g.here g.starts
@@ -257,10 +261,10 @@ module _ (sound : (profile : Profile) → IsSoundTable profile) (p : Program) (l
       none_there o x e h = cc
   faultless n s g f (inr e) =
       let same : e.0 ≡ g.here = same_Some _ _ (sym e.1 ∙ there n s g) in
-      no_fault sound p g.at g.row s limits (row_kinds sound p limits paired g.at g.row g.kinds) (row_long sound p limits paired g.at g.row g.kinds) g.fits g.slot g.memory (sum_at p.code g.at) g.holds e.0 (subst (λ x. AllNone (rules_of p g.row x)) (sym same) (rules_kept n s g)) f e.2.stands
+      no_fault sound p g.at g.row s limits (row_kinds sound p limits paired g.at g.row g.kinds) (row_long sound p limits paired g.at g.row g.kinds) g.fits g.slot g.memory (sum_at p.code g.at) g.holds (pairs_at p (table p) g.at) g.together e.0 (subst (λ x. AllNone (rules_of p (pairs_at p (table p) g.at) g.row x)) (sym same) (rules_kept n s g)) f e.2.stands
 
-  goes_on : (n : ℕ) (s : State) (g : Stands p n s) (t : State) → SomeEdge t.slot (values p.profile t) (edges_from p.profile (callee_in p.sigs g.here) (sum_at p.code g.at) g.at g.row g.here) → IsMemory p t.memory → ((k : ℕ) → g.at < k → t.slot ≡ pos k → Holds (sum_at p.code k) t) → Stands p (suc n) t
-  goes_on n s g t e m held =
+  goes_on : (n : ℕ) (s : State) (g : Stands p n s) (t : State) → SomeEdge t.slot (values p.profile t) (edges_from p.profile (callee_in p.sigs g.here) (sum_at p.code g.at) g.at g.row g.here) → IsMemory p t.memory → ((k : ℕ) → g.at < k → t.slot ≡ pos k → Holds (sum_at p.code k) t) → ((k : ℕ) → g.at < k → t.slot ≡ pos k → HoldPairs (pairs_at p (table p) k) t) → Stands p (suc n) t
+  goes_on n s g t e m held paired_up =
       let to = lead_any p g.at (edges_from p.profile (callee_in p.sigs g.here) (sum_at p.code g.at) g.at g.row g.here) t.slot (values p.profile t) (edges_lead p.profile (callee_in p.sigs g.here) (sum_at p.code g.at) p.code g.at g.here g.row accepted.formed (paired_starts p.code paired) g.found) e in
       let k = to.0 in
       let l = to.2 in
@@ -277,6 +281,7 @@ module _ (sound : (profile : Profile) → IsSoundTable profile) (p : Program) (l
         kinds = next.1;
         fits = next.2;
         holds = held k l.above to.1;
+        together = paired_up k l.above to.1;
         memory = m;
         steps = omega (arith, counted p.code g.at k g.here g.found g.starts l.above, g.steps);
       }
@@ -286,11 +291,12 @@ module _ (sound : (profile : Profile) → IsSoundTable profile) (p : Program) (l
       let same : d.0 ≡ g.here = same_Some _ _ (sym d.1 ∙ there n s g) in
       let row = subst (λ x. Row_of (calls_of p.sigs) x s t) same d.2.row in
       let long = row_long sound p limits paired g.at g.row g.kinds in
-      let number_word = at_number sound p g.at g.row s limits (row_kinds sound p limits paired g.at g.row g.kinds) long g.fits g.slot g.memory (sum_at p.code g.at) g.holds in
+      let number_word = at_number sound p g.at g.row s limits (row_kinds sound p limits paired g.at g.row g.kinds) long g.fits g.slot g.memory (sum_at p.code g.at) g.holds (pairs_at p (table p) g.at) g.together in
       let to : (z : ℤ) → target_of g.at g.here ≡ Some z → (k : ℕ) × (z ≡ pos k) = λ z e. let l = target_leads p.code g.at g.here z accepted.formed g.found e in (l.0, l.1) in
-      let l = lands sound p g.at g.row s limits (row_kinds sound p limits paired g.at g.row g.kinds) (row_long sound p limits paired g.at g.row g.kinds) g.fits g.slot g.memory (sum_at p.code g.at) g.holds g.here t (paired.instructions g.at g.here g.found g.starts) to (rules_kept n s g) row in
+      let l = lands sound p g.at g.row s limits (row_kinds sound p limits paired g.at g.row g.kinds) (row_long sound p limits paired g.at g.row g.kinds) g.fits g.slot g.memory (sum_at p.code g.at) g.holds (pairs_at p (table p) g.at) g.together g.here t (paired.instructions g.at g.here g.found g.starts) to (rules_kept n s g) row in
       goes_on n s g t l.0 l.1
       (λ k above slot. held_at (calls_of p.sigs) p.code s g.at g.slot (has_eleven p.profile g.row s long g.fits) (λ r. (number_word r).1) g.holds (λ dst n. paired.after_wide g.at n dst) k g.here t above g.found slot row)
+      (λ k above slot. pairs_held sound p (table p) s g.at g.slot (has_eleven p.profile g.row s long g.fits) (λ r. (number_word r).1) g.row g.kinds long (row_kinds sound p limits paired g.at g.row g.kinds) g.fits g.together g.holds (λ dst n. paired.after_wide g.at n dst) k g.here t above g.found slot l.0 row)
 
   -- the state before the first slot
   stands_first : (input : List ℕ) (used : ℕ) → IsInput p.in_len input used → Stands p 0 (start input used p.out_len)
@@ -308,6 +314,7 @@ module _ (sound : (profile : Profile) → IsSoundTable profile) (p : Program) (l
         kinds = table_at p 0 some;
         fits = (tt, tt, ((omega (arith, ints), omega (arith, ints)), omega arith, ((sound p.profile).range (up_to p.in_len) used (omega arith) (omega arith, h.within), omega (arith, h.within), ((omega (arith, ints), omega (arith, ints)), omega arith, ((sound p.profile).range (single p.out_len) p.out_len (omega arith) (omega arith, omega arith), omega arith, (tt, tt, (tt, tt, (tt, tt, (tt, tt, (tt, tt, ((omega (arith, ints), omega (arith, ints)), omega arith, zero_cells (cell_count p.profile) (one_number p.profile 0) (replicate 512 0) ((sound p.profile).range (single 0) 0 (omega arith) (omega arith, omega arith)) (zero_bytes 512))))))))))));
         holds = tt;
+        together = record { first = tt; second = tt; third = tt; fourth = tt };
         memory = record { stack_length = length-replicate {A = ℕ} 512 0; input_length = h.whole; output_length = length-replicate {A = ℕ} p.out_len 0; stack_bytes = bytes_zero 512; input_bytes = h.bytes; output_bytes = bytes_zero p.out_len };
         steps = omega arith;
       }

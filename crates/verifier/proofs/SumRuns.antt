@@ -29,10 +29,10 @@ use Rattle.verifier.proofs.Classes.{or_left, or_right}
 
 -- ---- one register is written
 
-differ : (a b : ℕ) → eqb a b ≡ false → a ≢ b
+pub differ : (a b : ℕ) → eqb a b ≡ false → a ≢ b
 differ a b f e = let t = eq-eqb a b e in let clash : true ≡ false = sym t ∙ f in cc
 
-no_not : (b : Bool) → not b ≡ true → b ≡ false
+pub no_not : (b : Bool) → not b ≡ true → b ≡ false
 no_not true h = cc
 no_not false h = refl
 
@@ -43,7 +43,7 @@ plus_none n = omega arith
 with_zero : (n : ℕ) → n < 2 ^ 64 → value op.Add W64 n (wrapped 64 (pos 0)) ≡ n
 with_zero n lt = ap (value op.Add W64 n) (wrapped_small 64 0 (omega arith)) ∙ whole_sum n 0 (omega (arith, lt)) ∙ plus_none n
 
-moved : (m n : ℕ) → n < 2 ^ 64 → value op.Mov W64 m n ≡ n
+pub moved : (m n : ℕ) → n < 2 ^ 64 → value op.Mov W64 m n ≡ n
 moved m n lt = ap (λ x. wrapped 64 (pos x)) (mod-eq_of_lt {m = 2 ^ 64} lt) ∙ wrapped_small 64 n lt
 
 zero_is : (o : Operand) → is_zero o ≡ true → o ≡ operand.Immediate (pos 0)
@@ -53,19 +53,19 @@ zero_is (operand.Immediate z) h = cc
 zero_is (operand.Register r) h = cc
 
 module _ (s : State) (eleven : length s.registers ≡ 11) (words : (r : Register) → number_in s r < 2 ^ 64) where
-  abbrev Written : Register → ℕ → State
+  abbrev pub Written : Register → ℕ → State
   Written dst v = advanced (with_register dst v s)
 
-  operand_word : (o : Operand) → operand_in s o < 2 ^ 64
+  pub operand_word : (o : Operand) → operand_in s o < 2 ^ 64
   operand_word (operand.Register r) = words r
   operand_word (operand.Immediate n) = wrapped_below 64 n
 
-  number_other : (dst r : Register) (v : ℕ) → number r ≢ number dst → number_in (Written dst v) r ≡ number_in s r
+  pub number_other : (dst r : Register) (v : ℕ) → number r ≢ number dst → number_in (Written dst v) r ≡ number_in s r
   number_other dst r v ne =
       ap (λ o. unwrap_or o 0)
       (unwrap_or-slice_get (set s.registers (number dst) (Some v)) (number r) None ∙ get_or-set_other s.registers (number dst) (number r) (Some v) None ne ∙ sym (unwrap_or-slice_get s.registers (number r) None))
 
-  number_same : (dst : Register) (v : ℕ) → number_in (Written dst v) dst ≡ v
+  pub number_same : (dst : Register) (v : ℕ) → number_in (Written dst v) dst ≡ v
   number_same dst v =
       ap (λ o. unwrap_or o 0)
       (unwrap_or-slice_get (set s.registers (number dst) (Some v)) (number dst) None ∙ get_or-set_same s.registers (number dst) (Some v) None (omega (arith, eleven, number_small dst)))
@@ -153,7 +153,7 @@ or_either : (a b : Bool) → b ≡ true → (a || b) ≡ true
 or_either true b h = refl
 or_either false b h = h
 
-leads : (code : List Insn) (n i k : ℕ) (x : Insn) → i < n → slice_get code i ≡ Some x → target_of i x ≡ Some (pos k) → leads_before code n k ≡ true
+pub leads : (code : List Insn) (n i k : ℕ) (x : Insn) → i < n → slice_get code i ≡ Some x → target_of i x ≡ Some (pos k) → leads_before code n k ≡ true
 leads code zero i k x lt at to = absurd (omega arith)
 leads code (suc n) i k x lt at to =
     ⊎_elim
@@ -172,10 +172,10 @@ next_holds code i k x t e at h =
     subst (λ n. Holds (sum_at code n) t) (sym e)
     (cond_both (leads_before code (suc i) (suc i)) None (sum_next (slice_get code i) (sum_at code i)) (λ q. Holds q t) (λ _. tt) (λ _. subst (λ o. Holds (sum_next o (sum_at code i)) t) (sym at) h))
 
-slot_on : (z : ℤ) (i k : ℕ) → z ≡ pos i → (z +ℤ pos 1) ≡ pos k → k ≡ suc i
+pub slot_on : (z : ℤ) (i k : ℕ) → z ≡ pos i → (z +ℤ pos 1) ≡ pos k → k ≡ suc i
 slot_on z i k e f = let h : (pos i +ℤ pos 1) ≡ pos k = ap (λ y. y +ℤ pos 1) (sym e) ∙ f in omega (arith, ints, h)
 
-two_on : (z : ℤ) (i k : ℕ) → z ≡ pos i → (z +ℤ pos 1 +ℤ pos 1) ≡ pos k → k ≡ suc (suc i)
+pub two_on : (z : ℤ) (i k : ℕ) → z ≡ pos i → (z +ℤ pos 1 +ℤ pos 1) ≡ pos k → k ≡ suc (suc i)
 two_on z i k e f = let h : (pos i +ℤ pos 1 +ℤ pos 1) ≡ pos k = ap (λ y. y +ℤ pos 1 +ℤ pos 1) (sym e) ∙ f in omega (arith, ints, h)
 
 module _ (calls : Calls) (code : List Insn) (s : State) (i : ℕ) (at : s.slot ≡ pos i) (eleven : length s.registers ≡ 11) (words : (r : Register) → number_in s r < 2 ^ 64) (holds : Holds (sum_at code i) s) (after_wide : (dst : Register) (n : ℕ) → slice_get code i ≡ Some (insn.Wide dst n) → slice_get code (i + 1) ≡ Some insn.Tail) where

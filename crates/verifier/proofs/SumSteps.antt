@@ -109,7 +109,7 @@ least_of Dead x is h = absurd h
 least_of (Num a) x is h = h.within.0
 least_of (Ptr q lo hi) x is h = let first = address_is q lo is.0 in omega (arith, ints, first, h)
 
-most_of : (k : Kind) (x : ℕ) → IsKind k → x < 2 ^ 64 → Admits k (Some x) → x ≤ most k
+pub most_of : (k : Kind) (x : ℕ) → IsKind k → x < 2 ^ 64 → Admits k (Some x) → x ≤ most k
 most_of Unset x is w h = omega (arith, w)
 most_of (Halves l u) x is w h = omega (arith, w)
 most_of Dead x is w h = absurd h
@@ -126,7 +126,7 @@ most_word (Ptr q lo hi) h = let last = address_is q hi (omega (arith, ints, h)) 
 le_true : (x n : ℕ) → x ≤ n → nat_le x n ≡ true
 le_true x n h = grind arith
 
-le_from : (x n : ℕ) → nat_le x n ≡ true → x ≤ n
+pub le_from : (x n : ℕ) → nat_le x n ≡ true → x ≤ n
 le_from x n h = grind arith
 
 at_most_holds : (x n : ℕ) → n < 2 ^ 64 → x ≤ n → condition LessEqual W64 x n ≡ true
@@ -201,15 +201,15 @@ module _ (sound : IsSoundTable Second) where
     number_fits (Some n) w = w
 
     module _ (row : Row) (long : IsLong profile row) (kinds : AreKinds row) (fits : FitsRow row (values profile s)) where
-      at_register : (r : Register) → Admits (kind_at row r) (Some (number_in s r)) × (number_in s r < 2 ^ 64)
+      pub at_register : (r : Register) → Admits (kind_at row r) (Some (number_in s r)) × (number_in s r < 2 ^ 64)
       at_register r = let h = register_fits profile row s long fits r in (admits_number _ _ h.0, number_fits _ h.1)
 
-      at_operand : (o : Operand) → Admits (kind_from Second row o) (Some (operand_in s o)) × (operand_in s o < 2 ^ 64)
+      pub at_operand : (o : Operand) → Admits (kind_from Second row o) (Some (operand_in s o)) × (operand_in s o < 2 ^ 64)
       at_operand (operand.Register r) = at_register r
       at_operand (operand.Immediate n) =
           let m = wrapped 64 n in (sound.range (single m) m (wrapped_below 64 n) (omega arith, omega arith), wrapped_below 64 n)
 
-      kind_operand : (o : Operand) → IsKind (kind_from Second row o)
+      pub kind_operand : (o : Operand) → IsKind (kind_from Second row o)
       kind_operand (operand.Register r) = kinds (number r)
       kind_operand (operand.Immediate n) = sound.range_kind (single (wrapped 64 n)) (omega arith) (wrapped_below 64 n)
 

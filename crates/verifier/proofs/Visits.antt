@@ -14,6 +14,9 @@ use Rattle.verifier.specs.Program.{Program}
 use Rattle.verifier.specs.Registers.{Row}
 use Rattle.helpers.specs.Calls.{Callee}
 use Rattle.bpfimage.specs.Form.{next_of, target_of}
+use Rattle.verifier.specs.PairSteps.{pairs_over, pairs_told, pairs_next, pairs_at}
+use Rattle.verifier.specs.Pairs.{no_pairs}
+use Rattle.verifier.specs.declared.pair.Pairs.{Pairs}
 use Rattle.verifier.specs.Rules.{callee_in, broken_in, row_taken}
 use Rattle.verifier.specs.Sums.{sum_at, row_on}
 use Rattle.verifier.specs.declared.sum.Sum.{Sum}
@@ -22,9 +25,9 @@ use Rattle.verifier.specs.Table.{Edge, joined, next_edge, target_edge, edges_fro
 use Rattle.verifier.specs.declared.rule.KindRule.{KindRule}
 use Rattle.verifier.proofs.Tables.{row_here, row_there, length_pushed, pass_all, pass_alone, pass_taken}
 
-no_rule : (p : Program) (o : Option Insn) → broken_with p o (Some None) ≡ None
-no_rule p None = refl
-no_rule p (Some x) = refl
+no_rule : (p : Program) (pairs : Pairs) (o : Option Insn) → broken_with p pairs o (Some None) ≡ None
+no_rule p pairs None = refl
+no_rule p pairs (Some x) = refl
 
 no_edges : (p : Program) (i : ℕ) (o : Option Insn) → [] ≡ edges_of p i o (Some None)
 no_edges p i None = refl
@@ -33,15 +36,33 @@ no_edges p i (Some x) = refl
 module _ (p : Program) (rows : List (Option Row)) (i : ℕ) (within : i < length p.code) where
   -- a slot that no kinds reach
   pub none_unbroken : IsPass p rows None i → broken_at p i ≡ None
-  none_unbroken pass = ap (broken_with p (slice_get p.code i)) (row_here p rows None i pass within) ∙ no_rule p (slice_get p.code i)
+  none_unbroken pass = let pairs = pairs_at p (table p) i in ap (broken_with p pairs (slice_get p.code i)) (row_here p rows None i pass within) ∙ no_rule p pairs (slice_get p.code i)
 
   pub none_pass : IsPass p rows None i → IsPass p rows (row_at rows (i + 1)) (i + 1)
   none_pass pass = pass_all p rows None i [] pass within (no_edges p i (slice_get p.code i) ∙ ap (edges_of p i (slice_get p.code i)) (sym (row_here p rows None i pass within))) (row_at rows (i + 1)) (row_there rows (i + 1) (omega (arith, pass.long, within)))
 
+  -- at the next one no pair is known
+  pub none_paired : IsPass p rows None i → (sum : Option Sum) (pairs : Pairs) → no_pairs ≡ pairs_next p (slice_get p.code i) sum (slice_get (table p) i) pairs
+  none_paired pass sum pairs = none_next (slice_get p.code i) ∙ ap (λ o. pairs_next p (slice_get p.code i) sum o pairs) (sym (row_here p rows None i pass within))
+    where
+      none_next : (o : Option Insn) → no_pairs ≡ pairs_next p o sum (Some None) pairs
+      none_next None = refl
+      none_next (Some x) = refl
+
   -- a slot that some reach
   module _ (row : Row) (x : Insn) (pass : IsPass p rows (Some row) i) (at : slice_get p.code i ≡ Some x) where
-    pub broken_here : broken_at p i ≡ broken_in p row x
-    broken_here = ap (λ o. broken_with p o (slice_get (table p) i)) at ∙ ap (broken_with p (Some x)) (row_here p rows (Some row) i pass within)
+    pub broken_here : broken_at p i ≡ broken_in p (pairs_at p (table p) i) row x
+    broken_here = let pairs = pairs_at p (table p) i in ap (λ o. broken_with p pairs o (slice_get (table p) i)) at ∙ ap (broken_with p pairs (Some x)) (row_here p rows (Some row) i pass within)
+
+    -- the pairs that are known where it goes on to the next slot
+    pub paired_here : (callee : Callee) (sum : Option Sum) (pairs over next : Pairs) (after : Row) → callee ≡ callee_in p.sigs x → after ≡ row_on p.profile callee sum row x → over ≡ pairs_over x row pairs → next ≡ pairs_told x p.profile sum after over → next ≡ pairs_next p (slice_get p.code i) sum (slice_get (table p) i) pairs
+    paired_here callee sum pairs over next after called goes writes told =
+        told
+        ∙ ap (pairs_told x p.profile sum after) writes
+        ∙ ap (λ r. pairs_told x p.profile sum r (pairs_over x row pairs)) goes
+        ∙ ap (λ y. pairs_told x p.profile sum (row_on p.profile y sum row x) (pairs_over x row pairs)) called
+        ∙ ap (λ o. pairs_next p (Some x) sum o pairs) (sym (row_here p rows (Some row) i pass within))
+        ∙ ap (λ o. pairs_next p o sum (slice_get (table p) i) pairs) (sym at)
 
     edges_here : edges_from p.profile (callee_in p.sigs x) (sum_at p.code i) i row x ≡ edges_of p i (slice_get p.code i) (slice_get (table p) i)
     edges_here = ap (λ r. edges_of p i (Some x) r) (sym (row_here p rows (Some row) i pass within)) ∙ ap (λ o. edges_of p i o (slice_get (table p) i)) (sym at)
@@ -70,7 +91,7 @@ pub here_taken : (p : Program) (rows rows' : List (Option Row)) (here : Option R
 here_taken p rows rows' here i pass e is = pass_taken p rows rows' here i (subst (λ o. IsPass p rows o i) (sym e) pass) is
 
 past_code : (p : Program) (k : ℕ) → length p.code ≤ k → broken_at p k ≡ None
-past_code p k h = ap (λ o. broken_with p o (slice_get (table p) k)) (slice_get_past p.code k h)
+past_code p k h = ap (λ o. broken_with p (pairs_at p (table p) k) o (slice_get (table p) k)) (slice_get_past p.code k h)
 
 -- all slots were visited
 pub all_visited : (p : Program) (n : ℕ) → IsFormed p.code → length p.code ≤ n → ((k : ℕ) → k < n → broken_at p k ≡ None) → IsAccepted p

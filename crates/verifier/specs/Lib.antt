@@ -2,11 +2,13 @@ pub mod Numbers
 pub mod Program
 pub mod Candidates
 pub mod Registers
+pub mod Pairs
 pub mod CallKinds
 pub mod Cells
 pub mod Answered
 pub mod Rules
 pub mod Sums
+pub mod PairSteps
 pub mod Table
 pub mod Rows
 pub mod Waiting

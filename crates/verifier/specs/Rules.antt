@@ -30,6 +30,7 @@ use Rattle.verifier.specs.Registers.{Row, kind_at, with_kind, one_number, kind_f
 use Rattle.verifier.specs.CallKinds.{is_unknown, is_given}
 use Rattle.verifier.specs.Cells.{span_of, part_at, row_stored, is_cell, read_kind, is_readable, call_reads_numbers}
 use Rattle.verifier.specs.Answered.{row_after_call}
+use Rattle.verifier.specs.declared.pair.Pairs.{Pairs}
 use Rattle.verifier.specs.declared.rule.KindRule.{KindRule}
 use Rattle.verifier.specs.declared.rule.KindRule.TheVariants.{UnsetRead, FrameWritten, PointerOperand, FarOffset, OutsideWindow, InputStored, PointerStored, UnknownHelper, ArgumentRule, PointerAnswer, StackRead}
 
@@ -59,27 +60,27 @@ compares_pointer First j k = is_pointer j || is_pointer k
 compares_pointer Second j k = false
 
 -- the rules on a call, each where it is broken, the lowest number first
-abbrev pub call_rules : Program → Callee → Row → List (Option KindRule)
-call_rules p callee row = broken_if (is_unknown callee) UnknownHelper ∷ broken_if (not (is_given p callee row)) ArgumentRule ∷ broken_if (not (call_reads_numbers callee row)) StackRead ∷ []
+abbrev pub call_rules : Program → Callee → Pairs → Row → List (Option KindRule)
+call_rules p callee pairs row = broken_if (is_unknown callee) UnknownHelper ∷ broken_if (not (is_given p callee pairs row)) ArgumentRule ∷ broken_if (not (call_reads_numbers callee row)) StackRead ∷ []
 
 -- the rules on an instruction of each class, each where it is broken, the lowest number first
-abbrev pub class_rules : Program → Callee → Row → Insn → List (Option KindRule)
-class_rules p callee row (insn.Alu op width dst src) = bad_result (transfer_of p.profile op width (kind_at row dst) (kind_from p.profile row src)) ∷ []
-class_rules p callee row (insn.Swap kind n dst) = bad_result (swap_of p.profile kind n (kind_at row dst)) ∷ []
-class_rules p callee row (insn.Load size extend dst base offset) =
+abbrev pub class_rules : Program → Callee → Pairs → Row → Insn → List (Option KindRule)
+class_rules p callee pairs row (insn.Alu op width dst src) = bad_result (transfer_of p.profile op width (kind_at row dst) (kind_from p.profile row src)) ∷ []
+class_rules p callee pairs row (insn.Swap kind n dst) = bad_result (swap_of p.profile kind n (kind_at row dst)) ∷ []
+class_rules p callee pairs row (insn.Load size extend dst base offset) =
     broken_if (not (is_inside p (kind_at row base) offset (size_bytes size))) OutsideWindow
     ∷ broken_if (not (is_readable p.profile (part_at p.profile (kind_at row base) offset (size_bytes size)) (span_of (kind_at row base) offset (size_bytes size)) row)) StackRead
     ∷ []
-class_rules p callee row (insn.Store size base offset src) =
+class_rules p callee pairs row (insn.Store size base offset src) =
     broken_if (not (is_inside p (kind_at row base) offset (size_bytes size))) OutsideWindow
     ∷ broken_if (is_input_pointer (kind_at row base)) InputStored
     ∷ broken_if (is_pointer (kind_from p.profile row src) && not (is_cell (part_at p.profile (kind_at row base) offset (size_bytes size)))) PointerStored
     ∷ []
-class_rules p callee row (insn.JumpIf c width left right offset) =
+class_rules p callee pairs row (insn.JumpIf c width left right offset) =
     broken_if (compares_pointer p.profile (kind_at row left) (kind_from p.profile row right)) PointerOperand ∷ []
-class_rules p callee row (insn.Call helper) = call_rules p callee row
-class_rules p callee row insn.Exit = broken_if (is_pointer (kind_at row R0)) PointerAnswer ∷ []
-class_rules p callee row other = []
+class_rules p callee pairs row (insn.Call helper) = call_rules p callee pairs row
+class_rules p callee pairs row insn.Exit = broken_if (is_pointer (kind_at row R0)) PointerAnswer ∷ []
+class_rules p callee pairs row other = []
 
 -- the registers that an instruction reads: a call those of its arguments
 abbrev pub reads_by : Callee → Insn → List Register
@@ -87,12 +88,12 @@ reads_by callee (insn.Call helper) = arguments_with callee
 reads_by callee other = reads no_calls other
 
 -- the rules on any instruction with what it calls, each where it is broken, the lowest number first
-abbrev pub rules_by : Program → Callee → Row → Insn → List (Option KindRule)
-rules_by p callee row x =
-    broken_if (any_unset row (reads_by callee x)) UnsetRead ∷ broken_if (is_frame (writes x)) FrameWritten ∷ class_rules p callee row x
+abbrev pub rules_by : Program → Callee → Pairs → Row → Insn → List (Option KindRule)
+rules_by p callee pairs row x =
+    broken_if (any_unset row (reads_by callee x)) UnsetRead ∷ broken_if (is_frame (writes x)) FrameWritten ∷ class_rules p callee pairs row x
 
-abbrev pub rules_of : Program → Row → Insn → List (Option KindRule)
-rules_of p row x = rules_by p (callee_in p.sigs x) row x
+abbrev pub rules_of : Program → Pairs → Row → Insn → List (Option KindRule)
+rules_of p pairs row x = rules_by p (callee_in p.sigs x) pairs row x
 
 -- the first of a list
 abbrev pub first_of : {A : Type 0} → List (Option A) → Option A
@@ -100,9 +101,9 @@ first_of [] = None
 first_of (None ∷ xs) = first_of xs
 first_of (Some x ∷ xs) = Some x
 
--- the lowest rule that an instruction breaks at a row of kinds
-abbrev pub broken_in : Program → Row → Insn → Option KindRule
-broken_in p row x = first_of (rules_of p row x)
+-- the lowest rule that an instruction breaks at a row of kinds, with the pairs that are known there
+abbrev pub broken_in : Program → Pairs → Row → Insn → Option KindRule
+broken_in p pairs row x = first_of (rules_of p pairs row x)
 
 -- ---- what is known after an instruction
 

@@ -11,7 +11,9 @@ use Rattle.verifier.specs.Registers.{Row, entry}
 use Rattle.helpers.specs.Calls.{Callee}
 use Rattle.verifier.specs.Rules.{callee_in, row_taken, broken_in}
 use Rattle.verifier.specs.Sums.{sum_at, row_on}
+use Rattle.verifier.specs.PairSteps.{pairs_at}
 use Rattle.verifier.specs.declared.sum.Sum.{Sum}
+use Rattle.verifier.specs.declared.pair.Pairs.{Pairs}
 use Rattle.verifier.specs.declared.rule.KindRule.{KindRule}
 
 -- ---- edges
@@ -71,13 +73,13 @@ rows_before p (suc n) = rows_before p n ++ arrivals p (rows_before p n) n n ∷ 
 abbrev pub table : Program → List (Option Row)
 table p = rows_before p (length p.code)
 
-abbrev pub broken_with : Program → Option Insn → Option (Option Row) → Option KindRule
-broken_with p (Some x) (Some (Some row)) = broken_in p row x
-broken_with p x row = None
+abbrev pub broken_with : Program → Pairs → Option Insn → Option (Option Row) → Option KindRule
+broken_with p pairs (Some x) (Some (Some row)) = broken_in p pairs row x
+broken_with p pairs x row = None
 
--- the lowest rule that a slot breaks, at its row of the table
+-- the lowest rule that a slot breaks, at its row of the table, with the pairs that are known there
 abbrev pub broken_at : Program → ℕ → Option KindRule
-broken_at p k = broken_with p (slice_get p.code k) (slice_get (table p) k)
+broken_at p k = broken_with p (pairs_at p (table p) k) (slice_get p.code k) (slice_get (table p) k)
 
 -- a program that the verifier accepts: no slot breaks a rule of form, and none a rule over kinds
 pub record IsAccepted (p : Program) : Type 0 where

@@ -5,7 +5,7 @@ ghost use Rattle.helpers.specs.Calls.{callee_of, arguments_with, used_of};
 ghost use Rattle.ranges.specs.Kinds.{IsKind};
 ghost use Rattle.verifier.specs.Candidates.{program_in};
 ghost use Rattle.verifier.specs.Registers.{any_unset};
-ghost use Rattle.verifier.specs.CallKinds.{callee_from, reaches, is_within, is_argument, are_arguments, is_read, is_written, is_given, first_kind};
+ghost use Rattle.verifier.specs.CallKinds.{callee_from, ends_inside, reaches, is_within, is_argument, are_arguments, is_read, is_written, is_given, first_kind, first_end, later_ends};
 ghost use Rattle.verifier.specs.Answered.{answer_kind, row_after_call};
 ghost use Rattle.verifier.specs.Rules.{callee_in};
 ghost use Rattle.verifier.specs.Table.{AreKinds};
@@ -13,6 +13,8 @@ ghost use Rattle.verifier.specs.Table.{AreKinds};
 use crate::candidate::Candidate;
 use crate::cells::write_by_call;
 use crate::kinds::{kind_of, set_kind};
+use crate::pair::Pairs;
+use crate::pairs::{argument_ends, most_together};
 use crate::windows::is_inside;
 use helpers::{ARGUMENT_REGISTERS, ArgRule, Sig, Sigs};
 use insn::{Insn, Register};
@@ -90,19 +92,30 @@ pub fn is_argument_unset(row: &[Kind], callee: &Called) -> bool
     }
 }
 
-/// Whether a pointer, and a length up to a limit, name bytes of one window.
-fn reaches(program: &Candidate, limit: u32, address: Kind, len: Kind) -> bool
+/// Whether all bytes of the input or the output from a pointer on, up to an address that is known, lie in its window.
+fn ends_inside(program: &Candidate, address: Kind, end: Option<u64>) -> bool
+    ensures { result ≡ ends_inside (program_in program.now) address end }
+{
+    let (Kind::Ptr { region, lo, .. }, Some(end)) = (address, end) else {
+        return false;
+    };
+    match region {
+        Region::Stack => false,
+        Region::Input => 0 <= lo && end <= region.base() + u64::from(program.image.in_len),
+        Region::Output => 0 <= lo && end <= region.base() + u64::from(program.image.out_len),
+    }
+}
+
+/// Whether a pointer, and a length up to a limit, name bytes of one window. Both are at most the end together, if it is known.
+fn reaches(program: &Candidate, limit: u32, address: Kind, len: Kind, end: Option<u64>) -> bool
     requires { IsKind address }
-    ensures { result ≡ reaches (program_in program.now) limit address len }
+    ensures { result ≡ reaches (program_in program.now) limit address len end }
 {
     match (address, len) {
         (Kind::Dead, _) | (_, Kind::Dead) => true,
-        (_, Kind::Num(n)) if n.range.hi <= u64::from(limit) => is_inside(
-            program,
-            address,
-            0,
-            n.range.hi as u32,
-        ),
+        (_, Kind::Num(n)) if n.range.hi <= u64::from(limit) => {
+            is_inside(program, address, 0, n.range.hi as u32) || ends_inside(program, address, end)
+        }
         _ => false,
     }
 }
@@ -118,15 +131,15 @@ fn is_within(lo: u64, hi: u64, kind: Kind) -> bool
     }
 }
 
-/// Whether an argument is as its rule says; a Read needs the kind of the next one, its length.
-fn is_argument(program: &Candidate, rule: ArgRule, kind: Kind, next: Kind) -> bool
+/// Whether an argument is as its rule says; a Read needs the kind of the next one, its length, and what both are at most together.
+fn is_argument(program: &Candidate, rule: ArgRule, kind: Kind, next: Kind, end: Option<u64>) -> bool
     requires { IsKind kind }
-    ensures { result ≡ is_argument (program_in program.now) rule kind next }
+    ensures { result ≡ is_argument (program_in program.now) rule kind next end }
 {
     match rule {
         ArgRule::Unused | ArgRule::Len => true,
         ArgRule::Num { lo, hi } => is_within(lo, hi, kind),
-        ArgRule::Read { max } => reaches(program, max, kind, next),
+        ArgRule::Read { max } => reaches(program, max, kind, next, end),
     }
 }
 
@@ -140,60 +153,94 @@ pub fn first_kind(kinds: &[Kind]) -> Kind
     }
 }
 
+/// The first end of some.
+fn first_end(ends: &[Option<u64>]) -> Option<u64>
+    ensures { result ≡ first_end ends.now }
+{
+    match ends {
+        [] => None,
+        [end, ..] => *end,
+    }
+}
+
+/// The ends behind the first.
+fn later_ends(ends: &[Option<u64>]) -> &[Option<u64>]
+    ensures { result.now ≡ later_ends ends.now }
+{
+    match ends {
+        [] => ends,
+        [_, later @ ..] => later,
+    }
+}
+
 /// Whether the arguments are as their rules say.
-fn are_arguments(program: &Candidate, rules: &[ArgRule], kinds: &[Kind]) -> bool
+fn are_arguments(
+    program: &Candidate,
+    rules: &[ArgRule],
+    kinds: &[Kind],
+    ends: &[Option<u64>],
+) -> bool
     requires { AreKinds kinds.now }
-    ensures { result ≡ are_arguments (program_in program.now) rules.now kinds.now }
+    ensures { result ≡ are_arguments (program_in program.now) rules.now kinds.now ends.now }
 {
     match rules {
         [] => true,
         [rule, rules @ ..] => match kinds {
             [] => false,
             [kind, kinds @ ..] => {
-                is_argument(program, *rule, *kind, first_kind(kinds))
-                    && are_arguments(program, rules, kinds)
+                is_argument(program, *rule, *kind, first_kind(kinds), first_end(ends))
+                    && are_arguments(program, rules, kinds, later_ends(ends))
             }
         },
     }
 }
 
 /// Whether a call of the machine's own may read from there.
-fn is_read(program: &Candidate, row: &[Kind], address: Kind) -> bool
-    requires { IsKind address }
-    ensures { result ≡ is_read (program_in program.now) row.now address }
+fn is_read(program: &Candidate, pairs: Pairs, row: &[Kind], address: Register) -> bool
+    requires { AreKinds row.now }
+    ensures { result ≡ is_read (program_in program.now) pairs row.now address }
 {
-    reaches(program, MAX_WINDOW, address, kind_of(row, Register::R3))
+    let end = most_together(pairs, address, Register::R3);
+    let len = kind_of(row, Register::R3);
+    reaches(program, MAX_WINDOW, kind_of(row, address), len, end)
 }
 
 /// Whether a call of the machine's own may write there.
-fn is_written(program: &Candidate, row: &[Kind], address: Kind) -> bool
-    requires { IsKind address }
-    ensures { result ≡ is_written (program_in program.now) row.now address }
+fn is_written(program: &Candidate, pairs: Pairs, row: &[Kind], address: Register) -> bool
+    requires { AreKinds row.now }
+    ensures { result ≡ is_written (program_in program.now) pairs row.now address }
 {
     let is_input = matches!(
-        address,
+        kind_of(row, address),
         Kind::Ptr {
             region: Region::Input,
             ..
         }
     );
-    is_read(program, row, address) && !is_input
+    is_read(program, pairs, row, address) && !is_input
 }
 
 /// Whether a call fits, whatever the registers hold.
-pub fn is_given(program: &Candidate, callee: &Called, row: &[Kind]) -> bool
+pub fn is_given(program: &Candidate, callee: &Called, pairs: Pairs, row: &[Kind]) -> bool
     requires long { 11 ≤ length row.now }
     requires kinds { AreKinds row.now }
-    ensures { result ≡ is_given (program_in program.now) (callee_from callee.now) row.now }
+    ensures { result ≡ is_given (program_in program.now) (callee_from callee.now) pairs row.now }
 {
-    let first = kind_of(row, Register::R1);
-    let second = kind_of(row, Register::R2);
     match callee {
-        Called::Copy => is_written(program, row, first) && is_read(program, row, second),
-        Called::Fill => is_written(program, row, first)
-            && matches!(second, Kind::Num(_) | Kind::Dead),
-        Called::Same => is_read(program, row, first) && is_read(program, row, second),
-        Called::Helper(sig) => are_arguments(program, &sig.args, &row[1..6]),
+        Called::Copy => {
+            is_written(program, pairs, row, Register::R1)
+                && is_read(program, pairs, row, Register::R2)
+        }
+        Called::Fill => {
+            is_written(program, pairs, row, Register::R1)
+                && matches!(kind_of(row, Register::R2), Kind::Num(_) | Kind::Dead)
+        }
+        Called::Same => {
+            is_read(program, pairs, row, Register::R1) && is_read(program, pairs, row, Register::R2)
+        }
+        Called::Helper(sig) => {
+            are_arguments(program, &sig.args, &row[1..6], &argument_ends(pairs))
+        }
         Called::Unknown => false,
     }
 }

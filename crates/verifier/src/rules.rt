@@ -12,6 +12,7 @@ ghost use Rattle.verifier.specs.CallKinds.{callee_from};
 ghost use Rattle.verifier.specs.Answered.{row_after_call};
 ghost use Rattle.verifier.specs.Cells.{span_of, part_at};
 ghost use Rattle.verifier.specs.Rules.{is_frame, bad_result, result_kind, broken_if, first_of, compares_pointer, reads_by, call_rules, class_rules, rules_by, refined, row_after};
+ghost use Rattle.verifier.specs.Pairs.{no_pairs};
 ghost use Rattle.verifier.specs.Table.{AreKinds};
 ghost use Rattle.verifier.specs.declared.rule.KindRule.TheVariants.{PointerOperand};
 
@@ -22,6 +23,7 @@ use crate::cells::{
     call_reads_numbers, is_cell, is_readable, part_at, read_kind, span_of, store_kind,
 };
 use crate::kinds::{kind_of, kind_of_operand, loaded, one_number, refine_row, set_kind};
+use crate::pair::Pairs;
 use crate::rule::KindRule;
 use crate::windows::is_inside;
 use alu::{Cond, Op, Width};
@@ -118,7 +120,7 @@ fn store_rule(
 ) -> Option<KindRule>
     requires kinds { AreKinds row.now }
     requires at { at ≡ part_at program.now.image.profile (kind_at row.now base) offset (size_bytes size) }
-    ensures { result ≡ first_of (class_rules (program_in program.now) Unknown row.now (Insn.Store size base offset src)) }
+    ensures { result ≡ first_of (class_rules (program_in program.now) Unknown no_pairs row.now (Insn.Store size base offset src)) }
 {
     let address = kind_of(row, base);
     if !is_access_inside(program, address, offset, size) {
@@ -151,7 +153,7 @@ fn store(
     requires long { 11 ≤ length row.old }
     requires short { length row.old ≤ 75 }
     requires kinds { AreKinds row.old }
-    ensures rule { result ≡ first_of (class_rules (program_in program.now) Unknown row.old (Insn.Store size base offset src)) }
+    ensures rule { result ≡ first_of (class_rules (program_in program.now) Unknown no_pairs row.old (Insn.Store size base offset src)) }
     ensures row { IfNone result (row.new ≡ row_after program.now.image.profile Unknown row.old (Insn.Store size base offset src)) }
     ensures kinds { IfNone result (AreKinds row.new) }
 {
@@ -168,16 +170,16 @@ fn store(
 }
 
 /// The first rule that a call breaks, of those that only it can break.
-fn call_rule(program: &Candidate, callee: &Called, row: &[Kind]) -> Option<KindRule>
+fn call_rule(program: &Candidate, callee: &Called, pairs: Pairs, row: &[Kind]) -> Option<KindRule>
     requires long { 11 ≤ length row.now }
     requires short { length row.now ≤ 75 }
     requires kinds { AreKinds row.now }
-    ensures { result ≡ first_of (call_rules (program_in program.now) (callee_from callee.now) row.now) }
+    ensures { result ≡ first_of (call_rules (program_in program.now) (callee_from callee.now) pairs row.now) }
 {
     if matches!(callee, Called::Unknown) {
         return Some(KindRule::UnknownHelper);
     }
-    if !is_given(program, callee, row) {
+    if !is_given(program, callee, pairs, row) {
         return Some(KindRule::ArgumentRule);
     }
     if call_reads_numbers(callee, row) {
@@ -239,7 +241,7 @@ fn load(
     requires long { 11 ≤ length row.old }
     requires short { length row.old ≤ 75 }
     requires kinds { AreKinds row.old }
-    ensures rule { result ≡ first_of (class_rules (program_in program.now) Unknown row.old (Insn.Load size extend dst base offset)) }
+    ensures rule { result ≡ first_of (class_rules (program_in program.now) Unknown no_pairs row.old (Insn.Load size extend dst base offset)) }
     ensures row { IfNone result (row.new ≡ row_after program.now.image.profile Unknown row.old (Insn.Load size extend dst base offset)) }
     ensures kinds { IfNone result (AreKinds row.new) }
 {
@@ -259,15 +261,15 @@ fn load(
 }
 
 /// Goes over a call, or tells the first rule that it breaks.
-fn call(program: &Candidate, callee: &Called, row: &mut [Kind]) -> Option<KindRule>
+fn call(program: &Candidate, callee: &Called, pairs: Pairs, row: &mut [Kind]) -> Option<KindRule>
     requires long { 11 ≤ length row.old }
     requires short { length row.old ≤ 75 }
     requires kinds { AreKinds row.old }
-    ensures rule { result ≡ first_of (call_rules (program_in program.now) (callee_from callee.now) row.old) }
+    ensures rule { result ≡ first_of (call_rules (program_in program.now) (callee_from callee.now) pairs row.old) }
     ensures row { IfNone result (row.new ≡ row_after_call program.now.image.profile (callee_from callee.now) row.old) }
     ensures kinds { IfNone result (AreKinds row.new) }
 {
-    if let Some(rule) = call_rule(program, callee, row) {
+    if let Some(rule) = call_rule(program, callee, pairs, row) {
         return Some(rule);
     }
     leave_call(program.image.profile, callee, row);
@@ -278,13 +280,14 @@ fn call(program: &Candidate, callee: &Called, row: &mut [Kind]) -> Option<KindRu
 fn class_step(
     program: &Candidate,
     callee: &Called,
+    pairs: Pairs,
     row: &mut [Kind],
     insn: Insn,
 ) -> Option<KindRule>
     requires long { 11 ≤ length row.old }
     requires short { length row.old ≤ 75 }
     requires kinds { AreKinds row.old }
-    ensures rule { result ≡ first_of (class_rules (program_in program.now) (callee_from callee.now) row.old insn) }
+    ensures rule { result ≡ first_of (class_rules (program_in program.now) (callee_from callee.now) pairs row.old insn) }
     ensures after { IfNone result (row.new ≡ row_after program.now.image.profile (callee_from callee.now) row.old insn) }
     ensures kinds { IfNone result (AreKinds row.new) }
 {
@@ -324,7 +327,7 @@ fn class_step(
             right,
             ..
         } => compare(profile, cond, width, left, right, row),
-        Insn::Call { .. } => call(program, callee, row),
+        Insn::Call { .. } => call(program, callee, pairs, row),
         Insn::Wide { dst, value } => {
             set_kind(row, dst, one_number(profile, value));
             None
@@ -337,18 +340,19 @@ fn class_step(
     }
 }
 
-/// Goes over an instruction, with what it calls, in a row of kinds: to the kinds where it goes on to the next slot. What it
+/// Goes over an instruction, with what it calls and the pairs that are known, in a row of kinds: to the kinds where it goes on to the next slot. What it
 /// breaks, the lowest rule, is told.
 pub fn advance(
     program: &Candidate,
     callee: &Called,
+    pairs: Pairs,
     row: &mut [Kind],
     insn: Insn,
 ) -> Option<KindRule>
     requires long { 11 ≤ length row.old }
     requires short { length row.old ≤ 75 }
     requires kinds { AreKinds row.old }
-    ensures rule { result ≡ first_of (rules_by (program_in program.now) (callee_from callee.now) row.old insn) }
+    ensures rule { result ≡ first_of (rules_by (program_in program.now) (callee_from callee.now) pairs row.old insn) }
     ensures row { IfNone result (row.new ≡ row_after program.now.image.profile (callee_from callee.now) row.old insn) }
     ensures kinds { IfNone result (AreKinds row.new) }
 {
@@ -358,5 +362,5 @@ pub fn advance(
     if writes_frame(insn) {
         return Some(KindRule::FrameWritten);
     }
-    class_step(program, callee, row, insn)
+    class_step(program, callee, pairs, row, insn)
 }

@@ -22,7 +22,7 @@ use ranges::{Kind, Profile, refine};
 use std::alloc::{AllocError, Global};
 
 /// Whether a register is an operand.
-fn is_operand(register: Register, operand: Operand) -> bool
+pub fn is_operand(register: Register, operand: Operand) -> bool
     ensures { result ≡ is_operand register operand }
 {
     match operand {
@@ -189,7 +189,7 @@ fn least(kind: Kind) -> u64
 }
 
 /// The greatest number that a kind may be, a pointer by its address.
-fn most(kind: Kind) -> u64
+pub fn most(kind: Kind) -> u64
     requires { IsKind kind }
     ensures { result ≡ most kind }
 {

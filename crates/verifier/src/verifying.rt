@@ -1,12 +1,13 @@
 //! The verifier.
 
-ghost use Rattle.std.specs.Prelude.{◌≡◌, ◌<◌, ◌≤◌, ◌+◌, ℕ, IfOk, IfErr, IfSome, IfNone, OnOk, pos, List, Option, Some, None, length, replicate, slice_set, vec_len};
+ghost use Rattle.std.specs.Prelude.{◌≡◌, ◌<◌, ◌≤◌, ◌+◌, ℕ, IfOk, IfErr, IfSome, IfNone, OnOk, pos, List, Option, Some, None, length, replicate, slice_get, slice_set, vec_len};
 ghost use Rattle.helpers.specs.declared.sig.Entry.{Entry};
 ghost use Rattle.bpfimage.specs.Form.{IsFormed};
 ghost use Rattle.verifier.specs.Program.{program_of, IsSafeProgram};
 ghost use Rattle.verifier.specs.Candidates.{program_in};
 ghost use Rattle.verifier.specs.Registers.{cell_count, entry};
 ghost use Rattle.verifier.specs.Sums.{sum_at};
+ghost use Rattle.verifier.specs.PairSteps.{pairs_next, pairs_at};
 ghost use Rattle.verifier.specs.Table.{IsAccepted, IsFirstRule, AreKinds, broken_at, table};
 ghost use Rattle.verifier.specs.Rows.{IsKnown, HasKinds, IsPass, row_at};
 ghost use Rattle.verifier.specs.Waiting.{waiting, IsPool};
@@ -19,6 +20,8 @@ use crate::candidate::Candidate;
 use crate::cells::{lowered, span_written};
 use crate::edges::{lead_on, take_waiting, taken_edge};
 use crate::kinds::one_number;
+use crate::pair::Pairs;
+use crate::pairs::{no_pairs, pairs_here, pairs_over, pairs_told};
 use crate::rule::{KindRule, Refused, Rule};
 use crate::rules::advance;
 use crate::slots::lower_slot;
@@ -78,13 +81,14 @@ fn no_memory() -> Refused
 }
 
 /// Tests a slot, by the kinds that reach it, and goes over it: to those that reach the next slot. Its jump's edge is joined into
-/// what waits for its target; a row is lent to write this edge's kinds to.
+/// what waits for its target; a row is lent to write this edge's kinds to. The pairs that are known go on to the next slot.
 fn visit<const N: usize>(
     program: &Candidate,
     at: usize,
     rows: &mut Waiting<N>,
     here: &mut Option<[Kind; N]>,
     sum: Option<Sum>,
+    pairs: &mut Pairs,
     taken: &mut [Kind; N],
 ) -> Result<(), Refused>
     requires long { 11 ≤ N }
@@ -94,6 +98,7 @@ fn visit<const N: usize>(
     requires within { at < length program.now.image.code.items }
     requires pass { IsPass (program_in program.now) (waiting rows.old) here.old at }
     requires sum { sum ≡ sum_at program.now.image.code.items at }
+    requires pairs { pairs.old ≡ pairs_at (program_in program.now) (table (program_in program.now)) at }
     requires pool { IsPool program.now.image.profile rows.old }
     requires here { HasKinds program.now.image.profile rows.old.low here.old }
     ensures refused { IfErr result (λ refused. IsRefused (program_in program.now) refused.rule refused.slot) }
@@ -101,8 +106,10 @@ fn visit<const N: usize>(
     ensures pass { IfOk result (λ _. IsPass (program_in program.now) (waiting rows.new) here.new (at + 1)) }
     ensures pool { IfOk result (λ _. IsPool program.now.image.profile rows.new) }
     ensures here { IfOk result (λ _. HasKinds program.now.image.profile rows.new.low here.new) }
+    ensures pairs { IfOk result (λ _. pairs.new ≡ pairs_next (program_in program.now) (slice_get program.now.image.code.items at) sum (slice_get (table (program_in program.now)) at) pairs.old) }
 {
     let Some(row) = here else {
+        *pairs = no_pairs();
         take_waiting(rows, at + 1, here);
         return Ok(());
     };
@@ -111,13 +118,15 @@ fn visit<const N: usize>(
     let profile = program.image.profile;
     rows.low = lowered(rows.low, span_written(&callee, row, insn));
     let target = taken_edge(profile, at, row, insn, taken);
-    if let Some(rule) = advance(program, &callee, row, insn) {
+    let over = pairs_over(insn, row, *pairs);
+    if let Some(rule) = advance(program, &callee, *pairs, row, insn) {
         return Err(Refused {
             rule: Rule::Kinds(rule),
             slot: at as u32,
         });
     }
     tell(insn, profile, sum, row);
+    *pairs = pairs_told(insn, profile, sum, row, over);
     let Ok(on) = lead_on(profile, rows, at, row, insn, target, taken) else {
         return Err(no_memory());
     };
@@ -151,10 +160,14 @@ fn check_rows<const N: usize>(alloc: Global, program: &Candidate) -> Result<Vec<
     let first: [Kind; N] = entry(program);
     let mut here = Some(first);
     let mut taken = first;
+    let mut pairs = no_pairs();
     for at in 0..slots {
         lows[at] = lower_slot(program, at, &here);
-        visit(program, at, &mut rows, &mut here, sums.now, &mut taken)?;
+        visit(
+            program, at, &mut rows, &mut here, sums.now, &mut pairs, &mut taken,
+        )?;
         sums.advance(program, at);
+        pairs = pairs_here(&sums.led, at + 1, pairs);
     }
     Ok(lows)
 }
@@ -199,9 +212,13 @@ fn kinds_before<const N: usize>(
     let first: [Kind; N] = entry(program);
     let mut here = Some(first);
     let mut taken = first;
+    let mut pairs = no_pairs();
     for at in 0..slot {
-        visit(program, at, &mut rows, &mut here, sums.now, &mut taken)?;
+        visit(
+            program, at, &mut rows, &mut here, sums.now, &mut pairs, &mut taken,
+        )?;
         sums.advance(program, at);
+        pairs = pairs_here(&sums.led, at + 1, pairs);
     }
     let Some(row) = here else {
         return Ok(None);

@@ -1053,6 +1053,57 @@ SUMS = [
 
 
 
+# The sum of an index and a length, which R7 and R8 hold, in R6.
+WHOLE = [copied(6, 7), added(6, 8)]
+
+# Where that sum is greater than the input's length.
+PAST = fields(0x2D, 6, 2, 0, 0)
+
+
+def bytes_where(moves, sum_of=WHOLE, test=PAST):
+    """What some slots come to, if the sum of an index in R7 and a length in R8 is not past the input, or a test else does not hold; else 0."""
+    code, words = test
+    ahead = code[:2] + struct.pack("<h", len(moves)) + code[4:], words.replace("+0", f"+{len(moves)}")
+    return [load_word(7, 0), load_word(8, 4), *sum_of, CLEAR, ahead, *moves, EXIT]
+
+
+# Whether the bytes from the index on are themselves.
+ALIKE = [added(1, 7), copied(2, 1), copied(3, 8), call(3)]
+
+# An index and a length of the output's bytes: 2 and 3.
+SHORT = struct.pack("<II", 2, 3) + PLACES[8:]
+
+# Two indices of 2 bytes that are alike, and that length between them.
+ALIKE_TWO = struct.pack("<III", 12, 2, 14) + bytes([5, 6, 5, 6])
+
+# The bytes from either on, with the length in R3, where both have passed; else 0.
+EITHER = [load_word(7, 0), load_word(8, 4), load_word(9, 8), *WHOLE, CLEAR, fields(0x2D, 6, 2, 8, 0), copied(6, 9), added(6, 8), fields(0x2D, 6, 2, 5, 0), copied(3, 8), copied(2, 1), added(2, 9), added(1, 7), call(3), EXIT]
+
+# Pairs of registers whose greatest sum is known, with an input of 256 bytes and an output of 8.
+PAIRS = [
+    # a pointer and a length
+    ("bytes from an index on", bytes_where(ALIKE), TWO, comes_to(1, 11), refused(23, 6)),
+    ("bytes from an index on, past the input", bytes_where(ALIKE), struct.pack("<II", 254, 3), comes_to(0, 7), refused(23, 6)),
+    ("bytes from an index on, the length first", bytes_where(ALIKE, [copied(6, 8), added(6, 7)]), TWO, comes_to(1, 11), refused(23, 6)),
+    ("bytes from an index on, by the input's length below it", bytes_where(ALIKE, WHOLE, fields(0xAD, 2, 6, 0, 0)), TWO, comes_to(1, 11), refused(23, 6)),
+    ("bytes from an index on, the pointer added to it", bytes_where([added(7, 1), copied(1, 7), copied(2, 7), copied(3, 8), call(3)]), TWO, comes_to(1, 12), refused(23, 6)),
+    ("a number at an index", bytes_where([added(1, 7), copied(2, 8), call(18)]), struct.pack("<II", 9, 3) + b"x123", comes_to(123, 10), refused(23, 6)),
+    ("bytes from two indices on", EITHER, ALIKE_TWO, comes_to(1, 16), refused(23, 12)),
+    ("bytes from an index on after a call", bytes_where([copied(9, 1), added(9, 7), call(18), copied(1, 9), copied(2, 9), copied(3, 8), call(3)]), TWO, comes_to(1, 14), refused(23, 7)),
+    ("a copy to an index of the output", bytes_where([copied(2, 1), added(3, 7), copied(1, 3), copied(3, 8), call(1)], WHOLE, fields(0x2D, 6, 4, 0, 0)), SHORT, comes_to(0, 12, [0, 0, 2]), refused(23, 7)),
+    ("a copy to an index of the input", bytes_where([copied(2, 1), added(1, 7), copied(3, 8), call(1)]), TWO, refused(28, 9), refused(23, 7)),
+    # no more than that
+    ("bytes from an index on, one further", bytes_where([added(1, 7), raised(1, 1), *ALIKE[1:]]), TWO, refused(28, 10), refused(23, 6)),
+    ("bytes from one before an index on", bytes_where([added(1, 7), raised(1, -1), *ALIKE[1:]]), TWO, refused(28, 10), refused(23, 6)),
+    ("bytes of the stack from an index on", bytes_where([copied(9, 10), raised(9, -256), added(9, 7), copied(1, 9), *ALIKE[1:]]), TWO, refused(28, 12), refused(23, 8)),
+    ("bytes from an index on, by a sum of 32 bits", bytes_where(ALIKE, [copied(6, 7), fields(0x0C, 6, 8, 0, 0)]), TWO, refused(28, 9), refused(23, 6)),
+    ("bytes from an index on, as many in 32 bits", bytes_where([added(1, 7), copied(2, 1), fields(0xBC, 3, 8, 0, 0), call(3)]), TWO, refused(28, 9), refused(23, 6)),
+    ("bytes from an index on, the length read anew", bytes_where([load_byte(8, 1, 4), *ALIKE]), TWO, refused(28, 10), refused(23, 7)),
+    ("bytes from an index on where a jump leads", bytes_where([added(1, 7), jump(0), *ALIKE[1:]]), TWO, refused(28, 10), refused(23, 6)),
+    ("bytes from an index on, another number tested", bytes_where(ALIKE, WHOLE, fields(0x2D, 7, 2, 0, 0)), TWO, refused(28, 9), refused(23, 6)),
+]
+
+
 def store_word(offset, src):
     return named(f"word r10{offset:+} = r{src}", 0x63, 10, src, offset, 0)
 
@@ -1123,7 +1174,7 @@ SPILLS = [
 
 
 def tables():
-    for windows, rows in [((256, 0), SPILLS), ((256, 8), CELLS), ((256, 0), NUMBERS), ((256, 8), POINTERS), ((256, 0), SUMS), ((256, 8), WORDS)]:
+    for windows, rows in [((256, 0), SPILLS), ((256, 8), CELLS), ((256, 0), NUMBERS), ((256, 8), POINTERS), ((256, 0), SUMS), ((256, 8), PAIRS), ((256, 8), WORDS)]:
         for name, slots, given, second, first in rows:
             yield row(name, image(*windows, slots, 2), second, slots, given)
             yield row(f"{name}, version 1", image(*windows, slots), first, slots, given)

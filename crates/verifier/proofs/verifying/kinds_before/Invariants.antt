@@ -2,7 +2,8 @@ use Rattle.std.proofs.Common.{◌≡◌, ℕ, ◌+◌, ◌<◌, length, None}
 use Rattle.verifier.specs.Known.{AreSums}
 use Rattle.verifier.specs.Candidates.{program_in}
 use Rattle.verifier.specs.Rows.{HasKinds, IsPass}
-use Rattle.verifier.specs.Table.{broken_at}
+use Rattle.verifier.specs.Table.{table, broken_at}
+use Rattle.verifier.specs.PairSteps.{pairs_at}
 use Rattle.verifier.specs.Waiting.{waiting, IsPool}
 use Rattle.verifier.proofs.verifying.kinds_before.Given as goal
 
@@ -11,6 +12,7 @@ invariant-loop-at g l = record {
   pass : IsPass (program_in l.program) (waiting l.rows) l.here l.at;
   pool : IsPool l.program.image.profile l.rows;
   sums : AreSums l.program.image.code.items (length l.program.image.code.items + 1) l.at l.sums;
+  pairs : l.pairs ≡ pairs_at (program_in l.program) (table (program_in l.program)) l.at;
   here : HasKinds l.program.image.profile l.rows.low l.here;
   unbroken : (k : ℕ) → k < l.at → broken_at (program_in l.program) k ≡ None;
 }

@@ -6,11 +6,13 @@ use Rattle.verifier.specs.Rows.{LeadBelow, StartsZero, IsKnown, HasKinds, edge_l
 use Rattle.verifier.specs.Rules.{first_of, rules_by, row_taken}
 use Rattle.verifier.specs.Waiting.{waiting}
 use Rattle.verifier.specs.Sums.{told}
+use Rattle.verifier.specs.PairSteps.{pairs_at}
+use Rattle.verifier.specs.Table.{table}
 use Rattle.verifier.specs.Cells.{span_written}
 use Rattle.verifier.proofs.Zeros.{Ends, fewer_zeros, rows_below, after_zeros}
 use Rattle.verifier.proofs.SumSteps.{told_zeros}
 use Rattle.verifier.proofs.Shape.{next_within, target_within, target_below}
-use Rattle.verifier.proofs.Visits.{none_unbroken, none_pass, broken_here, all_here, alone_here, here_taken}
+use Rattle.verifier.proofs.Visits.{none_unbroken, none_pass, none_paired, broken_here, paired_here, all_here, alone_here, here_taken}
 use Rattle.verifier.proofs.verifying.visit.Goals as goal
 
 pub returns-in_default-clause-unbroken : goal.returns-in_default-clause-unbroken
@@ -33,6 +35,12 @@ returns-in_default-clause-pool g c = c.take_waiting.ensures.pool c.args.program.
 pub returns-in_default-clause-here : goal.returns-in_default-clause-here
 returns-in_default-clause-here g c = c.take_waiting.ensures.known c.args.program.now.image.profile c.requires.pool
 
+pub returns-in_default-clause-pairs : goal.returns-in_default-clause-pairs
+returns-in_default-clause-pairs g c =
+    let p = program_in c.args.program.now in
+    let rows = waiting c.args.rows.now in
+    c.no_pairs.ensures ∙ none_paired p rows c.args.at c.requires.within (subst (λ o. IsPass p rows o c.args.at) c.in_default.is c.requires.pass) c.args.sum c.args.pairs.now
+
 pub taken_edge-target-requires : goal.taken_edge-target-requires
 taken_edge-target-requires g c =
     let insn = slice_get_read c.args.program.now.image.code.items c.args.program.now.image.code.len c.args.at c.index-insn.result.now c.args.program.now.image.code.ok.0 (omega (arith, c.requires.within, c.args.program.now.image.code.ok.0)) c.index-insn.ensures in
@@ -53,7 +61,7 @@ returns-in-Some-advance-clause-refused g c =
     record {
       formed = c.requires.formed;
       before = c.requires.before;
-      broken = broken_here p rows c.args.at c.requires.within c.in-Some.row c.index-insn.result.now (subst (λ o. IsPass p rows o c.args.at) c.in-Some.is c.requires.pass) insn ∙ ap (λ y. first_of (rules_by p y c.in-Some.row c.index-insn.result.now)) (sym c.callee_in-callee.ensures) ∙ sym c.advance.ensures.rule ∙ c.in-Some-advance.is;
+      broken = broken_here p rows c.args.at c.requires.within c.in-Some.row c.index-insn.result.now (subst (λ o. IsPass p rows o c.args.at) c.in-Some.is c.requires.pass) insn ∙ ap (λ y. first_of (rules_by p y (pairs_at p (table p) c.args.at) c.in-Some.row c.index-insn.result.now)) (sym c.callee_in-callee.ensures) ∙ ap (λ q. first_of (rules_by p (callee_from c.callee_in-callee.result) q c.in-Some.row c.index-insn.result.now)) (sym c.requires.pairs) ∙ sym c.advance.ensures.rule ∙ c.in-Some-advance.is;
     }
 
 pub lead_on-requires : goal.lead_on-requires
@@ -105,7 +113,7 @@ returns-then-not-on-clause-unbroken g c =
     let p = program_in c.args.program.now in
     let rows = waiting c.args.rows.now in
     let insn = slice_get_read c.args.program.now.image.code.items c.args.program.now.image.code.len c.args.at c.index-insn.result.now c.args.program.now.image.code.ok.0 (omega (arith, c.requires.within, c.args.program.now.image.code.ok.0)) c.index-insn.ensures in
-    broken_here p rows c.args.at c.requires.within c.in-Some.row c.index-insn.result.now (subst (λ o. IsPass p rows o c.args.at) c.in-Some.is c.requires.pass) insn ∙ ap (λ y. first_of (rules_by p y c.in-Some.row c.index-insn.result.now)) (sym c.callee_in-callee.ensures) ∙ sym c.advance.ensures.rule ∙ c.in_default-advance.is
+    broken_here p rows c.args.at c.requires.within c.in-Some.row c.index-insn.result.now (subst (λ o. IsPass p rows o c.args.at) c.in-Some.is c.requires.pass) insn ∙ ap (λ y. first_of (rules_by p y (pairs_at p (table p) c.args.at) c.in-Some.row c.index-insn.result.now)) (sym c.callee_in-callee.ensures) ∙ ap (λ q. first_of (rules_by p (callee_from c.callee_in-callee.result) q c.in-Some.row c.index-insn.result.now)) (sym c.requires.pairs) ∙ sym c.advance.ensures.rule ∙ c.in_default-advance.is
 
 pub returns-then-not-on-clause-pass : goal.returns-then-not-on-clause-pass
 returns-then-not-on-clause-pass g c =
@@ -122,12 +130,19 @@ returns-then-not-on-clause-pool g c = c.take_waiting-then-not-on.ensures.pool c.
 pub returns-then-not-on-clause-here : goal.returns-then-not-on-clause-here
 returns-then-not-on-clause-here g c = c.take_waiting-then-not-on.ensures.known c.args.program.now.image.profile c.in-Ok.ensures.pool
 
+pub returns-then-not-on-clause-pairs : goal.returns-then-not-on-clause-pairs
+returns-then-not-on-clause-pairs g c =
+    let p = program_in c.args.program.now in
+    let rows = waiting c.args.rows.now in
+    let insn = slice_get_read c.args.program.now.image.code.items c.args.program.now.image.code.len c.args.at c.index-insn.result.now c.args.program.now.image.code.ok.0 (omega (arith, c.requires.within, c.args.program.now.image.code.ok.0)) c.index-insn.ensures in
+    paired_here p rows c.args.at c.requires.within c.in-Some.row c.index-insn.result.now (subst (λ o. IsPass p rows o c.args.at) c.in-Some.is c.requires.pass) insn (callee_from c.callee_in-callee.result) c.args.sum c.args.pairs.now c.pairs_over-over.result c.pairs_told.result c.tell.new.row c.callee_in-callee.ensures (c.tell.ensures.table ∙ ap (told c.index-insn.result.now c.args.program.now.image.profile c.args.sum) c.in_default-advance.ensures.row) c.pairs_over-over.ensures c.pairs_told.ensures
+
 pub returns-else-not-on-clause-unbroken : goal.returns-else-not-on-clause-unbroken
 returns-else-not-on-clause-unbroken g c =
     let p = program_in c.args.program.now in
     let rows = waiting c.args.rows.now in
     let insn = slice_get_read c.args.program.now.image.code.items c.args.program.now.image.code.len c.args.at c.index-insn.result.now c.args.program.now.image.code.ok.0 (omega (arith, c.requires.within, c.args.program.now.image.code.ok.0)) c.index-insn.ensures in
-    broken_here p rows c.args.at c.requires.within c.in-Some.row c.index-insn.result.now (subst (λ o. IsPass p rows o c.args.at) c.in-Some.is c.requires.pass) insn ∙ ap (λ y. first_of (rules_by p y c.in-Some.row c.index-insn.result.now)) (sym c.callee_in-callee.ensures) ∙ sym c.advance.ensures.rule ∙ c.in_default-advance.is
+    broken_here p rows c.args.at c.requires.within c.in-Some.row c.index-insn.result.now (subst (λ o. IsPass p rows o c.args.at) c.in-Some.is c.requires.pass) insn ∙ ap (λ y. first_of (rules_by p y (pairs_at p (table p) c.args.at) c.in-Some.row c.index-insn.result.now)) (sym c.callee_in-callee.ensures) ∙ ap (λ q. first_of (rules_by p (callee_from c.callee_in-callee.result) q c.in-Some.row c.index-insn.result.now)) (sym c.requires.pairs) ∙ sym c.advance.ensures.rule ∙ c.in_default-advance.is
 
 pub returns-else-not-on-clause-pass : goal.returns-else-not-on-clause-pass
 returns-else-not-on-clause-pass g c =
@@ -136,3 +151,10 @@ returns-else-not-on-clause-pass g c =
     let insn = slice_get_read c.args.program.now.image.code.items c.args.program.now.image.code.len c.args.at c.index-insn.result.now c.args.program.now.image.code.ok.0 (omega (arith, c.requires.within, c.args.program.now.image.code.ok.0)) c.index-insn.ensures in
     let on = c.if-not-on.false in
     alone_here p rows c.args.at c.requires.within c.in-Some.row c.index-insn.result.now (subst (λ o. IsPass p rows o c.args.at) c.in-Some.is c.requires.pass) insn (callee_from c.callee_in-callee.result) c.args.sum c.tell.new.row (edge_list c.taken_edge-target.result c.taken_edge-target.new.taken) c.callee_in-callee.ensures c.requires.sum (c.tell.ensures.table ∙ ap (told c.index-insn.result.now c.args.program.now.image.profile c.args.sum) c.in_default-advance.ensures.row) c.taken_edge-target.ensures.edge (waiting c.lead_on.new.rows) c.lead_on.new.row (c.in-Ok.ensures.rest on) (c.in-Ok.ensures.on on) (c.in-Ok.ensures.joined on) (c.in-Ok.ensures.misses on)
+
+pub returns-else-not-on-clause-pairs : goal.returns-else-not-on-clause-pairs
+returns-else-not-on-clause-pairs g c =
+    let p = program_in c.args.program.now in
+    let rows = waiting c.args.rows.now in
+    let insn = slice_get_read c.args.program.now.image.code.items c.args.program.now.image.code.len c.args.at c.index-insn.result.now c.args.program.now.image.code.ok.0 (omega (arith, c.requires.within, c.args.program.now.image.code.ok.0)) c.index-insn.ensures in
+    paired_here p rows c.args.at c.requires.within c.in-Some.row c.index-insn.result.now (subst (λ o. IsPass p rows o c.args.at) c.in-Some.is c.requires.pass) insn (callee_from c.callee_in-callee.result) c.args.sum c.args.pairs.now c.pairs_over-over.result c.pairs_told.result c.tell.new.row c.callee_in-callee.ensures (c.tell.ensures.table ∙ ap (told c.index-insn.result.now c.args.program.now.image.profile c.args.sum) c.in_default-advance.ensures.row) c.pairs_over-over.ensures c.pairs_told.ensures
