@@ -19,11 +19,7 @@ fn copy_of_put(
 ) -> Result<Entry, AllocError>
     ensures { IfOk result (λ copy. copy ≡ Put stamp key.now seen.now content.now dot) }
 {
-    let write = Write {
-        key: key.copy()?,
-        seen: seen.copy(alloc)?,
-        content: content.copy()?,
-    };
+    let write = Write::new(alloc, key.copy()?, seen.copy(alloc)?, content.copy()?);
     Ok(Entry::put(stamp, Box::new(alloc, write)?, dot))
 }
 

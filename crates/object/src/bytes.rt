@@ -2,24 +2,28 @@
 
 ghost use Rattle.std.specs.Prelude.{◌≡◌, IfOk};
 
+use smallvec::SmallVec;
 use std::alloc::{AllocError, Global};
 use std::cmp::Ordering;
 use std::marker::Model;
-use std::sync::ArcSlice;
+use std::sync::Arc;
+
+/// So many bytes lie beside the count of their owners.
+const SHORT: usize = 16;
 
 /// Bytes that never change, seen as the list of them. A copy shares them with its original.
 #[derive(Drop)]
 pub struct Bytes {
-    shared: ArcSlice<u8>,
+    shared: Arc<SmallVec<u8, SHORT>>,
 }
 
 impl Model for Bytes {
     ghost use Rattle.std.specs.Prelude.{List, ℕ};
-    ghost use Rattle.std.specs.Arc.{arc_slice_items};
+    ghost use Rattle.std.specs.Arc.{arc_value};
 
     ghost Value = { List ℕ };
 
-    ghost view = { λ b. arc_slice_items b.shared };
+    ghost view = { λ b. (arc_value b.shared).items };
 }
 
 impl Bytes {
@@ -27,17 +31,18 @@ impl Bytes {
     pub fn new(bytes: Vec<u8>) -> Result<Bytes, AllocError>
         ensures { IfOk result (λ shared. shared ≡ bytes.items) }
     {
+        let alloc = *bytes.allocator();
         Ok(Bytes {
-            shared: ArcSlice::from_vec(bytes)?,
+            shared: Arc::new(alloc, SmallVec::from_vec(bytes))?,
         })
     }
 
-    /// The bytes of a slice.
+    /// The bytes of a slice. It takes memory once, and where there are more than 16 once more for these.
     pub fn from_slice(alloc: Global, bytes: &[u8]) -> Result<Bytes, AllocError>
         ensures { IfOk result (λ shared. shared ≡ bytes.now) }
     {
         Ok(Bytes {
-            shared: ArcSlice::from_slice(alloc, bytes)?,
+            shared: Arc::new(alloc, SmallVec::from_slice(alloc, bytes)?)?,
         })
     }
 
@@ -69,7 +74,7 @@ impl PartialEq for Bytes {
     ghost laws = { partial_equiv_from_equiv nat_list_eq_equiv };
 
     fn eq(&self, other: &Self) -> bool {
-        self.shared == other.shared
+        self.as_slice() == other.as_slice()
     }
 }
 
@@ -110,6 +115,6 @@ impl Ord for Bytes {
     ghost matches_eq = { Prim.search (comparing, rules) };
 
     fn cmp(&self, other: &Self) -> Ordering {
-        self.shared.cmp(&other.shared)
+        self.as_slice().cmp(other.as_slice())
     }
 }

@@ -4,10 +4,15 @@ ghost use Rattle.std.specs.Prelude.{◌≡◌, ◌↔◌, IfOk, IsTrue};
 
 use crate::bytes::Bytes;
 use dvv::Dot;
+use smallvec::SmallVec;
 use std::alloc::{AllocError, Global};
 use std::cmp::Ordering;
 use std::hash::{Hash, Hasher};
 use std::marker::Model;
+use std::sync::Arc;
+
+/// So many bytes of a key's names lie beside the count of their owners.
+const SHORT: usize = 24;
 
 /// What a write stores: a value of 0 to 65,536 bytes with its media type of 1 to 127 bytes, or the mark of a delete.
 #[derive(Drop)]
@@ -80,33 +85,84 @@ impl Sibling {
 /// Both lie in one shared slice, the bucket's bytes before those of the key in it. Contracts see the two.
 #[derive(Drop)]
 pub struct Key {
-    names: Bytes,
+    names: Arc<Names>,
+}
+
+// What the copies of a key share.
+#[derive(Drop)]
+struct Names {
+    bytes: SmallVec<u8, SHORT>,
     // How many of these bytes are the bucket's.
     split: usize,
 }
 
-impl Model for Key {
+impl Model for Names {
     ghost use Rattle.std.specs.Prelude.{◌≤◌, take, drop, length};
     ghost use Rattle.object.specs.Keys.{KeyParts};
 
     ghost Value = { KeyParts };
 
-    ghost view = { λ k. record { bucket = take k.split k.names; key = drop k.split k.names } };
+    ghost view = { λ n. record { bucket = take n.split n.bytes.items; key = drop n.split n.bytes.items } };
 
-    ghost invariant = { λ k. k.split ≤ length k.names };
+    ghost invariant = { λ n. n.split ≤ length n.bytes.items };
+}
+
+impl Names {
+    ghost use Rattle.std.specs.Cmp.Lexicographic.{slice_cmp};
+    ghost use Rattle.std.specs.Ordering.{nat_cmp, on, then_cmp};
+
+    // The bucket's bytes.
+    fn bucket(&self) -> &[u8]
+        ensures { result.now ≡ self.now.bucket }
+    {
+        &self.bytes.as_slice()[..self.split]
+    }
+
+    // The bytes of the key in its bucket.
+    fn key(&self) -> &[u8]
+        ensures { result.now ≡ self.now.key }
+    {
+        &self.bytes.as_slice()[self.split..]
+    }
+
+    // The order of bytes, the bucket's first.
+    fn compare(&self, other: &Names) -> Ordering
+        ensures { result ≡ then_cmp (on (λ n. n.bucket) (slice_cmp nat_cmp)) (on (λ n. n.key) (slice_cmp nat_cmp)) self.now other.now }
+    {
+        // Behind buckets of one length the names decide as one.
+        if self.split == other.split {
+            return self.bytes.as_slice().cmp(other.bytes.as_slice());
+        }
+        match self.bucket().cmp(other.bucket()) {
+            Ordering::Equal => self.key().cmp(other.key()),
+            decided => decided,
+        }
+    }
+}
+
+impl Model for Key {
+    ghost use Rattle.std.specs.Arc.{arc_value};
+    ghost use Rattle.object.specs.Keys.{KeyParts};
+
+    ghost Value = { KeyParts };
+
+    ghost view = { λ k. arc_value k.names };
 }
 
 impl Key {
-    /// The key of this name in a bucket, both copied: it takes memory once for their bytes, and once for the count of their owners.
+    /// The key of this name in a bucket, both copied: it takes memory once, and where the names have more than 24 bytes once more for these.
     pub fn new(alloc: Global, bucket: &[u8], key: &[u8]) -> Result<Key, AllocError>
         ensures { IfOk result (λ made. made ≡ record { bucket = bucket.now; key = key.now }) }
     {
-        let mut names = Vec::with_capacity(alloc, bucket.len() + key.len())?;
-        names.extend_from_slice(bucket)?;
-        names.extend_from_slice(key)?;
-        Ok(Key {
-            names: Bytes::new(names)?,
+        let mut bytes = SmallVec::with_capacity(alloc, bucket.len() + key.len())?;
+        bytes.extend_from_slice(bucket)?;
+        bytes.extend_from_slice(key)?;
+        let names = Names {
+            bytes,
             split: bucket.len(),
+        };
+        Ok(Key {
+            names: Arc::new(alloc, names)?,
         })
     }
 
@@ -114,14 +170,14 @@ impl Key {
     pub fn bucket(&self) -> &[u8]
         ensures { result.now ≡ self.now.bucket }
     {
-        &self.names.as_slice()[..self.split]
+        self.names.bucket()
     }
 
     /// The bytes of the key in its bucket.
     pub fn key(&self) -> &[u8]
         ensures { result.now ≡ self.now.key }
     {
-        &self.names.as_slice()[self.split..]
+        self.names.key()
     }
 
     /// The same key, its bytes shared with this one.
@@ -129,8 +185,7 @@ impl Key {
         ensures { IfOk result (λ copy. copy ≡ self.now) }
     {
         Ok(Key {
-            names: self.names.copy()?,
-            split: self.split,
+            names: self.names.clone()?,
         })
     }
 }
@@ -170,8 +225,9 @@ impl Hash for Key {
 
     // The length of the bucket's bytes tells keys apart whose names are the same bytes in a row.
     fn hash<H: Hasher>(&self, state: &mut H) {
-        state.write_usize(self.split);
-        state.write(self.names.as_slice());
+        let Names { bytes, split } = &*self.names;
+        state.write_usize(*split);
+        state.write(bytes.as_slice());
     }
 }
 
@@ -206,13 +262,6 @@ impl Ord for Key {
     ghost matches_eq = { Prim.search (comparing, rules) };
 
     fn cmp(&self, other: &Self) -> Ordering {
-        // Behind buckets of one length the names decide as one.
-        if self.split == other.split {
-            return self.names.cmp(&other.names);
-        }
-        match self.bucket().cmp(&other.bucket()) {
-            Ordering::Equal => self.key().cmp(&other.key()),
-            decided => decided,
-        }
+        self.names.compare(&other.names)
     }
 }

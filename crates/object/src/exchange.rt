@@ -56,12 +56,7 @@ impl KeyState {
     pub fn lacks(&self, part: &Part) -> bool
         ensures { result ≡ lacks_some self.now part.now }
     {
-        for sent in part.siblings() {
-            if content_of(self.siblings(), sent).is_none() {
-                return true;
-            }
-        }
-        false
+        self.held().lacks(part)
     }
 
     /// The whole state that a part stands for: a content that was left out is the own one under its dot. Refused with no memory

@@ -140,10 +140,13 @@ impl Part {
     pub fn contents(&self) -> usize
         ensures { result ≡ contents_in self.now }
     {
-        self.siblings
-            .iter()
-            .filter(|sibling| sibling.content.is_some())
-            .count()
+        let mut count = 0;
+        for sibling in &self.siblings {
+            if sibling.content.is_some() {
+                count += 1;
+            }
+        }
+        count
     }
 }
 

@@ -7,9 +7,9 @@ ghost use Rattle.object.specs.State.{IsState};
 use crate::content::Sibling;
 use crate::exchange::content_of;
 use crate::fault::{MergeFault, PartFault};
+use crate::held::Held;
 use crate::part::Part;
 use crate::state::KeyState;
-use crate::written::Written;
 use std::alloc::{AllocError, Global};
 use std::marker::Model;
 use std::sync::Arc;
@@ -21,7 +21,7 @@ pub struct PreparedPart<'a> {
     part: &'a Part,
     siblings: Vec<Sibling>,
     // Has the clock, and no siblings yet.
-    written: Arc<Written>,
+    held: Arc<Held>,
 }
 
 impl<'a> Model for PreparedPart<'a> {
@@ -33,7 +33,7 @@ impl<'a> Model for PreparedPart<'a> {
 
     ghost view = { λ p. p.part.now };
 
-    ghost invariant = { λ p. ((arc_value p.written).clock ≡ p.part.now.clock) × (p.siblings.items ≡ []) × (length p.part.now.siblings ≤ vec_capacity p.siblings) };
+    ghost invariant = { λ p. ((arc_value p.held).clock ≡ p.part.now.clock) × (p.siblings.items ≡ []) × (length p.part.now.siblings ≤ vec_capacity p.siblings) };
 }
 
 impl<'a> PreparedPart<'a> {
@@ -41,14 +41,14 @@ impl<'a> PreparedPart<'a> {
     pub fn new(alloc: Global, part: &'a Part) -> Result<Self, AllocError>
         ensures { IfOk result (λ prepared. prepared ≡ part.now) }
     {
-        let written = Written {
+        let held = Held {
             siblings: Vec::new(alloc),
             clock: part.clock().copy(alloc)?,
         };
         Ok(PreparedPart {
             part,
             siblings: Vec::with_capacity(alloc, part.siblings().len())?,
-            written: Arc::new(alloc, written)?,
+            held: Arc::new(alloc, held)?,
         })
     }
 
@@ -72,7 +72,7 @@ impl KeyState {
         let PreparedPart {
             part,
             mut siblings,
-            written,
+            held,
         } = prepared;
         for sent in part.siblings() {
             let Some(content) = content_of(self.siblings(), sent) else {
@@ -90,7 +90,7 @@ impl KeyState {
                 Err(_) => unreachable!(),
             }
         }
-        match KeyState::in_written(written, siblings) {
+        match KeyState::in_held(held, siblings) {
             Ok(whole) => Ok(whole),
             Err(_) => Err(self.uncopied(part)),
         }

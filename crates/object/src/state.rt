@@ -4,10 +4,9 @@ ghost use Rattle.std.specs.Prelude.{◌≡◌, ◌≢◌, ◌<◌, ◌≤◌, �
 
 use crate::content::{Content, Sibling};
 use crate::fault::{MergeFault, PutFault, PutRefusal};
-use crate::limits::MAX_SIBLINGS;
+use crate::held::{Held, Kept, Stored};
 use crate::merging::{covers_some, drops_some, merge_siblings};
-use crate::placing::{count_kept, replacing_seen};
-use crate::written::{Kept, Written};
+use crate::placing::replacing_seen;
 use dvv::{Clock, ClockFault, Dot};
 use std::alloc::{AllocError, Global};
 use std::marker::Model;
@@ -26,11 +25,11 @@ impl Model for KeyState {
 
     ghost Value = { State };
 
-    ghost use Rattle.object.specs.Kept.{state_in, LendsNoEvent};
+    ghost use Rattle.object.specs.Kept.{state_in, LendsNothing};
 
     ghost view = { λ s. state_in s.kept };
 
-    ghost invariant = { λ s. IsState (state_in s.kept) × LendsNoEvent s.kept };
+    ghost invariant = { λ s. IsState (state_in s.kept) × LendsNothing s.kept };
 }
 
 impl KeyState {
@@ -44,7 +43,7 @@ impl KeyState {
     {
         KeyState {
             alloc,
-            kept: Kept::Nothing(Clock::new(alloc)),
+            kept: Kept::Nothing(Held::nothing(alloc)),
         }
     }
 
@@ -57,11 +56,44 @@ impl KeyState {
         // What every clock keeps is told with its entries.
         let _entries = clock.entries();
         let alloc = *siblings.allocator();
-        let written = Written { siblings, clock };
+        let held = Held { siblings, clock };
         Ok(KeyState {
             alloc,
-            kept: Kept::Shared(Arc::new(alloc, written)?),
+            kept: Kept::Shared(Arc::new(alloc, held)?),
         })
+    }
+
+    /// The state that is stored, what it holds shared. Refused where its owners can't be counted further.
+    pub fn of(alloc: Global, stored: &Stored) -> Result<Self, AllocError>
+        ensures { IfOk result (λ state. state ≡ stored.now) }
+    {
+        // What every state keeps is told with its siblings.
+        let _siblings = stored.held().siblings();
+        Ok(KeyState {
+            alloc,
+            kept: Kept::Shared(stored.share()?),
+        })
+    }
+
+    /// The state to be stored, what it holds shared.
+    pub fn stored(&self) -> Result<Stored, AllocError>
+        ensures { IfOk result (λ stored. stored ≡ self.now) }
+    {
+        let held = match &self.kept {
+            Kept::Nothing(_) => Arc::new(self.alloc, Held::nothing(self.alloc))?,
+            Kept::Shared(held) => held.clone()?,
+        };
+        Ok(Stored::new(held))
+    }
+
+    /// What it holds.
+    pub fn held(&self) -> &Held
+        ensures { result.now ≡ self.now }
+    {
+        match &self.kept {
+            Kept::Nothing(held) => held,
+            Kept::Shared(held) => held,
+        }
     }
 
     /// The siblings, rising by dot.
@@ -69,20 +101,14 @@ impl KeyState {
         ensures all { result.now ≡ self.now.siblings }
         ensures state { IsState self.now }
     {
-        match &self.kept {
-            Kept::Nothing(_) => &[],
-            Kept::Shared(written) => written.siblings.as_slice(),
-        }
+        self.held().siblings()
     }
 
     /// The clock: it counts each event that any known write had seen, and the known writes themselves.
     pub fn clock(&self) -> &Clock
         ensures { result.now ≡ self.now.clock }
     {
-        match &self.kept {
-            Kept::Nothing(clock) => clock,
-            Kept::Shared(written) => &written.clock,
-        }
+        self.held().clock()
     }
 
     /// The same state, its siblings and clock shared with this one. Refused where their owners can't be counted further.
@@ -92,10 +118,22 @@ impl KeyState {
     {
         match &self.kept {
             Kept::Nothing(_) => Ok(KeyState::new(alloc)),
-            Kept::Shared(written) => Ok(KeyState {
+            Kept::Shared(held) => Ok(KeyState {
                 alloc,
-                kept: Kept::Shared(written.clone()?),
+                kept: Kept::Shared(held.clone()?),
             }),
+        }
+    }
+
+    /// Takes the memory of another state in place of its own, where both are the same.
+    pub fn share(&mut self, other: &KeyState)
+        ensures { self.new ≡ self.old }
+    {
+        if !self.is_same(other) {
+            return;
+        }
+        if let Ok(copy) = other.copy(self.alloc) {
+            *self = copy;
         }
     }
 
@@ -117,21 +155,7 @@ impl KeyState {
         ensures many { result ≡ Err PutRefusal.TooManySiblings ↔ (Within seen.now self.now.clock × (most_siblings ≤ length (kept seen.now self.now.siblings))) }
         ensures full { result ≡ Err PutRefusal.ClockFull ↔ (Within seen.now self.now.clock × (length (kept seen.now self.now.siblings) < most_siblings) × (HasRoom self.now.clock (next self.now vnode) → ⊥)) }
     {
-        let clock = self.clock();
-        if !seen.le(clock) {
-            return Err(PutRefusal::ContextAhead);
-        }
-        if count_kept(self.siblings(), seen) >= MAX_SIBLINGS {
-            return Err(PutRefusal::TooManySiblings);
-        }
-        let dot = Dot {
-            vnode,
-            n: clock.counter(vnode) + 1,
-        };
-        if !clock.has_room(dot) {
-            return Err(PutRefusal::ClockFull);
-        }
-        Ok(dot)
+        self.held().check_put(vnode, seen)
     }
 
     /// Puts a content whose writer had seen the events of a clock. It replaces the siblings that these events count, and
@@ -187,7 +211,7 @@ impl KeyState {
     pub fn can_merge(&self, other: &KeyState) -> bool
         ensures { IsTrue result ↔ (vnodes_together self.now.clock other.now.clock ≤ most_entries) }
     {
-        self.clock().can_join(other.clock())
+        self.held().can_merge(other)
     }
 
     /// Merges another state of the key into this one, and tells whether siblings or clock changed. A sibling stays that both
@@ -241,22 +265,19 @@ impl KeyState {
     }
 
     // The state of these siblings, in memory that was taken for it with its clock. Refused where a copy shares that memory.
-    pub(crate) fn in_written(
-        mut written: Arc<Written>,
-        siblings: Vec<Sibling>,
-    ) -> Result<Self, AllocError>
+    pub(crate) fn in_held(mut held: Arc<Held>, siblings: Vec<Sibling>) -> Result<Self, AllocError>
         requires order { AreInOrder siblings.items }
-        requires covered { AreCovered (arc_value written).clock siblings.items }
-        ensures { IfOk result (λ state. state ≡ record { siblings = siblings.items; clock = (arc_value written).clock }) }
+        requires covered { AreCovered (arc_value held).clock siblings.items }
+        ensures { IfOk result (λ state. state ≡ record { siblings = siblings.items; clock = (arc_value held).clock }) }
     {
         let alloc = *siblings.allocator();
-        match Arc::get_mut(&mut written) {
+        match Arc::get_mut(&mut held) {
             Some(own) => own.siblings = siblings,
             None => return Err(AllocError),
         }
         Ok(KeyState {
             alloc,
-            kept: Kept::Shared(written),
+            kept: Kept::Shared(held),
         })
     }
 

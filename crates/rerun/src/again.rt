@@ -52,7 +52,7 @@ impl From<VnodeFault> for Refusal {
     }
 }
 
-// A put happens again, and gets its dot.
+// A put happens again, and gets its dot. Where it leaves the state that it left before, it shares its memory.
 fn put_again(
     vnode: &mut Vnode,
     stamp: u64,
@@ -60,6 +60,7 @@ fn put_again(
     seen: &Clock,
     content: &Content,
     dot: Dot,
+    left: Option<&KeyState>,
 ) -> Result<Again, Refusal>
     ensures legal { OnOk result (MayFollow vnode.old.vnode vnode.old.entries (Put stamp key.now seen.now content.now dot)) }
     ensures entry { OnOk result (vnode.new ≡ with_entry vnode.old (Put stamp key.now seen.now content.now dot)) }
@@ -67,7 +68,7 @@ fn put_again(
     ensures illegal { result ≡ Err Refusal.Illegal → MayFollow vnode.old.vnode vnode.old.entries (Put stamp key.now seen.now content.now dot) → ⊥ }
     ensures id { vnode.new.vnode ≡ vnode.old.vnode }
 {
-    let (next, _) = vnode.put_lent(stamp, key, seen, content)?;
+    let (next, _) = vnode.put_expecting(stamp, key, seen, content, left)?;
     if next != dot {
         return Err(Refusal::Illegal);
     }
@@ -136,7 +137,7 @@ pub fn happen(alloc: Global, vnode: &mut Vnode, entry: &Entry) -> Result<Again, 
             seen,
             content,
             dot,
-        } => put_again(vnode, stamp, key, seen, content, dot),
+        } => put_again(vnode, stamp, key, seen, content, dot, entry.left()),
         Said::Merge {
             stamp,
             key,

@@ -8,7 +8,7 @@ ghost use Rattle.vnode.specs.States.{state_at};
 use crate::fault::{PartFault, VnodeFault};
 use crate::seed::States;
 use journal::{Journal, Merged};
-use object::{Key, KeyState, Part, PreparedPart, Summary};
+use object::{Held, Key, KeyState, Part, PreparedPart, Summary};
 use std::alloc::{AllocError, Global};
 
 // A copy of a key and the summary of the state at it. A key that is kept shares its bytes with its copy, so that the bytes of the
@@ -22,7 +22,10 @@ pub(crate) fn summary_at(
     ensures summary { IfOk result (λ told. told.1 ≡ summary_of (state_at states.now key.now)) }
 {
     match states.get_key_value(key) {
-        Some((kept, state)) => Ok((kept.copy()?, state.summary(alloc)?)),
+        Some((kept, stored)) => {
+            let state = KeyState::of(alloc, stored)?;
+            Ok((kept.copy()?, state.summary(alloc)?))
+        }
         None => Ok((key.copy()?, KeyState::new(alloc).summary(alloc)?)),
     }
 }
@@ -57,16 +60,16 @@ pub(crate) fn make_whole(
     ensures whole { OnOk result (merged.new.state ≡ whole_of part.entry (state_at states.now merged.old.key)) }
     ensures same { (merged.new.key ≡ merged.old.key) × (merged.new.from ≡ merged.old.from) × (merged.new.at ≡ merged.old.at) }
 {
-    let whole = match states.get(&merged.key) {
-        Some(state) => state.whole_in(part),
-        None => KeyState::new(alloc).whole_in(part),
+    let state = match states.get(&merged.key) {
+        Some(stored) => KeyState::of(alloc, stored)?,
+        None => KeyState::new(alloc),
     };
-    merged.state = whole?;
+    merged.state = state.whole_in(part)?;
     Ok(())
 }
 
 // Why a part is refused that lacks a content or finds no memory: for the first limit that it passes, or for memory. Takes none.
-fn part_refusal(state: &KeyState, journal: &Journal, part: &Part) -> PartFault
+fn part_refusal(state: &Held, journal: &Journal, part: &Part) -> PartFault
     ensures { RefusesPartAt journal.now.log part.now state.now result }
 {
     if state.lacks(part) {
@@ -92,7 +95,7 @@ pub(crate) fn part_refusal_at(
     ensures { RefusesPartAt journal.now.log part.now (state_at states.now key.now) result }
 {
     match states.get(key) {
-        Some(state) => part_refusal(state, journal, part),
-        None => part_refusal(&KeyState::new(alloc), journal, part),
+        Some(state) => part_refusal(state.held(), journal, part),
+        None => part_refusal(&Held::nothing(alloc), journal, part),
     }
 }

@@ -1,6 +1,6 @@
 //! What the hashes of a vnode's keys begin with.
 
-use object::{Key, KeyState};
+use object::{Key, Stored};
 use std::collections::HashMap;
 use std::hash::{BuildHasher, DefaultHasher, RandomState};
 use std::io;
@@ -41,4 +41,4 @@ impl BuildHasher for Seed {
 }
 
 /// The state of each key, found by the key's hash. They lie in no order that means anything.
-pub(crate) type States = HashMap<Key, KeyState, Seed>;
+pub(crate) type States = HashMap<Key, Stored, Seed>;

@@ -11,7 +11,7 @@ use Rattle.std.proofs.alloc.Global.TheSendSync as heap
 use Rattle.journal.proofs.blocks.Blocks.TheSendSync as blocks
 use Rattle.journal.specs.contracts.journal.Journal as Journal
 use Rattle.object.proofs.content.Key.TheSendSync as key
-use Rattle.object.proofs.state.KeyState.TheSendSync as state
+use Rattle.object.proofs.held.Stored.TheSendSync as stored
 use Rattle.atomic_table.proofs.shared.Seat.TheSendSync as seat
 use Rattle.vnode.proofs.seed.Seed.TheSendSync as seed
 use Rattle.vnode.specs.contracts.vnode.Vnode as Vnode
@@ -22,7 +22,7 @@ journal_send : IsSend Journal.the_row
 journal_send = search (sendable, crosses, blocks.the_send) depth 40
 
 vnode_send : IsSend Vnode.the_row
-vnode_send = search (key.the_send, state.the_send, seed.the_send, journal_send, HashMap-send, sendable) depth 40
+vnode_send = search (key.the_send, stored.the_send, seed.the_send, journal_send, HashMap-send, sendable) depth 40
 
 locked_send : (B : RattleType) (g : Ghosts B.Denot) → IsSend B → IsSend (Locked.the_row B g)
 locked_send B g s = search (vnode_send, seat.the_send, sendable) depth 40

@@ -5,8 +5,8 @@ use Rattle.vnode.proofs.Mapped.{state_at-absent}
 use Rattle.vnode.proofs.steps.merge_refusal_at.Goals as goal
 
 pub returns-in-Some : goal.returns-in-Some
-returns-in-Some c = subst (λ s. RefusesMergeAt c.args.journal.now.log c.args.other.now.clock s c.merge_refusal.result) (ap (λ o. unwrap_or o empty) c.in-Some.ensures.value) c.merge_refusal.ensures
+returns-in-Some c = subst (λ s. RefusesMergeAt c.args.journal.now.log c.args.other.now.clock s c.merge_refusal.result) (c.held.ensures ∙ ap (λ o. unwrap_or o empty) c.in-Some.ensures.value) c.merge_refusal.ensures
 
 pub returns-in-None : goal.returns-in-None
 returns-in-None c =
-    subst (λ s. RefusesMergeAt c.args.journal.now.log c.args.other.now.clock s c.merge_refusal-in-None-2.result) (c.new.ensures ∙ sym (state_at-absent c.args.states.now c.args.key.now (sym c.in-None.ensures.value))) c.merge_refusal-in-None-2.ensures
+    subst (λ s. RefusesMergeAt c.args.journal.now.log c.args.other.now.clock s c.merge_refusal-in-None-2.result) (c.nothing.ensures ∙ sym (state_at-absent c.args.states.now c.args.key.now (sym c.in-None.ensures.value))) c.merge_refusal-in-None-2.ensures

@@ -16,13 +16,13 @@ loop-sent-preserved c = record {
   room = omega (arith, c.loop-sent.invariant.room, c.in-Ok-push.ensures.capacity);
 }
 
-pub in_written-requires-clause-order : goal.in_written-requires-clause-order
-in_written-requires-clause-order c =
+pub in_held-requires-clause-order : goal.in_held-requires-clause-order
+in_held-requires-clause-order c =
     let all = take_all c.loop-sent.sent-index c.siblings-sent-items.result.now c.loop-sent-test.false ∙ c.siblings-sent-items.ensures.all in
     subst AreInOrder (sym (c.loop-sent.invariant.built ∙ ap (whole_siblings c.args.self.now.siblings) all)) (whole_in_order c.args.self.now.siblings c.prepared.inside.part.now.siblings c.siblings-sent-items.ensures.part.in_order)
 
-pub in_written-requires-clause-covered : goal.in_written-requires-clause-covered
-in_written-requires-clause-covered c =
+pub in_held-requires-clause-covered : goal.in_held-requires-clause-covered
+in_held-requires-clause-covered c =
     let all = take_all c.loop-sent.sent-index c.siblings-sent-items.result.now c.loop-sent-test.false ∙ c.siblings-sent-items.ensures.all in
     subst (λ (l : List Dot). AreCovered l c.loop-sent.siblings.items) (sym c.prepared.invariant.0)
     (subst (AreCovered c.prepared.inside.part.now.clock) (sym (c.loop-sent.invariant.built ∙ ap (whole_siblings c.args.self.now.siblings) all)) (whole_covered c.prepared.inside.part.now.clock c.args.self.now.siblings c.prepared.inside.part.now.siblings c.siblings-sent-items.ensures.part.covered))

@@ -1,6 +1,6 @@
 use Rattle.std.proofs.Common.{◌≡◌, false, take}
 use Rattle.object.specs.Parts.{lacks_content}
-use Rattle.object.proofs.state.KeyState.lacks.Given as goal
+use Rattle.object.proofs.held.Held.lacks.Given as goal
 
 -- none so far lacks its content
 abbrev pub invariant-loop-sent : goal.invariant-loop-sent

@@ -1,0 +1,156 @@
+//! What is held at a key, and shared by the copies of its state.
+
+ghost use Rattle.std.specs.Prelude.{◌≡◌, ◌<◌, ◌≤◌, ◌↔◌, length, IsTrue, OnOk, IfOk};
+ghost use Rattle.dvv.specs.Clock.{Within, HasRoom, vnodes_together, most_entries};
+ghost use Rattle.object.specs.Limits.{most_siblings};
+ghost use Rattle.object.specs.Parts.{lacks_some};
+ghost use Rattle.object.specs.State.{empty, next, kept, IsState};
+
+use crate::content::Sibling;
+use crate::exchange::content_of;
+use crate::fault::PutRefusal;
+use crate::limits::MAX_SIBLINGS;
+use crate::part::Part;
+use crate::placing::count_kept;
+use crate::state::KeyState;
+use dvv::{Clock, Dot};
+use std::alloc::{AllocError, Global};
+use std::marker::Model;
+use std::sync::Arc;
+
+/// The siblings and the clock of a key. They never change while copies of a state share them.
+#[derive(Drop)]
+pub struct Held {
+    pub(crate) siblings: Vec<Sibling>,
+    pub(crate) clock: Clock,
+}
+
+impl Model for Held {
+    ghost use Rattle.object.specs.State.{State, IsState};
+
+    ghost Value = { State };
+
+    ghost view = { λ h. record { siblings = h.siblings.items; clock = h.clock } };
+
+    ghost invariant = { λ h. IsState (record { siblings = h.siblings.items; clock = h.clock }) };
+}
+
+impl Held {
+    /// Nothing written. It takes no memory.
+    pub fn nothing(alloc: Global) -> Self
+        ensures { result ≡ empty }
+    {
+        Held {
+            siblings: Vec::new(alloc),
+            clock: Clock::new(alloc),
+        }
+    }
+
+    /// The siblings, rising by dot.
+    pub fn siblings(&self) -> &[Sibling]
+        ensures all { result.now ≡ self.now.siblings }
+        ensures state { IsState self.now }
+    {
+        self.siblings.as_slice()
+    }
+
+    /// The clock: it counts each event that any known write had seen, and the known writes themselves.
+    pub fn clock(&self) -> &Clock
+        ensures { result.now ≡ self.now.clock }
+    {
+        &self.clock
+    }
+
+    /// The dot that a put at a vnode would get, or what it would be refused for, want of memory aside.
+    pub fn check_put(&self, vnode: u32, seen: &Clock) -> Result<Dot, PutRefusal>
+        ensures dot { IfOk result (λ dot. dot ≡ next self.now vnode) }
+        ensures seen { OnOk result (Within seen.now self.now.clock) }
+        ensures limits { OnOk result ((length (kept seen.now self.now.siblings) < most_siblings) × HasRoom self.now.clock (next self.now vnode)) }
+
+        ensures ahead { result ≡ Err PutRefusal.ContextAhead ↔ (Within seen.now self.now.clock → ⊥) }
+        ensures many { result ≡ Err PutRefusal.TooManySiblings ↔ (Within seen.now self.now.clock × (most_siblings ≤ length (kept seen.now self.now.siblings))) }
+        ensures full { result ≡ Err PutRefusal.ClockFull ↔ (Within seen.now self.now.clock × (length (kept seen.now self.now.siblings) < most_siblings) × (HasRoom self.now.clock (next self.now vnode) → ⊥)) }
+    {
+        let clock = self.clock();
+        if !seen.le(clock) {
+            return Err(PutRefusal::ContextAhead);
+        }
+        if count_kept(self.siblings(), seen) >= MAX_SIBLINGS {
+            return Err(PutRefusal::TooManySiblings);
+        }
+        let dot = Dot {
+            vnode,
+            n: clock.counter(vnode) + 1,
+        };
+        if !clock.has_room(dot) {
+            return Err(PutRefusal::ClockFull);
+        }
+        Ok(dot)
+    }
+
+    /// Whether a merge of another state keeps the clock within its 1,024 entries.
+    pub fn can_merge(&self, other: &KeyState) -> bool
+        ensures { IsTrue result ↔ (vnodes_together self.now.clock other.now.clock ≤ most_entries) }
+    {
+        self.clock().can_join(other.clock())
+    }
+
+    /// Whether some content that was left out of a part isn't held. Takes no memory.
+    pub fn lacks(&self, part: &Part) -> bool
+        ensures { result ≡ lacks_some self.now part.now }
+    {
+        for sent in part.siblings() {
+            if content_of(self.siblings(), sent).is_none() {
+                return true;
+            }
+        }
+        false
+    }
+}
+
+// What a state keeps: nothing written, to lend, or what it shares with its copies.
+#[derive(Drop)]
+pub(crate) enum Kept {
+    Nothing(Held),
+    Shared(Arc<Held>),
+}
+
+/// The state of a key as it is kept with many others: it takes no more than a pointer, and shares what it holds with its copies.
+#[derive(Drop)]
+pub struct Stored {
+    held: Arc<Held>,
+}
+
+impl Model for Stored {
+    ghost use Rattle.std.specs.Arc.{arc_value};
+    ghost use Rattle.object.specs.State.{State};
+
+    ghost Value = { State };
+
+    ghost view = { λ s. arc_value s.held };
+}
+
+impl Stored {
+    // Of what is shared.
+    pub(crate) fn new(held: Arc<Held>) -> Self
+        ensures { result ≡ arc_value held }
+    {
+        Stored { held }
+    }
+
+    // Another owner of what is shared.
+    pub(crate) fn share(&self) -> Result<Arc<Held>, AllocError>
+        ensures { IfOk result (λ held. arc_value held ≡ self.now) }
+    {
+        self.held.clone()
+    }
+
+    /// What it holds.
+    pub fn held(&self) -> &Held
+        ensures { result.now ≡ self.now }
+    {
+        &self.held
+    }
+}
+
+ghost use Rattle.std.specs.Arc.{arc_value};
