@@ -150,16 +150,16 @@ impl Seat {
         ensures stays { B.copies backend.new ≡ B.copies backend.old }
     {
         match self.phase {
-            Phase::Closing => self.finish(number, ring),
-            Phase::Open if self.talk.unsent().len() >= MANY => self.tell(number, ring),
-            Phase::Open if !self.talk.is_due() => self.exchange(number, buffer, ring),
+            Phase::Closing => self.finish(number, desk, ring),
+            Phase::Open if self.talk.unsent().len() >= MANY => self.tell(number, desk, ring),
+            Phase::Open if !self.talk.is_due() => self.exchange(number, desk, buffer, ring),
             Phase::Open => match self.talk.step(desk, backend)? {
                 Step::Answered => Ok(Round::Again),
                 Step::Last => {
                     self.phase = Phase::Closing;
                     Ok(Round::Again)
                 }
-                Step::Waits(_) => self.exchange(number, buffer, ring),
+                Step::Waits(_) => self.exchange(number, desk, buffer, ring),
             },
             Phase::Ended => match self.talk.step(desk, backend)? {
                 Step::Answered => {
@@ -182,6 +182,7 @@ impl Seat {
     fn exchange<R: Ring>(
         &mut self,
         number: u64,
+        desk: &mut Desk,
         buffer: &mut Buffer,
         ring: &mut R,
     ) -> Result<Round, FrontFault>
@@ -191,14 +192,19 @@ impl Seat {
             → Moves (R.shows ring.new) number old (λ s. Left copies result self.new s xs) }
     {
         if self.talk.unsent().is_empty() {
-            self.hear(number, buffer, ring)
+            self.hear(number, desk, buffer, ring)
         } else {
-            self.tell(number, ring)
+            self.tell(number, desk, ring)
         }
     }
 
     // Writes what waits to be written; the connection ends where nothing does.
-    fn finish<R: Ring>(&mut self, number: u64, ring: &mut R) -> Result<Round, FrontFault>
+    fn finish<R: Ring>(
+        &mut self,
+        number: u64,
+        desk: &mut Desk,
+        ring: &mut R,
+    ) -> Result<Round, FrontFault>
         requires { self.old.phase ≡ Phase.Closing }
         ensures { (copies : ℕ) (old : Sockets) (xs : List Exchange) → R.shows ring.old old → Serves copies self.old (old number) xs
             → Moves (R.shows ring.new) number old (λ s. Left copies result self.new s xs) }
@@ -206,19 +212,24 @@ impl Seat {
         if self.talk.unsent().is_empty() {
             Ok(Round::Done)
         } else {
-            self.tell(number, ring)
+            self.tell(number, desk, ring)
         }
     }
 
     // Writes some of what waits to be written.
-    fn tell<R: Ring>(&mut self, number: u64, ring: &mut R) -> Result<Round, FrontFault>
+    fn tell<R: Ring>(
+        &mut self,
+        number: u64,
+        desk: &mut Desk,
+        ring: &mut R,
+    ) -> Result<Round, FrontFault>
         requires { 0 < length self.old.talk.unsent }
         ensures { (copies : ℕ) (old : Sockets) (xs : List Exchange) → R.shows ring.old old → Serves copies self.old (old number) xs
             → Moves (R.shows ring.new) number old (λ s. Left copies result self.new s xs) }
     {
         match ring.write(number, self.talk.unsent()) {
             Ok(Told::Bytes(n)) => {
-                self.talk.sent(n);
+                self.talk.sent(desk, n);
                 Ok(Round::Again)
             }
             Ok(Told::NotNow) => Ok(Round::Rests),
@@ -230,6 +241,7 @@ impl Seat {
     fn hear<R: Ring>(
         &mut self,
         number: u64,
+        desk: &mut Desk,
         buffer: &mut Buffer,
         ring: &mut R,
     ) -> Result<Round, FrontFault>
@@ -241,7 +253,7 @@ impl Seat {
     {
         match ring.read(number, &mut buffer.bytes) {
             Ok(Heard::Bytes(n)) => {
-                self.talk.hear(&buffer.bytes[..n])?;
+                self.talk.hear(desk, &buffer.bytes[..n])?;
                 Ok(Round::Again)
             }
             Ok(Heard::End) => {

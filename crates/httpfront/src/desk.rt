@@ -5,31 +5,42 @@ ghost use Rattle.httpread.specs.Finds.{Finds};
 ghost use Rattle.httpread.specs.Known.{IsKnownOf};
 ghost use Rattle.httpreply.specs.Answer.{answer};
 
+use crate::spare::Spare;
 use httpask::Ask;
-use httpread::{Asking, KnownHead, Routes, first_request};
+use httpread::{Asking, KnownHead, Tables, first_request};
 use httpreply::{Reply, push_answer};
 use std::alloc::{AllocError, Global};
 
 /// The most room for made-up bodies that is kept from one answer to the next.
 const MOST_TEXT: usize = 65_536;
 
-/// What all connections of a worker share: the routes, the room for a body that is made up, and the room for what is known of a head.
+/// After so many looks the media types are made anew.
+const LOOKS: u32 = 64;
+
+/// What all connections of a worker share: the tables that requests are read by, the room for a body that is made up, the room for what is known of a head, and a buffer
+/// each for the bytes that come and for the answers.
 #[derive(Drop)]
 pub struct Desk {
     alloc: Global,
-    routes: Routes,
+    tables: Tables,
     text: Vec<u8>,
     spare: Option<Box<KnownHead>>,
+    looks: u32,
+    pub(crate) incoming: Spare,
+    pub(crate) outgoing: Spare,
 }
 
 impl Desk {
-    /// A desk with its routes. The error is want of memory.
+    /// A desk with its tables. The error is want of memory.
     pub fn new(alloc: Global) -> Result<Desk, AllocError> {
         Ok(Desk {
             alloc,
-            routes: Routes::new(alloc)?,
+            tables: Tables::new(alloc)?,
             text: Vec::new(alloc),
             spare: None,
+            looks: 0,
+            incoming: Spare::new(alloc),
+            outgoing: Spare::new(alloc),
         })
     }
 
@@ -46,10 +57,19 @@ impl Desk {
         ensures finds { IfOk result (λ told. Finds copies bytes.now told.0) }
         ensures known { IfOk result (λ told. IfSome told.1 (λ head. IsKnownOf head.value bytes.now)) }
     {
+        self.count_look();
         let mut head = self.head_of(known)?;
-        let asking = first_request(self.alloc, &self.routes, copies, &mut head, bytes)?;
+        let asking = first_request(self.alloc, &self.tables, copies, &mut head, bytes)?;
         let kept = self.keep(head, &asking);
         Ok((asking, kept))
+    }
+
+    // Counts a look, and makes the media types anew at times.
+    fn count_look(&mut self) {
+        self.looks = self.looks.wrapping_add(1);
+        if self.looks % LOOKS == 0 {
+            self.tables.renew(self.alloc);
+        }
     }
 
     // What is known of a head, or room for it: the spare one, or another.

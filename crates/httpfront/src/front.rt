@@ -114,11 +114,11 @@ impl Front {
                 Ok(if n == 0 { Turn::Over } else { Turn::Read })
             }
             Step::Answered => {
-                flush_many(talk, sink)?;
+                flush_many(talk, &mut self.desk, sink)?;
                 Ok(Turn::Answered)
             }
             Step::Last => {
-                flush(talk, sink)?;
+                flush(talk, &mut self.desk, sink)?;
                 Ok(Turn::Last)
             }
         }
@@ -149,7 +149,7 @@ impl Front {
         ensures read_fails { IfErr result (λ fault. fault ≡ FrontFault.Read → (mid : S) × S.fails mid source.new) }
         ensures write_fails { IfErr result (λ fault. fault ≡ FrontFault.Write → (mid : W) × W.fails mid sink.new) }
     {
-        flush(talk, sink)?;
+        flush(talk, &mut self.desk, sink)?;
         self.read_up(talk, source)
     }
 
@@ -196,7 +196,7 @@ impl Front {
         let most = ROOM - talk.waiting();
         match read_front(source, &mut self.chunk, most) {
             Ok(n) => {
-                talk.hear(&self.chunk[..n])?;
+                talk.hear(&mut self.desk, &self.chunk[..n])?;
                 Ok(n)
             }
             Err(Failed) => Err(FrontFault::Read),
@@ -221,7 +221,7 @@ fn read_front<S: Source>(source: &mut S, chunk: &mut [u8], most: usize) -> Resul
 }
 
 // Writes the answers that wait.
-fn flush<W: Sink>(talk: &mut Talk, sink: &mut W) -> Result<(), FrontFault>
+fn flush<W: Sink>(talk: &mut Talk, desk: &mut Desk, sink: &mut W) -> Result<(), FrontFault>
     ensures ok { OnOk result (Sends (W.contents sink.old) (W.contents sink.new) talk.old.unsent talk.new.unsent) }
     ensures empty { OnOk result (talk.new.unsent ≡ []) }
     ensures waits { talk.new.waits ≡ talk.old.waits }
@@ -236,12 +236,12 @@ fn flush<W: Sink>(talk: &mut Talk, sink: &mut W) -> Result<(), FrontFault>
     if send(sink, unsent).is_err() {
         return Err(FrontFault::Write);
     }
-    talk.sent(len);
+    talk.sent(desk, len);
     Ok(())
 }
 
 // Writes the answers that wait, where they are much.
-fn flush_many<W: Sink>(talk: &mut Talk, sink: &mut W) -> Result<(), FrontFault>
+fn flush_many<W: Sink>(talk: &mut Talk, desk: &mut Desk, sink: &mut W) -> Result<(), FrontFault>
     ensures ok { OnOk result (Sends (W.contents sink.old) (W.contents sink.new) talk.old.unsent talk.new.unsent) }
     ensures waits { talk.new.waits ≡ talk.old.waits }
     ensures fault { IfErr result (λ fault. fault ≡ FrontFault.Write) }
@@ -253,5 +253,5 @@ fn flush_many<W: Sink>(talk: &mut Talk, sink: &mut W) -> Result<(), FrontFault>
     if talk.unsent().len() < MANY {
         return Ok(());
     }
-    flush(talk, sink)
+    flush(talk, desk, sink)
 }

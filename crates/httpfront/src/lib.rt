@@ -15,6 +15,7 @@ mod front;
 mod held;
 mod queue;
 mod reader;
+mod spare;
 mod stream;
 mod talk;
 mod turn;

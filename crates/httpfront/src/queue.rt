@@ -1,22 +1,21 @@
 //! Bytes that wait: they come behind the others, and go from the front.
 
-ghost use Rattle.std.specs.Prelude.{◌≡◌, ◌≤◌, ◌++◌, [], length, drop, OnOk, OnErr};
+ghost use Rattle.std.specs.Prelude.{◌≡◌, ◌<◌, ◌≤◌, ◌++◌, [], length, drop, OnOk, OnErr};
 ghost use Rattle.std.specs.Vec.{vec_capacity};
 ghost use Rattle.httpreply.specs.Answer.{answer};
 ghost use Rattle.httpfront.specs.Room.{kept};
 
 use crate::desk::Desk;
+use crate::spare::Spare;
 use httpask::Ask;
 use httpreply::Reply;
 use std::alloc::{AllocError, Global};
-
-/// The most room that the buffer keeps while nothing waits.
-const KEPT: usize = 192;
+use std::mem;
 
 /// Room for a usual answer, made at once.
 const ANSWER: usize = 512;
 
-/// Bytes that wait, in order. Their buffer grows as it must, and is small while none wait.
+/// Bytes that wait, in order. Their buffer grows as it must; the first of them take it from a spare one, and the last of them hand it back.
 #[derive(Drop)]
 pub(crate) struct Queue {
     alloc: Global,
@@ -56,16 +55,33 @@ impl Queue {
     }
 
     /// These wait, too, behind the others. The error is want of memory: the others wait then.
-    pub(crate) fn push(&mut self, bytes: &[u8]) -> Result<(), AllocError>
+    pub(crate) fn push(&mut self, spare: &mut Spare, bytes: &[u8]) -> Result<(), AllocError>
         ensures ok { OnOk result (waiting self.new ≡ waiting self.old ++ bytes.now) }
         ensures err { OnErr result (waiting self.new ≡ waiting self.old) }
     {
         if bytes.is_empty() {
             return Ok(());
         }
+        if self.bytes.len() <= self.start {
+            return self.push_first(spare, bytes);
+        }
         self.close_up();
         self.bytes.reserve(bytes.len())?;
         self.bytes.extend_from_slice(bytes)
+    }
+
+    // These wait, of none so far.
+    fn push_first(&mut self, spare: &mut Spare, bytes: &[u8]) -> Result<(), AllocError>
+        requires none { length self.old.bytes.items ≤ self.old.start }
+        requires some { 0 < length bytes.now }
+        ensures ok { OnOk result (waiting self.new ≡ waiting self.old ++ bytes.now) }
+        ensures err { OnErr result (self.new ≡ self.old) }
+    {
+        let mut buffer = spare.take();
+        buffer.extend_from_slice(bytes)?;
+        self.bytes = buffer;
+        self.start = 0;
+        Ok(())
     }
 
     /// The answer to a request waits, too, behind the others. The error is want of memory: none wait then.
@@ -81,6 +97,10 @@ impl Queue {
         ensures err { OnErr result (waiting self.new ≡ []) }
     {
         self.give_up_gone();
+        if self.bytes.len() <= self.start {
+            self.bytes = desk.outgoing.take();
+            self.start = 0;
+        }
         let pushed = match self.bytes.reserve(ANSWER) {
             Ok(()) => desk.push_answer(&mut self.bytes, copies, ask, reply, ends),
             Err(error) => Err(error),
@@ -93,27 +113,23 @@ impl Queue {
     }
 
     /// So many of them go.
-    pub(crate) fn take(&mut self, len: usize)
+    pub(crate) fn take(&mut self, spare: &mut Spare, len: usize)
         requires { len ≤ length (waiting self.old) }
         ensures { waiting self.new ≡ drop len (waiting self.old) }
     {
         if len == self.bytes.len() - self.start {
-            self.clear();
+            self.clear(spare);
         } else {
             self.start += len;
         }
     }
 
-    // None wait any longer, and the buffer is given back where it is not small.
-    fn clear(&mut self)
+    // None wait any longer, and the buffer is handed back.
+    fn clear(&mut self, spare: &mut Spare)
         ensures { waiting self.new ≡ [] }
     {
         self.start = 0;
-        if self.bytes.capacity() <= KEPT {
-            self.bytes.clear();
-        } else {
-            self.bytes = Vec::new(self.alloc);
-        }
+        spare.put_back(mem::replace(&mut self.bytes, Vec::new(self.alloc)));
     }
 
     // Gives up the room of what went, where that is no less than what waits: so the buffer holds no more than twice what waited at a time,

@@ -22,7 +22,7 @@ use std::alloc::{AllocError, Global};
 use std::marker::Model;
 
 /// What one connection keeps: the bytes that came and wait to be read, what is known of their head, and the answers that wait to be
-/// written. While nothing waits either way it holds 512 bytes at most, with all that it owns.
+/// written, in buffers that go from connection to connection by the desk. While nothing waits either way it holds 512 bytes at most, with all that it owns.
 #[derive(Drop)]
 pub struct Talk {
     inbox: Queue,
@@ -67,13 +67,13 @@ impl Talk {
     }
 
     /// Bytes came: they wait behind those that came before. The error is want of memory: they are lost then, and all else stays.
-    pub fn hear(&mut self, bytes: &[u8]) -> Result<(), AllocError>
+    pub fn hear(&mut self, desk: &mut Desk, bytes: &[u8]) -> Result<(), AllocError>
         ensures ok { OnOk result (self.new.waits ≡ self.old.waits ++ bytes.now) }
         ensures err { OnErr result (self.new.waits ≡ self.old.waits) }
         ensures unsent { self.new.unsent ≡ self.old.unsent }
     {
         heads_stay_known();
-        self.inbox.push(bytes)?;
+        self.inbox.push(&mut desk.incoming, bytes)?;
         self.awaited = still_awaited(self.awaited, bytes, self.inbox.unread().len());
         Ok(())
     }
@@ -124,13 +124,13 @@ impl Talk {
     }
 
     /// So many bytes of the answers that wait were written.
-    pub fn sent(&mut self, n: usize)
+    pub fn sent(&mut self, desk: &mut Desk, n: usize)
         requires { n ≤ length self.old.unsent }
         ensures unsent { self.new.unsent ≡ drop n self.old.unsent }
         ensures waits { self.new.waits ≡ self.old.waits }
         ensures is_due { self.new.is_due ≡ self.old.is_due }
     {
-        self.outbox.take(n);
+        self.outbox.take(&mut desk.outgoing, n);
     }
 
     // What the bytes that wait come to. What is known of their head is kept while its body is missing.
@@ -167,7 +167,7 @@ impl Talk {
         ensures stays { B.copies backend.new ≡ B.copies backend.old }
     {
         self.push_reply(desk, backend, copies, ask, ends)?;
-        self.take(len);
+        self.take(desk, len);
         Ok(if ends { Step::Last } else { Step::Answered })
     }
 
@@ -193,14 +193,14 @@ impl Talk {
     }
 
     // Takes a request from the bytes that wait.
-    fn take(&mut self, len: usize)
+    fn take(&mut self, desk: &mut Desk, len: usize)
         requires { len ≤ length self.old.waits }
         ensures waits { self.new.waits ≡ drop len self.old.waits }
         ensures unsent { self.new.unsent ≡ self.old.unsent }
     {
         self.known = None;
         self.awaited = None;
-        self.inbox.take(len);
+        self.inbox.take(&mut desk.incoming, len);
     }
 
     /// The room of the buffers, in bytes.

@@ -48,7 +48,7 @@ pub zeros-step : (b : ℕ) (tail : List ℕ) → b ≡ 48 → without_zeros (b �
 zeros-step b tail e = let P : ℕ → Type 0 = λ x. without_zeros (x ∷ tail) ≡ without_zeros tail in subst P (sym e) refl
 
 -- a test that does not hold fails
-not_true : (b : Bool) → (b ≡ true → ⊥) → b ≡ false
+pub not_true : (b : Bool) → (b ≡ true → ⊥) → b ≡ false
 not_true true h = absurd (h refl)
 not_true false h = refl
 

@@ -216,7 +216,7 @@ impl Request<'_> {
         if !is_name(MAX_MEDIA, media) {
             return Ok(None);
         }
-        let media = Bytes::from_slice(alloc, media)?;
+        let media = self.types.bytes_of(alloc, media)?;
         let bytes = Bytes::from_slice(alloc, self.body)?;
         Ok(Some(Content::Value { media, bytes }))
     }

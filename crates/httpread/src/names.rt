@@ -64,12 +64,12 @@ pub(crate) fn decoded_at(
 ) -> Result<CowSlice<'_, u8>, AllocError>
     ensures { IfOk result (λ name. cow_slice_items name ≡ spec.name_at i path.now) }
 {
-    percent_decode(piece_at(path, i).unwrap_or("").as_bytes()).into_cow(alloc)
+    percent_decode(piece_at(path.as_bytes(), i).unwrap_or(b"".as_slice())).into_cow(alloc)
 }
 
 // The i-th piece of a path between its slashes.
-fn piece_at(path: &str, i: usize) -> Option<&str>
+fn piece_at(path: &[u8], i: usize) -> Option<&[u8]>
     ensures { option_copied result ≡ slice_get (slice_split (λ b. b == 47) path.now) i }
 {
-    path.split('/').nth(i)
+    path.split(|b| *b == b'/').nth(i)
 }

@@ -1,22 +1,21 @@
 //! The first request of the bytes at hand.
 
-ghost use Rattle.std.specs.Prelude.{◌≡◌, ◌≤◌, true, IfOk, IfSome, IfNone};
+ghost use Rattle.std.specs.Prelude.{◌≡◌, ◌≤◌, true, IfOk};
 ghost use Rattle.httparse.specs.Spans.{span_bytes};
-ghost use Rattle.httpask.specs.Head.{IsOriginTarget};
 ghost use Rattle.httpask.specs.declared.ask.Ask.TheVariants.{Refused};
 ghost use Rattle.httpread.specs.Finds.{Finds};
 ghost use Rattle.httpread.specs.Heads.{StandsAt};
 ghost use Rattle.httpread.specs.Known.{IsKnownOf, Leaves, kept_of};
-ghost use Rattle.httpread.specs.Targets.{IsUriOf};
+ghost use Rattle.httpread.specs.Targets.{IsTargetOf};
 ghost use Rattle.httpread.specs.declared.request.Asking.TheVariants.{First};
 
 use crate::fields::{body_length, closes};
 use crate::firsts::fields_of;
 use crate::head::{HeadAt, read_head};
 use crate::known::KnownHead;
-use crate::routes::Routes;
+use crate::tables::Tables;
+use crate::target::{Target, target_of};
 use crate::whole::Request;
-use http_uri::{Uri, UriError};
 use httparse::spans::{HeaderSpan, RequestSpans};
 use httpask::{Ask, Refusal};
 use std::alloc::{AllocError, Global};
@@ -39,7 +38,7 @@ pub enum Asking {
 /// them holds whatever follows. What is known of their head isn't found again. The error is want of memory.
 pub fn first_request(
     alloc: Global,
-    routes: &Routes,
+    tables: &Tables,
     copies: u32,
     known: &mut KnownHead,
     bytes: &[u8],
@@ -52,19 +51,19 @@ pub fn first_request(
     ensures leaves { IfOk result (λ asking. Leaves asking bytes.now known.new) }
 {
     if let Some(spans) = known.spans {
-        return request_with(alloc, routes, copies, known, bytes, spans);
+        return request_with(alloc, tables, copies, known, bytes, spans);
     }
     match read_head(bytes, &mut known.lines) {
         HeadAt::Unfinished => Ok(Asking::Head),
         HeadAt::Bad => Ok(broken(Refusal::BadHead, bytes.len())),
-        HeadAt::Whole(spans) => request_with(alloc, routes, copies, known, bytes, spans),
+        HeadAt::Whole(spans) => request_with(alloc, tables, copies, known, bytes, spans),
     }
 }
 
 // What a request with a whole head comes to. The head is kept while its body is missing.
 fn request_with(
     alloc: Global,
-    routes: &Routes,
+    tables: &Tables,
     copies: u32,
     known: &mut KnownHead,
     bytes: &[u8],
@@ -78,7 +77,7 @@ fn request_with(
     ensures known { IsKnownOf known.new bytes.now }
     ensures leaves { IfOk result (λ asking. Leaves asking bytes.now known.new) }
 {
-    let asking = request_at(alloc, routes, copies, bytes, spans, &known.lines)?;
+    let asking = request_at(alloc, tables, copies, bytes, spans, &known.lines)?;
     known.spans = kept(&asking, spans);
     Ok(asking)
 }
@@ -96,7 +95,7 @@ fn kept(asking: &Asking, spans: RequestSpans) -> Option<RequestSpans>
 // What a request with a whole head comes to.
 fn request_at(
     alloc: Global,
-    routes: &Routes,
+    tables: &Tables,
     copies: u32,
     bytes: &[u8],
     spans: RequestSpans,
@@ -107,8 +106,8 @@ fn request_at(
     requires head { StandsAt bytes.now lines.now spans }
     ensures { IfOk result (Finds copies bytes.now) }
 {
-    match uri_of(alloc, spans.path.of(bytes))? {
-        Some(uri) => request_to(alloc, routes, copies, bytes, spans, lines, &uri),
+    match target_of(spans.path.of(bytes)) {
+        Some(target) => request_to(alloc, tables, copies, bytes, spans, lines, target),
         None => Ok(broken(Refusal::BadHead, spans.len)),
     }
 }
@@ -124,20 +123,20 @@ fn broken(refusal: Refusal, len: usize) -> Asking
     }
 }
 
-// What a request with a whole head comes to, where its target is this URI.
+// What a request with a whole head comes to, where these are the parts of its target.
 fn request_to(
     alloc: Global,
-    routes: &Routes,
+    tables: &Tables,
     copies: u32,
     bytes: &[u8],
     spans: RequestSpans,
     lines: &[HeaderSpan],
-    uri: &Uri,
+    target: Target<'_>,
 ) -> Result<Asking, AllocError>
     requires some { 1 ≤ copies }
     requires few { copies ≤ 3 }
     requires head { StandsAt bytes.now lines.now spans }
-    requires target { IsUriOf (span_bytes bytes.now spans.path) uri.now }
+    requires target { IsTargetOf (span_bytes bytes.now spans.path) target.path.now target.query.now }
     ensures { IfOk result (Finds copies bytes.now) }
 {
     let lines = &lines[..spans.headers];
@@ -152,29 +151,15 @@ fn request_to(
     }
     let request = Request {
         method,
-        path: uri.path(),
-        query: uri.query().unwrap_or(""),
+        path: target.path,
+        query: target.query,
         bytes,
         lines,
         fields: &fields,
         body: &bytes[spans.len..len],
+        types: &tables.types,
     };
-    let ask = request.ask(alloc, routes, copies)?;
+    let ask = request.ask(alloc, &tables.routes, copies)?;
     let ends = closes(spans.version, fields.connection);
     Ok(Asking::First { ask, ends, len })
-}
-
-// The URI of a target that is a path with its query.
-fn uri_of(alloc: Global, target: &[u8]) -> Result<Option<Uri>, AllocError>
-    ensures some { IfOk result (λ o. IfSome o (IsUriOf target.now)) }
-    ensures none { IfOk result (λ o. IfNone o (¬ (IsOriginTarget target.now))) }
-{
-    if target.is_empty() || target[0] != b'/' {
-        return Ok(None);
-    }
-    match Uri::from_bytes(alloc, target) {
-        Ok(uri) => Ok(Some(uri)),
-        Err(UriError::Invalid(_)) => Ok(None),
-        Err(UriError::OutOfMemory) => Err(AllocError),
-    }
 }

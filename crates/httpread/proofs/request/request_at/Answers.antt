@@ -9,5 +9,5 @@ returns-in-None c =
       λ e. absurd (search (e, rules)),
       tt,
       no_target c.args.copies c.args.bytes.now c.args.lines.now c.args.spans h.0 h.1 h.2 h.0.method _ refl (c.of.ensures ∙ h.1.path)
-          (rw c.in-None.is at c.in_ok-uri.ensures.none),
+          (rw c.in-None.is at c.target_of.ensures.none),
     )
