@@ -1,1 +1,2 @@
 mod Merges
+mod Dumping

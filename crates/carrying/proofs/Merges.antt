@@ -1,6 +1,6 @@
 -- What merges of records leave.
-use Rattle.std.proofs.Common.{◌≡◌, ℕ, zero, suc, ◌+◌, ◌<◌, ◌≤◌, ◌⊎◌, Bool, true, false, cond, List, [], ◌∷◌, ◌++◌, length, take, get_or, refl, sym, ap, subst, ◌∙◌, inl, inr, arith, append_assoc, length-append, ◌&&◌, ◌||◌, Option, Some, None, is_none}
-use Rattle.std.specs.Prelude.{Contains, map, ◌==◌}
+use Rattle.std.proofs.Common.{◌≡◌, ℕ, ◌+◌, ◌≤◌, ◌⊎◌, Bool, true, false, cond, List, [], ◌∷◌, ◌++◌, length, refl, sym, ap, subst, ◌∙◌, inl, inr, arith, append_assoc, length-append, ◌&&◌, ◌||◌, Option, Some, None, is_none}
+use Rattle.std.specs.Prelude.{Contains, ◌==◌}
 use Rattle.std.specs.List.{AllByRecursion, list_any}
 use Rattle.std.specs.Option.{option_or}
 use Rattle.std.proofs.Math.Bool.{or-false}
@@ -11,10 +11,10 @@ use Rattle.std.proofs.lemmas.Bool.{cases_Bool}
 use Rattle.std.proofs.lemmas.List.{append-nil}
 use Rattle.std.proofs.lemmas.List.Sums.{count_by-le-length}
 use Rattle.dvv.specs.declared.Dot.{Dot}
-use Rattle.dvv.specs.Clock.{Covers, IsUnion, covers, counter}
+use Rattle.dvv.specs.Clock.{covers, counter}
 use Rattle.object.specs.declared.content.Content.{Content}
 use Rattle.object.specs.declared.content.Key.{Key}
-use Rattle.object.specs.State.{State, empty, IsState, Merges, content_at, merged}
+use Rattle.object.specs.State.{State, empty, IsState, content_at}
 use Rattle.journal.specs.Entry.{Entry, Merge}
 use Rattle.journal.specs.Keys.{key_cmp, same_key}
 use Rattle.journal.specs.Logs.{Log, max_entries}
@@ -23,8 +23,7 @@ use Rattle.journal.specs.Replay.{IsReplay, IsKeyOf, LeaveAlike, sibling_in, know
 use Rattle.journal.specs.Entries.{drops}
 use Rattle.journal.proofs.BroughtLemmas.{empty_replayed}
 use Rattle.journal.proofs.Keyed.{one_key, same_itself, same_is}
-use Rattle.journal.proofs.Replayed.{silent_replayed, merge_silent, merge_replayed, held_known, dropped_known, journal_end, no_entry}
-use Rattle.vnode.specs.Keys.{AreKeys}
+use Rattle.journal.proofs.Replayed.{silent_replayed, merge_silent, held_known, dropped_known, journal_end, no_entry}
 use Rattle.wire.specs.declared.record.Record.{Record}
 use Rattle.world.specs.Beginning.{merges_of}
 use Rattle.world.proofs.Lists.{Contains-later, Contains-first, Contains-cases, Contains-nil}
@@ -47,7 +46,7 @@ record_among (h ∷ records) k c = elim (Contains-cases h.key (keys_in records) 
 ]
 
 -- the head of rising keys is another than those behind it
-head_other : (k : Key) (records : List Record) (r : Record) → AllByRecursion (λ y. key_cmp k y ≡ Less) (keys_in records) → Contains records r → same_key k r.key ≡ false
+pub head_other : (k : Key) (records : List Record) (r : Record) → AllByRecursion (λ y. key_cmp k y ≡ Less) (keys_in records) → Contains records r → same_key k r.key ≡ false
 head_other k [] r all c = absurd (Contains-nil r c)
 head_other k (h ∷ records) r all c = elim (Contains-cases h records r c) [
   | inl is ↦ subst (λ (x : Record). same_key k x.key ≡ false) is (ap is_eq all.0)
@@ -57,7 +56,7 @@ head_other k (h ∷ records) r all c = elim (Contains-cases h records r c) [
 clash : {b : Bool} → b ≡ false → b ≡ true → ⊥
 clash f t = cc
 
-turned : (a b : Key) → same_key a b ≡ false → same_key b a ≡ false
+pub turned : (a b : Key) → same_key a b ≡ false → same_key b a ≡ false
 turned a b other = elim (cases_Bool (same_key b a)) [
   | inl t ↦ absurd (clash other (same_is a b (sym (one_key b a t))))
   | inr f ↦ f
@@ -130,7 +129,7 @@ record_left es records r merges are c = record {
   clock = λ d. sym ((only r merges are.rising c d).known);
 }
 
-others_of : (records : List Record) (k : Key) → (Contains (keys_in records) k → ⊥) → (r : Record) → Contains records r → same_key r.key k ≡ false
+pub others_of : (records : List Record) (k : Key) → (Contains (keys_in records) k → ⊥) → (r : Record) → Contains records r → same_key r.key k ≡ false
 others_of records k none r c = elim (cases_Bool (same_key r.key k)) [
   | inl t ↦ absurd (none (subst (λ (x : Key). Contains (keys_in records) x) (one_key r.key k t) (key_among records r c)))
   | inr f ↦ f
@@ -174,10 +173,10 @@ unknown vnode es k legal none =
     by_dropped d (inl t) = absurd (none (d, dropped_known vnode k d [] es legal t))
     by_dropped d (inr f) = ap (λ (b : Bool). cond b None (first_held es k d)) f ∙ by_held d (first_held es k d) refl
 
-all_rising : (old : Log) (records : List Record) → AreOfAll old records → AreRising records
+pub all_rising : (old : Log) (records : List Record) → AreOfAll old records → AreRising records
 all_rising old records all = record { rising = all.keys.rising; states = λ r c. (all.states r c).is_state }
 
-cases_among : (records : List Record) (k : Key) → Contains (keys_in records) k ⊎ (Contains (keys_in records) k → ⊥)
+pub cases_among : (records : List Record) (k : Key) → Contains (keys_in records) k ⊎ (Contains (keys_in records) k → ⊥)
 cases_among [] k = inr (Contains-nil k)
 cases_among (h ∷ records) k = elim (cases_Bool (same_key h.key k)) [
   | inl t ↦ inl (subst (λ (x : Key). Contains (h.key ∷ keys_in records) x) (one_key h.key k t) (Contains-first h.key (keys_in records)))

@@ -1,5 +1,5 @@
 -- Records of a vnode's keys, and the merges by which another vnode takes them over (this store's profile).
-use Rattle.std.specs.Prelude.{◌≡◌, ℕ, List, [], ◌∷◌, map, Contains}
+use Rattle.std.specs.Prelude.{ℕ, List, [], ◌∷◌, map, Contains}
 use Rattle.std.specs.List.Sorted.{IsStrictlySortedBy}
 use Rattle.object.specs.declared.content.Key.{Key}
 use Rattle.object.specs.State.{IsState}

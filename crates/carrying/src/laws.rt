@@ -1,6 +1,7 @@
 //! Laws of records that are merged. Each of these functions does nothing: its contract is the law.
 
-ghost use Rattle.std.specs.Prelude.{◌≡◌, ℕ, ◌≤◌, List, length, Contains};
+ghost use Rattle.std.specs.Prelude.{◌≡◌, ℕ, ◌≤◌, List, [], ◌∷◌, length, Contains};
+ghost use Rattle.helpers.specs.declared.sig.Entry.{Entry as Helper};
 ghost use Rattle.object.specs.declared.content.Key.{Key};
 ghost use Rattle.object.specs.State.{empty};
 ghost use Rattle.journal.specs.Entry.{Entry};
@@ -8,7 +9,11 @@ ghost use Rattle.journal.specs.Journals.{IsJournal};
 ghost use Rattle.journal.specs.Logs.{Log, max_entries};
 ghost use Rattle.journal.specs.Replay.{IsReplay, LeaveAlike};
 ghost use Rattle.wire.specs.declared.record.Record.{Record as OneRecord};
-ghost use Rattle.world.specs.Beginning.{merges_of};
+ghost use Rattle.world.specs.declared.event.Event.{Event};
+ghost use Rattle.world.specs.Beginning.{BeginsWith, merges_of};
+ghost use Rattle.world.specs.Knowledge.{Knowledge};
+ghost use Rattle.world.specs.Running.{AreRunnableFrom, max_vnodes};
+ghost use Rattle.carrying.specs.Dumps.{GoesOnFrom, IsDumpIn};
 ghost use Rattle.carrying.specs.Records.{AreMergesOf, AreOfAll, AreRising, keys_in};
 
 /// Merges of records of rising keys leave each record's state at its key, and nothing at any other key.
@@ -31,4 +36,12 @@ pub fn merges_are_a_journal()
 /// The merges by which a run begins from records are such merges.
 pub fn beginnings_are_merges()
     ensures { (stamp : ℕ) (records : List OneRecord) → AreMergesOf (merges_of stamp records) records }
+{}
+
+/// A dump's records are a beginning: where a world has led to them, there is one in which the same writes were put, whose first vnode has merged
+/// the records and knows what the dumped vnode knew. So what a run from these records prints goes on from the world before.
+pub fn dumps_begin()
+    ensures { (world : Knowledge) (logs : List Log) (vnode incarnation vnodes : ℕ) (listed : List Helper) (records : List OneRecord) (events : List Event)
+        → 1 ≤ vnodes → vnodes ≤ max_vnodes → AreRunnableFrom (0 ∷ incarnation ∷ []) vnodes listed events → IsDumpIn world logs vnode incarnation vnodes records events
+        → (begin : Knowledge) × BeginsWith incarnation vnodes records events begin × GoesOnFrom world vnode begin }
 {}

@@ -5,6 +5,8 @@ use Rattle.lines.specs.Lines.{lines_in}
 use Rattle.telling.specs.Texts.{line}
 use Rattle.wire.specs.declared.record.Record.{Record}
 use Rattle.world.specs.Beginning.{BeginsWith}
+use Rattle.carrying.specs.Dumps.{GoesOnFrom, IsDumpIn}
+use Rattle.journal.specs.Logs.{Log}
 use Rattle.world.specs.Knowledge.{Knowledge}
 use Rattle.world.specs.Running.{Ran, IsWorldFrom}
 use Rattle.events.specs.declared.script.Script.{Script}
@@ -17,11 +19,13 @@ vnodes_of script = max 1 script.vnodes
 
 module _ (listed : List Entry) (incarnation : ℕ) (records : List Record) where
   -- a text is what a script's lines print over the replies of a run of its events, where vnodes begin under an incarnation and the first has merged the records:
-  -- a run from each beginning in which these are true
+  -- a run from each beginning in which these are true, and there is one where the records are a dump in some world: it goes on from what the dumped vnode knew there
   pub record PrintsFrom (script : Script) (text : List ℕ) : Type 0 where
     pub runnable : IsRunnableFrom (0 ∷ incarnation ∷ []) listed script
     pub ran : Ran
     pub world : (begin : Knowledge) → BeginsWith incarnation (vnodes_of script) records script.events.items begin → IsWorldFrom begin (vnodes_of script) listed script.events.items ran
+    pub dumped : (before : Knowledge) (logs : List Log) (vnode : ℕ) → IsDumpIn before logs vnode incarnation (vnodes_of script) records script.events.items
+        → (begin : Knowledge) × GoesOnFrom before vnode begin × IsWorldFrom begin (vnodes_of script) listed script.events.items ran
     pub tells : Tells listed script.answered.items ran.replies text
 
   -- a script was read from all lines, and this is what it prints

@@ -7,6 +7,7 @@ ghost use Rattle.world.specs.Beginning.{RefusesRecords};
 ghost use Rattle.world.specs.Knowledge.{id_under};
 
 use crate::printing::print_answers;
+use carrying::laws::dumps_begin;
 use events::{BadAt, Images, Script, parse_from};
 use helpers::Table;
 use lines::BadLine;
@@ -53,6 +54,7 @@ fn text_from(
     ensures printed { IfOk result (λ text. PrintsFrom table.now.listed incarnation records.now script.now (string_bytes text)) }
     ensures refused { IfErr result (RefusesRecords (id_under incarnation 0) records.now) }
 {
+    dumps_begin();
     let vnodes = script.vnodes.max(1);
     let world = World::run_from(alloc, vnodes, incarnation, records, table, &script.events)?;
     Ok(print_answers(alloc, table, &script.answered, world.replies())?)

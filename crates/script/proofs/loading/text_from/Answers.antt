@@ -1,7 +1,7 @@
 use Rattle.std.proofs.Common.{List, [], ◌∷◌, rules, sym, subst}
 use Rattle.world.specs.declared.event.Event.{Event}
 use Rattle.world.specs.Running.{AreRunnableFrom}
-use Rattle.script.proofs.Loads.{runs_over_some, enough_from}
+use Rattle.script.proofs.Loads.{enough_from, prints_from, runs_over_some}
 use Rattle.script.proofs.loading.text_from.Goals as goal
 
 pub run_from-requires-clause-runnable : goal.run_from-requires-clause-runnable
@@ -11,3 +11,8 @@ run_from-requires-clause-runnable g c =
 
 pub print_answers-requires : goal.print_answers-requires
 print_answers-requires g c = enough_from _ _ c.args.script.now _ _ c.in_ok-world.world _ c.requires c.deref-2.ensures.value c.deref.ensures.value c.replies.ensures c.in_ok-world.ensures.replies
+
+pub returns-clause-printed : goal.returns-clause-printed
+returns-clause-printed g c =
+    prints_from c.args.table.now.listed c.args.incarnation c.args.records.now c.args.script.now c.max-vnodes.result c.deref.result.now c.deref-2.result.now c.in_ok-world.world c.replies.result.now _ c.requires (search rules)
+    c.deref.ensures.value c.in_ok-world.ensures.world c.dumps_begin.ensures c.deref-2.ensures.value c.replies.ensures c.in_ok-print_answers.ensures
