@@ -1,3 +1,4 @@
 mod Loading
 mod Fronts
 mod Standing
+mod Acknowledged

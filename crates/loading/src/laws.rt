@@ -1,8 +1,14 @@
 //! What holds of records that were loaded. The function does nothing: its contract is the law.
 
-ghost use Rattle.std.specs.Prelude.{◌≡◌, ◌++◌, ℕ, List, Contains, length};
-ghost use Rattle.carrying.specs.Records.{AreMergesOf};
-ghost use Rattle.journal.specs.Entry.{Entry};
+ghost use Rattle.std.specs.Prelude.{◌≡◌, ◌++◌, ℕ, true, List, Contains, length};
+ghost use Rattle.carrying.specs.Records.{AreMergesOf, AreOfAll};
+ghost use Rattle.dvv.specs.declared.Dot.{Dot};
+ghost use Rattle.journal.specs.Entry.{Entry, Put};
+ghost use Rattle.journal.specs.Journals.{IsJournal};
+ghost use Rattle.journal.specs.Replay.{IsReplay, Knows, known_in};
+ghost use Rattle.object.specs.State.{State};
+ghost use Rattle.object.specs.declared.content.Content.{Content};
+ghost use Rattle.object.specs.declared.content.Key.{Key};
 ghost use Rattle.stamps.specs.declared.view.Told.{Told};
 ghost use Rattle.journal.specs.Logs.{Log};
 ghost use Rattle.keeping.specs.declared.file.KeptFile.{KeptFile};
@@ -11,6 +17,8 @@ ghost use Rattle.vnode_locks.specs.Gathers.{FitsIn, IsGathered};
 ghost use Rattle.wire.specs.declared.record.Record.{Record as OneRecord};
 ghost use Rattle.loading.specs.Beginnings.{BeginWithFiles, HaveLoaded};
 ghost use Rattle.loading.specs.Loads.{Mark, merges_told};
+
+use carrying::laws::records_carry_all;
 
 /// Where all that a pass was told while a vnode took records over stands in the vnode's journal, the journal begins with the merges of these
 /// records, each once and in order.
@@ -25,3 +33,14 @@ pub fn loads_stand()
     ensures { (before after : List Told) (old new : View) (logs : List Log) (first : ℕ) (files : List KeptFile) (vnodes : ℕ)
         → IsGathered (before ++ new.told ++ after) logs → HaveLoaded old new first files vnodes → BeginWithFiles logs first files vnodes }
 {}
+
+/// What was acknowledged stays known over a stop in order: where a journal begins with the merges of records of all keys of another, each write that
+/// stands in that one is known there, and so is each event of a context that was told there at any time.
+pub fn acknowledged_stays()
+    ensures puts { (old : Log) (records : List OneRecord) (es rest : List Entry) (stamp : ℕ) (key : Key) (seen : List Dot) (content : Content) (dot : Dot)
+        → IsJournal old.vnode old.entries → AreOfAll old records → AreMergesOf es records → Contains old.entries (Put stamp key seen content dot) → known_in (es ++ rest) key dot ≡ true }
+    ensures contexts { (old : Log) (records : List OneRecord) (es rest before after : List Entry) (key : Key) (state : State)
+        → IsJournal old.vnode old.entries → AreOfAll old records → AreMergesOf es records → old.entries ≡ before ++ after → IsReplay before key state → Knows (es ++ rest) key state.clock }
+{
+    records_carry_all();
+}
