@@ -1,2 +1,4 @@
 mod Seals
 mod Reading
+mod Putting
+mod Storing

@@ -1,3 +1,4 @@
 pub mod Seals
 pub mod Reads
 pub mod Settings
+pub mod Steps

@@ -1,7 +1,8 @@
 //! The files of a folder.
 
-ghost use Rattle.std.specs.Prelude.{ℕ, List, Option, IfOk};
+ghost use Rattle.std.specs.Prelude.{ℕ, List, Option, IfOk, OnOk};
 ghost use Rattle.folder.specs.Reads.{bytes_in};
+ghost use Rattle.folder.specs.Steps.{Begun, Forced, NamesForced, Renamed, Step};
 
 use std::alloc::{AllocError, Global};
 use std::io::Write;
@@ -32,19 +33,26 @@ pub trait Folder {
     // Under a name these bytes may be found, or none where there is no file.
     ghost finds: { Self → List ℕ → Option (List ℕ) → Type 0 };
 
+    // A step was done, and the folder is another.
+    ghost does: { Self → Step → Self → Type 0 };
+
     /// The bytes of a file. There may be no file of the name.
     fn read(&self, alloc: Global, name: &str) -> Result<Option<Vec<u8>>, FileFault>
         ensures { IfOk result (λ found. finds self.now name.now (bytes_in found)) };
 
     /// Begins a file anew: what stood under the name is gone.
-    fn create(&mut self, name: &str) -> Result<Self::File, FileFault>;
+    fn create(&mut self, name: &str) -> Result<Self::File, FileFault>
+        ensures { IfOk result (λ file. does self.old (Begun name.now (Self.File.contents file)) self.new) };
 
     /// Forces what was written to a file to the device.
-    fn force(&mut self, file: Self::File) -> Result<(), FileFault>;
+    fn force(&mut self, file: Self::File) -> Result<(), FileFault>
+        ensures { OnOk result (does self.old (Forced (Self.File.contents file)) self.new) };
 
     /// Gives a file another name, at once: what stood under that is gone.
-    fn rename(&mut self, from: &str, to: &str) -> Result<(), FileFault>;
+    fn rename(&mut self, from: &str, to: &str) -> Result<(), FileFault>
+        ensures { OnOk result (does self.old (Renamed from.now to.now) self.new) };
 
     /// Forces the names of the folder's files to the device.
-    fn force_names(&mut self) -> Result<(), FileFault>;
+    fn force_names(&mut self) -> Result<(), FileFault>
+        ensures { OnOk result (does self.old NamesForced self.new) };
 }

@@ -1,9 +1,11 @@
 //! What a start reads of a folder, and the number that it takes.
 
-ghost use Rattle.std.specs.Prelude.{◌≡◌, ◌<◌, ◌/◌, ◌++◌, ℕ, List, Option, IfOk, OnOk, Contains, codes, length, option_to_list};
+ghost use Rattle.std.specs.Prelude.{◌≡◌, ◌<◌, ◌/◌, ◌++◌, ◌∷◌, [], ℕ, List, Option, IfOk, OnOk, Contains, codes, decimal, length, option_to_list};
 ghost use Rattle.keeping.specs.Numbers.{all_ids};
 ghost use Rattle.folder.specs.Reads.{IsFileAt, IsReadAt, bytes_in, name_of};
+ghost use Rattle.folder.specs.Seals.{sealed};
 ghost use Rattle.folder.specs.Settings.{IsSetBy};
+ghost use Rattle.folder.specs.Steps.{IsPut};
 
 use crate::files::{FileFault, Folder};
 use crate::names::{HOOKS, INCARNATION, SETTINGS, VNODES, name_of};
@@ -90,6 +92,7 @@ pub fn open<F: Folder>(alloc: Global, folder: &mut F) -> Result<Opened, OpenFaul
     ensures above { IfOk result (λ opened. (id : ℕ) → Contains (all_ids opened.held.files.items) id → id / 65536 < opened.number) }
     ensures settings { IfOk result (λ opened. (found : Option (List ℕ)) × F.finds folder.old (codes "settings") found × IsSetBy found opened.held.settings.every) }
     ensures read { IfOk result (λ opened. (index : ℕ) → index < 3 → IsReadAt (F.finds folder.old) opened.held.files.items index) }
+    ensures put { IfOk result (λ opened. IsPut F.does folder.old (codes "incarnation") (sealed (decimal opened.number ++ 10 ∷ [])) folder.new) }
 {
     let held = read_all(alloc, folder)?;
     let number = match next_incarnation(held.last, &held.files) {
@@ -103,7 +106,9 @@ pub fn open<F: Folder>(alloc: Global, folder: &mut F) -> Result<Opened, OpenFaul
 }
 
 /// Writes the number of a start.
-fn take<F: Folder>(alloc: Global, folder: &mut F, number: u16) -> Result<(), WriteFault> {
+fn take<F: Folder>(alloc: Global, folder: &mut F, number: u16) -> Result<(), WriteFault>
+    ensures { OnOk result (IsPut F.does folder.old (codes "incarnation") (sealed (decimal number ++ 10 ∷ [])) folder.new) }
+{
     let text = format!(in alloc; "{number}\n")?;
     let bytes = seal(alloc, text.as_bytes())?;
     replace(alloc, folder, INCARNATION, &bytes)

@@ -1,10 +1,19 @@
 //! Replacing files: each is written beside the one that stands, forced to the device and renamed, so that one of both stands whole
 //! whenever the process or the system ends.
 
-ghost use Rattle.std.specs.Prelude.{List};
+ghost use Rattle.std.specs.Prelude.{◌≡◌, ℕ, List, [], ◌∷◌, ◌++◌, Option, IfOk, IsOk, OnOk, MatchOption, codes, length};
+ghost use Rattle.std.specs.Global.{Vec as List_};
+ghost use Rattle.std.specs.Io.Buffered.{writer_contents};
+ghost use Rattle.std.specs.Io.KnownBytes.{Appends, Keeps};
 ghost use Rattle.std.specs.List.{AllByRecursion};
+ghost use Rattle.object.specs.declared.content.Key.{Key as OneKey};
+ghost use Rattle.peers.specs.declared.peers.Answer.{Answer as OneAnswer};
 ghost use Rattle.peers.specs.Calls.{Call, Made};
-ghost use Rattle.keeping.specs.Snapshots.{IsReadAt};
+ghost use Rattle.keeping.specs.Files.{IsFileOf};
+ghost use Rattle.keeping.specs.Snapshots.{IsReadAt, records_read, snapshot_calls};
+ghost use Rattle.folder.specs.Reads.{name_of};
+ghost use Rattle.folder.specs.Seals.{sealed};
+ghost use Rattle.folder.specs.Steps.{ArePut, AreFilesOf, Begun, IsFileOfAll, IsNamed, IsPut, Put, part_name};
 
 use crate::files::{FileFault, Folder};
 use crate::names::{HOOKS, name_of};
@@ -54,7 +63,9 @@ pub(crate) fn replace<F: Folder>(
     folder: &mut F,
     name: &str,
     bytes: &[u8],
-) -> Result<(), WriteFault> {
+) -> Result<(), WriteFault>
+    ensures put { OnOk result (IsPut F.does folder.old name.now bytes.now folder.new) }
+{
     let beside = format!(in alloc; "{name}.part")?;
     let came = put_bytes(folder, bytes, &beside, name);
     emptied(folder, &beside, came)
@@ -66,7 +77,10 @@ fn put_bytes<F: Folder>(
     bytes: &[u8],
     beside: &str,
     name: &str,
-) -> Result<(), WriteFault> {
+) -> Result<(), WriteFault>
+    requires { beside.now ≡ part_name name.now }
+    ensures put { OnOk result (IsPut F.does folder.old name.now bytes.now folder.new) }
+{
     let mut file = folder.create(beside)?;
     if file.write_all(bytes).is_err() {
         return Err(WriteFault::File(FileFault::Refused));
@@ -79,7 +93,10 @@ fn emptied<F: Folder, T>(
     folder: &mut F,
     beside: &str,
     came: Result<T, WriteFault>,
-) -> Result<T, WriteFault> {
+) -> Result<T, WriteFault>
+    ensures same { result ≡ came }
+    ensures left { OnOk result (folder.new ≡ folder.old) }
+{
     if came.is_err() {
         // What can't be let go stays there, and is let go by the next try.
         let _ = folder.create(beside);
@@ -92,7 +109,9 @@ pub fn keep_requests<F: Folder>(
     alloc: Global,
     folder: &mut F,
     requests: Option<&[u8]>,
-) -> Result<(), Unreplaced> {
+) -> Result<(), Unreplaced>
+    ensures put { OnOk result (MatchOption requests.entry ⊥ (λ held. IsPut F.does folder.old (codes "hooks.requests") (sealed held.now) folder.new)) }
+{
     let done = match requests {
         Some(requests) => keep_hooks(alloc, folder, requests),
         None => Err(WriteFault::File(FileFault::NoMemory)),
@@ -104,7 +123,9 @@ pub fn keep_requests<F: Folder>(
 }
 
 /// The same of all of them.
-fn keep_hooks<F: Folder>(alloc: Global, folder: &mut F, requests: &[u8]) -> Result<(), WriteFault> {
+fn keep_hooks<F: Folder>(alloc: Global, folder: &mut F, requests: &[u8]) -> Result<(), WriteFault>
+    ensures put { OnOk result (IsPut F.does folder.old (codes "hooks.requests") (sealed requests.now) folder.new) }
+{
     let bytes = seal(alloc, requests)?;
     replace(alloc, folder, HOOKS, &bytes)
 }
@@ -126,20 +147,47 @@ pub fn keep_all<F: Folder>(
     folder: &mut F,
     vnodes: &mut [Vnode],
     requests: Option<&[u8]>,
-) -> Result<usize, Unreplaced> {
-    let mut all = Ok(0usize);
-    for (index, vnode) in vnodes.iter_mut().enumerate() {
-        match keep_whole(alloc, folder, vnode, index) {
-            Ok(count) => all = all.map(|kept| kept.saturating_add(count)),
-            Err(fault) => {
-                let name = name_of(index);
-                all = Err(Unreplaced { name, fault });
-            }
-        }
-    }
+) -> Result<usize, Unreplaced>
+    ensures put { IfOk result (λ count. (files : List Put) × AreFilesOf 0 vnodes.old files
+        × MatchOption requests.entry ⊥ (λ held. ArePut F.does folder.old (files ++ record { name = codes "hooks.requests"; bytes = sealed held.now } ∷ []) folder.new)) }
+{
+    let kept = keep_vnodes(alloc, folder, vnodes);
     match keep_requests(alloc, folder, requests) {
-        Ok(()) => all,
+        Ok(()) => kept,
         Err(unreplaced) => Err(unreplaced),
+    }
+}
+
+/// The same of the vnodes alone.
+fn keep_vnodes<F: Folder>(
+    alloc: Global,
+    folder: &mut F,
+    vnodes: &mut [Vnode],
+) -> Result<usize, Unreplaced>
+    ensures put { IfOk result (λ count. (files : List Put) × AreFilesOf 0 vnodes.old files × ArePut F.does folder.old files folder.new) }
+{
+    let mut all = Ok(0usize);
+    for index in 0..vnodes.len() {
+        let came = keep_whole(alloc, folder, &mut vnodes[index], index);
+        all = with_one_more(all, came, index);
+    }
+    all
+}
+
+/// What came of files and of one more, of the vnode with an index: how many keys they have together, or why one of them isn't replaced.
+fn with_one_more(
+    all: Result<usize, Unreplaced>,
+    came: Result<usize, WriteFault>,
+    index: usize,
+) -> Result<usize, Unreplaced>
+    ensures { IsOk result → IsOk all × IsOk came }
+{
+    match came {
+        Ok(count) => Ok(all?.saturating_add(count)),
+        Err(fault) => {
+            let name = name_of(index);
+            Err(Unreplaced { name, fault })
+        }
     }
 }
 
@@ -149,7 +197,9 @@ fn keep_whole<F: Folder>(
     folder: &mut F,
     vnode: &mut Vnode,
     index: usize,
-) -> Result<usize, WriteFault> {
+) -> Result<usize, WriteFault>
+    ensures put { IfOk result (λ count. (bytes : List ℕ) × IsFileOfAll vnode.old count bytes × IsPut F.does folder.old (name_of index) bytes folder.new) }
+{
     let name = name_of(index);
     let beside = format!(in alloc; "{name}.part")?;
     let came = put_whole(alloc, folder, vnode, &beside, name);
@@ -163,7 +213,10 @@ fn put_whole<F: Folder>(
     vnode: &mut Vnode,
     beside: &str,
     name: &str,
-) -> Result<usize, WriteFault> {
+) -> Result<usize, WriteFault>
+    requires { beside.now ≡ part_name name.now }
+    ensures put { IfOk result (λ count. (bytes : List ℕ) × IsFileOfAll vnode.old count bytes × IsPut F.does folder.old name.now bytes folder.new) }
+{
     let mut out = begin(alloc, folder, beside)?;
     let count = write_whole(alloc, vnode, &mut out)?;
     put(folder, whole(out)?, beside, name)?;
@@ -180,6 +233,9 @@ pub fn keep_served<F: Folder, P: Peers, G: Pace>(
     pace: &mut G,
 ) -> Result<usize, Unreplaced>
     ensures asked { (calls : List Call) × AllByRecursion (IsReadAt subject.index) calls × Made P.happens peers.old calls peers.new }
+    ensures put { IfOk result (λ count. (keys : List_ OneKey) × (answers : List OneAnswer) × (bytes : List ℕ) × (length answers ≡ length keys.items) × (count ≡ length keys.items)
+        × Made P.happens peers.old (snapshot_calls subject.index keys answers) peers.new × IsFileOf subject.id (records_read keys.items answers) bytes
+        × IsPut F.does folder.old (name_of subject.index) bytes folder.new) }
 {
     let name = name_of(subject.index);
     let Ok(beside) = format!(in alloc; "{name}.part") else {
@@ -203,6 +259,10 @@ fn put_read<F: Folder, P: Peers, G: Pace>(
     beside: &str,
     name: &str,
 ) -> Result<usize, WriteFault>
+    requires { beside.now ≡ part_name name.now }
+    ensures put { IfOk result (λ count. (keys : List_ OneKey) × (answers : List OneAnswer) × (bytes : List ℕ) × (length answers ≡ length keys.items) × (count ≡ length keys.items)
+        × Made P.happens peers.old (snapshot_calls subject.index keys answers) peers.new × IsFileOf subject.id (records_read keys.items answers) bytes
+        × IsPut F.does folder.old name.now bytes folder.new) }
     ensures asked { (calls : List Call) × AllByRecursion (IsReadAt subject.index) calls × Made P.happens peers.old calls peers.new }
 {
     let mut out = begin(alloc, folder, beside)?;
@@ -216,7 +276,9 @@ fn begin<F: Folder>(
     alloc: Global,
     folder: &mut F,
     name: &str,
-) -> Result<BufWriter<F::File>, WriteFault> {
+) -> Result<BufWriter<F::File>, WriteFault>
+    ensures { IfOk result (λ out. (first : Option (List ℕ)) × F.does folder.old (Begun name.now first) folder.new × Keeps first (writer_contents F.File.contents out)) }
+{
     let file = folder.create(name)?;
     match BufWriter::with_capacity(alloc, BLOCK, file) {
         Ok(out) => Ok(out),
@@ -225,7 +287,9 @@ fn begin<F: Folder>(
 }
 
 /// A file, once all of its blocks are written.
-fn whole<W: Write + Drop>(out: BufWriter<W>) -> Result<W, WriteFault> {
+fn whole<W: Write + Drop>(out: BufWriter<W>) -> Result<W, WriteFault>
+    ensures { IfOk result (λ file. Keeps (writer_contents W.contents out) (W.contents file)) }
+{
     match out.into_inner() {
         Ok(file) => Ok(file),
         Err(_) => Err(WriteFault::Records(SnapshotFault::Unwritten)),
@@ -233,12 +297,9 @@ fn whole<W: Write + Drop>(out: BufWriter<W>) -> Result<W, WriteFault> {
 }
 
 /// Puts a file that is written whole in its place.
-fn put<F: Folder>(
-    folder: &mut F,
-    file: F::File,
-    beside: &str,
-    name: &str,
-) -> Result<(), WriteFault> {
+fn put<F: Folder>(folder: &mut F, file: F::File, beside: &str, name: &str) -> Result<(), WriteFault>
+    ensures { OnOk result (IsNamed F.does folder.old (F.File.contents file) beside.now name.now folder.new) }
+{
     folder.force(file)?;
     folder.rename(beside, name)?;
     folder.force_names()?;

@@ -96,6 +96,8 @@ impl Folder for Memory {
 
     ghost finds = { λ _ _ _. Unit {0} };
 
+    ghost does = { λ _ _ _. Unit {0} };
+
     fn read(&self, alloc: Global, name: &str) -> Result<Option<Vec<u8>>, FileFault> {
         for file in &self.files {
             if file.name.as_str() == name {

@@ -1,4 +1,4 @@
-use Rattle.folder.proofs.Reading.{none_read, read_more}
+use Rattle.folder.proofs.Reading.{read_more}
 use Rattle.folder.proofs.opening.files_in.Goals as goal
 
 pub loop-index-preserved : goal.loop-index-preserved
