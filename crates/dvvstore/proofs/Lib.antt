@@ -1,5 +1,7 @@
+mod Among
 mod SeatSent
 mod Sent
 mod Staying
 mod Taking
 mod Told
+mod Growing

@@ -20,7 +20,7 @@ use Rattle.helpers.specs.contracts.table.Table as Table
 use Rattle.quorum.specs.contracts.hooking.Hooking as Hooking
 use Rattle.vnode_locks.proofs.pass.Pass.TheSendSync as pass
 use Rattle.vnode_locks.specs.declared.pass.Room as room
-use Rattle.dvvstore.specs.contracts.crew.Seat as Seat
+use Rattle.dvvstore.specs.contracts.crew.working.Seat as Seat
 
 -- D, d, f: the closures of this program, and what they may answer
 module _ (D : RattleType) (d : Ghosts D.Denot) (f : Mut ((x : D.Denot) × (d.1.0 x).0.Denot) (List ℕ × (Bor (List ℕ) × (Bor (List ℕ) × Unit {0}))) ℕ) (v : IsSend D) (s : Sends (table_of D.Denot d)) where

@@ -9,8 +9,8 @@ use Rattle.closing.specs.Following.{IsSaidOf}
 use Rattle.keeping.specs.declared.file.KeptFile.{KeptFile}
 use Rattle.loading.specs.Beginnings.{BeginWithFiles, HaveLoaded, fronts_to}
 use Rattle.stamps.specs.declared.view.View.{View}
-use Rattle.dvvstore.specs.declared.crew.Begun.{Begun}
-use Rattle.dvvstore.specs.declared.crew.Served.{Served}
+use Rattle.dvvstore.specs.declared.crew.running.Served.{Served}
+use Rattle.dvvstore.specs.declared.keeper.Begun.{Begun}
 use Rattle.dvvstore.specs.declared.session.Stay.{Stay}
 use Rattle.dvvstore.specs.declared.session.Stay.TheVariants as stay
 use Rattle.dvvstore.specs.declared.session.Tenant.{Tenant}
@@ -42,32 +42,32 @@ HasEnded before after (ended.Unkept followed) = (why : List ℕ) × Appends befo
 -- ---- what a store begins with, and what is left of it
 
 -- the files that a store begins with: none for who comes to a lobby
-abbrev pub files_for : {N : Type 0} → Tenant N → List KeptFile
+abbrev pub files_for : {N F : Type 0} → Tenant N F → List KeptFile
 files_for (tenant.Guest lobby) = []
 files_for (tenant.Keeper keeper) = keeper.held.now.files.items
 
 -- the same of a store that has begun
-abbrev pub files_of : {N B : Type 0} → Stay N B → List KeptFile
+abbrev pub files_of : {N F B : Type 0} → Stay N F B → List KeptFile
 files_of (stay.Guest lobby) = []
 files_of (stay.Keeper keeper begun) = keeper.held.now.files.items
 
 -- how many passes there are besides those of workers: one that the follower has, and one more by which a store that is kept begins
-abbrev pub passes_for : {N : Type 0} → Tenant N → ℕ
+abbrev pub passes_for : {N F : Type 0} → Tenant N F → ℕ
 passes_for (tenant.Guest lobby) = 1
 passes_for (tenant.Keeper keeper) = 2
 
 -- the same of a store that has begun
-abbrev pub passes_of : {N B : Type 0} → Stay N B → ℕ
+abbrev pub passes_of : {N F B : Type 0} → Stay N F B → ℕ
 passes_of (stay.Guest lobby) = 1
 passes_of (stay.Keeper keeper begun) = 2
 
 -- the three vnodes, numbered from the first on, have taken over what these files hold, each what is its own by index, each record once and in order; the pass
 -- was told of that, and of nothing else since; and their fronts are the numbers of these records
 abbrev pub HasBegunWith : {B : Type 0} → ℕ → List KeptFile → Begun B → Type 0
-HasBegunWith first files begun = (fresh : View) × HaveLoaded fresh begun.pass first files 3 × (begun.fronts.items ≡ fronts_to files 3)
+HasBegunWith first files begun = (fresh : View) × HaveLoaded fresh begun.pass first files 3 × (begun.fronts.items ≡ fronts_to files 3) × (begun.first ≡ first)
 
 -- the same, where the store is kept
-abbrev pub HasBegunRight : {N B : Type 0} → ℕ → Stay N B → Type 0
+abbrev pub HasBegunRight : {N F B : Type 0} → ℕ → Stay N F B → Type 0
 HasBegunRight first (stay.Guest lobby) = Unit {0}
 HasBegunRight first (stay.Keeper keeper begun) = HasBegunWith first keeper.held.now.files.items begun
 

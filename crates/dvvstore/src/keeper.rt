@@ -7,11 +7,12 @@ ghost use Rattle.loading.specs.Beginnings.{HaveLoaded, fronts_to};
 ghost use Rattle.dvvstore.specs.Keeping.{HasBegunWith, Leaves, Tells};
 
 use crate::crew;
-use crate::crew::{Begun, Lookout, Seat};
+use crate::crew::{Lookout, Seat};
 use crate::reasons::listen;
+use crate::saver::Saver;
 use crate::session::Left;
 use closing::Spot;
-use folder::{HOOKS, Held};
+use folder::{Folder, HOOKS, Held};
 use helpers::Sigs;
 use hooks::{HookChanges, Hooks};
 use keeping::KeptFile;
@@ -65,19 +66,39 @@ impl From<io::Error> for Unbegun {
     }
 }
 
-/// What a store begins with that a folder keeps, and where it answers.
+/// What a store has begun with that a folder keeps.
 #[derive(Drop)]
-pub struct Keeper<'a, R> {
+pub struct Begun<B: Room> {
+    /// The pass by which that was brought to its vnodes.
+    pub pass: Pass<B>,
+    /// So many of the first entries of each vnode were there then.
+    pub fronts: Vec<usize>,
+    /// The identifier of the first vnode.
+    pub first: u32,
+}
+
+/// Where a store answers.
+#[derive(Drop)]
+pub struct Door<'a, N> {
     /// Where the address is bound.
-    pub rt: &'a R,
-    /// What the folder held.
-    pub held: &'a Held,
+    pub rt: &'a N,
     /// The address.
     pub addr: &'a str,
     /// How many connections may come in all; any number where that isn't said.
     pub count: Option<u32>,
-    /// Where the server is told to stop.
+    /// Where the server is told what to do.
     pub input: Stdin,
+}
+
+/// What a store begins with that a folder keeps, and where it answers.
+#[derive(Drop)]
+pub struct Keeper<'a, N, F> {
+    /// The folder.
+    pub folder: &'a mut F,
+    /// What it held.
+    pub held: &'a Held,
+    /// Where the store answers.
+    pub door: Door<'a, N>,
 }
 
 /// Has hooks begin with the requests that the folder held, binds the address, and has the workers of the seats answer the connections that
@@ -87,6 +108,7 @@ pub fn live<
     H: Hooks + HookChanges + Send + Drop,
     R: Threads + Wait + Sync,
     N: Net<Listener = TcpListener, Stream = TcpStream>,
+    F: Folder + Send,
     O: Write,
 >(
     alloc: Global,
@@ -95,7 +117,7 @@ pub fn live<
     mut seats: Vec<Seat<B, H>>,
     lookout: Lookout<B>,
     begun: Begun<B>,
-    keeper: Keeper<'_, N>,
+    keeper: Keeper<'_, N, F>,
     out: &mut O,
 ) -> Result<Left, Unbegun>
     requires some { 0 < vec_len seats }
@@ -119,14 +141,29 @@ pub fn live<
     )?;
     seats.push_reserved(seat);
     let Lookout { watch, err, .. } = lookout;
-    let lobby = open_lobby(alloc, keeper, seats.len(), err, out)?;
+    let Keeper { folder, held, door } = keeper;
+    let lobby = open_lobby(alloc, door, held, seats.len(), err, out)?;
     let lookout = Lookout {
         watch,
         requests,
         err,
     };
     loads_stand();
-    match crew::keep(alloc, rt, cluster, seats, &lobby, lookout, begun) {
+    let Begun {
+        pass,
+        fronts,
+        first,
+    } = begun;
+    let saver = Saver {
+        alloc,
+        folder,
+        first,
+        every: held.settings.every,
+        err,
+    };
+    match crew::keep(
+        alloc, rt, cluster, seats, &lobby, lookout, &fronts, pass, saver,
+    ) {
         Ok(served) => Ok(Left::Kept(served)),
         Err(AllocError) => Ok(Left::Lost),
     }
@@ -136,27 +173,27 @@ pub fn live<
 /// the output can't be written, the system has no descriptor for a worker, or memory was refused.
 fn open_lobby<N: Net<Listener = TcpListener, Stream = TcpStream>, O: Write>(
     alloc: Global,
-    keeper: Keeper<'_, N>,
+    door: Door<'_, N>,
+    held: &Held,
     workers: usize,
     err: Stderr,
     out: &mut O,
 ) -> io::Result<Lobby>
     ensures told { OnOk result ((loaded : ℕ) × (bound : List ℕ) × Appends (O.contents out.old) (O.contents out.new) (begun loaded bound)) }
 {
-    let Keeper {
+    let Door {
         rt,
-        held,
         addr,
         count,
         input,
-    } = keeper;
+    } = door;
     let loaded = loaded_in(&held.files);
     writeln!(out, "loaded {loaded}")?;
     let setup = Setup {
         listener: listen(rt, addr, err, out)?,
         count,
         input,
-        makes_snapshots: false,
+        makes_snapshots: true,
         err,
     };
     open(alloc, rt, workers, setup)

@@ -5,9 +5,9 @@ mod crew;
 mod disk;
 mod keeper;
 mod network;
-mod pace;
+mod nowhere;
 mod reasons;
-mod reporter;
+mod saver;
 mod session;
 mod start;
 mod system_folder;
@@ -71,6 +71,7 @@ fn main(rt: HostRuntime) -> io::Result<ExitCode> {
     };
     let mut network = Network {
         rt: &rt,
+        files: &rt,
         input: rt.stdin(),
         err: rt.stderr(),
     };

@@ -6,7 +6,8 @@ ghost use Rattle.commands.specs.Command.{HasRefused};
 ghost use Rattle.dvvstore.specs.Keeping.{HasEnded};
 
 use crate::crew::Served;
-use crate::keeper::{Keeper, Unbegun};
+use crate::keeper::{Door, Keeper, Unbegun};
+use crate::nowhere::Nowhere;
 use crate::reasons::listen;
 use crate::session;
 use crate::session::{Left, Making, Tenant};
@@ -20,14 +21,14 @@ use helpers::Table;
 use listener::{Setup, open};
 use std::alloc::Global;
 use std::fmt::Display;
+use std::io;
 use std::io::{ErrorKind, Stderr, Stdin, Write};
 use std::net::{Net, TcpListener, TcpStream};
 use std::random::RandomSource;
-use std::rt::{Clock, Files};
+use std::rt::Clock;
 use std::sync::Wait;
 use std::thread::{Parker, Threads};
 use std::time::Duration;
-use std::{fs, io};
 use vnode::Seed;
 
 /// What is said where memory is refused for the store.
@@ -40,6 +41,8 @@ const IDENTIFIERS: u32 = 65_536;
 #[derive(Drop)]
 pub struct Network<'a, R> {
     pub rt: &'a R,
+    /// Where folders are.
+    pub files: &'a HostRuntime,
     /// Where the server is told to stop.
     pub input: Stdin,
     /// Where is told what can't wait.
@@ -72,7 +75,6 @@ impl<R: Clock + Wait> Network<'_, R> {
 
 impl<
     R: Clock
-        + Files<File = fs::File>
         + Threads
         + Wait
         + Net<Listener = TcpListener, Stream = TcpStream>
@@ -114,7 +116,7 @@ impl<
             first: u32::from(self.begin()) * IDENTIFIERS,
             seed,
         };
-        let tenant: Tenant<'_, R> = Tenant::Guest(&lobby);
+        let tenant: Tenant<'_, R, Nowhere> = Tenant::Guest(&lobby);
         match session::live(
             alloc,
             self.rt,
@@ -141,7 +143,7 @@ impl<
             return Err(Unserved::NoMemory);
         }
         let seed = Seed::random(self.rt)?;
-        let mut folder = match SystemFolder::take(self.rt, alloc, site.folder) {
+        let mut folder = match SystemFolder::take(self.files, alloc, site.folder) {
             Ok(folder) => folder,
             Err(why) => return Err(refused(alloc, out, &why)),
         };
@@ -155,11 +157,14 @@ impl<
             seed,
         };
         let keeper = Keeper {
-            rt: self.rt,
+            folder: &mut folder,
             held: &opened.held,
-            addr: site.addr,
-            count: site.count,
-            input: self.input,
+            door: Door {
+                rt: self.rt,
+                addr: site.addr,
+                count: site.count,
+                input: self.input,
+            },
         };
         let tenant = Tenant::Keeper(keeper);
         match session::live(alloc, self.rt, making, more, tenant, self.err, out) {

@@ -5,21 +5,23 @@ ghost use Rattle.std.specs.Io.KnownBytes.{Appends};
 
 use mio::net::TcpListener;
 use std::io;
-use std::io::{Eprint, Stderr, Write};
+use std::io::{Eprint, ErrorKind, Stderr, Write};
 use std::net::Net;
 
-/// What came of an operation on what has a name. Where it failed, why is told first.
+/// What came of an operation on what has a name. Where it failed, why is told first; want of memory isn't told under the name.
 pub fn reasoned<T>(err: Stderr, name: &str, came: io::Result<T>) -> io::Result<T>
     ensures { result ≡ came }
 {
     if let Err(error) = &came {
-        // What can't be told is lost.
-        let _ = err.eprintln(format_args!("{name}: {error}"));
+        if error.kind() != ErrorKind::OutOfMemory {
+            // What can't be told is lost.
+            let _ = err.eprintln(format_args!("{name}: {error}"));
+        }
     }
     came
 }
 
-/// Binds an address as [`listener::listen`] does. Where it can't be bound, or the output can't be written, why is told first.
+/// Binds an address as [`listener::listen`] does. Where it can't be bound, why is told first.
 pub fn listen<R: Net, O: Write>(
     rt: &R,
     addr: &str,
@@ -29,5 +31,20 @@ pub fn listen<R: Net, O: Write>(
     ensures { OnOk result ((bound : List ℕ) × Appends (O.contents out.old) (O.contents out.new) (codes "listening " ++ bound ++ 10 ∷ [])) }
 {
     let came = listener::listen(rt, addr, out);
-    reasoned(err, addr, came)
+    if is_of_output(&came) {
+        came
+    } else {
+        reasoned(err, addr, came)
+    }
+}
+
+/// Whether an operation failed as an output does that can't be written.
+fn is_of_output<T>(came: &io::Result<T>) -> bool {
+    match came {
+        Ok(_) => false,
+        Err(error) => matches!(
+            error.kind(),
+            ErrorKind::BrokenPipe | ErrorKind::StorageFull | ErrorKind::WriteZero
+        ),
+    }
 }

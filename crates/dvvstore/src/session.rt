@@ -7,11 +7,12 @@ ghost use Rattle.vnode_locks.specs.Calls.{pass_view};
 ghost use Rattle.dvvstore.specs.Crews.{AreAllPlaced};
 ghost use Rattle.dvvstore.specs.Keeping.{HasBegunRight, HasBegunWith, Leaves, Tells, files_for, files_of, passes_for, passes_of};
 
-use crate::crew::{Begun, Lookout, Seat, Served};
-use crate::keeper::{Keeper, Unbegun};
+use crate::crew::{Lookout, Seat, Served};
+use crate::keeper::{Begun, Keeper, Unbegun};
 use crate::{crew, keeper};
 use closing::{Spot, Watch};
 use findings::Followed;
+use folder::Folder;
 use fronts::Naming;
 use helpers::Table;
 use hooks::{HookChanges, Hooks};
@@ -45,14 +46,14 @@ pub struct Making {
 
 /// For whom a store is opened.
 #[derive(Drop)]
-pub enum Tenant<'a, N> {
+pub enum Tenant<'a, N, F> {
     /// For who comes to a lobby: the store is forgotten then.
     Guest(&'a Lobby),
     /// For a folder that keeps it.
-    Keeper(Keeper<'a, N>),
+    Keeper(Keeper<'a, N, F>),
 }
 
-impl<N> Tenant<'_, N> {
+impl<N, F> Tenant<'_, N, F> {
     /// How many passes there are besides those of workers: the follower's, and one more by which a store that is kept begins.
     fn passes(&self) -> usize
         ensures exact { result ≡ passes_for self.now }
@@ -67,11 +68,11 @@ impl<N> Tenant<'_, N> {
 
 /// For whom a store has begun, and with what.
 #[derive(Drop)]
-pub enum Stay<'a, N, B: Room> {
+pub enum Stay<'a, N, F, B: Room> {
     /// For who comes to a lobby, with nothing.
     Guest(&'a Lobby),
     /// For a folder, with what that held.
-    Keeper(Keeper<'a, N>, Begun<B>),
+    Keeper(Keeper<'a, N, F>, Begun<B>),
 }
 
 /// What is left of a store.
@@ -88,12 +89,17 @@ pub enum Left {
 /// Opens vnodes numbered from the first identifier on, and hooks that may call the helpers of the tables, and has a worker for each table
 /// answer the connections that come, while what they do is followed; what can't wait is told on `err`. Answers what is left of the store:
 /// that of a folder has begun with what the folder held. `NoMemory` where memory was refused before anything was told on `out`.
-pub fn live<R: Threads + Wait + Sync, N: Net<Listener = TcpListener, Stream = TcpStream>, O: Write>(
+pub fn live<
+    R: Threads + Wait + Sync,
+    N: Net<Listener = TcpListener, Stream = TcpStream>,
+    F: Folder + Send,
+    O: Write,
+>(
     alloc: Global,
     rt: &R,
     making: Making,
     tables: Vec<Table>,
-    tenant: Tenant<'_, N>,
+    tenant: Tenant<'_, N, F>,
     err: Stderr,
     out: &mut O,
 ) -> Result<Left, Unbegun>
@@ -109,7 +115,7 @@ pub fn live<R: Threads + Wait + Sync, N: Net<Listener = TcpListener, Stream = Tc
         passes: tables.len() + tenant.passes(),
     };
     match Stamps::new(alloc, &size) {
-        Ok((stamps, card)) => over_stamps::<Brand, R, N, O>(
+        Ok((stamps, card)) => over_stamps::<Brand, R, N, F, O>(
             alloc, rt, making, stamps, card, tables, tenant, err, out,
         ),
         Err(_) => Err(Unbegun::NoMemory),
@@ -121,6 +127,7 @@ fn over_stamps<
     B: Room + Spot + Send + Sync,
     R: Threads + Wait + Sync,
     N: Net<Listener = TcpListener, Stream = TcpStream>,
+    F: Folder + Send,
     O: Write,
 >(
     alloc: Global,
@@ -129,7 +136,7 @@ fn over_stamps<
     stamps: Stamps,
     card: Card,
     tables: Vec<Table>,
-    tenant: Tenant<'_, N>,
+    tenant: Tenant<'_, N, F>,
     err: Stderr,
     out: &mut O,
 ) -> Result<Left, Unbegun>
@@ -149,7 +156,7 @@ fn over_stamps<
     let (cluster, mut passes) = Cluster::<B>::open_seeded(
         alloc, seed, stamps, card, first, vnodes, passes,
     )?;
-    let (stay, fronts) = begin(alloc, rt, &cluster, &mut passes, tenant)?;
+    let (stay, fronts) = begin(alloc, rt, &cluster, first, &mut passes, tenant)?;
     let watch = Watch::new_seeded(alloc, seed, &mut passes, first, vnodes, fronts)?;
     let requests = Requests::none(alloc);
     let lookout = Lookout {
@@ -157,7 +164,7 @@ fn over_stamps<
         requests,
         err,
     };
-    over_cluster::<B, Brand, R, N, O>(
+    over_cluster::<B, Brand, R, N, F, O>(
         alloc,
         rt,
         cluster,
@@ -172,14 +179,16 @@ fn over_stamps<
 
 /// Has the vnodes take over what they begin with, by one of the passes where a folder held something. Answers for whom they have begun, and from
 /// which fronts what they do is followed.
-fn begin<'a, B: Room, R: Wait, N>(
+fn begin<'a, B: Room, R: Wait, N, F>(
     alloc: Global,
     rt: &R,
     cluster: &Cluster<B>,
+    first: u32,
     passes: &mut Vec<Pass<B>>,
-    tenant: Tenant<'a, N>,
-) -> Result<(Stay<'a, N, B>, Vec<usize>), Unbegun>
+    tenant: Tenant<'a, N, F>,
+) -> Result<(Stay<'a, N, F, B>, Vec<usize>), Unbegun>
     requires vnodes { cluster.now.vnodes ≡ 3 }
+    requires first { first ≡ cluster.now.first }
     requires some { 2 ≤ vec_len passes.old }
     requires fresh { All (λ p. p ≡ pass_view 0 []) passes.old.items }
     ensures fresh { IfOk result (λ begun. All (λ p. p ≡ pass_view 0 []) passes.new.items) }
@@ -195,24 +204,30 @@ fn begin<'a, B: Room, R: Wait, N>(
     let Some(pass) = passes.pop() else {
         unreachable!();
     };
-    let begun = begin_kept(alloc, rt, cluster, pass, &keeper)?;
+    let begun = begin_kept(alloc, rt, cluster, first, pass, &keeper)?;
     let fronts = begun.fronts.as_slice().to_vec(alloc)?;
     Ok((Stay::Keeper(keeper, begun), fronts))
 }
 
 /// Has the vnodes take over what a folder held, by a pass.
-fn begin_kept<B: Room, R: Wait, N>(
+fn begin_kept<B: Room, R: Wait, N, F>(
     alloc: Global,
     rt: &R,
     cluster: &Cluster<B>,
+    first: u32,
     mut pass: Pass<B>,
-    keeper: &Keeper<'_, N>,
+    keeper: &Keeper<'_, N, F>,
 ) -> Result<Begun<B>, Unbegun>
     requires vnodes { cluster.now.vnodes ≡ 3 }
+    requires first { first ≡ cluster.now.first }
     ensures { IfOk result (HasBegunWith cluster.now.first keeper.now.held.now.files.items) }
 {
     let fronts = keeper::begin(alloc, rt, cluster, &mut pass, &keeper.held.files)?;
-    Ok(Begun { pass, fronts })
+    Ok(Begun {
+        pass,
+        fronts,
+        first,
+    })
 }
 
 /// The same, over a cluster and the empty list of changes of hooks.
@@ -221,6 +236,7 @@ fn over_cluster<
     J: Naming + Send + Sync,
     R: Threads + Wait + Sync,
     N: Net<Listener = TcpListener, Stream = TcpStream>,
+    F: Folder + Send,
     O: Write,
 >(
     alloc: Global,
@@ -230,7 +246,7 @@ fn over_cluster<
     tables: Vec<Table>,
     opening: Opening,
     lookout: Lookout<B>,
-    stay: Stay<'_, N, B>,
+    stay: Stay<'_, N, F, B>,
     out: &mut O,
 ) -> Result<Left, Unbegun>
     requires list { list_of opening ≡ J.book }
@@ -257,6 +273,7 @@ fn over_ground<
     T: Rack<J> + Drop + Send + Sync,
     R: Threads + Wait + Sync,
     N: Net<Listener = TcpListener, Stream = TcpStream>,
+    F: Folder + Send,
     O: Write,
 >(
     alloc: Global,
@@ -266,7 +283,7 @@ fn over_ground<
     tables: Vec<Table>,
     ground: Ground<J, T>,
     lookout: Lookout<B>,
-    stay: Stay<'_, N, B>,
+    stay: Stay<'_, N, F, B>,
     out: &mut O,
 ) -> Result<Left, Unbegun>
     requires ground { (ground.front ≡ []) × (T.state ground.first ≡ []) × (T.state ground.second ≡ []) }
@@ -297,6 +314,7 @@ fn over_hooks<
     T: Rack<J> + Drop + Send + Sync,
     R: Threads + Wait + Sync,
     N: Net<Listener = TcpListener, Stream = TcpStream>,
+    F: Folder + Send,
     O: Write,
 >(
     alloc: Global,
@@ -308,7 +326,7 @@ fn over_hooks<
     installer: &'a Mutex<Installer<J, T, &'r R>>,
     readers: Vec<HookReader<J, T>>,
     lookout: Lookout<B>,
-    stay: Stay<'_, N, B>,
+    stay: Stay<'_, N, F, B>,
     out: &mut O,
 ) -> Result<Left, Unbegun>
     requires some { 0 < vec_len tables }
@@ -331,6 +349,7 @@ fn over_seats<
     H: Hooks + HookChanges + Send + Drop,
     R: Threads + Wait + Sync,
     N: Net<Listener = TcpListener, Stream = TcpStream>,
+    F: Folder + Send,
     O: Write,
 >(
     alloc: Global,
@@ -338,7 +357,7 @@ fn over_seats<
     cluster: Cluster<B>,
     seats: Vec<Seat<B, H>>,
     lookout: Lookout<B>,
-    stay: Stay<'_, N, B>,
+    stay: Stay<'_, N, F, B>,
     out: &mut O,
 ) -> Result<Left, Unbegun>
     requires some { 0 < vec_len seats }

@@ -3,7 +3,7 @@
 use folder::{FileFault, Folder};
 use std::alloc::{AllocError, Global};
 use std::io::{ErrorKind, Read as _};
-use std::{fs, io, rt};
+use std::{fs, io};
 use thiserror::Error;
 
 /// The file that a process locks while the folder is its own.
@@ -33,18 +33,22 @@ impl From<io::Error> for Untaken {
 }
 
 /// A folder that this process has for itself as long as this value lives: its file `lock` is locked, which the system undoes however the
-/// process ends.
+/// process ends. A thread may be handed it, so the system is no parameter of it.
 #[derive(Drop)]
-pub struct SystemFolder<'a, R> {
-    rt: &'a R,
+pub struct SystemFolder<'a> {
+    rt: &'a HostRuntime,
     alloc: Global,
     path: &'a str,
     lock: fs::File,
 }
 
-impl<'a, R: rt::Files<File = fs::File>> SystemFolder<'a, R> {
+impl<'a> SystemFolder<'a> {
     /// Takes the folder with a path, which is made where it is missing.
-    pub fn take(rt: &'a R, alloc: Global, path: &'a str) -> Result<SystemFolder<'a, R>, Untaken> {
+    pub fn take(
+        rt: &'a HostRuntime,
+        alloc: Global,
+        path: &'a str,
+    ) -> Result<SystemFolder<'a>, Untaken> {
         fs::create_dir_all(rt, path)?;
         let lock = fs::File::create(rt, format!(in alloc; "{path}/{LOCK}")?.as_str())?;
         match lock.try_lock() {
@@ -66,11 +70,13 @@ impl<'a, R: rt::Files<File = fs::File>> SystemFolder<'a, R> {
     }
 }
 
-impl<R: rt::Files<File = fs::File>> Folder for SystemFolder<'_, R> {
+impl Folder for SystemFolder<'_> {
     type File = fs::File;
 
     // Nothing is known of the system's files.
     ghost finds = { λ _ _ _. Unit {0} };
+
+    ghost does = { λ _ _ _. Unit {0} };
 
     fn read(&self, alloc: Global, name: &str) -> Result<Option<Vec<u8>>, FileFault> {
         let path = self.path_of(name)?;

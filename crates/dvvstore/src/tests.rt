@@ -3,6 +3,7 @@
 ghost use Rattle.std.specs.Prelude.{◌≡◌, IfOk, vec_len};
 
 use crate::keeper::Unbegun;
+use crate::nowhere::Nowhere;
 use crate::session;
 use crate::session::{Left, Making, Tenant};
 use code_parts::expect;
@@ -188,7 +189,7 @@ fn two_workers(rt: HostRuntime) -> Result<(), Fail> {
                     first: 458_752,
                     seed: Seed::fixed(),
                 };
-                let tenant: Tenant<'_, HostRuntime> = Tenant::Guest(hall);
+                let tenant: Tenant<'_, HostRuntime, Nowhere> = Tenant::Guest(hall);
                 said_of(session::live(alloc, lent, making, tables, tenant, err, &mut io::sink()))
             },
         );

@@ -14,7 +14,7 @@ const STOP: &[u8] = b"stop";
 const SNAPSHOT: &[u8] = b"snapshot";
 
 /// No line that says something is longer.
-const LONGEST: usize = 8;
+const LONGEST: usize = SNAPSHOT.len();
 
 /// So many bytes are read at a time.
 const ROOM: usize = 256;

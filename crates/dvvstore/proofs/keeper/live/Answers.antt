@@ -1,4 +1,4 @@
-use Rattle.std.proofs.Common.{List, ℕ, subst}
+use Rattle.std.proofs.Common.{◌∙◌, List, ℕ, subst}
 use Rattle.closing.specs.Following.{IsSaidOf}
 use Rattle.dvvstore.proofs.keeper.live.Goals as goal
 
@@ -8,5 +8,5 @@ returns-in-Ok-clause-kept g c =
     let kept = c.in-Ok.ensures.kept in
     let closed = c.in-Ok.served.closed in (
       c.loads_stand.ensures kept.0 kept.1 begun.0 c.args.begun.pass closed.vnodes.items c.args.cluster.first c.args.keeper.held.now.files.items 3 kept.2 begun.1,
-      subst (λ (fs : List ℕ). IsSaidOf fs closed.vnodes.items closed.said) begun.2 c.in-Ok.ensures.said,
+      subst (λ (fs : List ℕ). IsSaidOf fs closed.vnodes.items closed.said) (c.deref-2.ensures.value ∙ begun.2) c.in-Ok.ensures.said,
     )

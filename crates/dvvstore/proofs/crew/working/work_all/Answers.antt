@@ -11,9 +11,9 @@ use Rattle.std.proofs.alloc.Global.TheSendSync as heap
 use Rattle.listener.proofs.Sent.{lobby_sync}
 use Rattle.dvvstore.proofs.Sent.{shared_sync}
 use Rattle.dvvstore.proofs.SeatSent.{seat_send}
-use Rattle.dvvstore.specs.contracts.crew.work_all as work_all
+use Rattle.dvvstore.specs.contracts.crew.working.work_all as work_all
 use Rattle.pool.proofs.Sent.{cluster_sync}
-use Rattle.dvvstore.proofs.crew.work_all.Goals as goal
+use Rattle.dvvstore.proofs.crew.working.work_all.Goals as goal
 
 -- five captures
 captures_sync : (ν : Sym) (A B C D E : RattleType) → IsSync A → IsSync B → IsSync C → IsSync D → IsSync E → IsSync (TupleAt ν (A ∷ B ∷ C ∷ D ∷ E ∷ []))

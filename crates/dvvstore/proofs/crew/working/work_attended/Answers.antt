@@ -8,7 +8,7 @@ use Rattle.std.proofs.alloc.Global.TheSendSync as heap
 use Rattle.listener.proofs.Sent.{lobby_sync}
 use Rattle.pool.proofs.Sent.{cluster_sync}
 use Rattle.dvvstore.proofs.Sent.{shared_sync}
-use Rattle.dvvstore.proofs.crew.run.Goals as goal
+use Rattle.dvvstore.proofs.crew.working.work_attended.Goals as goal
 
 -- five captures
 captures_send : (ν : Sym) (A B C D E : RattleType) → IsSend A → IsSend B → IsSend C → IsSend D → IsSend E → IsSend (TupleAt ν (A ∷ B ∷ C ∷ D ∷ E ∷ []))

@@ -1,0 +1,53 @@
+//! What somebody looks at who does something beside the workers.
+
+use kept_hooks::Requests;
+use listener::Lobby;
+use std::alloc::{AllocError, Global};
+use std::sync::atomic::AtomicBool;
+use std::sync::atomic::Ordering::SeqCst;
+use std::sync::{Mutex, Wait};
+use std::thread::Parker;
+use std::time::Duration;
+
+/// What somebody looks at who does something beside the workers.
+#[derive(Clone, Copy)]
+pub struct Signs<'a> {
+    /// Where what is said to the server is heard.
+    pub lobby: &'a Lobby,
+    pub(crate) requests: &'a Mutex<Requests>,
+    pub(crate) over: &'a AtomicBool,
+    pub(crate) bell: &'a Parker,
+    pub(crate) written: &'a AtomicBool,
+}
+
+impl Signs<'_> {
+    /// Whether all workers have ended.
+    pub fn is_over(&self) -> bool {
+        self.over.load(SeqCst)
+    }
+
+    /// Waits at most so long, and no longer than until all workers have ended.
+    pub fn wait<R: Wait>(&self, rt: &R, most: Duration) {
+        if !self.is_over() {
+            self.bell.park_timeout(rt, most);
+        }
+    }
+
+    /// Whether something was written, as far as is noted.
+    pub fn is_written(&self) -> bool {
+        self.written.load(SeqCst)
+    }
+
+    /// Notes that something was written, or that all that was is known: what is written from now on is noted again.
+    pub fn note_written(&self, written: bool) {
+        self.written.store(written, SeqCst);
+    }
+
+    /// A copy of the requests that changed the hooks so far. None where one of them is lacking.
+    pub fn requests<R: Wait>(&self, alloc: Global, rt: &R) -> Result<Option<Vec<u8>>, AllocError> {
+        match self.requests.lock(rt).bytes() {
+            Some(bytes) => Ok(Some(bytes.to_vec(alloc)?)),
+            None => Ok(None),
+        }
+    }
+}

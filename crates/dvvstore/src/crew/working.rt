@@ -1,0 +1,387 @@
+//! Workers, and a thread that hands them connections and follows what they do.
+
+ghost use Rattle.std.specs.Prelude.{◌≡◌, IfOk, vec_len};
+ghost use Rattle.sockets.specs.Work.{Stays};
+
+use crate::crew::pace::Pace;
+use crate::crew::reporter::{Aloud, Reporter};
+use crate::crew::signs::Signs;
+use closing::{Spot, Watch};
+use hooks::{HookChanges, Hooks};
+use httpfront::Backend;
+use kept_hooks::{Recorder, Requests};
+use listener::{Lobby, Post, Timer};
+use place::Placement;
+use pool::{Cluster, Gate, Pass, Room};
+use quorum::Hooking;
+use sockets::{Orders, Stance, Worker};
+use std::alloc::{AllocError, Global};
+use std::io::Stderr;
+use std::sync::atomic::AtomicBool;
+use std::sync::atomic::Ordering::SeqCst;
+use std::sync::{Mutex, Wait};
+use std::thread;
+use std::thread::{Parker, Threads};
+use std::time::Duration;
+use store::Store;
+use troubles::{Noted, Trouble};
+use workers::PassPeers;
+
+/// How long the thread that follows waits for a connection before it follows again, in milliseconds.
+const TICK: u64 = 20;
+
+/// So many stamps are followed in one turn. Connections that come meanwhile wait.
+const PIECE: u64 = 1_024;
+
+/// How long a worker waits at the most for something to do, in milliseconds.
+const LONGEST_WAIT: u64 = 500;
+
+/// How long it does where it also accepts and follows, or reads nothing, in milliseconds.
+const NAP: u64 = 5;
+
+/// A gate that lets every call through.
+#[derive(Clone, Copy, Debug)]
+struct Open;
+
+impl Gate for Open {
+    fn told(&self, _vnode: usize) {}
+}
+
+/// What one worker has.
+#[derive(Drop)]
+pub struct Seat<B: Room, H> {
+    /// What it calls the vnodes with.
+    pub pass: Pass<B>,
+    /// Where it looks hooks up, and the helpers that they may call.
+    pub hooking: Hooking<H>,
+    /// Where keys stand among the vnodes.
+    pub placement: Placement,
+    /// The place of its worker among the lobby's.
+    pub place: usize,
+}
+
+/// A follower, and where it tells what can't wait.
+#[derive(Drop)]
+pub struct Lookout<B: Room + Spot> {
+    /// The follower.
+    pub watch: Watch<B>,
+    /// The requests that changed the hooks so far, if they are written down.
+    pub requests: Requests,
+    /// Where it tells.
+    pub err: Stderr,
+}
+
+/// What the workers and the thread that follows share.
+#[derive(Drop)]
+pub(crate) struct Shared<B: Room + Spot> {
+    /// The follower of what they do.
+    pub(crate) watch: Mutex<Watch<B>>,
+    /// Where requests that change the hooks are written down.
+    pub(crate) requests: Mutex<Requests>,
+    /// Where is told what can't wait.
+    err: Stderr,
+    /// Where is told what goes wrong while requests are answered.
+    reporter: Reporter,
+    /// Whether workers rest, so that what they did can be followed.
+    is_behind: AtomicBool,
+    /// Whether a thread has begun that accepts and follows, so that no worker has to.
+    is_followed: AtomicBool,
+    /// Whether all workers have ended.
+    over: AtomicBool,
+    /// What wakes who does something beside the workers, once they have ended.
+    bell: Parker,
+    /// Whether something was written since who does something beside the workers looked last.
+    written: AtomicBool,
+}
+
+impl<B: Room + Spot> Shared<B> {
+    pub(crate) fn new(lookout: Lookout<B>) -> Shared<B> {
+        let Lookout {
+            watch,
+            requests,
+            err,
+        } = lookout;
+        Shared {
+            watch: Mutex::new(watch),
+            requests: Mutex::new(requests),
+            err,
+            reporter: Reporter::new(err),
+            is_behind: AtomicBool::new(false),
+            is_followed: AtomicBool::new(false),
+            over: AtomicBool::new(false),
+            bell: Parker::new(),
+            written: AtomicBool::new(false),
+        }
+    }
+
+    /// What somebody looks at who does something beside the workers of a lobby.
+    pub(crate) fn signs<'a>(&'a self, lobby: &'a Lobby) -> Signs<'a> {
+        Signs {
+            lobby,
+            requests: &self.requests,
+            over: &self.over,
+            bell: &self.bell,
+            written: &self.written,
+        }
+    }
+}
+
+/// Where workers work: the vnodes that they call, and what they share.
+#[derive(Drop)]
+struct Floor<'a, B: Room + Spot> {
+    alloc: Global,
+    cluster: &'a Cluster<B>,
+    lobby: &'a Lobby,
+    shared: &'a Shared<B>,
+    ghost first: { cluster.now.first ≡ B.first },
+}
+
+/// Has the vnodes hand out what they did, and follows so many stamps of it. Whether there is more to follow. Workers rest from then on,
+/// or no longer, as the pace says.
+fn follow<B: Room + Spot, R: Wait>(
+    rt: &R,
+    floor: &Floor<'_, B>,
+    pace: &mut Pace,
+    stamps: u64,
+) -> bool {
+    let shared = floor.shared;
+    let alarm = Aloud(shared.err);
+    let mut watch = shared.watch.lock(rt);
+    watch.hear_all(floor.alloc, rt, floor.cluster, &alarm);
+    let is_more = watch.follow_some(stamps, &alarm);
+    let rests = pace.look(&watch, is_more);
+    drop(watch);
+    if shared.is_behind.swap(rests, SeqCst) && !rests {
+        floor.lobby.roster.wake_all();
+    }
+    is_more
+}
+
+/// Hands out the connections that come, and follows what workers do, turn by turn, until all workers have ended.
+fn attend<B: Room + Spot, R: Wait>(rt: &R, floor: &Floor<'_, B>) {
+    floor.shared.is_followed.store(true, SeqCst);
+    let mut pace = Pace::new();
+    let mut is_more = false;
+    for _ in rt.forever() {
+        if floor.shared.over.load(SeqCst) {
+            break;
+        }
+        let most = if is_more { 0 } else { TICK };
+        floor.lobby.accept(rt, Duration::from_millis(most));
+        is_more = follow(rt, floor, &mut pace, PIECE);
+    }
+}
+
+/// Tells what went wrong in a store, and how many connections ended for want of memory.
+fn tell<R: Wait>(rt: &R, reporter: &Reporter, noted: &Noted, lacks: u32, now: u64) {
+    reporter.tell(rt, Trouble::NoMemory, u64::from(lacks), None, now);
+    for note in noted.iter() {
+        let bucket = note.bucket.as_ref().map(|it| it.name());
+        reporter.tell(rt, note.trouble, note.count, bucket, now);
+    }
+}
+
+/// What a worker goes by from turn to turn.
+#[derive(Clone, Copy)]
+struct Shift {
+    timer: Timer,
+    pace: Pace,
+    /// Whether its next turn may be its last.
+    is_last: bool,
+}
+
+/// What a turn of a worker came to.
+#[derive(Clone, Copy)]
+struct Worked {
+    /// Whether it goes on.
+    goes_on: bool,
+    /// So many connections ended for want of memory.
+    lacks: u32,
+    /// When it began.
+    now: u64,
+}
+
+/// One turn of a worker over a store. It goes on until no more connections come and all have ended, or it is told to end at once. Where no
+/// thread has begun that accepts and follows, it does that, too.
+fn work_once<B: Room + Spot, K: Backend, R: Wait>(
+    rt: &R,
+    floor: &Floor<'_, B>,
+    post: &Post,
+    worker: &mut Worker,
+    store: &mut K,
+    shift: &mut Shift,
+) -> Worked {
+    let ending = &floor.lobby.roster.ending;
+    let is_alone = !floor.shared.is_followed.load(SeqCst);
+    let orders = Orders {
+        now: shift.timer.now(),
+        may_read: !floor.shared.is_behind.load(SeqCst),
+        stance: ending.stance(),
+    };
+    let most = longest_wait(&orders, is_alone, shift.is_last);
+    let turned = worker.turn(rt, &post.inlet, store, &orders, most);
+    if is_alone {
+        floor.lobby.accept(rt, Duration::ZERO);
+        follow(rt, floor, &mut shift.pace, u64::MAX);
+    }
+    let has_ended = orders.stance != Stance::Serving && turned.open == 0;
+    let goes_on = !ending.is_cut() && !(has_ended && shift.is_last);
+    if has_ended && goes_on {
+        // What was offered before is taken by one more turn.
+        post.inlet.end();
+        shift.is_last = true;
+    }
+    Worked {
+        goes_on,
+        lacks: turned.lacks,
+        now: orders.now,
+    }
+}
+
+/// How long a worker waits at the most for something to do: not at all in its last turn, and not for long where it also accepts and
+/// follows, or rests.
+fn longest_wait(orders: &Orders, is_alone: bool, is_last: bool) -> Duration {
+    let millis = if is_last {
+        0
+    } else if is_alone || !orders.may_read {
+        NAP
+    } else {
+        LONGEST_WAIT
+    };
+    Duration::from_millis(millis)
+}
+
+/// Has a worker let its longest idle connection go, where it was asked to.
+fn shed_if_asked(post: &Post, worker: &mut Worker)
+    ensures stays { Stays worker.old worker.new }
+{
+    if post.is_to_shed() {
+        worker.shed();
+    }
+}
+
+/// Has the worker at the seat's place answer its connections until it ends, over the vnodes of the floor, which are called by the seat's
+/// pass. The pass is handed back.
+fn work<B: Room + Spot, H: Hooks + HookChanges + Drop, R: Wait>(
+    rt: &R,
+    floor: &Floor<'_, B>,
+    seat: Seat<B, H>,
+) -> Pass<B> {
+    let Seat {
+        mut pass,
+        hooking,
+        placement,
+        place,
+    } = seat;
+    let Some(post) = floor.lobby.roster.posts.get(place) else {
+        return pass;
+    };
+    let Some(mut worker) = post.take_worker(rt) else {
+        return pass;
+    };
+    post.inlet.begin();
+    let peers = PassPeers::new(floor.alloc, rt, floor.cluster, &mut pass, &Open);
+    let store = Store::new(floor.alloc, peers, hooking, placement);
+    let recorder = Recorder::new(store, &floor.shared.requests, rt);
+    let mut store = recorder.noting(&floor.shared.written);
+    let mut shift = Shift {
+        timer: Timer::new(),
+        pace: Pace::new(),
+        is_last: false,
+    };
+    for _ in rt.forever() {
+        let worked = work_once(rt, floor, post, &mut worker, &mut store, &mut shift);
+        shed_if_asked(post, &mut worker);
+        if worked.lacks > 0 || store.store.has_troubles() {
+            tell(
+                rt,
+                &floor.shared.reporter,
+                &store.store.take_troubles(),
+                worked.lacks,
+                worked.now,
+            );
+        }
+        if !worked.goes_on {
+            break;
+        }
+    }
+    post.inlet.end();
+    drop(store);
+    pass
+}
+
+/// Has each seat's worker answer its connections, each on a thread of its own, or on the caller's where no thread can be made. That all
+/// have ended is noted.
+fn work_all<
+    B: Room + Spot + Send + Sync,
+    H: Hooks + HookChanges + Send + Drop,
+    R: Threads + Wait + Sync,
+>(
+    alloc: Global,
+    rt: &R,
+    cluster: &Cluster<B>,
+    seats: Vec<Seat<B, H>>,
+    lobby: &Lobby,
+    shared: &Shared<B>,
+) -> Result<Vec<Pass<B>>, AllocError>
+    requires first { cluster.now.first ≡ B.first }
+    ensures count { IfOk result (λ passes. vec_len passes ≡ vec_len seats) }
+{
+    let back = thread::map_vec(
+        rt,
+        seats,
+        &|seat: Seat<B, H>| -> Pass<B>
+            requires { cluster.now.first ≡ B.first }
+        {
+            let floor = Floor {
+                alloc,
+                cluster,
+                lobby,
+                shared,
+            };
+            work(rt, &floor, seat)
+        },
+    );
+    shared.over.store(true, SeqCst);
+    shared.bell.unpark();
+    lobby.wake();
+    back
+}
+
+/// The same, while a thread of its own accepts connections and follows what the workers do; where none can be made for it, workers do so after
+/// each of their turns.
+pub(crate) fn work_attended<
+    B: Room + Spot + Send + Sync,
+    H: Hooks + HookChanges + Send + Drop,
+    R: Threads + Wait + Sync,
+>(
+    alloc: Global,
+    rt: &R,
+    cluster: &Cluster<B>,
+    seats: Vec<Seat<B, H>>,
+    lobby: &Lobby,
+    shared: &Shared<B>,
+) -> Result<Vec<Pass<B>>, AllocError>
+    requires first { cluster.now.first ≡ B.first }
+    ensures count { IfOk result (λ passes. vec_len passes ≡ vec_len seats) }
+{
+    let (_, back) = thread::join(
+        rt,
+        ||
+            requires { cluster.now.first ≡ B.first }
+        {
+            let floor = Floor {
+                alloc,
+                cluster,
+                lobby,
+                shared,
+            };
+            attend(rt, &floor)
+        },
+        || -> Result<Vec<Pass<B>>, AllocError>
+            requires { cluster.now.first ≡ B.first }
+            ensures { IfOk result (λ passes. vec_len passes ≡ vec_len seats) }
+        { work_all(alloc, rt, cluster, seats, lobby, shared) },
+    );
+    back
+}
