@@ -31,11 +31,12 @@ fn state_of(alloc: Global, key: &Key) -> Result<KeyState, Fail> {
 
 /// A put of the value, and three reads of it.
 fn put_and_reads(alloc: Global, key: &Key) -> Result<Vec<Entry>, Fail> {
-    let write = Write {
-        key: key.copy()?,
-        seen: Clock::new(alloc),
-        content: value_of(alloc, VALUE)?,
-    };
+    let write = Write::new(
+        alloc,
+        key.copy()?,
+        Clock::new(alloc),
+        value_of(alloc, VALUE)?,
+    );
     let dot = Dot { vnode: 0, n: 1 };
     let mut entries = vec![in alloc; Entry::put(1, Box::new(alloc, write)?, dot)]?;
     for stamp in 2..5 {

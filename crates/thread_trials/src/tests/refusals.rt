@@ -4,5 +4,6 @@
 
 mod clusters;
 mod connections;
+mod growths;
 mod readings;
 mod refusing;
