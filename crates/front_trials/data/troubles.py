@@ -116,4 +116,5 @@ def main(program):
     sys.exit(0 if all(held) else 1)
 
 
-main(*sys.argv[1:])
+if __name__ == "__main__":
+    main(*sys.argv[1:])
