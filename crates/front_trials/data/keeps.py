@@ -44,8 +44,8 @@ REJECTS = b"RBPF\x01\x01\x00\x00\x80" + bytes(7) + b"\xb7\x00\x00\x00\x01\x01\x0
 class Server:
     """The store's server on a folder, on a port that the system chose, with what it tells on standard error as it comes."""
 
-    def __init__(self, program, folder, before=None, under=()):
-        words = [*under, program, "keep", folder, "127.0.0.1:0", "2"]
+    def __init__(self, program, folder, before=None, under=(), workers=2):
+        words = [*under, program, "keep", folder, "127.0.0.1:0", str(workers)]
         pipe = subprocess.PIPE
         self.process = subprocess.Popen(words, stdin=pipe, stdout=pipe, stderr=pipe, text=True, preexec_fn=before)
         self.loaded = self.process.stdout.readline().strip()
@@ -525,4 +525,5 @@ def main(program, rounds="100", seed="1"):
         return try_files(program, folder + "/store", chance)
 
 
-sys.exit(main(*sys.argv[1:]))
+if __name__ == "__main__":
+    sys.exit(main(*sys.argv[1:]))

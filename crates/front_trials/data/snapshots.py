@@ -21,32 +21,18 @@ import threading
 import time
 from pathlib import Path
 
+import keeps
+
 CONNECTIONS = 4
 
 
-class Server:
-    """The store's server on a folder, with what it tells on standard error as it comes."""
+class Server(keeps.Server):
+    """The store's server on a folder, with how many seconds its start took."""
 
     def __init__(self, program, folder, workers):
         begin = time.monotonic()
-        pipe = subprocess.PIPE
-        words = [program, "keep", folder, "127.0.0.1:0", str(workers)]
-        self.process = subprocess.Popen(words, stdin=pipe, stdout=pipe, stderr=pipe, text=True)
-        self.loaded = self.process.stdout.readline().strip()
-        host, _, port = self.process.stdout.readline().removeprefix("listening ").strip().rpartition(":")
+        super().__init__(program, folder, workers=workers)
         self.seconds = time.monotonic() - begin
-        self.host, self.port = host, int(port or 0)
-        self.told = []
-        self.listener = threading.Thread(target=self.listen, daemon=True)
-        self.listener.start()
-
-    def listen(self):
-        for line in self.process.stderr:
-            self.told.append(line.strip())
-
-    def say(self, line):
-        self.process.stdin.write(line + "\n")
-        self.process.stdin.flush()
 
     def snapshot(self):
         """The line that tells of a snapshot that is asked for now."""
