@@ -7,14 +7,18 @@ ghost use Rattle.dvv.specs.Clock.{counter, Covers, IsUnion, vnodes_together, Add
 use crate::fault::ClockFault;
 use crate::walk::{is_within, union_of, vnodes_together};
 use crate::{Dot, MAX_COUNTER, MAX_ENTRIES};
+use smallvec::SmallVec;
 use std::alloc::{AllocError, Global};
 use std::marker::Model;
+
+// The greatest event of each vnode, vnodes rising. A single one lies in the clock itself: a key is mostly written at one vnode.
+pub(crate) type Entries = SmallVec<Dot, 1>;
 
 /// A version vector: a set of events that has, with each event of a vnode, all earlier ones of that vnode. It is
 /// kept, and seen in contracts, as the greatest event of each vnode, vnodes rising.
 #[derive(Drop)]
 pub struct Clock {
-    entries: Vec<Dot>,
+    entries: Entries,
 }
 
 impl Model for Clock {
@@ -32,20 +36,22 @@ impl Model for Clock {
 impl Clock {
     ghost use Rattle.dvv.specs.Clock.{Within, IsGreatest, HasRoom};
 
-    /// The clock of no event. It takes no memory until it grows.
+    /// The clock of no event. It takes no memory until it has more than one entry.
     pub fn new(alloc: Global) -> Self
         ensures empty { result ≡ [] }
     {
         Clock {
-            entries: Vec::new(alloc),
+            entries: Entries::new(alloc),
         }
     }
 
-    /// The clock of these entries: the greatest event of each vnode, vnodes rising.
+    /// The clock of these entries: the greatest event of each vnode, vnodes rising. It keeps the vector's memory where there are several.
     pub fn from_entries(entries: Vec<Dot>) -> Self
         requires { IsClock entries.items }
         ensures { result ≡ entries.items }
     {
+        let mut entries = Entries::from_vec(entries);
+        entries.shrink_to_fit();
         Clock { entries }
     }
 
@@ -80,12 +86,12 @@ impl Clock {
         is_within(&self.entries, &other.entries)
     }
 
-    /// The same clock, in memory of its own.
+    /// The same clock, in memory of its own. A single entry takes none.
     pub fn copy(&self, alloc: Global) -> Result<Clock, AllocError>
         ensures same { IfOk result (λ copy. copy ≡ self.now) }
     {
         Ok(Clock {
-            entries: Vec::from_slice(alloc, &self.entries)?,
+            entries: Entries::from_slice(alloc, &self.entries)?,
         })
     }
 
@@ -149,7 +155,7 @@ impl Clock {
 }
 
 // Adds an entry above all there.
-fn push_entry(entries: &mut Vec<Dot>, last: Dot) -> Result<(), ClockFault>
+fn push_entry(entries: &mut Entries, last: Dot) -> Result<(), ClockFault>
     requires clock { IsClock entries.old.items }
     requires above { All (λ entry. entry.vnode < last.vnode) entries.old.items }
     requires first { 1 ≤ last.n }
@@ -170,7 +176,7 @@ fn push_entry(entries: &mut Vec<Dot>, last: Dot) -> Result<(), ClockFault>
 }
 
 // Adds an event that comes next of its vnode.
-fn add_event(entries: &mut Vec<Dot>, next: Dot) -> Result<(), ClockFault>
+fn add_event(entries: &mut Entries, next: Dot) -> Result<(), ClockFault>
     requires clock { IsClock entries.old.items }
     requires follows { next.n ≡ counter entries.old.items next.vnode + 1 }
     ensures clock { IsClock entries.new.items }
@@ -199,7 +205,7 @@ fn add_event(entries: &mut Vec<Dot>, next: Dot) -> Result<(), ClockFault>
 }
 
 // The entries of both, where there are few enough.
-fn join_entries(alloc: Global, own: &[Dot], other: &[Dot]) -> Result<Vec<Dot>, ClockFault>
+fn join_entries(alloc: Global, own: &[Dot], other: &[Dot]) -> Result<Entries, ClockFault>
     requires own { IsClock own.now }
     requires other { IsClock other.now }
     ensures clock { IfOk result (λ union. IsClock union.items) }

@@ -17,8 +17,8 @@ pub const MAX_COUNTER: u64 = 1 << 62;
 /// The most entries of a clock, one for each vnode.
 pub const MAX_ENTRIES: usize = 1024;
 
-/// One event: the n-th of a vnode, from 1. Dots are in order of vnode, then of n.
-#[derive(Clone, Copy, PartialEq, Eq, PartialOrd, Ord)]
+/// One event: the n-th of a vnode, from 1. Dots are in order of vnode, then of n. The default has number 0, and is no event.
+#[derive(Clone, Copy, Default, PartialEq, Eq, PartialOrd, Ord)]
 pub struct Dot {
     pub vnode: u32,
     pub n: u64,

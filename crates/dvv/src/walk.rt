@@ -4,6 +4,7 @@ ghost use Rattle.std.specs.Prelude.{◌≡◌, ◌+◌, ◌≤◌, ◌⊎◌, �
 ghost use Rattle.dvv.specs.Clock.{counter, Within, IsUnion, vnodes_together, IsClock, AreRising, IsNextVnode, after_vnode, most_entries};
 
 use crate::Dot;
+use crate::clock::Entries;
 use std::alloc::{AllocError, Global};
 
 // How many vnodes have an entry on either side.
@@ -28,7 +29,7 @@ pub(crate) fn union_of(
     own: &[Dot],
     other: &[Dot],
     vnodes: usize,
-) -> Result<Vec<Dot>, AllocError>
+) -> Result<Entries, AllocError>
     requires own { IsClock own.now }
     requires other { IsClock other.now }
     requires room { vnodes ≤ most_entries }
@@ -36,12 +37,10 @@ pub(crate) fn union_of(
     ensures clock { IfOk result (λ union. IsClock union.items) }
     ensures union { IfOk result (λ union. IsUnion own.now other.now union.items) }
 {
-    let mut union = Vec::with_capacity(alloc, vnodes)?;
+    let mut union = Entries::with_capacity(alloc, vnodes)?;
     let (mut own_left, mut other_left) = (own, other);
     while let Some((counts, own_rest, other_rest)) = next_vnode(own_left, other_left) {
-        let Ok(()) = union.push(counts.greater()) else {
-            unreachable!()
-        };
+        union.push_reserved(counts.greater());
         own_left = own_rest;
         other_left = other_rest;
     }

@@ -17,9 +17,9 @@ loop-counts-preserved c =
     let step = next_step _ _ _ _ _ _ _ _ _ _ c.loop-counts.invariant.walked.1 c.in-Some.ensures.next in
     let joined = joined_next _ _ _ _ _ _ _ _ _ _ c.requires.own c.requires.other step c.in-Some.ensures.next.some refl c.loop-counts.invariant.walked.2 in
     record {
-      walked = (c.in-Some.counts.vnode + 1, step.left, rw (c.in-Ok.ensures.items, c.greater.ensures) joined);
-      count = rw c.in-Ok.ensures.items (simp length-append (omega (arith, c.loop-counts.invariant.count, walk_counts _ _ _ _ _ _ _ c.in-Some.ensures.next)));
-      room = omega (arith, c.loop-counts.invariant.room, c.push.ensures.capacity);
+      walked = (c.in-Some.counts.vnode + 1, step.left, rw (c.push_reserved.ensures.items, c.greater.ensures) joined);
+      count = rw c.push_reserved.ensures.items (simp length-append (omega (arith, c.loop-counts.invariant.count, walk_counts _ _ _ _ _ _ _ c.in-Some.ensures.next)));
+      room = omega (arith, c.loop-counts.invariant.room, c.push_reserved.ensures.capacity);
     }
 
 pub returns-clause-union : goal.returns-clause-union

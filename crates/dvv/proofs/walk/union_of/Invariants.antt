@@ -1,5 +1,4 @@
 use Rattle.std.proofs.Common.{◌≡◌, ◌≤◌, ℕ, ◌+◌, length}
-use Rattle.std.specs.Vec.{vec_capacity}
 use Rattle.dvv.specs.Clock.{vnodes_together}
 use Rattle.dvv.proofs.Walks.{IsLeft, IsJoined}
 use Rattle.dvv.proofs.walk.union_of.Given as goal
@@ -9,7 +8,7 @@ abbrev pub invariant-loop-counts : goal.invariant-loop-counts
 invariant-loop-counts l = record {
   walked : (bound : ℕ) × IsLeft bound l.own l.other l.own_left l.other_left × IsJoined bound l.own l.other l.union.items;
   count : length l.union.items + vnodes_together l.own_left l.other_left ≡ l.vnodes;
-  room : l.vnodes ≤ vec_capacity l.union;
+  room : l.vnodes ≤ l.union.capacity;
 }
 
 abbrev pub decreases-loop-counts : goal.decreases-loop-counts

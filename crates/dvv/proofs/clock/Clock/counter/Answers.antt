@@ -5,4 +5,4 @@ use Rattle.dvv.proofs.Clocks.{counter_limit}
 use Rattle.dvv.proofs.clock.Clock.counter.Goals as goal
 
 pub returns-clause-limit : goal.returns-clause-limit
-returns-clause-limit c = omega (arith, c.counter.ensures, ap (λ (es : List Dot). counter es c.args.vnode) c.deref.ensures.value, counter_limit 0 c.self.inside.entries.items c.args.vnode c.self.invariant.rising)
+returns-clause-limit c = omega (arith, c.counter.ensures, ap (λ (es : List Dot). counter es c.args.vnode) c.deref.ensures, counter_limit 0 c.self.inside.entries.items c.args.vnode c.self.invariant.rising)

@@ -7,5 +7,5 @@ use Rattle.dvv.proofs.clock.Clock.entries.Goals as goal
 
 pub returns-clause-greatest : goal.returns-clause-greatest
 returns-clause-greatest c d =
-    subst (λ (es : List Dot). Contains es d ↔ IsGreatest c.args.self.now d) (sym c.as_slice.ensures.value)
+    subst (λ (es : List Dot). Contains es d ↔ IsGreatest c.args.self.now d) (sym c.as_slice.ensures)
     (subst (λ (es : List Dot). Contains c.self.inside.entries.items d ↔ IsGreatest es d) c.self.view_is (greatest_entries _ c.self.invariant.rising d))
