@@ -60,6 +60,19 @@ pub struct Sibling {
     pub content: Content,
 }
 
+// Siblings as they are kept: a single one lies beside the clock of its key.
+pub(crate) type Siblings = SmallVec<Sibling, 1>;
+
+// What a place without a sibling holds.
+impl Default for Sibling {
+    fn default() -> Self {
+        Sibling {
+            dot: Dot::default(),
+            content: Content::Tombstone,
+        }
+    }
+}
+
 impl Sibling {
     /// The same sibling, its bytes shared with this one.
     pub fn copy(&self) -> Result<Sibling, AllocError>

@@ -1,12 +1,13 @@
 //! What is held at a key, and shared by the copies of its state.
 
 ghost use Rattle.std.specs.Prelude.{◌≡◌, ◌<◌, ◌≤◌, ◌↔◌, length, IsTrue, OnOk, IfOk};
+ghost use Rattle.std.specs.Arc.{arc_value};
 ghost use Rattle.dvv.specs.Clock.{Within, HasRoom, vnodes_together, most_entries};
 ghost use Rattle.object.specs.Limits.{most_siblings};
 ghost use Rattle.object.specs.Parts.{lacks_some};
 ghost use Rattle.object.specs.State.{empty, next, kept, IsState};
 
-use crate::content::Sibling;
+use crate::content::{Sibling, Siblings};
 use crate::exchange::content_of;
 use crate::fault::PutRefusal;
 use crate::limits::MAX_SIBLINGS;
@@ -21,7 +22,7 @@ use std::sync::Arc;
 /// The siblings and the clock of a key. They never change while copies of a state share them.
 #[derive(Drop)]
 pub struct Held {
-    pub(crate) siblings: Vec<Sibling>,
+    pub(crate) siblings: Siblings,
     pub(crate) clock: Clock,
 }
 
@@ -41,7 +42,7 @@ impl Held {
         ensures { result ≡ empty }
     {
         Held {
-            siblings: Vec::new(alloc),
+            siblings: Siblings::new(alloc),
             clock: Clock::new(alloc),
         }
     }
@@ -152,5 +153,3 @@ impl Stored {
         &self.held
     }
 }
-
-ghost use Rattle.std.specs.Arc.{arc_value};

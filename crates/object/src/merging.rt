@@ -5,7 +5,7 @@ ghost use Rattle.std.specs.List.{list_any};
 ghost use Rattle.dvv.specs.Clock.{covers};
 ghost use Rattle.object.specs.State.{kept, AreInOrder};
 
-use crate::content::Sibling;
+use crate::content::{Sibling, Siblings};
 use dvv::Clock;
 use std::alloc::{AllocError, Global};
 
@@ -25,12 +25,12 @@ pub(crate) fn merge_siblings(
     own_clock: &Clock,
     others: &[Sibling],
     other_clock: &Clock,
-) -> Result<Vec<Sibling>, AllocError>
+) -> Result<Siblings, AllocError>
     requires order { AreInOrder own.now }
     requires others_order { AreInOrder others.now }
     ensures { IfOk result (λ siblings. MergesSiblings own.now own_clock.now others.now other_clock.now siblings.items) }
 {
-    let mut merged = Vec::with_capacity(alloc, own.len().max(others.len()))?;
+    let mut merged = Siblings::with_capacity(alloc, own.len().max(others.len()))?;
     let mut i = 0;
     let mut j = 0;
     while i < own.len() || j < others.len() {
@@ -86,7 +86,7 @@ pub(crate) fn covers_some(clock: &Clock, siblings: &[Sibling]) -> bool
 
 // Adds a copy of a sibling that a clock doesn't cover.
 fn push_uncovered(
-    siblings: &mut Vec<Sibling>,
+    siblings: &mut Siblings,
     sibling: &Sibling,
     clock: &Clock,
 ) -> Result<(), AllocError>

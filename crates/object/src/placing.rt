@@ -1,10 +1,11 @@
 //! One sibling put into its place among others.
 
-ghost use Rattle.std.specs.Prelude.{◌≡◌, ◌<◌, ◌≤◌, None, IfOk, length, vec_len, vec_capacity};
+ghost use Rattle.std.specs.Prelude.{◌≡◌, ◌<◌, ◌≤◌, None, IfOk, length};
+ghost use Rattle.smallvec.specs.SmallVec.{HasRoomFor};
 ghost use Rattle.object.specs.State.{kept, content_at, AreInOrder};
 ghost use Rattle.object.specs.Placing.{IsSiblingGap, InsertsSibling, ReplacesSeen};
 
-use crate::content::Sibling;
+use crate::content::{Sibling, Siblings};
 use dvv::{Clock, Dot};
 use std::alloc::{AllocError, Global};
 
@@ -14,7 +15,7 @@ pub(crate) fn replacing_seen(
     siblings: &[Sibling],
     seen: &Clock,
     sibling: Sibling,
-) -> Result<Vec<Sibling>, AllocError>
+) -> Result<Siblings, AllocError>
     requires order { AreInOrder siblings.now }
     requires absent { content_at siblings.now sibling.dot ≡ None }
     ensures { IfOk result (λ new. ReplacesSeen siblings.now new.items seen.now sibling) }
@@ -25,17 +26,13 @@ pub(crate) fn replacing_seen(
 }
 
 // Copies of the siblings that a context doesn't cover, and room for one more: states are kept with each key, and take no more.
-fn copies_of_kept(
-    alloc: Global,
-    siblings: &[Sibling],
-    seen: &Clock,
-) -> Result<Vec<Sibling>, AllocError>
+fn copies_of_kept(alloc: Global, siblings: &[Sibling], seen: &Clock) -> Result<Siblings, AllocError>
     ensures kept { IfOk result (λ copies. copies.items ≡ kept seen.now siblings.now) }
-    ensures room { IfOk result (λ copies. vec_len copies < vec_capacity copies) }
+    ensures room { IfOk result (λ copies. HasRoomFor copies 1) }
 {
     // No more of them than there are siblings.
     let _all = siblings.len();
-    let mut copies = Vec::with_capacity(alloc, count_kept(siblings, seen) + 1)?;
+    let mut copies = Siblings::with_capacity(alloc, count_kept(siblings, seen) + 1)?;
     for sibling in siblings {
         if !seen.covers(sibling.dot) {
             copies.push(sibling.copy()?)?;
@@ -55,8 +52,8 @@ pub(crate) fn count_kept(siblings: &[Sibling], seen: &Clock) -> usize
 }
 
 // Puts a sibling at its place. There is room for it, and none of its dot yet.
-fn insert_sibling(siblings: &mut Vec<Sibling>, sibling: Sibling)
-    requires room { vec_len siblings.old < vec_capacity siblings.old }
+fn insert_sibling(siblings: &mut Siblings, sibling: Sibling)
+    requires room { HasRoomFor siblings.old 1 }
     requires order { AreInOrder siblings.old.items }
     requires absent { content_at siblings.old.items sibling.dot ≡ None }
     ensures { InsertsSibling siblings.old.items siblings.new.items sibling }

@@ -2,7 +2,7 @@
 
 ghost use Rattle.std.specs.Prelude.{◌≡◌, ◌≢◌, ◌<◌, ◌≤◌, ◌↔◌, false, length, IsTrue, OnOk, OnErr, IfOk};
 
-use crate::content::{Content, Sibling};
+use crate::content::{Content, Sibling, Siblings};
 use crate::fault::{MergeFault, PutFault, PutRefusal};
 use crate::held::{Held, Kept, Stored};
 use crate::merging::{covers_some, drops_some, merge_siblings};
@@ -49,6 +49,17 @@ impl KeyState {
 
     /// The state of these parts: siblings that rise by dot, each counted by the clock.
     pub fn from_parts(clock: Clock, siblings: Vec<Sibling>) -> Result<Self, AllocError>
+        requires order { AreInOrder siblings.items }
+        requires covered { AreCovered clock siblings.items }
+        ensures { IfOk result (λ state. state ≡ record { siblings = siblings.items; clock = clock }) }
+    {
+        let mut siblings = Siblings::from_vec(siblings);
+        siblings.shrink_to_fit();
+        KeyState::holding(clock, siblings)
+    }
+
+    // The same of siblings as they are kept.
+    fn holding(clock: Clock, siblings: Siblings) -> Result<Self, AllocError>
         requires order { AreInOrder siblings.items }
         requires covered { AreCovered clock siblings.items }
         ensures { IfOk result (λ state. state ≡ record { siblings = siblings.items; clock = clock }) }
@@ -195,7 +206,7 @@ impl KeyState {
             return Err(AllocError);
         };
         let siblings = replacing_seen(self.alloc, self.siblings(), seen, Sibling { dot, content })?;
-        *self = KeyState::from_parts(clock, siblings)?;
+        *self = KeyState::holding(clock, siblings)?;
         Ok(())
     }
 
@@ -256,7 +267,7 @@ impl KeyState {
         let Ok(merged) = merge_siblings(self.alloc, siblings, clock, others, other_clock) else {
             return Err(MergeFault::NoMemory);
         };
-        Ok(KeyState::from_parts(union, merged)?)
+        Ok(KeyState::holding(union, merged)?)
     }
 
     // Where its memory is from.
@@ -265,7 +276,7 @@ impl KeyState {
     }
 
     // The state of these siblings, in memory that was taken for it with its clock. Refused where a copy shares that memory.
-    pub(crate) fn in_held(mut held: Arc<Held>, siblings: Vec<Sibling>) -> Result<Self, AllocError>
+    pub(crate) fn in_held(mut held: Arc<Held>, siblings: Siblings) -> Result<Self, AllocError>
         requires order { AreInOrder siblings.items }
         requires covered { AreCovered (arc_value held).clock siblings.items }
         ensures { IfOk result (λ state. state ≡ record { siblings = siblings.items; clock = (arc_value held).clock }) }

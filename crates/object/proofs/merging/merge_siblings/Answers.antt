@@ -22,5 +22,5 @@ loop-i-preserved c =
     let other = front_of c.args.others.now c.loop-i.j inside.1 in record {
       own_within = omega (arith, inside.0);
       others_within = omega (arith, inside.1);
-      merging = rw (c.in_ok-push-in-Both.ensures.items, c.in_ok-copy-in-Both.ensures) (takes_both c.args.own.now c.args.own_clock.now c.args.others.now c.args.other_clock.now c.loop-i.merged.items _ _ (drop (c.loop-i.i + 1) c.args.own.now) (drop (c.loop-i.j + 1) c.args.others.now) c.index-own-i-in-Both.result other.0 c.loop-i.invariant.merging (drop_is c.args.own.now c.loop-i.i c.index-own-i-in-Both.result inside.0 c.index-own-i-in-Both.is) other.1 c.in-Both.ensures);
+      merging = rw (c.in_ok-push-in-Both.ensures.ok, c.in_ok-copy-in-Both.ensures) (takes_both c.args.own.now c.args.own_clock.now c.args.others.now c.args.other_clock.now c.loop-i.merged.items _ _ (drop (c.loop-i.i + 1) c.args.own.now) (drop (c.loop-i.j + 1) c.args.others.now) c.index-own-i-in-Both.result other.0 c.loop-i.invariant.merging (drop_is c.args.own.now c.loop-i.i c.index-own-i-in-Both.result inside.0 c.index-own-i-in-Both.is) other.1 c.in-Both.ensures);
     }

@@ -9,8 +9,8 @@ use Rattle.object.proofs.state.KeyState.put_at.Goals as goal
 pub replacing_seen-requires-clause-absent : goal.replacing_seen-requires-clause-absent
 replacing_seen-requires-clause-absent c = rw c.siblings.ensures.all (absent_uncovered c.args.self.now.clock c.args.self.now.siblings c.args.dot c.siblings.ensures.state.covered (next_uncovered c.args.self.now.clock c.args.dot.vnode c.args.dot c.requires.next))
 
-pub from_parts-requires-clause-covered : goal.from_parts-requires-clause-covered
-from_parts-requires-clause-covered c =
+pub holding-requires-clause-covered : goal.holding-requires-clause-covered
+holding-requires-clause-covered c =
     let s : Sibling = record { dot = c.args.dot; content = c.args.content } in
     let replaced : ReplacesSeen c.args.self.now.siblings c.in_ok-siblings.siblings.items c.args.seen.now s = subst (λ (xs : List Sibling). ReplacesSeen xs c.in_ok-siblings.siblings.items c.args.seen.now s) c.siblings.ensures.all c.in_ok-siblings.ensures in
     let adds : AddsEvent c.args.self.now.clock c.add.new.self c.args.dot = subst (λ (l : List Dot). AddsEvent l c.add.new.self c.args.dot) (c.in_ok-clock.ensures.same ∙ c.clock.ensures) c.in-Ok.ensures.adds in
