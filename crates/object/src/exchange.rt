@@ -4,7 +4,7 @@ ghost use Rattle.std.specs.List.{list_any};
 ghost use Rattle.std.specs.Prelude.{◌≡◌, ◌≢◌, ◌↔◌, ◌<◌, ◌&&◌, not, false, IsTrue, OnOk, OnErr, IfOk, option_copied};
 ghost use Rattle.dvv.specs.Clock.{covers, vnodes_together, most_entries};
 ghost use Rattle.object.specs.State.{IsState, HaveSameDots, Merges, AreInOrder, content_at, is_changed_by};
-ghost use Rattle.object.specs.Parts.{names, summary_of, part_of, whole_of, content_of, lacks_some};
+ghost use Rattle.object.specs.Parts.{names, summary_of, part_of, whole_of, content_of, lacks_content, lacks_some};
 
 use crate::content::{Content, Sibling};
 use crate::fault::{MergeFault, PartFault};
@@ -56,7 +56,7 @@ impl KeyState {
     pub fn lacks(&self, part: &Part) -> bool
         ensures { result ≡ lacks_some self.now part.now }
     {
-        self.held().lacks(part)
+        lacks(self.siblings(), part)
     }
 
     /// The whole state that a part stands for: a content that was left out is the own one under its dot. Refused with no memory
@@ -134,6 +134,19 @@ fn drops_some(part: &Part, own: &[Sibling]) -> bool
     ensures { result ≡ list_any (λ s. covers part.now.clock s.dot && not (names part.now s.dot)) own.now }
 {
     own.iter().any(|sibling| part.clock().covers(sibling.dot) && !part.names(sibling.dot))
+}
+
+// Whether some content that was left out of a part is none of these siblings'.
+pub(crate) fn lacks(own: &[Sibling], part: &Part) -> bool
+    requires { AreInOrder own.now }
+    ensures { result ≡ lacks_content own.now part.now.siblings }
+{
+    for sent in part.siblings() {
+        if content_of(own, sent).is_none() {
+            return true;
+        }
+    }
+    false
 }
 
 // The content of a part's sibling: the one that was sent, or the own one under its dot.

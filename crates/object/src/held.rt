@@ -8,7 +8,7 @@ ghost use Rattle.object.specs.Parts.{lacks_some};
 ghost use Rattle.object.specs.State.{empty, next, kept, IsState};
 
 use crate::content::{Sibling, Siblings};
-use crate::exchange::content_of;
+use crate::exchange::lacks;
 use crate::fault::PutRefusal;
 use crate::limits::MAX_SIBLINGS;
 use crate::part::Part;
@@ -100,19 +100,14 @@ impl Held {
     pub fn lacks(&self, part: &Part) -> bool
         ensures { result ≡ lacks_some self.now part.now }
     {
-        for sent in part.siblings() {
-            if content_of(self.siblings(), sent).is_none() {
-                return true;
-            }
-        }
-        false
+        lacks(self.siblings(), part)
     }
 }
 
-// What a state keeps: nothing written, to lend, or what it shares with its copies.
+// What a state keeps: nothing written, with the clock to lend, or what it shares with its copies.
 #[derive(Drop)]
 pub(crate) enum Kept {
-    Nothing(Held),
+    Nothing(Clock),
     Shared(Arc<Held>),
 }
 

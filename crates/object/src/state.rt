@@ -43,7 +43,7 @@ impl KeyState {
     {
         KeyState {
             alloc,
-            kept: Kept::Nothing(Held::nothing(alloc)),
+            kept: Kept::Nothing(Clock::new(alloc)),
         }
     }
 
@@ -97,29 +97,25 @@ impl KeyState {
         Ok(Stored::new(held))
     }
 
-    /// What it holds.
-    pub fn held(&self) -> &Held
-        ensures { result.now ≡ self.now }
-    {
-        match &self.kept {
-            Kept::Nothing(held) => held,
-            Kept::Shared(held) => held,
-        }
-    }
-
     /// The siblings, rising by dot.
     pub fn siblings(&self) -> &[Sibling]
         ensures all { result.now ≡ self.now.siblings }
         ensures state { IsState self.now }
     {
-        self.held().siblings()
+        match &self.kept {
+            Kept::Nothing(_) => &[],
+            Kept::Shared(held) => held.siblings(),
+        }
     }
 
     /// The clock: it counts each event that any known write had seen, and the known writes themselves.
     pub fn clock(&self) -> &Clock
         ensures { result.now ≡ self.now.clock }
     {
-        self.held().clock()
+        match &self.kept {
+            Kept::Nothing(clock) => clock,
+            Kept::Shared(held) => held.clock(),
+        }
     }
 
     /// The same state, its siblings and clock shared with this one. Refused where their owners can't be counted further.
@@ -166,7 +162,10 @@ impl KeyState {
         ensures many { result ≡ Err PutRefusal.TooManySiblings ↔ (Within seen.now self.now.clock × (most_siblings ≤ length (kept seen.now self.now.siblings))) }
         ensures full { result ≡ Err PutRefusal.ClockFull ↔ (Within seen.now self.now.clock × (length (kept seen.now self.now.siblings) < most_siblings) × (HasRoom self.now.clock (next self.now vnode) → ⊥)) }
     {
-        self.held().check_put(vnode, seen)
+        match &self.kept {
+            Kept::Nothing(_) => Held::nothing(self.alloc).check_put(vnode, seen),
+            Kept::Shared(held) => held.check_put(vnode, seen),
+        }
     }
 
     /// Puts a content whose writer had seen the events of a clock. It replaces the siblings that these events count, and
@@ -222,7 +221,7 @@ impl KeyState {
     pub fn can_merge(&self, other: &KeyState) -> bool
         ensures { IsTrue result ↔ (vnodes_together self.now.clock other.now.clock ≤ most_entries) }
     {
-        self.held().can_merge(other)
+        self.clock().can_join(other.clock())
     }
 
     /// Merges another state of the key into this one, and tells whether siblings or clock changed. A sibling stays that both
