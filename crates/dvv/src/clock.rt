@@ -16,9 +16,15 @@ pub(crate) type Entries = SmallVec<Dot, 1>;
 
 /// A version vector: a set of events that has, with each event of a vnode, all earlier ones of that vnode. It is
 /// kept, and seen in contracts, as the greatest event of each vnode, vnodes rising.
-#[derive(Drop)]
 pub struct Clock {
     entries: Entries,
+}
+
+// Written by hand, so that who lets a clock go doesn't see where its entries lie.
+impl Drop for Clock {
+    fn drop(self) {
+        let Clock { entries: _entries } = self;
+    }
 }
 
 impl Model for Clock {

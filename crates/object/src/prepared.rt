@@ -4,7 +4,7 @@ ghost use Rattle.std.specs.Prelude.{◌≡◌, ◌≢◌, ◌↔◌, Err, IsTrue
 ghost use Rattle.object.specs.Parts.{whole_of, lacks_some};
 ghost use Rattle.object.specs.State.{IsState};
 
-use crate::content::{Sibling, Siblings};
+use crate::content::Sibling;
 use crate::exchange::content_of;
 use crate::fault::{MergeFault, PartFault};
 use crate::held::Held;
@@ -19,13 +19,13 @@ use std::sync::Arc;
 #[derive(Drop)]
 pub struct PreparedPart<'a> {
     part: &'a Part,
-    siblings: Siblings,
+    siblings: Vec<Sibling>,
     // Has the clock, and no siblings yet.
     held: Arc<Held>,
 }
 
 impl<'a> Model for PreparedPart<'a> {
-    ghost use Rattle.std.specs.Prelude.{◌≡◌, ◌≤◌, [], length};
+    ghost use Rattle.std.specs.Prelude.{◌≡◌, ◌≤◌, [], length, vec_capacity};
     ghost use Rattle.std.specs.Arc.{arc_value};
     ghost use Rattle.object.specs.Parts.{Partial};
 
@@ -33,7 +33,7 @@ impl<'a> Model for PreparedPart<'a> {
 
     ghost view = { λ p. p.part.now };
 
-    ghost invariant = { λ p. ((arc_value p.held).clock ≡ p.part.now.clock) × (p.siblings.items ≡ []) × (length p.part.now.siblings ≤ p.siblings.capacity) };
+    ghost invariant = { λ p. ((arc_value p.held).clock ≡ p.part.now.clock) × (p.siblings.items ≡ []) × (length p.part.now.siblings ≤ vec_capacity p.siblings) };
 }
 
 impl<'a> PreparedPart<'a> {
@@ -42,12 +42,12 @@ impl<'a> PreparedPart<'a> {
         ensures { IfOk result (λ prepared. prepared ≡ part.now) }
     {
         let held = Held {
-            siblings: Siblings::new(alloc),
+            siblings: Vec::new(alloc),
             clock: part.clock().copy(alloc)?,
         };
         Ok(PreparedPart {
             part,
-            siblings: Siblings::with_capacity(alloc, part.siblings().len())?,
+            siblings: Vec::with_capacity(alloc, part.siblings().len())?,
             held: Arc::new(alloc, held)?,
         })
     }

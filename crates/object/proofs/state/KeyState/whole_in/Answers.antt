@@ -10,7 +10,7 @@ pub loop-sent-preserved : goal.loop-sent-preserved
 loop-sent-preserved c = record {
   built =
       whole_pushed c.args.self.now.siblings c.siblings.result.now c.siblings-sent-items.result.now c.loop-sent.sent-index c.sent-item.result c.in-Some.content.now c.in-Ok.content c.loop-sent.siblings.items c.push.new.self.items
-      c.loop-sent-test.true c.sent-item.is c.siblings.ensures.all c.in-Some.ensures c.in-Ok.ensures c.loop-sent.invariant.built c.in-Ok-push.ensures.ok;
+      c.loop-sent-test.true c.sent-item.is c.siblings.ensures.all c.in-Some.ensures c.in-Ok.ensures c.loop-sent.invariant.built c.in-Ok-push.ensures.items;
   held = held_pushed c.args.self.now.siblings c.siblings.result.now c.siblings-sent-items.result.now c.loop-sent.sent-index c.sent-item.result c.in-Some.content.now c.loop-sent-test.true c.sent-item.is c.siblings.ensures.all c.in-Some.ensures c.loop-sent.invariant.held;
   count = c.in-Ok-push.ensures.len ∙ ap (λ n. n + 1) c.loop-sent.invariant.count;
   room = omega (arith, c.loop-sent.invariant.room, c.in-Ok-push.ensures.capacity);

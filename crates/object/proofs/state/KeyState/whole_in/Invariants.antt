@@ -1,5 +1,5 @@
-use Rattle.std.proofs.Common.{◌≡◌, ◌≤◌, false, take, length}
-use Rattle.smallvec.specs.SmallVec.{small_vec_len}
+use Rattle.std.proofs.Common.{◌≡◌, ◌≤◌, false, take, length, vec_len}
+use Rattle.std.specs.Vec.{vec_capacity}
 use Rattle.object.specs.Parts.{whole_siblings, lacks_content}
 use Rattle.object.proofs.state.KeyState.whole_in.Given as goal
 
@@ -8,6 +8,6 @@ abbrev pub invariant-loop-sent : goal.invariant-loop-sent
 invariant-loop-sent l = record {
   built : l.siblings.items ≡ whole_siblings l.self.siblings (take l.sent-index l.sent-items);
   held : lacks_content l.self.siblings (take l.sent-index l.sent-items) ≡ false;
-  count : small_vec_len l.siblings ≡ l.sent-index;
-  room : length l.sent-items ≤ l.siblings.capacity;
+  count : vec_len l.siblings ≡ l.sent-index;
+  room : length l.sent-items ≤ vec_capacity l.siblings;
 }
