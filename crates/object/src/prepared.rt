@@ -4,7 +4,7 @@ ghost use Rattle.std.specs.Prelude.{◌≡◌, ◌≢◌, ◌↔◌, Err, IsTrue
 ghost use Rattle.object.specs.Parts.{whole_of, lacks_some};
 ghost use Rattle.object.specs.State.{IsState};
 
-use crate::content::Sibling;
+use crate::content::{Sibling, Siblings};
 use crate::exchange::content_of;
 use crate::fault::{MergeFault, PartFault};
 use crate::held::Held;
@@ -42,7 +42,7 @@ impl<'a> PreparedPart<'a> {
         ensures { IfOk result (λ prepared. prepared ≡ part.now) }
     {
         let held = Held {
-            siblings: Vec::new(alloc),
+            siblings: Siblings::new(alloc),
             clock: part.clock().copy(alloc)?,
         };
         Ok(PreparedPart {

@@ -275,14 +275,14 @@ impl KeyState {
     }
 
     // The state of these siblings, in memory that was taken for it with its clock. Refused where a copy shares that memory.
-    pub(crate) fn in_held(mut held: Arc<Held>, siblings: Siblings) -> Result<Self, AllocError>
+    pub(crate) fn in_held(mut held: Arc<Held>, siblings: Vec<Sibling>) -> Result<Self, AllocError>
         requires order { AreInOrder siblings.items }
         requires covered { AreCovered (arc_value held).clock siblings.items }
         ensures { IfOk result (λ state. state ≡ record { siblings = siblings.items; clock = (arc_value held).clock }) }
     {
         let alloc = *siblings.allocator();
         match Arc::get_mut(&mut held) {
-            Some(own) => own.siblings = siblings,
+            Some(own) => own.siblings = Siblings::from_vec(siblings),
             None => return Err(AllocError),
         }
         Ok(KeyState {
