@@ -32,6 +32,49 @@ impl Kept {
     }
 }
 
+// What is kept of an entry, with the bytes of its contents: they are counted while it is at hand, and not once more when it is given up.
+#[derive(Drop)]
+struct Weighed {
+    kept: Kept,
+    bytes: u64,
+}
+
+impl Model for Weighed {
+    ghost use Rattle.std.specs.Prelude.{◌≡◌};
+    ghost use Rattle.rerun.specs.Kept.{kept_bytes};
+    ghost use Rattle.rerun.specs.declared.kept.Kept.{Kept};
+
+    ghost Value = { Kept };
+
+    ghost view = { λ w. w.kept };
+
+    ghost invariant = { λ w. w.bytes ≡ kept_bytes w.kept };
+}
+
+impl Weighed {
+    // What is kept, with its bytes.
+    fn new(kept: Kept) -> Self
+        ensures { result ≡ kept }
+    {
+        let bytes = kept.bytes();
+        Weighed { kept, bytes }
+    }
+
+    // What is kept.
+    fn kept(&self) -> &Kept
+        ensures { result.now ≡ self.now }
+    {
+        &self.kept
+    }
+
+    // The bytes of its contents.
+    fn bytes(&self) -> u64
+        ensures { result ≡ kept_bytes self.now }
+    {
+        self.bytes
+    }
+}
+
 /// Of how many of the last entries that have happened at a vnode it is kept what they answered: of the longest end of them that has at
 /// most so many entries, whose answers hold at most so many bytes, or of the last ones that are always kept, where these are more.
 #[derive(Clone, Copy, Debug, PartialEq, Eq, Drop)]
@@ -65,7 +108,7 @@ fn is_over(recent: Recent, entries: usize, bytes: u128) -> bool
 #[derive(Drop)]
 pub(crate) struct Answers {
     first: usize,
-    here: VecDeque<Kept>,
+    here: VecDeque<Weighed>,
     /// How many bytes are here.
     bytes: u128,
 }
@@ -100,8 +143,9 @@ impl Answers {
         requires few { length self.old < 2 ^ 32 }
         ensures { OnOk result (IsLeft recent (self.old ++ kept ∷ []) self.new) }
     {
-        let bytes = u128::from(kept.bytes());
-        self.here.push_back(kept)?;
+        let weighed = Weighed::new(kept);
+        let bytes = u128::from(weighed.bytes());
+        self.here.push_back(weighed)?;
         self.bytes += bytes;
         self.give_up(recent);
         Ok(())
@@ -129,10 +173,13 @@ impl Answers {
         if place < self.first {
             return Found::GivenUp;
         }
-        match self.here.get(place - self.first) {
-            Some(Kept::Read(key, state)) => Found::Read(key, state),
-            Some(Kept::GivenUp) => Found::GivenUp,
-            Some(Kept::Other) | None => Found::Nothing,
+        let Some(weighed) = self.here.get(place - self.first) else {
+            return Found::Nothing;
+        };
+        match weighed.kept() {
+            Kept::Read(key, state) => Found::Read(key, state),
+            Kept::GivenUp => Found::GivenUp,
+            Kept::Other => Found::Nothing,
         }
     }
 }
