@@ -15,8 +15,8 @@ Then each file of the folder is cut at many places, and has many of its bytes ch
 and leave the folder as it is. So has one whose folder is a file, one that can't write its number, and one whose `settings` are no line of theirs. Where
 what is held can't be written at a stop, that has to be told, status 1, and the next start has what the last whole files hold.
 
-Last, snapshots that fail: on a full device (a tmpfs of its own, where the script may mount one), and where each opening, write, forcing and renaming fails in
-turn (by strace, where it is there). Each has to be told in a line, `not kept NAME: ..`; a server that is killed then starts with the last whole
+Last, snapshots that fail: on a full device (a tmpfs of its own, where the script may mount one), where each opening, write, forcing and renaming fails in
+turn (by strace, where it is there), and where each allocation is refused in turn (by refuse_one.c, which cc compiles). Each has to be told in a line, `not kept NAME: ..`; a server that is killed then starts with the last whole
 snapshot, and the next snapshot of one that goes on is whole. Snapshots of a number of seconds in `settings` come by themselves, and none with 0.
 
 The status is 0 where all that held.
@@ -28,11 +28,13 @@ import random
 import resource
 import shutil
 import signal
+import struct
 import subprocess
 import sys
 import tempfile
 import threading
 import time
+from pathlib import Path
 
 CLIENTS = 3
 KEYS = 6
@@ -44,10 +46,10 @@ REJECTS = b"RBPF\x01\x01\x00\x00\x80" + bytes(7) + b"\xb7\x00\x00\x00\x01\x01\x0
 class Server:
     """The store's server on a folder, on a port that the system chose, with what it tells on standard error as it comes."""
 
-    def __init__(self, program, folder, before=None, under=(), workers=2):
+    def __init__(self, program, folder, before=None, under=(), workers=2, more=()):
         words = [*under, program, "keep", folder, "127.0.0.1:0", str(workers)]
         pipe = subprocess.PIPE
-        self.process = subprocess.Popen(words, stdin=pipe, stdout=pipe, stderr=pipe, text=True, preexec_fn=before)
+        self.process = subprocess.Popen(words, stdin=pipe, stdout=pipe, stderr=pipe, text=True, preexec_fn=before, env={**os.environ, **dict(more)})
         self.loaded = self.process.stdout.readline().strip()
         host, _, port = self.process.stdout.readline().removeprefix("listening ").strip().rpartition(":")
         self.host, self.port = host, int(port or 0)
@@ -482,6 +484,96 @@ def try_calls(program, folder):
     return faults
 
 
+def loaded_from(program, folder):
+    """How many records a copy of a folder starts with; one below 0 where it doesn't start."""
+    copied = folder + "-then"
+    shutil.copytree(folder, copied)
+    again = Server(program, copied)
+    loaded = int(again.loaded.split()[1]) if again.loaded.startswith("loaded ") else -1
+    again.stop()
+    shutil.rmtree(copied)
+    return loaded
+
+
+class Refusals:
+    """What refuse_one.c is asked for: which allocation of the thread that writes records it refuses."""
+
+    def __init__(self, folder):
+        library, self.asked = f"{folder}-refuse.so", f"{folder}-asked"
+        subprocess.run(["cc", "-O2", "-shared", "-fPIC", "-o", library, Path(__file__).with_name("refuse_one.c"), "-ldl"], check=True)
+        self.env = {"LD_PRELOAD": library, "REFUSALS": self.asked}
+        write(self.asked, struct.pack("ll", -1, 0))
+
+    def refuse(self, place):
+        """The allocation at a place from now on is refused; none is where it is below 0."""
+        with open(self.asked, "r+b") as file:
+            file.write(struct.pack("ll", place, 0))
+
+    def seen(self):
+        """How many allocations there were since then."""
+        with open(self.asked, "rb") as file:
+            return struct.unpack("ll", file.read())[1]
+
+
+def refused_snapshots(program, folder, refusals, keys):
+    """Faults where one of the allocations of a snapshot of so many keys is refused, each in turn, and how many there are."""
+    server = Server(program, folder, more=refusals.env)
+    for key in range(keys):
+        server.put(key, b"x" * 40)
+    # From the first one on it is known which thread writes.
+    lines, faults, count = [server.snapshot()], [], 0
+    while True:
+        refusals.refuse(count)
+        line = server.snapshot()
+        if refusals.seen() <= count:
+            break
+        loaded = loaded_from(program, folder)
+        if not line or not line.startswith("not kept ") or not line.endswith(": E1") or loaded != 3 * keys:
+            faults.append(f"allocation {count}: {line}, and then a start: {loaded}")
+        count += 1
+    lines.append(line)
+    refusals.refuse(-1)
+    faults += [f"no allocation is refused: {line}" for line in lines if not line or not line.startswith(f"snapshot {3 * keys} keys ")]
+    status, out, told = server.stop()
+    if status != 0 or not out.endswith("audit ok\n"):
+        faults.append(f"allocations: {status} {out} {told}")
+    return faults, count
+
+
+def refused_stops(program, folder, refusals):
+    """The same of a stop, from when it opens the first file on, of copies of a folder where a key more was put."""
+    faults, count, held = [], 0, loaded_from(program, folder)
+    while True:
+        copied = f"{folder}-{count}"
+        shutil.copytree(folder, copied)
+        refusals.refuse(-1)
+        server = Server(program, copied, more=refusals.env)
+        server.put("more", b"x" * 40)
+        refusals.refuse(count)
+        status, out, told = server.stop()
+        is_met = refusals.seen() > count
+        loaded = loaded_from(program, copied)
+        begins = "not kept " if is_met else "kept "
+        # Each of three files is replaced for itself: those behind the one that isn't are replaced all the same.
+        if status != int(is_met) or not out.startswith(begins) or not out.endswith("audit ok\n") or not held <= loaded <= held + 3:
+            faults.append(f"allocation {count} of a stop: {status} {out} {told}, and then a start: {loaded}")
+        shutil.rmtree(copied)
+        if not is_met:
+            return faults, count
+        count += 1
+
+
+def try_allocations(program, folder):
+    """Faults where one of the allocations of a snapshot or a stop is refused, and how many there are of each. None where there is no compiler."""
+    if not shutil.which("cc"):
+        return None
+    os.mkdir(folder)
+    refusals = Refusals(folder)
+    faults, snapshots = refused_snapshots(program, folder, refusals, 2)
+    more, stops = refused_stops(program, folder, refusals)
+    return faults + more, snapshots, stops
+
+
 def try_files(program, folder, chance):
     """The status of the tries of damaged files, of folders that can't be had or written, and of snapshots that fail."""
     faults, count = try_damages(program, folder, chance)
@@ -490,13 +582,16 @@ def try_files(program, folder, chance):
     faults += try_serve(program)
     faults += try_full(program, folder)
     device, calls = try_device(program, folder + "-device"), try_calls(program, folder + "-calls")
-    for fault in faults + (device or []) + (calls or []):
+    allocations = try_allocations(program, folder + "-memory")
+    short = allocations[0] if allocations else []
+    for fault in faults + (device or []) + (calls or []) + short:
         print(fault)
-    if faults or device or calls:
+    if faults or device or calls or short:
         return 1
     print(f"{count} damages, each told by its file; what can't be written leaves the last whole files")
     print("no device could be had" if device is None else "a full device leaves the last whole snapshot")
     print("there is no strace" if calls is None else f"{len(CALLS)} calls of the system failed, each told; the last whole snapshot starts")
+    print("there is no compiler" if allocations is None else f"{allocations[1]} allocations of a snapshot and {allocations[2]} of a stop were refused, each told; the last whole files start")
     return 0
 
 
