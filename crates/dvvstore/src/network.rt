@@ -147,7 +147,7 @@ impl<
             Ok(folder) => folder,
             Err(why) => return Err(refused(alloc, out, &why)),
         };
-        let opened = match folder::open(alloc, &mut folder) {
+        let opened = match folder::open(alloc, self.rt, &mut folder) {
             Ok(opened) => opened,
             Err(OpenFault::NoMemory) => return Err(Unserved::NoMemory),
             Err(why) => return Err(refused(alloc, out, &why)),

@@ -1,5 +1,5 @@
 -- What a start reads of a folder (this store's profile).
-use Rattle.std.specs.Prelude.{◌≡◌, ◌⊎◌, ◌%◌, ℕ, zero, suc, List, [], codes, Option, None, Some}
+use Rattle.std.specs.Prelude.{◌≡◌, ◌⊎◌, ◌%◌, ⊤, ℕ, zero, suc, List, [], codes, Option, None, Some}
 use Rattle.std.specs.Global.{Vec}
 use Rattle.keeping.specs.Files.{IsFileOf, records_at}
 use Rattle.keeping.specs.declared.file.KeptFile.{KeptFile}
@@ -15,12 +15,14 @@ name_of zero = codes "vnode-0.records"
 name_of (suc zero) = codes "vnode-1.records"
 name_of (suc (suc index)) = codes "vnode-2.records"
 
-module _ (finds : List ℕ → Option (List ℕ) → Type 0) where
-  -- the file of the vnode with an index was found so: as none, or as the whole file of its records, and it is that vnode's
-  abbrev pub IsFileAt : Option KeptFile → ℕ → Type 0
-  IsFileAt None index = finds (name_of index) None
-  IsFileAt (Some file) index = (bytes : List ℕ) × finds (name_of index) (Some bytes) × IsFileOf file.from file.records.items bytes × (file.from % 65536 ≡ index)
+-- bytes, where there are some, are the whole file of the records of the vnode with an index
+abbrev pub IsFileIn : Option (List ℕ) → ℕ → Option KeptFile → Type 0
+IsFileIn None index None = ⊤
+IsFileIn (Some bytes) index (Some file) = IsFileOf file.from file.records.items bytes × (file.from % 65536 ≡ index)
+IsFileIn None index (Some file) = ⊥
+IsFileIn (Some bytes) index None = ⊥
 
+module _ (finds : List ℕ → Option (List ℕ) → Type 0) where
   -- the records of the vnode with an index are those of its file, and none where there is no such file
   abbrev pub IsReadAt : List KeptFile → ℕ → Type 0
   IsReadAt files index =

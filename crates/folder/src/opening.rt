@@ -2,7 +2,7 @@
 
 ghost use Rattle.std.specs.Prelude.{◌≡◌, ◌<◌, ◌/◌, ◌++◌, ◌∷◌, [], ℕ, List, Option, IfOk, OnOk, Contains, codes, decimal, length, option_to_list};
 ghost use Rattle.keeping.specs.Numbers.{all_ids};
-ghost use Rattle.folder.specs.Reads.{IsFileAt, IsReadAt, bytes_in, name_of};
+ghost use Rattle.folder.specs.Reads.{IsFileIn, IsReadAt, bytes_in};
 ghost use Rattle.folder.specs.Seals.{sealed};
 ghost use Rattle.folder.specs.Settings.{IsSetBy};
 ghost use Rattle.folder.specs.Steps.{IsPut};
@@ -14,6 +14,8 @@ use crate::settings::{Settings, USUAL, settings_in};
 use crate::writing::{WriteFault, replace};
 use keeping::{KeptFile, Spent, Unkept, next_incarnation, read_file};
 use std::alloc::{AllocError, Global};
+use std::thread;
+use std::thread::Threads;
 use thiserror::Error;
 
 /// What a start has.
@@ -87,14 +89,19 @@ impl From<AllocError> for OpenFault {
 }
 
 /// Reads all files of a folder, and takes the next number: it is written and forced to the device before anything else is done. An empty
-/// folder is a new store. Nothing is changed where a file is at fault.
-pub fn open<F: Folder>(alloc: Global, folder: &mut F) -> Result<Opened, OpenFault>
+/// folder is a new store. Nothing is changed where a file is at fault. The files of records are taken apart side by side where there are threads
+/// for that.
+pub fn open<F: Folder, R: Threads>(
+    alloc: Global,
+    rt: &R,
+    folder: &mut F,
+) -> Result<Opened, OpenFault>
     ensures above { IfOk result (λ opened. (id : ℕ) → Contains (all_ids opened.held.files.items) id → id / 65536 < opened.number) }
     ensures settings { IfOk result (λ opened. (found : Option (List ℕ)) × F.finds folder.old (codes "settings") found × IsSetBy found opened.held.settings.every) }
     ensures read { IfOk result (λ opened. (index : ℕ) → index < 3 → IsReadAt (F.finds folder.old) opened.held.files.items index) }
     ensures put { IfOk result (λ opened. IsPut F.does folder.old (codes "incarnation") (sealed (decimal opened.number ++ 10 ∷ [])) folder.new) }
 {
-    let held = read_all(alloc, folder)?;
+    let held = read_all(alloc, rt, folder)?;
     let number = match next_incarnation(held.last, &held.files) {
         Ok(number) => number,
         Err(spent) => return Err(OpenFault::Spent(spent)),
@@ -115,14 +122,14 @@ fn take<F: Folder>(alloc: Global, folder: &mut F, number: u16) -> Result<(), Wri
 }
 
 /// What a folder holds, all of it read.
-fn read_all<F: Folder>(alloc: Global, folder: &F) -> Result<Held, OpenFault>
+fn read_all<F: Folder, R: Threads>(alloc: Global, rt: &R, folder: &F) -> Result<Held, OpenFault>
     ensures read { IfOk result (λ held. (index : ℕ) → index < 3 → IsReadAt (F.finds folder.now) held.files.items index) }
     ensures settings { IfOk result (λ held. (found : Option (List ℕ)) × F.finds folder.now (codes "settings") found × IsSetBy found held.settings.every) }
 {
     let settings = settings_of(alloc, folder)?;
     let last = last_in(alloc, folder)?;
     let hooks = sealed_in(alloc, folder, HOOKS)?.unwrap_or(Vec::new(alloc));
-    let files = files_in(alloc, folder)?;
+    let files = files_in(alloc, rt, folder)?;
     if last.is_none() && !files.is_empty() {
         return Err(OpenFault::Numberless);
     }
@@ -195,16 +202,59 @@ fn number_of(bytes: &[u8]) -> Option<u16> {
     text.trim_end().parse::<u16>().ok()
 }
 
-/// The files of records that there are.
-fn files_in<F: Folder>(alloc: Global, folder: &F) -> Result<Vec<KeptFile>, OpenFault>
+/// The files of records that there are. They are read one after another, and taken apart side by side where there are threads for that.
+fn files_in<F: Folder, R: Threads>(
+    alloc: Global,
+    rt: &R,
+    folder: &F,
+) -> Result<Vec<KeptFile>, OpenFault>
     ensures { IfOk result (λ files. (index : ℕ) → index < 3 → IsReadAt (F.finds folder.now) files.items index) }
 {
+    let first = bytes_of(alloc, folder, name_of(0))?;
+    let second = bytes_of(alloc, folder, name_of(1))?;
+    let third = bytes_of(alloc, folder, name_of(2))?;
+    let (first, (second, third)) = thread::join(
+        rt,
+        || -> Result<Option<KeptFile>, OpenFault>
+            ensures { IfOk result (λ file. IsFileIn (bytes_in first) 0 file) }
+        { file_in(alloc, first, 0) },
+        || -> (
+            Result<Option<KeptFile>, OpenFault>,
+            Result<Option<KeptFile>, OpenFault>,
+        )
+            ensures second { IfOk result.0 (λ file. IsFileIn (bytes_in second) 1 file) }
+            ensures third { IfOk result.1 (λ file. IsFileIn (bytes_in third) 2 file) }
+        { both_in(alloc, rt, second, third) },
+    );
     let mut files = Vec::with_capacity(alloc, VNODES)?;
-    for index in 0..VNODES {
-        let found = file_in(alloc, folder, index)?;
-        add(&mut files, found)?;
-    }
+    add(&mut files, first?)?;
+    add(&mut files, second?)?;
+    add(&mut files, third?)?;
     Ok(files)
+}
+
+/// The files that bytes are of the second and the third vnode.
+fn both_in<R: Threads>(
+    alloc: Global,
+    rt: &R,
+    second: Option<Vec<u8>>,
+    third: Option<Vec<u8>>,
+) -> (
+    Result<Option<KeptFile>, OpenFault>,
+    Result<Option<KeptFile>, OpenFault>,
+)
+    ensures second { IfOk result.0 (λ file. IsFileIn (bytes_in second) 1 file) }
+    ensures third { IfOk result.1 (λ file. IsFileIn (bytes_in third) 2 file) }
+{
+    thread::join(
+        rt,
+        || -> Result<Option<KeptFile>, OpenFault>
+            ensures { IfOk result (λ file. IsFileIn (bytes_in second) 1 file) }
+        { file_in(alloc, second, 1) },
+        || -> Result<Option<KeptFile>, OpenFault>
+            ensures { IfOk result (λ file. IsFileIn (bytes_in third) 2 file) }
+        { file_in(alloc, third, 2) },
+    )
 }
 
 /// Adds a file to others, if there is one.
@@ -220,19 +270,18 @@ fn add(files: &mut Vec<KeptFile>, found: Option<KeptFile>) -> Result<(), OpenFau
     }
 }
 
-/// The records of the vnode with an index, if there is a file of them.
-fn file_in<F: Folder>(
+/// The records of the vnode with an index, whose file holds these bytes, if there is one.
+fn file_in(
     alloc: Global,
-    folder: &F,
+    found: Option<Vec<u8>>,
     index: usize,
 ) -> Result<Option<KeptFile>, OpenFault>
-    requires { index < 3 }
-    ensures { IfOk result (λ found. IsFileAt (F.finds folder.now) found index) }
+    ensures { IfOk result (λ file. IsFileIn (bytes_in found) index file) }
 {
-    let name = name_of(index);
-    let Some(bytes) = bytes_of(alloc, folder, name)? else {
+    let Some(bytes) = found else {
         return Ok(None);
     };
+    let name = name_of(index);
     match read_file(alloc, &bytes) {
         Ok(file) if (file.from % 65_536) as usize == index => Ok(Some(file)),
         Ok(_) => Err(OpenFault::Misplaced { name }),

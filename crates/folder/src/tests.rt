@@ -7,6 +7,7 @@ use crate::{Folder, open};
 use memory::Memory;
 use std::alloc::Global;
 use std::test::Fail;
+use std::thread::Threads;
 
 /// More operations than any test does.
 const MANY: u64 = 1_000;
@@ -23,8 +24,8 @@ fn expect(holds: bool, operations: u64) -> Result<(), Fail> {
 }
 
 /// The number that a start takes.
-fn number(alloc: Global, folder: &mut Memory) -> Option<u16> {
-    match open(alloc, folder) {
+fn number<R: Threads>(rt: &R, alloc: Global, folder: &mut Memory) -> Option<u16> {
+    match open(alloc, rt, folder) {
         Ok(opened) => Some(opened.number),
         Err(_) => None,
     }
@@ -43,10 +44,10 @@ fn is_above(later: Option<u16>, earlier: Option<u16>) -> bool {
 fn no_number_is_taken_twice(rt: HostRuntime) -> Result<(), Fail> {
     for operations in 0..WHOLE + 2 {
         let mut folder = Memory::new(rt.alloc(), operations);
-        let first = number(rt.alloc(), &mut folder);
+        let first = number(&rt, rt.alloc(), &mut folder);
         folder.begin_again(MANY);
-        let second = number(rt.alloc(), &mut folder);
-        let third = number(rt.alloc(), &mut folder);
+        let second = number(&rt, rt.alloc(), &mut folder);
+        let third = number(&rt, rt.alloc(), &mut folder);
         expect(first.is_some() == (operations >= WHOLE), operations)?;
         expect(
             is_above(second, first) && is_above(third, second),
@@ -72,8 +73,8 @@ const SET: [(&[u8], Option<u32>); 11] = [
 ];
 
 /// The seconds that a start reads, if it isn't refused for them.
-fn every(alloc: Global, folder: &mut Memory) -> Option<u32> {
-    match open(alloc, folder) {
+fn every<R: Threads>(rt: &R, alloc: Global, folder: &mut Memory) -> Option<u32> {
+    match open(alloc, rt, folder) {
         Ok(opened) => Some(opened.held.settings.every),
         Err(_) => None,
     }
@@ -82,11 +83,14 @@ fn every(alloc: Global, folder: &mut Memory) -> Option<u32> {
 #[test]
 fn settings_are_one_line(rt: HostRuntime) -> Result<(), Fail> {
     let mut folder = Memory::new(rt.alloc(), MANY);
-    expect(every(rt.alloc(), &mut folder) == Some(60), 0)?;
+    expect(every(&rt, rt.alloc(), &mut folder) == Some(60), 0)?;
     for (place, (bytes, seconds)) in SET.iter().enumerate() {
         let place = place as u64;
         let done = replace(rt.alloc(), &mut folder, "settings", bytes).is_ok();
-        expect(done && every(rt.alloc(), &mut folder) == *seconds, place)?;
+        expect(
+            done && every(&rt, rt.alloc(), &mut folder) == *seconds,
+            place,
+        )?;
     }
     Ok(())
 }
