@@ -42,8 +42,9 @@ pub enum SnapshotFault {
 
 /// Who is asked before each key of a snapshot whether it goes on.
 pub trait Pace {
-    /// Whether it goes on. It may be made to wait first.
-    fn goes_on(&mut self) -> bool;
+    /// Whether it goes on. It may be made to wait first. It is told at which place of the vnode's journal the key before was read: where that
+    /// isn't the place after the one that it was told before, somebody else called the vnode meanwhile.
+    fn goes_on(&mut self, last: Option<u32>) -> bool;
 }
 
 impl From<Unspelled> for SnapshotFault {
@@ -108,23 +109,24 @@ fn write_keys<P: Peers, W: Write, G: Pace>(
     ensures read { OnOk result ((answers : List OneAnswer) × (bytes : List ℕ) × (length answers ≡ length keys.now) × Made P.happens peers.old (reads_at index keys.now answers) peers.new
         × AreSpelledBy (records_read keys.now answers) bytes × Appends (W.contents out.old) (W.contents out.new) bytes) }
 {
+    let mut last = None;
     for key in keys {
-        if !pace.goes_on() {
+        if !pace.goes_on(last) {
             return Err(SnapshotFault::GivenUp);
         }
-        write_key(alloc, peers, index, key, out)?;
+        last = Some(write_key(alloc, peers, index, key, out)?);
     }
     Ok(())
 }
 
-/// Reads a key, and writes the record.
+/// Reads a key, and writes the record. Answers at which place of the vnode's journal it was read.
 fn write_key<P: Peers, W: Write>(
     alloc: Global,
     peers: &mut P,
     index: usize,
     key: &Key,
     out: &mut W,
-) -> Result<(), SnapshotFault>
+) -> Result<u32, SnapshotFault>
     ensures asked { (calls : List Call) × AllByRecursion (IsReadAt index) calls × Made P.happens peers.old calls peers.new }
     ensures read { OnOk result ((answer : OneAnswer) × (bytes : List ℕ) × P.happens peers.old (StateOf index key.now (Ok answer)) peers.new
         × AreSpelledBy (record_read key.now answer ∷ []) bytes × Appends (W.contents out.old) (W.contents out.new) bytes) }
@@ -133,7 +135,8 @@ fn write_key<P: Peers, W: Write>(
         Ok(answer) => answer,
         Err(fault) => return Err(SnapshotFault::Unread(fault)),
     };
-    write_record(alloc, key, answer.from, answer.at, &answer.state, out)
+    write_record(alloc, key, answer.from, answer.at, &answer.state, out)?;
+    Ok(answer.at)
 }
 
 /// Writes the record that ends a file of so many.
