@@ -19,8 +19,12 @@ use workers::laws::calls_only_add;
 /// How long it waits before it looks again whether a snapshot is due or asked for, in milliseconds.
 const TICK: u64 = 100;
 
-/// How long a snapshot rests after each millisecond of reads, in milliseconds.
-const REST: u64 = 3;
+/// So many keys are read in a spell, or fewer: half of the entries of a vnode of which the follower keeps what they answered. So what a client's
+/// call answered is kept for longer than a spell lasts.
+const SPELL: u32 = 8_192;
+
+/// How long a spell lasts at the least in which somebody else calls the vnode, in milliseconds.
+const SPELL_MILLIS: u64 = 100;
 
 /// A gate that lets every call through.
 #[derive(Clone, Copy, Debug)]
@@ -35,22 +39,65 @@ fn is_serving(signs: &Signs<'_>) -> bool {
     !signs.is_over() && signs.lobby.roster.ending.stance() != Stance::Stopping
 }
 
-/// How fast a snapshot goes on, and how long: as long as the server does. It reads for a millisecond at the most and then rests, so that clients
-/// have the processor, and a merge that a client's request makes still finds the answer that it names among the last that the follower keeps.
+/// How fast a snapshot goes on, and how long: as long as the server does. It reads spell by spell, and rests after one in which somebody else
+/// called the vnode, so that clients have the processor, and a merge that a client's request makes still finds the answer that it names among
+/// the last that the follower keeps. Where nobody else calls the vnode it doesn't rest.
 #[derive(Drop)]
 struct Stride<'a, R> {
     rt: &'a R,
     signs: Signs<'a>,
     timer: Timer,
-    /// When it last rested.
-    rested: u64,
+    /// When the spell began.
+    begin: u64,
+    /// How many keys it may still read.
+    left: u32,
+    /// Where the last key was read.
+    last: Option<u32>,
+    /// Whether somebody else called the vnode in the spell.
+    is_shared: bool,
+}
+
+impl<'a, R: Wait> Stride<'a, R> {
+    /// Its first spell begins.
+    fn new(rt: &'a R, signs: Signs<'a>) -> Self {
+        let mut timer = Timer::new();
+        Stride {
+            rt,
+            signs,
+            begin: timer.now(),
+            timer,
+            left: SPELL,
+            last: None,
+            is_shared: true,
+        }
+    }
+
+    /// Another key was read, at a place of the vnode's journal.
+    fn note(&mut self, place: u32) {
+        self.left = self.left.saturating_sub(1);
+        self.is_shared = self.is_shared || self.last.map(|last| last.wrapping_add(1)) != Some(place);
+        self.last = Some(place);
+    }
+
+    /// The spell ends, and where it was shared not before its time.
+    fn rest(&mut self) {
+        let lasted = self.timer.now().saturating_sub(self.begin);
+        if self.is_shared && lasted < SPELL_MILLIS {
+            self.signs.wait(self.rt, Duration::from_millis(SPELL_MILLIS - lasted));
+        }
+        self.begin = self.timer.now();
+        self.left = SPELL;
+        self.is_shared = false;
+    }
 }
 
 impl<R: Wait> Pace for Stride<'_, R> {
-    fn goes_on(&mut self) -> bool {
-        if self.timer.now() != self.rested {
-            self.signs.wait(self.rt, Duration::from_millis(REST));
-            self.rested = self.timer.now();
+    fn goes_on(&mut self, last: Option<u32>) -> bool {
+        if let Some(place) = last {
+            self.note(place);
+        }
+        if self.left == 0 {
+            self.rest();
         }
         is_serving(&self.signs)
     }
@@ -193,13 +240,7 @@ impl<F: Folder> Saver<'_, F> {
                 .saturating_add(u32::try_from(index).unwrap_or(u32::MAX)),
         };
         let mut peers = PassPeers::new(self.alloc, rt, cluster, pass, &Open);
-        let mut timer = Timer::new();
-        let mut pace = Stride {
-            rt,
-            signs: *signs,
-            rested: timer.now(),
-            timer,
-        };
+        let mut pace = Stride::new(rt, *signs);
         keep_served(self.alloc, self.folder, &mut peers, subject, &mut pace)
     }
 }
