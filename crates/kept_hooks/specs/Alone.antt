@@ -1,5 +1,5 @@
 -- What calls do to hooks without a store of keys (this store's profile).
-use Rattle.std.specs.Prelude.{◌≡◌, ℕ, List, [], ◌∷◌, ◌++◌, Some, None, Result, Ok, Err}
+use Rattle.std.specs.Prelude.{List, [], ◌∷◌, ◌++◌, Some, None, Result, Ok}
 use Rattle.bpfimage.specs.declared.image.ImageKind.{ImageKind}
 use Rattle.bpfimage.specs.declared.image.ImageKind.TheVariants.{PreCommit, Resolver}
 use Rattle.helpers.specs.declared.sig.Entry.{Entry}

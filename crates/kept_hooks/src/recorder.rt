@@ -5,15 +5,18 @@ ghost use Rattle.std.specs.Prelude.{◌≡◌};
 use crate::list::Requests;
 use admission::Refusal;
 use dvv::{Clock, Dot};
-use hooks::{HookFault, NameFault};
+use hooks::{HookChanges, HookFault, Hooks, NameFault};
 use httpask::Change;
 use httpfront::Backend;
 use httpreply::Bound;
 use object::{Bytes, Content, Key, KeyState};
+use peers::Peers;
 use quorum::QuorumFault;
 use std::sync::atomic::AtomicBool;
 use std::sync::atomic::Ordering::SeqCst;
 use std::sync::{Mutex, Wait};
+use store::NotingBackend;
+use troubles::Noted;
 
 /// A store that writes down which requests changed its hooks, in a list that it shares with other stores of the same hooks.
 ///
@@ -143,5 +146,22 @@ impl<K: Backend + Drop, R: Wait> Backend for Recorder<'_, K, R> {
         }
         self.note();
         done
+    }
+}
+
+impl<P: Peers, H: Hooks + HookChanges, K: NotingBackend<P, H> + Drop, R: Wait> NotingBackend<P, H>
+    for Recorder<'_, K, R> {
+    ghost shows = { λ s. K.shows s.store };
+
+    ghost as_shown = { λ old new call reply gives. K.as_shown old.store new.store call reply gives };
+
+    ghost as_many = { λ s. K.as_many s.store };
+
+    fn has_troubles(&self) -> bool {
+        self.store.has_troubles()
+    }
+
+    fn take_troubles(&mut self) -> Noted {
+        self.store.take_troubles()
     }
 }

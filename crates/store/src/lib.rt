@@ -4,7 +4,9 @@
 
 mod backend;
 mod hooking;
+mod notes;
 mod noting;
 mod store;
 
+pub use notes::NotingBackend;
 pub use store::{Read, Store};
