@@ -5,3 +5,4 @@ mod Staying
 mod Taking
 mod Told
 mod Growing
+mod VisitLemmas

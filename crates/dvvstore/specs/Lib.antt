@@ -1,3 +1,4 @@
 pub mod Asides
 pub mod Crews
 pub mod Keeping
+pub mod Visits

@@ -1,11 +1,13 @@
 //! A crew: workers on threads, a thread that hands them connections and follows what they do, and one that makes snapshots beside them.
 
+mod held;
 mod pace;
 pub mod reporter;
 mod running;
 mod signs;
 mod working;
 
+pub use held::Open;
 pub use running::{Served, keep, serve};
 pub use signs::Signs;
 pub use working::{Lookout, Seat};

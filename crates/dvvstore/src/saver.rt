@@ -3,11 +3,11 @@
 ghost use Rattle.std.specs.Prelude.{Some};
 ghost use Rattle.dvvstore.specs.Asides.{GoesOn};
 
-use crate::crew::Signs;
+use crate::crew::{Open, Signs};
 use folder::{Folder, Unreplaced, WriteFault, keep_requests, keep_served};
 use keeping::{Pace, SnapshotFault, Subject};
 use listener::Timer;
-use pool::{Cluster, Gate, Pass, Room};
+use pool::{Cluster, Pass, Room};
 use sockets::Stance;
 use std::alloc::Global;
 use std::io::{Eprint, Stderr};
@@ -25,14 +25,6 @@ const SPELL: u32 = 8_192;
 
 /// How long a spell lasts at the least in which somebody else calls the vnode, in milliseconds.
 const SPELL_MILLIS: u64 = 100;
-
-/// A gate that lets every call through.
-#[derive(Clone, Copy, Debug)]
-struct Open;
-
-impl Gate for Open {
-    fn told(&self, _vnode: usize) {}
-}
 
 /// Whether the server goes on: neither have all workers ended, nor was it told to stop.
 fn is_serving(signs: &Signs<'_>) -> bool {
@@ -75,7 +67,8 @@ impl<'a, R: Wait> Stride<'a, R> {
     /// Another key was read, at a place of the vnode's journal.
     fn note(&mut self, place: u32) {
         self.left = self.left.saturating_sub(1);
-        self.is_shared = self.is_shared || self.last.map(|last| last.wrapping_add(1)) != Some(place);
+        self.is_shared = self.is_shared
+            || self.last.map(|last| last.wrapping_add(1)) != Some(place);
         self.last = Some(place);
     }
 
@@ -83,7 +76,8 @@ impl<'a, R: Wait> Stride<'a, R> {
     fn rest(&mut self) {
         let lasted = self.timer.now().saturating_sub(self.begin);
         if self.is_shared && lasted < SPELL_MILLIS {
-            self.signs.wait(self.rt, Duration::from_millis(SPELL_MILLIS - lasted));
+            self.signs
+                .wait(self.rt, Duration::from_millis(SPELL_MILLIS - lasted));
         }
         self.begin = self.timer.now();
         self.left = SPELL;

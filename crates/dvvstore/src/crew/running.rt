@@ -1,10 +1,11 @@
 //! A crew at work, from its beginning to what is left of it.
 
-ghost use Rattle.std.specs.Prelude.{◌≡◌, ◌+◌, ◌++◌, ◌≤◌, List, IfOk, vec_len};
+ghost use Rattle.std.specs.Prelude.{◌≡◌, ◌+◌, ◌++◌, ◌≤◌, List, IfOk, map, vec_len};
 ghost use Rattle.stamps.specs.declared.view.Told.{Told};
 ghost use Rattle.closing.specs.Following.{IsFollowedTo, IsSaidOf};
 ghost use Rattle.vnode_locks.specs.Gathers.{IsGathered};
-ghost use Rattle.dvvstore.specs.Asides.{GoesOn, count_of, passes_of, told_of};
+ghost use Rattle.dvvstore.specs.Asides.{GoesOn, count_of, passes_of};
+ghost use Rattle.dvvstore.specs.Visits.{AfterVisits, HaveVisited, begun};
 
 use crate::crew::signs::Signs;
 use crate::crew::working::{Lookout, Seat, Shared, work_attended};
@@ -54,6 +55,7 @@ fn run<
 ) -> Result<Back<B>, AllocError>
     requires first { cluster.now.first ≡ B.first }
     ensures passes { IfOk result (λ left. vec_len left.passes ≡ vec_len seats) }
+    ensures visited { IfOk result (λ left. HaveVisited H.finds H.names H.takes (map (λ s. begun cluster.now s.pass s.hooking.hooks s.hooking.table.listed s.placement) seats.items) left.passes.items) }
     ensures spare { IfOk result (λ left. GoesOn spare left.spare) }
 {
     let shared = Shared::new(lookout);
@@ -68,7 +70,7 @@ fn run<
         },
         || -> Result<Vec<Pass<B>>, AllocError>
             requires { lent.now.first ≡ B.first }
-            ensures { IfOk result (λ passes. vec_len passes ≡ vec_len seats) }
+            ensures { IfOk result (λ passes. (vec_len passes ≡ vec_len seats) × HaveVisited H.finds H.names H.takes (map (λ s. begun lent.entry.now s.pass s.hooking.hooks s.hooking.table.listed s.placement) seats.items) passes.items) }
         { work_attended(alloc, rt, lent, seats, lobby, both) },
     );
     let Shared {
@@ -119,7 +121,7 @@ pub fn serve<
 ) -> Followed
     requires first { cluster.first ≡ B.first }
     requires all { cluster.passes ≤ vec_len seats + 1 }
-    ensures followed { (told : List Told) × IsFollowedTo told cluster.vnodes result }
+    ensures followed { AfterVisits H.finds H.names H.takes (map (λ s. begun cluster s.pass s.hooking.hooks s.hooking.table.listed s.placement) seats.items) (λ told. (watched : List Told) × IsFollowedTo (told ++ watched) cluster.vnodes result) }
 {
     let saver: Option<Saver<'_, Nowhere>> = None;
     match run(alloc, rt, &cluster, seats, lobby, lookout, saver, None) {
@@ -159,7 +161,7 @@ pub fn keep<
 ) -> Result<Served, AllocError>
     requires first { cluster.first ≡ B.first }
     requires all { cluster.passes ≤ vec_len seats + 2 }
-    ensures kept { IfOk result (λ served. (before after : List Told) × IsGathered (before ++ pass.told ++ after) served.closed.vnodes.items × (vec_len served.closed.vnodes ≡ cluster.vnodes)) }
+    ensures kept { IfOk result (λ served. AfterVisits H.finds H.names H.takes (map (λ s. begun cluster s.pass s.hooking.hooks s.hooking.table.listed s.placement) seats.items) (λ told. (after : List Told) × IsGathered (told ++ pass.told ++ after) served.closed.vnodes.items) × (vec_len served.closed.vnodes ≡ cluster.vnodes)) }
     ensures said { IfOk result (λ served. IsSaidOf fronts.now served.closed.vnodes.items served.closed.said) }
 {
     let Back {

@@ -1,8 +1,14 @@
 //! Workers, and a thread that hands them connections and follows what they do.
 
-ghost use Rattle.std.specs.Prelude.{◌≡◌, IfOk, vec_len};
-ghost use Rattle.sockets.specs.Work.{Stays};
+ghost use Rattle.std.specs.Prelude.{◌≡◌, IfOk, map, vec_len};
+ghost use Rattle.listener.specs.Waiting.{HasHadNone};
+ghost use Rattle.place.specs.Places.{copies_of};
+ghost use Rattle.serving.specs.Passes.{GivesUnnoted, unnoted};
+ghost use Rattle.sockets.specs.Work.{Stays, Works};
+ghost use Rattle.store.specs.View.{StoreView};
+ghost use Rattle.dvvstore.specs.Visits.{HasLed, HasVisited, HaveVisited, Leads, begun};
 
+use crate::crew::held::HeldPeers;
 use crate::crew::pace::Pace;
 use crate::crew::reporter::{Aloud, Reporter};
 use crate::crew::signs::Signs;
@@ -11,9 +17,11 @@ use hooks::{HookChanges, Hooks};
 use httpfront::Backend;
 use kept_hooks::{Recorder, Requests};
 use listener::{Lobby, Post, Timer};
+use peers::Peers;
 use place::Placement;
-use pool::{Cluster, Gate, Pass, Room};
+use pool::{Cluster, Pass, Room};
 use quorum::Hooking;
+use serving::passes::exchanges_are_by_a_pass;
 use sockets::{Orders, Stance, Worker};
 use std::alloc::{AllocError, Global};
 use std::io::Stderr;
@@ -23,9 +31,8 @@ use std::sync::{Mutex, Wait};
 use std::thread;
 use std::thread::{Parker, Threads};
 use std::time::Duration;
-use store::Store;
+use store::{NotingBackend, Store};
 use troubles::{Noted, Trouble};
-use workers::PassPeers;
 
 /// How long the thread that follows waits for a connection before it follows again, in milliseconds.
 const TICK: u64 = 20;
@@ -38,14 +45,6 @@ const LONGEST_WAIT: u64 = 500;
 
 /// How long it does where it also accepts and follows, or reads nothing, in milliseconds.
 const NAP: u64 = 5;
-
-/// A gate that lets every call through.
-#[derive(Clone, Copy, Debug)]
-struct Open;
-
-impl Gate for Open {
-    fn told(&self, _vnode: usize) {}
-}
 
 /// What one worker has.
 #[derive(Drop)]
@@ -210,7 +209,9 @@ fn work_once<B: Room + Spot, K: Backend, R: Wait>(
     worker: &mut Worker,
     store: &mut K,
     shift: &mut Shift,
-) -> Worked {
+) -> Worked
+    ensures works { Works K.gives K.copies worker.old worker.new store.old store.new }
+{
     let ending = &floor.lobby.roster.ending;
     let is_alone = !floor.shared.is_followed.load(SeqCst);
     let orders = Orders {
@@ -260,15 +261,103 @@ fn shed_if_asked(post: &Post, worker: &mut Worker)
     }
 }
 
+/// Tells what went wrong in a turn over a store, if anything did.
+fn tell_troubles<P: Peers, H: Hooks + HookChanges, K: NotingBackend<P, H>, R: Wait>(
+    rt: &R,
+    reporter: &Reporter,
+    store: &mut K,
+    worked: Worked,
+)
+    ensures stays { unnoted (K.shows store.new) ≡ unnoted (K.shows store.old) }
+{
+    if worked.lacks > 0 || store.has_troubles() {
+        tell(
+            rt,
+            reporter,
+            &store.take_troubles(),
+            worked.lacks,
+            worked.now,
+        );
+    }
+}
+
+/// One turn of a worker over a store, behind which it lets a connection go where it is asked to and tells what went wrong. Whether it goes on.
+fn take_turn<B: Room + Spot, P: Peers, H: Hooks + HookChanges, K: NotingBackend<P, H>, R: Wait>(
+    rt: &R,
+    floor: &Floor<'_, B>,
+    post: &Post,
+    worker: &mut Worker,
+    store: &mut K,
+    shift: &mut Shift,
+) -> bool
+    ensures leads { (start : StoreView P H)
+        → Leads (GivesUnnoted P.happens H.finds H.names H.takes) (λ s. copies_of s.placement.vnodes) start worker.old (unnoted (K.shows store.old))
+        → Leads (GivesUnnoted P.happens H.finds H.names H.takes) (λ s. copies_of s.placement.vnodes) start worker.new (unnoted (K.shows store.new)) }
+{
+    let worked = work_once(rt, floor, post, worker, store, shift);
+    shed_if_asked(post, worker);
+    tell_troubles::<P, H, K, R>(rt, &floor.shared.reporter, store, worked);
+    worked.goes_on
+}
+
+/// Has a worker, to which no connection came before, answer its connections over a store, turn by turn, until it ends.
+fn stay<B: Room + Spot, P: Peers, H: Hooks + HookChanges, K: NotingBackend<P, H>, R: Wait>(
+    rt: &R,
+    floor: &Floor<'_, B>,
+    post: &Post,
+    mut worker: Worker,
+    store: &mut K,
+)
+    ensures led { HasHadNone worker → HasLed (GivesUnnoted P.happens H.finds H.names H.takes) (λ s. copies_of s.placement.vnodes) (unnoted (K.shows store.old)) (unnoted (K.shows store.new)) }
+{
+    let mut shift = Shift {
+        timer: Timer::new(),
+        pace: Pace::new(),
+        is_last: false,
+    };
+    for _ in rt.forever() {
+        if !take_turn::<B, P, H, K, R>(rt, floor, post, &mut worker, store, &mut shift) {
+            break;
+        }
+    }
+}
+
+/// Has a worker, to which no connection came before, answer its connections until it ends, over the vnodes of the floor, which are called by a
+/// pass. The pass is handed back.
+fn visit<B: Room + Spot, H: Hooks + HookChanges + Drop, R: Wait>(
+    rt: &R,
+    floor: &Floor<'_, B>,
+    post: &Post,
+    worker: Worker,
+    pass: Pass<B>,
+    hooking: Hooking<H>,
+    placement: Placement,
+) -> Pass<B>
+    ensures visited { HasHadNone worker → HasVisited H.finds H.names H.takes (begun floor.now.cluster.now pass hooking.hooks hooking.table.listed placement) result }
+{
+    exchanges_are_by_a_pass::<HeldPeers<'_, B, R>, H>();
+    let peers = HeldPeers::new(floor.alloc, rt, floor.cluster, pass);
+    let store = Store::new(floor.alloc, peers, hooking, placement);
+    let recorder = Recorder::new(store, &floor.shared.requests, rt);
+    let mut recorder = recorder.noting(&floor.shared.written);
+    stay::<B, HeldPeers<'_, B, R>, H, _, R>(rt, floor, post, worker, &mut recorder);
+    let Recorder { store, .. } = recorder;
+    let Store { peers, .. } = store;
+    let HeldPeers { pass, .. } = peers;
+    pass
+}
+
 /// Has the worker at the seat's place answer its connections until it ends, over the vnodes of the floor, which are called by the seat's
 /// pass. The pass is handed back.
 fn work<B: Room + Spot, H: Hooks + HookChanges + Drop, R: Wait>(
     rt: &R,
     floor: &Floor<'_, B>,
     seat: Seat<B, H>,
-) -> Pass<B> {
+) -> Pass<B>
+    ensures visited { HasVisited H.finds H.names H.takes (begun floor.now.cluster.now seat.pass seat.hooking.hooks seat.hooking.table.listed seat.placement) result }
+{
     let Seat {
-        mut pass,
+        pass,
         hooking,
         placement,
         place,
@@ -276,37 +365,12 @@ fn work<B: Room + Spot, H: Hooks + HookChanges + Drop, R: Wait>(
     let Some(post) = floor.lobby.roster.posts.get(place) else {
         return pass;
     };
-    let Some(mut worker) = post.take_worker(rt) else {
+    let Some(worker) = post.take_worker(rt) else {
         return pass;
     };
     post.inlet.begin();
-    let peers = PassPeers::new(floor.alloc, rt, floor.cluster, &mut pass, &Open);
-    let store = Store::new(floor.alloc, peers, hooking, placement);
-    let recorder = Recorder::new(store, &floor.shared.requests, rt);
-    let mut store = recorder.noting(&floor.shared.written);
-    let mut shift = Shift {
-        timer: Timer::new(),
-        pace: Pace::new(),
-        is_last: false,
-    };
-    for _ in rt.forever() {
-        let worked = work_once(rt, floor, post, &mut worker, &mut store, &mut shift);
-        shed_if_asked(post, &mut worker);
-        if worked.lacks > 0 || store.store.has_troubles() {
-            tell(
-                rt,
-                &floor.shared.reporter,
-                &store.store.take_troubles(),
-                worked.lacks,
-                worked.now,
-            );
-        }
-        if !worked.goes_on {
-            break;
-        }
-    }
+    let pass = visit(rt, floor, post, worker, pass, hooking, placement);
     post.inlet.end();
-    drop(store);
     pass
 }
 
@@ -326,12 +390,14 @@ fn work_all<
 ) -> Result<Vec<Pass<B>>, AllocError>
     requires first { cluster.now.first ≡ B.first }
     ensures count { IfOk result (λ passes. vec_len passes ≡ vec_len seats) }
+    ensures visited { IfOk result (λ passes. HaveVisited H.finds H.names H.takes (map (λ s. begun cluster.now s.pass s.hooking.hooks s.hooking.table.listed s.placement) seats.items) passes.items) }
 {
     let back = thread::map_vec(
         rt,
         seats,
         &|seat: Seat<B, H>| -> Pass<B>
             requires { cluster.now.first ≡ B.first }
+            ensures { HasVisited H.finds H.names H.takes (begun cluster.entry.now seat.pass seat.hooking.hooks seat.hooking.table.listed seat.placement) result }
         {
             let floor = Floor {
                 alloc,
@@ -364,6 +430,7 @@ pub(crate) fn work_attended<
 ) -> Result<Vec<Pass<B>>, AllocError>
     requires first { cluster.now.first ≡ B.first }
     ensures count { IfOk result (λ passes. vec_len passes ≡ vec_len seats) }
+    ensures visited { IfOk result (λ passes. HaveVisited H.finds H.names H.takes (map (λ s. begun cluster.now s.pass s.hooking.hooks s.hooking.table.listed s.placement) seats.items) passes.items) }
 {
     let (_, back) = thread::join(
         rt,
@@ -380,7 +447,7 @@ pub(crate) fn work_attended<
         },
         || -> Result<Vec<Pass<B>>, AllocError>
             requires { cluster.now.first ≡ B.first }
-            ensures { IfOk result (λ passes. vec_len passes ≡ vec_len seats) }
+            ensures { IfOk result (λ passes. (vec_len passes ≡ vec_len seats) × HaveVisited H.finds H.names H.takes (map (λ s. begun cluster.entry.now s.pass s.hooking.hooks s.hooking.table.listed s.placement) seats.items) passes.items) }
         { work_all(alloc, rt, cluster, seats, lobby, shared) },
     );
     back

@@ -7,12 +7,15 @@ use denote.Param.{param}
 use denote.Struct.Tuple.{TupleAt}
 use mir.Syntax.{Sym, erased}
 use mathlib.Core.List.{[], ◌∷◌}
+use Rattle.std.proofs.Common.{arith, slice_index_or, subst, sym}
 use Rattle.std.proofs.alloc.Global.TheSendSync as heap
 use Rattle.listener.proofs.Sent.{lobby_sync}
 use Rattle.dvvstore.proofs.Sent.{shared_sync}
 use Rattle.dvvstore.proofs.SeatSent.{seat_send}
 use Rattle.dvvstore.specs.contracts.crew.working.work_all as work_all
 use Rattle.pool.proofs.Sent.{cluster_sync}
+use Rattle.dvvstore.specs.Visits.{HasVisited, begun}
+use Rattle.dvvstore.proofs.VisitLemmas.{have_visited, if_both}
 use Rattle.dvvstore.proofs.crew.working.work_all.Goals as goal
 
 -- five captures
@@ -30,3 +33,11 @@ map_vec-back-requires-send-J g c κs within =
     let slots = work_all.dyn-1.slots g.row.B g.row.H g.row.R in
     param_send 1 _ (arg_send _ no _ (seat_send (Vt slots g.dyn-1.0) (ghosts_of slots g.dyn-1.0 g.dyn-1.1) (held_fn g.dyn-1.0) (search sendable depth 10) g.dyn-1.2
     (param 0 g.row.B) (param 1 g.row.H) g.B.Room c.type_bounds.send-B c.type_bounds.send-H))
+
+pub returns-clause-visited : goal.returns-clause-visited
+returns-clause-visited g c =
+    if_both c.map_vec-back.result _ _ _ (λ v len each.
+    have_visited g.H.Hooks.finds g.H.Hooks.names g.H.HookChanges.takes (λ s. begun c.args.cluster.now s.pass s.hooking.hooks s.hooking.table.listed s.placement) c.args.seats.items v.items (omega (arith, len, v.ok.0, c.args.seats.ok.0))
+    (λ i seat back below. let job = (each i back below).1 in
+    subst (λ s. HasVisited g.H.Hooks.finds g.H.Hooks.names g.H.HookChanges.takes (begun c.args.cluster.now s.pass s.hooking.hooks s.hooking.table.listed s.placement) (slice_index_or v.items i back)) (sym (job.job_is seat)) job.call.met))
+    c.map_vec-back.ensures.len c.map_vec-back.ensures.each

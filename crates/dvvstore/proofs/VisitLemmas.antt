@@ -1,0 +1,182 @@
+-- On the visits of workers.
+use Rattle.std.proofs.Common.{◌≡◌, ◌∙◌, ℕ, suc, ◌<◌, List, [], ◌∷◌, ◌++◌, Option, Some, None, Result, Ok, Err, IfOk, ap, refl, sym, subst, arith, append-nil, append_assoc, flat_map, length, map}
+use Rattle.std.specs.Prelude.{slice_index_or}
+use Rattle.bpfimage.specs.declared.image.ImageKind.{ImageKind}
+use Rattle.verifier.specs.Program.{Program}
+use Rattle.helpers.specs.declared.sig.Entry.{Entry}
+use Rattle.hooks.specs.Changes.{Change}
+use Rattle.hooks.specs.declared.fault.HookFault.{HookFault}
+use Rattle.hooks.specs.declared.fault.NameFault.{NameFault}
+use Rattle.hooks.specs.declared.fault.NotSeen.{NotSeen}
+use Rattle.httpask.specs.declared.ask.Call.{Call}
+use Rattle.httpreply.specs.declared.reply.Reply.{Reply}
+use Rattle.httpfront.specs.Dialogue.{Does, Exchange, Runs, call_of}
+use Rattle.hall.specs.Halls.{AllStand, Log, all_parts}
+use Rattle.hall.specs.Sockets.{Sockets, unborn}
+use Rattle.hall.specs.declared.seat.Seat.{Seat}
+use Rattle.hall.proofs.LogLemmas.{all_parts-both}
+use Rattle.hall.proofs.TalkLemmas.{Runs-append}
+use Rattle.journal.specs.Logs.{Log as JournalLog}
+use Rattle.listener.specs.Waiting.{HasHadNone}
+use Rattle.place.specs.Places.{PlacementView, copies_of}
+use Rattle.sockets.specs.Work.{Stays, Works, seats_of, shows}
+use Rattle.sockets.specs.declared.worker.Worker.{Worker}
+use Rattle.stamps.specs.declared.view.Size.{Size}
+use Rattle.stamps.specs.declared.view.Told.{Told}
+use Rattle.stamps.specs.declared.view.View.{View}
+use Rattle.store.specs.View.{StoreView, shown}
+use Rattle.peers.specs.Calls.{Call as PeerCall}
+use Rattle.serving.specs.Passes.{AreCallsOf, GivesUnnoted, PassCalls, Passing, all_calls, by_pass, told_by}
+use Rattle.vnode_locks.specs.Gathers.{IsGathered}
+use Rattle.dvvstore.specs.Visits.{AfterVisits, AreVisits, HasLed, HasVisited, HaveVisited, IsVisit, Leads, begun, told_with}
+
+-- ---- turn by turn
+
+module _ {V : Type 0} (gives : V → Call → Reply → V → Type 0) (copies : V → ℕ) where
+  -- before anything was done
+  pub leads_first : (start : V) (worker : Worker) → HasHadNone worker → Leads gives copies start worker start
+  leads_first start worker none = (
+    (λ n. unborn),
+    none.1 (λ n. unborn) (λ n. refl),
+    record { same = refl; log = []; runs = refl; each = (λ n. (refl, none.0 n, refl)) },
+  )
+
+  -- where no call was made
+  pub leads_stays : (start : V) (old new : Worker) (x : V) → Leads gives copies start old x → Stays old new → Leads gives copies start new x
+  leads_stays start old new x (sockets, shown, stands) stays =
+      let then = stays (copies start) stands.log sockets shown stands.each in
+      (then.0, then.1, record { same = stands.same; log = stands.log; runs = stands.runs; each = then.2 })
+
+  pub leads_as : (start : V) (old new : Worker) (x y : V) → new ≡ old → y ≡ x → Leads gives copies start old x → Leads gives copies start new y
+  leads_as start old new x y same is leads = subst (λ (s : V). Leads gives copies start new s) (sym is) (subst (λ (w : Worker). Leads gives copies start w x) (sym same) leads)
+
+  pub led : (start : V) (worker : Worker) (now : V) → Leads gives copies start worker now → HasLed gives copies start now
+  led start worker now (sockets, shown, stands) = (sockets, seats_of worker, stands)
+
+  -- after a turn over a backend that is seen so
+  module _ {B : Type 0} (x y : B) (makes : B → Call → Reply → B → Type 0) (counts : B → ℕ) (seen : B → V)
+      (shows_it : (old new : B) (call : Call) (reply : Reply) → makes old call reply new → gives (seen old) call reply (seen new)) (alike : (s : B) → counts s ≡ copies (seen s)) where
+    does_seen : (old new : B) (call : Option Call) (reply : Reply) → Does makes old call reply new → Does gives (seen old) call reply (seen new)
+    does_seen old new None reply e = ap seen e
+    does_seen old new (Some call) reply h = shows_it old new call reply h
+
+    runs_seen : (xs : List Exchange) (old new : B) → Runs makes old xs new → Runs gives (seen old) xs (seen new)
+    runs_seen [] old new e = ap seen e
+    runs_seen (e ∷ xs) old new (mid, does, runs) = (seen mid, does_seen old mid (call_of e.asked) e.reply does, runs_seen xs mid new runs)
+
+    pub leads_on : (start : V) (old new : Worker) → Leads gives copies start old (seen x) → Works makes counts old new x y → Leads gives copies start new (seen y)
+    leads_on start old new (sockets, shown, stands) (same, goes) =
+        let many : counts x ≡ copies start = alike x ∙ stands.same in
+        let log : Log = stands.log in
+        let then = goes log sockets shown (subst (λ (k : ℕ). AllStand k log sockets (seats_of old)) (sym many) stands.each) in
+        let made : Log = then.2.made in (
+          then.0,
+          then.1,
+          record {
+            same = sym (alike y) ∙ same ∙ many;
+            log = log ++ made;
+            runs = subst (λ (l : List Exchange). Runs gives start l (seen y)) (sym (all_parts-both log made))
+                (Runs-append gives start (all_parts log) (seen x) (all_parts made) (seen y) stands.runs (runs_seen (all_parts made) x y then.2.runs));
+            each = subst (λ (k : ℕ). AllStand k (log ++ made) then.0 (seats_of new)) many then.2.each;
+          },
+        )
+
+    -- after a turn, and after one was let go and what is noted was taken
+    pub leads_round : (start : V) (old mid new : Worker) (z : V) → z ≡ seen y → Leads gives copies start old (seen x) → Works makes counts old mid x y → Stays mid new → Leads gives copies start new z
+    leads_round start old mid new z is leads works stays =
+        leads_as start new new (seen y) z refl is (leads_stays start mid new (seen y) (leads_on start old mid leads works) stays)
+
+-- ---- stores
+
+-- a store that has just begun
+pub begun_as : {H : Type 0} (size size' : Size) (pass pass' : View) (failures : ℕ) (h i : H) (l m : List Entry) (a b : PlacementView) → size' ≡ size → pass' ≡ pass → failures ≡ 0 → i ≡ h → m ≡ l → b ≡ a
+    → shown (record { size = size'; pass = pass'; failures = failures; origin = 0 }) i m b [] ≡ begun size pass h l a
+begun_as size size' pass pass' failures h i l m a b sizes passes none hooks listed placement =
+    ap (λ (x : Size). shown (passing x pass' failures) i m b []) sizes ∙ ap (λ (x : View). shown (passing size x failures) i m b []) passes ∙ ap (λ (x : ℕ). shown (passing size pass x) i m b []) none
+    ∙ ap (λ x. shown (passing size pass 0) x m b []) hooks ∙ ap (λ x. shown (passing size pass 0) h x b []) listed ∙ ap (λ x. shown (passing size pass 0) h l x []) placement
+  where
+    passing : Size → View → ℕ → Passing
+    passing s v n = record { size = s; pass = v; failures = n; origin = 0 }
+
+-- ---- visits
+
+-- what passes were told
+abbrev all_told : List View → List Told
+all_told passes = flat_map (λ p. p.told) passes
+
+calls_add : {B : Type 0} (gives : B → Call → Reply → B → Type 0) (told : B → List Told) (start end : B) (xs : List Exchange) (owns : List (List Told)) → AreCallsOf gives told start xs owns end → told end ≡ told start ++ all_calls owns
+calls_add gives told start end [] [] e = ap told e ∙ sym (append-nil (told start))
+calls_add gives told start end [] (own ∷ owns) none = absurd none
+calls_add gives told start end (x ∷ xs) [] none = absurd none
+calls_add gives told start end (x ∷ xs) (own ∷ owns) (mid, does, is, rest) =
+    calls_add gives told mid end xs owns rest ∙ ap (λ (l : List Told). l ++ all_calls owns) is ∙ append_assoc (told start) own (all_calls owns)
+
+module _ {H : Type 0} (finds : H → List ℕ → ImageKind → Result (Option Program) NotSeen → H → Type 0)
+    (names : H → List ℕ → ImageKind → Result (Option (List ℕ)) NameFault → H → Type 0) (takes : H → Change → Result Unit HookFault → H → Type 0) where
+  -- nothing was done
+  no_visit : (start : StoreView Passing H) → IsVisit finds names takes start []
+  no_visit start = record { log = []; sockets = (λ n. unborn); seats = (λ n. None); each = (λ n. (refl, refl, refl)); owns = []; end = start; made = refl; all = refl }
+
+  pub not_visited : (start : StoreView Passing H) (back : View) → back ≡ start.peers.pass → HasVisited finds names takes start back
+  not_visited start back is = ([], no_visit start, ap (λ (v : View). v.told) is ∙ sym (append-nil (told_by start)))
+
+  pub no_visits : (starts : List (StoreView Passing H)) → (calls : List (List Told)) × AreVisits finds names takes starts calls
+  no_visits [] = ([], tt)
+  no_visits (start ∷ starts) = let rest = no_visits starts in ([] ∷ rest.0, (no_visit start, rest.1))
+
+  -- the visit of a worker whose calls have led a store on
+  pub visited : (start end : StoreView Passing H) (back : View) (log : Log) (sockets : Sockets) (seats : ℕ → Option Seat) (copies : ℕ) → back ≡ end.peers.pass
+      → copies ≡ copies_of start.placement.vnodes → AllStand copies log sockets seats
+      → (owns : List (List Told)) × AreCallsOf (GivesUnnoted PassCalls finds names takes) told_by start (all_parts log) owns end → HasVisited finds names takes start back
+  visited start end back log sockets seats copies is many each (owns, made) = (
+    all_calls owns,
+    record { log = log; sockets = sockets; seats = seats; each = subst (λ (k : ℕ). AllStand k log sockets seats) many each; owns = owns; end = end; made = made; all = refl },
+    ap (λ (v : View). v.told) is ∙ calls_add (GivesUnnoted PassCalls finds names takes) told_by start end (all_parts log) owns made,
+  )
+
+  -- all that passes which came back were told
+  pub told_after : (starts : List (StoreView Passing H)) (backs : List View) → HaveVisited finds names takes starts backs
+      → (calls : List (List Told)) × AreVisits finds names takes starts calls × (all_told backs ≡ told_with starts calls)
+  told_after [] [] done = ([], tt, refl)
+  told_after [] (back ∷ backs) none = absurd none
+  told_after (start ∷ starts) [] none = absurd none
+  told_after (start ∷ starts) (back ∷ backs) ((calls, visit, told), rest) =
+      let others = told_after starts backs rest in (
+        calls ∷ others.0,
+        (visit, others.1),
+        ap (λ (l : List Told). l ++ all_told backs) told ∙ ap (λ (l : List Told). (told_by start ++ calls) ++ l) others.2,
+      )
+
+  -- each came back
+  pub have_visited : {S : Type 0} (of : S → StoreView Passing H) (seats : List S) (backs : List View) → length backs ≡ length seats
+      → ((i : ℕ) (seat : S) (back : View) → i < length seats → HasVisited finds names takes (of (slice_index_or seats i seat)) (slice_index_or backs i back))
+      → HaveVisited finds names takes (map of seats) backs
+  have_visited of [] [] even each = tt
+  have_visited of [] (back ∷ backs) even each = absurd (omega (arith, even))
+  have_visited of (seat ∷ seats) [] even each = absurd (omega (arith, even))
+  have_visited of (seat ∷ seats) (back ∷ backs) even each =
+      (each 0 seat back (omega arith), have_visited of seats backs (omega (arith, even)) (λ i s b below. each (suc i) s b (omega (arith, below))))
+
+  -- the same where the vnodes are reached by a pass, as that shows them
+  pub visited_by : {P : Type 0} (happens : P → PeerCall → P → Type 0) (passing : P → Passing) (start end : StoreView P H) (begins : StoreView Passing H) (back : View)
+      → by_pass passing start ≡ begins → back ≡ (passing end.peers).pass
+      → ((xs : List Exchange) (old new : StoreView P H) → Runs (GivesUnnoted happens finds names takes) old xs new
+      → (owns : List (List Told)) × AreCallsOf (GivesUnnoted PassCalls finds names takes) told_by (by_pass passing old) xs owns (by_pass passing new))
+      → HasLed (GivesUnnoted happens finds names takes) (λ s. copies_of s.placement.vnodes) start end → HasVisited finds names takes begins back
+  visited_by happens passing start end begins back shows_it comes_back law (sockets, seats, stands) =
+      let calls = law (all_parts stands.log) start end stands.runs in
+      subst (λ (s : StoreView Passing H). HasVisited finds names takes s back) shows_it
+      (visited (by_pass passing start) (by_pass passing end) back stands.log sockets seats (copies_of start.placement.vnodes) comes_back refl stands.each calls)
+
+-- ---- what was gathered
+
+-- what one more pass was told stands among it
+pub gathered_after : {H : Type 0} (finds : H → List ℕ → ImageKind → Result (Option Program) NotSeen → H → Type 0) (names : H → List ℕ → ImageKind → Result (Option (List ℕ)) NameFault → H → Type 0)
+    (takes : H → Change → Result Unit HookFault → H → Type 0) (starts : List (StoreView Passing H)) (own : List Told) (logs : List JournalLog)
+    → AfterVisits finds names takes starts (λ told. (after : List Told) × IsGathered (told ++ own ++ after) logs) → (before after : List Told) × IsGathered (before ++ own ++ after) logs
+gathered_after finds names takes starts own logs (calls, visits, (after, gathered)) = (told_with starts calls, after, gathered)
+
+-- what holds of an answer, by what two clauses say of it
+pub if_both : {T E : Type 0} (r : Result T E) (P Q R : T → Type 0) → ((v : T) → P v → Q v → R v) → IfOk r P → IfOk r Q → IfOk r R
+if_both (Ok v) P Q R f p q = f v p q
+if_both (Err e) P Q R f p q = p

@@ -1,0 +1,12 @@
+use Rattle.listener.specs.Waiting.{HasHadNone}
+use Rattle.place.specs.Places.{copies_of}
+use Rattle.serving.specs.Passes.{GivesUnnoted, unnoted}
+use Rattle.dvvstore.specs.Visits.{Leads}
+use Rattle.dvvstore.proofs.crew.working.stay.Given as goal
+
+-- the calls of the connections so far
+abbrev pub invariant-loop : goal.invariant-loop
+invariant-loop g l =
+    HasHadNone l.initial.worker
+    → Leads (GivesUnnoted g.P.Peers.happens g.H.Hooks.finds g.H.Hooks.names g.H.HookChanges.takes) (λ s. copies_of s.placement.vnodes)
+    (unnoted (g.K.NotingBackend.shows l.initial.store)) l.worker (unnoted (g.K.NotingBackend.shows l.store))

@@ -1,0 +1,78 @@
+-- What the workers of a crew do to the vnodes, by the passes of their seats (this store's profile).
+use Rattle.std.specs.Prelude.{◌≡◌, ℕ, List, [], ◌∷◌, ◌++◌, Option, Result}
+use Rattle.bpfimage.specs.declared.image.ImageKind.{ImageKind}
+use Rattle.verifier.specs.Program.{Program}
+use Rattle.helpers.specs.declared.sig.Entry.{Entry}
+use Rattle.hooks.specs.Changes.{Change}
+use Rattle.hooks.specs.declared.fault.HookFault.{HookFault}
+use Rattle.hooks.specs.declared.fault.NameFault.{NameFault}
+use Rattle.hooks.specs.declared.fault.NotSeen.{NotSeen}
+use Rattle.httpask.specs.declared.ask.Call.{Call}
+use Rattle.httpreply.specs.declared.reply.Reply.{Reply}
+use Rattle.hall.specs.Halls.{AllStand, HallStands, Log, all_parts}
+use Rattle.hall.specs.Sockets.{Sockets}
+use Rattle.hall.specs.declared.seat.Seat.{Seat}
+use Rattle.place.specs.Places.{PlacementView, copies_of}
+use Rattle.sockets.specs.Work.{seats_of, shows}
+use Rattle.sockets.specs.declared.worker.Worker.{Worker}
+use Rattle.stamps.specs.declared.view.Size.{Size}
+use Rattle.stamps.specs.declared.view.Told.{Told}
+use Rattle.stamps.specs.declared.view.View.{View}
+use Rattle.store.specs.View.{StoreView, shown}
+use Rattle.serving.specs.Passes.{AreCallsOf, GivesUnnoted, PassCalls, Passing, all_calls, told_by}
+
+-- a store as it begins on so many vnodes, as a pass shows it: what the pass knows, the hooks, the helpers that these may call, and where keys stand
+abbrev pub begun : {H : Type 0} → Size → View → H → List Entry → PlacementView → StoreView Passing H
+begun size pass hooks listed placement = shown (record { size = size; pass = pass; failures = 0; origin = 0 }) hooks listed placement []
+
+module _ {B : Type 0} (gives : B → Call → Reply → B → Type 0) (copies : B → ℕ) where
+  -- from one state of a backend, the calls of a worker's connections have led to another: they are those of one log, in order, and each connection's part of it is its own
+  abbrev pub HasLed : B → B → Type 0
+  HasLed start now = (sockets : Sockets) × (seats : ℕ → Option Seat) × HallStands gives copies start now sockets seats
+
+  -- so it is of these connections of a worker
+  abbrev pub Leads : B → Worker → B → Type 0
+  Leads start worker now = (sockets : Sockets) × shows worker sockets × HallStands gives copies start now sockets (seats_of worker)
+
+-- what passes had been told before, each with the calls of its visit behind it
+abbrev pub told_with : {H : Type 0} → List (StoreView Passing H) → List (List Told) → List Told
+told_with [] calls = []
+told_with (start ∷ starts) [] = []
+told_with (start ∷ starts) (calls ∷ rest) = (told_by start ++ calls) ++ told_with starts rest
+
+-- by how hooks are found, named and changed
+module _ {H : Type 0} (finds : H → List ℕ → ImageKind → Result (Option Program) NotSeen → H → Type 0)
+    (names : H → List ℕ → ImageKind → Result (Option (List ℕ)) NameFault → H → Type 0) (takes : H → Change → Result Unit HookFault → H → Type 0) where
+  -- A worker with such a store made just these calls on vnodes: there is one log of the exchanges of its connections, each connection's part of it is its own, and one
+  -- after the other the exchanges made these calls, each answered by what they told.
+  pub record IsVisit (start : StoreView Passing H) (calls : List Told) : Type 0 where
+    pub log : Log
+    pub sockets : Sockets
+    pub seats : ℕ → Option Seat
+    pub each : AllStand (copies_of start.placement.vnodes) log sockets seats
+    pub owns : List (List Told)
+    pub end : StoreView Passing H
+    pub made : AreCallsOf (GivesUnnoted PassCalls finds names takes) told_by start (all_parts log) owns end
+    pub all : calls ≡ all_calls owns
+
+  -- the worker of each store made these calls
+  abbrev pub AreVisits : List (StoreView Passing H) → List (List Told) → Type 0
+  AreVisits [] [] = Unit {0}
+  AreVisits [] (calls ∷ rest) = ⊥
+  AreVisits (start ∷ starts) [] = ⊥
+  AreVisits (start ∷ starts) (calls ∷ rest) = IsVisit start calls × AreVisits starts rest
+
+  -- the pass of a store came back: it was told what it had been told before, and then the calls of a visit
+  abbrev pub HasVisited : StoreView Passing H → View → Type 0
+  HasVisited start back = (calls : List Told) × IsVisit start calls × (back.told ≡ told_by start ++ calls)
+
+  -- so did each
+  abbrev pub HaveVisited : List (StoreView Passing H) → List View → Type 0
+  HaveVisited [] [] = Unit {0}
+  HaveVisited [] (back ∷ rest) = ⊥
+  HaveVisited (start ∷ starts) [] = ⊥
+  HaveVisited (start ∷ starts) (back ∷ rest) = HasVisited start back × HaveVisited starts rest
+
+  -- each store had its visit, and this is so of what the passes had been told before and the calls of the visits
+  abbrev pub AfterVisits : List (StoreView Passing H) → (List Told → Type 0) → Type 0
+  AfterVisits starts Says = (calls : List (List Told)) × AreVisits starts calls × Says (told_with starts calls)
