@@ -4,25 +4,17 @@
    stands in the file that REFUSALS names, two numbers of the machine's: which of the thread's allocations is refused, counted from 0 from when
    that was written, or one below 0 for none; and, from the library, how many there were. A block that shrinks is never refused. keeps.py
    compiles this. */
-#define _GNU_SOURCE
-#include <dlfcn.h>
-#include <errno.h>
+#include "../../thread_trials/data/refusing.h"
 #include <fcntl.h>
-#include <malloc.h>
 #include <stdarg.h>
-#include <stdlib.h>
 #include <string.h>
 #include <sys/mman.h>
 
-static void *(*system_malloc)(size_t);
-static void *(*system_realloc)(void *, size_t);
 static int (*system_open)(const char *, int, ...);
 static volatile long *asked;
 static __thread int writes;
 
-__attribute__((constructor)) static void find(void) {
-    system_malloc = dlsym(RTLD_NEXT, "malloc");
-    system_realloc = dlsym(RTLD_NEXT, "realloc");
+static void find_more(void) {
     system_open = dlsym(RTLD_NEXT, "open");
     int file = system_open(getenv("REFUSALS"), O_RDWR);
     asked = mmap(NULL, 2 * sizeof(long), PROT_READ | PROT_WRITE, MAP_SHARED, file, 0);
@@ -33,19 +25,6 @@ static int is_refused(void) {
         return 0;
     errno = ENOMEM;
     return 1;
-}
-
-void *malloc(size_t size) {
-    if (!system_malloc)
-        find();
-    return is_refused() ? NULL : system_malloc(size);
-}
-
-void *realloc(void *block, size_t size) {
-    if (!system_realloc)
-        find();
-    int grows = !block || size > malloc_usable_size(block);
-    return grows && is_refused() ? NULL : system_realloc(block, size);
 }
 
 int open(const char *name, int flags, ...) {

@@ -4,24 +4,16 @@
    each further stretch the next. REFUSAL_MET has a value where one was refused. Where none was, the next stretch begins anew with the first
    allocation, and how many stretches were refused is written to standard error. A block that shrinks is never refused.
    The program has one thread. trials.py compiles this. */
-#define _GNU_SOURCE
-#include <dlfcn.h>
-#include <errno.h>
-#include <malloc.h>
+#include "refusing.h"
 #include <stdio.h>
-#include <stdlib.h>
 #include <string.h>
 
-static void *(*system_malloc)(size_t);
-static void *(*system_realloc)(void *, size_t);
 static char *(*system_getenv)(const char *);
 
 static unsigned long seen, refused;
 static int counts, met;
 
-__attribute__((constructor)) static void find(void) {
-    system_malloc = dlsym(RTLD_NEXT, "malloc");
-    system_realloc = dlsym(RTLD_NEXT, "realloc");
+static void find_more(void) {
     system_getenv = dlsym(RTLD_NEXT, "getenv");
 }
 
@@ -31,19 +23,6 @@ static int is_refused(void) {
     met = 1;
     errno = ENOMEM;
     return 1;
-}
-
-void *malloc(size_t size) {
-    if (!system_malloc)
-        find();
-    return is_refused() ? NULL : system_malloc(size);
-}
-
-void *realloc(void *block, size_t size) {
-    if (!system_realloc)
-        find();
-    int grows = !block || size > malloc_usable_size(block);
-    return grows && is_refused() ? NULL : system_realloc(block, size);
 }
 
 static char *begin(void) {
