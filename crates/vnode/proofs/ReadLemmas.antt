@@ -2,8 +2,7 @@
 use Rattle.std.proofs.Common.{◌≡◌, ℕ, ◌+◌, ◌<◌, ◌≤◌, Bool, true, false, cond, List, [], ◌∷◌, ◌++◌, map, length, get_or, take, refl, sym, ap, subst, ◌∙◌, arith, append_assoc, length-append}
 use Rattle.std.specs.Prelude.{filter, not, ◌==◌}
 use Rattle.std.specs.List.{All}
-use Rattle.std.specs.HashMap.{IsUnique}
-use Rattle.std.specs.List.Sorted.{IsPermutation, IsSorted}
+use Rattle.std.specs.List.Sorted.{IsPermutation, IsSorted, IsStrictlySortedBy}
 use Rattle.std.proofs.lemmas.List.{append-nil, take_more, length-map, length-take-le, map-append}
 use Rattle.std.proofs.lemmas.List.Elements.{All-weaker}
 use Rattle.std.proofs.lemmas.List.Sorted.{IsPermutation-sym, Contains-permutation, length_permutation}
@@ -16,27 +15,32 @@ use Rattle.journal.specs.Logs.{Log, with_entry, with_entries, max_entries}
 use Rattle.journal.specs.Replay.{IsReplay}
 use Rattle.vnode.specs.declared.steps.Copied.{Copied}
 use Rattle.vnode.specs.Keys.{AreKeys, AreUnsorted, reads_of}
-use Rattle.vnode.specs.States.{States, key_eq, state_at, Replays, known_keys, AreKnown, AreCopied, keys_of}
+use Rattle.vnode.specs.declared.states.States.{States}
+use Rattle.vnode.specs.States.{key_eq, state_at, Replays, known_keys, all_known, AreKnown, AreCopied, keys_of}
 use Rattle.vnode.proofs.Listed.{known_is_key, key_is_known, known_distinct}
 use Rattle.vnode.proofs.Mapped.{key_laws}
-use Rattle.vnode.proofs.Sorted.{sorted_rises}
+use Rattle.vnode.proofs.Sorted.{sorted_rises, known_rises}
 use Rattle.vnode.proofs.Stepped.{read_kept}
 
 -- the known keys are the keys of the vnode
-pub are_keys : (states : States) (log : Log) (keys : List Key) → IsUnique key_eq states → Replays states log → AreKnown states keys → AreKeys log keys
-are_keys states log keys unique h known = record {
+pub are_keys : (states : States) (log : Log) (keys : List Key) → Replays states log → IsPermutation (all_known states) keys → IsStrictlySortedBy key_cmp keys → AreKeys log keys
+are_keys states log keys h moves rising = record {
   each = λ k. (
-    λ listed. known_is_key states log k unique h (Contains-permutation keys (known_keys states.entries) k (IsPermutation-sym (known_keys states.entries) keys known.each) listed),
-    λ key. Contains-permutation (known_keys states.entries) keys k known.each (key_is_known states log k unique h key),
+    λ listed. known_is_key states log k h (Contains-permutation keys (all_known states) k (IsPermutation-sym (all_known states) keys moves) listed),
+    λ key. Contains-permutation (all_known states) keys k moves (key_is_known states log k h key),
   );
-  rising = known.rising;
+  rising = rising;
 }
 
--- as they lie in a map they are so, too, in some order
-pub are_unsorted : (states : States) (log : Log) (keys : List Key) → IsUnique key_eq states → Replays states log → keys ≡ known_keys states.entries → AreUnsorted log keys
-are_unsorted states log keys unique h is = subst (AreUnsorted log) (sym is) (record {
-  each = λ k. (known_is_key states log k unique h, key_is_known states log k unique h);
-  once = known_distinct states unique;
+-- once a sort put them in the order of bytes
+pub known_are_keys : (states : States) (log : Log) (keys : List Key) → Replays states log → AreKnown states keys → AreKeys log keys
+known_are_keys states log keys h known = are_keys states log keys h known.each (known_rises states keys h.placed known)
+
+-- as they lie in the shards they are so, too, in some order
+pub are_unsorted : (states : States) (log : Log) (keys : List Key) → Replays states log → keys ≡ all_known states → AreUnsorted log keys
+are_unsorted states log keys h is = subst (AreUnsorted log) (sym is) (record {
+  each = λ k. (known_is_key states log k h, key_is_known states log k h);
+  once = known_distinct states h.placed;
 })
 
 -- and once they are sorted they stand in the order of bytes
@@ -54,8 +58,8 @@ pub copied_states : (states : States) (log : Log) (copies : List Copied) → Rep
 copied_states states log copies h copied = All-weaker (λ (c : Copied). c.state ≡ state_at states c.key) (λ (c : Copied). IsReplay log.entries c.key c.state) (λ c is. subst (IsReplay log.entries c.key) (sym is) (h.leaves c.key)) copies copied.each
 
 -- as many states are copied as keys are known
-pub copies_count : (states : States) (copies : List Copied) → AreCopied states copies → length (keys_of copies) ≡ length (known_keys states.entries)
-copies_count states copies copied = length_permutation (known_keys states.entries) (keys_of copies) copied.keys.each
+pub copies_count : (states : States) (copies : List Copied) → AreCopied states copies → length (keys_of copies) ≡ length (all_known states)
+copies_count states copies copied = length_permutation (all_known states) (keys_of copies) copied.keys.each
 
 -- one key more
 pub reads-push : (stamp : ℕ) (keys : List Key) (key : Key) → reads_of stamp (keys ++ key ∷ []) ≡ reads_of stamp keys ++ Read (stamp + length keys) key ∷ []

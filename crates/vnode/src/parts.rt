@@ -6,7 +6,7 @@ ghost use Rattle.vnode.specs.Parts.{RefusesPartAt};
 ghost use Rattle.vnode.specs.States.{state_at};
 
 use crate::fault::{PartFault, VnodeFault};
-use crate::seed::States;
+use crate::states::States;
 use journal::{Journal, Merged};
 use object::{Held, Key, KeyState, Part, PreparedPart, Summary};
 use std::alloc::{AllocError, Global};

@@ -1,7 +1,5 @@
 //! What the hashes of a vnode's keys begin with.
 
-use object::{Key, Stored};
-use std::collections::HashMap;
 use std::hash::{BuildHasher, DefaultHasher, RandomState};
 use std::io;
 use std::random::RandomSource;
@@ -39,6 +37,3 @@ impl BuildHasher for Seed {
         self.begun
     }
 }
-
-/// The state of each key, found by the key's hash. They lie in no order that means anything.
-pub(crate) type States = HashMap<Key, Stored, Seed>;

@@ -4,7 +4,8 @@ ghost use Rattle.std.specs.Prelude.{◌≡◌, ◌≢◌, ◌↔◌, Contains, I
 
 use crate::fault::{PartFault, VnodeFault};
 use crate::parts::{make_whole, merged_part_of, part_refusal_at, summary_at};
-use crate::seed::{Seed, States};
+use crate::seed::Seed;
+use crate::states::{Spread, States};
 use crate::steps::{
     Copied, Placed, copies_at, has_places_for, keys_in, known_in, merge_at, merge_refusal_at,
     merged_of, put_at, put_refusal_at, read_all_at, write_leaving,
@@ -38,7 +39,7 @@ impl Vnode {
     ghost use Rattle.journal.specs.Entry.{Put, Merge, Read, Restart};
     ghost use Rattle.journal.specs.Logs.{Log, with_entry, with_entries, max_entries};
     ghost use Rattle.object.specs.declared.content.Key.{Key};
-    ghost use Rattle.object.specs.State.{State};
+    ghost use Rattle.object.specs.State.{State, empty};
     ghost use Rattle.std.specs.List.Sorted.{IsStrictlySortedBy};
     ghost use Rattle.journal.specs.Keys.{key_cmp};
     ghost use Rattle.journal.specs.Replay.{Leaves, IsReplay, IsNextDot, IsKeyOf};
@@ -50,7 +51,7 @@ impl Vnode {
     ghost use Rattle.vnode.specs.declared.fault.VnodeFault.{VnodeFault};
     ghost use Rattle.journal.specs.Blocks.{AreHandedOut};
     ghost use Rattle.vnode.specs.Keys.{AreKeys, AreUnsorted, reads_of};
-    ghost use Rattle.vnode.specs.States.{keys_of};
+    ghost use Rattle.vnode.specs.States.{keys_of, state_at, AreInPlace};
     ghost use Rattle.vnode.specs.Refusals.{RefusesPut, RefusesMerge, RefusesEntry};
     ghost use Rattle.vnode.specs.Parts.{RefusesPart};
 
@@ -58,17 +59,26 @@ impl Vnode {
     pub fn new(alloc: Global, id: u32) -> Self
         ensures { result ≡ record { vnode = id; entries = [] } }
     {
-        Vnode::seeded(alloc, id, Seed::fixed())
+        Vnode::with_states(alloc, id, States::new(alloc, Seed::fixed(), Spread::One))
     }
 
     /// A vnode at which nothing has happened. The hashes of its keys begin with a seed, by which strangers who choose keys can't make it
-    /// slow.
+    /// slow. Its states lie in many shards, so that no call waits while all of them are moved.
     pub fn seeded(alloc: Global, id: u32, seed: Seed) -> Self
+        ensures { result ≡ record { vnode = id; entries = [] } }
+    {
+        Vnode::with_states(alloc, id, States::new(alloc, seed, Spread::Many))
+    }
+
+    // A vnode at which nothing has happened, whose states lie as those of `states`, of which there are none yet.
+    fn with_states(alloc: Global, id: u32, states: States) -> Self
+        requires none { (key : Key) → state_at states key ≡ empty }
+        requires placed { AreInPlace states }
         ensures { result ≡ record { vnode = id; entries = [] } }
     {
         Vnode {
             alloc,
-            states: States::with_hasher(alloc, seed),
+            states,
             journal: Journal::new(alloc, id),
         }
     }

@@ -1,5 +1,6 @@
-use Rattle.vnode.proofs.Sorted.{sorted_known}
+use Rattle.std.proofs.Common.{subst}
+use Rattle.std.specs.List.Sorted.{IsPermutation}
 use Rattle.vnode.proofs.steps.keys_in.Goals as goal
 
-pub returns-clause-known : goal.returns-clause-known
-returns-clause-known c = sorted_known c.args.states.now c.in_ok-keys.keys.items c.sort_unstable.new.self.items c.known_in.ensures.unique c.in_ok-keys.ensures.known c.sort_unstable.ensures.permutation c.sort_unstable.ensures.sorted
+pub returns : goal.returns
+returns c = record { each = subst (λ keys. IsPermutation keys c.sort_unstable.new.self.items) c.in_ok-keys.ensures c.sort_unstable.ensures.permutation; sorted = c.sort_unstable.ensures.sorted }

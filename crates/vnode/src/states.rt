@@ -1,0 +1,144 @@
+//! The states of a vnode's keys, in shards that grow one by one.
+
+ghost use Rattle.std.specs.Prelude.{◌≡◌, ◌<◌, ◌≤◌, false, length, option_map, IfSome, IsTrue, OnOk, OnErr};
+ghost use Rattle.std.specs.Option.{option_copied};
+ghost use Rattle.object.specs.declared.content.Key.{Key};
+ghost use Rattle.object.specs.State.{empty};
+ghost use Rattle.journal.specs.Keys.{same_key};
+ghost use Rattle.vnode.specs.States.{AreInPlace, count_of, found_at, key_eq, place, place_by, state_at};
+
+use crate::seed::Seed;
+use object::{Key, Stored};
+use std::alloc::{AllocError, Global};
+use std::collections::HashMap;
+use std::hash::BuildHasher;
+
+/// In how many shards the states of a vnode lie.
+#[derive(Clone, Copy)]
+pub(crate) enum Spread {
+    /// In one: for few keys, or where nobody waits while it grows.
+    One,
+    /// In [`MANY`]: for so many keys that to move them all at once would hold calls up.
+    Many,
+}
+
+/// How many shards [`Spread::Many`] has. A million keys leave about four thousand to each, and no growth up to there moves more than 2,304
+/// of them. Few keys take more memory where they lie in more shards: a thousand take half a kilobyte more in each of these.
+const MANY: usize = 256;
+
+impl Spread {
+    // How many shards there are, once there are any.
+    fn count(self) -> usize
+        ensures { result ≡ count_of self }
+    {
+        match self {
+            Spread::One => 1,
+            Spread::Many => MANY,
+        }
+    }
+
+    // In which of the shards a hash lies.
+    fn place(self, hash: u64) -> usize
+        ensures place { result ≡ place_by self hash }
+        ensures within { result < count_of self }
+    {
+        match self {
+            Spread::One => 0,
+            Spread::Many => (hash % MANY as u64) as usize,
+        }
+    }
+}
+
+/// The states of some of the keys, each found by its key's hash. They lie in no order that means anything.
+pub(crate) type Shard = HashMap<Key, Stored, Seed>;
+
+/// The state of each key. Each lies in the shard that the key's hash picks, and a shard grows on its own: no growth moves the keys of
+/// another.
+#[derive(Drop)]
+pub(crate) struct States {
+    alloc: Global,
+    seed: Seed,
+    spread: Spread,
+    // None of them before the first state is kept.
+    pub(crate) shards: Vec<Shard>,
+}
+
+impl States {
+    /// No states yet. Takes no memory.
+    pub(crate) fn new(alloc: Global, seed: Seed, spread: Spread) -> States
+        ensures none { (q : Key) → state_at result q ≡ empty }
+        ensures placed { AreInPlace result }
+    {
+        States {
+            alloc,
+            seed,
+            spread,
+            shards: Vec::new(alloc),
+        }
+    }
+
+    // In which shard a key's state lies: the lowest bits of its hash say it. A map folds both halves of a hash into one, so that the places
+    // in one shard are as even as those in one map of all keys.
+    pub(crate) fn place_of(&self, key: &Key) -> usize
+        ensures place { result ≡ place self.now key.now }
+        ensures within { result < count_of self.now.spread }
+    {
+        self.spread.place(self.seed.hash_one(key))
+    }
+
+    /// The state that is kept under a key.
+    pub(crate) fn get(&self, key: &Key) -> Option<&Stored>
+        ensures value { option_copied result ≡ found_at self.now key.now }
+    {
+        match self.shards.get(self.place_of(key)) {
+            Some(shard) => shard.get(key),
+            None => None,
+        }
+    }
+
+    /// The same, with the key that is kept beside it.
+    pub(crate) fn get_key_value(&self, key: &Key) -> Option<(&Key, &Stored)>
+        ensures same_key { IfSome result (λ found. IsTrue (key_eq key.now found.0.now)) }
+        ensures value { option_map (λ found. found.1.now) result ≡ found_at self.now key.now }
+    {
+        match self.shards.get(self.place_of(key)) {
+            Some(shard) => shard.get_key_value(key),
+            None => None,
+        }
+    }
+
+    /// How many states are kept, as far as a number reaches.
+    pub(crate) fn len(&self) -> usize {
+        let lens = self.shards.iter().map(|shard| shard.len());
+        lens.fold(0, |all: usize, len| all.saturating_add(len))
+    }
+
+    // Makes the shards that lack.
+    fn make_shards(&mut self) -> Result<(), AllocError>
+        ensures same { (q : Key) → state_at self.new q ≡ state_at self.old q }
+        ensures placed { AreInPlace self.old → AreInPlace self.new }
+        ensures spread { self.new.spread ≡ self.old.spread }
+        ensures all { OnOk result (count_of self.new.spread ≤ length self.new.shards.items) }
+    {
+        let count = self.spread.count();
+        self.shards
+            .reserve_exact(count.saturating_sub(self.shards.len()))?;
+        for _shard in self.shards.len()..count {
+            self.shards.push(Shard::with_hasher(self.alloc, self.seed))?;
+        }
+        Ok(())
+    }
+
+    /// Keeps a state as the key's.
+    pub(crate) fn insert(&mut self, key: Key, state: Stored) -> Result<(), AllocError>
+        ensures here { OnOk result (state_at self.new key ≡ state) }
+        ensures others { OnOk result ((q : Key) → same_key key q ≡ false → state_at self.new q ≡ state_at self.old q) }
+        ensures err { OnErr result ((q : Key) → state_at self.new q ≡ state_at self.old q) }
+        ensures placed { AreInPlace self.old → AreInPlace self.new }
+    {
+        self.make_shards()?;
+        let place = self.place_of(&key);
+        let _ = self.shards[place].insert(key, state)?;
+        Ok(())
+    }
+}
