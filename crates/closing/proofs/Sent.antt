@@ -2,27 +2,16 @@
 use denote.RattleType.{RattleType}
 use denote.Param.Send.{IsSend, sendable}
 use Rattle.std.proofs.Crossing.{crosses}
-use Rattle.std.proofs.MapsCrossing.{HashMap-send}
-use Rattle.journal.proofs.blocks.Blocks.TheSendSync as blocks
 use Rattle.journal.proofs.entry.Entry.TheSendSync as entry
-use Rattle.journal.specs.contracts.journal.Journal as Journal
 use Rattle.object.proofs.content.Key.TheSendSync as key
-use Rattle.object.proofs.held.Stored.TheSendSync as stored
 use Rattle.object.proofs.state.KeyState.TheSendSync as state
 use Rattle.atomic_table.proofs.shared.Seat.TheSendSync as seat
-use Rattle.vnode.proofs.seed.Seed.TheSendSync as seed
-use Rattle.vnode.specs.contracts.vnode.Vnode as Vnode
 use Rattle.rerun.specs.contracts.rerun.Rerun as Rerun
 use Rattle.follow.specs.contracts.follower.Follower as Follower
 use Rattle.closing.specs.contracts.watch.Watch as Watch
+use Rattle.vnode_locks.proofs.Sent.{vnode_send}
 use Rattle.vnode_locks.specs.declared.pass.Room as room
 use Rattle.closing.specs.declared.watch.Spot as spot
-
-journal_send : IsSend Journal.the_row
-journal_send = search (sendable, crosses, blocks.the_send) depth 40
-
-vnode_send : IsSend Vnode.the_row
-vnode_send = search (key.the_send, stored.the_send, seed.the_send, journal_send, HashMap-send, sendable) depth 40
 
 rerun_send : IsSend Rerun.the_row
 rerun_send = search (vnode_send, key.the_send, state.the_send, sendable, crosses) depth 60 fits 20000
