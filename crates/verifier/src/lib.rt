@@ -37,4 +37,4 @@ pub use span::Span;
 pub use sum::Sum;
 pub use sums::{Sums, tell};
 pub use verified::Verified;
-pub use verifying::{judge, row_before, verify};
+pub use verifying::{judge, pairs_before, row_before, verify};

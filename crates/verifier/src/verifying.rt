@@ -185,21 +185,20 @@ fn check_kinds(alloc: Global, program: &Candidate) -> Result<Vec<Low>, Refused>
     }
 }
 
-/// The kinds before a slot, or the refusal where a lower one breaks a rule.
-fn kinds_before<const N: usize>(
+/// The kinds and the pairs that are known before a slot, or the refusal where a lower one breaks a rule.
+fn known_before<const N: usize>(
     alloc: Global,
     program: &Candidate,
     slot: usize,
-) -> Result<Option<Vec<Kind>>, Refused>
+) -> Result<(Option<[Kind; N]>, Pairs), Refused>
     requires formed { IsFormed program.now.image.code.items }
     requires within { slot < length program.now.image.code.items }
     requires long { N ≡ 11 + cell_count program.now.image.profile }
     requires some { 11 ≤ N }
     requires short { N ≤ 75 }
-    ensures row { IfOk result (λ row. IfSome row (λ kinds. row_at (table (program_in program.now)) slot ≡ Some kinds.items)) }
-    ensures none { IfOk result (λ row. IfNone row (row_at (table (program_in program.now)) slot ≡ None)) }
-    ensures long { IfOk result (λ row. IfSome row (λ kinds. length kinds.items ≡ 11 + cell_count program.now.image.profile)) }
-    ensures kinds { IfOk result (λ row. IfSome row (λ kinds. AreKinds kinds.items)) }
+    ensures row { IfOk result (λ known. row_at (table (program_in program.now)) slot ≡ known.0) }
+    ensures kinds { IfOk result (λ known. IfSome known.0 (λ row. AreKinds row)) }
+    ensures pairs { IfOk result (λ known. known.1 ≡ pairs_at (program_in program.now) (table (program_in program.now)) slot) }
     ensures refused { IfErr result (λ refused. IsRefused (program_in program.now) refused.rule refused.slot) }
 {
     let slots = program.image.code.len();
@@ -220,6 +219,27 @@ fn kinds_before<const N: usize>(
         sums.advance(program, at);
         pairs = pairs_here(&sums.led, at + 1, pairs);
     }
+    Ok((here, pairs))
+}
+
+/// The kinds before a slot, or the refusal where a lower one breaks a rule.
+fn kinds_before<const N: usize>(
+    alloc: Global,
+    program: &Candidate,
+    slot: usize,
+) -> Result<Option<Vec<Kind>>, Refused>
+    requires formed { IsFormed program.now.image.code.items }
+    requires within { slot < length program.now.image.code.items }
+    requires long { N ≡ 11 + cell_count program.now.image.profile }
+    requires some { 11 ≤ N }
+    requires short { N ≤ 75 }
+    ensures row { IfOk result (λ row. IfSome row (λ kinds. row_at (table (program_in program.now)) slot ≡ Some kinds.items)) }
+    ensures none { IfOk result (λ row. IfNone row (row_at (table (program_in program.now)) slot ≡ None)) }
+    ensures long { IfOk result (λ row. IfSome row (λ kinds. length kinds.items ≡ 11 + cell_count program.now.image.profile)) }
+    ensures kinds { IfOk result (λ row. IfSome row (λ kinds. AreKinds kinds.items)) }
+    ensures refused { IfErr result (λ refused. IsRefused (program_in program.now) refused.rule refused.slot) }
+{
+    let (here, _) = known_before::<N>(alloc, program, slot)?;
     let Some(row) = here else {
         return Ok(None);
     };
@@ -248,6 +268,20 @@ pub fn row_before(
     match program.image.profile {
         Profile::First => kinds_before::<11>(alloc, program, slot),
         Profile::Second => kinds_before::<75>(alloc, program, slot),
+    }
+}
+
+/// The pairs of registers that are known before a slot of a program that keeps the rules of form, by the rows of its table. Where a
+/// lower slot breaks a rule, and for want of memory, a refusal as [`verify`] tells it.
+pub fn pairs_before(alloc: Global, program: &Candidate, slot: usize) -> Result<Pairs, Refused>
+    requires formed { IsFormed program.now.image.code.items }
+    requires within { slot < length program.now.image.code.items }
+    ensures pairs { IfOk result (λ pairs. pairs ≡ pairs_at (program_in program.now) (table (program_in program.now)) slot) }
+    ensures refused { IfErr result (λ refused. IsRefused (program_in program.now) refused.rule refused.slot) }
+{
+    match program.image.profile {
+        Profile::First => Ok(known_before::<11>(alloc, program, slot)?.1),
+        Profile::Second => Ok(known_before::<75>(alloc, program, slot)?.1),
     }
 }
 

@@ -9,7 +9,7 @@ use Rattle.verifier.specs.Waiting.{waiting}
 use Rattle.verifier.specs.Known.{AreSums}
 use Rattle.verifier.proofs.Tables.{pass_first, none_kinds, known_here}
 use Rattle.verifier.proofs.Noted.{pairs_on}
-use Rattle.verifier.proofs.verifying.kinds_before.Goals as goal
+use Rattle.verifier.proofs.verifying.known_before.Goals as goal
 
 pub loop-at-init : goal.loop-at-init
 loop-at-init g c =
@@ -46,10 +46,6 @@ loop-at-preserved g c = record {
   unbroken = λ k lt. ⊎_elim (λ same. ap (broken_at (program_in c.args.program.now)) same ∙ c.in_ok-visit.ensures.unbroken) (λ other. c.loop-at.invariant.unbroken k (omega arith)) (cases_eq k c.loop-at.at);
 }
 
-pub returns-in_default-here-clause-none : goal.returns-in_default-here-clause-none
-returns-in_default-here-clause-none g c =
-    known_here (program_in c.args.program.now) (waiting c.loop-at.rows) c.loop-at.here c.loop-at.at c.args.slot c.loop-at.invariant.pass (omega (arith, c.loop-at-test.false, c.loop-at.auto.at-end)) c.requires.within ∙ c.in_default-here.is
-
-pub returns-in-Ok-from_array-clause-row : goal.returns-in-Ok-from_array-clause-row
-returns-in-Ok-from_array-clause-row g c =
-    known_here (program_in c.args.program.now) (waiting c.loop-at.rows) c.loop-at.here c.loop-at.at c.args.slot c.loop-at.invariant.pass (omega (arith, c.loop-at-test.false, c.loop-at.auto.at-end)) c.requires.within ∙ c.in-Some.is ∙ ap Some (sym c.in-Ok-from_array.ensures.items)
+pub returns-clause-row : goal.returns-clause-row
+returns-clause-row g c =
+    known_here (program_in c.args.program.now) (waiting c.loop-at.rows) c.loop-at.here c.loop-at.at c.args.slot c.loop-at.invariant.pass (omega (arith, c.loop-at-test.false, c.loop-at.auto.at-end)) c.requires.within

@@ -5,7 +5,7 @@ use Rattle.verifier.specs.Rows.{HasKinds, IsPass}
 use Rattle.verifier.specs.Table.{table, broken_at}
 use Rattle.verifier.specs.PairSteps.{pairs_at}
 use Rattle.verifier.specs.Waiting.{waiting, IsPool}
-use Rattle.verifier.proofs.verifying.kinds_before.Given as goal
+use Rattle.verifier.proofs.verifying.known_before.Given as goal
 
 abbrev pub invariant-loop-at : goal.invariant-loop-at
 invariant-loop-at g l = record {
