@@ -44,7 +44,7 @@ pub record Judged (sigs : List Entry) (held_image before after : Option (List �
 -- the status that goes with an explanation
 abbrev pub explanation_status : Explanation → ℕ
 explanation_status (Accepted slots answers) = 0
-explanation_status (Broken refused x facts) = 1
+explanation_status (Broken refused x facts together) = 1
 
 -- What the verifier says of the program in a file, and what it looked at, was told; or that the bytes are no program, or that memory ran out.
 pub data Explained (sigs : List Entry) (held_image before after : Option (List ℕ)) (status : ℕ) : Type 0 where

@@ -8,6 +8,7 @@ use Rattle.verifier.specs.Program.{Program}
 use Rattle.verifier.specs.Registers.{Row}
 use Rattle.verifier.specs.Rules.{callee_in}
 use Rattle.verifier.specs.Table.{IsAccepted, table}
+use Rattle.verifier.specs.PairSteps.{pairs_at}
 use Rattle.verifier.specs.Rows.{row_at}
 use Rattle.verifier.specs.Verdict.{IsRefused}
 use Rattle.verifier.specs.declared.rule.KindRule.{KindRule}
@@ -19,8 +20,9 @@ use Rattle.admission.specs.declared.refusal.Refusal.TheVariants as refusal
 use Rattle.explain.specs.declared.explanation.Explanation.{Explanation}
 use Rattle.explain.specs.declared.explanation.Explanation.TheVariants.{Accepted, Broken}
 use Rattle.explain.specs.declared.fact.Fact.{Fact}
+use Rattle.explain.specs.declared.together.Together.{Together}
 use Rattle.explain.specs.Answered.{answers_before}
-use Rattle.explain.specs.Looks.{facts_from}
+use Rattle.explain.specs.Looks.{facts_from, pairs_among}
 
 -- ---- of a program that breaks a rule: what the table knows, at the slot, of what the rule looks at
 
@@ -34,14 +36,25 @@ facts_of p (rule.Form form) slot x = []
 facts_of p (rule.Kinds kind) slot x = facts_in p kind x (row_at (table p) slot)
 facts_of p rule.NoMemory slot x = []
 
+-- and of two registers together that the rule looks at
+abbrev pub together_in : Program → KindRule → ℕ → Insn → Option Row → List Together
+together_in p kind slot x None = []
+together_in p kind slot x (Some row) = pairs_among kind (callee_in p.sigs x) row x (pairs_at p (table p) slot)
+
+abbrev pub together_of : Program → Rule → ℕ → Insn → List Together
+together_of p (rule.Form form) slot x = []
+together_of p (rule.Kinds kind) slot x = together_in p kind slot x (row_at (table p) slot)
+together_of p rule.NoMemory slot x = []
+
 -- ---- explanations
 
 -- The program is accepted, and so many slots long; or it is refused by this rule at this slot, which has this instruction. What is known is the
 -- table's.
 abbrev pub IsVerdict : Program → Explanation → Type 0
 IsVerdict p (Accepted slots answers) = IsAccepted p × (slots ≡ length p.code) × (answers.items ≡ answers_before p (length p.code))
-IsVerdict p (Broken refused x facts) =
+IsVerdict p (Broken refused x facts together) =
     IsRefused p refused.rule refused.slot × (refused.rule ≢ rule.NoMemory) × (slice_get p.code refused.slot ≡ Some x) × (facts.items ≡ facts_of p refused.rule refused.slot x)
+    × (together.items ≡ together_of p refused.rule refused.slot x)
 
 -- the bytes are those of such a program
 abbrev pub IsExplained : List ℕ → List Entry → Explanation → Type 0

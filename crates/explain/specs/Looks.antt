@@ -1,12 +1,16 @@
 -- Which registers and cells a rule looks at, and what is known of them (this store's profile).
-use Rattle.std.specs.Prelude.{ℕ, ◌+◌, ◌-◌, ◌*◌, ◌==◌, nat_lt, Bool, false, ◌||◌, if◌then◌else◌, Option, None, Some, List, [], ◌∷◌}
+use Rattle.std.specs.Prelude.{ℕ, ◌+◌, ◌-◌, ◌*◌, pos, ◌-ℤ◌, ◌==◌, nat_lt, Bool, false, ◌||◌, ◌&&◌, if◌then◌else◌, Option, None, Some, List, [], ◌∷◌, ◌++◌}
+use Rattle.std.specs.Option.{option_or}
 use Rattle.insn.specs.Encoding.{number, size_bytes}
 use Rattle.insn.specs.declared.Register.{Register}
 use Rattle.insn.specs.declared.Register.TheVariants.{R1, R2, R3}
 use Rattle.insn.specs.declared.Insn.{Insn}
 use Rattle.insn.specs.declared.Insn.TheVariants as insn
 use Rattle.memory.specs.Windows.{longest_window}
+use Rattle.memory.specs.declared.Region.{Region}
+use Rattle.ranges.specs.Kinds.{origin}
 use Rattle.ranges.specs.declared.kind.Kind.{Kind}
+use Rattle.ranges.specs.declared.kind.Kind.TheVariants.{Ptr}
 use Rattle.helpers.specs.declared.sig.ArgRule.{ArgRule}
 use Rattle.helpers.specs.declared.sig.ArgRule.TheVariants as rule
 use Rattle.helpers.specs.Calls.{Callee, Copy, Fill, Same, Helper, Unknown}
@@ -14,10 +18,15 @@ use Rattle.verifier.specs.Registers.{Row, kind_at}
 use Rattle.verifier.specs.CallKinds.{first_kind, argument_kinds}
 use Rattle.verifier.specs.Cells.{span_of, is_touched, span_given}
 use Rattle.verifier.specs.Rules.{reads_by}
+use Rattle.verifier.specs.declared.pair.Pair.{Pair}
+use Rattle.verifier.specs.declared.pair.Pairs.{Pairs}
 use Rattle.verifier.specs.declared.span.Span.{Span}
 use Rattle.verifier.specs.declared.rule.KindRule.{KindRule}
 use Rattle.verifier.specs.declared.rule.KindRule.TheVariants.{FrameWritten, StackRead}
 use Rattle.explain.specs.declared.fact.Fact.{Fact}
+use Rattle.explain.specs.declared.together.Together.{Together}
+use Rattle.explain.specs.declared.together.Most.{Most}
+use Rattle.explain.specs.declared.together.Most.TheVariants.{Number, Address}
 use Rattle.explain.specs.declared.fact.Place.{Place}
 use Rattle.explain.specs.declared.fact.Place.TheVariants.{Register as AtRegister, Cell as AtCell}
 
@@ -80,3 +89,32 @@ facts_from rule callee row x n [] = []
 facts_from rule callee row x n (k ∷ ks) =
     let rest = facts_from rule callee row x (n + 1) ks in
     if looks_at rule callee row x n then record { place = place_at n; kind = k } ∷ rest else rest
+
+-- ---- the pairs of registers that a rule looks at, of those that are known
+
+abbrev pub looks_at_pair : KindRule → Callee → Insn → Pair → Bool
+looks_at_pair rule callee x pair = looks_at_register rule callee x (number pair.left) && looks_at_register rule callee x (number pair.right)
+
+-- the window that a register points into
+abbrev pub window_of : Kind → Option Region
+window_of (Ptr region lo hi) = Some region
+window_of other = None
+
+-- a greatest sum: an address in a window by its offset, which counts as a pointer's, or a number
+abbrev pub most_from : Option Region → ℕ → Most
+most_from (Some q) n = Address q (pos n -ℤ pos (origin q))
+most_from None n = Number n
+
+-- what a pair tells: an address where one of its registers points into a window
+abbrev pub told_by : Row → Pair → Together
+told_by row pair =
+    record { left = pair.left; right = pair.right; most = most_from (option_or (window_of (kind_at row pair.left)) (window_of (kind_at row pair.right))) pair.most }
+
+abbrev pub pair_among : KindRule → Callee → Row → Insn → Option Pair → List Together
+pair_among rule callee row x None = []
+pair_among rule callee row x (Some pair) = if looks_at_pair rule callee x pair then told_by row pair ∷ [] else []
+
+-- the pair that came last is the first
+abbrev pub pairs_among : KindRule → Callee → Row → Insn → Pairs → List Together
+pairs_among rule callee row x known =
+    pair_among rule callee row x known.first ++ pair_among rule callee row x known.second ++ pair_among rule callee row x known.third ++ pair_among rule callee row x known.fourth

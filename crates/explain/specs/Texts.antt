@@ -36,6 +36,9 @@ use Rattle.explain.specs.declared.explanation.Explanation.TheVariants.{Accepted,
 use Rattle.explain.specs.declared.fact.Fact.{Fact}
 use Rattle.explain.specs.declared.fact.Place.{Place}
 use Rattle.explain.specs.declared.fact.Place.TheVariants.{Register as AtRegister, Cell as AtCell}
+use Rattle.explain.specs.declared.together.Together.{Together}
+use Rattle.explain.specs.declared.together.Most.{Most}
+use Rattle.explain.specs.declared.together.Most.TheVariants.{Number, Address}
 use Rattle.explain.specs.Words.{rule_words}
 
 -- ---- instructions
@@ -178,6 +181,15 @@ line text = text ++ 10 ∷ []
 abbrev pub fact_text : Fact → List ℕ
 fact_text fact = line (place_text fact.place ++ codes ": " ++ kind_text fact.kind)
 
+-- two registers, and how much they are together at most
+abbrev pub most_text : Most → List ℕ
+most_text (Number n) = decimal n
+most_text (Address region offset) = region_text region ++ codes " at " ++ signed_decimal offset
+
+abbrev pub together_text : Together → List ℕ
+together_text two =
+    line (codes "r" ++ decimal (number two.left) ++ codes " + r" ++ decimal (number two.right) ++ codes ": at most " ++ most_text two.most)
+
 -- ---- explanations
 
 -- an exit, and what is known of its answer
@@ -194,4 +206,4 @@ broken_text refused x =
 -- the verdict, and what is known of the answers or of what the rule looks at
 abbrev pub explanation_text : Explanation → List ℕ
 explanation_text (Accepted slots answers) = line (codes "accepted " ++ decimal slots) ++ flat_map answer_text answers.items
-explanation_text (Broken refused x facts) = broken_text refused x ++ flat_map fact_text facts.items
+explanation_text (Broken refused x facts together) = broken_text refused x ++ flat_map fact_text facts.items ++ flat_map together_text together.items

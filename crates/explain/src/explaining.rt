@@ -9,18 +9,19 @@ ghost use Rattle.verifier.specs.Table.{IsAccepted, table};
 ghost use Rattle.verifier.specs.Rows.{row_at};
 ghost use Rattle.verifier.specs.Verdict.{IsRefused};
 ghost use Rattle.explain.specs.Answered.{answers_before};
-ghost use Rattle.explain.specs.Explained.{facts_in, facts_of, IsVerdict, IsExplained, IsUnexplained};
+ghost use Rattle.explain.specs.Explained.{facts_in, facts_of, together_in, IsVerdict, IsExplained, IsUnexplained};
 
 use crate::answers::answers_of;
 use crate::explanation::Explanation;
 use crate::fact::Fact;
-use crate::looks::{Look, facts_of};
+use crate::looks::{Look, facts_of, together_of};
+use crate::together::Together;
 use admission::Refusal;
 use bpfimage::{FormFault, Image, form_fault, read_program};
 use helpers::Sigs;
 use insn::Insn;
 use std::alloc::Global;
-use verifier::{Candidate, KindRule, Refused, Rule, callee_in, judge, row_before};
+use verifier::{Candidate, KindRule, Refused, Rule, callee_in, judge, pairs_before, row_before};
 
 /// An accepted program, explained.
 fn accepted(alloc: Global, program: &Candidate) -> Result<Explanation, Refusal>
@@ -45,28 +46,34 @@ fn malformed(alloc: Global, image: &Image, fault: FormFault) -> Explanation
         },
         insn: image.code[fault.slot as usize],
         facts: Vec::new(alloc),
+        together: Vec::new(alloc),
     }
 }
 
-/// What is known, at a slot, of the registers and cells that a rule looks at.
-fn facts_at(
+/// What is known, at a slot, of the registers and cells that a rule looks at, and of two such registers together.
+fn known_at(
     alloc: Global,
     program: &Candidate,
     rule: KindRule,
     slot: usize,
     insn: Insn,
-) -> Result<Vec<Fact>, Refusal>
+) -> Result<(Vec<Fact>, Vec<Together>), Refusal>
     requires formed { IsFormed program.now.image.code.items }
     requires within { slot < length program.now.image.code.items }
-    ensures found { IfOk result (λ facts. facts.items ≡ facts_in (program_in program.now) rule insn (row_at (table (program_in program.now)) slot)) }
+    ensures facts { IfOk result (λ known. known.0.items ≡ facts_in (program_in program.now) rule insn (row_at (table (program_in program.now)) slot)) }
+    ensures together { IfOk result (λ known. known.1.items ≡ together_in (program_in program.now) rule slot insn (row_at (table (program_in program.now)) slot)) }
     ensures no_memory { IfErr result (λ refusal. refusal ≡ Refusal.NoMemory) }
 {
     let mut facts = Vec::new(alloc);
+    let mut together = Vec::new(alloc);
     let Ok(known) = row_before(alloc, program, slot) else {
         return Err(Refusal::NoMemory);
     };
+    let Ok(pairs) = pairs_before(alloc, program, slot) else {
+        return Err(Refusal::NoMemory);
+    };
     let Some(row) = known else {
-        return Ok(facts);
+        return Ok((facts, together));
     };
     let callee = callee_in(&program.sigs, insn);
     let look = Look {
@@ -75,10 +82,10 @@ fn facts_at(
         row: &row,
         insn,
     };
-    if facts_of(look, &mut facts).is_err() {
+    if facts_of(look, &mut facts).is_err() || together_of(look, pairs, &mut together).is_err() {
         return Err(Refusal::NoMemory);
     }
-    Ok(facts)
+    Ok((facts, together))
 }
 
 /// A program that breaks a rule over kinds, explained.
@@ -93,11 +100,12 @@ fn broken(alloc: Global, program: &Candidate, refused: Refused) -> Result<Explan
     };
     let slot = refused.slot as usize;
     let insn = program.image.code[slot];
-    let facts = facts_at(alloc, program, rule, slot, insn)?;
+    let (facts, together) = known_at(alloc, program, rule, slot, insn)?;
     Ok(Explanation::Broken {
         refused,
         insn,
         facts,
+        together,
     })
 }
 

@@ -2,6 +2,7 @@
 
 use crate::answer::Answer;
 use crate::fact::Fact;
+use crate::together::Together;
 use insn::Insn;
 use verifier::Refused;
 
@@ -13,10 +14,12 @@ pub enum Explanation {
         slots: u32,
         answers: Vec<Answer>,
     },
-    /// It breaks this rule, by this instruction; what is known of what the rule looks at.
+    /// It breaks this rule, by this instruction; what is known of what the rule looks at, and the pairs of registers among it of which
+    /// the greatest sum is known.
     Broken {
         refused: Refused,
         insn: Insn,
         facts: Vec<Fact>,
+        together: Vec<Together>,
     },
 }

@@ -11,9 +11,11 @@ mod instruction;
 mod looks;
 mod rules;
 mod text;
+mod together;
 
 pub use answer::Answer;
 pub use explaining::explain;
 pub use explanation::Explanation;
 pub use fact::{Fact, Place};
 pub use text::text_of;
+pub use together::{Most, Together};

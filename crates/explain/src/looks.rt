@@ -6,16 +6,18 @@ ghost use Rattle.memory.specs.State.{operand_reads};
 ghost use Rattle.verifier.specs.CallKinds.{callee_from, first_kind};
 ghost use Rattle.verifier.specs.Rules.{reads_by};
 ghost use Rattle.verifier.specs.Table.{AreKinds};
-ghost use Rattle.explain.specs.Looks.{is_among, touches, own_touches, helper_touches, call_touches, reads_cell, looks_at_register, looks_at_cell, looks_at, place_at, facts_from};
+ghost use Rattle.explain.specs.Looks.{is_among, touches, own_touches, helper_touches, call_touches, reads_cell, looks_at_register, looks_at_cell, looks_at, place_at, facts_from, looks_at_pair, window_of, most_from, told_by, pair_among, pairs_among};
+ghost use Rattle.ranges.specs.Kinds.{origin};
 
 use crate::fact::{Fact, Place};
+use crate::together::{Most, Together};
 use alu::Op;
 use helpers::{ARGUMENT_REGISTERS, ArgRule};
 use insn::{Insn, Operand, Register};
-use memory::MAX_WINDOW;
+use memory::{MAX_WINDOW, Region};
 use ranges::Kind;
 use std::alloc::AllocError;
-use verifier::{Called, KindRule, Span, is_touched, kind_of, span_given, span_of};
+use verifier::{Called, KindRule, Pair, Pairs, Span, is_touched, kind_of, span_given, span_of};
 
 /// What a rule looks at: an instruction, what it calls, and the row of kinds that reaches it.
 #[derive(Clone, Copy)]
@@ -265,4 +267,87 @@ pub(crate) fn facts_of(look: Look, facts: &mut Vec<Fact>) -> Result<(), AllocErr
     ensures { OnOk result (facts.new.items ≡ facts.old.items ++ facts_from look.entry.rule (callee_from look.entry.callee.now) look.entry.row.now look.entry.insn 0 look.entry.row.now) }
 {
     add_facts(look, 0, look.row, facts)
+}
+
+/// Whether a rule looks at both registers of a pair.
+fn looks_at_pair(look: Look, pair: Pair) -> bool
+    ensures { result ≡ looks_at_pair look.entry.rule (callee_from look.entry.callee.now) look.entry.insn pair }
+{
+    looks_at_register(look, usize::from(pair.left.number()))
+        && looks_at_register(look, usize::from(pair.right.number()))
+}
+
+/// The window that a register points into, if it is known to.
+fn window_of(kind: Kind) -> Option<Region>
+    ensures { result ≡ window_of kind }
+{
+    match kind {
+        Kind::Ptr { region, .. } => Some(region),
+        Kind::Unset | Kind::Dead | Kind::Num(_) | Kind::Halves { .. } => None,
+    }
+}
+
+/// The address that offsets into a window count from: the stack's end, or else the window's first byte.
+fn origin(region: Region) -> u64
+    ensures { result ≡ origin region }
+{
+    match region {
+        Region::Stack => region.base() + 512,
+        Region::Input | Region::Output => region.base(),
+    }
+}
+
+/// The greatest sum of two registers, of which one may point into a window.
+fn most_from(region: Option<Region>, most: u64) -> Most
+    ensures { result ≡ most_from region most }
+{
+    match region {
+        Some(region) => Most::Address {
+            region,
+            offset: i128::from(most) - i128::from(origin(region)),
+        },
+        None => Most::Number(most),
+    }
+}
+
+/// What a pair tells, by the kinds of its registers.
+fn told_by(row: &[Kind], pair: Pair) -> Together
+    requires { 11 ≤ length row.now }
+    ensures { result ≡ told_by row.now pair }
+{
+    let left = window_of(kind_of(row, pair.left));
+    let right = window_of(kind_of(row, pair.right));
+    Together {
+        left: pair.left,
+        right: pair.right,
+        most: most_from(left.or(right), pair.most),
+    }
+}
+
+/// Adds what a pair tells, if there is one and a rule looks at both of its registers.
+fn add_pair(look: Look, pair: Option<Pair>, together: &mut Vec<Together>) -> Result<(), AllocError>
+    requires { 11 ≤ length look.row.now }
+    ensures { OnOk result (together.new.items ≡ together.old.items ++ pair_among look.entry.rule (callee_from look.entry.callee.now) look.entry.row.now look.entry.insn pair) }
+{
+    if let Some(pair) = pair {
+        if looks_at_pair(look, pair) {
+            together.push(told_by(look.row, pair))?;
+        }
+    }
+    Ok(())
+}
+
+/// What is known of two registers together that a rule looks at: the pair that came last is the first.
+pub(crate) fn together_of(
+    look: Look,
+    known: Pairs,
+    together: &mut Vec<Together>,
+) -> Result<(), AllocError>
+    requires { 11 ≤ length look.row.now }
+    ensures { OnOk result (together.new.items ≡ together.old.items ++ pairs_among look.entry.rule (callee_from look.entry.callee.now) look.entry.row.now look.entry.insn known) }
+{
+    add_pair(look, known.first, together)?;
+    add_pair(look, known.second, together)?;
+    add_pair(look, known.third, together)?;
+    add_pair(look, known.fourth, together)
 }

@@ -1,13 +1,14 @@
 //! Explanations as text.
 
 ghost use Rattle.std.specs.Prelude.{◌≡◌, ◌++◌, IfOk, OnOk, flat_map, string_bytes};
-ghost use Rattle.explain.specs.Texts.{numbers_text, offsets_text, region_text, window_text, word_text, kind_text, place_text, fact_text, answer_text, broken_text, explanation_text};
+ghost use Rattle.explain.specs.Texts.{numbers_text, offsets_text, region_text, window_text, word_text, kind_text, place_text, fact_text, most_text, together_text, answer_text, broken_text, explanation_text};
 
 use crate::answer::Answer;
 use crate::explanation::Explanation;
 use crate::fact::{Fact, Place};
 use crate::instruction::print_insn;
 use crate::rules::rule_words;
+use crate::together::{Most, Together};
 use admission::Refusal;
 use insn::Insn;
 use memory::Region;
@@ -126,6 +127,39 @@ fn print_facts(facts: &[Fact], text: &mut String) -> Result<(), AllocError>
     Ok(())
 }
 
+/// Adds how much two registers are together at most.
+fn print_most(most: Most, text: &mut String) -> Result<(), AllocError>
+    ensures { OnOk result (string_bytes text.new ≡ string_bytes text.old ++ most_text most) }
+{
+    match most {
+        Most::Number(number) => write!(text, "{number}"),
+        Most::Address { region, offset } => {
+            let name = region_text(region);
+            write!(text, "{name} at {offset}")
+        }
+    }
+}
+
+/// Adds the line of two registers of which the greatest sum is known.
+fn print_together(two: &Together, text: &mut String) -> Result<(), AllocError>
+    ensures { OnOk result (string_bytes text.new ≡ string_bytes text.old ++ together_text two.now) }
+{
+    let (left, right) = (two.left.number(), two.right.number());
+    write!(text, "r{left} + r{right}: at most ")?;
+    print_most(two.most, text)?;
+    text.push_str("\n")
+}
+
+/// Adds the lines of such registers.
+fn print_all_together(together: &[Together], text: &mut String) -> Result<(), AllocError>
+    ensures { OnOk result (string_bytes text.new ≡ string_bytes text.old ++ flat_map together_text together.now) }
+{
+    for two in together {
+        print_together(two, text)?;
+    }
+    Ok(())
+}
+
 /// Adds the lines of what is known of an answer.
 fn print_answer(answer: &Answer, text: &mut String) -> Result<(), AllocError>
     ensures { OnOk result (string_bytes text.new ≡ string_bytes text.old ++ answer_text answer.now) }
@@ -172,9 +206,11 @@ pub fn text_of(alloc: Global, explanation: &Explanation) -> Result<String, Alloc
             refused,
             insn,
             facts,
+            together,
         } => {
             print_broken(*refused, *insn, &mut text)?;
             print_facts(facts, &mut text)?;
+            print_all_together(together, &mut text)?;
         }
     }
     Ok(text)
