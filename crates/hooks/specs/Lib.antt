@@ -1,3 +1,4 @@
 pub mod Bindings
 pub mod Changes
+pub mod Names
 pub mod Tables

@@ -1,8 +1,7 @@
 -- What a registry shows: the program of each name, and the name that is bound to each bucket and kind.
-use Rattle.std.specs.Prelude.{◌≡◌, ℕ, List, map, Option, None, Result, Ok, Err, true, false}
+use Rattle.std.specs.Prelude.{◌≡◌, ℕ, List, Option, None, Result, Ok, Err, true, false}
 use Rattle.std.specs.Option.{option_map}
 use Rattle.std.specs.Map.{lookup}
-use Rattle.std.specs.declared.vec.Vec.{Vec}
 use Rattle.std.specs.Global.{Global}
 use Rattle.std.specs.declared.sync.Arc.{Arc}
 use Rattle.std.specs.Arc.{arc_value}
@@ -19,10 +18,6 @@ use Rattle.hooks.specs.Changes.{Change, Install, Remove, Bind, are_fitting, are_
 pub record Shown : Type 0 where
   pub programs : List (List ℕ × Arc Program Global)
   pub bindings : List (List ℕ × Bindings)
-
--- what is bound to buckets, each seen as its bytes
-abbrev pub by_bucket : List (Vec ℕ Global × Bindings) → List (List ℕ × Bindings)
-by_bucket entries = map (λ e. (e.0.items, e.1)) entries
 
 -- the program under a name
 abbrev pub program_in : List (List ℕ × Arc Program Global) → List ℕ → Option Program

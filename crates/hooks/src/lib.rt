@@ -6,6 +6,7 @@ mod changing;
 mod fault;
 pub mod laws;
 mod lookup;
+mod names;
 mod registry;
 
 pub use changing::HookChanges;

@@ -5,46 +5,55 @@ ghost use Rattle.std.specs.List.{fold};
 ghost use Rattle.std.specs.Option.{option_copied, option_map};
 ghost use Rattle.std.specs.Arc.{arc_value};
 ghost use Rattle.bpfimage.specs.declared.image.ImageKind.{ImageKind as Kind};
-ghost use Rattle.std.specs.Map.{lookup};
-ghost use Rattle.hooks.specs.Changes.{AreAllowed, AreRefused, Bind, Install, Remove, are_fitting, are_known, binding_after, is_fitting, is_kind, is_known, is_name, of_kind};
+ghost use Rattle.hooks.specs.Changes.{AreAllowed, AreRefused, Bind, Install, Remove, are_fitting, are_known, binding_after, is_fitting, is_kind, is_known, of_kind};
 ghost use Rattle.hooks.specs.Bindings.{bound_by, bound_if};
-ghost use Rattle.hooks.specs.Tables.{ChangesBy, Shows, bound_in, by_bucket, hook_in, program_in};
+ghost use Rattle.hooks.specs.Tables.{ChangesBy, Shows, bound_in, hook_in, program_in};
 
 use crate::bindings::{Bindings, copy_of};
 use crate::fault::{HookFault, NotSeen};
+use crate::names::Names;
 use bpfimage::ImageKind;
 use object::Bytes;
 use std::alloc::{AllocError, Global};
-use std::collections::BTreeMap;
+use std::hash::DefaultHasher;
 use std::marker::Model;
 use std::sync::Arc;
 use verifier::Verified;
 
+/// Verified programs under names.
+type Programs = Names<Arc<Verified>>;
+
 /// Verified programs under names, and the names that are bound to each bucket's kinds of hooks.
 #[derive(Drop)]
 pub struct Registry {
-    programs: BTreeMap<Bytes, Arc<Verified>>,
-    bindings: BTreeMap<Vec<u8>, Bindings>,
-    alloc: Global,
+    programs: Programs,
+    bindings: Names<Bindings>,
 }
 
 impl Model for Registry {
-    ghost use Rattle.hooks.specs.Tables.{Shown, by_bucket};
+    ghost use Rattle.hooks.specs.Tables.{Shown};
 
     ghost Value = { Shown };
 
-    ghost view = { λ r. record { programs = r.programs.entries; bindings = by_bucket r.bindings.entries } };
+    ghost view = { λ r. record { programs = r.programs; bindings = r.bindings } };
 }
 
 impl Registry {
-    /// No program, and nothing bound.
+    /// No program, and nothing bound, for names and buckets that no stranger chooses.
     pub fn new(alloc: Global) -> Registry
         ensures { Shows [] result }
     {
+        Registry::seeded(alloc, DefaultHasher::new())
+    }
+
+    /// No program, and nothing bound. The hashes of names and buckets begin with what a hasher was given: where that can't be guessed,
+    /// strangers who choose names can't make it slow.
+    pub fn seeded(alloc: Global, hasher: DefaultHasher) -> Registry
+        ensures { Shows [] result }
+    {
         Registry {
-            programs: BTreeMap::new(alloc),
-            bindings: BTreeMap::new(alloc),
-            alloc,
+            programs: Names::new(alloc, hasher),
+            bindings: Names::new(alloc, hasher),
         }
     }
 
@@ -53,8 +62,7 @@ impl Registry {
         ensures ok { OnOk result (ChangesBy self.old self.new (Install name (arc_value program))) }
         ensures err { OnErr result (self.new ≡ self.old) }
     {
-        self.programs.insert(name, program)?;
-        Ok(())
+        self.programs.insert(name.as_slice(), program)
     }
 
     /// Takes a name from its program. What is bound to the name stays bound to it.
@@ -64,7 +72,7 @@ impl Registry {
         ensures only { IfErr result (λ fault. fault ≡ HookFault.NameUnknown) }
         ensures err { OnErr result (self.new ≡ self.old) }
     {
-        match self.programs.remove(name) {
+        match self.programs.remove(name.as_slice()) {
             Some(_) => Ok(()),
             None => Err(HookFault::NameUnknown),
         }
@@ -85,8 +93,8 @@ impl Registry {
         ensures err { OnErr result (self.new ≡ self.old) }
     {
         self.allows(bindings)?;
-        let bound = bound_anew(bindings_of(&self.bindings, bucket.as_slice()), bindings)?;
-        let bucket = Vec::from_slice(self.alloc, bucket.as_slice())?;
+        let bucket = bucket.as_slice();
+        let bound = bound_anew(self.bindings.get(bucket), bindings)?;
         self.bindings.insert(bucket, bound)?;
         Ok(())
     }
@@ -95,7 +103,7 @@ impl Registry {
     pub fn has(&self, name: &Bytes) -> bool
         ensures { result ≡ is_some (program_in self.now.programs name.now) }
     {
-        self.programs.contains_key(name)
+        self.programs.get(name.as_slice()).is_some()
     }
 
     /// Whether bindings may be made. `NameUnknown` where a name has no program; `KindDiffers` where each has one, and one of
@@ -117,11 +125,11 @@ impl Registry {
     pub fn hook_of(&self, bucket: &[u8], kind: ImageKind) -> Result<Option<Arc<Verified>>, NotSeen>
         ensures { IfOk result (λ hook. option_map arc_value hook ≡ hook_in self.now bucket.now kind) }
     {
-        let Some(bindings) = bindings_of(&self.bindings, bucket) else {
+        let Some(bindings) = self.bindings.get(bucket) else {
             return Ok(None);
         };
         match bindings.bound(kind) {
-            Some(name) => shared(self.programs.get(name), kind),
+            Some(name) => shared(self.programs.get(name.as_slice()), kind),
             None => Ok(None),
         }
     }
@@ -130,18 +138,11 @@ impl Registry {
     pub fn bound(&self, bucket: &Bytes, kind: ImageKind) -> Result<Option<Bytes>, AllocError>
         ensures { IfOk result (λ name. name ≡ bound_in self.now.bindings bucket.now kind) }
     {
-        match bindings_of(&self.bindings, bucket.as_slice()) {
+        match self.bindings.get(bucket.as_slice()) {
             Some(bindings) => copy_of(bindings.bound(kind)),
             None => Ok(None),
         }
     }
-}
-
-/// What is bound to a bucket.
-fn bindings_of<'a>(bindings: &'a BTreeMap<Vec<u8>, Bindings>, bucket: &[u8]) -> Option<&'a Bindings>
-    ensures { option_copied result ≡ lookup (is_name bucket.now) (by_bucket bindings.now.entries) }
-{
-    bindings.get(bucket)
 }
 
 /// One more owner of a program, if it is of this kind.
@@ -168,34 +169,28 @@ fn is_of_kind(program: &Arc<Verified>, kind: ImageKind) -> bool
 }
 
 /// Whether a binding is to a name that has a program, or to none.
-fn is_known(programs: &BTreeMap<Bytes, Arc<Verified>>, binding: &(ImageKind, Option<Bytes>)) -> bool
-    ensures { result ≡ is_known (program_in programs.now.entries) binding.now }
+fn is_known(programs: &Programs, binding: &(ImageKind, Option<Bytes>)) -> bool
+    ensures { result ≡ is_known (program_in programs.now) binding.now }
 {
     match &binding.1 {
-        Some(name) => programs.contains_key(name),
+        Some(name) => programs.get(name.as_slice()).is_some(),
         None => true,
     }
 }
 
 /// Whether each binding is so.
-fn are_known(
-    programs: &BTreeMap<Bytes, Arc<Verified>>,
-    bindings: &[(ImageKind, Option<Bytes>)],
-) -> bool
-    ensures { result ≡ are_known (program_in programs.now.entries) bindings.now }
+fn are_known(programs: &Programs, bindings: &[(ImageKind, Option<Bytes>)]) -> bool
+    ensures { result ≡ are_known (program_in programs.now) bindings.now }
 {
     bindings.iter().all(|binding| is_known(programs, binding))
 }
 
 /// Whether a binding is to a name whose program is of that kind, or to none.
-fn is_fitting(
-    programs: &BTreeMap<Bytes, Arc<Verified>>,
-    binding: &(ImageKind, Option<Bytes>),
-) -> bool
-    ensures { result ≡ is_fitting (program_in programs.now.entries) binding.now }
+fn is_fitting(programs: &Programs, binding: &(ImageKind, Option<Bytes>)) -> bool
+    ensures { result ≡ is_fitting (program_in programs.now) binding.now }
 {
     match &binding.1 {
-        Some(name) => match programs.get(name) {
+        Some(name) => match programs.get(name.as_slice()) {
             Some(program) => is_of_kind(program, binding.0),
             None => false,
         },
@@ -204,11 +199,8 @@ fn is_fitting(
 }
 
 /// Whether each binding is so.
-fn are_fitting(
-    programs: &BTreeMap<Bytes, Arc<Verified>>,
-    bindings: &[(ImageKind, Option<Bytes>)],
-) -> bool
-    ensures { result ≡ are_fitting (program_in programs.now.entries) bindings.now }
+fn are_fitting(programs: &Programs, bindings: &[(ImageKind, Option<Bytes>)]) -> bool
+    ensures { result ≡ are_fitting (program_in programs.now) bindings.now }
 {
     bindings.iter().all(|binding| is_fitting(programs, binding))
 }
