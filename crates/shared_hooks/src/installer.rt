@@ -56,10 +56,11 @@ impl<J: Naming, T: Rack<J> + Drop, R: Wait + Drop> Installer<J, T, R> {
         requires readers { (0 < readers) × (readers < 2 ^ 32) }
         ensures { IfOk result (λ installer. installer ≡ record { made = []; published = [] }) }
     {
+        let registry = Registry::seeded(alloc, ground.hasher);
         match Outlet::new(alloc, rt, ground, readers) {
             Ok(outlet) => Ok(Installer {
                 outlet,
-                registry: Registry::new(alloc),
+                registry,
                 alloc,
             }),
             Err(fault) => Err(fault),

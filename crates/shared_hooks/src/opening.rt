@@ -8,6 +8,7 @@ use fronts::{Book, Front, Naming, Opened};
 use hook_readers::Edit;
 use hooks::Registry;
 use std::alloc::Global;
+use std::hash::DefaultHasher;
 use thiserror::Error;
 
 /// Why there is no further reader: each place for one is taken. It is shown as its number.
@@ -18,13 +19,21 @@ pub struct NoReader;
 /// The empty list of changes, which has no name yet.
 pub struct Opening {
     list: Opened<Edit>,
+    hasher: DefaultHasher,
 }
 
 impl Opening {
-    /// A list of its own.
+    /// A list of its own, of changes whose names and buckets no stranger chooses.
     pub fn new() -> Opening {
+        Opening::seeded(DefaultHasher::new())
+    }
+
+    /// A list of its own. The hashes of names and buckets begin with what a hasher was given: where that can't be guessed, strangers who
+    /// choose names can't make look-ups slow.
+    pub fn seeded(hasher: DefaultHasher) -> Opening {
         Opening {
             list: Opened::new(),
+            hasher,
         }
     }
 
@@ -33,15 +42,16 @@ impl Opening {
         requires { list_of self ≡ J.book }
         ensures { (result.front ≡ []) × (result.first ≡ []) × (result.second ≡ []) }
     {
-        let Opening { list } = self;
+        let Opening { list, hasher } = self;
         let (book, front) = list.named::<J>();
-        let first = Published::new(Registry::new(alloc), front.again());
-        let second = Published::new(Registry::new(alloc), front.again());
+        let first = Published::new(Registry::seeded(alloc, hasher), front.again());
+        let second = Published::new(Registry::seeded(alloc, hasher), front.again());
         Ground {
             book,
             front,
             first,
             second,
+            hasher,
         }
     }
 }
@@ -53,4 +63,5 @@ pub struct Ground<J: Naming, T> {
     pub front: Front<Edit, J>,
     pub first: T,
     pub second: T,
+    pub(crate) hasher: DefaultHasher,
 }

@@ -48,6 +48,7 @@ impl<J: Naming, T: Rack<J> + Drop, R: Wait + Drop> Outlet<J, T, R> {
             front,
             first,
             second,
+            hasher: _,
         } = ground;
         let writer = WriteHandle::new(alloc, rt, first, second, readers)?;
         Ok(Outlet {
