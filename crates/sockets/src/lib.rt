@@ -12,6 +12,7 @@
 mod inlet;
 mod limits;
 mod line;
+mod looks;
 mod orders;
 mod sockets;
 mod worker;

@@ -3,12 +3,14 @@
 ghost use Rattle.std.specs.Prelude.{◌≡◌, ◌<◌, ◌≤◌, ◌+◌, ◌-◌, ◌^◌, ℕ, max, min, IfOk, OnErr};
 
 use crate::line::{Course, Drained, Line};
+use crate::looks::Looks;
 use hall::{Closing, Heard, Ring, Standing, Told};
 use httpfront::{Failed, FrontFault};
 use mio::net::TcpStream;
 use mio::{Events, Poll};
 use std::alloc::{AllocError, Global};
 use std::collections::{BTreeMap, VecDeque};
+use std::thread::yield_now;
 use std::time::Duration;
 use std::{io, mem};
 
@@ -34,6 +36,8 @@ pub(crate) enum Reading {
 pub(crate) struct Sockets {
     alloc: Global,
     poll: Poll,
+    /// How often it is looked for something to do before the next sleep.
+    looks: Looks,
     lines: BTreeMap<u64, Line>,
     /// No connection had this number, or a greater one.
     next: u64,
@@ -61,6 +65,7 @@ impl Sockets {
         Ok(Sockets {
             alloc,
             poll,
+            looks: Looks::new(),
             lines: BTreeMap::new(alloc),
             next: 0,
             coming: None,
@@ -106,7 +111,28 @@ impl Sockets {
         ensures next { self.new.next ≡ self.old.next }
     {
         let most = self.longest_wait(most);
+        if most != Duration::ZERO {
+            let is_found = self.look(events)?;
+            self.looks = self.looks.after(is_found);
+            if is_found {
+                return Ok(());
+            }
+        }
         self.poll.poll(events, Some(most))
+    }
+
+    // Looks for something to do, as often as that may pay. Between two looks other threads may have the processor. Whether something is.
+    fn look(&mut self, events: &mut Events) -> io::Result<bool>
+        ensures next { self.new.next ≡ self.old.next }
+    {
+        for _ in 0..self.looks.count {
+            self.poll.poll(events, Some(Duration::ZERO))?;
+            if !events.is_empty() {
+                return Ok(true);
+            }
+            yield_now();
+        }
+        Ok(false)
     }
 
     // How long is waited, if it is at most so long: not at all where connections are called again.
