@@ -17,4 +17,4 @@ pub use lobby::{Lobby, open};
 pub use roster::{Post, Roster};
 pub use snapshots::Snapshots;
 pub use start::listen;
-pub use timer::Timer;
+pub use timer::{Stint, Timer};

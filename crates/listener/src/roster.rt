@@ -7,8 +7,8 @@ use crate::ending::Ending;
 use crate::snapshots::Snapshots;
 use mio::net::TcpStream;
 use sockets::{Inlet, Worker};
-use std::sync::atomic::AtomicBool;
 use std::sync::atomic::Ordering::SeqCst;
+use std::sync::atomic::{AtomicBool, AtomicU64};
 use std::sync::{Mutex, Wait};
 
 /// A worker that nobody has taken yet, so that no connection ever came to it.
@@ -25,6 +25,8 @@ pub struct Post {
     /// Where its connections come.
     pub inlet: Inlet,
     is_to_shed: AtomicBool,
+    /// How many of its worker's turns have ended.
+    turns: AtomicU64,
 }
 
 impl Post {
@@ -36,6 +38,7 @@ impl Post {
             waiting: Mutex::new(Some(Waiting { worker })),
             inlet,
             is_to_shed: AtomicBool::new(false),
+            turns: AtomicU64::new(0),
         }
     }
 
@@ -50,6 +53,16 @@ impl Post {
     /// Whether the worker was asked, since it last looked, to let its longest idle connection go.
     pub fn is_to_shed(&self) -> bool {
         self.is_to_shed.swap(false, SeqCst)
+    }
+
+    /// A turn of the worker has ended.
+    pub fn note_turn(&self) {
+        self.turns.fetch_add(1, SeqCst);
+    }
+
+    /// How many of the worker's turns have ended. What was begun in a turn has ended where this is another number than then.
+    pub fn turns(&self) -> u64 {
+        self.turns.load(SeqCst)
     }
 
     // Asks it to.

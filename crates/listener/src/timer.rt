@@ -1,9 +1,9 @@
-//! The clock by which limits are kept.
+//! The clocks by which limits are kept.
 
 ghost use Rattle.std.specs.Prelude.{◌≤◌};
 
 use libc::types::timespec;
-use libc::{CLOCK_MONOTONIC, clock_gettime};
+use libc::{CLOCK_MONOTONIC, CLOCK_THREAD_CPUTIME_ID, clock_gettime};
 
 /// Milliseconds of the system's clock that never goes back. Each look at a clock that can't be read counts as one.
 ///
@@ -24,24 +24,51 @@ impl Timer {
     pub fn now(&mut self) -> u64
         ensures { self.old.last ≤ result }
     {
-        self.last = match millis() {
-            Some(now) => self.last.max(now),
+        self.last = match micros(CLOCK_MONOTONIC) {
+            Some(now) => self.last.max(now / 1_000),
             None => self.last.saturating_add(1),
         };
         self.last
     }
 }
 
-/// The time of the clock, if it can be read.
-fn millis() -> Option<u64> {
+/// A piece of a thread's work, of which it is known for how long the thread waited: for a processor, a lock or a device.
+#[derive(Clone, Copy, Debug)]
+pub struct Stint {
+    /// When it began, in microseconds.
+    begin: u64,
+    /// For how long the thread had worked before.
+    worked: u64,
+}
+
+impl Stint {
+    /// One of the calling thread that begins now.
+    pub fn begin() -> Stint {
+        Stint {
+            begin: micros(CLOCK_MONOTONIC).unwrap_or(0),
+            worked: micros(CLOCK_THREAD_CPUTIME_ID).unwrap_or(0),
+        }
+    }
+
+    /// For so many microseconds the thread, which is the calling one, has waited since it began.
+    pub fn waited(&self) -> u64 {
+        let Stint { begin, worked } = Stint::begin();
+        begin
+            .saturating_sub(self.begin)
+            .saturating_sub(worked.saturating_sub(self.worked))
+    }
+}
+
+/// The microseconds of a clock of the system, if it can be read.
+fn micros(clock: i32) -> Option<u64> {
     let mut time = timespec {
         tv_sec: 0,
         tv_nsec: 0,
     };
-    if clock_gettime(CLOCK_MONOTONIC, &mut time) != 0 {
+    if clock_gettime(clock, &mut time) != 0 {
         return None;
     }
     let seconds = time.tv_sec.unsigned_abs();
-    let part = time.tv_nsec.unsigned_abs() / 1_000_000;
-    Some(seconds.saturating_mul(1_000).saturating_add(part))
+    let part = time.tv_nsec.unsigned_abs() / 1_000;
+    Some(seconds.saturating_mul(1_000_000).saturating_add(part))
 }
