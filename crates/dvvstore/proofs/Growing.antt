@@ -1,14 +1,10 @@
 -- What a pass was told only grows, call by call.
 use Rattle.std.proofs.Common.{◌≡◌, ◌∙◌, ℕ, List, [], ◌∷◌, ◌++◌, ap, append_assoc, sym, Some}
 use Rattle.std.proofs.lemmas.List.{append-nil}
-use Rattle.dvvstore.specs.Asides.{GoesOn}
+use Rattle.dvvstore.specs.Asides.{Grows}
 use Rattle.peers.specs.Calls.{Call, Made}
 use Rattle.stamps.specs.declared.view.Told.{Told}
 use Rattle.stamps.specs.declared.view.View.{View}
-
--- more was told, or nothing
-abbrev pub Grows : View → View → Type 0
-Grows old new = (more : List Told) × (new.told ≡ old.told ++ more)
 
 pub nothing_more : (old new : View) → new ≡ old → Grows old new
 nothing_more old new is = ([], ap (λ (v : View). v.told) is ∙ sym (append-nil old.told))

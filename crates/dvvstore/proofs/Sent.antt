@@ -12,9 +12,15 @@ use Rattle.std.proofs.option.Option.TheSendSync as option
 use Rattle.std.specs.contracts.option.Option as Option
 use Rattle.vnode_locks.proofs.pass.Pass.TheSendSync as pass
 use Rattle.vnode_locks.specs.contracts.pass.Pass as Pass
+use Rattle.dvvstore.specs.contracts.saver.Spares as Spares
 use Rattle.dvvstore.specs.contracts.saver.Saver as Saver
 use Rattle.dvvstore.proofs.crew.reporter.Reporter.TheSendSync as reporter
 use Rattle.dvvstore.proofs.saver.Saver.TheSendSync as saver
+use Rattle.dvvstore.proofs.saver.Spares.TheSendSync as spares
+use Rattle.dvvstore.specs.contracts.saver.Side as Side
+use Rattle.dvvstore.proofs.saver.Side.TheSendSync as side
+use Rattle.dvvstore.specs.contracts.crew.signs.Signs as Signs
+use Rattle.listener.proofs.Sent.{lobby_sync}
 
 lock_sync : (B : RattleType) (g : room.Ghosts B.Denot) (h : spot.Ghosts B.Denot) → IsSend B → IsSync (Mutex.the_row (Watch.the_row B g h))
 lock_sync B g h s = search (watch_send, sendable, crosses) depth 40
@@ -22,15 +28,22 @@ lock_sync B g h s = search (watch_send, sendable, crosses) depth 40
 pub shared_sync : (B : RattleType) (g : room.Ghosts B.Denot) (h : spot.Ghosts B.Denot) → IsSend B → IsSync (Shared.the_row B g h)
 shared_sync B g h s = search (lock_sync, reporter.the_field_sync, sendable, crosses) depth 60
 
-saver_alone : (l : _) (F : RattleType) → IsSend F → IsSend (Saver.the_row l F)
-saver_alone l F s = search (saver.the_send, s, sendable, crosses) depth 40
+saver_alone : (F : RattleType) → IsSend F → IsSend (Saver.the_row F)
+saver_alone F s = search (saver.the_send, s, sendable, crosses) depth 40
 
-spare_alone : (B : RattleType) (g : room.Ghosts B.Denot) → IsSend B → IsSend (Pass.the_row B g)
-spare_alone B g s = search (pass.the_send, sendable, crosses) depth 30
+spares_alone : (B : RattleType) (g : room.Ghosts B.Denot) → IsSend B → IsSend (Spares.the_row B g)
+spares_alone B g s = search (spares.the_send, sendable, crosses) depth 30
 
--- the thread beside the workers may be handed who makes snapshots, and a pass, if there are any
-pub saver_send : (l : _) (F : RattleType) → IsSend F → IsSend (Option.the_row (Saver.the_row l F))
-saver_send l F s = option.the_send _ (saver_alone l F s)
+-- the thread beside the workers may be handed who makes snapshots, and passes, if there are any
+pub saver_send : (F : RattleType) → IsSend F → IsSend (Option.the_row (Saver.the_row F))
+saver_send F s = option.the_send _ (saver_alone F s)
 
-pub spare_send : (B : RattleType) (g : room.Ghosts B.Denot) → IsSend B → IsSend (Option.the_row (Pass.the_row B g))
-spare_send B g s = option.the_send _ (spare_alone B g s)
+pub spares_send : (B : RattleType) (g : room.Ghosts B.Denot) → IsSend B → IsSend (Option.the_row (Spares.the_row B g))
+spares_send B g s = option.the_send _ (spares_alone B g s)
+
+-- a thread may be handed who reads some of the vnodes, and look at what is done beside the workers
+pub side_send : (B F : RattleType) (g : room.Ghosts B.Denot) → IsSend B → IsSend F → IsSend (Side.the_row B F g)
+side_send B F g b f = search (side.the_send, sendable, crosses) depth 40
+
+pub signs_sync : (l : _) → IsSync (Signs.the_row l)
+signs_sync l = search (lobby_sync, sendable, crosses) depth 60

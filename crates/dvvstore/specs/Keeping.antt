@@ -51,20 +51,20 @@ abbrev pub files_of : {N F B : Type 0} → Stay N F B → List KeptFile
 files_of (stay.Guest lobby) = []
 files_of (stay.Keeper keeper begun) = keeper.held.now.files.items
 
--- how many passes there are besides those of workers: one that the follower has, and one more by which a store that is kept begins
+-- how many passes there are besides those of workers: one that the follower has, and three more of a store that is kept, the first of which it begins by
 abbrev pub passes_for : {N F : Type 0} → Tenant N F → ℕ
 passes_for (tenant.Guest lobby) = 1
-passes_for (tenant.Keeper keeper) = 2
+passes_for (tenant.Keeper keeper) = 4
 
 -- the same of a store that has begun
 abbrev pub passes_of : {N F B : Type 0} → Stay N F B → ℕ
 passes_of (stay.Guest lobby) = 1
-passes_of (stay.Keeper keeper begun) = 2
+passes_of (stay.Keeper keeper begun) = 4
 
--- the three vnodes, numbered from the first on, have taken over what these files hold, each what is its own by index, each record once and in order; the pass
+-- the three vnodes, numbered from the first on, have taken over what these files hold, each what is its own by index, each record once and in order; the first pass
 -- was told of that, and of nothing else since; and their fronts are the numbers of these records
 abbrev pub HasBegunWith : {B : Type 0} → ℕ → List KeptFile → Begun B → Type 0
-HasBegunWith first files begun = (fresh : View) × HaveLoaded fresh begun.pass first files 3 × (begun.fronts.items ≡ fronts_to files 3) × (begun.first ≡ first)
+HasBegunWith first files begun = (fresh : View) × HaveLoaded fresh begun.spares.first first files 3 × (begun.fronts.items ≡ fronts_to files 3) × (begun.first ≡ first)
 
 -- the same, where the store is kept
 abbrev pub HasBegunRight : {N F B : Type 0} → ℕ → Stay N F B → Type 0

@@ -9,7 +9,7 @@ ghost use Rattle.dvvstore.specs.Keeping.{HasBegunWith, Leaves, Tells};
 use crate::crew;
 use crate::crew::{Lookout, Seat};
 use crate::reasons::listen;
-use crate::saver::Saver;
+use crate::saver::{Saver, Spares};
 use crate::session::Left;
 use closing::Spot;
 use folder::{Folder, HOOKS, Held};
@@ -69,8 +69,8 @@ impl From<io::Error> for Unbegun {
 /// What a store has begun with that a folder keeps.
 #[derive(Drop)]
 pub struct Begun<B: Room> {
-    /// The pass by which that was brought to its vnodes.
-    pub pass: Pass<B>,
+    /// The pass by which that was brought to its vnodes, and those that make snapshots with it.
+    pub spares: Spares<B>,
     /// So many of the first entries of each vnode were there then.
     pub fronts: Vec<usize>,
     /// The identifier of the first vnode.
@@ -94,7 +94,7 @@ pub struct Door<'a, N> {
 #[derive(Drop)]
 pub struct Keeper<'a, N, F> {
     /// The folder.
-    pub folder: &'a mut F,
+    pub folder: F,
     /// What it held.
     pub held: &'a Held,
     /// Where the store answers.
@@ -108,7 +108,7 @@ pub fn live<
     H: Hooks + HookChanges + Send + Drop,
     R: Threads + Wait + Sync,
     N: Net<Listener = TcpListener, Stream = TcpStream>,
-    F: Folder + Send,
+    F: Folder + Copy + Send,
     O: Write,
 >(
     alloc: Global,
@@ -121,7 +121,7 @@ pub fn live<
     out: &mut O,
 ) -> Result<Left, Unbegun>
     requires some { 0 < vec_len seats }
-    requires all { cluster.passes ≤ vec_len seats + 2 }
+    requires all { cluster.passes ≤ vec_len seats + 4 }
     requires spot { cluster.first ≡ B.first }
     requires vnodes { cluster.vnodes ≡ 3 }
     requires begun { HasBegunWith cluster.first keeper.held.now.files.items begun }
@@ -150,7 +150,7 @@ pub fn live<
     };
     loads_stand();
     let Begun {
-        pass,
+        spares,
         fronts,
         first,
     } = begun;
@@ -162,7 +162,7 @@ pub fn live<
         err,
     };
     match crew::keep(
-        alloc, rt, cluster, seats, &lobby, lookout, &fronts, pass, saver,
+        alloc, rt, cluster, seats, &lobby, lookout, &fronts, spares, saver,
     ) {
         Ok(served) => Ok(Left::Kept(served)),
         Err(AllocError) => Ok(Left::Lost),

@@ -12,7 +12,7 @@ use crate::reasons::listen;
 use crate::session;
 use crate::session::{Left, Making, Tenant};
 use crate::start::start_at;
-use crate::system_folder::SystemFolder;
+use crate::system_folder::{SystemFolder, take};
 use closing::Closed;
 use commands::server::{Ended, Server, Site, Unserved};
 use findings::{Followed, WatchFault};
@@ -143,10 +143,11 @@ impl<
             return Err(Unserved::NoMemory);
         }
         let seed = Seed::random(self.rt)?;
-        let mut folder = match SystemFolder::take(self.files, alloc, site.folder) {
-            Ok(folder) => folder,
+        let _lock = match take(self.files, alloc, site.folder) {
+            Ok(lock) => lock,
             Err(why) => return Err(refused(alloc, out, &why)),
         };
+        let mut folder = SystemFolder::at(self.files, alloc, site.folder);
         let opened = match folder::open(alloc, self.rt, &mut folder) {
             Ok(opened) => opened,
             Err(OpenFault::NoMemory) => return Err(Unserved::NoMemory),
@@ -157,7 +158,7 @@ impl<
             seed,
         };
         let keeper = Keeper {
-            folder: &mut folder,
+            folder,
             held: &opened.held,
             door: Door {
                 rt: self.rt,

@@ -1,17 +1,19 @@
 //! Snapshots of a store that is kept, beside its workers.
 
-ghost use Rattle.std.specs.Prelude.{Some};
-ghost use Rattle.dvvstore.specs.Asides.{GoesOn};
+ghost use Rattle.std.specs.Prelude.{◌≡◌};
+ghost use Rattle.dvvstore.specs.Asides.{Grows};
 
 use crate::crew::{Open, Signs};
 use folder::{Folder, Unreplaced, WriteFault, keep_requests, keep_served};
 use keeping::{Pace, SnapshotFault, Subject};
-use listener::Timer;
+use listener::{Post, Stint, Timer};
 use pool::{Cluster, Pass, Room};
 use sockets::Stance;
 use std::alloc::Global;
 use std::io::{Eprint, Stderr};
 use std::sync::Wait;
+use std::thread;
+use std::thread::Threads;
 use std::time::Duration;
 use workers::PassPeers;
 use workers::laws::calls_only_add;
@@ -19,28 +21,46 @@ use workers::laws::calls_only_add;
 /// How long it waits before it looks again whether a snapshot is due or asked for, in milliseconds.
 const TICK: u64 = 100;
 
-/// So many keys are read in a spell, or fewer: half of the entries of a vnode of which the follower keeps what they answered. So what a client's
+/// At most so many keys of a vnode are read in a spell: half of the entries of which the follower keeps what they answered. So what a client's
 /// call answered is kept for longer than a spell lasts.
 const SPELL: u32 = 8_192;
 
-/// How long a spell lasts at the least in which somebody else calls the vnode, in milliseconds.
-const SPELL_MILLIS: u64 = 100;
+/// A spell lasts so many milliseconds at the most.
+const SPELL_MILLIS: u64 = 20;
+
+/// The clock is looked at behind so many reads.
+const LOOK: u32 = 64;
+
+/// Workers are waited for at most so many milliseconds behind a spell.
+const LONGEST_WAIT: u64 = 100;
+
+/// A rest is so many times as long as the thread waited for a processor in the spell before it.
+const REST: u64 = 8;
+
+/// It is at most so many microseconds long.
+const LONGEST_REST: u64 = 100_000;
+
+/// So many vnodes are read side by side.
+const SIDES: usize = 3;
 
 /// Whether the server goes on: neither have all workers ended, nor was it told to stop.
 fn is_serving(signs: &Signs<'_>) -> bool {
     !signs.is_over() && signs.lobby.roster.ending.stance() != Stance::Stopping
 }
 
-/// How fast a snapshot goes on, and how long: as long as the server does. It reads spell by spell, and rests after one in which somebody else
-/// called the vnode, so that clients have the processor, and a merge that a client's request makes still finds the answer that it names among
-/// the last that the follower keeps. Where nobody else calls the vnode it doesn't rest.
+/// How fast a snapshot of a vnode goes on, and how long: as long as the server does. It reads spell by spell. Behind one in which somebody else
+/// called the vnode it waits until each worker has ended the turn that it was in: so a merge that a client's request makes still finds the answer
+/// that it names among the last that the follower keeps. Then it rests, the longer the more it had to wait for a processor, so that clients have
+/// most of those that are busy, and a snapshot those that are not. Where nobody else calls the vnode it does neither.
 #[derive(Drop)]
 struct Stride<'a, R> {
     rt: &'a R,
     signs: Signs<'a>,
     timer: Timer,
-    /// When the spell began.
+    /// When the spell began, in milliseconds.
     begin: u64,
+    /// The spell, as a piece of the thread's work.
+    stint: Stint,
     /// How many keys it may still read.
     left: u32,
     /// Where the last key was read.
@@ -57,6 +77,7 @@ impl<'a, R: Wait> Stride<'a, R> {
             rt,
             signs,
             begin: timer.now(),
+            stint: Stint::begin(),
             timer,
             left: SPELL,
             last: None,
@@ -72,16 +93,45 @@ impl<'a, R: Wait> Stride<'a, R> {
         self.last = Some(place);
     }
 
-    /// The spell ends, and where it was shared not before its time.
+    /// Whether the spell is over.
+    fn is_over(&mut self) -> bool {
+        self.left == 0
+            || self.left % LOOK == 0 && self.timer.now().saturating_sub(self.begin) >= SPELL_MILLIS
+    }
+
+    /// The spell ends.
     fn rest(&mut self) {
-        let lasted = self.timer.now().saturating_sub(self.begin);
-        if self.is_shared && lasted < SPELL_MILLIS {
-            self.signs
-                .wait(self.rt, Duration::from_millis(SPELL_MILLIS - lasted));
+        let waited = self.stint.waited();
+        if self.is_shared {
+            self.wait_for_workers();
+            let micros = waited.saturating_mul(REST).min(LONGEST_REST);
+            self.signs.wait(self.rt, Duration::from_micros(micros));
         }
         self.begin = self.timer.now();
+        self.stint = Stint::begin();
         self.left = SPELL;
         self.is_shared = false;
+    }
+
+    /// Waits until each worker has ended the turn that it is in.
+    fn wait_for_workers(&mut self) {
+        let lobby = self.signs.lobby;
+        let until = self.timer.now().saturating_add(LONGEST_WAIT);
+        for post in &lobby.roster.posts {
+            self.wait_for(post, until);
+        }
+    }
+
+    /// Waits until a worker has ended the turn that it is in, and no longer than until a moment. One that sleeps is woken.
+    fn wait_for(&mut self, post: &Post, until: u64) {
+        let turns = post.turns();
+        for _ in self.rt.forever() {
+            self.signs.wait(self.rt, Duration::from_millis(1));
+            if post.turns() != turns || self.timer.now() >= until || !is_serving(&self.signs) {
+                return;
+            }
+            post.inlet.wake();
+        }
     }
 }
 
@@ -90,7 +140,7 @@ impl<R: Wait> Pace for Stride<'_, R> {
         if let Some(place) = last {
             self.note(place);
         }
-        if self.left == 0 {
+        if self.is_over() {
             self.rest();
         }
         is_serving(&self.signs)
@@ -116,13 +166,33 @@ impl Schedule {
     }
 }
 
+/// The passes by which snapshots are made: vnodes are read side by side, each by a pass of its own.
+#[derive(Drop)]
+pub struct Spares<B: Room> {
+    /// The pass of the first vnode, by which a store has begun.
+    pub first: Pass<B>,
+    /// That of the second one.
+    pub second: Pass<B>,
+    /// That of the third one.
+    pub third: Pass<B>,
+}
+
+/// What came of reading vnodes by a pass.
+#[derive(Drop)]
+struct Saved<B: Room> {
+    /// The pass.
+    pass: Pass<B>,
+    /// How many keys the vnodes have, or which file isn't replaced.
+    came: Result<usize, Unreplaced>,
+}
+
 /// Who makes snapshots of a store.
 #[derive(Drop)]
-pub struct Saver<'a, F> {
+pub struct Saver<F> {
     /// What the bytes of a snapshot are put together in.
     pub alloc: Global,
     /// Where they are kept.
-    pub folder: &'a mut F,
+    pub folder: F,
     /// The identifier of the first vnode.
     pub first: u32,
     /// So many seconds after a snapshot the next one is made; only where it is asked for where it is 0.
@@ -131,17 +201,17 @@ pub struct Saver<'a, F> {
     pub err: Stderr,
 }
 
-impl<F: Folder> Saver<'_, F> {
-    /// Makes snapshots until all workers have ended or the server is told to stop, by calls on the vnodes through a pass: what this is told
-    /// comes behind what it was told before.
-    pub fn run<B: Room, R: Wait>(
+impl<F: Folder + Copy + Send> Saver<F> {
+    /// Makes snapshots until all workers have ended or the server is told to stop, by calls on the vnodes through passes: what the first is told
+    /// comes behind what it was told before. The passes come back.
+    pub fn run<B: Room + Send + Sync, R: Threads + Wait + Sync>(
         &mut self,
         rt: &R,
         cluster: &Cluster<B>,
-        pass: &mut Pass<B>,
+        mut spares: Spares<B>,
         signs: &Signs<'_>,
-    )
-        ensures grows { GoesOn (Some pass.old) (Some pass.new) }
+    ) -> Spares<B>
+        ensures grows { Grows spares.first result.first }
     {
         let mut timer = Timer::new();
         let mut schedule = Schedule {
@@ -156,27 +226,30 @@ impl<F: Folder> Saver<'_, F> {
             }
             let is_asked = signs.lobby.roster.snapshots.take();
             if is_asked || (signs.is_written() && schedule.is_due(timer.now())) {
-                let keys = self.save(rt, cluster, pass, signs);
+                let (back, keys) = self.save(rt, cluster, spares, signs);
+                spares = back;
                 schedule.least = (keys / cluster.count().max(1)) as u64;
                 schedule.last = timer.now();
             }
         }
+        spares
     }
 
     /// Makes a snapshot, and tells it, or why some of it is not kept. One that is given up is not told. Answers how many keys were read.
-    fn save<B: Room, R: Wait>(
+    fn save<B: Room + Send + Sync, R: Threads + Wait + Sync>(
         &mut self,
         rt: &R,
         cluster: &Cluster<B>,
-        pass: &mut Pass<B>,
+        spares: Spares<B>,
         signs: &Signs<'_>,
-    ) -> usize
-        ensures grows { GoesOn (Some pass.old) (Some pass.new) }
+    ) -> (Spares<B>, usize)
+        ensures grows { Grows spares.first result.0.first }
     {
         let mut timer = Timer::new();
         let begin = timer.now();
         signs.note_written(false);
-        match self.write(rt, cluster, pass, signs) {
+        let (spares, came) = self.write(rt, cluster, spares, signs);
+        let keys = match came {
             Ok(keys) => {
                 let millis = timer.now().saturating_sub(begin);
                 // What can't be told is lost.
@@ -192,30 +265,99 @@ impl<F: Folder> Saver<'_, F> {
                 }
                 0
             }
-        }
+        };
+        (spares, keys)
     }
 
     /// Replaces the files of a folder by what vnodes hold that serve, and by the requests that install and bind their hooks. Answers how many
-    /// keys the vnodes have. The first file that isn't replaced is the last that is tried.
-    fn write<B: Room, R: Wait>(
+    /// keys the vnodes have. Where a vnode's file isn't replaced those of the others may be, and that of the requests isn't.
+    fn write<B: Room + Send + Sync, R: Threads + Wait + Sync>(
         &mut self,
         rt: &R,
         cluster: &Cluster<B>,
-        pass: &mut Pass<B>,
+        spares: Spares<B>,
         signs: &Signs<'_>,
-    ) -> Result<usize, Unreplaced>
-        ensures grows { GoesOn (Some pass.old) (Some pass.new) }
+    ) -> (Spares<B>, Result<usize, Unreplaced>)
+        ensures grows { Grows spares.first result.0.first }
     {
-        let mut keys = 0usize;
-        for index in 0..cluster.count() {
-            keys = keys.saturating_add(self.write_vnode(rt, cluster, pass, signs, index)?);
-        }
+        let (spares, came) = self.write_vnodes(rt, cluster, spares, signs);
+        (
+            spares,
+            came.and_then(|keys| self.write_hooks(rt, signs, keys)),
+        )
+    }
+
+    /// Replaces the file of the requests that install and bind hooks, behind those of vnodes that have so many keys.
+    fn write_hooks<R: Wait>(
+        &mut self,
+        rt: &R,
+        signs: &Signs<'_>,
+        keys: usize,
+    ) -> Result<usize, Unreplaced> {
         let requests = signs.requests(self.alloc, rt).unwrap_or(None);
-        keep_requests(self.alloc, self.folder, requests.as_deref())?;
+        keep_requests(self.alloc, &mut self.folder, requests.as_deref())?;
         Ok(keys)
     }
 
-    /// The same of one vnode.
+    /// Replaces the files of the vnodes, side by side: each is read on a thread of its own, or one after the other where none can be made.
+    fn write_vnodes<B: Room + Send + Sync, R: Threads + Wait + Sync>(
+        &self,
+        rt: &R,
+        cluster: &Cluster<B>,
+        spares: Spares<B>,
+        signs: &Signs<'_>,
+    ) -> (Spares<B>, Result<usize, Unreplaced>)
+        ensures grows { Grows spares.first result.0.first }
+    {
+        let Spares {
+            first,
+            second,
+            third,
+        } = spares;
+        let one = self.side(first, 0);
+        let two = self.side(second, 1);
+        let three = self.side(third, 2);
+        let (others, one) = thread::join(
+            rt,
+            || -> (Saved<B>, Saved<B>) { write_both(rt, cluster, two, three, signs) },
+            || -> Saved<B>
+                ensures { Grows one.pass result.pass }
+            { one.write(rt, cluster, signs) },
+        );
+        let (two, three) = others;
+        let came = all_keys(one.came, all_keys(two.came, three.came));
+        let spares = Spares {
+            first: one.pass,
+            second: two.pass,
+            third: three.pass,
+        };
+        (spares, came)
+    }
+
+    /// Who reads vnodes from that with an index on, by a pass.
+    fn side<B: Room>(&self, pass: Pass<B>, from: usize) -> Side<B, F>
+        ensures pass { result.pass ≡ pass }
+    {
+        let shelf = Shelf {
+            alloc: self.alloc,
+            folder: self.folder,
+            first: self.first,
+        };
+        Side { shelf, pass, from }
+    }
+}
+
+/// Where vnodes' files stand.
+#[derive(Drop)]
+struct Shelf<F> {
+    alloc: Global,
+    folder: F,
+    /// The identifier of the vnode with index 0.
+    first: u32,
+}
+
+impl<F: Folder> Shelf<F> {
+    /// Replaces the file of a vnode that serves. Answers how many keys it had.
     fn write_vnode<B: Room, R: Wait>(
         &mut self,
         rt: &R,
@@ -224,7 +366,7 @@ impl<F: Folder> Saver<'_, F> {
         signs: &Signs<'_>,
         index: usize,
     ) -> Result<usize, Unreplaced>
-        ensures grows { GoesOn (Some pass.old) (Some pass.new) }
+        ensures grows { Grows pass.old pass.new }
     {
         calls_only_add();
         let subject = Subject {
@@ -235,8 +377,63 @@ impl<F: Folder> Saver<'_, F> {
         };
         let mut peers = PassPeers::new(self.alloc, rt, cluster, pass, &Open);
         let mut pace = Stride::new(rt, *signs);
-        keep_served(self.alloc, self.folder, &mut peers, subject, &mut pace)
+        keep_served(self.alloc, &mut self.folder, &mut peers, subject, &mut pace)
     }
+}
+
+/// Who reads some of the vnodes: that with an index, and each so many-th behind it as are read side by side.
+#[derive(Drop)]
+struct Side<B: Room, F> {
+    /// Where their files stand.
+    shelf: Shelf<F>,
+    /// What they are called with.
+    pass: Pass<B>,
+    /// The index of the first one.
+    from: usize,
+}
+
+impl<B: Room, F: Folder + Copy> Side<B, F> {
+    /// Replaces the files of these vnodes. The first that isn't replaced is the last that is tried.
+    fn write<R: Wait>(self, rt: &R, cluster: &Cluster<B>, signs: &Signs<'_>) -> Saved<B>
+        ensures grows { Grows self.pass result.pass }
+    {
+        let Side {
+            mut shelf,
+            mut pass,
+            from,
+        } = self;
+        let mut came = Ok(0usize);
+        for index in (from..cluster.count()).step_by(SIDES) {
+            if came.is_ok() {
+                let more = shelf.write_vnode(rt, cluster, &mut pass, signs, index);
+                came = all_keys(came, more);
+            }
+        }
+        Saved { pass, came }
+    }
+}
+
+/// Replaces the files of the vnodes of two, side by side.
+fn write_both<B: Room + Send + Sync, F: Folder + Copy + Send, R: Threads + Wait + Sync>(
+    rt: &R,
+    cluster: &Cluster<B>,
+    one: Side<B, F>,
+    other: Side<B, F>,
+    signs: &Signs<'_>,
+) -> (Saved<B>, Saved<B>) {
+    thread::join(
+        rt,
+        || -> Saved<B> { one.write(rt, cluster, signs) },
+        || -> Saved<B> { other.write(rt, cluster, signs) },
+    )
+}
+
+/// How many keys vnodes have together, or which file isn't replaced.
+fn all_keys(
+    some: Result<usize, Unreplaced>,
+    others: Result<usize, Unreplaced>,
+) -> Result<usize, Unreplaced> {
+    Ok(some?.saturating_add(others?))
 }
 
 /// Whether a snapshot was given up.

@@ -9,6 +9,7 @@ ghost use Rattle.dvvstore.specs.Keeping.{HasBegunRight, HasBegunWith, Leaves, Te
 
 use crate::crew::{Lookout, Seat, Served};
 use crate::keeper::{Begun, Keeper, Unbegun};
+use crate::saver::Spares;
 use crate::{crew, keeper};
 use closing::{Spot, Watch};
 use findings::Followed;
@@ -24,6 +25,7 @@ use quorum::Hooking;
 use shared_hooks::{Ground, HookReader, Installer, Opening, Rack};
 use stamps::{Card, Size, Stamps};
 use std::alloc::{AllocError, Global};
+use std::hash::BuildHasher as _;
 use std::io::{Stderr, Write};
 use std::marker::Brand;
 use std::net::{Net, TcpListener, TcpStream};
@@ -54,14 +56,14 @@ pub enum Tenant<'a, N, F> {
 }
 
 impl<N, F> Tenant<'_, N, F> {
-    /// How many passes there are besides those of workers: the follower's, and one more by which a store that is kept begins.
+    /// How many passes there are besides those of workers: the follower's, and three more of a store that is kept, by which its snapshots are made.
     fn passes(&self) -> usize
         ensures exact { result ≡ passes_for self.now }
-        ensures few { (0 < result) × (result ≤ 2) }
+        ensures few { (0 < result) × (result ≤ 4) }
     {
         match self {
             Tenant::Guest(_) => 1,
-            Tenant::Keeper(_) => 2,
+            Tenant::Keeper(_) => 4,
         }
     }
 }
@@ -92,7 +94,7 @@ pub enum Left {
 pub fn live<
     R: Threads + Wait + Sync,
     N: Net<Listener = TcpListener, Stream = TcpStream>,
-    F: Folder + Send,
+    F: Folder + Copy + Send,
     O: Write,
 >(
     alloc: Global,
@@ -127,7 +129,7 @@ fn over_stamps<
     B: Room + Spot + Send + Sync,
     R: Threads + Wait + Sync,
     N: Net<Listener = TcpListener, Stream = TcpStream>,
-    F: Folder + Send,
+    F: Folder + Copy + Send,
     O: Write,
 >(
     alloc: Global,
@@ -170,7 +172,7 @@ fn over_stamps<
         cluster,
         passes,
         tables,
-        Opening::new(),
+        Opening::seeded(seed.build_hasher()),
         lookout,
         stay,
         out,
@@ -179,7 +181,7 @@ fn over_stamps<
 
 /// Has the vnodes take over what they begin with, by one of the passes where a folder held something. Answers for whom they have begun, and from
 /// which fronts what they do is followed.
-fn begin<'a, B: Room, R: Wait, N, F>(
+fn begin<'a, B: Room, R: Wait, N, F: Copy>(
     alloc: Global,
     rt: &R,
     cluster: &Cluster<B>,
@@ -189,7 +191,7 @@ fn begin<'a, B: Room, R: Wait, N, F>(
 ) -> Result<(Stay<'a, N, F, B>, Vec<usize>), Unbegun>
     requires vnodes { cluster.now.vnodes ≡ 3 }
     requires first { first ≡ cluster.now.first }
-    requires some { 2 ≤ vec_len passes.old }
+    requires some { passes_for tenant ≤ vec_len passes.old }
     requires fresh { All (λ p. p ≡ pass_view 0 []) passes.old.items }
     ensures fresh { IfOk result (λ begun. All (λ p. p ≡ pass_view 0 []) passes.new.items) }
     ensures left { IfOk result (λ begun. vec_len passes.new + passes_of begun.0 ≡ vec_len passes.old + 1) }
@@ -201,30 +203,35 @@ fn begin<'a, B: Room, R: Wait, N, F>(
         Tenant::Guest(lobby) => return Ok((Stay::Guest(lobby), Vec::new(alloc))),
         Tenant::Keeper(keeper) => keeper,
     };
-    let Some(pass) = passes.pop() else {
+    let (Some(one), Some(second), Some(third)) = (passes.pop(), passes.pop(), passes.pop()) else {
         unreachable!();
     };
-    let begun = begin_kept(alloc, rt, cluster, first, pass, &keeper)?;
+    let spares = Spares {
+        first: one,
+        second,
+        third,
+    };
+    let begun = begin_kept(alloc, rt, cluster, first, spares, &keeper)?;
     let fronts = begun.fronts.as_slice().to_vec(alloc)?;
     Ok((Stay::Keeper(keeper, begun), fronts))
 }
 
-/// Has the vnodes take over what a folder held, by a pass.
+/// Has the vnodes take over what a folder held, by the first of spare passes.
 fn begin_kept<B: Room, R: Wait, N, F>(
     alloc: Global,
     rt: &R,
     cluster: &Cluster<B>,
     first: u32,
-    mut pass: Pass<B>,
+    mut spares: Spares<B>,
     keeper: &Keeper<'_, N, F>,
 ) -> Result<Begun<B>, Unbegun>
     requires vnodes { cluster.now.vnodes ≡ 3 }
     requires first { first ≡ cluster.now.first }
     ensures { IfOk result (HasBegunWith cluster.now.first keeper.now.held.now.files.items) }
 {
-    let fronts = keeper::begin(alloc, rt, cluster, &mut pass, &keeper.held.files)?;
+    let fronts = keeper::begin(alloc, rt, cluster, &mut spares.first, &keeper.held.files)?;
     Ok(Begun {
-        pass,
+        spares,
         fronts,
         first,
     })
@@ -236,7 +243,7 @@ fn over_cluster<
     J: Naming + Send + Sync,
     R: Threads + Wait + Sync,
     N: Net<Listener = TcpListener, Stream = TcpStream>,
-    F: Folder + Send,
+    F: Folder + Copy + Send,
     O: Write,
 >(
     alloc: Global,
@@ -273,7 +280,7 @@ fn over_ground<
     T: Rack<J> + Drop + Send + Sync,
     R: Threads + Wait + Sync,
     N: Net<Listener = TcpListener, Stream = TcpStream>,
-    F: Folder + Send,
+    F: Folder + Copy + Send,
     O: Write,
 >(
     alloc: Global,
@@ -314,7 +321,7 @@ fn over_hooks<
     T: Rack<J> + Drop + Send + Sync,
     R: Threads + Wait + Sync,
     N: Net<Listener = TcpListener, Stream = TcpStream>,
-    F: Folder + Send,
+    F: Folder + Copy + Send,
     O: Write,
 >(
     alloc: Global,
@@ -349,7 +356,7 @@ fn over_seats<
     H: Hooks + HookChanges + Send + Drop,
     R: Threads + Wait + Sync,
     N: Net<Listener = TcpListener, Stream = TcpStream>,
-    F: Folder + Send,
+    F: Folder + Copy + Send,
     O: Write,
 >(
     alloc: Global,

@@ -32,35 +32,36 @@ impl From<io::Error> for Untaken {
     }
 }
 
-/// A folder that this process has for itself as long as this value lives: its file `lock` is locked, which the system undoes however the
-/// process ends. A thread may be handed it, so the system is no parameter of it.
+/// That a folder is this process's own as long as this value lives: the folder's file `lock` is locked, which the system undoes however the
+/// process ends.
 #[derive(Drop)]
+pub struct Lock {
+    file: fs::File,
+}
+
+/// Takes the folder with a path, which is made where it is missing.
+pub fn take(rt: &HostRuntime, alloc: Global, path: &str) -> Result<Lock, Untaken> {
+    fs::create_dir_all(rt, path)?;
+    let file = fs::File::create(rt, format!(in alloc; "{path}/{LOCK}")?.as_str())?;
+    match file.try_lock() {
+        Ok(()) => Ok(Lock { file }),
+        Err(fs::TryLockError::WouldBlock) => Err(Untaken::InUse),
+        Err(fs::TryLockError::Error(error)) => Err(Untaken::from(error)),
+    }
+}
+
+/// The files of a folder that is taken. Threads may each be handed them, so the system is no parameter of this type.
+#[derive(Clone, Copy)]
 pub struct SystemFolder<'a> {
     rt: &'a HostRuntime,
     alloc: Global,
     path: &'a str,
-    lock: fs::File,
 }
 
 impl<'a> SystemFolder<'a> {
-    /// Takes the folder with a path, which is made where it is missing.
-    pub fn take(
-        rt: &'a HostRuntime,
-        alloc: Global,
-        path: &'a str,
-    ) -> Result<SystemFolder<'a>, Untaken> {
-        fs::create_dir_all(rt, path)?;
-        let lock = fs::File::create(rt, format!(in alloc; "{path}/{LOCK}")?.as_str())?;
-        match lock.try_lock() {
-            Ok(()) => Ok(SystemFolder {
-                rt,
-                alloc,
-                path,
-                lock,
-            }),
-            Err(fs::TryLockError::WouldBlock) => Err(Untaken::InUse),
-            Err(fs::TryLockError::Error(error)) => Err(Untaken::from(error)),
-        }
+    /// Those of the folder with a path.
+    pub fn at(rt: &'a HostRuntime, alloc: Global, path: &'a str) -> SystemFolder<'a> {
+        SystemFolder { rt, alloc, path }
     }
 
     // The path of a file.

@@ -4,13 +4,13 @@ ghost use Rattle.std.specs.Prelude.{◌≡◌, ◌+◌, ◌++◌, ◌≤◌, Lis
 ghost use Rattle.stamps.specs.declared.view.Told.{Told};
 ghost use Rattle.closing.specs.Following.{IsFollowedTo, IsSaidOf};
 ghost use Rattle.vnode_locks.specs.Gathers.{IsGathered};
-ghost use Rattle.dvvstore.specs.Asides.{GoesOn, count_of, passes_of};
+ghost use Rattle.dvvstore.specs.Asides.{GoOn, count_of, passes_of};
 ghost use Rattle.dvvstore.specs.Visits.{AfterVisits, HaveVisited, begun};
 
 use crate::crew::signs::Signs;
 use crate::crew::working::{Lookout, Seat, Shared, work_attended};
 use crate::nowhere::Nowhere;
-use crate::saver::Saver;
+use crate::saver::{Saver, Spares};
 use closing::{Closed, Spot, Watch, close_keeping, close_watched};
 use findings::{Followed, WatchFault};
 use folder::Folder;
@@ -23,11 +23,11 @@ use std::sync::Wait;
 use std::thread;
 use std::thread::Threads;
 
-/// What is left of a crew: the passes of its workers, that of snapshots, and what they shared.
+/// What is left of a crew: the passes of its workers, those of snapshots, and what they shared.
 #[derive(Drop)]
 struct Back<B: Room + Spot> {
     passes: Vec<Pass<B>>,
-    spare: Option<Pass<B>>,
+    spares: Option<Spares<B>>,
     watch: Watch<B>,
     requests: Requests,
 }
@@ -35,13 +35,13 @@ struct Back<B: Room + Spot> {
 /// Has the worker of each seat answer the connections that it is handed, while a thread of its own accepts them in a lobby and follows
 /// what the workers do to the vnodes, whose journals are handed out for that; where no thread can be made for it, workers do so after
 /// each of their turns. What can't wait is told on standard error, and the workers go on; what goes wrong while they answer is told
-/// there, too, at most once a second and kind. Snapshots are made beside them by a spare pass, if there is one and somebody makes them: on one
-/// more thread, and where none can be made there are none. The error: a growth was refused for the threads; some workers may have answered no
+/// there, too, at most once a second and kind. Snapshots are made beside them by spare passes, if there are any and somebody makes them: on one
+/// more thread and those that it makes, and where it can't be made there are none. The error: a growth was refused for the threads; some workers may have answered no
 /// connection then.
 fn run<
     B: Room + Spot + Send + Sync,
     H: Hooks + HookChanges + Send + Drop,
-    F: Folder + Send,
+    F: Folder + Copy + Send,
     R: Threads + Wait + Sync,
 >(
     alloc: Global,
@@ -50,24 +50,21 @@ fn run<
     seats: Vec<Seat<B, H>>,
     lobby: &Lobby,
     lookout: Lookout<B>,
-    saver: Option<Saver<'_, F>>,
-    spare: Option<Pass<B>>,
+    saver: Option<Saver<F>>,
+    spares: Option<Spares<B>>,
 ) -> Result<Back<B>, AllocError>
     requires first { cluster.now.first ≡ B.first }
     ensures passes { IfOk result (λ left. vec_len left.passes ≡ vec_len seats) }
     ensures visited { IfOk result (λ left. HaveVisited H.finds H.names H.takes (map (λ s. begun cluster.now s.pass s.hooking.hooks s.hooking.table.listed s.placement) seats.items) left.passes.items) }
-    ensures spare { IfOk result (λ left. GoesOn spare left.spare) }
+    ensures spares { IfOk result (λ left. GoOn spares left.spares) }
 {
     let shared = Shared::new(lookout);
     let (lent, both) = (cluster, &shared);
-    let (spare, back) = thread::join(
+    let (spares, back) = thread::join(
         rt,
-        || -> Option<Pass<B>>
-            ensures { GoesOn spare result }
-        {
-            let mut saver = saver;
-            save_beside(rt, lent, &both.signs(lobby), &mut saver, spare)
-        },
+        || -> Option<Spares<B>>
+            ensures { GoOn spares result }
+        { save_beside(rt, lent, &both.signs(lobby), saver, spares) },
         || -> Result<Vec<Pass<B>>, AllocError>
             requires { lent.now.first ≡ B.first }
             ensures { IfOk result (λ passes. (vec_len passes ≡ vec_len seats) × HaveVisited H.finds H.names H.takes (map (λ s. begun lent.entry.now s.pass s.hooking.hooks s.hooking.table.listed s.placement) seats.items) passes.items) }
@@ -80,27 +77,26 @@ fn run<
     } = shared;
     Ok(Back {
         passes: back?,
-        spare,
+        spares,
         watch: watch.into_inner(),
         requests: requests.into_inner(),
     })
 }
 
-/// Makes snapshots by a spare pass until all workers have ended, if there is one and somebody makes them. The pass comes back.
-fn save_beside<B: Room, F: Folder, R: Wait>(
+/// Makes snapshots by spare passes until all workers have ended, if there are any and somebody makes them. The passes come back.
+fn save_beside<B: Room + Send + Sync, F: Folder + Copy + Send, R: Threads + Wait + Sync>(
     rt: &R,
     cluster: &Cluster<B>,
     signs: &Signs<'_>,
-    saver: &mut Option<Saver<'_, F>>,
-    spare: Option<Pass<B>>,
-) -> Option<Pass<B>>
-    ensures { GoesOn spare result }
+    saver: Option<Saver<F>>,
+    spares: Option<Spares<B>>,
+) -> Option<Spares<B>>
+    ensures { GoOn spares result }
 {
-    let mut pass = spare?;
-    if let Some(saver) = saver {
-        saver.run(rt, cluster, &mut pass, signs);
+    match (saver, spares) {
+        (Some(mut saver), Some(spares)) => Some(saver.run(rt, cluster, spares, signs)),
+        (_, spares) => spares,
     }
-    Some(pass)
 }
 
 /// Has a crew serve. Once all workers have ended, the cluster is gathered, and what is left of the journals is followed.
@@ -123,7 +119,7 @@ pub fn serve<
     requires all { cluster.passes ≤ vec_len seats + 1 }
     ensures followed { AfterVisits H.finds H.names H.takes (map (λ s. begun cluster s.pass s.hooking.hooks s.hooking.table.listed s.placement) seats.items) (λ told. (watched : List Told) × IsFollowedTo (told ++ watched) cluster.vnodes result) }
 {
-    let saver: Option<Saver<'_, Nowhere>> = None;
+    let saver: Option<Saver<Nowhere>> = None;
     match run(alloc, rt, &cluster, seats, lobby, lookout, saver, None) {
         Ok(Back { passes, watch, .. }) => close_watched(alloc, cluster, passes, watch),
         Err(AllocError) => Err(WatchFault::NoMemory),
@@ -140,13 +136,13 @@ pub struct Served {
 }
 
 /// Has a crew serve a store that has begun with something, so many entries of each vnode, by index, while snapshots are made beside it by the pass
-/// that brought these. Once all workers have ended, the cluster is gathered, and what is left of the journals is followed; the vnodes are handed
-/// back, whatever is said of them, and what the pass had been told before stands in their journals. The error: memory was refused before the
+/// that brought these and more. Once all workers have ended, the cluster is gathered, and what is left of the journals is followed; the vnodes are handed
+/// back, whatever is said of them, and what that pass had been told before stands in their journals. The error: memory was refused before the
 /// vnodes were gathered, and they are lost.
 pub fn keep<
     B: Room + Spot + Send + Sync,
     H: Hooks + HookChanges + Send + Drop,
-    F: Folder + Send,
+    F: Folder + Copy + Send,
     R: Threads + Wait + Sync,
 >(
     alloc: Global,
@@ -156,17 +152,17 @@ pub fn keep<
     lobby: &Lobby,
     lookout: Lookout<B>,
     fronts: &[usize],
-    pass: Pass<B>,
-    saver: Saver<'_, F>,
+    spares: Spares<B>,
+    saver: Saver<F>,
 ) -> Result<Served, AllocError>
     requires first { cluster.first ≡ B.first }
-    requires all { cluster.passes ≤ vec_len seats + 2 }
-    ensures kept { IfOk result (λ served. AfterVisits H.finds H.names H.takes (map (λ s. begun cluster s.pass s.hooking.hooks s.hooking.table.listed s.placement) seats.items) (λ told. (after : List Told) × IsGathered (told ++ pass.told ++ after) served.closed.vnodes.items) × (vec_len served.closed.vnodes ≡ cluster.vnodes)) }
+    requires all { cluster.passes ≤ vec_len seats + 4 }
+    ensures kept { IfOk result (λ served. AfterVisits H.finds H.names H.takes (map (λ s. begun cluster s.pass s.hooking.hooks s.hooking.table.listed s.placement) seats.items) (λ told. (after : List Told) × IsGathered (told ++ spares.first.told ++ after) served.closed.vnodes.items) × (vec_len served.closed.vnodes ≡ cluster.vnodes)) }
     ensures said { IfOk result (λ served. IsSaidOf fronts.now served.closed.vnodes.items served.closed.said) }
 {
     let Back {
         passes,
-        spare,
+        spares,
         watch,
         requests,
     } = run(
@@ -177,24 +173,32 @@ pub fn keep<
         lobby,
         lookout,
         Some(saver),
-        Some(pass),
+        Some(spares),
     )?;
-    let passes = all_passes(passes, spare)?;
+    let passes = all_passes(passes, spares)?;
     let closed = close_keeping(alloc, cluster, passes, watch, fronts)?;
     Ok(Served { closed, requests })
 }
 
-/// The passes of workers, and behind them a spare one, if there is one.
+/// The passes of workers, and behind them spare ones, if there are any.
 fn all_passes<B: Room>(
     mut passes: Vec<Pass<B>>,
-    spare: Option<Pass<B>>,
+    spares: Option<Spares<B>>,
 ) -> Result<Vec<Pass<B>>, AllocError>
-    ensures all { IfOk result (λ all. all.items ≡ passes.items ++ passes_of spare) }
-    ensures count { IfOk result (λ all. vec_len all ≡ vec_len passes + count_of spare) }
+    ensures all { IfOk result (λ all. all.items ≡ passes.items ++ passes_of spares) }
+    ensures count { IfOk result (λ all. vec_len all ≡ vec_len passes + count_of spares) }
 {
-    match spare {
-        Some(pass) => {
-            passes.push(pass)?;
+    match spares {
+        Some(
+            Spares {
+                first,
+                second,
+                third,
+            },
+        ) => {
+            passes.push(first)?;
+            passes.push(second)?;
+            passes.push(third)?;
             Ok(passes)
         }
         None => Ok(passes),

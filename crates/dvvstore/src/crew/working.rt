@@ -221,6 +221,7 @@ fn work_once<B: Room + Spot, K: Backend, R: Wait>(
     };
     let most = longest_wait(&orders, is_alone, shift.is_last);
     let turned = worker.turn(rt, &post.inlet, store, &orders, most);
+    post.note_turn();
     if is_alone {
         floor.lobby.accept(rt, Duration::ZERO);
         follow(rt, floor, &mut shift.pace, u64::MAX);

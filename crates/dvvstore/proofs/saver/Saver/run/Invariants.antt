@@ -1,6 +1,6 @@
-use Rattle.dvvstore.proofs.Growing.{Grows}
+use Rattle.dvvstore.specs.Asides.{Grows}
 use Rattle.dvvstore.proofs.saver.Saver.run.Given as goal
 
--- what the pass was told only grew
+-- what the first pass was told only grew
 abbrev pub invariant-loop : goal.invariant-loop
-invariant-loop g l = Grows l.initial.pass l.pass
+invariant-loop g l = Grows l.initial.spares.first l.spares.first

@@ -1,7 +1,8 @@
-use Rattle.std.proofs.Common.{◌≡◌, ◌∙◌, sym, subst}
+use Rattle.std.proofs.Common.{◌∙◌, sym, subst}
 use Rattle.stamps.specs.declared.view.View.{View}
-use Rattle.dvvstore.proofs.Growing.{Grows, grows_by_calls, grows_then, nothing_more, same_by_calls}
-use Rattle.dvvstore.proofs.saver.Saver.write_vnode.Goals as goal
+use Rattle.dvvstore.specs.Asides.{Grows}
+use Rattle.dvvstore.proofs.Growing.{grows_by_calls, grows_then, nothing_more, same_by_calls}
+use Rattle.dvvstore.proofs.saver.Shelf.write_vnode.Goals as goal
 
 pub returns : goal.returns
 returns g c =

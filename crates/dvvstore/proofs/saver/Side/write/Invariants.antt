@@ -1,5 +1,5 @@
-use Rattle.dvvstore.proofs.Growing.{Grows}
-use Rattle.dvvstore.proofs.saver.Saver.write.Given as goal
+use Rattle.dvvstore.specs.Asides.{Grows}
+use Rattle.dvvstore.proofs.saver.Side.write.Given as goal
 
 -- what the pass was told only grew
 abbrev pub invariant-loop-index : goal.invariant-loop-index
