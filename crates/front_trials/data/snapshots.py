@@ -6,7 +6,7 @@
 Puts KEYS keys (400,000) of 100 bytes, asks for a snapshot, and tells how long it took, keys and MB a second, and how much memory the server had at the
 most before and during it. Then three spells of SECONDS (6) each of reads of those keys by 4 connections: without a snapshot, beside snapshots one after
 another, and without again; in each the requests a second, and the slowest of the answers to a connection of its own that asks one request after another,
-in milliseconds. Then the server is stopped, and started from what it wrote: how long the stop and the start took, and keys a second.
+in milliseconds. Then three such spells of reads by one connection, one after another. Then the server is stopped, and started from what it wrote: how long the stop and the start took, and keys a second.
 
 Requests are sent by asker.c, which cc compiles. The status is 0 where all answers were right, each snapshot was told whole, and the journals are one run.
 The lines are measurements, and none of them is judged.
@@ -24,6 +24,9 @@ from pathlib import Path
 import keeps
 
 CONNECTIONS = 4
+
+# So many requests of a connection are sent together.
+TOGETHER = 16
 
 
 class Server(keeps.Server):
@@ -70,9 +73,9 @@ class Server(keeps.Server):
         return time.monotonic() - begin, out.splitlines()
 
 
-def ask(folder, method, port, seconds, keys):
+def ask(folder, method, port, seconds, keys, connections=CONNECTIONS, together=TOGETHER):
     """Requests a second by the compiled client."""
-    words = [f"{folder}/asker", "store", method, str(port), str(CONNECTIONS), str(seconds), "2", "0", "16", str(keys)]
+    words = [f"{folder}/asker", "store", method, str(port), str(connections), str(seconds), str(min(connections, 2)), "0", str(together), str(keys)]
     asked = subprocess.run(words, stdout=subprocess.PIPE, stderr=subprocess.PIPE, text=True, timeout=seconds + 60)
     if asked.returncode:
         sys.exit(f"{method}: {asked.stderr}")
@@ -108,18 +111,28 @@ class Snapshooter(threading.Thread):
             self.told.append(self.server.snapshot())
 
 
-def spell(folder, server, seconds, keys, snapshoots):
-    """Requests a second of a spell of reads, the milliseconds of one client's answers, and what was told of snapshots beside them."""
+def spell(folder, server, seconds, keys, snapshoots, load):
+    """Requests a second of a spell of reads, by so many connections that send so many together, the milliseconds of one client's answers, and what was
+    told of snapshots beside them."""
     watcher, snapshooter = Watcher(server), Snapshooter(server)
     watcher.start()
     if snapshoots:
         snapshooter.start()
-    rate = ask(folder, "GET", server.port, seconds, keys)
+    rate = ask(folder, "GET", server.port, seconds, keys, *load)
     snapshooter.is_over = watcher.is_over = True
     watcher.join()
     if snapshoots:
         snapshooter.join()
     return rate, sorted(watcher.millis), snapshooter.told
+
+
+def spells(folder, server, seconds, keys, load):
+    """Tells of three spells, the second beside snapshots."""
+    for name, snapshoots in (("without", False), ("beside snapshots", True), ("without", False)):
+        rate, answers, told = spell(folder, server, seconds, keys, snapshoots, load)
+        slow = f"slowest answer {answers[-1]:.1f} ms, middle {statistics.median(answers):.2f}"
+        last = f"; {len(told)} snapshots, the last: {told[-1]}" if told else ""
+        print(f"reads by {load[0]} connections, {load[1]} together, {name}: {rate:.0f} a second; {slow}{last}", flush=True)
 
 
 def size_of(folder):
@@ -143,10 +156,8 @@ def main(program, keys="400000", seconds="6", workers="2"):
         peak, size = server.memory("VmHWM"), size_of(kept)
         print(f"a snapshot of {count} records, {size:.1f} MB: {millis} ms, {count * 1000 / millis:.0f} keys and {size * 1000 / millis:.1f} MB a second")
         print(f"memory: {before:.1f} MB before it, {peak:.1f} MB at the most during it")
-        for name, snapshoots in (("without", False), ("beside snapshots", True), ("without", False)):
-            rate, answers, told = spell(folder, server, seconds, keys, snapshoots)
-            slow = f"slowest answer {answers[-1]:.1f} ms, middle {statistics.median(answers):.2f}"
-            print(f"reads {name}: {rate:.0f} a second; {slow}" + (f"; {len(told)} snapshots, the last: {told[-1]}" if told else ""))
+        spells(folder, server, seconds, keys, (CONNECTIONS, TOGETHER))
+        spells(folder, server, seconds, keys, (1, 1))
         took, lines = server.stop()
         print(f"a stop: {took:.2f} s, {lines[0]}")
         again = Server(program, kept, workers)
