@@ -16,7 +16,8 @@ and leave the folder as it is. So has one whose folder is a file, one that can't
 what is held can't be written at a stop, that has to be told, status 1, and the next start has what the last whole files hold.
 
 Last, snapshots that fail: on a full device (a tmpfs of its own, where the script may mount one), where each opening, write, forcing and renaming fails in
-turn (by strace, where it is there), and where each allocation is refused in turn (by refuse_one.c, which cc compiles). Each has to be told in a line, `not kept NAME: ..`; a server that is killed then starts with the last whole
+turn (by strace, where it is there), and where each allocation is refused in turn (by refuse_one.c, which cc compiles). Each has to be told in a line, `not kept NAME: ..`, but for
+an allocation of a thread, without which the snapshot is whole; a server that is killed then starts with the last whole
 snapshot, and the next snapshot of one that goes on is whole. Snapshots of a number of seconds in `settings` come by themselves, and none with 0.
 
 The status is 0 where all that held.
@@ -462,10 +463,14 @@ def try_calls(program, folder):
         first = Server(program, folder)
         first.put("first", b"1")
         first.stop()
-        under = ["strace", "-f", "-qq", "-o", "/dev/null", "-P", f"{folder}/{name}.part", "-e", f"inject={calls}:error={fault}:when=1"]
-        server = Server(program, folder, under=under)
+        server = Server(program, folder)
         server.put("second", b"2")
-        line = server.snapshot()
+        # A vnode is read by a thread of its own, which strace fails once: so it looks at one snapshot alone.
+        strace = ["strace", "-f", "-qq", "-o", "/dev/null", "-P", f"{folder}/{name}.part", "-e", f"inject={calls}:error={fault}:when=1", "-p"]
+        with subprocess.Popen([*strace, str(server.process.pid)]) as tracer:
+            time.sleep(0.5)
+            line = server.snapshot()
+            tracer.terminate()
         if not line or not line.startswith(f"not kept {name}: "):
             faults.append(f"{name} {calls}: {line}")
         kept = folder + "-then"
@@ -521,14 +526,18 @@ def refused_snapshots(program, folder, refusals, keys):
     for key in range(keys):
         server.put(key, b"x" * 40)
     # From the first one on it is known which thread writes.
-    lines, faults, count = [server.snapshot()], [], 0
+    lines, faults, count, for_threads = [server.snapshot()], [], 0, 0
     while True:
         refusals.refuse(count)
         line = server.snapshot()
         if refusals.seen() <= count:
             break
         loaded = loaded_from(program, folder)
-        if not line or not line.startswith("not kept ") or not line.endswith(": E1") or loaded != 3 * keys:
+        # Where there is no memory for a thread the vnodes are read one after another: there are two threads more.
+        is_whole = bool(line) and line.startswith(f"snapshot {3 * keys} keys ")
+        for_threads += int(is_whole)
+        is_told = bool(line) and line.startswith("not kept ") and line.endswith(": E1")
+        if not (is_told or is_whole) or for_threads > 2 or loaded != 3 * keys:
             faults.append(f"allocation {count}: {line}, and then a start: {loaded}")
         count += 1
     lines.append(line)
