@@ -28,6 +28,10 @@ const SPELL: u32 = 8_192;
 /// A spell lasts so many milliseconds at the most.
 const SPELL_MILLIS: u64 = 20;
 
+/// From the begin of a spell to that of the next one so many milliseconds pass at the least, so that who follows what happens keeps up with reads
+/// of all vnodes: where he doesn't, clients wait for him.
+const LEAST_MILLIS: u64 = 40;
+
 /// The clock is looked at behind so many reads.
 const LOOK: u32 = 64;
 
@@ -106,6 +110,11 @@ impl<'a, R: Wait> Stride<'a, R> {
             self.wait_for_workers();
             let micros = waited.saturating_mul(REST).min(LONGEST_REST);
             self.signs.wait(self.rt, Duration::from_micros(micros));
+        }
+        let lasted = self.timer.now().saturating_sub(self.begin);
+        if lasted < LEAST_MILLIS {
+            self.signs
+                .wait(self.rt, Duration::from_millis(LEAST_MILLIS - lasted));
         }
         self.begin = self.timer.now();
         self.stint = Stint::begin();
