@@ -9,7 +9,7 @@ ghost use Rattle.dvvstore.specs.Keeping.{HasBegunWith, Leaves, Tells};
 use crate::crew;
 use crate::crew::{Lookout, Seat};
 use crate::reasons::listen;
-use crate::saver::{Saver, Spares};
+use crate::saver::{Saver, Shelf, Spares};
 use crate::session::Left;
 use closing::Spot;
 use folder::{Folder, HOOKS, Held};
@@ -155,9 +155,11 @@ pub fn live<
         first,
     } = begun;
     let saver = Saver {
-        alloc,
-        folder,
-        first,
+        shelf: Shelf {
+            alloc,
+            folder,
+            first,
+        },
         every: held.settings.every,
         err,
     };

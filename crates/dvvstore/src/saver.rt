@@ -3,12 +3,14 @@
 ghost use Rattle.std.specs.Prelude.{◌≡◌};
 ghost use Rattle.dvvstore.specs.Asides.{Grows};
 
+mod stride;
+
 use crate::crew::{Open, Signs};
+use crate::saver::stride::{Stride, is_serving};
 use folder::{Folder, Unreplaced, WriteFault, keep_requests, keep_served};
-use keeping::{Pace, SnapshotFault, Subject};
-use listener::{Post, Stint, Timer};
+use keeping::{SnapshotFault, Subject};
+use listener::Timer;
 use pool::{Cluster, Pass, Room};
-use sockets::Stance;
 use std::alloc::Global;
 use std::io::{Eprint, Stderr};
 use std::sync::Wait;
@@ -21,140 +23,8 @@ use workers::laws::calls_only_add;
 /// How long it waits before it looks again whether a snapshot is due or asked for, in milliseconds.
 const TICK: u64 = 100;
 
-/// At most so many keys of a vnode are read in a spell: half of the entries of which the follower keeps what they answered. So what a client's
-/// call answered is kept for longer than a spell lasts.
-const SPELL: u32 = 8_192;
-
-/// A spell lasts so many milliseconds at the most.
-const SPELL_MILLIS: u64 = 20;
-
-/// From the begin of a spell to that of the next one so many milliseconds pass at the least, so that who follows what happens keeps up with reads
-/// of all vnodes: where he doesn't, clients wait for him.
-const LEAST_MILLIS: u64 = 40;
-
-/// The clock is looked at behind so many reads.
-const LOOK: u32 = 64;
-
-/// Workers are waited for at most so many milliseconds behind a spell.
-const LONGEST_WAIT: u64 = 100;
-
-/// A rest is so many times as long as the thread waited for a processor in the spell before it.
-const REST: u64 = 8;
-
-/// It is at most so many microseconds long.
-const LONGEST_REST: u64 = 100_000;
-
 /// So many vnodes are read side by side.
 const SIDES: usize = 3;
-
-/// Whether the server goes on: neither have all workers ended, nor was it told to stop.
-fn is_serving(signs: &Signs<'_>) -> bool {
-    !signs.is_over() && signs.lobby.roster.ending.stance() != Stance::Stopping
-}
-
-/// How fast a snapshot of a vnode goes on, and how long: as long as the server does. It reads spell by spell. Behind one in which somebody else
-/// called the vnode it waits until each worker has ended the turn that it was in: so a merge that a client's request makes still finds the answer
-/// that it names among the last that the follower keeps. Then it rests, the longer the more it had to wait for a processor, so that clients have
-/// most of those that are busy, and a snapshot those that are not. Where nobody else calls the vnode it does neither.
-#[derive(Drop)]
-struct Stride<'a, R> {
-    rt: &'a R,
-    signs: Signs<'a>,
-    timer: Timer,
-    /// When the spell began, in milliseconds.
-    begin: u64,
-    /// The spell, as a piece of the thread's work.
-    stint: Stint,
-    /// How many keys it may still read.
-    left: u32,
-    /// Where the last key was read.
-    last: Option<u32>,
-    /// Whether somebody else called the vnode in the spell.
-    is_shared: bool,
-}
-
-impl<'a, R: Wait> Stride<'a, R> {
-    /// Its first spell begins.
-    fn new(rt: &'a R, signs: Signs<'a>) -> Self {
-        let mut timer = Timer::new();
-        Stride {
-            rt,
-            signs,
-            begin: timer.now(),
-            stint: Stint::begin(),
-            timer,
-            left: SPELL,
-            last: None,
-            is_shared: true,
-        }
-    }
-
-    /// Another key was read, at a place of the vnode's journal.
-    fn note(&mut self, place: u32) {
-        self.left = self.left.saturating_sub(1);
-        self.is_shared = self.is_shared
-            || self.last.map(|last| last.wrapping_add(1)) != Some(place);
-        self.last = Some(place);
-    }
-
-    /// Whether the spell is over.
-    fn is_over(&mut self) -> bool {
-        self.left == 0
-            || self.left % LOOK == 0 && self.timer.now().saturating_sub(self.begin) >= SPELL_MILLIS
-    }
-
-    /// The spell ends.
-    fn rest(&mut self) {
-        let waited = self.stint.waited();
-        if self.is_shared {
-            self.wait_for_workers();
-            let micros = waited.saturating_mul(REST).min(LONGEST_REST);
-            self.signs.wait(self.rt, Duration::from_micros(micros));
-        }
-        let lasted = self.timer.now().saturating_sub(self.begin);
-        if lasted < LEAST_MILLIS {
-            self.signs
-                .wait(self.rt, Duration::from_millis(LEAST_MILLIS - lasted));
-        }
-        self.begin = self.timer.now();
-        self.stint = Stint::begin();
-        self.left = SPELL;
-        self.is_shared = false;
-    }
-
-    /// Waits until each worker has ended the turn that it is in.
-    fn wait_for_workers(&mut self) {
-        let lobby = self.signs.lobby;
-        let until = self.timer.now().saturating_add(LONGEST_WAIT);
-        for post in &lobby.roster.posts {
-            self.wait_for(post, until);
-        }
-    }
-
-    /// Waits until a worker has ended the turn that it is in, and no longer than until a moment. One that sleeps is woken.
-    fn wait_for(&mut self, post: &Post, until: u64) {
-        let turns = post.turns();
-        for _ in self.rt.forever() {
-            self.signs.wait(self.rt, Duration::from_millis(1));
-            if post.turns() != turns || self.timer.now() >= until || !is_serving(&self.signs) {
-                return;
-            }
-            post.inlet.wake();
-        }
-    }
-}
-
-impl<R: Wait> Pace for Stride<'_, R> {
-    fn goes_on(&mut self, last: Option<u32>) -> bool {
-        if let Some(place) = last {
-            self.note(place);
-        }
-        if self.is_over() {
-            self.rest();
-        }
-        is_serving(&self.signs)
-    }
-}
 
 /// When a snapshot is made.
 #[derive(Clone, Copy, Debug)]
@@ -198,12 +68,8 @@ struct Saved<B: Room> {
 /// Who makes snapshots of a store.
 #[derive(Drop)]
 pub struct Saver<F> {
-    /// What the bytes of a snapshot are put together in.
-    pub alloc: Global,
     /// Where they are kept.
-    pub folder: F,
-    /// The identifier of the first vnode.
-    pub first: u32,
+    pub shelf: Shelf<F>,
     /// So many seconds after a snapshot the next one is made; only where it is asked for where it is 0.
     pub every: u32,
     /// Where snapshots are told.
@@ -303,8 +169,9 @@ impl<F: Folder + Copy + Send> Saver<F> {
         signs: &Signs<'_>,
         keys: usize,
     ) -> Result<usize, Unreplaced> {
-        let requests = signs.requests(self.alloc, rt).unwrap_or(None);
-        keep_requests(self.alloc, &mut self.folder, requests.as_deref())?;
+        let Shelf { alloc, folder, .. } = &mut self.shelf;
+        let requests = signs.requests(*alloc, rt).unwrap_or(None);
+        keep_requests(*alloc, folder, requests.as_deref())?;
         Ok(keys)
     }
 
@@ -323,9 +190,9 @@ impl<F: Folder + Copy + Send> Saver<F> {
             second,
             third,
         } = spares;
-        let one = self.side(first, 0);
-        let two = self.side(second, 1);
-        let three = self.side(third, 2);
+        let one = self.shelf.side(first, 0);
+        let two = self.shelf.side(second, 1);
+        let three = self.shelf.side(third, 2);
         let (others, one) = thread::join(
             rt,
             || -> (Saved<B>, Saved<B>) { write_both(rt, cluster, two, three, signs) },
@@ -342,27 +209,30 @@ impl<F: Folder + Copy + Send> Saver<F> {
         };
         (spares, came)
     }
+}
 
+/// Where the files of a store stand.
+#[derive(Clone, Copy)]
+pub struct Shelf<F> {
+    /// What their bytes are put together in.
+    pub alloc: Global,
+    /// Where they are kept.
+    pub folder: F,
+    /// The identifier of the vnode with index 0.
+    pub first: u32,
+}
+
+impl<F: Folder + Copy> Shelf<F> {
     /// Who reads vnodes from that with an index on, by a pass.
     fn side<B: Room>(&self, pass: Pass<B>, from: usize) -> Side<B, F>
         ensures pass { result.pass ≡ pass }
     {
-        let shelf = Shelf {
-            alloc: self.alloc,
-            folder: self.folder,
-            first: self.first,
-        };
-        Side { shelf, pass, from }
+        Side {
+            shelf: *self,
+            pass,
+            from,
+        }
     }
-}
-
-/// Where vnodes' files stand.
-#[derive(Drop)]
-struct Shelf<F> {
-    alloc: Global,
-    folder: F,
-    /// The identifier of the vnode with index 0.
-    first: u32,
 }
 
 impl<F: Folder> Shelf<F> {

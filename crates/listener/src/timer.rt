@@ -50,12 +50,16 @@ impl Stint {
         }
     }
 
+    /// So many microseconds have passed since it began.
+    pub fn lasted(&self) -> u64 {
+        Stint::begin().begin.saturating_sub(self.begin)
+    }
+
     /// For so many microseconds the thread, which is the calling one, has waited since it began.
     pub fn waited(&self) -> u64 {
         let Stint { begin, worked } = Stint::begin();
-        begin
-            .saturating_sub(self.begin)
-            .saturating_sub(worked.saturating_sub(self.worked))
+        let lasted = begin.saturating_sub(self.begin);
+        lasted.saturating_sub(worked.saturating_sub(self.worked))
     }
 }
 

@@ -11,6 +11,9 @@ const MOST_WAITING: usize = 100_000;
 /// They rest until fewer than so many do: for some ten milliseconds at a time, so that no client waits longer than that for its turn.
 const LEAST_WAITING: usize = 98_000;
 
+/// Snapshots wait where so many entries wait to be followed: well before workers have to.
+const MOST_BEFORE_SNAPSHOTS: usize = 20_000;
+
 /// For each entry that may wait, so many bytes of contents may: 64 MiB for 100,000.
 const BYTES_EACH: u64 = 671;
 
@@ -40,6 +43,11 @@ impl Pace {
         self.rests = is_more && !is_below(watch, most);
         self.rests
     }
+}
+
+/// Whether snapshots wait until more is followed. They do so only where there is something to follow.
+pub(crate) fn keeps_snapshots_waiting<B: Room + Spot>(watch: &Watch<B>, is_more: bool) -> bool {
+    is_more && !is_below(watch, MOST_BEFORE_SNAPSHOTS)
 }
 
 /// Whether fewer than so many entries wait, with less than their bytes of contents.

@@ -18,6 +18,7 @@ pub struct Signs<'a> {
     pub(crate) over: &'a AtomicBool,
     pub(crate) bell: &'a Parker,
     pub(crate) written: &'a AtomicBool,
+    pub(crate) trailing: &'a AtomicBool,
 }
 
 impl Signs<'_> {
@@ -31,6 +32,11 @@ impl Signs<'_> {
         if !self.is_over() {
             self.bell.park_timeout(rt, most);
         }
+    }
+
+    /// Whether so much waits to be followed that snapshots wait for it.
+    pub fn is_trailing(&self) -> bool {
+        self.trailing.load(SeqCst)
     }
 
     /// Whether something was written, as far as is noted.

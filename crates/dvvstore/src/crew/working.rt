@@ -9,7 +9,7 @@ ghost use Rattle.store.specs.View.{StoreView};
 ghost use Rattle.dvvstore.specs.Visits.{HasLed, HasVisited, HaveVisited, Leads, begun};
 
 use crate::crew::held::HeldPeers;
-use crate::crew::pace::Pace;
+use crate::crew::pace::{Pace, keeps_snapshots_waiting};
 use crate::crew::reporter::{Aloud, Reporter};
 use crate::crew::signs::Signs;
 use closing::{Spot, Watch};
@@ -83,6 +83,8 @@ pub(crate) struct Shared<B: Room + Spot> {
     reporter: Reporter,
     /// Whether workers rest, so that what they did can be followed.
     is_behind: AtomicBool,
+    /// Whether snapshots wait, so that what was done can be followed.
+    is_trailing: AtomicBool,
     /// Whether a thread has begun that accepts and follows, so that no worker has to.
     is_followed: AtomicBool,
     /// Whether all workers have ended.
@@ -106,6 +108,7 @@ impl<B: Room + Spot> Shared<B> {
             err,
             reporter: Reporter::new(err),
             is_behind: AtomicBool::new(false),
+            is_trailing: AtomicBool::new(false),
             is_followed: AtomicBool::new(false),
             over: AtomicBool::new(false),
             bell: Parker::new(),
@@ -121,6 +124,7 @@ impl<B: Room + Spot> Shared<B> {
             over: &self.over,
             bell: &self.bell,
             written: &self.written,
+            trailing: &self.is_trailing,
         }
     }
 }
@@ -136,7 +140,7 @@ struct Floor<'a, B: Room + Spot> {
 }
 
 /// Has the vnodes hand out what they did, and follows so many stamps of it. Whether there is more to follow. Workers rest from then on,
-/// or no longer, as the pace says.
+/// or no longer, as the pace says, and so do those who make snapshots.
 fn follow<B: Room + Spot, R: Wait>(
     rt: &R,
     floor: &Floor<'_, B>,
@@ -149,7 +153,9 @@ fn follow<B: Room + Spot, R: Wait>(
     watch.hear_all(floor.alloc, rt, floor.cluster, &alarm);
     let is_more = watch.follow_some(stamps, &alarm);
     let rests = pace.look(&watch, is_more);
+    let is_trailing = keeps_snapshots_waiting(&watch, is_more);
     drop(watch);
+    shared.is_trailing.store(is_trailing, SeqCst);
     if shared.is_behind.swap(rests, SeqCst) && !rests {
         floor.lobby.roster.wake_all();
     }
