@@ -14,4 +14,5 @@ loop-shard-preserved c =
       λ placed. added_placed c.loop-shard.self (record c.loop-shard.self { shards = c.push.new.self }) c.with_hasher.result refl refl c.in_ok-push.ensures.items c.with_hasher.ensures.empty c.with_hasher.ensures.unique (c.loop-shard.invariant.1 placed),
       c.loop-shard.invariant.2,
       omega (arith, longer, more, so_far),
+      c.loop-shard.invariant.4,
     )
