@@ -119,7 +119,8 @@ impl<B: Room> Cluster<B> {
         ensures ok { IfOk result (λ keys. AreKeysOf self.now pass.old vnode keys.items) }
     {
         let unsorted = self.unsorted_keys(rt, pass, vnode)?;
-        Ok(in_order(unsorted))
+        let keys = in_order(self.alloc, unsorted)?;
+        Ok(keys)
     }
 
     // The same in any order. Others that call the vnode wait no longer than it takes to copy them.
