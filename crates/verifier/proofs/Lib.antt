@@ -16,6 +16,8 @@ pub mod SumSteps
 pub mod Together
 pub mod CallSteps
 pub mod Classes
+pub mod NamedRows
+pub mod NamedEdges
 pub mod SumRuns
 pub mod PairRuns
 pub mod Counting
@@ -25,5 +27,6 @@ pub mod Lowering
 pub mod Visits
 pub mod PlainRows
 pub mod PlainSums
+pub mod PlainNames
 pub mod PlainPrograms
 pub mod PlainWalks

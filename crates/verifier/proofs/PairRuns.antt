@@ -27,7 +27,10 @@ use Rattle.helpers.specs.Calls.{calls_of}
 use Rattle.verifier.specs.Program.{Program}
 use Rattle.verifier.specs.Registers.{Row, IsLong, kind_at, kind_from}
 use Rattle.verifier.specs.Rules.{callee_in, refined}
-use Rattle.verifier.specs.Sums.{is_operand, leads_before, sum_at, most, row_on}
+use Rattle.value_names.specs.Led.{leads_before}
+use Rattle.value_names.proofs.Modular.{moved}
+use Rattle.value_names.proofs.Slots.{leads, slot_on, two_on}
+use Rattle.verifier.specs.Sums.{is_operand, sum_at, most, row_on}
 use Rattle.verifier.specs.Pairs.{no_pairs, is_in}
 use Rattle.verifier.specs.PairSteps.{pair_without, pairs_without, before, with_pair, partner, carried, carried_into, carried_from, pairs_of_sum, pairs_of_op, pair_over_call, pairs_over_call, pair_told, pairs_told, pairs_after, pairs_next, pairs_at}
 use Rattle.verifier.specs.Table.{target_edge, edges_from, AreKinds}
@@ -38,7 +41,7 @@ use Rattle.verifier.proofs.Fits.{FitsRow, SomeEdge}
 use Rattle.verifier.proofs.StackCells.{values}
 use Rattle.verifier.proofs.Refined.{refined_is_long, refined_kinds}
 use Rattle.verifier.proofs.SumSteps.{Adds, Holds, told_long, told_kinds, most_of, most_word, le_from, at_register, at_operand, kind_operand, whole_sum}
-use Rattle.verifier.proofs.SumRuns.{Written, differ, no_not, moved, operand_word, number_other, number_same, leads, slot_on, two_on}
+use Rattle.verifier.proofs.SumRuns.{Written, differ, no_not, operand_word, number_other, number_same}
 use Rattle.verifier.proofs.Classes.{or_left, or_right}
 use Rattle.verifier.proofs.Together.{PairHolds, HoldPairs, same_number}
 

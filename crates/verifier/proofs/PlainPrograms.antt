@@ -18,6 +18,7 @@ use Rattle.ranges.specs.declared.kind.Kind.TheVariants.{Unset, Dead, Num, Ptr, H
 use Rattle.memory.specs.declared.profile.Profile.{Profile}
 use Rattle.memory.specs.declared.profile.Profile.TheVariants.{First, Second}
 use Rattle.bpfimage.specs.Form.{next_of, target_of, GoesTo, IsSuccessor, IsPath, IsFormed}
+use Rattle.value_names.specs.Names.{names_at}
 use Rattle.verifier.specs.Program.{Program}
 use Rattle.verifier.specs.declared.rule.KindRule.{KindRule}
 use Rattle.verifier.specs.declared.rule.KindRule.TheVariants.{UnsetRead, FrameWritten, PointerOperand, OutsideWindow, InputStored, PointerStored, PointerAnswer, StackRead}
@@ -28,7 +29,8 @@ use Rattle.verifier.specs.PairSteps.{pairs_at}
 use Rattle.verifier.specs.declared.pair.Pairs.{Pairs}
 use Rattle.verifier.specs.Rules.{callee_in, compares_pointer, is_frame, broken_if, bad_result, class_rules, rules_of, first_of, row_taken}
 use Rattle.verifier.specs.Sums.{sum_at, row_on}
-use Rattle.verifier.specs.Table.{Edge, next_edge, target_edge, edges_from, join_rows, joined, into, edges_of, arrivals, table, broken_with, IsAccepted}
+use Rattle.verifier.specs.Naming.{named}
+use Rattle.verifier.specs.Table.{Edge, next_edge, target_edge, named_edges, join_rows, joined, into, edges_of, arrivals, table, broken_with, IsAccepted}
 use Rattle.verifier.specs.Plain.{IsIn, WrittenOn, SetAtStart, window_of, IsPlainInsn, IsPlain, InWindow, StaysInside, IsWellBehaved}
 use Rattle.verifier.proofs.Fits.{length_join}
 use Rattle.verifier.proofs.Shape.{Leads, NextStarts, next_leads, target_leads}
@@ -37,7 +39,9 @@ use Rattle.verifier.proofs.Soundness.{after_is_long, taken_is_long}
 use Rattle.verifier.proofs.SameReads.{reads_plain}
 use Rattle.verifier.proofs.Tables.{length_rows, table_at}
 use Rattle.verifier.proofs.SumSteps.{told_long}
+use Rattle.verifier.proofs.NamedRows.{named_long}
 use Rattle.verifier.proofs.PlainSums.{told_follows}
+use Rattle.verifier.proofs.PlainNames.{named_follows}
 use Rattle.verifier.proofs.PlainRows.{plain_number, IsNum, IsNumOrUnset, num_held, left_number, not_number, PlainAt, PlainRow, AllNum, PlainCells, readable, join_cells, GivesNumber, operand_number, register_number, alu_number, swap_result, Follows, after_follows, taken_follows, join_plain, unset_of_one}
 
 -- on some path to slot k the register is not written, and it is not set at the start
@@ -161,13 +165,20 @@ module _ (p : Program) (some : 1 ≤ length p.code) (formed : IsFormed p.code) (
   same_slot : (j k : ℕ) → pos k ≡ pos j → j ≡ k
   same_slot j k e = cc
 
-  edges_plain : (i : ℕ) (x : Insn) (row : Row) → slice_get p.code i ≡ Some x → slice_get (table p) i ≡ Some (Some row) → IsPlainAt p.profile p.code i row → AllPlain p.profile p.code (edges_from p.profile (callee_in p.sigs x) (sum_at p.code i) i row x)
+  edges_plain : (i : ℕ) (x : Insn) (row : Row) → slice_get p.code i ≡ Some x → slice_get (table p) i ≡ Some (Some row) → IsPlainAt p.profile p.code i row → AllPlain p.profile p.code (named_edges p.profile (callee_in p.sigs x) (sum_at p.code i) (names_at p.code i) i row x)
   edges_plain i x row at here is =
       let set = reads_set i x row at here is in
+      let names = names_at p.code i in
+      let on = row_on p.profile (callee_in p.sigs x) (sum_at p.code i) row x in
+      let taken = row_taken p.profile row x in
       all_append p.profile p.code _ _
-      (next_plain p.profile p.code (next_of i x) (row_on p.profile (callee_in p.sigs x) (sum_at p.code i) row x) (λ k e. carried p.profile p.code i k x row (row_on p.profile (callee_in p.sigs x) (sum_at p.code i) row x) at is (successor i k x at (inl e) (next_leads p.code i x k formed starts at e)) (told_long p.profile x (sum_at p.code i) _ (after_is_long p.profile (callee_in p.sigs x) row x is.long)) (told_follows p.profile row _ x (sum_at p.code i) (after_follows p.profile (callee_in p.sigs x) row x is.long is.plain is.cells (plain i x at) set))))
-      (target_plain p.profile p.code (target_of i x) (row_taken p.profile row x) (λ k e. let l = target_leads p.code i x (pos k) formed at e in
-      carried p.profile p.code i k x row (row_taken p.profile row x) at is (successor i k x at (inr e) (subst (Leads p.code i) (same_slot l.0 k l.1) l.2)) (taken_is_long p.profile row x is.long) (taken_follows p.profile row x (pos k) i e is.long is.plain is.cells (plain i x at) set)))
+      (next_plain p.profile p.code (next_of i x) (named x p.profile names on) (λ k e. carried p.profile p.code i k x row (named x p.profile names on) at is (successor i k x at (inl e) (next_leads p.code i x k formed starts at e))
+      (named_long names x p.profile p.profile on (told_long p.profile x (sum_at p.code i) _ (after_is_long p.profile (callee_in p.sigs x) row x is.long)))
+      (named_follows p.profile row on x names (told_follows p.profile row _ x (sum_at p.code i) (after_follows p.profile (callee_in p.sigs x) row x is.long is.plain is.cells (plain i x at) set)))))
+      (target_plain p.profile p.code (target_of i x) (named x p.profile names taken) (λ k e. let l = target_leads p.code i x (pos k) formed at e in
+      carried p.profile p.code i k x row (named x p.profile names taken) at is (successor i k x at (inr e) (subst (Leads p.code i) (same_slot l.0 k l.1) l.2))
+      (named_long names x p.profile p.profile taken (taken_is_long p.profile row x is.long))
+      (named_follows p.profile row taken x names (taken_follows p.profile row x (pos k) i e is.long is.plain is.cells (plain i x at) set))))
 
   edges_of_plain : (i : ℕ) (x : Option Insn) (o : Option (Option Row)) → slice_get p.code i ≡ x → slice_get (table p) i ≡ o → PlainSlot p.profile p.code i o → AllPlain p.profile p.code (edges_of p i x o)
   edges_of_plain i None o at here h = tt

@@ -41,7 +41,8 @@ use Rattle.verifier.specs.declared.span.Span.{Span}
 use Rattle.verifier.specs.Rules.{result_kind, loaded, refined, row_after, row_taken}
 use Rattle.verifier.specs.Table.{join_rows}
 use Rattle.verifier.specs.Plain.{IsIn, window_of, IsPlainInsn}
-use Rattle.verifier.proofs.StackCells.{number_small, stored_register, seam}
+use Rattle.value_names.proofs.Slots.{number_small}
+use Rattle.verifier.proofs.StackCells.{stored_register, seam}
 use Rattle.verifier.proofs.CellSteps.{part_is}
 use Rattle.verifier.proofs.Classes.{or_left, or_right}
 

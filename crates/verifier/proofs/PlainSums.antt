@@ -2,6 +2,7 @@
 use Rattle.std.proofs.Common.{◌≡◌, ℕ, ℤ, zero, suc, ◌-◌, ◌^◌, true, [], ◌∷◌, get_or, set, Option, Some, None, refl, ap, subst}
 use Rattle.std.specs.Prelude.{int_lt, nat_le, max, min}
 use Rattle.std.proofs.lemmas.Bool.{cond_both}
+use Rattle.alu.specs.declared.Cond.{Cond}
 use Rattle.alu.specs.declared.Cond.TheVariants.{LessEqual}
 use Rattle.alu.specs.declared.Width.TheVariants.{W64}
 use Rattle.insn.specs.Encoding.{number}
@@ -50,7 +51,7 @@ at_most_plain n R9 k h = at_most_number n k h
 at_most_plain n R10 k h = ap (at_most n) h
 
 -- a pointer stays a pointer
-abbrev IsPointer : Kind → Type 0
+abbrev pub IsPointer : Kind → Type 0
 IsPointer (Ptr q lo hi) = Unit {0}
 IsPointer k = ⊥
 
@@ -61,17 +62,17 @@ left_pair : (q : Region) (lo hi : ℤ) (k : Kind) (o : Option (Number × Number)
 left_pair q lo hi k None = tt
 left_pair q lo hi k (Some p) = left_pointer q lo hi p.0.range
 
-refined_pointer : (q : Region) (lo hi : ℤ) (k : Kind) → IsPointer (refine_of Second LessEqual W64 (Ptr q lo hi) k true).0
-refined_pointer q lo hi Unset = tt
-refined_pointer q lo hi (Halves l h) = tt
-refined_pointer q lo hi Dead = tt
-refined_pointer q lo hi (Num b) = left_pair q lo hi (Num b) _
-refined_pointer q lo hi (Ptr s l h) = left_pair q lo hi (Ptr s l h) _
+pub refined_pointer : (c : Cond) (q : Region) (lo hi : ℤ) (k : Kind) → IsPointer (refine_of Second c W64 (Ptr q lo hi) k true).0
+refined_pointer c q lo hi Unset = tt
+refined_pointer c q lo hi (Halves l h) = tt
+refined_pointer c q lo hi Dead = tt
+refined_pointer c q lo hi (Num b) = left_pair q lo hi (Num b) _
+refined_pointer c q lo hi (Ptr s l h) = left_pair q lo hi (Ptr s l h) _
 
 pointer_stays : (n : ℕ) (q : Region) (lo hi : ℤ) → IsPointer (at_most n (Ptr q lo hi))
-pointer_stays n q lo hi = cond_both (int_lt lo hi) _ _ IsPointer (λ _. refined_pointer q lo hi (one_number Second n)) (λ _. tt)
+pointer_stays n q lo hi = cond_both (int_lt lo hi) _ _ IsPointer (λ _. refined_pointer LessEqual q lo hi (one_number Second n)) (λ _. tt)
 
-not_unset : (k : Kind) → IsPointer k → k ≡ Unset → ⊥
+pub not_unset : (k : Kind) → IsPointer k → k ≡ Unset → ⊥
 not_unset k h e = subst IsPointer e h
 
 unset_before : (n : ℕ) (k : Kind) → at_most n k ≡ Unset → k ≡ Unset
@@ -83,24 +84,25 @@ unset_before n (Halves l u) h = h
 
 -- ---- a row
 
-at_each : (n : ℕ) (P : Kind → Type 0) (row : Row) (i j : ℕ) → ((k : Kind) → P k → P (at_most n k)) → P (get_or row j Unset) → P (get_or (set row i (at_most n (get_or row i Unset))) j Unset)
-at_each n P [] i j g h = h
-at_each n P (x ∷ row) zero zero g h = g x h
-at_each n P (x ∷ row) zero (suc j) g h = h
-at_each n P (x ∷ row) (suc i) zero g h = h
-at_each n P (x ∷ row) (suc i) (suc j) g h = at_each n P row i j g h
+-- one register's kind is changed
+pub at_each : (f : Kind → Kind) (P : Kind → Type 0) (row : Row) (i j : ℕ) → ((k : Kind) → P k → P (f k)) → P (get_or row j Unset) → P (get_or (set row i (f (get_or row i Unset))) j Unset)
+at_each f P [] i j g h = h
+at_each f P (x ∷ row) zero zero g h = g x h
+at_each f P (x ∷ row) zero (suc j) g h = h
+at_each f P (x ∷ row) (suc i) zero g h = h
+at_each f P (x ∷ row) (suc i) (suc j) g h = at_each f P row i j g h
 
-unset_back : (n : ℕ) (row : Row) (i j : ℕ) → get_or (set row i (at_most n (get_or row i Unset))) j Unset ≡ Unset → get_or row j Unset ≡ Unset
-unset_back n [] i j h = h
-unset_back n (x ∷ row) zero zero h = unset_before n x h
-unset_back n (x ∷ row) zero (suc j) h = h
-unset_back n (x ∷ row) (suc i) zero h = h
-unset_back n (x ∷ row) (suc i) (suc j) h = unset_back n row i j h
+pub unset_back : (f : Kind → Kind) → ((k : Kind) → f k ≡ Unset → k ≡ Unset) → (row : Row) (i j : ℕ) → get_or (set row i (f (get_or row i Unset))) j Unset ≡ Unset → get_or row j Unset ≡ Unset
+unset_back f g [] i j h = h
+unset_back f g (x ∷ row) zero zero h = g x h
+unset_back f g (x ∷ row) zero (suc j) h = h
+unset_back f g (x ∷ row) (suc i) zero h = h
+unset_back f g (x ∷ row) (suc i) (suc j) h = unset_back f g row i j h
 
 -- ---- what is unset stays so
 
 operand_unset : (n : ℕ) (o : Operand) (row : Row) (r : Register) → kind_at row r ≡ Unset → kind_at (operand_at_most n o row) r ≡ Unset
-operand_unset n (operand.Register q) row r u = at_each n (λ k. k ≡ Unset) row (number q) (number r) (λ k e. ap (at_most n) e) u
+operand_unset n (operand.Register q) row r u = at_each (at_most n) (λ k. k ≡ Unset) row (number q) (number r) (λ k e. ap (at_most n) e) u
 operand_unset n (operand.Immediate i) row r u = u
 
 told_by_unset : (sum : Sum) (row : Row) (r : Register) → kind_at row r ≡ Unset → kind_at (told_by sum row) r ≡ Unset
@@ -116,9 +118,9 @@ told_unset profile x sum row r u = told_keeps (λ q. kind_at q r ≡ Unset) x pr
 
 operand_follows : (n : ℕ) (o : Operand) (row next : Row) (x : Insn) → Follows row next x → Follows row (operand_at_most n o next) x
 operand_follows n (operand.Register q) row next x f = record {
-  plain = λ r. at_each n (PlainAt r) next (number q) (number r) (at_most_plain n r) (f.plain r);
+  plain = λ r. at_each (at_most n) (PlainAt r) next (number q) (number r) (at_most_plain n r) (f.plain r);
   cells = cells_with_kind next q _ f.cells;
-  unset = λ r u. f.unset r (unset_back n next (number q) (number r) u);
+  unset = λ r u. f.unset r (unset_back (at_most n) (unset_before n) next (number q) (number r) u);
 }
 operand_follows n (operand.Immediate i) row next x f = f
 

@@ -18,7 +18,9 @@ use Rattle.verifier.specs.Rules.{row_taken}
 use Rattle.verifier.specs.Sums.{row_on}
 use Rattle.verifier.specs.declared.sum.Sum.{Sum}
 use Rattle.verifier.specs.Rows.{LeadBelow}
-use Rattle.verifier.specs.Table.{Edge, next_edge, target_edge, edges_from}
+use Rattle.value_names.specs.Names.{Names}
+use Rattle.verifier.specs.Naming.{named}
+use Rattle.verifier.specs.Table.{Edge, next_edge, target_edge, named_edges}
 
 -- an instruction of formed code keeps each rule
 pub keeps : (code : List Insn) (i : ℕ) (x : Insn) (rule : FormRule) → IsFormed code → slice_get code i ≡ Some x → ¬ BreaksRule rule code i x
@@ -154,9 +156,9 @@ target_all code i (Some (pos k)) row h = let l = h (pos k) refl in (subst (Leads
 target_all code i (Some (negsuc k)) row h = tt
 
 -- every edge of an instruction leads to a higher slot that starts one
-pub edges_lead : (profile : Profile) (callee : Callee) (sum : Option Sum) (code : List Insn) (i : ℕ) (x : Insn) (row : Row) → IsFormed code → NextStarts code → slice_get code i ≡ Some x → AllLead code i (edges_from profile callee sum i row x)
-edges_lead profile callee sum code i x row formed starts at =
-    all_append code i _ _ (next_all code i (next_of i x) (row_on profile callee sum row x) (λ k e. next_leads code i x k formed starts at e)) (target_all code i (target_of i x) (row_taken profile row x) (λ z e. target_leads code i x z formed at e))
+pub edges_lead : (profile : Profile) (callee : Callee) (sum : Option Sum) (names : Names) (code : List Insn) (i : ℕ) (x : Insn) (row : Row) → IsFormed code → NextStarts code → slice_get code i ≡ Some x → AllLead code i (named_edges profile callee sum names i row x)
+edges_lead profile callee sum names code i x row formed starts at =
+    all_append code i _ _ (next_all code i (next_of i x) (named x profile names (row_on profile callee sum row x)) (λ k e. next_leads code i x k formed starts at e)) (target_all code i (target_of i x) (named x profile names (row_taken profile row x)) (λ z e. target_leads code i x z formed at e))
 
 pub target_edge_at : (z : ℤ) (k : ℕ) (row : Row) → z ≡ pos k → target_edge (Some z) row ≡ (k, row) ∷ []
 target_edge_at z k row e = ap (λ y. target_edge (Some y) row) e

@@ -28,6 +28,8 @@ use Rattle.ranges.specs.Transfer.{transfer_of, swap_of}
 use Rattle.ranges.specs.Laws.{IsSoundTable}
 use Rattle.bpfimage.specs.Form.{next_of, target_of}
 use Rattle.helpers.specs.Calls.{Callee, Copy, Fill, Same, Helper, Unknown, calls_of}
+use Rattle.value_names.specs.Names.{Names, names_at}
+use Rattle.value_names.proofs.NamedRuns.{Stand, new_stand, names_hold}
 use Rattle.verifier.specs.Program.{Program, HasLimits, IsSafeProgram}
 use Rattle.verifier.specs.Registers.{Row, cell_count, IsLong, kind_at, kind_from, one_number, entry}
 use Rattle.verifier.specs.Cells.{span_of, part_at, row_written}
@@ -37,7 +39,8 @@ use Rattle.verifier.proofs.Together.{HoldPairs}
 use Rattle.verifier.proofs.PairRuns.{pairs_held}
 use Rattle.verifier.specs.Rules.{callee_in, loaded, row_after, row_taken, rules_of}
 use Rattle.verifier.specs.Sums.{sum_at, row_on}
-use Rattle.verifier.specs.Table.{Edge, next_edge, target_edge, edges_from, edges_of, arrivals, table, broken_with, IsAccepted, AreKinds}
+use Rattle.verifier.specs.Naming.{named}
+use Rattle.verifier.specs.Table.{Edge, next_edge, target_edge, named_edges, edges_of, arrivals, table, broken_with, IsAccepted, AreKinds}
 use Rattle.verifier.proofs.Words.{wrapped_below, size_fits, bytes_zero}
 use Rattle.verifier.proofs.RowSteps.{kinds_set, kinds_drop}
 use Rattle.verifier.proofs.StackCells.{values, has_eleven, stored_long, written_long, stored_kinds, written_kinds, read_kinds, zero_cells, zero_bytes}
@@ -48,6 +51,8 @@ use Rattle.verifier.proofs.SumRuns.{held_at}
 use Rattle.verifier.proofs.Shape.{IsPaired, Leads, AllLead, paired_starts, edges_lead, target_leads}
 use Rattle.verifier.proofs.Places.{IsMemory}
 use Rattle.verifier.proofs.Classes.{AllNone, none_each, result_is_kind, at_number, no_fault, lands}
+use Rattle.verifier.proofs.NamedRows.{named_long, named_kinds}
+use Rattle.verifier.proofs.NamedEdges.{named_lands}
 use Rattle.verifier.proofs.Counting.{starts_there, counted, counted_all}
 use Rattle.verifier.proofs.Tables.{length_rows, table_at}
 
@@ -145,12 +150,26 @@ IsRowAt profile None = Unit {0}
 IsRowAt profile (Some o) = IsRowIfAny profile o
 
 module _ (sound : (profile : Profile) → IsSoundTable profile) (p : Program) (limits : HasLimits p) (paired : IsPaired p.code) where
-  edge_rows : (i : ℕ) (row : Row) (x : Insn) → (x ≢ insn.Tail → IsInstruction x) → IsRow p.profile row → AreRows p.profile (edges_from p.profile (callee_in p.sigs x) (sum_at p.code i) i row x)
-  edge_rows i row x is h =
+  pub on_row : (i : ℕ) (row : Row) (x : Insn) → (x ≢ insn.Tail → IsInstruction x) → IsRow p.profile row → IsRow p.profile (row_on p.profile (callee_in p.sigs x) (sum_at p.code i) row x)
+  on_row i row x is h =
       let after = row_after p.profile (callee_in p.sigs x) row x in
+      record {
+        long = told_long p.profile x (sum_at p.code i) after (after_is_long p.profile (callee_in p.sigs x) row x h.long);
+        kinds = told_kinds (sound Second) p.profile x (sum_at p.code i) after (after_kinds p.profile (sound p.profile) (callee_in p.sigs x) row x is h.kinds);
+      }
+
+  pub taken_row : (row : Row) (x : Insn) → IsRow p.profile row → IsRow p.profile (row_taken p.profile row x)
+  taken_row row x h = record { long = taken_is_long p.profile row x h.long; kinds = taken_kinds p.profile (sound p.profile) row x h.kinds }
+
+  named_row : (names : Names) (x : Insn) (row : Row) → IsRow p.profile row → IsRow p.profile (named x p.profile names row)
+  named_row names x row h = record { long = named_long names x p.profile p.profile row h.long; kinds = named_kinds (sound Second) names x p.profile row h.kinds }
+
+  edge_rows : (i : ℕ) (row : Row) (x : Insn) → (x ≢ insn.Tail → IsInstruction x) → IsRow p.profile row → AreRows p.profile (named_edges p.profile (callee_in p.sigs x) (sum_at p.code i) (names_at p.code i) i row x)
+  edge_rows i row x is h =
+      let names = names_at p.code i in
       rows_append p.profile _ _
-      (next_rows p.profile (next_of i x) (row_on p.profile (callee_in p.sigs x) (sum_at p.code i) row x) (record { long = told_long p.profile x (sum_at p.code i) after (after_is_long p.profile (callee_in p.sigs x) row x h.long); kinds = told_kinds (sound Second) p.profile x (sum_at p.code i) after (after_kinds p.profile (sound p.profile) (callee_in p.sigs x) row x is h.kinds) }))
-      (target_rows p.profile (target_of i x) (row_taken p.profile row x) (record { long = taken_is_long p.profile row x h.long; kinds = taken_kinds p.profile (sound p.profile) row x h.kinds }))
+      (next_rows p.profile (next_of i x) (named x p.profile names (row_on p.profile (callee_in p.sigs x) (sum_at p.code i) row x)) (named_row names x _ (on_row i row x is h)))
+      (target_rows p.profile (target_of i x) (named x p.profile names (row_taken p.profile row x)) (named_row names x _ (taken_row row x h)))
 
   edges_are_rows : (i : ℕ) (x : Option Insn) (row : Option (Option Row)) → slice_get p.code i ≡ x → IsRowAt p.profile row → AreRows p.profile (edges_of p i x row)
   edges_are_rows i None row at h = tt
@@ -201,7 +220,7 @@ module _ (sound : (profile : Profile) → IsSoundTable profile) (p : Program) (l
 
   -- ---- an edge is joined into its slot's row
 
-  arrives : (i n k : ℕ) (x : Insn) (row : Row) (vs : List (Option ℕ)) → i < n → slice_get p.code i ≡ Some x → slice_get (table p) i ≡ Some (Some row) → SomeEdge (pos k) vs (edges_from p.profile (callee_in p.sigs x) (sum_at p.code i) i row x) → FitsSome (arrivals p (table p) n k) vs
+  arrives : (i n k : ℕ) (x : Insn) (row : Row) (vs : List (Option ℕ)) → i < n → slice_get p.code i ≡ Some x → slice_get (table p) i ≡ Some (Some row) → SomeEdge (pos k) vs (named_edges p.profile (callee_in p.sigs x) (sum_at p.code i) (names_at p.code i) i row x) → FitsSome (arrivals p (table p) n k) vs
   arrives i zero k x row vs lt at here e = absurd (omega arith)
   arrives i (suc n) k x row vs lt at here e =
       let all : (m : ℕ) → IsRowAt p.profile (slice_get (table p) m) = λ m. table_rows (suc m) m (omega arith) in
@@ -211,7 +230,7 @@ module _ (sound : (profile : Profile) → IsSoundTable profile) (p : Program) (l
       (λ same. let at' = ap (slice_get p.code) (sym same) ∙ at in
       let here' = ap (slice_get (table p)) (sym same) ∙ here in
       into_new p.profile (sound p.profile) k _ _ vs edges before
-      (subst (λ o. SomeEdge (pos k) vs (edges_of p n o (slice_get (table p) n))) (sym at') (subst (λ o. SomeEdge (pos k) vs (edges_of p n (Some x) o)) (sym here') (subst (λ j. SomeEdge (pos k) vs (edges_from p.profile (callee_in p.sigs x) (sum_at p.code j) j row x)) same e))))
+      (subst (λ o. SomeEdge (pos k) vs (edges_of p n o (slice_get (table p) n))) (sym at') (subst (λ o. SomeEdge (pos k) vs (edges_of p n (Some x) o)) (sym here') (subst (λ j. SomeEdge (pos k) vs (named_edges p.profile (callee_in p.sigs x) (sum_at p.code j) (names_at p.code j) j row x)) same e))))
       (λ other. into_old p.profile (sound p.profile) k _ _ vs edges before (arrives i n k x row vs (omega arith) at here e))
       (cases_eq i n)
 
@@ -229,6 +248,7 @@ pub record Stands (p : Program) (n : ℕ) (s : State) : Type 0 where
   pub fits : FitsRow row (values p.profile s)
   pub holds : Holds (sum_at p.code at) s
   pub together : HoldPairs (pairs_at p (table p) at) s
+  pub names : Stand at (names_at p.code at) s
   pub memory : IsMemory p s.memory
   pub steps : n ≤ instruction_count (take at p.code)
 
@@ -263,13 +283,13 @@ module _ (sound : (profile : Profile) → IsSoundTable profile) (p : Program) (l
       let same : e.0 ≡ g.here = same_Some _ _ (sym e.1 ∙ there n s g) in
       no_fault sound p g.at g.row s limits (row_kinds sound p limits paired g.at g.row g.kinds) (row_long sound p limits paired g.at g.row g.kinds) g.fits g.slot g.memory (sum_at p.code g.at) g.holds (pairs_at p (table p) g.at) g.together e.0 (subst (λ x. AllNone (rules_of p (pairs_at p (table p) g.at) g.row x)) (sym same) (rules_kept n s g)) f e.2.stands
 
-  goes_on : (n : ℕ) (s : State) (g : Stands p n s) (t : State) → SomeEdge t.slot (values p.profile t) (edges_from p.profile (callee_in p.sigs g.here) (sum_at p.code g.at) g.at g.row g.here) → IsMemory p t.memory → ((k : ℕ) → g.at < k → t.slot ≡ pos k → Holds (sum_at p.code k) t) → ((k : ℕ) → g.at < k → t.slot ≡ pos k → HoldPairs (pairs_at p (table p) k) t) → Stands p (suc n) t
-  goes_on n s g t e m held paired_up =
-      let to = lead_any p g.at (edges_from p.profile (callee_in p.sigs g.here) (sum_at p.code g.at) g.at g.row g.here) t.slot (values p.profile t) (edges_lead p.profile (callee_in p.sigs g.here) (sum_at p.code g.at) p.code g.at g.here g.row accepted.formed (paired_starts p.code paired) g.found) e in
+  goes_on : (n : ℕ) (s : State) (g : Stands p n s) (t : State) → SomeEdge t.slot (values p.profile t) (named_edges p.profile (callee_in p.sigs g.here) (sum_at p.code g.at) (names_at p.code g.at) g.at g.row g.here) → IsMemory p t.memory → ((k : ℕ) → g.at < k → t.slot ≡ pos k → Holds (sum_at p.code k) t) → ((k : ℕ) → g.at < k → t.slot ≡ pos k → HoldPairs (pairs_at p (table p) k) t) → ((k : ℕ) → g.at < k → t.slot ≡ pos k → Stand k (names_at p.code k) t) → Stands p (suc n) t
+  goes_on n s g t e m held paired_up stand =
+      let to = lead_any p g.at (named_edges p.profile (callee_in p.sigs g.here) (sum_at p.code g.at) (names_at p.code g.at) g.at g.row g.here) t.slot (values p.profile t) (edges_lead p.profile (callee_in p.sigs g.here) (sum_at p.code g.at) (names_at p.code g.at) p.code g.at g.here g.row accepted.formed (paired_starts p.code paired) g.found) e in
       let k = to.0 in
       let l = to.2 in
       let within = slice_get_within p.code k l.to l.there in
-      let arrived = arrives sound p limits paired g.at k k g.here g.row (values p.profile t) l.above g.found g.kinds (subst (λ z. SomeEdge z (values p.profile t) (edges_from p.profile (callee_in p.sigs g.here) (sum_at p.code g.at) g.at g.row g.here)) to.1 e) in
+      let arrived = arrives sound p limits paired g.at k k g.here g.row (values p.profile t) l.above g.found g.kinds (subst (λ z. SomeEdge z (values p.profile t) (named_edges p.profile (callee_in p.sigs g.here) (sum_at p.code g.at) (names_at p.code g.at) g.at g.row g.here)) to.1 e) in
       let next = stand_at p k (arrivals p (table p) k k) (values p.profile t) (table_at p k within) arrived in
       record {
         at = k;
@@ -282,6 +302,7 @@ module _ (sound : (profile : Profile) → IsSoundTable profile) (p : Program) (l
         fits = next.2;
         holds = held k l.above to.1;
         together = paired_up k l.above to.1;
+        names = stand k l.above to.1;
         memory = m;
         steps = omega (arith, counted p.code g.at k g.here g.found g.starts l.above, g.steps);
       }
@@ -294,9 +315,14 @@ module _ (sound : (profile : Profile) → IsSoundTable profile) (p : Program) (l
       let number_word = at_number sound p g.at g.row s limits (row_kinds sound p limits paired g.at g.row g.kinds) long g.fits g.slot g.memory (sum_at p.code g.at) g.holds (pairs_at p (table p) g.at) g.together in
       let to : (z : ℤ) → target_of g.at g.here ≡ Some z → (k : ℕ) × (z ≡ pos k) = λ z e. let l = target_leads p.code g.at g.here z accepted.formed g.found e in (l.0, l.1) in
       let l = lands sound p g.at g.row s limits (row_kinds sound p limits paired g.at g.row g.kinds) (row_long sound p limits paired g.at g.row g.kinds) g.fits g.slot g.memory (sum_at p.code g.at) g.holds (pairs_at p (table p) g.at) g.together g.here t (paired.instructions g.at g.here g.found g.starts) to (rules_kept n s g) row in
-      goes_on n s g t l.0 l.1
+      let is_row : IsRow p.profile g.row = record { long = long; kinds = row_kinds sound p limits paired g.at g.row g.kinds } in
+      goes_on n s g t
+      (named_lands (sound Second) p.profile (calls_of p.sigs) (callee_in p.sigs g.here) (sum_at p.code g.at) (names_at p.code g.at) g.at g.row s t g.names.named g.here row
+      (on_row sound p limits paired g.at g.row g.here (paired.instructions g.at g.here g.found) is_row) (taken_row sound p limits paired g.row g.here is_row) l.0)
+      l.1
       (λ k above slot. held_at (calls_of p.sigs) p.code s g.at g.slot (has_eleven p.profile g.row s long g.fits) (λ r. (number_word r).1) g.holds (λ dst n. paired.after_wide g.at n dst) k g.here t above g.found slot row)
       (λ k above slot. pairs_held sound p (table p) s g.at g.slot (has_eleven p.profile g.row s long g.fits) (λ r. (number_word r).1) g.row g.kinds long (row_kinds sound p limits paired g.at g.row g.kinds) g.fits g.together g.holds (λ dst n. paired.after_wide g.at n dst) k g.here t above g.found slot l.0 row)
+      (λ k above slot. names_hold (calls_of p.sigs) p.code s g.at g.slot (has_eleven p.profile g.row s long g.fits) (λ r. (number_word r).1) g.names (λ dst n. paired.after_wide g.at n dst) k g.here t above g.found slot row)
 
   -- the state before the first slot
   stands_first : (input : List ℕ) (used : ℕ) → IsInput p.in_len input used → Stands p 0 (start input used p.out_len)
@@ -315,6 +341,7 @@ module _ (sound : (profile : Profile) → IsSoundTable profile) (p : Program) (l
         fits = (tt, tt, ((omega (arith, ints), omega (arith, ints)), omega arith, ((sound p.profile).range (up_to p.in_len) used (omega arith) (omega arith, h.within), omega (arith, h.within), ((omega (arith, ints), omega (arith, ints)), omega arith, ((sound p.profile).range (single p.out_len) p.out_len (omega arith) (omega arith, omega arith), omega arith, (tt, tt, (tt, tt, (tt, tt, (tt, tt, (tt, tt, ((omega (arith, ints), omega (arith, ints)), omega arith, zero_cells (cell_count p.profile) (one_number p.profile 0) (replicate 512 0) ((sound p.profile).range (single 0) 0 (omega arith) (omega arith, omega arith)) (zero_bytes 512))))))))))));
         holds = tt;
         together = record { first = tt; second = tt; third = tt; fourth = tt };
+        names = new_stand 0 _;
         memory = record { stack_length = length-replicate {A = ℕ} 512 0; input_length = h.whole; output_length = length-replicate {A = ℕ} p.out_len 0; stack_bytes = bytes_zero 512; input_bytes = h.bytes; output_bytes = bytes_zero p.out_len };
         steps = omega arith;
       }

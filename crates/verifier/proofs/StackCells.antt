@@ -7,7 +7,8 @@ use Rattle.std.proofs.lemmas.List.{get_or-drop, get_or-take, get_or_append_left,
 use Rattle.std.proofs.lemmas.Option.{unwrap_or-slice_get}
 use Rattle.insn.specs.Encoding.{number}
 use Rattle.insn.specs.declared.Register.{Register}
-use Rattle.insn.specs.declared.Register.TheVariants.{R0, R1, R2, R3, R4, R5, R6, R7, R8, R9, R10}
+use Rattle.insn.specs.declared.Register.TheVariants.{R1, R3}
+use Rattle.value_names.proofs.Slots.{number_small}
 use Rattle.insn.specs.declared.Size.TheVariants.{Double}
 use Rattle.insn.specs.declared.Extend.{Extend}
 use Rattle.insn.specs.declared.Extend.TheVariants.{Zero, Sign}
@@ -68,19 +69,6 @@ eleven profile row registers stack long fits =
     omega (arith, long, all, length-append registers (words (cell_count profile) stack), cells)
 
 -- ---- registers
-
-pub number_small : (r : Register) → number r < 11
-number_small R0 = omega arith
-number_small R1 = omega arith
-number_small R2 = omega arith
-number_small R3 = omega arith
-number_small R4 = omega arith
-number_small R5 = omega arith
-number_small R6 = omega arith
-number_small R7 = omega arith
-number_small R8 = omega arith
-number_small R9 = omega arith
-number_small R10 = omega arith
 
 module _ (profile : Profile) (row : Row) (s : State) (long : IsLong profile row) (fits : FitsRow row (values profile s)) where
   pub has_eleven : length s.registers ≡ 11

@@ -1,9 +1,7 @@
 -- The sum that is known at a slot holds wherever a run comes there.
-use Rattle.std.proofs.Common.{◌≡◌, ◌≢◌, ℕ, zero, suc, ℤ, pos, ◌+◌, ◌^◌, ◌<◌, Bool, true, false, cond, not, ◌||◌, ◌&&◌, eqb, List, ◌∷◌, length, set, drop, Option, Some, None, refl, sym, ap, ap₂, ◌∙◌, subst, ⊎_elim, arith}
+use Rattle.std.proofs.Common.{◌≡◌, ◌≢◌, ℕ, zero, suc, ℤ, pos, ◌+◌, ◌^◌, ◌<◌, Bool, true, false, cond, not, ◌||◌, ◌&&◌, eqb, List, ◌∷◌, length, set, drop, Option, Some, None, refl, sym, ap, ap₂, ◌∙◌, subst, arith}
 use Rattle.std.specs.Prelude.{◌+ℤ◌, slice_get, unwrap_or}
-use Rattle.std.proofs.Math.Nat.{mod-eq_of_lt}
-use Rattle.std.proofs.lemmas.Int.{ints}
-use Rattle.std.proofs.lemmas.Bool.{cond_both, cases_eq, eq-eqb, eqb-true, and_parts}
+use Rattle.std.proofs.lemmas.Bool.{cond_both, eq-eqb, eqb-true, and_parts}
 use Rattle.std.proofs.lemmas.List.{get_or-set_same, get_or-set_other}
 use Rattle.std.proofs.lemmas.Option.{unwrap_or-slice_get}
 use Rattle.alu.specs.Value.{wrapped, value, condition}
@@ -20,10 +18,12 @@ use Rattle.insn.specs.declared.Insn.{Insn}
 use Rattle.insn.specs.declared.Insn.TheVariants as insn
 use Rattle.memory.specs.State.{Calls, State, number_in, operand_in, with_register, jumped, advanced, Row as Does}
 use Rattle.bpfimage.specs.Form.{landing, target_of}
-use Rattle.verifier.specs.Sums.{is_operand, has_register, without, copied, is_zero, is_copy, added, sum_of_op, sum_after, is_slot, target_at, leads_before, sum_next, sum_at}
+use Rattle.value_names.specs.Led.{leads_before}
+use Rattle.value_names.proofs.Modular.{moved}
+use Rattle.value_names.proofs.Slots.{number_small, leads, slot_on, two_on}
+use Rattle.verifier.specs.Sums.{is_operand, has_register, without, copied, is_zero, is_copy, added, sum_of_op, sum_after, sum_next, sum_at}
 use Rattle.verifier.specs.declared.sum.Sum.{Sum}
 use Rattle.verifier.proofs.Words.{wrapped_below, wrapped_small}
-use Rattle.verifier.proofs.StackCells.{number_small}
 use Rattle.verifier.proofs.SumSteps.{Holds, whole_sum}
 use Rattle.verifier.proofs.Classes.{or_left, or_right}
 
@@ -42,9 +42,6 @@ plus_none n = omega arith
 -- the sum of a number and zero, and the number that is moved
 with_zero : (n : ℕ) → n < 2 ^ 64 → value op.Add W64 n (wrapped 64 (pos 0)) ≡ n
 with_zero n lt = ap (value op.Add W64 n) (wrapped_small 64 0 (omega arith)) ∙ whole_sum n 0 (omega (arith, lt)) ∙ plus_none n
-
-pub moved : (m n : ℕ) → n < 2 ^ 64 → value op.Mov W64 m n ≡ n
-moved m n lt = ap (λ x. wrapped 64 (pos x)) (mod-eq_of_lt {m = 2 ^ 64} lt) ∙ wrapped_small 64 n lt
 
 zero_is : (o : Operand) → is_zero o ≡ true → o ≡ operand.Immediate (pos 0)
 zero_is (operand.Immediate (pos zero)) h = refl
@@ -145,22 +142,6 @@ same_holds (Some sum) s t e h = subst (λ rs. Holds (Some sum) (record s { regis
 
 -- ---- slots
 
-or_true : (a b : Bool) → a ≡ true → (a || b) ≡ true
-or_true true b h = refl
-or_true false b h = cc
-
-or_either : (a b : Bool) → b ≡ true → (a || b) ≡ true
-or_either true b h = refl
-or_either false b h = h
-
-pub leads : (code : List Insn) (n i k : ℕ) (x : Insn) → i < n → slice_get code i ≡ Some x → target_of i x ≡ Some (pos k) → leads_before code n k ≡ true
-leads code zero i k x lt at to = absurd (omega arith)
-leads code (suc n) i k x lt at to =
-    ⊎_elim
-    (λ same. or_true (is_slot k (target_at n (slice_get code n))) _ (subst (λ j. is_slot k (target_at j (slice_get code j)) ≡ true) same (ap (λ o. is_slot k (target_at i o)) at ∙ ap (is_slot k) to ∙ eq-eqb k k refl)))
-    (λ other. or_either (is_slot k (target_at n (slice_get code n))) _ (leads code n i k x (omega (arith, lt, other)) at to))
-    (cases_eq i n)
-
 -- where a jump leads no sum is known
 led_to : (code : List Insn) (i k : ℕ) (x : Insn) (t : State) → i < k → slice_get code i ≡ Some x → target_of i x ≡ Some (pos k) → Holds (sum_at code k) t
 led_to code i zero x t lt at to = tt
@@ -171,12 +152,6 @@ next_holds : (code : List Insn) (i k : ℕ) (x : Insn) (t : State) → k ≡ suc
 next_holds code i k x t e at h =
     subst (λ n. Holds (sum_at code n) t) (sym e)
     (cond_both (leads_before code (suc i) (suc i)) None (sum_next (slice_get code i) (sum_at code i)) (λ q. Holds q t) (λ _. tt) (λ _. subst (λ o. Holds (sum_next o (sum_at code i)) t) (sym at) h))
-
-pub slot_on : (z : ℤ) (i k : ℕ) → z ≡ pos i → (z +ℤ pos 1) ≡ pos k → k ≡ suc i
-slot_on z i k e f = let h : (pos i +ℤ pos 1) ≡ pos k = ap (λ y. y +ℤ pos 1) (sym e) ∙ f in omega (arith, ints, h)
-
-pub two_on : (z : ℤ) (i k : ℕ) → z ≡ pos i → (z +ℤ pos 1 +ℤ pos 1) ≡ pos k → k ≡ suc (suc i)
-two_on z i k e f = let h : (pos i +ℤ pos 1 +ℤ pos 1) ≡ pos k = ap (λ y. y +ℤ pos 1 +ℤ pos 1) (sym e) ∙ f in omega (arith, ints, h)
 
 module _ (calls : Calls) (code : List Insn) (s : State) (i : ℕ) (at : s.slot ≡ pos i) (eleven : length s.registers ≡ 11) (words : (r : Register) → number_in s r < 2 ^ 64) (holds : Holds (sum_at code i) s) (after_wide : (dst : Register) (n : ℕ) → slice_get code i ≡ Some (insn.Wide dst n) → slice_get code (i + 1) ≡ Some insn.Tail) where
   -- a state that has gone on to the next slot

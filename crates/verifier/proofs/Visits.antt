@@ -10,6 +10,7 @@ use Rattle.std.proofs.lemmas.Option.{slice_get_past}
 use Rattle.std.proofs.Common.{⊎_elim}
 use Rattle.insn.specs.declared.Insn.{Insn}
 use Rattle.bpfimage.specs.Form.{IsFormed}
+use Rattle.value_names.specs.Names.{Names, names_at}
 use Rattle.verifier.specs.Program.{Program}
 use Rattle.verifier.specs.Registers.{Row}
 use Rattle.helpers.specs.Calls.{Callee}
@@ -21,7 +22,8 @@ use Rattle.verifier.specs.Rules.{callee_in, broken_in, row_taken}
 use Rattle.verifier.specs.Sums.{sum_at, row_on}
 use Rattle.verifier.specs.declared.sum.Sum.{Sum}
 use Rattle.verifier.specs.Rows.{row_at, pushed, Misses, IsPass}
-use Rattle.verifier.specs.Table.{Edge, joined, next_edge, target_edge, edges_from, edges_of, table, broken_with, broken_at, IsAccepted}
+use Rattle.verifier.specs.Naming.{named}
+use Rattle.verifier.specs.Table.{Edge, joined, next_edge, target_edge, named_edges, edges_of, table, broken_with, broken_at, IsAccepted}
 use Rattle.verifier.specs.declared.rule.KindRule.{KindRule}
 use Rattle.verifier.proofs.Tables.{row_here, row_there, length_pushed, pass_all, pass_alone, pass_taken}
 
@@ -64,13 +66,18 @@ module _ (p : Program) (rows : List (Option Row)) (i : ℕ) (within : i < length
         ∙ ap (λ o. pairs_next p (Some x) sum o pairs) (sym (row_here p rows (Some row) i pass within))
         ∙ ap (λ o. pairs_next p o sum (slice_get (table p) i) pairs) (sym at)
 
-    edges_here : edges_from p.profile (callee_in p.sigs x) (sum_at p.code i) i row x ≡ edges_of p i (slice_get p.code i) (slice_get (table p) i)
+    edges_here : named_edges p.profile (callee_in p.sigs x) (sum_at p.code i) (names_at p.code i) i row x ≡ edges_of p i (slice_get p.code i) (slice_get (table p) i)
     edges_here = ap (λ r. edges_of p i (Some x) r) (sym (row_here p rows (Some row) i pass within)) ∙ ap (λ o. edges_of p i o (slice_get (table p) i)) (sym at)
 
     -- its edges, of which the first is that of the next slot
-    module _ (callee : Callee) (sum : Option Sum) (after : Row) (fs : List Edge) (called : callee ≡ callee_in p.sigs x) (summed : sum ≡ sum_at p.code i) (goes : after ≡ row_on p.profile callee sum row x) (takes : fs ≡ target_edge (target_of i x) (row_taken p.profile row x)) where
-      edges_are : next_edge (next_of i x) after ++ fs ≡ edges_from p.profile (callee_in p.sigs x) (sum_at p.code i) i row x
-      edges_are = ap (λ r. next_edge (next_of i x) r ++ fs) goes ∙ ap (λ es. next_edge (next_of i x) (row_on p.profile callee sum row x) ++ es) takes ∙ ap (λ y. edges_from p.profile y sum i row x) called ∙ ap (λ y. edges_from p.profile (callee_in p.sigs x) y i row x) summed
+    module _ (callee : Callee) (sum : Option Sum) (names : Names) (after : Row) (fs : List Edge) (called : callee ≡ callee_in p.sigs x) (summed : sum ≡ sum_at p.code i) (given : names ≡ names_at p.code i) (goes : after ≡ named x p.profile names (row_on p.profile callee sum row x)) (takes : fs ≡ target_edge (target_of i x) (named x p.profile names (row_taken p.profile row x))) where
+      edges_are : next_edge (next_of i x) after ++ fs ≡ named_edges p.profile (callee_in p.sigs x) (sum_at p.code i) (names_at p.code i) i row x
+      edges_are =
+          ap (λ r. next_edge (next_of i x) r ++ fs) goes
+          ∙ ap (λ es. next_edge (next_of i x) (named x p.profile names (row_on p.profile callee sum row x)) ++ es) takes
+          ∙ ap (λ y. named_edges p.profile y sum names i row x) called
+          ∙ ap (λ y. named_edges p.profile (callee_in p.sigs x) y names i row x) summed
+          ∙ ap (λ y. named_edges p.profile (callee_in p.sigs x) (sum_at p.code i) y i row x) given
 
       pub all_here : (rows' : List (Option Row)) → rows' ≡ pushed p.profile rows (next_edge (next_of i x) after ++ fs) → IsPass p rows' (row_at rows' (i + 1)) (i + 1)
       all_here rows' are =

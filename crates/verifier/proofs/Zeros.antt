@@ -24,7 +24,8 @@ use Rattle.verifier.specs.Answered.{answer_kind, row_after_call}
 use Rattle.verifier.specs.Rules.{row_after, row_taken, refined}
 use Rattle.verifier.specs.Table.{join_rows}
 use Rattle.verifier.specs.Rows.{StartsZero, IsKnown, HasKinds, AreRowKinds}
-use Rattle.verifier.proofs.StackCells.{number_small, put_first, first_row}
+use Rattle.value_names.proofs.Slots.{number_small}
+use Rattle.verifier.proofs.StackCells.{put_first, first_row}
 use Rattle.verifier.proofs.CellSteps.{part_is}
 use Rattle.verifier.proofs.Parts.{offset_few}
 

@@ -8,6 +8,7 @@ pub mod Cells
 pub mod Answered
 pub mod Rules
 pub mod Sums
+pub mod Naming
 pub mod PairSteps
 pub mod Table
 pub mod Rows

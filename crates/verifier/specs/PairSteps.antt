@@ -18,7 +18,8 @@ use Rattle.verifier.specs.Program.{Program}
 use Rattle.verifier.specs.Registers.{Row, kind_at, kind_from}
 use Rattle.verifier.specs.Rules.{callee_in}
 use Rattle.verifier.specs.Pairs.{no_pairs, is_in}
-use Rattle.verifier.specs.Sums.{is_operand, leads_before, sum_at, most, row_on}
+use Rattle.value_names.specs.Led.{leads_before}
+use Rattle.verifier.specs.Sums.{is_operand, sum_at, most, row_on}
 use Rattle.verifier.specs.declared.sum.Sum.{Sum}
 use Rattle.verifier.specs.declared.pair.Pair.{Pair}
 use Rattle.verifier.specs.declared.pair.Pairs.{Pairs}

@@ -1,6 +1,6 @@
 -- What is known of one register beside its kind: that it holds the sum of a register and an operand (this store's profiles). It is known by
 -- the code alone, from a move or an addition on, as long as no jump leads there and none of its registers is written.
-use Rattle.std.specs.Prelude.{ℕ, zero, suc, ◌-◌, ◌^◌, ◌==◌, ℤ, pos, negsuc, nat_le, int_lt, Bool, true, false, not, ◌||◌, ◌&&◌, if◌then◌else◌, Option, None, Some, List, slice_get}
+use Rattle.std.specs.Prelude.{ℕ, zero, suc, ◌-◌, ◌^◌, ◌==◌, pos, nat_le, int_lt, Bool, true, false, not, ◌||◌, ◌&&◌, if◌then◌else◌, Option, None, Some, List, slice_get}
 use Rattle.alu.specs.declared.Op.{Op}
 use Rattle.alu.specs.declared.Op.TheVariants.{Mov, Add}
 use Rattle.alu.specs.declared.Cond.TheVariants.{LessEqual}
@@ -12,12 +12,12 @@ use Rattle.insn.specs.declared.Operand.{Operand}
 use Rattle.insn.specs.declared.Operand.TheVariants as operand
 use Rattle.insn.specs.declared.Insn.{Insn}
 use Rattle.insn.specs.declared.Insn.TheVariants as insn
-use Rattle.bpfimage.specs.Form.{target_of}
 use Rattle.memory.specs.declared.profile.Profile.{Profile}
 use Rattle.memory.specs.declared.profile.Profile.TheVariants.{Second}
 use Rattle.ranges.specs.declared.kind.Kind.{Kind}
 use Rattle.ranges.specs.declared.kind.Kind.TheVariants.{Num, Ptr}
 use Rattle.ranges.specs.Transfer.{address, refine_of}
+use Rattle.value_names.specs.Led.{leads_before}
 use Rattle.helpers.specs.Calls.{Callee}
 use Rattle.verifier.specs.Registers.{Row, kind_at, with_kind, one_number, kind_from}
 use Rattle.verifier.specs.Rules.{row_after}
@@ -70,20 +70,6 @@ sum_after (insn.Load size extend dst base offset) sum = without dst sum
 sum_after (insn.Store size base offset src) sum = sum
 sum_after (insn.JumpIf c w left right offset) sum = sum
 sum_after other sum = None
-
--- whether a jump of one of the first n slots leads to slot k
-abbrev pub is_slot : ℕ → Option ℤ → Bool
-is_slot k None = false
-is_slot k (Some (pos n)) = n == k
-is_slot k (Some (negsuc n)) = false
-
-abbrev pub target_at : ℕ → Option Insn → Option ℤ
-target_at i None = None
-target_at i (Some x) = target_of i x
-
-abbrev pub leads_before : List Insn → ℕ → ℕ → Bool
-leads_before code zero k = false
-leads_before code (suc n) k = is_slot k (target_at n (slice_get code n)) || leads_before code n k
 
 abbrev pub sum_next : Option Insn → Option Sum → Option Sum
 sum_next None sum = None

@@ -5,12 +5,14 @@ use Rattle.bpfimage.specs.Form.{next_of, target_of, IsFormed}
 use Rattle.ranges.specs.Kinds.{IsKind}
 use Rattle.ranges.specs.Transfer.{join_of}
 use Rattle.memory.specs.declared.profile.Profile.{Profile}
+use Rattle.value_names.specs.Names.{Names, names_at}
 use Rattle.ranges.specs.declared.kind.Kind.TheVariants.{Unset}
 use Rattle.verifier.specs.Program.{Program}
 use Rattle.verifier.specs.Registers.{Row, entry}
 use Rattle.helpers.specs.Calls.{Callee}
 use Rattle.verifier.specs.Rules.{callee_in, row_taken, broken_in}
 use Rattle.verifier.specs.Sums.{sum_at, row_on}
+use Rattle.verifier.specs.Naming.{named}
 use Rattle.verifier.specs.PairSteps.{pairs_at}
 use Rattle.verifier.specs.declared.sum.Sum.{Sum}
 use Rattle.verifier.specs.declared.pair.Pairs.{Pairs}
@@ -37,6 +39,11 @@ abbrev pub edges_from : Profile → Callee → Option Sum → ℕ → Row → In
 edges_from profile callee sum i row x =
     next_edge (next_of i x) (row_on profile callee sum row x) ++ target_edge (target_of i x) (row_taken profile row x)
 
+-- and with what the names before it tell, on both ways
+abbrev pub named_edges : Profile → Callee → Option Sum → Names → ℕ → Row → Insn → List Edge
+named_edges profile callee sum names i row x =
+    next_edge (next_of i x) (named x profile names (row_on profile callee sum row x)) ++ target_edge (target_of i x) (named x profile names (row_taken profile row x))
+
 -- ---- joins
 
 abbrev pub join_rows : Profile → Row → Row → Row
@@ -57,7 +64,7 @@ into profile k (e ∷ es) before = into profile k es (if e.0 == k then joined pr
 
 -- the edges of slot i, if some row of kinds reaches it
 abbrev pub edges_of : Program → ℕ → Option Insn → Option (Option Row) → List Edge
-edges_of p i (Some x) (Some (Some row)) = edges_from p.profile (callee_in p.sigs x) (sum_at p.code i) i row x
+edges_of p i (Some x) (Some (Some row)) = named_edges p.profile (callee_in p.sigs x) (sum_at p.code i) (names_at p.code i) i row x
 edges_of p i x row = []
 
 -- the join over all edges into slot k from the first n slots of a table; slot 0 has the entry too

@@ -3,6 +3,7 @@
 ghost use Rattle.std.specs.Prelude.{◌≡◌, ◌<◌, ◌≤◌, ◌+◌, ◌++◌, ℕ, ℤ, IfOk, true, false, pos, Some, None, length, slice_set};
 ghost use Rattle.bpfimage.specs.Form.{next_of, target_of};
 ghost use Rattle.verifier.specs.Rules.{row_taken};
+ghost use Rattle.verifier.specs.Naming.{named};
 ghost use Rattle.verifier.specs.Table.{join_rows, joined, next_edge, target_edge, AreKinds};
 ghost use Rattle.verifier.specs.Registers.{one_number};
 ghost use Rattle.ranges.specs.Kinds.{IsKind};
@@ -12,11 +13,13 @@ ghost use Rattle.verifier.specs.Waiting.{waiting, AreOwned, IsPool};
 ghost use Rattle.memory.specs.declared.profile.Profile.{Profile};
 
 use crate::kinds::{one_number, write_taken};
+use crate::naming::tell_named;
 use crate::waiting::Waiting;
 use bpfimage::form::{next_of, target_of};
 use insn::Insn;
 use ranges::{Kind, Profile, join};
 use std::alloc::AllocError;
+use value_names::Name;
 
 /// Joins a kind into one that was there before. Two that are the zero with which a cell of the stack begins, as most cells do, are
 /// joined without more ado.
@@ -184,6 +187,26 @@ pub fn taken_edge<const N: usize>(
         }
         None => None,
     }
+}
+
+/// The edge of a jump: where it leads. The kinds that it brings there, with what names tell of them, are written over a row.
+pub fn named_edge<const N: usize>(
+    profile: Profile,
+    at: usize,
+    row: &[Kind; N],
+    insn: Insn,
+    names: &[Name; 11],
+    taken: &mut [Kind; N],
+) -> Option<usize>
+    requires small { at < 4096 }
+    requires ahead { (z : ℤ) → target_of at insn ≡ Some z → (k : ℕ) × (z ≡ pos k) }
+    requires kinds { AreKinds row.now }
+    ensures edge { edge_list result taken.new ≡ target_edge (target_of at insn) (named insn profile names.now (row_taken profile row.now insn)) }
+    ensures known { (low : ℕ) → IsKnown profile low row.now → HaveKinds profile low (edge_list result taken.new) }
+{
+    let target = taken_edge(profile, at, row, insn, taken)?;
+    tell_named(insn, profile, names, taken);
+    Some(target)
 }
 
 /// Joins a jump's edge, if there is one, into what waits for its target.

@@ -7,6 +7,7 @@ mod cell_part;
 mod cells;
 mod edges;
 mod kinds;
+mod naming;
 mod pair;
 mod pairs;
 mod pieces;
@@ -21,14 +22,15 @@ pub mod verifying;
 mod waiting;
 mod windows;
 
-// What the pass does at one slot: the rules on its instruction, the kinds after it, those that its jump takes along, and the sum and the
-// pairs that are known there.
+// What the pass does at one slot: the rules on its instruction, the kinds after it, those that its jump takes along, and the sum, the names
+// and the pairs that are known there.
 pub use bpfimage::{FormRule, Image, ImageFault, ImageKind, raw_image, read_image};
 pub use callee::{Called, callee_in};
 pub use candidate::Candidate;
 pub use cells::{is_touched, span_given, span_of};
-pub use edges::taken_edge;
+pub use edges::{named_edge, taken_edge};
 pub use kinds::kind_of;
+pub use naming::tell_named;
 pub use pair::{Pair, Pairs};
 pub use pairs::{no_pairs, pairs_here, pairs_over, pairs_told};
 pub use rule::{KindRule, Refused, Rule};

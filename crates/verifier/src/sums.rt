@@ -1,6 +1,6 @@
-//! Which sum is known at a slot, and what it tells of its numbers.
+//! Which sum is known at a slot, and what it tells of its numbers; and the names of the registers there.
 
-ghost use Rattle.std.specs.Prelude.{◌≡◌, ◌<◌, ◌+◌, ◌||◌, true, ℕ, Bool, IfOk, Some, List, slice_get, length, vec_len};
+ghost use Rattle.std.specs.Prelude.{◌≡◌, ◌<◌, ◌+◌, ◌||◌, true, ℕ, Bool, if◌then◌else◌, IfOk, Some, None, List, slice_get, length, vec_len};
 ghost use Rattle.insn.specs.declared.Insn.{Insn};
 ghost use Rattle.alu.specs.declared.Cond.TheVariants.{LessEqual};
 ghost use Rattle.alu.specs.declared.Width.TheVariants.{W64};
@@ -9,7 +9,8 @@ ghost use Rattle.ranges.specs.Kinds.{IsKind};
 ghost use Rattle.ranges.specs.Transfer.{refine_of};
 ghost use Rattle.verifier.specs.Registers.{one_number};
 ghost use Rattle.verifier.specs.Table.{AreKinds};
-ghost use Rattle.verifier.specs.Sums.{is_slot, is_operand, has_register, without, copied, is_copy, added, sum_of_op, sum_after, least, most, at_most, register_at_most, operand_at_most, told_by, told};
+ghost use Rattle.value_names.specs.Led.{is_slot};
+ghost use Rattle.verifier.specs.Sums.{is_operand, has_register, without, copied, is_copy, added, sum_of_op, sum_after, least, most, at_most, register_at_most, operand_at_most, told_by, told};
 ghost use Rattle.verifier.specs.Known.{AreSums};
 
 use crate::candidate::Candidate;
@@ -20,6 +21,7 @@ use bpfimage::form::target_of;
 use insn::{Insn, Operand, Register};
 use ranges::{Kind, Profile, refine};
 use std::alloc::{AllocError, Global};
+use value_names::{Name, go_on, new_names};
 
 /// Whether a register is an operand.
 pub fn is_operand(register: Register, operand: Operand) -> bool
@@ -133,6 +135,13 @@ fn sum_after(insn: Insn, sum: Option<Sum>) -> Option<Sum>
     }
 }
 
+/// The sum that is known at the next slot: none where a jump leads there.
+fn sum_on(is_led: bool, insn: Insn, sum: Option<Sum>) -> Option<Sum>
+    ensures { result ≡ if is_led then None else sum_after insn sum }
+{
+    if is_led { None } else { sum_after(insn, sum) }
+}
+
 /// Notes where a jump leads, if there is one.
 fn note(led: &mut Vec<bool>, target: Option<i64>)
     ensures long { vec_len led.new ≡ vec_len led.old }
@@ -145,11 +154,12 @@ fn note(led: &mut Vec<bool>, target: Option<i64>)
     }
 }
 
-/// The sum that is known at a slot, and to which slots jumps lead from before it.
+/// The sum that is known at a slot, the names of the registers there, and to which slots jumps lead from before it.
 #[derive(Drop)]
 pub struct Sums {
     pub led: Vec<bool>,
-    pub now: Option<Sum>,
+    pub sum: Option<Sum>,
+    pub names: [Name; 11],
 }
 
 impl Sums {
@@ -158,7 +168,11 @@ impl Sums {
         ensures { IfOk result (λ sums. (code : List Insn) → AreSums code slots 0 sums) }
     {
         let led = vec![in alloc; false; slots]?;
-        Ok(Sums { led, now: None })
+        Ok(Sums {
+            led,
+            sum: None,
+            names: new_names(0),
+        })
     }
 
     /// Goes on to the next slot.
@@ -169,11 +183,9 @@ impl Sums {
     {
         let insn = program.image.code[at];
         note(&mut self.led, target_of(at, insn));
-        self.now = if self.led[at + 1] {
-            None
-        } else {
-            sum_after(insn, self.now)
-        };
+        let is_led = self.led[at + 1];
+        self.sum = sum_on(is_led, insn, self.sum);
+        go_on(at as u32 + 1, insn, is_led, &mut self.names);
     }
 }
 

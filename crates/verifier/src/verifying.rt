@@ -6,6 +6,7 @@ ghost use Rattle.bpfimage.specs.Form.{IsFormed};
 ghost use Rattle.verifier.specs.Program.{program_of, IsSafeProgram};
 ghost use Rattle.verifier.specs.Candidates.{program_in};
 ghost use Rattle.verifier.specs.Registers.{cell_count, entry};
+ghost use Rattle.value_names.specs.Names.{names_at};
 ghost use Rattle.verifier.specs.Sums.{sum_at};
 ghost use Rattle.verifier.specs.PairSteps.{pairs_next, pairs_at};
 ghost use Rattle.verifier.specs.Table.{IsAccepted, IsFirstRule, AreKinds, broken_at, table};
@@ -18,14 +19,14 @@ ghost use Rattle.verifier.specs.Plain.{IsPlain, IsWellBehaved};
 use crate::callee::callee_in;
 use crate::candidate::Candidate;
 use crate::cells::{lowered, span_written};
-use crate::edges::{lead_on, take_waiting, taken_edge};
+use crate::edges::{lead_on, named_edge, take_waiting};
 use crate::kinds::one_number;
+use crate::naming::tell_named;
 use crate::pair::Pairs;
 use crate::pairs::{no_pairs, pairs_here, pairs_over, pairs_told};
 use crate::rule::{KindRule, Refused, Rule};
 use crate::rules::advance;
 use crate::slots::lower_slot;
-use crate::sum::Sum;
 use crate::sums::{Sums, tell};
 use crate::verified::Verified;
 use crate::waiting::Waiting;
@@ -87,7 +88,7 @@ fn visit<const N: usize>(
     at: usize,
     rows: &mut Waiting<N>,
     here: &mut Option<[Kind; N]>,
-    sum: Option<Sum>,
+    sums: &Sums,
     pairs: &mut Pairs,
     taken: &mut [Kind; N],
 ) -> Result<(), Refused>
@@ -97,7 +98,8 @@ fn visit<const N: usize>(
     requires before { (k : ℕ) → k < at → broken_at (program_in program.now) k ≡ None }
     requires within { at < length program.now.image.code.items }
     requires pass { IsPass (program_in program.now) (waiting rows.old) here.old at }
-    requires sum { sum ≡ sum_at program.now.image.code.items at }
+    requires sum { sums.now.sum ≡ sum_at program.now.image.code.items at }
+    requires names { sums.now.names ≡ names_at program.now.image.code.items at }
     requires pairs { pairs.old ≡ pairs_at (program_in program.now) (table (program_in program.now)) at }
     requires pool { IsPool program.now.image.profile rows.old }
     requires here { HasKinds program.now.image.profile rows.old.low here.old }
@@ -106,7 +108,7 @@ fn visit<const N: usize>(
     ensures pass { IfOk result (λ _. IsPass (program_in program.now) (waiting rows.new) here.new (at + 1)) }
     ensures pool { IfOk result (λ _. IsPool program.now.image.profile rows.new) }
     ensures here { IfOk result (λ _. HasKinds program.now.image.profile rows.new.low here.new) }
-    ensures pairs { IfOk result (λ _. pairs.new ≡ pairs_next (program_in program.now) (slice_get program.now.image.code.items at) sum (slice_get (table (program_in program.now)) at) pairs.old) }
+    ensures pairs { IfOk result (λ _. pairs.new ≡ pairs_next (program_in program.now) (slice_get program.now.image.code.items at) sums.now.sum (slice_get (table (program_in program.now)) at) pairs.old) }
 {
     let Some(row) = here else {
         *pairs = no_pairs();
@@ -117,7 +119,7 @@ fn visit<const N: usize>(
     let callee = callee_in(&program.sigs, insn);
     let profile = program.image.profile;
     rows.low = lowered(rows.low, span_written(&callee, row, insn));
-    let target = taken_edge(profile, at, row, insn, taken);
+    let target = named_edge(profile, at, row, insn, &sums.names, taken);
     let over = pairs_over(insn, row, *pairs);
     if let Some(rule) = advance(program, &callee, *pairs, row, insn) {
         return Err(Refused {
@@ -125,8 +127,9 @@ fn visit<const N: usize>(
             slot: at as u32,
         });
     }
-    tell(insn, profile, sum, row);
-    *pairs = pairs_told(insn, profile, sum, row, over);
+    tell(insn, profile, sums.sum, row);
+    *pairs = pairs_told(insn, profile, sums.sum, row, over);
+    tell_named(insn, profile, &sums.names, row);
     let Ok(on) = lead_on(profile, rows, at, row, insn, target, taken) else {
         return Err(no_memory());
     };
@@ -164,7 +167,7 @@ fn check_rows<const N: usize>(alloc: Global, program: &Candidate) -> Result<Vec<
     for at in 0..slots {
         lows[at] = lower_slot(program, at, &here);
         visit(
-            program, at, &mut rows, &mut here, sums.now, &mut pairs, &mut taken,
+            program, at, &mut rows, &mut here, &sums, &mut pairs, &mut taken,
         )?;
         sums.advance(program, at);
         pairs = pairs_here(&sums.led, at + 1, pairs);
@@ -214,7 +217,7 @@ fn known_before<const N: usize>(
     let mut pairs = no_pairs();
     for at in 0..slot {
         visit(
-            program, at, &mut rows, &mut here, sums.now, &mut pairs, &mut taken,
+            program, at, &mut rows, &mut here, &sums, &mut pairs, &mut taken,
         )?;
         sums.advance(program, at);
         pairs = pairs_here(&sums.led, at + 1, pairs);

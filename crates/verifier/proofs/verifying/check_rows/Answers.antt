@@ -1,14 +1,13 @@
-use Rattle.std.proofs.Common.{◌+◌, ◌<◌, ◌≤◌, length, Some, refl, ap, sym, ◌∙◌, subst, ⊎_elim, arith}
+use Rattle.std.proofs.Common.{◌≡◌, ◌+◌, ◌<◌, ◌≤◌, length, Some, None, refl, ap, sym, ◌∙◌, subst, arith}
 use Rattle.std.specs.Prelude.{slice_get}
-use Rattle.std.proofs.lemmas.Bool.{cases_eq}
 use Rattle.verifier.specs.Candidates.{program_in}
-use Rattle.verifier.specs.Sums.{leads_before}
+use Rattle.value_names.specs.Led.{leads_before}
 use Rattle.verifier.specs.Table.{table, broken_at}
 use Rattle.verifier.specs.Rows.{IsKnown, AreRowKinds, IsPass}
 use Rattle.verifier.specs.Waiting.{waiting}
 use Rattle.verifier.specs.Known.{AreSums}
 use Rattle.verifier.proofs.Tables.{pass_first, none_kinds}
-use Rattle.verifier.proofs.Noted.{pairs_on}
+use Rattle.verifier.proofs.Noted.{pairs_on, one_more}
 use Rattle.verifier.proofs.Visits.{all_visited}
 use Rattle.verifier.proofs.Lowering.{slots_and, slot_here}
 use Rattle.verifier.proofs.verifying.check_rows.Goals as goal
@@ -44,14 +43,14 @@ loop-at-preserved g c = record {
       let p = program_in c.args.program.now in
       let next = c.loop-at.at + 1 in
       let led = c.advance.ensures.led next (omega (arith, c.loop-at-test.true, c.len-slots.ensures, c.args.program.now.image.code.ok.0)) in
-      pairs_on p (table p) c.loop-at.at (leads_before p.code next next) c.loop-at.sums.now c.loop-at.pairs _ _ refl c.loop-at.invariant.sums.now c.loop-at.invariant.pairs c.in_ok-visit.ensures.pairs (c.pairs_here-pairs.ensures (leads_before p.code next next) (ap (λ xs. slice_get xs next) c.deref.ensures.value ∙ led));
+      pairs_on p (table p) c.loop-at.at (leads_before p.code next next) c.loop-at.sums.sum c.loop-at.pairs _ _ refl c.loop-at.invariant.sums.sum c.loop-at.invariant.pairs c.in_ok-visit.ensures.pairs (c.pairs_here-pairs.ensures (leads_before p.code next next) (ap (λ xs. slice_get xs next) c.deref.ensures.value ∙ led));
   here = c.in_ok-visit.ensures.here;
   lows =
       let p = program_in c.args.program.now in
       let within : c.loop-at.at < length p.code = omega (arith, c.len-slots.ensures, c.args.program.now.image.code.ok.0, c.loop-at-test.true) in
       slots_and p c.loop-at.lows.items c.loop-at.at c.lower_slot.result within c.loop-at.invariant.lows
       (slot_here p (waiting c.loop-at.rows) c.loop-at.here c.loop-at.at c.lower_slot.result c.loop-at.invariant.pass within c.lower_slot.ensures.lowered c.lower_slot.ensures.names);
-  unbroken = λ k lt. ⊎_elim (λ same. ap (broken_at (program_in c.args.program.now)) same ∙ c.in_ok-visit.ensures.unbroken) (λ other. c.loop-at.invariant.unbroken k (omega arith)) (cases_eq k c.loop-at.at);
+  unbroken = one_more (λ k. broken_at (program_in c.args.program.now) k ≡ None) c.loop-at.at c.loop-at.invariant.unbroken c.in_ok-visit.ensures.unbroken;
 }
 
 pub returns-clause-ok : goal.returns-clause-ok

@@ -1,14 +1,13 @@
-use Rattle.std.proofs.Common.{◌+◌, ◌≤◌, Some, refl, ap, sym, ◌∙◌, subst, ⊎_elim, arith}
+use Rattle.std.proofs.Common.{◌≡◌, ◌+◌, ◌≤◌, Some, None, refl, ap, sym, ◌∙◌, subst, arith}
 use Rattle.std.specs.Prelude.{slice_get}
-use Rattle.std.proofs.lemmas.Bool.{cases_eq}
 use Rattle.verifier.specs.Candidates.{program_in}
-use Rattle.verifier.specs.Sums.{leads_before}
+use Rattle.value_names.specs.Led.{leads_before}
 use Rattle.verifier.specs.Table.{table, broken_at}
 use Rattle.verifier.specs.Rows.{IsKnown, AreRowKinds, IsPass}
 use Rattle.verifier.specs.Waiting.{waiting}
 use Rattle.verifier.specs.Known.{AreSums}
 use Rattle.verifier.proofs.Tables.{pass_first, none_kinds, known_here}
-use Rattle.verifier.proofs.Noted.{pairs_on}
+use Rattle.verifier.proofs.Noted.{pairs_on, one_more}
 use Rattle.verifier.proofs.verifying.known_before.Goals as goal
 
 pub loop-at-init : goal.loop-at-init
@@ -41,9 +40,9 @@ loop-at-preserved g c = record {
       let p = program_in c.args.program.now in
       let next = c.loop-at.at + 1 in
       let led = c.advance.ensures.led next (omega (arith, c.loop-at-test.true, c.len-slots.ensures, c.args.program.now.image.code.ok.0)) in
-      pairs_on p (table p) c.loop-at.at (leads_before p.code next next) c.loop-at.sums.now c.loop-at.pairs _ _ refl c.loop-at.invariant.sums.now c.loop-at.invariant.pairs c.in_ok-visit.ensures.pairs (c.pairs_here-pairs.ensures (leads_before p.code next next) (ap (λ xs. slice_get xs next) c.deref.ensures.value ∙ led));
+      pairs_on p (table p) c.loop-at.at (leads_before p.code next next) c.loop-at.sums.sum c.loop-at.pairs _ _ refl c.loop-at.invariant.sums.sum c.loop-at.invariant.pairs c.in_ok-visit.ensures.pairs (c.pairs_here-pairs.ensures (leads_before p.code next next) (ap (λ xs. slice_get xs next) c.deref.ensures.value ∙ led));
   here = c.in_ok-visit.ensures.here;
-  unbroken = λ k lt. ⊎_elim (λ same. ap (broken_at (program_in c.args.program.now)) same ∙ c.in_ok-visit.ensures.unbroken) (λ other. c.loop-at.invariant.unbroken k (omega arith)) (cases_eq k c.loop-at.at);
+  unbroken = one_more (λ k. broken_at (program_in c.args.program.now) k ≡ None) c.loop-at.at c.loop-at.invariant.unbroken c.in_ok-visit.ensures.unbroken;
 }
 
 pub returns-clause-row : goal.returns-clause-row

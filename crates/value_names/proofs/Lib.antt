@@ -1,0 +1,4 @@
+pub mod Modular
+pub mod Slots
+pub mod NamedRuns
+mod Worked

@@ -1,0 +1,126 @@
+//! Which registers are known to hold copies of one value, and how far they are apart.
+
+ghost use Rattle.std.specs.Prelude.{◌≡◌, ◌≤◌, slice_set};
+ghost use Rattle.insn.specs.Encoding.{number};
+ghost use Rattle.value_names.specs.Names.{name_at, new_names, moved_by, name_of_op, names_after, names_on, distance_from, are_alike};
+
+use crate::name::{Name, new_name};
+use alu::{Op, Width, eval};
+use insn::{Insn, Operand, Register};
+
+/// The name of a register.
+fn name_at(names: &[Name; 11], register: Register) -> Name
+    ensures { result ≡ name_at names.now register }
+{
+    names[register.number() as usize]
+}
+
+/// The names before a slot to which a jump leads.
+pub fn new_names(slot: u32) -> [Name; 11]
+    requires { slot ≤ 4096 }
+    ensures { result ≡ new_names slot }
+{
+    [
+        new_name(slot, Register::R0),
+        new_name(slot, Register::R1),
+        new_name(slot, Register::R2),
+        new_name(slot, Register::R3),
+        new_name(slot, Register::R4),
+        new_name(slot, Register::R5),
+        new_name(slot, Register::R6),
+        new_name(slot, Register::R7),
+        new_name(slot, Register::R8),
+        new_name(slot, Register::R9),
+        new_name(slot, Register::R10),
+    ]
+}
+
+/// A name that is moved by a number.
+fn moved_by(op: Op, n: u64, name: Name) -> Name
+    ensures { result ≡ moved_by op n name }
+{
+    Name {
+        value: name.value,
+        distance: eval(op, Width::W64, name.distance, n),
+    }
+}
+
+/// The name of a register that an operation writes: a copy's is that of what is copied, and one number that is added or taken away
+/// moves it.
+fn name_of_op(
+    slot: u32,
+    op: Op,
+    width: Width,
+    dst: Register,
+    src: Operand,
+    names: &[Name; 11],
+) -> Name
+    requires { slot ≤ 4096 }
+    ensures { result ≡ name_of_op slot op width dst src names.now }
+{
+    match (op, width, src) {
+        (Op::Mov, Width::W64, Operand::Register(src)) => name_at(names, src),
+        (Op::Add | Op::Sub, Width::W64, Operand::Immediate(n)) => {
+            moved_by(op, i64::from(n).cast_unsigned(), name_at(names, dst))
+        }
+        _ => new_name(slot, dst),
+    }
+}
+
+/// Gives a register a name.
+fn set_name(names: &mut [Name; 11], register: Register, name: Name)
+    ensures { names.new ≡ slice_set names.old (number register) name }
+{
+    names[register.number() as usize] = name;
+}
+
+/// Goes over an instruction, on the way to a slot.
+fn rename(slot: u32, insn: Insn, names: &mut [Name; 11])
+    requires { slot ≤ 4096 }
+    ensures { names.new ≡ names_after slot insn names.old }
+{
+    match insn {
+        Insn::Alu {
+            op,
+            width,
+            dst,
+            src,
+        } => {
+            let name = name_of_op(slot, op, width, dst, src, names);
+            set_name(names, dst, name);
+        }
+        Insn::Swap { dst, .. } | Insn::Load { dst, .. } | Insn::Wide { dst, .. } => {
+            set_name(names, dst, new_name(slot, dst));
+        }
+        Insn::Call { .. } => names[..6].copy_from_slice(&new_names(slot)[..6]),
+        Insn::Store { .. } | Insn::Jump { .. } | Insn::JumpIf { .. } | Insn::Exit | Insn::Tail =>
+            {},
+    }
+}
+
+/// Goes on to a slot, over the instruction before it: where a jump leads there, all names are new.
+pub fn go_on(slot: u32, insn: Insn, is_led: bool, names: &mut [Name; 11])
+    requires { slot ≤ 4096 }
+    ensures { names.new ≡ names_on is_led slot insn names.old }
+{
+    if is_led {
+        *names = new_names(slot);
+    } else {
+        rename(slot, insn, names);
+    }
+}
+
+/// Whether two registers have one name.
+pub fn are_alike(names: &[Name; 11], a: Register, b: Register) -> bool
+    ensures { result ≡ are_alike names.now a b }
+{
+    name_at(names, a).value == name_at(names, b).value && a.number() != b.number()
+}
+
+/// By how much register `b` is more than register `a`, where they have one name.
+pub fn distance_from(names: &[Name; 11], a: Register, b: Register) -> u64
+    ensures { result ≡ distance_from names.now a b }
+{
+    let (first, second) = (name_at(names, a), name_at(names, b));
+    eval(Op::Sub, Width::W64, second.distance, first.distance)
+}
