@@ -1,6 +1,6 @@
 //! Which pairs of registers are known at a slot, and what they tell.
 
-ghost use Rattle.std.specs.Prelude.{◌≡◌, ◌<◌, ℕ, Bool, Some, List, length, slice_get, if◌then◌else◌};
+ghost use Rattle.std.specs.Prelude.{◌≡◌, ◌<◌, ℕ, Bool, true, Some, List, length, slice_get, if◌then◌else◌};
 ghost use Rattle.memory.specs.declared.profile.Profile.TheVariants.{Second};
 ghost use Rattle.verifier.specs.Table.{AreKinds};
 ghost use Rattle.verifier.specs.Pairs.{no_pairs, is_in, are_of, most_in, most_together, argument_ends};
@@ -135,6 +135,7 @@ fn before(pair: Pair, pairs: Pairs) -> Pairs
 }
 
 /// One pair more, if there is one.
+#[inline(always)]
 fn with_pair(pair: Option<Pair>, pairs: Pairs) -> Pairs
     ensures { result ≡ with_pair pair pairs }
 {
@@ -256,8 +257,18 @@ fn pairs_over_call(pairs: Pairs) -> Pairs
     }
 }
 
+/// Whether no pair is known.
+fn are_none(pairs: Pairs) -> bool
+    ensures { result ≡ true → pairs ≡ no_pairs }
+{
+    pairs.first.is_none()
+        && pairs.second.is_none()
+        && pairs.third.is_none()
+        && pairs.fourth.is_none()
+}
+
 /// The pairs after what an instruction writes, by the row before it.
-pub fn pairs_over(insn: Insn, row: &[Kind], pairs: Pairs) -> Pairs
+fn pairs_across(insn: Insn, row: &[Kind], pairs: Pairs) -> Pairs
     requires { AreKinds row.now }
     ensures { result ≡ pairs_over insn row.now pairs }
 {
@@ -272,6 +283,19 @@ pub fn pairs_over(insn: Insn, row: &[Kind], pairs: Pairs) -> Pairs
         Insn::Store { .. } | Insn::JumpIf { .. } => pairs,
         Insn::Call { .. } => pairs_over_call(pairs),
         _ => no_pairs(),
+    }
+}
+
+/// The same. Where none is known before it, as mostly, none is after it, and the row isn't looked at.
+#[inline(always)]
+pub fn pairs_over(insn: Insn, row: &[Kind], pairs: Pairs) -> Pairs
+    requires { AreKinds row.now }
+    ensures { result ≡ pairs_over insn row.now pairs }
+{
+    if are_none(pairs) {
+        no_pairs()
+    } else {
+        pairs_across(insn, row, pairs)
     }
 }
 
@@ -303,6 +327,7 @@ fn pair_told(sum: Sum, right: Operand, row: &[Kind]) -> Option<Pair>
 }
 
 /// The pairs that are known where a condition was tested, by the second profile, and the row on to the next slot.
+#[inline(always)]
 pub fn pairs_told(
     insn: Insn,
     profile: Profile,
@@ -326,6 +351,7 @@ pub fn pairs_told(
 }
 
 /// The pairs that are known at a slot: none where a jump leads there. The flags say to which slots jumps lead.
+#[inline(always)]
 pub fn pairs_here(led: &[bool], at: usize, pairs: Pairs) -> Pairs
     requires { at < length led.now }
     ensures { (here : Bool) → slice_get led.now at ≡ Some here → result ≡ (if here then no_pairs else pairs) }
