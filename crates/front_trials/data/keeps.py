@@ -17,8 +17,8 @@ what is held can't be written at a stop, that has to be told, status 1, and the 
 
 Last, snapshots that fail: on a full device (a tmpfs of its own, where the script may mount one), where each opening, write, forcing and renaming fails in
 turn (by strace, where it is there), and where each allocation is refused in turn (by refuse_one.c, which cc compiles). Each has to be told in a line, `not kept NAME: ..`, but for
-an allocation of a thread, without which the snapshot is whole; a server that is killed then starts with the last whole
-snapshot, and the next snapshot of one that goes on is whole. Snapshots of a number of seconds in `settings` come by themselves, and none with 0.
+an allocation of a thread, without which the snapshot is whole, and one of a list of all keys of a vnode at once, which is then made key by key; a server that is killed then starts
+with the last whole snapshot, and the next snapshot of one that goes on is whole. Snapshots of a number of seconds in `settings` come by themselves, and none with 0.
 
 The status is 0 where all that held.
 """
@@ -38,6 +38,12 @@ import time
 from pathlib import Path
 
 CLIENTS = 3
+
+# A snapshot reads two of three vnodes on threads of their own. Where there is no memory for one, the vnodes are read one after another.
+THREADS = 2
+
+# The keys of each of three vnodes are listed in order. Where there is no memory for such a list at once, it is made key by key.
+LISTS = 3
 KEYS = 6
 BOUND = "the hook is bound"
 FILES = ("vnode-0.records", "vnode-1.records", "vnode-2.records", "hooks.requests")
@@ -526,18 +532,17 @@ def refused_snapshots(program, folder, refusals, keys):
     for key in range(keys):
         server.put(key, b"x" * 40)
     # From the first one on it is known which thread writes.
-    lines, faults, count, for_threads = [server.snapshot()], [], 0, 0
+    lines, faults, count, wholes = [server.snapshot()], [], 0, 0
     while True:
         refusals.refuse(count)
         line = server.snapshot()
         if refusals.seen() <= count:
             break
         loaded = loaded_from(program, folder)
-        # Where there is no memory for a thread the vnodes are read one after another: there are two threads more.
         is_whole = bool(line) and line.startswith(f"snapshot {3 * keys} keys ")
-        for_threads += int(is_whole)
+        wholes += int(is_whole)
         is_told = bool(line) and line.startswith("not kept ") and line.endswith(": E1")
-        if not (is_told or is_whole) or for_threads > 2 or loaded != 3 * keys:
+        if not (is_told or is_whole) or wholes > THREADS + LISTS or loaded != 3 * keys:
             faults.append(f"allocation {count}: {line}, and then a start: {loaded}")
         count += 1
     lines.append(line)
@@ -551,7 +556,7 @@ def refused_snapshots(program, folder, refusals, keys):
 
 def refused_stops(program, folder, refusals):
     """The same of a stop, from when it opens the first file on, of copies of a folder where a key more was put."""
-    faults, count, held = [], 0, loaded_from(program, folder)
+    faults, count, wholes, held = [], 0, 0, loaded_from(program, folder)
     while True:
         copied = f"{folder}-{count}"
         shutil.copytree(folder, copied)
@@ -562,9 +567,11 @@ def refused_stops(program, folder, refusals):
         status, out, told = server.stop()
         is_met = refusals.seen() > count
         loaded = loaded_from(program, copied)
-        begins = "not kept " if is_met else "kept "
+        is_whole = status == 0 and out.startswith("kept ") and loaded == held + 3
+        wholes += int(is_met and is_whole)
         # Each of three files is replaced for itself: those behind the one that isn't are replaced all the same.
-        if status != int(is_met) or not out.startswith(begins) or not out.endswith("audit ok\n") or not held <= loaded <= held + 3:
+        is_told = status == 1 and out.startswith("not kept ") and held <= loaded <= held + 3
+        if not (is_whole or is_met and is_told) or wholes > LISTS or not out.endswith("audit ok\n"):
             faults.append(f"allocation {count} of a stop: {status} {out} {told}, and then a start: {loaded}")
         shutil.rmtree(copied)
         if not is_met:
