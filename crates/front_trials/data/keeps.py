@@ -571,10 +571,12 @@ def refused_stops(program, folder, refusals):
         wholes += int(is_met and is_whole)
         # Each of three files is replaced for itself: those behind the one that isn't are replaced all the same.
         is_told = status == 1 and out.startswith("not kept ") and held <= loaded <= held + 3
-        if not (is_whole or is_met and is_told) or wholes > LISTS or not out.endswith("audit ok\n"):
+        if not (is_whole or is_met and is_told) or not out.endswith("audit ok\n"):
             faults.append(f"allocation {count} of a stop: {status} {out} {told}, and then a start: {loaded}")
         shutil.rmtree(copied)
         if not is_met:
+            if wholes != LISTS:
+                faults.append(f"{wholes} stops were whole of which an allocation was refused")
             return faults, count
         count += 1
 
