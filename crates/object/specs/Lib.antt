@@ -7,3 +7,4 @@ pub mod Merging
 pub mod Parts
 pub mod Known
 pub mod Kept
+pub mod Sizes

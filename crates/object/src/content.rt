@@ -22,6 +22,8 @@ pub enum Content {
 }
 
 impl Content {
+    ghost use Rattle.object.specs.Sizes.{content_bytes};
+
     /// The same content, its bytes shared with this one.
     pub fn copy(&self) -> Result<Content, AllocError>
         ensures { IfOk result (λ copy. copy ≡ self.now) }
@@ -49,6 +51,19 @@ impl Content {
             ) => media == other_media && bytes == other_bytes,
             (Content::Tombstone, Content::Tombstone) => true,
             _ => false,
+        }
+    }
+
+    /// How many bytes it has: those of its value and of its media type, 2^64 - 1 where they are more. A delete has none.
+    pub fn bytes(&self) -> u64
+        ensures { result ≡ content_bytes self.now }
+    {
+        match self {
+            Content::Value { media, bytes } => {
+                let media = media.as_slice().len() as u64;
+                media.saturating_add(bytes.as_slice().len() as u64)
+            }
+            Content::Tombstone => 0,
         }
     }
 }
@@ -121,8 +136,9 @@ impl Model for Names {
 }
 
 impl Names {
-    ghost use Rattle.std.specs.Cmp.Lexicographic.{slice_cmp};
-    ghost use Rattle.std.specs.Ordering.{nat_cmp, on, then_cmp};
+    ghost use Rattle.std.specs.Prelude.{nat_eq};
+    ghost use Rattle.std.specs.Cmp.Lexicographic.{pointwise, slice_cmp};
+    ghost use Rattle.std.specs.Ordering.{eq_of_both, nat_cmp, on, then_cmp};
 
     // The bucket's bytes.
     fn bucket(&self) -> &[u8]
@@ -136,6 +152,13 @@ impl Names {
         ensures { result.now ≡ self.now.key }
     {
         &self.bytes.as_slice()[self.split..]
+    }
+
+    // Whether both names are the same. Buckets of different lengths differ, and behind those of one length the names decide as one.
+    fn is_same(&self, other: &Names) -> bool
+        ensures { result ≡ eq_of_both (on (λ n. n.bucket) (pointwise nat_eq)) (on (λ n. n.key) (pointwise nat_eq)) self.now other.now }
+    {
+        self.split == other.split && self.bytes.as_slice() == other.bytes.as_slice()
     }
 
     // The order of bytes, the bucket's first.
@@ -215,7 +238,7 @@ impl PartialEq for Key {
     ghost laws = { Prim.search (comparing, rules) };
 
     fn eq(&self, other: &Self) -> bool {
-        self.bucket() == other.bucket() && self.key() == other.key()
+        self.names.is_same(&other.names)
     }
 }
 

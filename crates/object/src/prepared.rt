@@ -41,10 +41,7 @@ impl<'a> PreparedPart<'a> {
     pub fn new(alloc: Global, part: &'a Part) -> Result<Self, AllocError>
         ensures { IfOk result (λ prepared. prepared ≡ part.now) }
     {
-        let held = Held {
-            siblings: Siblings::new(alloc),
-            clock: part.clock().copy(alloc)?,
-        };
+        let held = Held::new(Siblings::new(alloc), part.clock().copy(alloc)?);
         Ok(PreparedPart {
             part,
             siblings: Vec::with_capacity(alloc, part.siblings().len())?,

@@ -35,6 +35,7 @@ impl Model for KeyState {
 impl KeyState {
     ghost use Rattle.dvv.specs.Clock.{Within, HasRoom, vnodes_together, most_entries};
     ghost use Rattle.object.specs.Limits.{most_siblings};
+    ghost use Rattle.object.specs.Sizes.{state_bytes};
     ghost use Rattle.object.specs.State.{empty, next, kept, is_changed_by, Puts, Merges, AreInOrder, AreCovered, IsState, HaveSameDots};
 
     /// Nothing written. It takes no memory.
@@ -64,10 +65,8 @@ impl KeyState {
         requires covered { AreCovered clock siblings.items }
         ensures { IfOk result (λ state. state ≡ record { siblings = siblings.items; clock = clock }) }
     {
-        // What every clock keeps is told with its entries.
-        let _entries = clock.entries();
         let alloc = *siblings.allocator();
-        let held = Held { siblings, clock };
+        let held = Held::new(siblings, clock);
         Ok(KeyState {
             alloc,
             kept: Kept::Shared(Arc::new(alloc, held)?),
@@ -115,6 +114,16 @@ impl KeyState {
         match &self.kept {
             Kept::Nothing(clock) => clock,
             Kept::Shared(held) => held.clock(),
+        }
+    }
+
+    /// The bytes of its contents, 2^64 - 1 where they are more. They are kept with it: it touches no content.
+    pub fn bytes(&self) -> u64
+        ensures { result ≡ state_bytes self.now }
+    {
+        match &self.kept {
+            Kept::Nothing(_) => 0,
+            Kept::Shared(held) => held.bytes(),
         }
     }
 
@@ -282,7 +291,7 @@ impl KeyState {
     {
         let alloc = *siblings.allocator();
         match Arc::get_mut(&mut held) {
-            Some(own) => own.siblings = Siblings::from_vec(siblings),
+            Some(own) => own.set_siblings(Siblings::from_vec(siblings)),
             None => return Err(AllocError),
         }
         Ok(KeyState {
@@ -345,7 +354,7 @@ pub(crate) fn have_same_entries(entries: &[Dot], others: &[Dot]) -> bool
 }
 
 // Whether two lists of siblings are the same.
-fn are_same(siblings: &[Sibling], others: &[Sibling]) -> bool
+pub(crate) fn are_same(siblings: &[Sibling], others: &[Sibling]) -> bool
     ensures { IsTrue result ↔ (siblings.now ≡ others.now) }
 {
     if siblings.len() != others.len() {
