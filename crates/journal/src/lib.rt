@@ -9,7 +9,7 @@ pub mod laws;
 pub mod rows;
 mod whole;
 
-pub use entry::{Entry, Merged, Said, Write};
+pub use entry::{Entry, Merged, Said, Taken, Write};
 pub use front::{Front, Handout, Past};
 pub use journal::{Journal, JournalFault};
 pub use whole::Whole;
