@@ -7,6 +7,7 @@ ghost use Rattle.vnode.specs.States.{state_at};
 
 use crate::fault::{PartFault, VnodeFault};
 use crate::states::States;
+use crate::steps::copy_at;
 use journal::{Journal, Merged};
 use object::{Held, Key, KeyState, Part, PreparedPart, Summary};
 use std::alloc::{AllocError, Global};
@@ -60,10 +61,7 @@ pub(crate) fn make_whole(
     ensures whole { OnOk result (merged.new.state ≡ whole_of part.entry (state_at states.now merged.old.key)) }
     ensures same { (merged.new.key ≡ merged.old.key) × (merged.new.from ≡ merged.old.from) × (merged.new.at ≡ merged.old.at) }
 {
-    let state = match states.get(&merged.key) {
-        Some(stored) => KeyState::of(alloc, stored)?,
-        None => KeyState::new(alloc),
-    };
+    let state = copy_at(alloc, states, &merged.key)?;
     merged.state = state.whole_in(part)?;
     Ok(())
 }

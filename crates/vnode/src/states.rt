@@ -5,7 +5,7 @@ ghost use Rattle.std.specs.Option.{option_copied};
 ghost use Rattle.object.specs.declared.content.Key.{Key};
 ghost use Rattle.object.specs.State.{empty};
 ghost use Rattle.journal.specs.Keys.{same_key};
-ghost use Rattle.vnode.specs.States.{AreInPlace, count_of, found_at, key_eq, place, place_by, state_at};
+ghost use Rattle.vnode.specs.States.{AreInPlace, count_of, found_at, key_eq, place, state_at};
 
 use crate::seed::Seed;
 use object::{Key, Stored};
@@ -35,17 +35,6 @@ impl Spread {
         match self {
             Spread::One => 1,
             Spread::Many => MANY,
-        }
-    }
-
-    // In which of the shards a hash lies.
-    fn place(self, hash: u64) -> usize
-        ensures place { result ≡ place_by self hash }
-        ensures within { result < count_of self }
-    {
-        match self {
-            Spread::One => 0,
-            Spread::Many => (hash % MANY as u64) as usize,
         }
     }
 }
@@ -78,13 +67,16 @@ impl States {
         }
     }
 
-    // In which shard a key's state lies: the lowest bits of its hash say it. A map folds both halves of a hash into one, so that the places
-    // in one shard are as even as those in one map of all keys.
+    // In which shard a key's state lies: of many the lowest bits of its hash say it, which nobody computes for one. A map folds both halves of
+    // a hash into one, so that the places in one shard are as even as those in one map of all keys.
     pub(crate) fn place_of(&self, key: &Key) -> usize
         ensures place { result ≡ place self.now key.now }
         ensures within { result < count_of self.now.spread }
     {
-        self.spread.place(self.seed.hash_one(key))
+        match self.spread {
+            Spread::One => 0,
+            Spread::Many => (self.seed.hash_one(key) % MANY as u64) as usize,
+        }
     }
 
     /// The state that is kept under a key.

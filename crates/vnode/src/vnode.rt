@@ -7,8 +7,8 @@ use crate::parts::{make_whole, merged_part_of, part_refusal_at, summary_at};
 use crate::seed::Seed;
 use crate::states::{Spread, States};
 use crate::steps::{
-    Copied, Placed, copies_at, has_places_for, keys_in, known_in, merge_at, merge_refusal_at,
-    merged_of, put_at, put_refusal_at, read_all_at, write_leaving,
+    Copied, Placed, copies_at, copy_at, has_places_for, is_at, keys_in, known_in, merge_at,
+    merge_refusal_at, merged_of, put_at, put_refusal_at, read_all_at, write_leaving,
 };
 use dvv::{Clock, Dot};
 use journal::{Entry, Handout, Journal, Merged, Write};
@@ -68,6 +68,13 @@ impl Vnode {
         ensures { result ≡ record { vnode = id; entries = [] } }
     {
         Vnode::with_states(alloc, id, States::new(alloc, seed, Spread::Many))
+    }
+
+    /// The same, with its states in one shard, which costs a hash less at each look-up: for who follows, as nobody waits while it grows.
+    pub fn seeded_in_one(alloc: Global, id: u32, seed: Seed) -> Self
+        ensures { result ≡ record { vnode = id; entries = [] } }
+    {
+        Vnode::with_states(alloc, id, States::new(alloc, seed, Spread::One))
     }
 
     // A vnode at which nothing has happened, whose states lie as those of `states`, of which there are none yet.
@@ -260,6 +267,37 @@ impl Vnode {
         let (own, state) = copies_at(self.alloc, &self.states, key)?;
         let place = self.journal.append(Entry::read(stamp, own));
         Ok((state, place))
+    }
+
+    /// Writes down that a key was read, where nobody waits for what it answers: nothing is looked up. The entry takes the key over. Answers
+    /// the place of the entry.
+    pub fn note_read(&mut self, stamp: u64, key: Key) -> Result<u32, VnodeFault>
+        ensures state { (state : State) × IsReplay self.old.entries key state }
+        ensures place { IfOk result (λ place. place ≡ length self.old.entries) }
+        ensures entry { OnOk result (self.new ≡ with_entry self.old (Read stamp key)) }
+        ensures accepts { OnOk result (TakesEntry self.old.entries) }
+
+        ensures why { IfErr result (RefusesEntry self.old) }
+        ensures exact { (fault : VnodeFault) → fault ≢ VnodeFault.NoMemory → RefusesEntry self.old fault → result ≡ Err fault }
+        ensures err { OnErr result (self.new ≡ self.old) }
+        ensures legal { IsJournal self.new.vnode self.new.entries }
+    {
+        self.journal.reserve()?;
+        Ok(self.journal.append(Entry::read(stamp, key)))
+    }
+
+    /// The state of a key. It is no event: nothing is written down.
+    pub fn state(&self, key: &Key) -> Result<KeyState, AllocError>
+        ensures { IfOk result (λ state. IsReplay self.now.entries key.now state) }
+    {
+        copy_at(self.alloc, &self.states, key)
+    }
+
+    /// Whether a state is that of a key. It is no event: nothing is written down.
+    pub fn holds(&self, key: &Key, state: &KeyState) -> bool
+        ensures { IsTrue result ↔ IsReplay self.now.entries key.now state.now }
+    {
+        is_at(self.alloc, &self.states, key, state)
     }
 
     /// The summary of what is held under a key. Answers it, and the place of the entry: it is a read of the key.
