@@ -6,7 +6,8 @@ use Rattle.std.proofs.lemmas.List.Sums.{sum_by-cons}
 use Rattle.journal.specs.Entry.{Entry, Put, Read, Merge, Restart}
 use Rattle.object.specs.declared.content.Content.{Content}
 use Rattle.object.specs.declared.content.Content.TheVariants.{Value, Tombstone}
-use Rattle.rerun.specs.Sizes.{content_bytes, entry_bytes, most_bytes}
+use Rattle.object.specs.Sizes.{content_bytes, most_bytes}
+use Rattle.rerun.specs.Sizes.{entry_bytes}
 
 of_content : (content : Content) → content_bytes content ≤ 18446744073709551615
 of_content (Value media bytes) = min-le_right (length media + length bytes) most_bytes

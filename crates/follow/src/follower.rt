@@ -198,8 +198,8 @@ impl Follower {
     /// delivery of what the earlier read that it names answered, or as what it says where it is one of a front. So from each beginning of the world that
     /// has led to the fronts, all is one run; where there is no front, from nothing on.
     ///
-    /// The first fault is told, at the vnode and the place of its entry. It is the last: from then on nothing is followed, and it is told again. A merge
-    /// that names an answer that is no longer kept is told as such, though it may be right. A bound is to be one below which no stamp is
+    /// The first fault is told, at the vnode and the place of its entry, which waits no longer. It is the last: from then on nothing is followed, and it is
+    /// told again. A merge that names an answer that is no longer kept is told as such, though it may be right. A bound is to be one below which no stamp is
     /// drawn any more: an entry that comes later is told as late, and so is one that is behind its front before all fronts are whole.
     pub fn follow(&mut self, below: u64) -> Result<(), FollowFault>
         ensures yes { OnOk result (IsRunFrom self.old.fronts self.new.followed) }

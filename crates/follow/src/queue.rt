@@ -86,12 +86,13 @@ impl Queue {
         Ok(())
     }
 
-    /// The next one doesn't wait any longer.
-    pub(crate) fn drop_first(&mut self)
-        ensures { self.new ≡ drop 1 self.old }
+    /// Takes the next one out: it doesn't wait any longer.
+    pub(crate) fn take_first(&mut self) -> Option<Entry>
+        ensures first { result ≡ slice_get self.old 0 }
+        ensures rest { self.new ≡ drop 1 self.old }
     {
-        if let Some(first) = self.entries.pop_front() {
-            self.bytes -= u128::from(bytes_of_entry(&first));
-        }
+        let first = self.entries.pop_front()?;
+        self.bytes -= u128::from(bytes_of_entry(&first));
+        Some(first)
     }
 }

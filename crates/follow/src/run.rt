@@ -93,7 +93,7 @@ impl Run {
         }
     }
 
-    // The next entry of a vnode happens again.
+    // The next entry of a vnode waits no longer, and happens again. Where it is refused nothing is followed any more.
     fn step(&mut self, index: usize) -> Result<(), FollowFault>
         requires size { length self.old.waiting.items ≡ length self.old.rerun.logs }
         requires going { self.old.rerun.fault ≡ None }
@@ -108,12 +108,10 @@ impl Run {
         ensures fronts { self.new.rerun.fronts ≡ self.old.rerun.fronts }
         ensures told { IfErr result (λ fault. (e : Entered) × IsNext self.old.waiting.items index e × IsToldOf self.old.rerun.fronts self.old.rerun.logs self.old.rerun.recent index e fault) }
     {
-        let Some(entry) = self.waiting[index].first() else {
+        let Some(entry) = self.waiting[index].take_first() else {
             unreachable!()
         };
-        self.rerun.go_on(index, entry)?;
-        self.waiting[index].drop_first();
-        Ok(())
+        self.rerun.go_on(index, entry)
     }
 
     /// All that waits with stamps below a bound happens again, in the order of stamps.

@@ -1,6 +1,6 @@
 -- One entry more was followed: what was followed stays one run of the world.
-use Rattle.std.proofs.Common.{◌≡◌, ℕ, ◌+◌, ◌<◌, ◌≤◌, ◌⊎◌, List, [], ◌∷◌, ◌++◌, length, get_or, set, drop, refl, sym, ap, subst, ◌∙◌, inl, inr, arith, Option, Some, None, length-set}
-use Rattle.std.specs.Prelude.{slice_get, Contains, leb, Bool, true, false, cond, MatchBool}
+use Rattle.std.proofs.Common.{◌≡◌, ℕ, ◌+◌, ◌<◌, ◌≤◌, ◌⊎◌, List, [], ◌∷◌, ◌++◌, length, get_or, set, take, drop, refl, sym, ap, subst, ◌∙◌, inl, inr, arith, Option, Some, None, length-set}
+use Rattle.std.specs.Prelude.{slice_get, Contains, leb, Bool, true, false, cond}
 use Rattle.std.proofs.lemmas.Bool.{cases_eq, leb-false}
 use Rattle.std.proofs.lemmas.List.{get_or-set_same, get_or-set_other, length_push, take_all}
 use Rattle.std.proofs.lemmas.List.Elements.{Contains-push_cases}
@@ -38,7 +38,8 @@ use Rattle.rerun.specs.declared.kept.Kept.TheVariants as kept
 use Rattle.rerun.specs.declared.kept.Recent.{Recent}
 use Rattle.rerun.specs.Kept.{IsLeft}
 use Rattle.rerun.proofs.Keeping.{over_or_not, left_more}
-use Rattle.rerun.specs.Followed.{kept_at, kept_of, AreFrontsAlone, IsReadKept, IsKept, IsAnswer, AreAnswers, AreKept, AreBelow, HasFollowed, IsAbove, IsExpected, IsSourceKept, HasSource}
+use Rattle.rerun.specs.Followed.{kept_at, AreFrontsAlone, IsReadKept, IsWas, IsKept, IsAnswer, IsToKeep, IsNextKept, AreAnswers, AreKept, AreBelow, HasFollowed, IsAbove, IsExpected, IsSourceKept, HasSource}
+use Rattle.rerun.proofs.Answered.{one_answer}
 use Rattle.rerun.proofs.Names.{same_ids, so_far_renamed}
 
 -- the message that a read sends by its answer
@@ -54,11 +55,12 @@ told_of from at (Restart stamp) answer = None
 -- the read that a merge names is an earlier step, and sent its state
 source_of : (fronts : List ℕ) (logs : List Log) (last : Option ℕ) (recent : Recent) (answers : List (List Kept)) (run : HasFollowed fronts logs last recent answers) (key : Key) (from at : ℕ) (state : State) → IsSourceKept logs answers key from at state
     → (number : ℕ) × IsSource logs (steps_behind fronts run.order) number key from at × (slice_get run.messages number ≡ Some (Some (let m : Message = record { key = key; from = from; at = at; state = state } in m)))
-source_of fronts logs last recent answers run key from at state (index, inside, id, there) =
-    let a : IsReadKept fronts logs (steps_behind fronts run.order) run.messages index at key state = run.kept.each index at (kept.Read key state) inside there in (
+source_of fronts logs last recent answers run key from at state (index, inside, id, there, is) =
+    let a : IsReadKept fronts logs (steps_behind fronts run.order) run.messages index at key = run.kept.each index at (kept.Read key) inside there in
+    let same : a.state ≡ state = one_answer fronts logs last recent answers run index at key state inside there a is in (
       a.number,
       (step_at index at (Read a.stamp key), a.step, id, refl, (a.stamp, refl)),
-      a.sent ∙ ap (λ (v : ℕ). Some (Some (let m : Message = record { key = key; from = v; at = at; state = state } in m))) id,
+      a.sent ∙ ap (λ (v : ℕ). Some (Some (let m : Message = record { key = key; from = v; at = at; state = a.state } in m))) id ∙ ap (λ (t : State). Some (Some (let m : Message = record { key = key; from = from; at = at; state = t } in m))) same,
     )
 
 -- one step more of the world
@@ -83,44 +85,71 @@ so_far_more fronts begin logs last recent answers run i (Merge stamp key from at
 so_far_more fronts begin logs last recent answers run i (Merge stamp key from at state) (copied other) so_far inside follows answer source = absurd answer
 so_far_more fronts begin logs last recent answers run i (Merge stamp key from at state) done so_far inside follows answer source = absurd answer
 
+-- a state that was there before a change stays so
+still_was : (fronts : List ℕ) (logs : List Log) (i : ℕ) (x : Entry) (index place : ℕ) (key : Key) (state : State) → i < length logs → IsWas fronts logs index place key state → IsWas fronts (with_entry_at logs i x) index place key state
+still_was fronts logs i x index place key state inside ((e, there, changes), before, behind) = (
+  (e, entry_stays logs i x index place e inside there, changes),
+  subst (λ (es : List Entry). IsReplay es key state) (sym (front_stays logs i x index place inside (let lt = slice_get_within (log_at logs index).entries place e there.1 in omega (arith, lt)))) before,
+  behind,
+)
+
 -- what is kept stays so
 still_kept : (fronts : List ℕ) (logs : List Log) (steps more : List Step) (messages told : List (Option Message)) (i : ℕ) (x : Entry) (index place : ℕ) (what : Kept) → ((n : ℕ) (s : Step) → slice_get steps n ≡ Some s → slice_get more n ≡ Some s)
     → ((n : ℕ) (m : Option Message) → slice_get messages n ≡ Some m → slice_get told n ≡ Some m) → i < length logs → IsKept fronts logs steps messages index place what → IsKept fronts (with_entry_at logs i x) more told index place what
 still_kept fronts logs steps more messages told i x index place kept.GivenUp still also inside h = tt
 still_kept fronts logs steps more messages told i x index place kept.Other still also inside h = (h.0, entry_stays logs i x index place h.0 inside h.1, h.2)
-still_kept fronts logs steps more messages told i x index place (kept.Read key state) still also inside h = record {
+still_kept fronts logs steps more messages told i x index place (kept.Was key state) still also inside h = still_was fronts logs i x index place key state inside h
+still_kept fronts logs steps more messages told i x index place (kept.Read key) still also inside h = record {
   stamp = h.stamp;
   there = entry_stays logs i x index place (Read h.stamp key) inside h.there;
-  answer = subst (λ (es : List Entry). IsReplay es key state) (sym (front_stays logs i x index place inside (let lt = slice_get_within (log_at logs index).entries place (Read h.stamp key) h.there.1 in omega (arith, lt)))) h.answer;
+  state = h.state;
+  answer = subst (λ (es : List Entry). IsReplay es key h.state) (sym (front_stays logs i x index place inside (let lt = slice_get_within (log_at logs index).entries place (Read h.stamp key) h.there.1 in omega (arith, lt)))) h.answer;
   number = h.number;
   behind = h.behind;
   step = still h.number (step_at index place (Read h.stamp key)) h.step;
-  sent = also h.number _ h.sent ∙ ap (λ (v : ℕ). Some (Some (let m : Message = record { key = key; from = v; at = place; state = state } in m))) ((same_ids logs i x).1 index);
+  sent = also h.number _ h.sent ∙ ap (λ (v : ℕ). Some (Some (let m : Message = record { key = key; from = v; at = place; state = h.state } in m))) ((same_ids logs i x).1 index);
 }
 
 -- the new one stands there
 new_there : (logs : List Log) (i : ℕ) (x : Entry) → i < length logs → EntryIn (with_entry_at logs i x) i (length (log_at logs i).entries) x
 new_there logs i x inside = (omega (arith, same_size logs i x, inside), ap (λ (l : Log). slice_get l.entries (length (log_at logs i).entries)) (grown_at logs i x inside) ∙ at_end (log_at logs i).entries x (length (log_at logs i).entries) refl)
 
--- what is kept of a step
-step_kept : (fronts : List ℕ) (logs : List Log) (steps : List Step) (messages : List (Option Message)) (i : ℕ) (e : Entry) (a : Answer) → length messages ≡ length steps → i < length logs → IsBehind fronts i (length (log_at logs i).entries)
-    → Answers (log_at logs i).vnode (log_at logs i).entries e a
-    → IsKept fronts (with_entry_at logs i e) (steps ++ step_at i (length (log_at logs i).entries) e ∷ []) (messages ++ told_of (log_at logs i).vnode (length (log_at logs i).entries) e a ∷ []) i (length (log_at logs i).entries) (kept_of e a)
-step_kept fronts logs steps messages i (Put stamp key seen content dot) a long inside behind answer = (Put stamp key seen content dot, new_there logs i (Put stamp key seen content dot) inside, inl tt)
-step_kept fronts logs steps messages i (Merge stamp key from at state) a long inside behind answer = (Merge stamp key from at state, new_there logs i (Merge stamp key from at state) inside, inl tt)
-step_kept fronts logs steps messages i (Restart stamp) a long inside behind answer = (Restart stamp, new_there logs i (Restart stamp) inside, inl tt)
-step_kept fronts logs steps messages i (Read stamp key) (numbered dot) long inside behind answer = absurd answer
-step_kept fronts logs steps messages i (Read stamp key) (changed changes) long inside behind answer = absurd answer
-step_kept fronts logs steps messages i (Read stamp key) done long inside behind answer = absurd answer
-step_kept fronts logs steps messages i (Read stamp key) (copied state) long inside behind answer = record {
+-- what it comes behind stays before it
+all_before : (logs : List Log) (i : ℕ) (x : Entry) → i < length logs → take (length (log_at logs i).entries) (log_at (with_entry_at logs i x) i).entries ≡ (log_at logs i).entries
+all_before logs i x inside = front_stays logs i x i (length (log_at logs i).entries) inside (omega arith) ∙ take_all (length (log_at logs i).entries) (log_at logs i).entries (omega arith)
+
+-- what is kept of a read
+read_kept : (fronts : List ℕ) (logs : List Log) (steps : List Step) (messages : List (Option Message)) (i stamp : ℕ) (key : Key) (a : Answer) → length messages ≡ length steps → i < length logs → IsBehind fronts i (length (log_at logs i).entries)
+    → Answers (log_at logs i).vnode (log_at logs i).entries (Read stamp key) a
+    → IsReadKept fronts (with_entry_at logs i (Read stamp key)) (steps ++ step_at i (length (log_at logs i).entries) (Read stamp key) ∷ []) (messages ++ told_of (log_at logs i).vnode (length (log_at logs i).entries) (Read stamp key) a ∷ []) i (length (log_at logs i).entries) key
+read_kept fronts logs steps messages i stamp key (numbered dot) long inside behind answer = absurd answer
+read_kept fronts logs steps messages i stamp key (changed changes) long inside behind answer = absurd answer
+read_kept fronts logs steps messages i stamp key done long inside behind answer = absurd answer
+read_kept fronts logs steps messages i stamp key (copied state) long inside behind answer = record {
   stamp = stamp;
   there = new_there logs i (Read stamp key) inside;
-  answer = subst (λ (es : List Entry). IsReplay es key state) (sym (front_stays logs i (Read stamp key) i (length (log_at logs i).entries) inside (omega arith) ∙ take_all (length (log_at logs i).entries) (log_at logs i).entries (omega arith))) answer;
+  state = state;
+  answer = subst (λ (es : List Entry). IsReplay es key state) (sym (all_before logs i (Read stamp key) inside)) answer;
   number = length steps;
   behind = behind;
   step = at_end steps (step_at i (length (log_at logs i).entries) (Read stamp key)) (length steps) refl;
   sent = at_end messages _ (length steps) long ∙ ap (λ (v : ℕ). Some (Some (let m : Message = record { key = key; from = v; at = length (log_at logs i).entries; state = state } in m))) ((same_ids logs i (Read stamp key)).1 i);
 }
+
+-- what is kept of a step
+step_kept : (fronts : List ℕ) (logs : List Log) (steps : List Step) (messages : List (Option Message)) (i : ℕ) (e : Entry) (a : Answer) (new : Kept) → length messages ≡ length steps → i < length logs → IsBehind fronts i (length (log_at logs i).entries)
+    → Answers (log_at logs i).vnode (log_at logs i).entries e a → IsToKeep (log_at logs i).entries e new
+    → IsKept fronts (with_entry_at logs i e) (steps ++ step_at i (length (log_at logs i).entries) e ∷ []) (messages ++ told_of (log_at logs i).vnode (length (log_at logs i).entries) e a ∷ []) i (length (log_at logs i).entries) new
+step_kept fronts logs steps messages i e a kept.GivenUp long inside behind answer h = absurd h
+step_kept fronts logs steps messages i e a kept.Other long inside behind answer h = (e, new_there logs i e inside, inl h)
+step_kept fronts logs steps messages i e a (kept.Was key state) long inside behind answer (changes, before) = (
+  (e, new_there logs i e inside, changes),
+  subst (λ (es : List Entry). IsReplay es key state) (sym (all_before logs i e inside)) before,
+  behind,
+)
+step_kept fronts logs steps messages i e a (kept.Read key) long inside behind answer (stamp, is) =
+    subst (λ (x : Entry). IsReadKept fronts (with_entry_at logs i x) (steps ++ step_at i (length (log_at logs i).entries) x ∷ []) (messages ++ told_of (log_at logs i).vnode (length (log_at logs i).entries) x a ∷ []) i (length (log_at logs i).entries) key) (sym is)
+    (read_kept fronts logs steps messages i stamp key a long inside behind (subst (λ (x : Entry). Answers (log_at logs i).vnode (log_at logs i).entries x a) is answer))
 
 -- what stands in a list of which something was given up
 left_cases : (recent : Recent) (all list : List Kept) (place : ℕ) (what : Kept) → IsLeft recent all list → slice_get list place ≡ Some what → (slice_get all place ≡ Some what) ⊎ (what ≡ kept.GivenUp)
@@ -129,30 +158,28 @@ left_cases recent all list place what left at = elim (over_or_not recent (drop p
   | inr not ↦ inl (sym (left.stays place not) ∙ at)
 ]
 
--- what an entry answered stays so
+-- what there is of an entry stays so
 still_answer : (fronts : List ℕ) (logs : List Log) (i : ℕ) (x : Entry) (index place : ℕ) (what : Kept) → i < length logs → IsAnswer fronts logs index place what → IsAnswer fronts (with_entry_at logs i x) index place what
 still_answer fronts logs i x index place kept.GivenUp inside h = h
 still_answer fronts logs i x index place kept.Other inside h = (h.0, entry_stays logs i x index place h.0 inside h.1, h.2)
-still_answer fronts logs i x index place (kept.Read key state) inside ((stamp, there), answer, behind) = (
-  (stamp, entry_stays logs i x index place (Read stamp key) inside there),
-  subst (λ (es : List Entry). IsReplay es key state) (sym (front_stays logs i x index place inside (let lt = slice_get_within (log_at logs index).entries place (Read stamp key) there.1 in omega (arith, lt)))) answer,
-  behind,
-)
+still_answer fronts logs i x index place (kept.Was key state) inside h = still_was fronts logs i x index place key state inside h
+still_answer fronts logs i x index place (kept.Read key) inside ((stamp, there), behind) = ((stamp, entry_stays logs i x index place (Read stamp key) inside there), behind)
 
--- what is kept is what it answered
+-- what is kept is what there is
 answer_kept : (fronts : List ℕ) (logs : List Log) (steps : List Step) (messages : List (Option Message)) (index place : ℕ) (what : Kept) → (what ≡ kept.GivenUp → ⊥) → IsKept fronts logs steps messages index place what → IsAnswer fronts logs index place what
 answer_kept fronts logs steps messages index place kept.GivenUp some h = absurd (some refl)
 answer_kept fronts logs steps messages index place kept.Other some h = h
-answer_kept fronts logs steps messages index place (kept.Read key state) some h = ((h.stamp, h.there), h.answer, h.behind)
+answer_kept fronts logs steps messages index place (kept.Was key state) some h = h
+answer_kept fronts logs steps messages index place (kept.Read key) some h = ((h.stamp, h.there), h.behind)
 
--- what the entries of another vnode answered
+-- what there is of the entries of another vnode
 answers_still : (fronts : List ℕ) (logs : List Log) (i : ℕ) (e : Entry) (index : ℕ) (all : List Kept) → i < length logs → (index ≡ i → ⊥) → AreAnswers fronts logs index all → AreAnswers fronts (with_entry_at logs i e) index all
 answers_still fronts logs i e index all inside other are = record {
   size = are.size ∙ ap (λ (l : Log). length l.entries) (sym (others_at logs i e index other));
   each = λ place what at. still_answer fronts logs i e index place what inside (are.each place what at);
 }
 
--- and those of this one
+-- and of those of this one
 answers_more : (fronts : List ℕ) (logs : List Log) (i : ℕ) (e : Entry) (all : List Kept) (new : Kept) → i < length logs → AreAnswers fronts logs i all → IsAnswer fronts (with_entry_at logs i e) i (length (log_at logs i).entries) new
     → AreAnswers fronts (with_entry_at logs i e) i (all ++ new ∷ [])
 answers_more fronts logs i e all new inside are answer = record {
@@ -231,15 +258,9 @@ are_kept fronts logs newest_stamp recent answers run steps messages i e new list
           (was.0, answers_still fronts logs i e index was.0 inside other was.1, subst (λ (l : List Kept). IsLeft recent was.0 l) (sym (get_or-set_other answers i index list [] other)) was.2))
     ]
 
--- what is kept of a new entry isn't given up
-not_given_up : (x : Entry) (y : Answer) → kept_of x y ≡ kept.GivenUp → ⊥
-not_given_up (Put stamp key seen content dot) y is = cc
-not_given_up (Merge stamp key from at state) y is = cc
-not_given_up (Restart stamp) y is = cc
-not_given_up (Read stamp key) (numbered dot) is = cc
-not_given_up (Read stamp key) (changed changes) is = cc
-not_given_up (Read stamp key) (copied state) is = cc
-not_given_up (Read stamp key) done is = cc
+-- what is to be kept of an entry isn't given up
+not_given_up : (before : List Entry) (e : Entry) (new : Kept) → IsToKeep before e new → new ≡ kept.GivenUp → ⊥
+not_given_up before e new h is = subst (λ (k : Kept). IsToKeep before e k) is h
 
 -- stamps of what happened are below that of an entry that is above the last one
 pub below_next : (last : Option ℕ) (order : List Step) (stamp : ℕ) → AreBelow last order → IsAbove last stamp → (t : Step) → Contains order t → stamp_of t.entry < stamp
@@ -253,9 +274,10 @@ after_all fronts logs last recent answers run e above index place a there =
 
 -- an entry that has its source names a read that answered its state
 pub has_read : (fronts : List ℕ) (logs : List Log) (last : Option ℕ) (recent : Recent) (answers : List (List Kept)) → HasFollowed fronts logs last recent answers → (e : Entry) → HasSource logs answers e → HasReadOf fronts logs e
-has_read fronts logs last recent answers run (Merge stamp key from at state) (index, inside, id, there) =
-    let h : IsReadKept fronts logs (steps_behind fronts run.order) run.messages index at key state = run.kept.each index at (kept.Read key state) inside there in
-    ((index, id, (h.stamp, h.there), h.behind), (index, inside, id, h.answer))
+has_read fronts logs last recent answers run (Merge stamp key from at state) (index, inside, id, there, is) =
+    let h : IsReadKept fronts logs (steps_behind fronts run.order) run.messages index at key = run.kept.each index at (kept.Read key) inside there in
+    let same : h.state ≡ state = one_answer fronts logs last recent answers run index at key state inside there h is in
+    ((index, id, (h.stamp, h.there), h.behind), (index, inside, id, subst (λ (t : State). IsReplay (take at (log_at logs index).entries) key t) same h.answer))
 has_read fronts logs last recent answers run (Put stamp key seen content dot) h = tt
 has_read fronts logs last recent answers run (Read stamp key) h = tt
 has_read fronts logs last recent answers run (Restart stamp) h = tt
@@ -274,9 +296,9 @@ held fronts logs last recent answers i e run (inl front) = inl front
 held fronts logs last recent answers i e run (inr (whole, source)) = inr (go e source)
   where
     go : (x : Entry) → HasSource logs answers x → NamesHeld fronts logs recent x
-    go (Merge stamp key from at state) (index, inside, id, there) =
+    go (Merge stamp key from at state) (index, inside, id, there, is) =
         let all = run.kept.left index inside in
-        (index, inside, id, (all.0, all.1, λ over. (let both : Some kept.GivenUp ≡ Some (kept.Read key state) = sym (all.2.gone at over) ∙ there in cc)))
+        (index, inside, id, (all.0, all.1, λ over. (let both : Some kept.GivenUp ≡ Some (kept.Read key) = sym (all.2.gone at over) ∙ there in cc)))
     go (Put stamp key seen content dot) h = tt
     go (Read stamp key) h = tt
     go (Restart stamp) h = tt
@@ -343,12 +365,6 @@ none_behind fronts (x ∷ ss) empty t c behind = split (leb (count_at fronts x.v
     split false is none (inl here) later = (let yes = subst (λ (s : Step). IsBehind fronts s.vnode s.place) (sym here) behind in let before = leb-false (count_at fronts x.vnode) x.place is in omega (arith, yes, before))
     split false is none (inr rest) later = later none rest
 
--- what is kept of an entry, by whether it is one of a front
-pub kept_by : (fronts : List ℕ) (logs : List Log) (i : ℕ) (e : Entry) (a : Answer) (in_front : Bool) (new : Kept) → MatchBool in_front (IsInFront fronts logs i) (IsBehind fronts i (length (log_at logs i).entries)) → MatchBool in_front (new ≡ kept.Other) (new ≡ kept_of e a)
-    → (IsInFront fronts logs i × (new ≡ kept.Other)) ⊎ (IsBehind fronts i (length (log_at logs i).entries) × (new ≡ kept_of e a))
-kept_by fronts logs i e a true new where_is is = inl (where_is, is)
-kept_by fronts logs i e a false new where_is is = inr (where_is, is)
-
 -- an entry of a front more
 front_more : (fronts : List ℕ) (logs : List Log) (last : Option ℕ) (recent : Recent) (answers : List (List Kept)) (i : ℕ) (e : Entry) (list : List Kept) → HasFollowed fronts logs last recent answers → i < length logs → IsAbove last (stamp_of e) → IsInFront fronts logs i
     → IsLeft recent (get_or answers i [] ++ kept.Other ∷ []) list → HasFollowed fronts (with_entry_at logs i e) (Some (stamp_of e)) recent (set answers i list)
@@ -375,17 +391,17 @@ front_more fronts logs last recent answers i e list run inside above front lack 
 ]
 
 -- a step more
-step_more : (fronts : List ℕ) (logs : List Log) (last : Option ℕ) (recent : Recent) (answers : List (List Kept)) (i : ℕ) (e : Entry) (a : Answer) (list : List Kept) → HasFollowed fronts logs last recent answers → i < length logs → MayFollow (log_at logs i).vnode (log_at logs i).entries e
-    → Answers (log_at logs i).vnode (log_at logs i).entries e a → IsAbove last (stamp_of e) → AreWhole fronts logs → HasSource logs answers e → IsLeft recent (get_or answers i [] ++ kept_of e a ∷ []) list
+step_more : (fronts : List ℕ) (logs : List Log) (last : Option ℕ) (recent : Recent) (answers : List (List Kept)) (i : ℕ) (e : Entry) (a : Answer) (new : Kept) (list : List Kept) → HasFollowed fronts logs last recent answers → i < length logs → MayFollow (log_at logs i).vnode (log_at logs i).entries e
+    → Answers (log_at logs i).vnode (log_at logs i).entries e a → IsToKeep (log_at logs i).entries e new → IsAbove last (stamp_of e) → AreWhole fronts logs → HasSource logs answers e → IsLeft recent (get_or answers i [] ++ new ∷ []) list
     → HasFollowed fronts (with_entry_at logs i e) (Some (stamp_of e)) recent (set answers i list)
-step_more fronts logs last recent answers i e a list run inside follows answer above whole source lack =
+step_more fronts logs last recent answers i e a new list run inside follows answer keeps above whole source lack =
     let s = step_at i (length (log_at logs i).entries) e in
     let m = told_of (log_at logs i).vnode (length (log_at logs i).entries) e a in
     let behind : IsBehind fronts i (length (log_at logs i).entries) = whole i inside in
     let joins : steps_behind fronts (run.order ++ s ∷ []) ≡ steps_behind fronts run.order ++ s ∷ [] = behind_more fronts run.order s behind in
-    followed_with fronts logs last recent answers i e (kept_of e a) list run (run.messages ++ m ∷ []) inside above (inr (whole, has_read fronts logs last recent answers run e source)) lack (not_given_up e a)
+    followed_with fronts logs last recent answers i e new list run (run.messages ++ m ∷ []) inside above (inr (whole, has_read fronts logs last recent answers run e source)) lack (not_given_up (log_at logs i).entries e new keeps)
     (λ n t at. ap (λ (ss : List Step). slice_get ss n) joins ∙ still_at (steps_behind fronts run.order) s t n at) (λ n t at. still_at run.messages m t n at)
-    (subst (λ (ss : List Step). IsKept fronts (with_entry_at logs i e) ss (run.messages ++ m ∷ []) i (length (log_at logs i).entries) (kept_of e a)) (sym joins) (step_kept fronts logs (steps_behind fronts run.order) run.messages i e a run.long inside behind answer))
+    (subst (λ (ss : List Step). IsKept fronts (with_entry_at logs i e) ss (run.messages ++ m ∷ []) i (length (log_at logs i).entries) new) (sym joins) (step_kept fronts logs (steps_behind fronts run.order) run.messages i e a new run.long inside behind answer keeps))
     (length_push run.messages m ∙ ap (λ (n : ℕ). n + 1) run.long ∙ sym (length_push (steps_behind fronts run.order) s) ∙ ap length (sym joins)) (inr (whole_still fronts logs i e inside whole)) (λ before. absurd (omega (arith, before, behind)))
     (λ begin begun are begins_so.
     subst (λ (ss : List Step). IsSoFar begin (with_entry_at logs i e) ss (with_entry_at logs i e) (run.messages ++ m ∷ [])) (sym joins)
@@ -394,14 +410,12 @@ step_more fronts logs last recent answers i e a list run inside follows answer a
 
 -- one entry more
 pub followed_more : (fronts : List ℕ) (logs : List Log) (last : Option ℕ) (recent : Recent) (answers : List (List Kept)) (i : ℕ) (e : Entry) (a : Answer) (new : Kept) (list : List Kept) → HasFollowed fronts logs last recent answers → i < length logs
-    → MayFollow (log_at logs i).vnode (log_at logs i).entries e → Answers (log_at logs i).vnode (log_at logs i).entries e a → IsAbove last (stamp_of e) → IsExpected fronts logs answers i e
-    → (IsInFront fronts logs i × (new ≡ kept.Other)) ⊎ (IsBehind fronts i (length (log_at logs i).entries) × (new ≡ kept_of e a)) → IsLeft recent (get_or answers i [] ++ new ∷ []) list
+    → MayFollow (log_at logs i).vnode (log_at logs i).entries e → Answers (log_at logs i).vnode (log_at logs i).entries e a → IsAbove last (stamp_of e) → IsExpected fronts logs answers i e → IsNextKept fronts logs i e new → IsLeft recent (get_or answers i [] ++ new ∷ []) list
     → HasFollowed fronts (with_entry_at logs i e) (Some (stamp_of e)) recent (set answers i list)
-followed_more fronts logs last recent answers i e a new list run inside follows answer above (inr (whole, source)) (inr (behind, is)) lack =
-    step_more fronts logs last recent answers i e a list run inside follows answer above whole source (subst (λ (k : Kept). IsLeft recent (get_or answers i [] ++ k ∷ []) list) is lack)
+followed_more fronts logs last recent answers i e a new list run inside follows answer above (inr (whole, source)) (inr (behind, keeps)) lack = step_more fronts logs last recent answers i e a new list run inside follows answer keeps above whole source lack
 followed_more fronts logs last recent answers i e a new list run inside follows answer above (inl front) (inl (also, is)) lack =
     front_more fronts logs last recent answers i e list run inside above front (subst (λ (k : Kept). IsLeft recent (get_or answers i [] ++ k ∷ []) list) is lack)
-followed_more fronts logs last recent answers i e a new list run inside follows answer above (inl front) (inr (behind, is)) lack = absurd (omega (arith, front, behind))
+followed_more fronts logs last recent answers i e a new list run inside follows answer above (inl front) (inr (behind, keeps)) lack = absurd (omega (arith, front, behind))
 followed_more fronts logs last recent answers i e a new list run inside follows answer above (inr (whole, source)) (inl (front, is)) lack = absurd (let all = whole i inside in omega (arith, all, front))
 
 -- what was followed is a run from each beginning

@@ -1,6 +1,7 @@
 -- What is kept of a vnode's entries: the longest end of their answers that isn't more than is kept.
-use Rattle.std.proofs.Common.{◌≡◌, ℕ, zero, suc, ◌+◌, ◌-◌, ◌*◌, ◌<◌, ◌≤◌, ◌⊎◌, List, [], ◌∷◌, ◌++◌, length, drop, replicate, refl, sym, ap, subst, ◌∙◌, inl, inr, arith, None, Some}
+use Rattle.std.proofs.Common.{◌≡◌, ℕ, zero, suc, ◌+◌, ◌-◌, ◌*◌, ◌<◌, ◌≤◌, ◌⊎◌, List, [], ◌∷◌, ◌++◌, length, drop, replicate, refl, sym, ap, subst, ◌∙◌, inl, inr, arith, Option, None, Some, Bool, true, false, cond}
 use Rattle.std.specs.Prelude.{slice_get, sum_by}
+use Rattle.std.specs.Option.{option_or}
 use Rattle.std.proofs.lemmas.Bool.{cases_lt}
 use Rattle.std.proofs.lemmas.List.{drop-append-le, drop_all, length-drop, length_push}
 use Rattle.std.proofs.lemmas.List.Sums.{sum_by-cons, sum_by-take-drop, sum_by_push}
@@ -10,9 +11,13 @@ use Rattle.std.proofs.lemmas.Option.{same_Some}
 use Rattle.rerun.specs.declared.kept.Kept.{Kept}
 use Rattle.rerun.specs.declared.kept.Kept.TheVariants.{GivenUp}
 use Rattle.rerun.specs.declared.kept.Kept.TheVariants as kept
-use Rattle.rerun.specs.Sizes.{content_bytes, most_bytes}
+use Rattle.object.specs.declared.content.Key.{Key}
+use Rattle.object.specs.Sizes.{content_bytes, most_bytes}
+use Rattle.object.specs.State.{State}
+use Rattle.journal.specs.Keys.{same_key}
+use Rattle.journal.proofs.Keyed.{one_key, same_itself}
 use Rattle.rerun.specs.declared.kept.Recent.{Recent}
-use Rattle.rerun.specs.Kept.{kept_bytes, IsOver, IsLeft}
+use Rattle.rerun.specs.Kept.{kept_bytes, first_was, was_before, IsOver, IsLeft}
 
 -- ---- ends
 
@@ -28,7 +33,7 @@ over_more recent end other (many, inl entries) long held = (omega (arith, many, 
 over_more recent end other (many, inr bytes) long held = (omega (arith, many, long), inr (omega (arith, bytes, held)))
 
 -- an end that begins earlier is more, too
-over_before : (recent : Recent) (all : List Kept) (p q : ℕ) → p ≤ q → IsOver recent (drop q all) → IsOver recent (drop p all)
+pub over_before : (recent : Recent) (all : List Kept) (p q : ℕ) → p ≤ q → IsOver recent (drop q all) → IsOver recent (drop p all)
 over_before recent all p q le over = over_more recent (drop q all) (drop p all) over (omega (arith, length-drop p all, length-drop q all, le)) (less_held p q all le)
 
 pub over_or_not : (recent : Recent) (end : List Kept) → IsOver recent end ⊎ (IsOver recent end → ⊥)
@@ -48,7 +53,8 @@ over_or_not recent end = elim (cases_lt recent.always (length end)) [
 
 -- the bytes of one answer
 at_most : (k : Kept) → kept_bytes k ≤ 18446744073709551615
-at_most (kept.Read key state) = min-le_right (sum_by (λ s. content_bytes s.content) state.siblings) most_bytes
+at_most (kept.Was key state) = min-le_right (sum_by (λ s. content_bytes s.content) state.siblings) most_bytes
+at_most (kept.Read key) = omega arith
 at_most kept.Other = omega arith
 at_most kept.GivenUp = omega arith
 
@@ -178,3 +184,48 @@ left_more recent all list new k was left = record {
   where
     same : (place : ℕ) → (IsOver recent (drop place all) → ⊥) → drop place (list ++ k ∷ []) ≡ drop place (all ++ k ∷ [])
     same place not = end_pushed list all k place was.size (same_ends place list all was.size (λ q le. was.stays q (λ over. not (over_before recent all place q le over))))
+
+-- ---- what was there before a change
+
+pub drop_next : (list : List Kept) (p : ℕ) (k : Kept) → slice_get list p ≡ Some k → drop p list ≡ k ∷ drop (p + 1) list
+drop_next [] p k is = absurd (let none : None ≡ Some k = is in cc)
+drop_next (x ∷ xs) zero k is = ap (λ (y : Kept). y ∷ xs) (same_Some x k is)
+drop_next (x ∷ xs) (suc p) k is = drop_next xs p k is ∙ ap (λ (m : ℕ). k ∷ drop m (x ∷ xs)) (let m : suc (p + 1) ≡ suc p + 1 = omega arith in m)
+
+-- a change of the key itself tells its state
+same_was : (key : Key) (state : State) (b : Bool) → same_key key key ≡ b → Some state ≡ cond b (Some state) None
+same_was key state true is = refl
+same_was key state false is = (let clash : true ≡ false = sym (same_itself key) ∙ is in cc)
+
+pub was_same : (own key : Key) (state : State) → own ≡ key → Some state ≡ was_before (kept.Was own state) key
+was_same own key state same = subst (λ (k : Key). Some state ≡ was_before (kept.Was k state) key) (sym same) (same_was key state (same_key key key) refl)
+
+-- that of another doesn't
+other_was : (own key : Key) (state : State) (b : Bool) → same_key own key ≡ b → (own ≡ key → ⊥) → None ≡ cond b (Some state) None
+other_was own key state true is differs = absurd (differs (one_key own key is))
+other_was own key state false is differs = refl
+
+pub was_other : (own key : Key) (state : State) → (own ≡ key → ⊥) → None ≡ was_before (kept.Was own state) key
+was_other own key state differs = other_was own key state (same_key own key) refl differs
+
+-- those that were given up tell nothing of it
+first_here : (first p : ℕ) (here : List Kept) (key : Key) → first_was (drop p (replicate first GivenUp ++ here)) key ≡ first_was (drop (p - first) here) key
+first_here zero p here key = ap (λ (n : ℕ). first_was (drop n here) key) (let n : p ≡ p - 0 = omega arith in n)
+first_here (suc first) zero here key = first_here first 0 here key ∙ ap (λ (n : ℕ). first_was (drop n here) key) (let n : 0 - first ≡ 0 - suc first = omega arith in n)
+first_here (suc first) (suc p) here key = first_here first p here key ∙ ap (λ (n : ℕ). first_was (drop n here) key) (let n : p - first ≡ suc p - suc first = omega arith in n)
+
+-- so only those that are here are looked at
+pub first_begun : (list : List Kept) (first p behind : ℕ) (here : List Kept) (key : Key) → replicate first GivenUp ++ here ≡ list → behind ≡ p - first → first_was (drop p list) key ≡ first_was (drop behind here) key
+first_begun list first p behind here key is at = ap (λ (l : List Kept). first_was (drop p l) key) (sym is) ∙ first_here first p here key ∙ ap (λ (n : ℕ). first_was (drop n here) key) (sym at)
+
+-- one that tells nothing of it is passed
+pub first_passed : (here : List Kept) (i : ℕ) (k : Kept) (key : Key) → slice_get here i ≡ Some k → None ≡ was_before k key → first_was (drop i here) key ≡ first_was (drop (i + 1) here) key
+first_passed here i k key at none = ap (λ (l : List Kept). first_was l key) (drop_next here i k at) ∙ ap (λ (o : Option State). option_or o (first_was (drop (i + 1) here) key)) (sym none)
+
+-- one that tells it is the first
+pub first_found : (here : List Kept) (i : ℕ) (k : Kept) (key : Key) (state : State) → slice_get here i ≡ Some k → Some state ≡ was_before k key → Some state ≡ first_was (drop i here) key
+first_found here i k key state at some = sym (ap (λ (l : List Kept). first_was l key) (drop_next here i k at) ∙ ap (λ (o : Option State). option_or o (first_was (drop (i + 1) here) key)) (sym some))
+
+-- behind the last there is none
+pub first_none : (here : List Kept) (i : ℕ) (key : Key) → length here ≤ i → None ≡ first_was (drop i here) key
+first_none here i key past = sym (ap (λ (l : List Kept). first_was l key) (drop_all i here past))

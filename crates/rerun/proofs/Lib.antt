@@ -9,6 +9,7 @@ mod Keeping
 pub mod Names
 pub mod Opening
 mod Grown
+mod Answered
 mod Going
 mod Telling
 mod Fronts

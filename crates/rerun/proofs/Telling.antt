@@ -9,7 +9,6 @@ use Rattle.journal.specs.Entry.{Entry, Put, Merge, Read, Restart}
 use Rattle.journal.specs.Logs.{Log, with_entry}
 use Rattle.journal.specs.Replay.{IsReplay}
 use Rattle.journal.specs.Stamps.{stamp_of}
-use Rattle.journal.proofs.Unique.{one_replay}
 use Rattle.world.specs.Represents.{log_at, with_entry_at}
 use Rattle.rerun.specs.Turns.{EntryIn}
 use Rattle.rerun.proofs.Next.{at_end}
@@ -22,9 +21,10 @@ use Rattle.rerun.specs.declared.kept.Kept.{Kept}
 use Rattle.rerun.specs.declared.kept.Kept.TheVariants as kept
 use Rattle.rerun.specs.declared.kept.Recent.{Recent}
 use Rattle.rerun.specs.Wrong.{IsWrong, IsToldOf, IsNewest, IsStampFault, IsNotKept, IsMergeFault, IsSourceFault, IsPlaceFault, IsFoundWrong}
-use Rattle.rerun.specs.Followed.{kept_at, HasFollowed, IsAbove, IsExpected, IsReadKept, IsNoRead}
+use Rattle.rerun.specs.Followed.{kept_at, key_changed, HasFollowed, IsAbove, IsExpected, IsReadKept, IsRestart, IsWas}
 use Rattle.rerun.specs.Beginnings.{IsBehind, steps_behind}
 use Rattle.rerun.proofs.Sorting.{one_index}
+use Rattle.rerun.proofs.Answered.{answered}
 use Rattle.rerun.proofs.Going.{after_all, founded, given_up}
 
 -- ---- merges
@@ -44,11 +44,15 @@ not_read fronts logs last recent answers run index at stamp key (inl none) behin
 not_read fronts logs last recent answers run index at stamp key (inr (inl other)) behind there =
     let h = run.kept.each index at kept.Other there.0 other in
     elim h.2 [
-      | inl plain ↦ subst (λ (e : Entry). IsNoRead e) (one_entry logs index at h.0 (Read stamp key) h.1 there) plain
+      | inl plain ↦ subst (λ (e : Entry). IsRestart e) (one_entry logs index at h.0 (Read stamp key) h.1 there) plain
       | inr before ↦ omega (arith, before, behind)
     ]
-not_read fronts logs last recent answers run index at stamp key (inr (inr (other, state, is, differs))) behind there =
-    let h : IsReadKept fronts logs (steps_behind fronts run.order) run.messages index at other state = run.kept.each index at (kept.Read other state) there.0 is in
+not_read fronts logs last recent answers run index at stamp key (inr (inr (inl (own, state, is)))) behind there =
+    let h : IsWas fronts logs index at own state = run.kept.each index at (kept.Was own state) there.0 is in
+    let none : None ≡ Some own = subst (λ (e : Entry). key_changed e ≡ Some own) (one_entry logs index at h.0.0 (Read stamp key) h.0.1 there) h.0.2 in
+    cc
+not_read fronts logs last recent answers run index at stamp key (inr (inr (inr (other, is, differs)))) behind there =
+    let h : IsReadKept fronts logs (steps_behind fronts run.order) run.messages index at other = run.kept.each index at (kept.Read other) there.0 is in
     let e : Read h.stamp other ≡ Read stamp key = one_entry logs index at (Read h.stamp other) (Read stamp key) h.there there in
     differs (let k : other ≡ key = cc in k)
 
@@ -66,8 +70,8 @@ merge_wrong fronts logs last recent answers run i stamp key from at state NoSour
       let same : read.0 ≡ index = same_index fronts logs last recent answers run read.0 index from read.2.1.0 is.0 read.1 is.1 in
       not_read fronts logs last recent answers run index at read.2.0 key not (subst (λ (j : ℕ). IsBehind fronts j at) same read.3) (subst (λ (j : ℕ). EntryIn logs j at (Read read.2.0 key)) same read.2.1)),
 )
-merge_wrong fronts logs last recent answers run i stamp key from at state OtherState behind (index, is, (other, there, differs)) =
-    let h : IsReadKept fronts logs (steps_behind fronts run.order) run.messages index at key other = run.kept.each index at (kept.Read key other) is.0 there in (
+merge_wrong fronts logs last recent answers run i stamp key from at state OtherState behind (index, is, there, differs) =
+    let h : IsReadKept fronts logs (steps_behind fronts run.order) run.messages index at key = run.kept.each index at (kept.Read key) is.0 there in (
       stamp,
       key,
       from,
@@ -75,7 +79,7 @@ merge_wrong fronts logs last recent answers run i stamp key from at state OtherS
       state,
       (refl, behind),
       (index, is.1, (h.stamp, h.there), h.behind),
-      λ answer. differs (one_replay (take at (log_at logs index).entries) key other state h.answer
+      λ answer. differs (answered fronts logs last recent answers run index at key state is.0 there
           (subst (λ (j : ℕ). IsReplay (take at (log_at logs j).entries) key state) (same_index fronts logs last recent answers run answer.0 index from answer.1 is.0 answer.2 is.1) answer.3)),
     )
 merge_wrong fronts logs last recent answers run i stamp key from at state GivenUp behind (index, is, gone) = (stamp, key, from, at, state, (refl, behind), (index, is.0, is.1, given_up fronts logs last recent answers run index at is.0 gone))

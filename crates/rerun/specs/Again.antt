@@ -1,5 +1,8 @@
 -- What an entry that happens again answers, and why it doesn't happen again.
-use Rattle.journal.specs.Answers.{Answer, numbered, changed, copied, done}
+use Rattle.std.specs.Prelude.{◌≡◌, ℕ, List}
+use Rattle.object.specs.State.{State}
+use Rattle.journal.specs.Answers.{Answer, Answers, numbered, changed, copied, done}
+use Rattle.journal.specs.Entry.{Entry}
 use Rattle.vnode.specs.declared.fault.VnodeFault.{VnodeFault}
 use Rattle.vnode.specs.declared.fault.VnodeFault.TheVariants.{ContextAhead, TooManySiblings, ClockFull, MergedClockFull, JournalFull, NoMemory}
 use Rattle.rerun.specs.declared.again.Again.{Again}
@@ -7,12 +10,16 @@ use Rattle.rerun.specs.declared.again.Again.TheVariants as again
 use Rattle.rerun.specs.declared.again.Refusal.{Refusal}
 use Rattle.rerun.specs.declared.again.Refusal.TheVariants as refusal
 
--- the answer of a vnode that it is
-abbrev pub answer_of : Again → Answer
-answer_of (again.Numbered dot) = numbered dot
-answer_of (again.Changed changes) = changed changes
-answer_of (again.Copied state) = copied state
-answer_of again.Done = done
+-- what is told of a vnode's answer where an entry happens again: all of it, but of a read, of which nothing is looked up, that it answered a state
+abbrev pub IsTold : Again → Answer → Type 0
+IsTold (again.Numbered dot) answer = answer ≡ numbered dot
+IsTold (again.Changed changes) answer = answer ≡ changed changes
+IsTold again.Noted answer = (state : State) × (answer ≡ copied state)
+IsTold again.Done answer = answer ≡ done
+
+-- what is told of what a vnode answers to an entry that follows these
+abbrev pub Tells : ℕ → List Entry → Entry → Again → Type 0
+Tells vnode before e told = (answer : Answer) × Answers vnode before e answer × IsTold told answer
 
 -- a vnode's refusal is one of memory, or the entry isn't legal
 abbrev pub refusal_of : VnodeFault → Refusal

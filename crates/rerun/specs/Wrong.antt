@@ -18,7 +18,7 @@ use Rattle.rerun.specs.declared.kept.Kept.TheVariants as kept
 use Rattle.rerun.specs.Beginnings.{AreWhole, IsBehind, IsInFront}
 use Rattle.rerun.specs.declared.kept.Recent.{Recent}
 use Rattle.rerun.specs.Kept.{IsOver}
-use Rattle.rerun.specs.Followed.{AreAnswers, kept_at}
+use Rattle.rerun.specs.Followed.{AreAnswers, IsAnswered, kept_at}
 
 -- a read of this key stands at a place of the vnode with an identifier, behind its front
 abbrev pub IsReadAt : List ℕ → List Log → ℕ → ℕ → Key → Type 0
@@ -32,7 +32,7 @@ IsAnswerAt logs from at key state = (index : ℕ) × (index < length logs) × ((
 abbrev pub IsMergeBehind : List ℕ → List Log → ℕ → Entry → ℕ → Key → ℕ → ℕ → State → Type 0
 IsMergeBehind fronts logs index e stamp key from at state = (e ≡ Merge stamp key from at state) × IsBehind fronts index (length (log_at logs index).entries)
 
--- what the entry at a place of the vnode with this index answered isn't kept: the end from there on of what the entries answered is more than is kept
+-- what tells what the entry at a place of the vnode with this index answered isn't kept: the end from there on of what there is of its entries is more than is kept
 abbrev pub IsGivenUpAt : List ℕ → List Log → Recent → ℕ → ℕ → Type 0
 IsGivenUpAt fronts logs recent index at = (all : List Kept) × AreAnswers fronts logs index all × IsOver recent (drop at all)
 
@@ -41,7 +41,7 @@ abbrev pub IsHeldAt : List ℕ → List Log → Recent → ℕ → ℕ → Type 
 IsHeldAt fronts logs recent index at = (all : List Kept) × AreAnswers fronts logs index all × (IsOver recent (drop at all) → ⊥)
 
 -- What is wrong with an entry that is the next one of the vnode with this index, where these entries were followed, the first ones of each vnode as what was there
--- before, and of the recent ones of each vnode answers were kept.
+-- before, and of the recent ones of each vnode it was kept what tells what they answered.
 abbrev pub IsWrong : List ℕ → List Log → Recent → ℕ → Entry → FollowCode → Type 0
 -- its stamp stands in the journal of another vnode
 IsWrong fronts logs recent index e Twice = (other place : ℕ) × (a : Entry) × EntryIn logs other place a × (other ≢ index) × (stamp_of a ≡ stamp_of e)
@@ -113,7 +113,8 @@ IsStampFault last newest index stamp code = MatchOption last ⊥ (λ before. IsS
 
 -- no read of this key is kept at a place
 abbrev pub IsNotKept : List (List Kept) → ℕ → ℕ → Key → Type 0
-IsNotKept answers index at key = (kept_at answers index at ≡ None) ⊎ (kept_at answers index at ≡ Some kept.Other) ⊎ ((other : Key) × (state : State) × (kept_at answers index at ≡ Some (kept.Read other state)) × (other ≢ key))
+IsNotKept answers index at key =
+    (kept_at answers index at ≡ None) ⊎ (kept_at answers index at ≡ Some kept.Other) ⊎ ((own : Key) × (state : State) × (kept_at answers index at ≡ Some (kept.Was own state))) ⊎ ((other : Key) × (kept_at answers index at ≡ Some (kept.Read other)) × (other ≢ key))
 
 -- the vnode with this index has that identifier
 abbrev pub IsIndexOf : List Log → ℕ → ℕ → Type 0
@@ -122,7 +123,7 @@ IsIndexOf logs index from = (index < length logs) × ((log_at logs index).vnode 
 -- what is kept where a merge names an entry
 abbrev pub IsMergeFault : List Log → List (List Kept) → Key → ℕ → ℕ → State → FollowCode → Type 0
 IsMergeFault logs answers key from at state NoSource = ((index : ℕ) → index < length logs → (log_at logs index).vnode ≢ from) ⊎ ((index : ℕ) × IsIndexOf logs index from × IsNotKept answers index at key)
-IsMergeFault logs answers key from at state OtherState = (index : ℕ) × IsIndexOf logs index from × ((other : State) × (kept_at answers index at ≡ Some (kept.Read key other)) × (other ≢ state))
+IsMergeFault logs answers key from at state OtherState = (index : ℕ) × IsIndexOf logs index from × (kept_at answers index at ≡ Some (kept.Read key)) × (IsAnswered logs answers index at key state → ⊥)
 IsMergeFault logs answers key from at state GivenUp = (index : ℕ) × IsIndexOf logs index from × (kept_at answers index at ≡ Some kept.GivenUp)
 IsMergeFault logs answers key from at state Twice = ⊥
 IsMergeFault logs answers key from at state Falls = ⊥

@@ -1,18 +1,20 @@
 //! An entry happens again.
 
 ghost use Rattle.std.specs.Prelude.{◌≡◌, IfOk, OnOk, Err};
-ghost use Rattle.journal.specs.Answers.{Answers};
 ghost use Rattle.journal.specs.Entry.{Put, Merge, Read, Restart};
 ghost use Rattle.journal.specs.Journals.{MayFollow};
 ghost use Rattle.journal.specs.Logs.{with_entry};
-ghost use Rattle.rerun.specs.Again.{answer_of};
+ghost use Rattle.rerun.specs.Again.{Tells};
 
-use dvv::{Clock, Dot};
-use journal::{Entry, Said};
-use object::{Content, Key, KeyState};
+use dvv::Dot;
+use journal::{Entry, Merged, Taken, Write};
+use object::Key;
 use std::alloc::Global;
 use thiserror::Error;
 use vnode::{Vnode, VnodeFault};
+
+/// A vnode with more entries here than a full block has is settled.
+const BLOCK: usize = 1024;
 
 /// What an entry answers when it happens again.
 #[derive(Drop)]
@@ -21,8 +23,8 @@ pub enum Again {
     Numbered(Dot),
     /// A merge whether siblings or clock of its key changed.
     Changed(bool),
-    /// A read the state of its key.
-    Copied(KeyState),
+    /// A read the state of its key, which isn't looked up here.
+    Noted,
     /// A restart nothing.
     Done,
 }
@@ -53,22 +55,14 @@ impl From<VnodeFault> for Refusal {
 }
 
 // A put happens again, and gets its dot. Where it leaves the state that it left before, it shares its memory.
-fn put_again(
-    vnode: &mut Vnode,
-    stamp: u64,
-    key: &Key,
-    seen: &Clock,
-    content: &Content,
-    dot: Dot,
-    left: Option<&KeyState>,
-) -> Result<Again, Refusal>
-    ensures legal { OnOk result (MayFollow vnode.old.vnode vnode.old.entries (Put stamp key.now seen.now content.now dot)) }
-    ensures entry { OnOk result (vnode.new ≡ with_entry vnode.old (Put stamp key.now seen.now content.now dot)) }
-    ensures answer { IfOk result (λ again. Answers vnode.old.vnode vnode.old.entries (Put stamp key.now seen.now content.now dot) (answer_of again)) }
-    ensures illegal { result ≡ Err Refusal.Illegal → MayFollow vnode.old.vnode vnode.old.entries (Put stamp key.now seen.now content.now dot) → ⊥ }
+fn put_again(vnode: &mut Vnode, stamp: u64, write: Box<Write>, dot: Dot) -> Result<Again, Refusal>
+    ensures legal { OnOk result (MayFollow vnode.old.vnode vnode.old.entries (Put stamp write.value.key write.value.seen write.value.content dot)) }
+    ensures entry { OnOk result (vnode.new ≡ with_entry vnode.old (Put stamp write.value.key write.value.seen write.value.content dot)) }
+    ensures answer { IfOk result (λ again. Tells vnode.old.vnode vnode.old.entries (Put stamp write.value.key write.value.seen write.value.content dot) again) }
+    ensures illegal { result ≡ Err Refusal.Illegal → MayFollow vnode.old.vnode vnode.old.entries (Put stamp write.value.key write.value.seen write.value.content dot) → ⊥ }
     ensures id { vnode.new.vnode ≡ vnode.old.vnode }
 {
-    let (next, _) = vnode.put_expecting(stamp, key, seen, content, left)?;
+    let (next, _) = vnode.put(stamp, write)?;
     if next != dot {
         return Err(Refusal::Illegal);
     }
@@ -76,41 +70,34 @@ fn put_again(
 }
 
 // A merge happens again.
-fn merge_again(
-    vnode: &mut Vnode,
-    stamp: u64,
-    key: &Key,
-    from: u32,
-    at: u32,
-    state: &KeyState,
-) -> Result<Again, Refusal>
-    ensures legal { OnOk result (MayFollow vnode.old.vnode vnode.old.entries (Merge stamp key.now from at state.now)) }
-    ensures entry { OnOk result (vnode.new ≡ with_entry vnode.old (Merge stamp key.now from at state.now)) }
-    ensures answer { IfOk result (λ again. Answers vnode.old.vnode vnode.old.entries (Merge stamp key.now from at state.now) (answer_of again)) }
-    ensures illegal { result ≡ Err Refusal.Illegal → MayFollow vnode.old.vnode vnode.old.entries (Merge stamp key.now from at state.now) → ⊥ }
+fn merge_again(vnode: &mut Vnode, stamp: u64, merged: Box<Merged>) -> Result<Again, Refusal>
+    ensures legal { OnOk result (MayFollow vnode.old.vnode vnode.old.entries (Merge stamp merged.value.key merged.value.from merged.value.at merged.value.state)) }
+    ensures entry { OnOk result (vnode.new ≡ with_entry vnode.old (Merge stamp merged.value.key merged.value.from merged.value.at merged.value.state)) }
+    ensures answer { IfOk result (λ again. Tells vnode.old.vnode vnode.old.entries (Merge stamp merged.value.key merged.value.from merged.value.at merged.value.state) again) }
+    ensures illegal { result ≡ Err Refusal.Illegal → MayFollow vnode.old.vnode vnode.old.entries (Merge stamp merged.value.key merged.value.from merged.value.at merged.value.state) → ⊥ }
     ensures id { vnode.new.vnode ≡ vnode.old.vnode }
 {
-    let (changed, _) = vnode.merge_lent(stamp, key, from, at, state)?;
+    let (changed, _) = vnode.merge(stamp, merged)?;
     Ok(Again::Changed(changed))
 }
 
-// A read happens again.
-fn read_again(vnode: &mut Vnode, stamp: u64, key: &Key) -> Result<Again, Refusal>
-    ensures legal { OnOk result (MayFollow vnode.old.vnode vnode.old.entries (Read stamp key.now)) }
-    ensures entry { OnOk result (vnode.new ≡ with_entry vnode.old (Read stamp key.now)) }
-    ensures answer { IfOk result (λ again. Answers vnode.old.vnode vnode.old.entries (Read stamp key.now) (answer_of again)) }
-    ensures illegal { result ≡ Err Refusal.Illegal → MayFollow vnode.old.vnode vnode.old.entries (Read stamp key.now) → ⊥ }
+// A read happens again. Nothing is looked up.
+fn read_again(vnode: &mut Vnode, stamp: u64, key: Key) -> Result<Again, Refusal>
+    ensures legal { OnOk result (MayFollow vnode.old.vnode vnode.old.entries (Read stamp key)) }
+    ensures entry { OnOk result (vnode.new ≡ with_entry vnode.old (Read stamp key)) }
+    ensures answer { IfOk result (λ again. Tells vnode.old.vnode vnode.old.entries (Read stamp key) again) }
+    ensures illegal { result ≡ Err Refusal.Illegal → MayFollow vnode.old.vnode vnode.old.entries (Read stamp key) → ⊥ }
     ensures id { vnode.new.vnode ≡ vnode.old.vnode }
 {
-    let (state, _) = vnode.read(stamp, key)?;
-    Ok(Again::Copied(state))
+    vnode.note_read(stamp, key)?;
+    Ok(Again::Noted)
 }
 
 // A restart happens again.
 fn restart_again(vnode: &mut Vnode, stamp: u64) -> Result<Again, Refusal>
     ensures legal { OnOk result (MayFollow vnode.old.vnode vnode.old.entries (Restart stamp)) }
     ensures entry { OnOk result (vnode.new ≡ with_entry vnode.old (Restart stamp)) }
-    ensures answer { IfOk result (λ again. Answers vnode.old.vnode vnode.old.entries (Restart stamp) (answer_of again)) }
+    ensures answer { IfOk result (λ again. Tells vnode.old.vnode vnode.old.entries (Restart stamp) again) }
     ensures illegal { result ≡ Err Refusal.Illegal → MayFollow vnode.old.vnode vnode.old.entries (Restart stamp) → ⊥ }
     ensures id { vnode.new.vnode ≡ vnode.old.vnode }
 {
@@ -118,36 +105,34 @@ fn restart_again(vnode: &mut Vnode, stamp: u64) -> Result<Again, Refusal>
     Ok(Again::Done)
 }
 
-/// An entry happens again at a vnode that has those before it. The vnode settles: it keeps at most a block of its entries in
-/// memory. Answers what the vnode answers.
+// The vnode settles, where it has a full block and more.
+fn settle(alloc: Global, vnode: &mut Vnode)
+    ensures { vnode.new ≡ vnode.old }
+{
+    let journal = vnode.journal();
+    if journal.len() - journal.first() > BLOCK {
+        let _ = vnode.settle(Vec::new(alloc));
+    }
+}
+
+/// An entry, which is taken over, happens again at a vnode that has those before it. The vnode settles: it keeps at most a block of its
+/// entries in memory. Answers what the vnode answers, but not the state that a read does.
 ///
 /// `Illegal` where the entry may not follow those at the vnode. A put with another dot than the next one is found after it was
 /// written, and stays there under that one: a vnode that has refused is of no further use. `NoMemory` where a growth was refused.
-pub fn happen(alloc: Global, vnode: &mut Vnode, entry: &Entry) -> Result<Again, Refusal>
-    ensures legal { OnOk result (MayFollow vnode.old.vnode vnode.old.entries entry.now) }
-    ensures entry { OnOk result (vnode.new ≡ with_entry vnode.old entry.now) }
-    ensures answer { IfOk result (λ again. Answers vnode.old.vnode vnode.old.entries entry.now (answer_of again)) }
-    ensures illegal { result ≡ Err Refusal.Illegal → MayFollow vnode.old.vnode vnode.old.entries entry.now → ⊥ }
+pub fn happen(alloc: Global, vnode: &mut Vnode, entry: Entry) -> Result<Again, Refusal>
+    ensures legal { OnOk result (MayFollow vnode.old.vnode vnode.old.entries entry) }
+    ensures entry { OnOk result (vnode.new ≡ with_entry vnode.old entry) }
+    ensures answer { IfOk result (λ again. Tells vnode.old.vnode vnode.old.entries entry again) }
+    ensures illegal { result ≡ Err Refusal.Illegal → MayFollow vnode.old.vnode vnode.old.entries entry → ⊥ }
     ensures id { vnode.new.vnode ≡ vnode.old.vnode }
 {
-    let again = match entry.said() {
-        Said::Put {
-            stamp,
-            key,
-            seen,
-            content,
-            dot,
-        } => put_again(vnode, stamp, key, seen, content, dot, entry.left()),
-        Said::Merge {
-            stamp,
-            key,
-            from,
-            at,
-            state,
-        } => merge_again(vnode, stamp, key, from, at, state),
-        Said::Read { stamp, key } => read_again(vnode, stamp, key),
-        Said::Restart { stamp } => restart_again(vnode, stamp),
+    let again = match entry.taken() {
+        Taken::Put { stamp, write, dot } => put_again(vnode, stamp, write, dot),
+        Taken::Merge { stamp, merged } => merge_again(vnode, stamp, merged),
+        Taken::Read { stamp, key } => read_again(vnode, stamp, key),
+        Taken::Restart { stamp } => restart_again(vnode, stamp),
     };
-    let _ = vnode.settle(Vec::new(alloc));
+    settle(alloc, vnode);
     again
 }

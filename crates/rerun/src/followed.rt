@@ -1,14 +1,13 @@
 //! What was followed of some vnodes.
 
-ghost use Rattle.std.specs.Prelude.{◌≡◌, ◌≢◌, ◌<◌, ℕ, IfOk, IfErr, OnOk, MatchBool, MatchOption, Err, None, Some, length};
+ghost use Rattle.std.specs.Prelude.{◌≡◌, ◌≢◌, ◌↔◌, ◌<◌, ℕ, IfOk, IfErr, IsTrue, OnOk, MatchBool, MatchOption, Err, None, Some, length};
 ghost use Rattle.journal.specs.Stamps.{stamp_of};
 ghost use Rattle.world.specs.Represents.{AreDistinct, empty_logs, log_at, with_entry_at};
-ghost use Rattle.rerun.specs.Again.{answer_of};
 ghost use Rattle.rerun.specs.Wrong.{IsNewest, IsStampFault, IsMergeFault, IsSourceFault, IsPlaceFault, IsFoundWrong, IsAfterAll, IsFounded, IsHeld, IsToldOf};
 ghost use Rattle.rerun.specs.Beginnings.{AreWhole, IsBehind, IsInFront};
-ghost use Rattle.rerun.specs.Followed.{HasFollowed, HasSource, IsAbove, IsExpected, IsSourceKept, kept_of};
+ghost use Rattle.rerun.specs.Followed.{HasFollowed, HasSource, IsAbove, IsAnswerOf, IsExpected, IsNextKept, IsSourceKept, IsToKeep};
 
-use crate::again::{Again, Refusal, happen};
+use crate::again::{Refusal, happen};
 use crate::kept::{Answers, Found, Kept, Recent};
 use findings::{FollowCode, FollowFault};
 use journal::{Entry, Said};
@@ -26,6 +25,17 @@ pub(crate) fn index_of(vnodes: &[Vnode], id: u32) -> Option<usize>
         }
     }
     None
+}
+
+// Whether a state is what a read of a key answered, which is kept at a place of a vnode: it is the one before the first change of the key behind the read, or,
+// where there is none, the one that is there now.
+fn is_answer(vnode: &Vnode, kept: &Answers, at: u32, key: &Key, state: &KeyState) -> bool
+    ensures { IsTrue result ↔ IsAnswerOf vnode.now kept.now at key.now state.now }
+{
+    match kept.first_was(at, key) {
+        Some(was) => was.is_same(state),
+        None => vnode.holds(key, state),
+    }
 }
 
 // Whether a merge's state is what the read that it names answered.
@@ -47,11 +57,11 @@ fn check_merge(
     match answers[index].at(at) {
         Found::Nothing => Err(FollowCode::NoSource),
         Found::GivenUp => Err(FollowCode::GivenUp),
-        Found::Read(own, answer) => {
+        Found::Read(own) => {
             if own != key {
                 return Err(FollowCode::NoSource);
             }
-            if !answer.is_same(state) {
+            if !is_answer(&vnodes[index], &answers[index], at, key, state) {
                 return Err(FollowCode::OtherState);
             }
             Ok(())
@@ -59,24 +69,18 @@ fn check_merge(
     }
 }
 
-// What is kept of an entry that answered so.
-fn keep_answer(entry: &Entry, again: Again) -> Result<Kept, AllocError>
-    ensures { IfOk result (λ kept. kept ≡ kept_of entry.now (answer_of again)) }
+// What is kept of an entry that is behind its front and next at a vnode. Of a put and of a merge it is the state that they will replace: it is shared.
+fn kept_of(vnode: &Vnode, entry: &Entry) -> Result<Kept, AllocError>
+    ensures { IfOk result (IsToKeep vnode.now.entries entry.now) }
 {
-    match (entry.said(), again) {
-        (Said::Read { key, .. }, Again::Copied(state)) => Ok(Kept::Read(key.copy()?, state)),
-        _ => Ok(Kept::Other),
+    match entry.said() {
+        Said::Read { key, .. } => Ok(Kept::Read(key.copy()?)),
+        Said::Put { key, .. } | Said::Merge { key, .. } => {
+            let state = vnode.state(key)?;
+            Ok(Kept::Was(key.copy()?, state))
+        }
+        Said::Restart { .. } => Ok(Kept::Other),
     }
-}
-
-// What is kept of an entry that answered so: nothing of one of a front, since no merge may name it.
-fn keep_step(in_front: bool, entry: &Entry, again: Again) -> Result<Kept, AllocError>
-    ensures { IfOk result (λ kept. MatchBool in_front (kept ≡ Kept.Other) (kept ≡ kept_of entry.now (answer_of again))) }
-{
-    if in_front {
-        return Ok(Kept::Other);
-    }
-    keep_answer(entry, again)
 }
 
 /// What was followed of some vnodes, and what is kept of it.
@@ -89,7 +93,7 @@ pub(crate) struct Followed {
     /// The highest stamp, and whose it was.
     pub(crate) last: Option<u64>,
     pub(crate) last_index: usize,
-    /// Of which of the last entries of each vnode answers are kept.
+    /// Of which of the last entries of each vnode it is kept what tells what they answered.
     pub(crate) recent: Recent,
     /// The fault that was found, after which nothing is followed.
     pub(crate) fault: Option<FollowFault>,
@@ -114,7 +118,7 @@ pub(crate) fn open(
     let mut vnodes = Vec::new(alloc);
     let mut answers = Vec::new(alloc);
     for index in 0..ids.len() {
-        vnodes.push(Vnode::seeded(alloc, ids[index], seed))?;
+        vnodes.push(Vnode::seeded_in_one(alloc, ids[index], seed))?;
         answers.push(Answers::new(alloc))?;
     }
     Ok(Followed {
@@ -244,37 +248,78 @@ impl Followed {
         Err(fault)
     }
 
+    // What is kept of an entry that is next at a vnode: of one of its front nothing, since no merge may name it.
+    fn next_kept(&self, index: usize, entry: &Entry) -> Result<Kept, AllocError>
+        requires inside { index < length self.now.vnodes.items }
+        ensures { IfOk result (IsNextKept self.now.fronts.items self.now.vnodes.items index entry.now) }
+    {
+        if self.is_in_front(index) {
+            return Ok(Kept::Other);
+        }
+        kept_of(&self.vnodes[index], entry)
+    }
+
     // An entry of a vnode happens again.
-    fn step(&mut self, alloc: Global, index: usize, entry: &Entry) -> Result<(), FollowFault>
+    fn step(&mut self, alloc: Global, index: usize, entry: Entry) -> Result<(), FollowFault>
         requires run { HasFollowed self.old.fronts.items self.old.vnodes.items self.old.last self.old.recent self.old.answers.items }
         requires inside { index < length self.old.vnodes.items }
-        requires above { IsAbove self.old.last (stamp_of entry.now) }
-        requires place { IsExpected self.old.fronts.items self.old.vnodes.items self.old.answers.items index entry.now }
+        requires above { IsAbove self.old.last (stamp_of entry) }
+        requires place { IsExpected self.old.fronts.items self.old.vnodes.items self.old.answers.items index entry }
         ensures run { OnOk result (HasFollowed self.new.fronts.items self.new.vnodes.items self.new.last self.new.recent self.new.answers.items) }
-        ensures next { OnOk result (self.new.vnodes.items ≡ with_entry_at self.old.vnodes.items index entry.now) }
+        ensures next { OnOk result (self.new.vnodes.items ≡ with_entry_at self.old.vnodes.items index entry) }
         ensures newest { OnOk result (IsNewest self.new.vnodes.items self.new.last self.new.last_index) }
         ensures size { length self.new.vnodes.items ≡ length self.old.vnodes.items }
         ensures recent { self.new.recent ≡ self.old.recent }
         ensures fronts { self.new.fronts ≡ self.old.fronts }
         ensures fault { self.new.fault ≡ self.old.fault }
-        ensures told { IfErr result (λ fault. IsToldOf self.old.fronts.items self.old.vnodes.items self.old.recent index entry.now fault) }
+        ensures told { IfErr result (λ fault. IsToldOf self.old.fronts.items self.old.vnodes.items self.old.recent index entry fault) }
     {
         let illegal = self.fault_at(index, FollowCode::Illegal);
-        let in_front = self.is_in_front(index);
-        let again = match happen(alloc, &mut self.vnodes[index], entry) {
-            Ok(again) => again,
+        let kept = self.next_kept(index, &entry)?;
+        let stamp = entry.stamp();
+        match happen(alloc, &mut self.vnodes[index], entry) {
+            Ok(_) => {}
             Err(Refusal::Illegal) => return Err(illegal),
             Err(Refusal::NoMemory) => return Err(FollowFault::NoMemory),
-        };
-        let kept = keep_step(in_front, entry, again)?;
+        }
         self.answers[index].keep(kept, self.recent)?;
-        self.last = Some(entry.stamp());
+        self.last = Some(stamp);
         self.last_index = index;
         Ok(())
     }
 
     /// An entry of a vnode happens again, or nothing is followed any more.
     pub(crate) fn go_on(
+        &mut self,
+        alloc: Global,
+        index: usize,
+        entry: Entry,
+    ) -> Result<(), FollowFault>
+        requires run { HasFollowed self.old.fronts.items self.old.vnodes.items self.old.last self.old.recent self.old.answers.items }
+        requires inside { index < length self.old.vnodes.items }
+        requires above { IsAbove self.old.last (stamp_of entry) }
+        requires place { IsExpected self.old.fronts.items self.old.vnodes.items self.old.answers.items index entry }
+        ensures run { OnOk result (HasFollowed self.new.fronts.items self.new.vnodes.items self.new.last self.new.recent self.new.answers.items) }
+        ensures next { OnOk result (self.new.vnodes.items ≡ with_entry_at self.old.vnodes.items index entry) }
+        ensures newest { OnOk result (IsNewest self.new.vnodes.items self.new.last self.new.last_index) }
+        ensures right { OnOk result (IsAfterAll self.old.vnodes.items entry × IsFounded self.old.fronts.items self.old.vnodes.items index entry) }
+        ensures held { OnOk result (IsHeld self.old.fronts.items self.old.vnodes.items self.old.recent index entry) }
+        ensures size { length self.new.vnodes.items ≡ length self.old.vnodes.items }
+        ensures recent { self.new.recent ≡ self.old.recent }
+        ensures fronts { self.new.fronts ≡ self.old.fronts }
+        ensures going { OnOk result (self.new.fault ≡ self.old.fault) }
+        ensures fault { IfErr result (λ fault. self.new.fault ≡ Some fault) }
+        ensures told { IfErr result (λ fault. IsToldOf self.old.fronts.items self.old.vnodes.items self.old.recent index entry fault) }
+    {
+        let gone = self.step(alloc, index, entry);
+        if let Err(fault) = gone {
+            self.fault = Some(fault);
+        }
+        gone
+    }
+
+    /// The same of an entry that is lent, and copied.
+    pub(crate) fn go_on_lent(
         &mut self,
         alloc: Global,
         index: usize,
@@ -296,10 +341,12 @@ impl Followed {
         ensures fault { IfErr result (λ fault. self.new.fault ≡ Some fault) }
         ensures told { IfErr result (λ fault. IsToldOf self.old.fronts.items self.old.vnodes.items self.old.recent index entry.now fault) }
     {
-        let gone = self.step(alloc, index, entry);
-        if let Err(fault) = gone {
-            self.fault = Some(fault);
+        match entry.copy(alloc) {
+            Ok(copy) => self.go_on(alloc, index, copy),
+            Err(_) => {
+                self.fault = Some(FollowFault::NoMemory);
+                Err(FollowFault::NoMemory)
+            }
         }
-        gone
     }
 }

@@ -1,20 +1,23 @@
-//! What reads answered, by their places in a vnode's journal.
+//! What is kept of entries, by their places in a vnode's journal: it tells what reads answered.
 
-ghost use Rattle.std.specs.Prelude.{◌≡◌, ◌++◌, ◌∷◌, [], ◌<◌, ◌≤◌, ◌^◌, OnOk, MatchBool, length};
-ghost use Rattle.rerun.specs.Kept.{IsFound, IsLeft, IsMore, kept_bytes};
+ghost use Rattle.std.specs.Prelude.{◌≡◌, ◌++◌, ◌∷◌, [], ◌+◌, ◌<◌, ◌≤◌, ◌^◌, OnOk, MatchBool, drop, length};
+ghost use Rattle.std.specs.Option.{option_copied};
+ghost use Rattle.rerun.specs.Kept.{IsFound, IsLeft, IsMore, first_was, kept_bytes, was_before};
 
-use crate::sizes::bytes_of_state;
 use object::{Key, KeyState};
 use std::alloc::{AllocError, Global};
 use std::collections::VecDeque;
 use std::marker::Model;
 
-/// What is kept of an entry that has happened again.
+/// What is kept of an entry that has happened again. What a read answered is the state before the first entry behind it that changes its key, or,
+/// where none does, the one that is there now: so of a read its key is enough.
 #[derive(Drop)]
 pub enum Kept {
-    /// A read's key, and the state that it answered.
-    Read(Key, KeyState),
-    /// It was no read.
+    /// A read's key.
+    Read(Key),
+    /// The key of a put or of a merge, and the state that was there before.
+    Was(Key, KeyState),
+    /// It was a restart, or one of a front.
     Other,
     /// No longer anything.
     GivenUp,
@@ -26,64 +29,31 @@ impl Kept {
         ensures { result ≡ kept_bytes self.now }
     {
         match self {
-            Kept::Read(_, state) => bytes_of_state(state),
-            Kept::Other | Kept::GivenUp => 0,
+            Kept::Was(_, state) => state.bytes(),
+            Kept::Read(_) | Kept::Other | Kept::GivenUp => 0,
+        }
+    }
+
+    // The state that was at a key before, where the entry changed it.
+    fn was_at(&self, key: &Key) -> Option<&KeyState>
+        ensures { option_copied result ≡ was_before self.now key.now }
+    {
+        match self {
+            Kept::Was(own, state) => { if own == key { Some(state) } else { None } }
+            Kept::Read(_) | Kept::Other | Kept::GivenUp => None,
         }
     }
 }
 
-// What is kept of an entry, with the bytes of its contents: they are counted while it is at hand, and not once more when it is given up.
-#[derive(Drop)]
-struct Weighed {
-    kept: Kept,
-    bytes: u64,
-}
-
-impl Model for Weighed {
-    ghost use Rattle.std.specs.Prelude.{◌≡◌};
-    ghost use Rattle.rerun.specs.Kept.{kept_bytes};
-    ghost use Rattle.rerun.specs.declared.kept.Kept.{Kept};
-
-    ghost Value = { Kept };
-
-    ghost view = { λ w. w.kept };
-
-    ghost invariant = { λ w. w.bytes ≡ kept_bytes w.kept };
-}
-
-impl Weighed {
-    // What is kept, with its bytes.
-    fn new(kept: Kept) -> Self
-        ensures { result ≡ kept }
-    {
-        let bytes = kept.bytes();
-        Weighed { kept, bytes }
-    }
-
-    // What is kept.
-    fn kept(&self) -> &Kept
-        ensures { result.now ≡ self.now }
-    {
-        &self.kept
-    }
-
-    // The bytes of its contents.
-    fn bytes(&self) -> u64
-        ensures { result ≡ kept_bytes self.now }
-    {
-        self.bytes
-    }
-}
-
-/// Of how many of the last entries that have happened at a vnode it is kept what they answered: of the longest end of them that has at
-/// most so many entries, whose answers hold at most so many bytes, or of the last ones that are always kept, where these are more.
+/// Of how many of the last entries that have happened at a vnode it is kept what tells what they answered: of the longest end of them that
+/// has at most so many entries, and replaced states of at most so many bytes, or of the last ones that are always kept, where these are more.
 #[derive(Clone, Copy, Debug, PartialEq, Eq, Drop)]
 pub struct Recent {
     /// Of so many all is kept, whatever they hold.
     pub always: usize,
     /// The most entries.
     pub entries: usize,
-    /// The most bytes: of the values that reads answered, and of their media types, each as often as it was answered.
+    /// The most bytes: of the values in the states that puts and merges replaced, and of their media types, each as often as it is in one.
     pub bytes: u64,
 }
 
@@ -93,11 +63,11 @@ pub(crate) enum Found<'a> {
     Nothing,
     /// No longer anything.
     GivenUp,
-    /// A read's key, and the state that it answered.
-    Read(&'a Key, &'a KeyState),
+    /// A read's key.
+    Read(&'a Key),
 }
 
-// Whether so many entries, whose answers hold so many bytes, are more than is kept.
+// Whether so many entries, of which so many bytes are kept, are more than is kept.
 fn is_over(recent: Recent, entries: usize, bytes: u128) -> bool
     ensures { MatchBool result (IsMore recent entries bytes) (IsMore recent entries bytes → ⊥) }
 {
@@ -108,7 +78,7 @@ fn is_over(recent: Recent, entries: usize, bytes: u128) -> bool
 #[derive(Drop)]
 pub(crate) struct Answers {
     first: usize,
-    here: VecDeque<Weighed>,
+    here: VecDeque<Kept>,
     /// How many bytes are here.
     bytes: u128,
 }
@@ -143,9 +113,8 @@ impl Answers {
         requires few { length self.old < 2 ^ 32 }
         ensures { OnOk result (IsLeft recent (self.old ++ kept ∷ []) self.new) }
     {
-        let weighed = Weighed::new(kept);
-        let bytes = u128::from(weighed.bytes());
-        self.here.push_back(weighed)?;
+        let bytes = u128::from(kept.bytes());
+        self.here.push_back(kept)?;
         self.bytes += bytes;
         self.give_up(recent);
         Ok(())
@@ -173,13 +142,23 @@ impl Answers {
         if place < self.first {
             return Found::GivenUp;
         }
-        let Some(weighed) = self.here.get(place - self.first) else {
-            return Found::Nothing;
-        };
-        match weighed.kept() {
-            Kept::Read(key, state) => Found::Read(key, state),
-            Kept::GivenUp => Found::GivenUp,
-            Kept::Other => Found::Nothing,
+        match self.here.get(place - self.first) {
+            Some(Kept::Read(key)) => Found::Read(key),
+            Some(Kept::GivenUp) => Found::GivenUp,
+            Some(Kept::Was(..) | Kept::Other) | None => Found::Nothing,
         }
+    }
+
+    /// The state that was at a key before the first entry behind a place that changes it, of those that are here.
+    pub(crate) fn first_was(&self, place: u32, key: &Key) -> Option<&KeyState>
+        ensures { option_copied result ≡ first_was (drop (place + 1) self.now) key.now }
+    {
+        let behind = (place as usize + 1).saturating_sub(self.first);
+        for index in behind..self.here.len() {
+            if let Some(state) = self.here[index].was_at(key) {
+                return Some(state);
+            }
+        }
+        None
     }
 }

@@ -18,6 +18,6 @@ pub use audit_fault::{AuditCode, AuditFault};
 pub use findings::{FollowCode, FollowFault};
 pub use kept::Recent;
 pub use rerun::Rerun;
-pub use sizes::{bytes_of_content, bytes_of_entry, bytes_of_state};
+pub use sizes::bytes_of_entry;
 pub use sources::check_sources;
 pub use stamps::{check_rising, check_single};

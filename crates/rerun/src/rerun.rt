@@ -135,12 +135,33 @@ impl Rerun {
         self.followed.fault
     }
 
-    /// The next entry of the vnode with this index happens again, where no fault was found: a put with its dot, a merge as the delivery
+    /// The next entry of the vnode with this index is taken over and happens again, where no fault was found: a put with its dot, a merge as the delivery
     /// of what the earlier read that it names answered, or as what it says where it is one of its vnode's front.
     ///
     /// A fault is that of this entry, and the last: from then on nothing happens. A merge that names an answer that is no longer kept is told
     /// as such, and only then, though it may be right.
-    pub fn go_on(&mut self, index: usize, entry: &Entry) -> Result<(), FollowFault>
+    pub fn go_on(&mut self, index: usize, entry: Entry) -> Result<(), FollowFault>
+        requires going { self.old.fault ≡ None }
+        requires inside { index < length self.old.logs }
+        ensures run { OnOk result (IsRunFrom self.old.fronts self.new.logs) }
+        ensures next { OnOk result (self.new.logs ≡ with_entry_at self.old.logs index entry) }
+        ensures right { OnOk result (IsAfterAll self.old.logs entry × IsFounded self.old.fronts self.old.logs index entry) }
+        ensures held { OnOk result (IsHeld self.old.fronts self.old.logs self.old.recent index entry) }
+        ensures going { OnOk result (self.new.fault ≡ None) }
+        ensures fault { IfErr result (λ fault. self.new.fault ≡ Some fault) }
+        ensures told { IfErr result (λ fault. IsToldOf self.old.fronts self.old.logs self.old.recent index entry fault) }
+        ensures size { length self.new.logs ≡ length self.old.logs }
+        ensures recent { self.new.recent ≡ self.old.recent }
+        ensures fronts { self.new.fronts ≡ self.old.fronts }
+    {
+        match self.followed.check(index, &entry) {
+            Ok(()) => self.followed.go_on(self.alloc, index, entry),
+            Err(code) => self.followed.stop(index, code),
+        }
+    }
+
+    /// The same of an entry that is lent: it is copied. A copy that is refused is want of memory, as any growth is.
+    pub fn go_on_lent(&mut self, index: usize, entry: &Entry) -> Result<(), FollowFault>
         requires going { self.old.fault ≡ None }
         requires inside { index < length self.old.logs }
         ensures run { OnOk result (IsRunFrom self.old.fronts self.new.logs) }
@@ -155,7 +176,7 @@ impl Rerun {
         ensures fronts { self.new.fronts ≡ self.old.fronts }
     {
         match self.followed.check(index, entry) {
-            Ok(()) => self.followed.go_on(self.alloc, index, entry),
+            Ok(()) => self.followed.go_on_lent(self.alloc, index, entry),
             Err(code) => self.followed.stop(index, code),
         }
     }

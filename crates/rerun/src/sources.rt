@@ -88,7 +88,7 @@ fn go_on(
     let Some(entry) = entry_at(journals, head.index, place as usize) else {
         unreachable!()
     };
-    match rerun.go_on(head.index, entry) {
+    match rerun.go_on_lent(head.index, entry) {
         Ok(()) => {
             counts[head.index] = place as usize + 1;
             Ok(())

@@ -23,7 +23,7 @@ returns-in-Ok-clause-run c =
     let next = c.requires.next in
     let there : EntryIn logs head.index (count_at counts head.index) e = (next.0, subst (λ (p : ℕ). slice_get (log_at logs head.index).entries p ≡ Some e) c.requires.place (sym c.in-Some.ensures)) in
     let gone = c.in-Ok.ensures in
-    subst (λ (p : ℕ). HasRun logs (set counts head.index (p + 1)) c.go_on.new.self.logs) (sym c.requires.place)
+    subst (λ (p : ℕ). HasRun logs (set counts head.index (p + 1)) c.go_on_lent.new.self.logs) (sym c.requires.place)
     (subst (λ (after : List Log). HasRun logs (with_next counts head.index) after) (sym gone.next)
     (ran_more logs counts now head e c.requires.distinct c.requires.rising c.requires.run next there gone.right.0
     (read_of now head.index e (subst (λ (ns : List ℕ). IsFounded ns now head.index e) c.requires.fronts gone.right.1)) (subst (λ (after : List Log). IsInterleaving after) gone.next (gone.run.whole c.requires.fronts))))

@@ -4,14 +4,13 @@ use Rattle.journal.specs.Journals.{MayFollow}
 use Rattle.journal.specs.Logs.{Log, with_entry}
 use Rattle.world.specs.Represents.{log_at, with_entry_at}
 use Rattle.rerun.proofs.Sorting.{same_default}
-use Rattle.rerun.specs.Again.{answer_of}
 use Rattle.rerun.specs.declared.kept.Kept.{Kept}
 use Rattle.rerun.specs.Followed.{HasFollowed}
 use Rattle.rerun.specs.Kept.{IsLeft}
 use Rattle.rerun.specs.Wrong.{IsNewest, IsToldOf}
 use Rattle.findings.specs.declared.fault.FollowFault.{FollowFault}
 use Rattle.findings.specs.declared.fault.FollowFault.TheVariants.{NoMemory}
-use Rattle.rerun.proofs.Going.{followed_more, kept_by}
+use Rattle.rerun.proofs.Going.{followed_more}
 use Rattle.rerun.proofs.Opening.{passed}
 use Rattle.rerun.proofs.Telling.{lacked, newest_more}
 use Rattle.rerun.proofs.followed.Followed.step.Goals as goal
@@ -23,45 +22,45 @@ returns-clause-run c =
     let last = c.args.self.now.last in
     let recent = c.args.self.now.recent in
     let i = c.args.index in
-    let e = c.args.entry.now in
-    let a = answer_of c.in-Ok.again in
+    let e = c.args.entry in
+    let told = c.in-Ok.ensures.answer in
+    let a = told.0 in
     let run = c.requires.run in
     let inside : i < length logs = c.requires.inside in
     let also : i < length answers = omega (arith, c.requires.inside, run.kept.size) in
     let vnode : c.index_mut.result.now ≡ log_at logs i = c.index_mut.ensures.value ∙ same_default logs i c.index_mut.result.now (record { vnode = 0; entries = [] }) inside in
     let list : c.index_mut-2.result.now ≡ get_or answers i [] = c.index_mut-2.ensures.value ∙ same_default answers i c.index_mut-2.result.now [] also in
     let follows : MayFollow (log_at logs i).vnode (log_at logs i).entries e = subst (λ (l : Log). MayFollow l.vnode l.entries e) vnode c.in-Ok.ensures.legal in
-    let answer : Answers (log_at logs i).vnode (log_at logs i).entries e a = subst (λ (l : Log). Answers l.vnode l.entries e a) vnode c.in-Ok.ensures.answer in
+    let answer : Answers (log_at logs i).vnode (log_at logs i).entries e a = subst (λ (l : Log). Answers l.vnode l.entries e a) vnode told.1 in
     let lack : IsLeft recent (get_or answers i [] ++ c.in_ok-kept.kept ∷ []) c.keep.new.self = subst (λ (xs : List Kept). IsLeft recent (xs ++ c.in_ok-kept.kept ∷ []) c.keep.new.self) list c.in_ok-keep.ensures in
-    let kept_is = kept_by c.args.self.now.fronts.items logs i e a c.is_in_front-in_front.result c.in_ok-kept.kept c.is_in_front-in_front.ensures c.in_ok-kept.ensures in
     let vnodes : c.happen.new.vnode ≡ with_entry (log_at logs i) e = c.in-Ok.ensures.entry ∙ ap (λ (l : Log). with_entry l e) vnode in
-    subst (λ (l : Log). HasFollowed c.args.self.now.fronts.items (set logs i l) (Some c.stamp.result) recent (set answers i c.keep.new.self)) (sym vnodes)
-    (subst (λ (s : ℕ). HasFollowed c.args.self.now.fronts.items (with_entry_at logs i e) (Some s) recent (set answers i c.keep.new.self)) (sym c.stamp.ensures)
-    (followed_more c.args.self.now.fronts.items logs last recent answers i e a c.in_ok-kept.kept c.keep.new.self run inside follows answer c.requires.above c.requires.place kept_is lack))
+    subst (λ (l : Log). HasFollowed c.args.self.now.fronts.items (set logs i l) (Some c.stamp-stamp.result) recent (set answers i c.keep.new.self)) (sym vnodes)
+    (subst (λ (s : ℕ). HasFollowed c.args.self.now.fronts.items (with_entry_at logs i e) (Some s) recent (set answers i c.keep.new.self)) (sym c.stamp-stamp.ensures)
+    (followed_more c.args.self.now.fronts.items logs last recent answers i e a c.in_ok-kept.kept c.keep.new.self run inside follows answer c.requires.above c.requires.place c.in_ok-kept.ensures lack))
 
 pub returns-clause-newest : goal.returns-clause-newest
 returns-clause-newest c =
     let logs = c.args.self.now.vnodes.items in
     let i = c.args.index in
-    let e = c.args.entry.now in
+    let e = c.args.entry in
     let inside : i < length logs = c.requires.inside in
     let vnode : c.index_mut.result.now ≡ log_at logs i = c.index_mut.ensures.value ∙ same_default logs i c.index_mut.result.now (record { vnode = 0; entries = [] }) inside in
     let vnodes : c.happen.new.vnode ≡ with_entry (log_at logs i) e = c.in-Ok.ensures.entry ∙ ap (λ (l : Log). with_entry l e) vnode in
-    subst (λ (l : Log). IsNewest (set logs i l) (Some c.stamp.result) i) (sym vnodes) (subst (λ (s : ℕ). IsNewest (with_entry_at logs i e) (Some s) i) (sym c.stamp.ensures) (newest_more logs i e inside))
+    subst (λ (l : Log). IsNewest (set logs i l) (Some c.stamp-stamp.result) i) (sym vnodes) (subst (λ (s : ℕ). IsNewest (with_entry_at logs i e) (Some s) i) (sym c.stamp-stamp.ensures) (newest_more logs i e inside))
 
 pub returns-in-Err-NoMemory-clause-told : goal.returns-in-Err-NoMemory-clause-told
 returns-in-Err-NoMemory-clause-told c =
     let own = c.args.self.now in
-    lacked own.fronts.items own.vnodes.items own.last own.recent own.answers.items c.args.index c.args.entry.now c.requires.run c.requires.above c.requires.place
+    lacked own.fronts.items own.vnodes.items own.last own.recent own.answers.items c.args.index c.args.entry c.requires.run c.requires.above c.requires.place
 
 pub returns-in_err-kept-clause-told : goal.returns-in_err-kept-clause-told
 returns-in_err-kept-clause-told c =
     let own = c.args.self.now in
-    passed c.from_residual.result NoMemory (λ (fault : FollowFault). IsToldOf own.fronts.items own.vnodes.items own.recent c.args.index c.args.entry.now fault) c.from_residual.ensures.1
-    (lacked own.fronts.items own.vnodes.items own.last own.recent own.answers.items c.args.index c.args.entry.now c.requires.run c.requires.above c.requires.place)
+    passed c.from_residual.result NoMemory (λ (fault : FollowFault). IsToldOf own.fronts.items own.vnodes.items own.recent c.args.index c.args.entry fault) c.from_residual.ensures.1
+    (lacked own.fronts.items own.vnodes.items own.last own.recent own.answers.items c.args.index c.args.entry c.requires.run c.requires.above c.requires.place)
 
 pub returns-in_err-keep-clause-told : goal.returns-in_err-keep-clause-told
 returns-in_err-keep-clause-told c =
     let own = c.args.self.now in
-    passed c.from_residual-in_err-keep.result NoMemory (λ (fault : FollowFault). IsToldOf own.fronts.items own.vnodes.items own.recent c.args.index c.args.entry.now fault) c.from_residual-in_err-keep.ensures.1
-    (lacked own.fronts.items own.vnodes.items own.last own.recent own.answers.items c.args.index c.args.entry.now c.requires.run c.requires.above c.requires.place)
+    passed c.from_residual-in_err-keep.result NoMemory (λ (fault : FollowFault). IsToldOf own.fronts.items own.vnodes.items own.recent c.args.index c.args.entry fault) c.from_residual-in_err-keep.ensures.1
+    (lacked own.fronts.items own.vnodes.items own.last own.recent own.answers.items c.args.index c.args.entry c.requires.run c.requires.above c.requires.place)

@@ -19,13 +19,13 @@ returns-in-Ok-clause-run c =
     (λ h. subst (λ (ns : List ℕ). IsRunFrom ns new.vnodes.items) same (interleaved new.fronts.items new.vnodes.items new.last new.recent new.answers.items h))
 
 pub returns-in-Ok-clause-told : goal.returns-in-Ok-clause-told
-returns-in-Ok-clause-told c = subst (λ (r : Reran). IfErr c.go_on.result (λ (fault : FollowFault). IsToldOf r.fronts r.logs r.recent c.args.index c.args.entry.now fault)) c.self.view_is c.go_on.ensures.told
+returns-in-Ok-clause-told c = subst (λ (r : Reran). IfErr c.go_on.result (λ (fault : FollowFault). IsToldOf r.fronts r.logs r.recent c.args.index c.args.entry fault)) c.self.view_is c.go_on.ensures.told
 
 pub returns-in-Err-clause-told : goal.returns-in-Err-clause-told
 returns-in-Err-clause-told c =
     let own = c.self.inside.followed in
     let i = c.args.index in
-    let e = c.args.entry.now in
+    let e = c.args.entry in
     let code = c.in-Err.code in
     let going : own.fault ≡ None = ap (λ (r : Reran). r.fault) c.self.view_is ∙ c.requires.going in
     let sound = c.self.invariant going in
