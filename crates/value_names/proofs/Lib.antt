@@ -1,4 +1,5 @@
 pub mod Modular
 pub mod Slots
+pub mod Held
 pub mod NamedRuns
 mod Worked

@@ -5,7 +5,7 @@ use Rattle.std.specs.Prelude.{◌-ℤ◌, unsigned_abs}
 use Rattle.std.proofs.lemmas.Int.{ints, int_rem_euclid_is}
 use Rattle.alu.specs.Value.{wrapped, value}
 use Rattle.alu.specs.declared.Op.TheVariants.{Add, Sub, Mov}
-use Rattle.alu.specs.declared.Width.TheVariants.{W64}
+use Rattle.alu.specs.declared.Width.TheVariants.{W32, W64}
 
 pub swap_added : (x c e : ℕ) → value Add W64 (value Add W64 x c) e ≡ value Add W64 (value Add W64 x e) c
 swap_added x c e = omega arith
@@ -31,3 +31,7 @@ taken_back x d h = less (value Add W64 x d) d ∙ (let g : (value Add W64 x d % 
 -- the number that is moved
 pub moved : (m n : ℕ) → n < 2 ^ 64 → value Mov W64 m n ≡ n
 moved m n lt = ap (λ x. wrapped 64 (pos x)) (mod-eq_of_lt {m = 2 ^ 64} lt) ∙ mod-eq_of_lt {m = 2 ^ 64} lt
+
+-- and one below 2 ^ 32 by a move of 32 bits
+pub moved_small : (m n : ℕ) → n < 2 ^ 32 → value Mov W32 m n ≡ n
+moved_small m n lt = ap (λ x. wrapped 32 (pos x)) (mod-eq_of_lt {m = 2 ^ 32} lt) ∙ mod-eq_of_lt {m = 2 ^ 32} lt

@@ -1,7 +1,7 @@
 -- The names before a slot hold wherever a run comes there.
-use Rattle.std.proofs.Common.{◌≡◌, ◌≢◌, ℕ, zero, suc, ℤ, pos, ◌+◌, ◌*◌, ◌^◌, ◌<◌, ◌≤◌, cond, List, ◌∷◌, length, get_or, set, drop, Option, Some, None, refl, sym, ap, ap₂, ◌∙◌, subst, inl, inr, ⊎_elim, arith, length-set, length-drop}
+use Rattle.std.proofs.Common.{◌≡◌, ◌≢◌, ℕ, zero, suc, Bool, true, ◌&&◌, eqb, ℤ, pos, ◌+◌, ◌*◌, ◌^◌, ◌<◌, ◌≤◌, cond, List, ◌∷◌, length, get_or, set, drop, Option, Some, None, refl, sym, ap, ap₂, ◌∙◌, subst, inl, inr, ⊎_elim, arith, length-set, length-drop}
 use Rattle.std.specs.Prelude.{◌⊎◌, ◌+ℤ◌, slice_get, unwrap_or}
-use Rattle.std.proofs.lemmas.Bool.{cond_both, cases_eq}
+use Rattle.std.proofs.lemmas.Bool.{cond_both, cases_eq, and_parts, eqb-true, eq-eqb}
 use Rattle.std.proofs.lemmas.List.{get_or-set_same, get_or-set_other, get_or-drop}
 use Rattle.std.proofs.lemmas.Option.{unwrap_or-slice_get}
 use Rattle.alu.specs.Value.{wrapped, value, condition}
@@ -19,11 +19,11 @@ use Rattle.insn.specs.declared.Insn.{Insn}
 use Rattle.insn.specs.declared.Insn.TheVariants as insn
 use Rattle.memory.specs.State.{Calls, State, number_in, operand_in, with_register, jumped, advanced, Row as Does}
 use Rattle.bpfimage.specs.Form.{landing, target_of}
-use Rattle.value_names.specs.Led.{leads_before}
-use Rattle.value_names.proofs.Slots.{number_small, leads, slot_on, two_on}
+use Rattle.value_names.specs.Led.{is_slot}
+use Rattle.value_names.proofs.Slots.{number_small, slot_on, two_on}
 use Rattle.value_names.specs.declared.name.Name.{Name}
-use Rattle.value_names.specs.Names.{Names, name_at, with_name, new_name, new_names, moved_by, name_of_op, names_after, names_next, names_at, AreNamed, distance_from}
-use Rattle.value_names.proofs.Modular.{swap_added, move_added, swap_taken, move_taken, taken_back, moved}
+use Rattle.value_names.specs.Names.{Names, name_at, with_name, new_name, new_names, moved_by, name_of_op, names_after, joined_name, joined_names, joined, goes_on, by_jump, by_next, brought, come, arriving, names_at, AreNamed, distance_from}
+use Rattle.value_names.proofs.Modular.{swap_added, move_added, swap_taken, move_taken, taken_back, moved, moved_small}
 
 abbrev none : Name
 none = record { value = 0; distance = 0 }
@@ -35,11 +35,22 @@ Sum = value op.Add W64
 abbrev held : List (Option ℕ) → ℕ → ℕ
 held rs r = unwrap_or (unwrap_or (slice_get rs r) None) 0
 
--- the names of registers before a slot: eleven, given before, and right
+-- a name that was given before slot i, or that is new there and the register's own
+abbrev IsOwn : ℕ → Register → Name → Type 0
+IsOwn i r n = (n.value < 16 * i) ⊎ (n.value ≡ 16 * i + number r)
+
+-- the names of registers before a slot: eleven, given before or its own, and right
 pub record Stand (i : ℕ) (names : Names) (s : State) : Type 0 where
   pub long : length names ≡ 11
-  pub below : (r : Register) → (name_at names r).value < 16 * suc i
+  pub own : (r : Register) → IsOwn i r (name_at names r)
   pub named : AreNamed names s
+
+below : (i : ℕ) (names : Names) (s : State) → Stand i names s → (r : Register) → (name_at names r).value < 16 * suc i
+below i names s h r = ⊎_elim (λ lt. omega (arith, lt)) (λ e. let small = number_small r in omega (arith, e, small)) (h.own r)
+
+-- a move of 32 bits that is said to copy does
+abbrev pub CopiesRight : Insn → Bool → State → Type 0
+CopiesRight x copies s = (dst src : Register) → x ≡ insn.Alu op.Mov W32 dst (operand.Register src) → copies ≡ true → number_in s src < 2 ^ 32
 
 -- ---- new names
 
@@ -62,7 +73,7 @@ same_number s a b e = ap (held s.registers) e
 pub new_stand : (k : ℕ) (s : State) → Stand k (new_names k) s
 new_stand k s = record {
   long = refl;
-  below = λ r. let e = ap (λ (n : Name). n.value) (new_at k r) in let small = number_small r in omega (arith, e, small);
+  own = λ r. inr (ap (λ (n : Name). n.value) (new_at k r));
   named = λ a b same.
       let x = ap (λ (n : Name). n.value) (new_at k a) in
       let y = ap (λ (n : Name). n.value) (new_at k b) in
@@ -70,12 +81,141 @@ new_stand k s = record {
       ap₂ Sum (same_number s a b one) (ap (λ (n : Name). n.distance) (new_at k b) ∙ sym (ap (λ (n : Name). n.distance) (new_at k a)));
 }
 
-pub same_stand : (i : ℕ) (names : Names) (s t : State) → t.registers ≡ s.registers → Stand i names s → Stand (suc i) names t
-same_stand i names s t e h = record {
+-- the same registers hold the same on the way to any slot above
+pub same_stand : (i k : ℕ) (names : Names) (s t : State) → i < k → t.registers ≡ s.registers → Stand i names s → Stand k names t
+same_stand i k names s t lt e h = record {
   long = h.long;
-  below = λ r. let b = h.below r in omega (arith, b);
+  own = λ r. let low = below i names s h r in inl (omega (arith, low, lt));
   named = λ a b same. ap₂ Sum (ap (λ rs. held rs (number a)) e) refl ∙ h.named a b same ∙ sym (ap₂ Sum (ap (λ rs. held rs (number b)) e) refl);
 }
+
+-- ---- ways meet
+
+-- what is left of some names: each as it was, or new and the register's own
+abbrev LeftOf : ℕ → Names → Names → Register → Type 0
+LeftOf k names others r = (name_at others r ≡ name_at names r) ⊎ (name_at others r ≡ new_name k r)
+
+abbrev value_in : Name → ℕ
+value_in n = n.value
+
+left_stand : (k : ℕ) (names others : Names) (s : State) → Stand k names s → length others ≡ 11 → ((r : Register) → LeftOf k names others r) → Stand k others s
+left_stand k names others s h long left = record {
+  long = long;
+  own = λ r. ⊎_elim (λ e. subst (IsOwn k r) (sym e) (h.own r)) (λ e. inr (ap value_in e)) (left r);
+  named = λ a b same. ⊎_elim (λ one. alike a b one) (λ ne. apart a b ne same (left a) (left b)) (cases_eq (number a) (number b));
+}
+  where
+    alike : (a b : Register) → number a ≡ number b → Sum (number_in s a) (name_at others b).distance ≡ Sum (number_in s b) (name_at others a).distance
+    alike a b one = ap₂ Sum (same_number s a b one) (ap (λ n. (get_or others n none).distance) (sym one))
+
+    not_new : (a b : Register) → number a ≢ number b → (name_at names a).value ≡ 16 * k + number b → ⊥
+    not_new a b ne e = ⊎_elim (λ lt. omega (arith, lt, e)) (λ own. ne (omega (arith, own, e))) (h.own a)
+
+    apart : (a b : Register) → number a ≢ number b → (name_at others a).value ≡ (name_at others b).value → LeftOf k names others a → LeftOf k names others b → Sum (number_in s a) (name_at others b).distance ≡ Sum (number_in s b) (name_at others a).distance
+    apart a b ne same (inl ea) (inl eb) =
+        ap (λ (n : Name). Sum (number_in s a) n.distance) eb
+        ∙ h.named a b (sym (ap value_in ea) ∙ same ∙ ap value_in eb)
+        ∙ sym (ap (λ (n : Name). Sum (number_in s b) n.distance) ea)
+    apart a b ne same (inl ea) (inr eb) = absurd (not_new a b ne (sym (ap value_in ea) ∙ same ∙ ap value_in eb))
+    apart a b ne same (inr ea) (inl eb) = absurd (not_new b a (λ e. ne (sym e)) (sym (ap value_in eb) ∙ sym same ∙ ap value_in ea))
+    apart a b ne same (inr ea) (inr eb) = let x = ap value_in ea in let y = ap value_in eb in absurd (ne (omega (arith, x, y, same)))
+
+abbrev Left : ℕ → Register → Name → Name → Type 0
+Left k r n m = (m ≡ n) ⊎ (m ≡ new_name k r)
+
+left_first : (k : ℕ) (r : Register) (a b : Name) → Left k r a (joined_name k r a b)
+left_first k r a b = cond_both (eqb a.value b.value && eqb a.distance b.distance) a (new_name k r) (Left k r a) (λ _. inl refl) (λ _. inr refl)
+
+left_second : (k : ℕ) (r : Register) (a b : Name) → Left k r b (joined_name k r a b)
+left_second k r a b =
+    cond_both (eqb a.value b.value && eqb a.distance b.distance) a (new_name k r) (Left k r b)
+    (λ t.
+    let parts = and_parts (eqb a.value b.value) (eqb a.distance b.distance) t in
+    inl (ap₂ (λ v d. record { value = v; distance = d }) (eqb-true a.value b.value parts.0) (eqb-true a.distance b.distance parts.1)))
+    (λ _. inr refl)
+
+joined_at : (k : ℕ) (names others : Names) (r : Register) → name_at (joined_names k names others) r ≡ joined_name k r (name_at names r) (name_at others r)
+joined_at k names others R0 = refl
+joined_at k names others R1 = refl
+joined_at k names others R2 = refl
+joined_at k names others R3 = refl
+joined_at k names others R4 = refl
+joined_at k names others R5 = refl
+joined_at k names others R6 = refl
+joined_at k names others R7 = refl
+joined_at k names others R8 = refl
+joined_at k names others R9 = refl
+joined_at k names others R10 = refl
+
+-- names that came to a slot, and are right
+abbrev StandIn : ℕ → Option Names → State → Type 0
+StandIn k None s = ⊥
+StandIn k (Some names) s = Stand k names s
+
+joined_old : (k : ℕ) (old : Option Names) (names : Names) (s : State) → StandIn k old s → StandIn k (joined k old names) s
+joined_old k None names s h = absurd h
+joined_old k (Some old) names s h = left_stand k old (joined_names k old names) s h refl (λ r. subst (Left k r (name_at old r)) (sym (joined_at k old names r)) (left_first k r (name_at old r) (name_at names r)))
+
+joined_new : (k : ℕ) (old : Option Names) (names : Names) (s : State) → Stand k names s → StandIn k (joined k old names) s
+joined_new k None names s h = h
+joined_new k (Some old) names s h = left_stand k names (joined_names k old names) s h refl (λ r. subst (Left k r (name_at names r)) (sym (joined_at k old names r)) (left_second k r (name_at old r) (name_at names r)))
+
+jump_old : (k : ℕ) (target : Option ℤ) (names : Names) (old : Option Names) (s : State) → StandIn k old s → StandIn k (by_jump k target names old) s
+jump_old k target names old s h = cond_both (is_slot k target) (joined k old names) old (λ o. StandIn k o s) (λ _. joined_old k old names s h) (λ _. h)
+
+next_old : (k : ℕ) (c : Bool) (x : Insn) (names : Names) (old : Option Names) (s : State) → StandIn k old s → StandIn k (by_next k c x names old) s
+next_old k c x names old s h = cond_both (goes_on x) (joined k old (names_after k c x names)) old (λ o. StandIn k o s) (λ _. joined_old k old (names_after k c x names) s h) (λ _. h)
+
+brought_old : (k n : ℕ) (c : Bool) (x : Option Insn) (names : Names) (old : Option Names) (s : State) → StandIn k old s → StandIn k (brought k n c x names old) s
+brought_old k n c None names old s h = h
+brought_old k n c (Some x) names old s h =
+    let led = by_jump k (target_of n x) names old in
+    let there = jump_old k (target_of n x) names old s h in
+    cond_both (eqb (suc n) k) (by_next k c x names led) led (λ o. StandIn k o s) (λ _. next_old k c x names led s there) (λ _. there)
+
+come_stand : (k : ℕ) (o : Option Names) (s : State) → StandIn k o s → Stand k (come k o) s
+come_stand k None s h = absurd h
+come_stand k (Some names) s h = h
+
+module _ (code : List Insn) (copies : ℕ → Bool) (k : ℕ) (s : State) where
+  -- what came stays right
+  later : (n m : ℕ) → m ≤ n → StandIn k (arriving code copies m k) s → StandIn k (arriving code copies n k) s
+  later n m le h =
+      ⊎_elim
+      (λ same. subst (λ j. StandIn k (arriving code copies j k) s) (sym same) h)
+      (λ other. more n m le other h)
+      (cases_eq n m)
+    where
+      more : (n m : ℕ) → m ≤ n → n ≢ m → StandIn k (arriving code copies m k) s → StandIn k (arriving code copies n k) s
+      more zero m le ne h = absurd (ne (omega (arith, le)))
+      more (suc n) m le ne h =
+          let before : StandIn k (arriving code copies n k) s =
+          ⊎_elim (λ same. subst (λ j. StandIn k (arriving code copies j k) s) (sym same) h) (λ other. more n m (omega (arith, le, ne)) other h) (cases_eq n m) in
+          brought_old k n (copies n) (slice_get code n) (come n (arriving code copies n n)) (arriving code copies n k) s before
+
+  -- a jump leads there
+  pub led_to : (i : ℕ) (x : Insn) → i < k → slice_get code i ≡ Some x → target_of i x ≡ Some (pos k) → Stand k (names_at code copies i) s → Stand k (names_at code copies k) s
+  led_to i x lt at to h =
+      let names = names_at code copies i in
+      let old = arriving code copies i k in
+      let led = by_jump k (target_of i x) names old in
+      let there : StandIn k led s =
+      subst (λ o. StandIn k (by_jump k o names old) s) (sym to) (subst (λ b. StandIn k (cond b (joined k old names) old) s) (sym (eq-eqb k k refl)) (joined_new k old names s h)) in
+      let both : StandIn k (brought k i (copies i) (Some x) names old) s = cond_both (eqb (suc i) k) (by_next k (copies i) x names led) led (λ o. StandIn k o s) (λ _. next_old k (copies i) x names led s there) (λ _. there) in
+      come_stand k (arriving code copies k k) s
+      (later k (suc i) (omega (arith, lt)) (subst (λ o. StandIn k (brought k i (copies i) o names old) s) (sym at) both))
+
+-- and from one slot to the next
+next_stand : (code : List Insn) (copies : ℕ → Bool) (i k : ℕ) (x : Insn) (t : State) → k ≡ suc i → slice_get code i ≡ Some x → goes_on x ≡ true → Stand (suc i) (names_after (suc i) (copies i) x (names_at code copies i)) t → Stand k (names_at code copies k) t
+next_stand code copies i k x t e at goes h =
+    let names = names_at code copies i in
+    let old = arriving code copies i (suc i) in
+    let led = by_jump (suc i) (target_of i x) names old in
+    let after = names_after (suc i) (copies i) x names in
+    let on : StandIn (suc i) (by_next (suc i) (copies i) x names led) t = subst (λ b. StandIn (suc i) (cond b (joined (suc i) led after) led) t) (sym goes) (joined_new (suc i) led after t h) in
+    let both : StandIn (suc i) (brought (suc i) i (copies i) (Some x) names old) t = subst (λ b. StandIn (suc i) (cond b (by_next (suc i) (copies i) x names led) led) t) (sym (eq-eqb (suc i) (suc i) refl)) on in
+    subst (λ n. Stand n (names_at code copies n) t) (sym e)
+    (come_stand (suc i) (arriving code copies (suc i) (suc i)) t (subst (λ o. StandIn (suc i) (brought (suc i) i (copies i) o names old) t) (sym at) both))
 
 -- ---- one register is written
 
@@ -85,24 +225,31 @@ module _ (s : State) (eleven : length s.registers ≡ 11) (words : (r : Register
 
   -- a name that may be given to a register that gets a number
   pub record Agrees (dst : Register) (v : ℕ) (n : Name) : Type 0 where
-    pub before : n.value < 16 * suc (suc i)
+    pub before : IsOwn (suc i) dst n
     pub equal : (b : Register) → number b ≢ number dst → n.value ≡ (name_at names b).value → Sum v (name_at names b).distance ≡ Sum (number_in s b) n.distance
 
   new_agrees : (dst : Register) (v : ℕ) → Agrees dst v (new_name (suc i) dst)
   new_agrees dst v = record {
-    before = let small = number_small dst in omega (arith, small);
-    equal = λ b ne same. let low = stand.below b in absurd (omega (arith, same, low));
+    before = inr refl;
+    equal = λ b ne same. let low = below i names s stand b in absurd (omega (arith, same, low));
   }
 
   copy_agrees : (dst src : Register) (m : ℕ) → Agrees dst (value op.Mov W64 m (number_in s src)) (name_at names src)
   copy_agrees dst src m = record {
-    before = let low = stand.below src in omega (arith, low);
+    before = inl (below i names s stand src);
     equal = λ b ne same. ap (λ x. Sum x (name_at names b).distance) (moved m (number_in s src) (words src)) ∙ stand.named src b same;
+  }
+
+  -- a copy by 32 bits of a number below 2 ^ 32
+  small_agrees : (dst src : Register) (m : ℕ) → number_in s src < 2 ^ 32 → Agrees dst (value op.Mov W32 m (number_in s src)) (name_at names src)
+  small_agrees dst src m small = record {
+    before = inl (below i names s stand src);
+    equal = λ b ne same. ap (λ x. Sum x (name_at names b).distance) (moved_small m (number_in s src) small) ∙ stand.named src b same;
   }
 
   added_agrees : (dst : Register) (c : ℕ) → Agrees dst (value op.Add W64 (number_in s dst) c) (moved_by op.Add c (name_at names dst))
   added_agrees dst c = record {
-    before = let low = stand.below dst in omega (arith, low);
+    before = inl (below i names s stand dst);
     equal = λ b ne same.
         swap_added (number_in s dst) c (name_at names b).distance
         ∙ ap (λ x. value op.Add W64 x c) (stand.named dst b same)
@@ -111,38 +258,39 @@ module _ (s : State) (eleven : length s.registers ≡ 11) (words : (r : Register
 
   taken_agrees : (dst : Register) (c : ℕ) → Agrees dst (value op.Sub W64 (number_in s dst) c) (moved_by op.Sub c (name_at names dst))
   taken_agrees dst c = record {
-    before = let low = stand.below dst in omega (arith, low);
+    before = inl (below i names s stand dst);
     equal = λ b ne same.
         swap_taken (number_in s dst) c (name_at names b).distance
         ∙ ap (λ x. value op.Sub W64 x c) (stand.named dst b same)
         ∙ sym (move_taken (number_in s b) (name_at names dst).distance c);
   }
 
-  op_agrees : (o : Op) (w : Width) (dst : Register) (src : Operand) → Agrees dst (value o w (number_in s dst) (operand_in s src)) (name_of_op (suc i) o w dst src names)
-  op_agrees op.Mov W64 dst (operand.Register src) = copy_agrees dst src (number_in s dst)
-  op_agrees op.Mov W64 dst (operand.Immediate n) = new_agrees dst _
-  op_agrees op.Mov W32 dst src = new_agrees dst _
-  op_agrees op.Add W64 dst (operand.Register src) = new_agrees dst _
-  op_agrees op.Add W64 dst (operand.Immediate n) = added_agrees dst (wrapped 64 n)
-  op_agrees op.Add W32 dst src = new_agrees dst _
-  op_agrees op.Sub W64 dst (operand.Register src) = new_agrees dst _
-  op_agrees op.Sub W64 dst (operand.Immediate n) = taken_agrees dst (wrapped 64 n)
-  op_agrees op.Sub W32 dst src = new_agrees dst _
-  op_agrees op.Mul w dst src = new_agrees dst _
-  op_agrees op.Div w dst src = new_agrees dst _
-  op_agrees op.SignedDiv w dst src = new_agrees dst _
-  op_agrees op.Or w dst src = new_agrees dst _
-  op_agrees op.And w dst src = new_agrees dst _
-  op_agrees op.Xor w dst src = new_agrees dst _
-  op_agrees op.Lsh w dst src = new_agrees dst _
-  op_agrees op.Rsh w dst src = new_agrees dst _
-  op_agrees op.Arsh w dst src = new_agrees dst _
-  op_agrees op.Neg w dst src = new_agrees dst _
-  op_agrees op.Mod w dst src = new_agrees dst _
-  op_agrees op.SignedMod w dst src = new_agrees dst _
-  op_agrees op.Movsx8 w dst src = new_agrees dst _
-  op_agrees op.Movsx16 w dst src = new_agrees dst _
-  op_agrees op.Movsx32 w dst src = new_agrees dst _
+  op_agrees : (copies : Bool) (o : Op) (w : Width) (dst : Register) (src : Operand) → CopiesRight (insn.Alu o w dst src) copies s → Agrees dst (value o w (number_in s dst) (operand_in s src)) (name_of_op (suc i) copies o w dst src names)
+  op_agrees copies op.Mov W64 dst (operand.Register src) right = copy_agrees dst src (number_in s dst)
+  op_agrees copies op.Mov W64 dst (operand.Immediate n) right = new_agrees dst _
+  op_agrees copies op.Mov W32 dst (operand.Immediate n) right = new_agrees dst _
+  op_agrees copies op.Mov W32 dst (operand.Register src) right = cond_both copies (name_at names src) (new_name (suc i) dst) (Agrees dst (value op.Mov W32 (number_in s dst) (number_in s src))) (λ t. small_agrees dst src (number_in s dst) (right dst src refl t)) (λ _. new_agrees dst _)
+  op_agrees copies op.Add W64 dst (operand.Register src) right = new_agrees dst _
+  op_agrees copies op.Add W64 dst (operand.Immediate n) right = added_agrees dst (wrapped 64 n)
+  op_agrees copies op.Add W32 dst src right = new_agrees dst _
+  op_agrees copies op.Sub W64 dst (operand.Register src) right = new_agrees dst _
+  op_agrees copies op.Sub W64 dst (operand.Immediate n) right = taken_agrees dst (wrapped 64 n)
+  op_agrees copies op.Sub W32 dst src right = new_agrees dst _
+  op_agrees copies op.Mul w dst src right = new_agrees dst _
+  op_agrees copies op.Div w dst src right = new_agrees dst _
+  op_agrees copies op.SignedDiv w dst src right = new_agrees dst _
+  op_agrees copies op.Or w dst src right = new_agrees dst _
+  op_agrees copies op.And w dst src right = new_agrees dst _
+  op_agrees copies op.Xor w dst src right = new_agrees dst _
+  op_agrees copies op.Lsh w dst src right = new_agrees dst _
+  op_agrees copies op.Rsh w dst src right = new_agrees dst _
+  op_agrees copies op.Arsh w dst src right = new_agrees dst _
+  op_agrees copies op.Neg w dst src right = new_agrees dst _
+  op_agrees copies op.Mod w dst src right = new_agrees dst _
+  op_agrees copies op.SignedMod w dst src right = new_agrees dst _
+  op_agrees copies op.Movsx8 w dst src right = new_agrees dst _
+  op_agrees copies op.Movsx16 w dst src right = new_agrees dst _
+  op_agrees copies op.Movsx32 w dst src right = new_agrees dst _
 
   module _ (dst : Register) (v : ℕ) (n : Name) where
     name_same : (r : Register) → number r ≡ number dst → name_at (with_name names dst n) r ≡ n
@@ -171,7 +319,10 @@ module _ (s : State) (eleven : length s.registers ≡ 11) (words : (r : Register
     pub write_stand : Agrees dst v n → Stand (suc i) (with_name names dst n) (Then dst v)
     write_stand h = record {
       long = length-set _ _ _ ∙ stand.long;
-      below = λ r. ⊎_elim (λ e. let is = ap value_of (name_same r e) in let low = h.before in omega (arith, is, low)) (λ ne. let is = ap value_of (name_other r ne) in let low = stand.below r in omega (arith, is, low)) (cases_eq (number r) (number dst));
+      own = λ r. ⊎_elim
+          (λ e. subst (IsOwn (suc i) r) (sym (name_same r e)) (⊎_elim (λ lt. inl lt) (λ is. inr (is ∙ ap (λ n. 16 * suc i + n) (sym e))) h.before))
+          (λ ne. subst (IsOwn (suc i) r) (sym (name_other r ne)) (inl (below i names s stand r)))
+          (cases_eq (number r) (number dst));
       named = λ a b same.
           ⊎_elim
           (λ ea. ⊎_elim
@@ -253,9 +404,9 @@ module _ (s t : State) (o : Option ℕ) (i : ℕ) (names : Names) (stand : Stand
   pub call_stand : Stand (suc i) (called (suc i) names) t
   call_stand = record {
     long = let e = length-drop 6 names in omega (arith, e, stand.long);
-    below = λ r. ⊎_elim
-        (λ h. let e = ap (λ (n : Name). n.value) h.1 in let small = h.0 in omega (arith, e, small))
-        (λ h. let e = ap (λ (n : Name). n.value) h.1 in let low = stand.below r in omega (arith, e, low))
+    own = λ r. ⊎_elim
+        (λ h. inr (ap value_in h.1))
+        (λ h. let e = ap value_in h.1 in let low = below i names s stand r in inl (omega (arith, e, low)))
         (at_call (suc i) names r);
     named = λ a b. ⊎_elim
         (λ h. ⊎_elim (λ g. both a b h g) (λ g. apart a b h g) (at_call (suc i) names b))
@@ -274,7 +425,7 @@ module _ (s t : State) (o : Option ℕ) (i : ℕ) (names : Names) (stand : Stand
       apart a b h g same =
           let x = ap (λ (n : Name). n.value) h.1 in
           let y = ap (λ (n : Name). n.value) g.1 in
-          let low = stand.below b in
+          let low = below i names s stand b in
           absurd (omega (arith, same, x, y, low))
 
       neither : (a b : Register) → Behind a → Behind b → Named a b
@@ -293,57 +444,44 @@ distance_is names s a b h same word =
 
 -- ---- slots
 
--- where a jump leads names are new
-led_to : (code : List Insn) (i k : ℕ) (x : Insn) (t : State) → i < k → slice_get code i ≡ Some x → target_of i x ≡ Some (pos k) → Stand k (names_at code k) t
-led_to code i zero x t lt at to = absurd (omega (arith, lt))
-led_to code i (suc k) x t lt at to =
-    subst (λ b. Stand (suc k) (cond b (new_names (suc k)) (names_next (suc k) (slice_get code k) (names_at code k))) t) (sym (leads code (suc k) i (suc k) x lt at to)) (new_stand (suc k) t)
-
--- from one slot to the next
-next_stand : (code : List Insn) (i k : ℕ) (x : Insn) (t : State) → k ≡ suc i → slice_get code i ≡ Some x → Stand (suc i) (names_after (suc i) x (names_at code i)) t → Stand k (names_at code k) t
-next_stand code i k x t e at h =
-    subst (λ n. Stand n (names_at code n) t) (sym e)
-    (cond_both (leads_before code (suc i) (suc i)) (new_names (suc i)) (names_next (suc i) (slice_get code i) (names_at code i)) (λ q. Stand (suc i) q t) (λ _. new_stand (suc i) t)
-    (λ _. subst (λ o. Stand (suc i) (names_next (suc i) o (names_at code i)) t) (sym at) h))
-
-module _ (calls : Calls) (code : List Insn) (s : State) (i : ℕ) (at : s.slot ≡ pos i) (eleven : length s.registers ≡ 11) (words : (r : Register) → number_in s r < 2 ^ 64) (stand : Stand i (names_at code i) s) (after_wide : (dst : Register) (n : ℕ) → slice_get code i ≡ Some (insn.Wide dst n) → slice_get code (i + 1) ≡ Some insn.Tail) where
+module _ (calls : Calls) (code : List Insn) (copies : ℕ → Bool) (s : State) (i : ℕ) (at : s.slot ≡ pos i) (eleven : length s.registers ≡ 11) (words : (r : Register) → number_in s r < 2 ^ 64) (stand : Stand i (names_at code copies i) s) (after_wide : (dst : Register) (n : ℕ) → slice_get code i ≡ Some (insn.Wide dst n) → slice_get code (i + 1) ≡ Some insn.Tail) where
   -- a state that has gone on to the next slot
-  goes_on : (k : ℕ) (x : Insn) (t u : State) → slice_get code i ≡ Some x → t ≡ advanced u → u.slot ≡ s.slot → t.slot ≡ pos k → Stand (suc i) (names_after (suc i) x (names_at code i)) (advanced u) → Stand k (names_at code k) t
-  goes_on k x t u there e same to h =
+  on : (k : ℕ) (x : Insn) (t u : State) → slice_get code i ≡ Some x → goes_on x ≡ true → t ≡ advanced u → u.slot ≡ s.slot → t.slot ≡ pos k → Stand (suc i) (names_after (suc i) (copies i) x (names_at code copies i)) (advanced u) → Stand k (names_at code copies k) t
+  on k x t u there goes e same to h =
       let next : (s.slot +ℤ pos 1) ≡ pos k = ap (λ z. z +ℤ pos 1) (sym same) ∙ sym (ap (λ v. v.slot) e) ∙ to in
-      next_stand code i k x t (slot_on s.slot i k at next) there (subst (Stand (suc i) (names_after (suc i) x (names_at code i))) (sym e) h)
+      next_stand code copies i k x t (slot_on s.slot i k at next) there goes (subst (Stand (suc i) (names_after (suc i) (copies i) x (names_at code copies i))) (sym e) h)
 
   -- and one that has jumped
-  goes_to : (k : ℕ) (x : Insn) (t : State) (o : ℤ) → i < k → slice_get code i ≡ Some x → target_of i x ≡ Some (landing i o) → (s.slot +ℤ pos 1 +ℤ o) ≡ pos k → Stand k (names_at code k) t
-  goes_to k x t o lt there to slot = led_to code i k x t lt there (to ∙ ap Some (ap (λ z. z +ℤ pos 1 +ℤ o) (sym at) ∙ slot))
+  goes_to : (k : ℕ) (x : Insn) (t : State) (o : ℤ) → t.registers ≡ s.registers → i < k → slice_get code i ≡ Some x → target_of i x ≡ Some (landing i o) → (s.slot +ℤ pos 1 +ℤ o) ≡ pos k → Stand k (names_at code copies k) t
+  goes_to k x t o same lt there to slot = led_to code copies k t i x lt there (to ∙ ap Some (ap (λ z. z +ℤ pos 1 +ℤ o) (sym at) ∙ slot)) (same_stand i k (names_at code copies i) s t lt same stand)
 
-  fresh : (dst : Register) (v : ℕ) → Stand (suc i) (with_name (names_at code i) dst (new_name (suc i) dst)) (advanced (with_register dst v s))
-  fresh dst v = write_stand s eleven words i (names_at code i) stand dst v (new_name (suc i) dst) (new_agrees s eleven words i (names_at code i) stand dst v)
+  fresh : (dst : Register) (v : ℕ) → Stand (suc i) (with_name (names_at code copies i) dst (new_name (suc i) dst)) (advanced (with_register dst v s))
+  fresh dst v = write_stand s eleven words i (names_at code copies i) stand dst v (new_name (suc i) dst) (new_agrees s eleven words i (names_at code copies i) stand dst v)
 
-  pub names_hold : (k : ℕ) (x : Insn) (t : State) → i < k → slice_get code i ≡ Some x → t.slot ≡ pos k → Does calls x s t → Stand k (names_at code k) t
-  names_hold k (insn.Alu o w dst src) t lt there to d =
-      goes_on k _ t (with_register dst (value o w (number_in s dst) (operand_in s src)) s) there d refl to
-      (write_stand s eleven words i (names_at code i) stand dst _ (name_of_op (suc i) o w dst src (names_at code i)) (op_agrees s eleven words i (names_at code i) stand o w dst src))
-  names_hold k (insn.Swap kind n dst) t lt there to d = goes_on k _ t (with_register dst _ s) there d refl to (fresh dst _)
-  names_hold k (insn.Load size extend dst r offset) t lt there to d = goes_on k _ t (with_register dst _ s) there d.2 refl to (fresh dst _)
-  names_hold k (insn.Store size r offset src) t lt there to d = goes_on k _ t _ there d.2 refl to (same_stand i (names_at code i) s _ refl stand)
-  names_hold k (insn.Jump (distance.Near o)) t lt there to d = goes_to k _ t o lt there refl (sym (ap (λ v. v.slot) d) ∙ to)
-  names_hold k (insn.Jump (distance.Far o)) t lt there to d = goes_to k _ t o lt there refl (sym (ap (λ v. v.slot) d) ∙ to)
-  names_hold k (insn.JumpIf c w left right o) t lt there to d =
-      let P : State → Type 0 = λ u. u.slot ≡ pos k → Stand k (names_at code k) u in
+  pub names_hold : (k : ℕ) (x : Insn) (t : State) → i < k → slice_get code i ≡ Some x → t.slot ≡ pos k → CopiesRight x (copies i) s → Does calls x s t → Stand k (names_at code copies k) t
+  names_hold k (insn.Alu o w dst src) t lt there to right d =
+      on k _ t (with_register dst (value o w (number_in s dst) (operand_in s src)) s) there refl d refl to
+      (write_stand s eleven words i (names_at code copies i) stand dst _ (name_of_op (suc i) (copies i) o w dst src (names_at code copies i)) (op_agrees s eleven words i (names_at code copies i) stand (copies i) o w dst src right))
+  names_hold k (insn.Swap kind n dst) t lt there to right d = on k _ t (with_register dst _ s) there refl d refl to (fresh dst _)
+  names_hold k (insn.Load size extend dst r offset) t lt there to right d = on k _ t (with_register dst _ s) there refl d.2 refl to (fresh dst _)
+  names_hold k (insn.Store size r offset src) t lt there to right d = on k _ t _ there refl d.2 refl to (same_stand i (suc i) (names_at code copies i) s _ (omega arith) refl stand)
+  names_hold k (insn.Jump (distance.Near o)) t lt there to right d = goes_to k _ t o (ap (λ v. v.registers) d) lt there refl (sym (ap (λ v. v.slot) d) ∙ to)
+  names_hold k (insn.Jump (distance.Far o)) t lt there to right d = goes_to k _ t o (ap (λ v. v.registers) d) lt there refl (sym (ap (λ v. v.slot) d) ∙ to)
+  names_hold k (insn.JumpIf c w l r o) t lt there to right d =
+      let P : State → Type 0 = λ u. u.slot ≡ pos k → Stand k (names_at code copies k) u in
       subst P (sym d)
-      (cond_both (condition c w (number_in s left) (operand_in s right)) (jumped o s) (advanced s) P
-      (λ _ slot. goes_to k _ (jumped o s) o lt there refl slot)
-      (λ _ slot. goes_on k _ (advanced s) s there refl refl slot (same_stand i (names_at code i) s (advanced s) refl stand)))
+      (cond_both (condition c w (number_in s l) (operand_in s r)) (jumped o s) (advanced s) P
+      (λ _ slot. goes_to k _ (jumped o s) o refl lt there refl slot)
+      (λ _ slot. on k _ (advanced s) s there refl refl refl slot (same_stand i (suc i) (names_at code copies i) s (advanced s) (omega arith) refl stand)))
       to
-  names_hold k (insn.Call n) t lt there to d =
+  names_hold k (insn.Call n) t lt there to right d =
       let u = record s { registers = Some d.0 ∷ None ∷ None ∷ None ∷ None ∷ None ∷ drop 6 s.registers; memory = d.1 } in
-      goes_on k _ t u there d.3 refl to (call_stand s (advanced u) (Some d.0) i (names_at code i) stand refl)
-  names_hold k insn.Exit t lt there to d = absurd d
-  names_hold k (insn.Wide dst n) t lt there to d =
+      on k _ t u there refl d.3 refl to (call_stand s (advanced u) (Some d.0) i (names_at code copies i) stand refl)
+  names_hold k insn.Exit t lt there to right d = absurd d
+  names_hold k (insn.Wide dst n) t lt there to right d =
       let tail : slice_get code (suc i) ≡ Some insn.Tail = ap (slice_get code) (omega arith) ∙ after_wide dst n there in
       let two = two_on s.slot i k at (sym (ap (λ v. v.slot) d) ∙ to) in
       let registers : t.registers ≡ set s.registers (number dst) (Some n) = ap (λ v. v.registers) d in
-      let first = next_stand code i (suc i) _ (advanced (with_register dst n s)) refl there (fresh dst n) in
-      next_stand code (suc i) k insn.Tail t two tail (same_stand (suc i) (names_at code (suc i)) (advanced (with_register dst n s)) t registers first)
-  names_hold k insn.Tail t lt there to d = absurd d
+      let first = next_stand code copies i (suc i) _ (advanced (with_register dst n s)) refl there refl (fresh dst n) in
+      next_stand code copies (suc i) k insn.Tail t two tail refl (same_stand (suc i) (suc (suc i)) (names_at code copies (suc i)) (advanced (with_register dst n s)) t (omega arith) registers first)
+  names_hold k insn.Tail t lt there to right d = absurd d

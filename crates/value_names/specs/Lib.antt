@@ -1,2 +1,3 @@
 pub mod Led
 pub mod Names
+pub mod Courses

@@ -1,11 +1,11 @@
--- What is known of registers that hold copies of one value: by how much they differ. It is known by the code alone, from the slot on where
--- a register is written, as long as no jump leads there.
-use Rattle.std.specs.Prelude.{◌≡◌, ℕ, zero, suc, ◌+◌, ◌*◌, ◌==◌, Bool, not, ◌&&◌, if◌then◌else◌, Option, None, Some, List, [], ◌∷◌, drop, slice_get, slice_set, slice_index_or}
+-- What is known of registers that hold copies of one value: by how much they differ. It is known by the code, and by which moves of 32 bits
+-- copy a number below 2 ^ 32: from the slot on where a register is written, and where ways meet as far as they agree.
+use Rattle.std.specs.Prelude.{◌≡◌, ℕ, zero, suc, ℤ, ◌+◌, ◌*◌, ◌==◌, Bool, true, false, not, ◌&&◌, if◌then◌else◌, Option, None, Some, List, [], ◌∷◌, drop, slice_get, slice_set, slice_index_or}
 use Rattle.alu.specs.Value.{wrapped, value}
 use Rattle.alu.specs.declared.Op.{Op}
 use Rattle.alu.specs.declared.Op.TheVariants.{Mov, Add, Sub}
 use Rattle.alu.specs.declared.Width.{Width}
-use Rattle.alu.specs.declared.Width.TheVariants.{W64}
+use Rattle.alu.specs.declared.Width.TheVariants.{W32, W64}
 use Rattle.insn.specs.Encoding.{number}
 use Rattle.insn.specs.declared.Register.{Register}
 use Rattle.insn.specs.declared.Register.TheVariants.{R0, R1, R2, R3, R4, R5, R6, R7, R8, R9, R10}
@@ -14,7 +14,8 @@ use Rattle.insn.specs.declared.Operand.TheVariants as operand
 use Rattle.insn.specs.declared.Insn.{Insn}
 use Rattle.insn.specs.declared.Insn.TheVariants as insn
 use Rattle.memory.specs.State.{State, number_in}
-use Rattle.value_names.specs.Led.{leads_before}
+use Rattle.bpfimage.specs.Form.{target_of}
+use Rattle.value_names.specs.Led.{is_slot}
 use Rattle.value_names.specs.declared.name.Name.{Name}
 
 -- ---- names
@@ -41,33 +42,74 @@ new_names k = new_name k R0 ∷ new_name k R1 ∷ new_name k R2 ∷ new_name k R
 abbrev pub moved_by : Op → ℕ → Name → Name
 moved_by o n name = record { value = name.value; distance = value o W64 name.distance n }
 
--- a copy has the name of what is copied, and one number that is added or taken away moves it
-abbrev pub name_of_op : ℕ → Op → Width → Register → Operand → Names → Name
-name_of_op k Mov W64 dst (operand.Register src) names = name_at names src
-name_of_op k Add W64 dst (operand.Immediate n) names = moved_by Add (wrapped 64 n) (name_at names dst)
-name_of_op k Sub W64 dst (operand.Immediate n) names = moved_by Sub (wrapped 64 n) (name_at names dst)
-name_of_op k o w dst src names = new_name k dst
+-- a copy has the name of what is copied, and one number that is added or taken away moves it; a move of 32 bits copies where it is said to
+abbrev pub name_of_op : ℕ → Bool → Op → Width → Register → Operand → Names → Name
+name_of_op k copies Mov W64 dst (operand.Register src) names = name_at names src
+name_of_op k copies Mov W32 dst (operand.Register src) names = if copies then name_at names src else new_name k dst
+name_of_op k copies Add W64 dst (operand.Immediate n) names = moved_by Add (wrapped 64 n) (name_at names dst)
+name_of_op k copies Sub W64 dst (operand.Immediate n) names = moved_by Sub (wrapped 64 n) (name_at names dst)
+name_of_op k copies o w dst src names = new_name k dst
 
-abbrev pub names_after : ℕ → Insn → Names → Names
-names_after k (insn.Alu o w dst src) names = with_name names dst (name_of_op k o w dst src names)
-names_after k (insn.Swap kind n dst) names = with_name names dst (new_name k dst)
-names_after k (insn.Load size extend dst base offset) names = with_name names dst (new_name k dst)
-names_after k (insn.Call helper) names = new_name k R0 ∷ new_name k R1 ∷ new_name k R2 ∷ new_name k R3 ∷ new_name k R4 ∷ new_name k R5 ∷ drop 6 names
-names_after k (insn.Wide dst n) names = with_name names dst (new_name k dst)
-names_after k other names = names
+abbrev pub names_after : ℕ → Bool → Insn → Names → Names
+names_after k copies (insn.Alu o w dst src) names = with_name names dst (name_of_op k copies o w dst src names)
+names_after k copies (insn.Swap kind n dst) names = with_name names dst (new_name k dst)
+names_after k copies (insn.Load size extend dst base offset) names = with_name names dst (new_name k dst)
+names_after k copies (insn.Call helper) names = new_name k R0 ∷ new_name k R1 ∷ new_name k R2 ∷ new_name k R3 ∷ new_name k R4 ∷ new_name k R5 ∷ drop 6 names
+names_after k copies (insn.Wide dst n) names = with_name names dst (new_name k dst)
+names_after k copies other names = names
 
-abbrev pub names_next : ℕ → Option Insn → Names → Names
-names_next k None names = new_names k
-names_next k (Some x) names = names_after k x names
+-- ---- ways meet at slot k: what is equal stays, and any other register has a name that is new there
 
--- and where a jump leads there or not
-abbrev pub names_on : Bool → ℕ → Insn → Names → Names
-names_on led k x names = if led then new_names k else names_after k x names
+abbrev pub joined_name : ℕ → Register → Name → Name → Name
+joined_name k r a b = if a.value == b.value && a.distance == b.distance then a else new_name k r
 
--- the names before a slot: new ones where a jump leads
-abbrev pub names_at : List Insn → ℕ → Names
-names_at code zero = new_names 0
-names_at code (suc i) = if leads_before code (suc i) (suc i) then new_names (suc i) else names_next (suc i) (slice_get code i) (names_at code i)
+abbrev pub name_in : ℕ → Register → Names → Names → Name
+name_in k r names others = joined_name k r (name_at names r) (name_at others r)
+
+abbrev pub joined_names : ℕ → Names → Names → Names
+joined_names k names others =
+    name_in k R0 names others ∷ name_in k R1 names others ∷ name_in k R2 names others ∷ name_in k R3 names others ∷ name_in k R4 names others ∷ name_in k R5 names others ∷ name_in k R6 names others ∷ name_in k R7 names others ∷ name_in k R8 names others ∷ name_in k R9 names others ∷ name_in k R10 names others ∷ []
+
+-- to what came there before, if anything did
+abbrev pub joined : ℕ → Option Names → Names → Option Names
+joined k None names = Some names
+joined k (Some old) names = Some (joined_names k old names)
+
+-- ---- edges
+
+-- every instruction but a jump and an exit goes on to the next slot
+abbrev pub goes_on : Insn → Bool
+goes_on (insn.Jump distance) = false
+goes_on insn.Exit = false
+goes_on other = true
+
+-- the edge of a jump brings the names before it
+abbrev pub by_jump : ℕ → Option ℤ → Names → Option Names → Option Names
+by_jump k target names before = if is_slot k target then joined k before names else before
+
+abbrev pub by_next : ℕ → Bool → Insn → Names → Option Names → Option Names
+by_next k copies x names before = if goes_on x then joined k before (names_after k copies x names) else before
+
+-- what the instruction of slot n brings to slot k, joined to what came there before
+abbrev pub brought : ℕ → ℕ → Bool → Option Insn → Names → Option Names → Option Names
+brought k n copies None names before = before
+brought k n copies (Some x) names before =
+    let led = by_jump k (target_of n x) names before in
+    if suc n == k then by_next k copies x names led else led
+
+-- new names where nothing comes
+abbrev pub come : ℕ → Option Names → Names
+come k None = new_names k
+come k (Some names) = names
+
+-- what the instructions of the first n slots bring to slot k, where it is said of each slot's move of 32 bits whether it copies
+abbrev pub arriving : List Insn → (ℕ → Bool) → ℕ → ℕ → Option Names
+arriving code copies zero k = if k == 0 then Some (new_names 0) else None
+arriving code copies (suc n) k = brought k n (copies n) (slice_get code n) (come n (arriving code copies n n)) (arriving code copies n k)
+
+-- the names before a slot: what all lower slots bring there
+abbrev pub names_at : List Insn → (ℕ → Bool) → ℕ → Names
+names_at code copies k = come k (arriving code copies k k)
 
 -- ---- what they mean: of two registers of one name each is as far as its distance from where the other is less its own
 

@@ -2,7 +2,7 @@
 
 ghost use Rattle.std.specs.Prelude.{◌≡◌, ◌≤◌, slice_set};
 ghost use Rattle.insn.specs.Encoding.{number};
-ghost use Rattle.value_names.specs.Names.{name_at, new_names, moved_by, name_of_op, names_after, names_on, distance_from, are_alike};
+ghost use Rattle.value_names.specs.Names.{name_at, new_names, moved_by, name_of_op, names_after, joined_name, name_in, joined_names, distance_from, are_alike};
 
 use crate::name::{Name, new_name};
 use alu::{Op, Width, eval};
@@ -15,7 +15,7 @@ fn name_at(names: &[Name; 11], register: Register) -> Name
     names[register.number() as usize]
 }
 
-/// The names before a slot to which a jump leads.
+/// Names that no register had before a slot: those of the first slot, and of one to which nothing leads.
 pub fn new_names(slot: u32) -> [Name; 11]
     requires { slot ≤ 4096 }
     ensures { result ≡ new_names slot }
@@ -46,9 +46,10 @@ fn moved_by(op: Op, n: u64, name: Name) -> Name
 }
 
 /// The name of a register that an operation writes: a copy's is that of what is copied, and one number that is added or taken away
-/// moves it.
+/// moves it. Whether a move of 32 bits copies is said.
 fn name_of_op(
     slot: u32,
+    copies: bool,
     op: Op,
     width: Width,
     dst: Register,
@@ -56,10 +57,11 @@ fn name_of_op(
     names: &[Name; 11],
 ) -> Name
     requires { slot ≤ 4096 }
-    ensures { result ≡ name_of_op slot op width dst src names.now }
+    ensures { result ≡ name_of_op slot copies op width dst src names.now }
 {
     match (op, width, src) {
         (Op::Mov, Width::W64, Operand::Register(src)) => name_at(names, src),
+        (Op::Mov, Width::W32, Operand::Register(src)) if copies => name_at(names, src),
         (Op::Add | Op::Sub, Width::W64, Operand::Immediate(n)) => {
             moved_by(op, i64::from(n).cast_unsigned(), name_at(names, dst))
         }
@@ -75,9 +77,9 @@ fn set_name(names: &mut [Name; 11], register: Register, name: Name)
 }
 
 /// Goes over an instruction, on the way to a slot.
-fn rename(slot: u32, insn: Insn, names: &mut [Name; 11])
+pub fn rename(slot: u32, copies: bool, insn: Insn, names: &mut [Name; 11])
     requires { slot ≤ 4096 }
-    ensures { names.new ≡ names_after slot insn names.old }
+    ensures { names.new ≡ names_after slot copies insn names.old }
 {
     match insn {
         Insn::Alu {
@@ -86,7 +88,7 @@ fn rename(slot: u32, insn: Insn, names: &mut [Name; 11])
             dst,
             src,
         } => {
-            let name = name_of_op(slot, op, width, dst, src, names);
+            let name = name_of_op(slot, copies, op, width, dst, src, names);
             set_name(names, dst, name);
         }
         Insn::Swap { dst, .. } | Insn::Load { dst, .. } | Insn::Wide { dst, .. } => {
@@ -98,16 +100,49 @@ fn rename(slot: u32, insn: Insn, names: &mut [Name; 11])
     }
 }
 
-/// Goes on to a slot, over the instruction before it: where a jump leads there, all names are new.
-pub fn go_on(slot: u32, insn: Insn, is_led: bool, names: &mut [Name; 11])
+/// Where two ways to a slot meet, a name that is the same on both stays, and any other is new.
+fn join_name(slot: u32, register: Register, name: Name, other: Name) -> Name
     requires { slot ≤ 4096 }
-    ensures { names.new ≡ names_on is_led slot insn names.old }
+    ensures { result ≡ joined_name slot register name other }
 {
-    if is_led {
-        *names = new_names(slot);
+    if name.value == other.value && name.distance == other.distance {
+        name
     } else {
-        rename(slot, insn, names);
+        new_name(slot, register)
     }
+}
+
+/// The same of a register, by the names of both ways.
+fn name_in(slot: u32, register: Register, names: &[Name; 11], others: &[Name; 11]) -> Name
+    requires { slot ≤ 4096 }
+    ensures { result ≡ name_in slot register names.now others.now }
+{
+    join_name(
+        slot,
+        register,
+        name_at(names, register),
+        name_at(others, register),
+    )
+}
+
+/// The names where two ways to a slot meet.
+pub fn join_names(slot: u32, names: &[Name; 11], others: &[Name; 11]) -> [Name; 11]
+    requires { slot ≤ 4096 }
+    ensures { result ≡ joined_names slot names.now others.now }
+{
+    [
+        name_in(slot, Register::R0, names, others),
+        name_in(slot, Register::R1, names, others),
+        name_in(slot, Register::R2, names, others),
+        name_in(slot, Register::R3, names, others),
+        name_in(slot, Register::R4, names, others),
+        name_in(slot, Register::R5, names, others),
+        name_in(slot, Register::R6, names, others),
+        name_in(slot, Register::R7, names, others),
+        name_in(slot, Register::R8, names, others),
+        name_in(slot, Register::R9, names, others),
+        name_in(slot, Register::R10, names, others),
+    ]
 }
 
 /// Whether two registers have one name.

@@ -1,13 +1,15 @@
--- What is known at a slot, from slot to slot: the sum, the names of registers and the pairs.
+-- What is known at a slot, from slot to slot: the sum and the pairs.
 use Rattle.std.proofs.Common.{◌≡◌, ℕ, suc, ◌+◌, ◌<◌, Bool, ◌||◌, cond, List, Option, Some, None, sym, ap, ◌∙◌, subst, ⊎_elim, arith}
-use Rattle.std.specs.Prelude.{slice_get}
+use Rattle.std.specs.Prelude.{Result, Ok, Err, IfOk, IfSome, slice_get}
 use Rattle.std.proofs.lemmas.Bool.{cases_eq}
 use Rattle.insn.specs.declared.Insn.{Insn}
 use Rattle.bpfimage.specs.Form.{target_of}
 use Rattle.value_names.specs.Led.{is_slot, target_at, leads_before}
-use Rattle.value_names.specs.Names.{Names, new_names, names_next, names_on, names_at}
 use Rattle.verifier.specs.Sums.{sum_after, sum_next, sum_at}
+use Rattle.memory.specs.declared.profile.Profile.{Profile}
 use Rattle.verifier.specs.Program.{Program}
+use Rattle.verifier.specs.Table.{AreKinds}
+use Rattle.verifier.specs.Rows.{HasKinds}
 use Rattle.verifier.specs.Registers.{Row}
 use Rattle.verifier.specs.Pairs.{no_pairs}
 use Rattle.verifier.specs.PairSteps.{pairs_next, pairs_at}
@@ -29,17 +31,6 @@ sum_on code i x b sum at led is =
     let one : i + 1 ≡ suc i = omega arith in
     ap (λ s. cond b None (sum_after x s)) is ∙ next_is code i x b at (led ∙ ap (λ n. leads_before code n n) one) ∙ ap (sum_at code) (sym one)
 
--- the names of the registers at the next slot
-pub named_on : (code : List Insn) (i : ℕ) (x : Insn) (b : Bool) (names next : Names) → slice_get code i ≡ Some x → b ≡ leads_before code (i + 1) (i + 1) → names ≡ names_at code i → next ≡ names_on b (i + 1) x names → next ≡ names_at code (i + 1)
-named_on code i x b names next at led named here =
-    let one : i + 1 ≡ suc i = omega arith in
-    here
-    ∙ ap (names_on b (i + 1) x) named
-    ∙ ap (λ c. names_on c (i + 1) x (names_at code i)) led
-    ∙ ap (λ o. cond (leads_before code (i + 1) (i + 1)) (new_names (i + 1)) (names_next (i + 1) o (names_at code i))) (sym at)
-    ∙ ap (λ n. cond (leads_before code n n) (new_names n) (names_next n (slice_get code i) (names_at code i))) one
-    ∙ ap (names_at code) (sym one)
-
 -- the pairs that are known at the next slot
 pub pairs_on : (p : Program) (rows : List (Option Row)) (i : ℕ) (b : Bool) (sum : Option Sum) (pairs next now : Pairs) → b ≡ leads_before p.code (i + 1) (i + 1) → sum ≡ sum_at p.code i → pairs ≡ pairs_at p rows i → next ≡ pairs_next p (slice_get p.code i) sum (slice_get rows i) pairs → now ≡ cond b no_pairs next → now ≡ pairs_at p rows (i + 1)
 pairs_on p rows i b sum pairs next now led summed paired is here =
@@ -50,6 +41,16 @@ pairs_on p rows i b sum pairs next now led summed paired is here =
     ∙ ap (λ q. cond b no_pairs (pairs_next p (slice_get p.code i) (sum_at p.code i) (slice_get rows i) q)) paired
     ∙ ap (λ c. cond c no_pairs (pairs_next p (slice_get p.code i) (sum_at p.code i) (slice_get rows i) (pairs_at p rows i))) (led ∙ ap (λ n. leads_before p.code n n) one)
     ∙ ap (pairs_at p rows) (sym one)
+
+-- what follows of an answer that is one
+pub if_ok : {T E : Type 0} (P Q : T → Type 0) (r : Result T E) → ((x : T) → P x → Q x) → IfOk r P → IfOk r Q
+if_ok P Q (Ok x) f h = f x h
+if_ok P Q (Err e) f h = tt
+
+-- the kinds of a row, if there is one
+pub known_kinds : (profile : Profile) (low : ℕ) (o : Option Row) → HasKinds profile low o → IfSome o AreKinds
+known_kinds profile low None h = tt
+known_kinds profile low (Some row) h = h.kinds
 
 -- what holds of each slot before one, and of that one
 pub one_more : (P : ℕ → Type 0) (i : ℕ) → ((k : ℕ) → k < i → P k) → P i → (k : ℕ) → k < i + 1 → P k

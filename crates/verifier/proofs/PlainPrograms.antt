@@ -18,7 +18,7 @@ use Rattle.ranges.specs.declared.kind.Kind.TheVariants.{Unset, Dead, Num, Ptr, H
 use Rattle.memory.specs.declared.profile.Profile.{Profile}
 use Rattle.memory.specs.declared.profile.Profile.TheVariants.{First, Second}
 use Rattle.bpfimage.specs.Form.{next_of, target_of, GoesTo, IsSuccessor, IsPath, IsFormed}
-use Rattle.value_names.specs.Names.{names_at}
+use Rattle.value_names.specs.Names.{Names}
 use Rattle.verifier.specs.Program.{Program}
 use Rattle.verifier.specs.declared.rule.KindRule.{KindRule}
 use Rattle.verifier.specs.declared.rule.KindRule.TheVariants.{UnsetRead, FrameWritten, PointerOperand, OutsideWindow, InputStored, PointerStored, PointerAnswer, StackRead}
@@ -29,7 +29,7 @@ use Rattle.verifier.specs.PairSteps.{pairs_at}
 use Rattle.verifier.specs.declared.pair.Pairs.{Pairs}
 use Rattle.verifier.specs.Rules.{callee_in, compares_pointer, is_frame, broken_if, bad_result, class_rules, rules_of, first_of, row_taken}
 use Rattle.verifier.specs.Sums.{sum_at, row_on}
-use Rattle.verifier.specs.Naming.{named}
+use Rattle.verifier.specs.Naming.{names_in, named}
 use Rattle.verifier.specs.Table.{Edge, next_edge, target_edge, named_edges, join_rows, joined, into, edges_of, arrivals, table, broken_with, IsAccepted}
 use Rattle.verifier.specs.Plain.{IsIn, WrittenOn, SetAtStart, window_of, IsPlainInsn, IsPlain, InWindow, StaysInside, IsWellBehaved}
 use Rattle.verifier.proofs.Fits.{length_join}
@@ -165,10 +165,9 @@ module _ (p : Program) (some : 1 ≤ length p.code) (formed : IsFormed p.code) (
   same_slot : (j k : ℕ) → pos k ≡ pos j → j ≡ k
   same_slot j k e = cc
 
-  edges_plain : (i : ℕ) (x : Insn) (row : Row) → slice_get p.code i ≡ Some x → slice_get (table p) i ≡ Some (Some row) → IsPlainAt p.profile p.code i row → AllPlain p.profile p.code (named_edges p.profile (callee_in p.sigs x) (sum_at p.code i) (names_at p.code i) i row x)
-  edges_plain i x row at here is =
+  edges_plain : (i : ℕ) (names : Names) (x : Insn) (row : Row) → slice_get p.code i ≡ Some x → slice_get (table p) i ≡ Some (Some row) → IsPlainAt p.profile p.code i row → AllPlain p.profile p.code (named_edges p.profile (callee_in p.sigs x) (sum_at p.code i) names i row x)
+  edges_plain i names x row at here is =
       let set = reads_set i x row at here is in
-      let names = names_at p.code i in
       let on = row_on p.profile (callee_in p.sigs x) (sum_at p.code i) row x in
       let taken = row_taken p.profile row x in
       all_append p.profile p.code _ _
@@ -180,11 +179,11 @@ module _ (p : Program) (some : 1 ≤ length p.code) (formed : IsFormed p.code) (
       (named_long names x p.profile p.profile taken (taken_is_long p.profile row x is.long))
       (named_follows p.profile row taken x names (taken_follows p.profile row x (pos k) i e is.long is.plain is.cells (plain i x at) set))))
 
-  edges_of_plain : (i : ℕ) (x : Option Insn) (o : Option (Option Row)) → slice_get p.code i ≡ x → slice_get (table p) i ≡ o → PlainSlot p.profile p.code i o → AllPlain p.profile p.code (edges_of p i x o)
-  edges_of_plain i None o at here h = tt
-  edges_of_plain i (Some x) None at here h = tt
-  edges_of_plain i (Some x) (Some None) at here h = tt
-  edges_of_plain i (Some x) (Some (Some row)) at here h = edges_plain i x row at here h
+  edges_of_plain : (i : ℕ) (names : Names) (x : Option Insn) (o : Option (Option Row)) → slice_get p.code i ≡ x → slice_get (table p) i ≡ o → PlainSlot p.profile p.code i o → AllPlain p.profile p.code (edges_of p names i x o)
+  edges_of_plain i names None o at here h = tt
+  edges_of_plain i names (Some x) None at here h = tt
+  edges_of_plain i names (Some x) (Some None) at here h = tt
+  edges_of_plain i names (Some x) (Some (Some row)) at here h = edges_plain i names x row at here h
 
   first_plain : (k : ℕ) → PlainIfAny p.profile p.code k (cond (eqb k 0) (Some (entry p)) None)
   first_plain k = cond_both (eqb k 0) _ _ (PlainIfAny p.profile p.code k) (λ t. entry_at p k (eqb-true k 0 t)) (λ _. tt)
@@ -192,7 +191,7 @@ module _ (p : Program) (some : 1 ≤ length p.code) (formed : IsFormed p.code) (
   arrivals_plain : (n k : ℕ) → ((i : ℕ) → i < n → PlainSlot p.profile p.code i (slice_get (table p) i)) → PlainIfAny p.profile p.code k (arrivals p (table p) n k)
   arrivals_plain zero k h = first_plain k
   arrivals_plain (suc n) k h =
-      into_plain p.profile p.code k _ _ (edges_of_plain n (slice_get p.code n) (slice_get (table p) n) refl refl (h n (omega arith))) (arrivals_plain n k (λ i lt. h i (omega arith)))
+      into_plain p.profile p.code k _ _ (edges_of_plain n (names_in p (table p) n) (slice_get p.code n) (slice_get (table p) n) refl refl (h n (omega arith))) (arrivals_plain n k (λ i lt. h i (omega arith)))
 
   pub table_plain : (n k : ℕ) → k < n → PlainSlot p.profile p.code k (slice_get (table p) k)
   table_plain zero k h = absurd (omega arith)

@@ -1,12 +1,14 @@
 -- A formed program of which no slot breaks a rule is safe.
 use Rattle.std.proofs.Common.{◌≡◌, ◌≢◌, ℕ, zero, suc, ℤ, pos, negsuc, ◌*◌, ◌<◌, ◌≤◌, true, false, eqb, List, [], ◌∷◌, ◌++◌, length, take, drop, Option, Some, None, refl, sym, ap, ◌∙◌, subst, inl, inr, ⊎_elim, arith, length-set, length-drop}
-use Rattle.std.specs.Prelude.{slice_get, slice_index_or, replicate}
+use Rattle.std.specs.Prelude.{◌^◌, slice_get, slice_index_or, replicate}
 use Rattle.std.proofs.lemmas.List.{length-replicate}
 use Rattle.std.proofs.lemmas.Int.{ints}
 use Rattle.std.proofs.lemmas.Bool.{cond_both, cases_lt, cases_eq}
 use Rattle.std.proofs.lemmas.Option.{slice_get_within, slice_get_past, same_Some}
 use Rattle.alu.specs.Value.{wrapped}
 use Rattle.insn.specs.Encoding.{number, size_bytes, IsInstruction}
+use Rattle.alu.specs.declared.Op.TheVariants as op
+use Rattle.alu.specs.declared.Width.TheVariants.{W32}
 use Rattle.insn.specs.declared.Size.{Size}
 use Rattle.insn.specs.declared.Extend.{Extend}
 use Rattle.insn.specs.declared.Extend.TheVariants.{Zero, Sign}
@@ -15,7 +17,7 @@ use Rattle.insn.specs.declared.Operand.TheVariants as operand
 use Rattle.insn.specs.declared.Insn.{Insn}
 use Rattle.insn.specs.declared.Insn.TheVariants as insn
 use Rattle.std.proofs.lemmas.Nat.{pow_pos}
-use Rattle.memory.specs.State.{State, Row as Row_of}
+use Rattle.memory.specs.State.{State, number_in, Row as Row_of}
 use Rattle.memory.specs.Step.{Step, Faults, Runs, IsInput, start, instruction_at, starting, instruction_count}
 use Rattle.memory.specs.declared.Fault.{Fault}
 use Rattle.memory.specs.declared.profile.Profile.{Profile}
@@ -28,8 +30,8 @@ use Rattle.ranges.specs.Transfer.{transfer_of, swap_of}
 use Rattle.ranges.specs.Laws.{IsSoundTable}
 use Rattle.bpfimage.specs.Form.{next_of, target_of}
 use Rattle.helpers.specs.Calls.{Callee, Copy, Fill, Same, Helper, Unknown, calls_of}
-use Rattle.value_names.specs.Names.{Names, names_at}
-use Rattle.value_names.proofs.NamedRuns.{Stand, new_stand, names_hold}
+use Rattle.value_names.specs.Names.{Names}
+use Rattle.value_names.proofs.NamedRuns.{Stand, CopiesRight, new_stand, names_hold}
 use Rattle.verifier.specs.Program.{Program, HasLimits, IsSafeProgram}
 use Rattle.verifier.specs.Registers.{Row, cell_count, IsLong, kind_at, kind_from, one_number, entry}
 use Rattle.verifier.specs.Cells.{span_of, part_at, row_written}
@@ -38,15 +40,15 @@ use Rattle.verifier.specs.PairSteps.{pairs_at}
 use Rattle.verifier.proofs.Together.{HoldPairs}
 use Rattle.verifier.proofs.PairRuns.{pairs_held}
 use Rattle.verifier.specs.Rules.{callee_in, loaded, row_after, row_taken, rules_of}
-use Rattle.verifier.specs.Sums.{sum_at, row_on}
-use Rattle.verifier.specs.Naming.{named}
+use Rattle.verifier.specs.Sums.{most, sum_at, row_on}
+use Rattle.verifier.specs.Naming.{copies_of, copies_at, names_in, named}
 use Rattle.verifier.specs.Table.{Edge, next_edge, target_edge, named_edges, edges_of, arrivals, table, broken_with, IsAccepted, AreKinds}
 use Rattle.verifier.proofs.Words.{wrapped_below, size_fits, bytes_zero}
 use Rattle.verifier.proofs.RowSteps.{kinds_set, kinds_drop}
 use Rattle.verifier.proofs.StackCells.{values, has_eleven, stored_long, written_long, stored_kinds, written_kinds, read_kinds, zero_cells, zero_bytes}
 use Rattle.verifier.proofs.Fits.{FitsRow, IsRow, IsRowIfAny, AreRows, FitsSome, SomeEdge, into_is_row, into_old, into_new}
 use Rattle.verifier.proofs.Refined.{refined_is_long, refined_kinds}
-use Rattle.verifier.proofs.SumSteps.{Holds, told_long, told_kinds}
+use Rattle.verifier.proofs.SumSteps.{Holds, told_long, told_kinds, most_of, lt_from, at_register}
 use Rattle.verifier.proofs.SumRuns.{held_at}
 use Rattle.verifier.proofs.Shape.{IsPaired, Leads, AllLead, paired_starts, edges_lead, target_leads}
 use Rattle.verifier.proofs.Places.{IsMemory}
@@ -164,18 +166,17 @@ module _ (sound : (profile : Profile) → IsSoundTable profile) (p : Program) (l
   named_row : (names : Names) (x : Insn) (row : Row) → IsRow p.profile row → IsRow p.profile (named x p.profile names row)
   named_row names x row h = record { long = named_long names x p.profile p.profile row h.long; kinds = named_kinds (sound Second) names x p.profile row h.kinds }
 
-  edge_rows : (i : ℕ) (row : Row) (x : Insn) → (x ≢ insn.Tail → IsInstruction x) → IsRow p.profile row → AreRows p.profile (named_edges p.profile (callee_in p.sigs x) (sum_at p.code i) (names_at p.code i) i row x)
-  edge_rows i row x is h =
-      let names = names_at p.code i in
+  edge_rows : (i : ℕ) (names : Names) (row : Row) (x : Insn) → (x ≢ insn.Tail → IsInstruction x) → IsRow p.profile row → AreRows p.profile (named_edges p.profile (callee_in p.sigs x) (sum_at p.code i) names i row x)
+  edge_rows i names row x is h =
       rows_append p.profile _ _
       (next_rows p.profile (next_of i x) (named x p.profile names (row_on p.profile (callee_in p.sigs x) (sum_at p.code i) row x)) (named_row names x _ (on_row i row x is h)))
       (target_rows p.profile (target_of i x) (named x p.profile names (row_taken p.profile row x)) (named_row names x _ (taken_row row x h)))
 
-  edges_are_rows : (i : ℕ) (x : Option Insn) (row : Option (Option Row)) → slice_get p.code i ≡ x → IsRowAt p.profile row → AreRows p.profile (edges_of p i x row)
-  edges_are_rows i None row at h = tt
-  edges_are_rows i (Some x) None at h = tt
-  edges_are_rows i (Some x) (Some None) at h = tt
-  edges_are_rows i (Some x) (Some (Some row)) at h = edge_rows i row x (paired.instructions i x at) h
+  edges_are_rows : (i : ℕ) (names : Names) (x : Option Insn) (row : Option (Option Row)) → slice_get p.code i ≡ x → IsRowAt p.profile row → AreRows p.profile (edges_of p names i x row)
+  edges_are_rows i names None row at h = tt
+  edges_are_rows i names (Some x) None at h = tt
+  edges_are_rows i names (Some x) (Some None) at h = tt
+  edges_are_rows i names (Some x) (Some (Some row)) at h = edge_rows i names row x (paired.instructions i x at) h
 
   entry_is_row : IsRow p.profile (entry p)
   entry_is_row = record { long = let e = length-replicate {A = Kind} (cell_count p.profile) (one_number p.profile 0) in omega (arith, e); kinds = from }
@@ -202,7 +203,7 @@ module _ (sound : (profile : Profile) → IsSoundTable profile) (p : Program) (l
   arrival_rows : (rows : List (Option Row)) (n k : ℕ) → ((i : ℕ) → i < n → IsRowAt p.profile (slice_get rows i)) → IsRowIfAny p.profile (arrivals p rows n k)
   arrival_rows rows zero k h = cond_both (eqb k 0) _ _ (IsRowIfAny p.profile) (λ _. entry_is_row) (λ _. tt)
   arrival_rows rows (suc n) k h =
-      into_is_row p.profile (sound p.profile) k _ _ (edges_are_rows n (slice_get p.code n) (slice_get rows n) refl (h n (omega arith))) (arrival_rows rows n k (λ i lt. h i (omega arith)))
+      into_is_row p.profile (sound p.profile) k _ _ (edges_are_rows n (names_in p rows n) (slice_get p.code n) (slice_get rows n) refl (h n (omega arith))) (arrival_rows rows n k (λ i lt. h i (omega arith)))
 
   table_rows : (n k : ℕ) → k < n → IsRowAt p.profile (slice_get (table p) k)
   table_rows zero k h = absurd (omega arith)
@@ -220,17 +221,17 @@ module _ (sound : (profile : Profile) → IsSoundTable profile) (p : Program) (l
 
   -- ---- an edge is joined into its slot's row
 
-  arrives : (i n k : ℕ) (x : Insn) (row : Row) (vs : List (Option ℕ)) → i < n → slice_get p.code i ≡ Some x → slice_get (table p) i ≡ Some (Some row) → SomeEdge (pos k) vs (named_edges p.profile (callee_in p.sigs x) (sum_at p.code i) (names_at p.code i) i row x) → FitsSome (arrivals p (table p) n k) vs
+  arrives : (i n k : ℕ) (x : Insn) (row : Row) (vs : List (Option ℕ)) → i < n → slice_get p.code i ≡ Some x → slice_get (table p) i ≡ Some (Some row) → SomeEdge (pos k) vs (named_edges p.profile (callee_in p.sigs x) (sum_at p.code i) (names_in p (table p) i) i row x) → FitsSome (arrivals p (table p) n k) vs
   arrives i zero k x row vs lt at here e = absurd (omega arith)
   arrives i (suc n) k x row vs lt at here e =
       let all : (m : ℕ) → IsRowAt p.profile (slice_get (table p) m) = λ m. table_rows (suc m) m (omega arith) in
-      let edges = edges_are_rows n (slice_get p.code n) (slice_get (table p) n) refl (all n) in
+      let edges = edges_are_rows n (names_in p (table p) n) (slice_get p.code n) (slice_get (table p) n) refl (all n) in
       let before = arrival_rows (table p) n k (λ m _. all m) in
       ⊎_elim
       (λ same. let at' = ap (slice_get p.code) (sym same) ∙ at in
       let here' = ap (slice_get (table p)) (sym same) ∙ here in
       into_new p.profile (sound p.profile) k _ _ vs edges before
-      (subst (λ o. SomeEdge (pos k) vs (edges_of p n o (slice_get (table p) n))) (sym at') (subst (λ o. SomeEdge (pos k) vs (edges_of p n (Some x) o)) (sym here') (subst (λ j. SomeEdge (pos k) vs (named_edges p.profile (callee_in p.sigs x) (sum_at p.code j) (names_at p.code j) j row x)) same e))))
+      (subst (λ o. SomeEdge (pos k) vs (edges_of p (names_in p (table p) n) n o (slice_get (table p) n))) (sym at') (subst (λ o. SomeEdge (pos k) vs (edges_of p (names_in p (table p) n) n (Some x) o)) (sym here') (subst (λ j. SomeEdge (pos k) vs (named_edges p.profile (callee_in p.sigs x) (sum_at p.code j) (names_in p (table p) j) j row x)) same e))))
       (λ other. into_old p.profile (sound p.profile) k _ _ vs edges before (arrives i n k x row vs (omega arith) at here e))
       (cases_eq i n)
 
@@ -248,7 +249,7 @@ pub record Stands (p : Program) (n : ℕ) (s : State) : Type 0 where
   pub fits : FitsRow row (values p.profile s)
   pub holds : Holds (sum_at p.code at) s
   pub together : HoldPairs (pairs_at p (table p) at) s
-  pub names : Stand at (names_at p.code at) s
+  pub names : Stand at (names_in p (table p) at) s
   pub memory : IsMemory p s.memory
   pub steps : n ≤ instruction_count (take at p.code)
 
@@ -283,13 +284,13 @@ module _ (sound : (profile : Profile) → IsSoundTable profile) (p : Program) (l
       let same : e.0 ≡ g.here = same_Some _ _ (sym e.1 ∙ there n s g) in
       no_fault sound p g.at g.row s limits (row_kinds sound p limits paired g.at g.row g.kinds) (row_long sound p limits paired g.at g.row g.kinds) g.fits g.slot g.memory (sum_at p.code g.at) g.holds (pairs_at p (table p) g.at) g.together e.0 (subst (λ x. AllNone (rules_of p (pairs_at p (table p) g.at) g.row x)) (sym same) (rules_kept n s g)) f e.2.stands
 
-  goes_on : (n : ℕ) (s : State) (g : Stands p n s) (t : State) → SomeEdge t.slot (values p.profile t) (named_edges p.profile (callee_in p.sigs g.here) (sum_at p.code g.at) (names_at p.code g.at) g.at g.row g.here) → IsMemory p t.memory → ((k : ℕ) → g.at < k → t.slot ≡ pos k → Holds (sum_at p.code k) t) → ((k : ℕ) → g.at < k → t.slot ≡ pos k → HoldPairs (pairs_at p (table p) k) t) → ((k : ℕ) → g.at < k → t.slot ≡ pos k → Stand k (names_at p.code k) t) → Stands p (suc n) t
+  goes_on : (n : ℕ) (s : State) (g : Stands p n s) (t : State) → SomeEdge t.slot (values p.profile t) (named_edges p.profile (callee_in p.sigs g.here) (sum_at p.code g.at) (names_in p (table p) g.at) g.at g.row g.here) → IsMemory p t.memory → ((k : ℕ) → g.at < k → t.slot ≡ pos k → Holds (sum_at p.code k) t) → ((k : ℕ) → g.at < k → t.slot ≡ pos k → HoldPairs (pairs_at p (table p) k) t) → ((k : ℕ) → g.at < k → t.slot ≡ pos k → Stand k (names_in p (table p) k) t) → Stands p (suc n) t
   goes_on n s g t e m held paired_up stand =
-      let to = lead_any p g.at (named_edges p.profile (callee_in p.sigs g.here) (sum_at p.code g.at) (names_at p.code g.at) g.at g.row g.here) t.slot (values p.profile t) (edges_lead p.profile (callee_in p.sigs g.here) (sum_at p.code g.at) (names_at p.code g.at) p.code g.at g.here g.row accepted.formed (paired_starts p.code paired) g.found) e in
+      let to = lead_any p g.at (named_edges p.profile (callee_in p.sigs g.here) (sum_at p.code g.at) (names_in p (table p) g.at) g.at g.row g.here) t.slot (values p.profile t) (edges_lead p.profile (callee_in p.sigs g.here) (sum_at p.code g.at) (names_in p (table p) g.at) p.code g.at g.here g.row accepted.formed (paired_starts p.code paired) g.found) e in
       let k = to.0 in
       let l = to.2 in
       let within = slice_get_within p.code k l.to l.there in
-      let arrived = arrives sound p limits paired g.at k k g.here g.row (values p.profile t) l.above g.found g.kinds (subst (λ z. SomeEdge z (values p.profile t) (named_edges p.profile (callee_in p.sigs g.here) (sum_at p.code g.at) (names_at p.code g.at) g.at g.row g.here)) to.1 e) in
+      let arrived = arrives sound p limits paired g.at k k g.here g.row (values p.profile t) l.above g.found g.kinds (subst (λ z. SomeEdge z (values p.profile t) (named_edges p.profile (callee_in p.sigs g.here) (sum_at p.code g.at) (names_in p (table p) g.at) g.at g.row g.here)) to.1 e) in
       let next = stand_at p k (arrivals p (table p) k k) (values p.profile t) (table_at p k within) arrived in
       record {
         at = k;
@@ -307,6 +308,18 @@ module _ (sound : (profile : Profile) → IsSoundTable profile) (p : Program) (l
         steps = omega (arith, counted p.code g.at k g.here g.found g.starts l.above, g.steps);
       }
 
+  -- a move of 32 bits that is said to copy does
+  small_copies : (n : ℕ) (s : State) (g : Stands p n s) → CopiesRight g.here (copies_at p (table p) g.at) s
+  small_copies n s g dst src e t =
+      let kinds = row_kinds sound p limits paired g.at g.row g.kinds in
+      let x = at_register (sound Second) p.profile s g.row (row_long sound p limits paired g.at g.row g.kinds) kinds g.fits src in
+      let le = most_of (kind_at g.row src) (number_in s src) (kinds (number src)) x.1 x.0 in
+      let is : copies_of (Some (insn.Alu op.Mov W32 dst (operand.Register src))) (Some (Some g.row)) ≡ true =
+      subst (λ y. copies_of (Some y) (Some (Some g.row)) ≡ true) e
+      (subst (λ o. copies_of (Some g.here) o ≡ true) g.kinds (subst (λ o. copies_of o (slice_get (table p) g.at) ≡ true) g.found t)) in
+      let lt = lt_from (most (kind_at g.row src)) (2 ^ 32) is in
+      omega (arith, le, lt)
+
   one_step : (n : ℕ) (s t : State) → Stands p n s → Step (calls_of p.sigs) p.code s t → Stands p (suc n) t
   one_step n s t g d =
       let same : d.0 ≡ g.here = same_Some _ _ (sym d.1 ∙ there n s g) in
@@ -317,12 +330,12 @@ module _ (sound : (profile : Profile) → IsSoundTable profile) (p : Program) (l
       let l = lands sound p g.at g.row s limits (row_kinds sound p limits paired g.at g.row g.kinds) (row_long sound p limits paired g.at g.row g.kinds) g.fits g.slot g.memory (sum_at p.code g.at) g.holds (pairs_at p (table p) g.at) g.together g.here t (paired.instructions g.at g.here g.found g.starts) to (rules_kept n s g) row in
       let is_row : IsRow p.profile g.row = record { long = long; kinds = row_kinds sound p limits paired g.at g.row g.kinds } in
       goes_on n s g t
-      (named_lands (sound Second) p.profile (calls_of p.sigs) (callee_in p.sigs g.here) (sum_at p.code g.at) (names_at p.code g.at) g.at g.row s t g.names.named g.here row
+      (named_lands (sound Second) p.profile (calls_of p.sigs) (callee_in p.sigs g.here) (sum_at p.code g.at) (names_in p (table p) g.at) g.at g.row s t g.names.named g.here row
       (on_row sound p limits paired g.at g.row g.here (paired.instructions g.at g.here g.found) is_row) (taken_row sound p limits paired g.row g.here is_row) l.0)
       l.1
       (λ k above slot. held_at (calls_of p.sigs) p.code s g.at g.slot (has_eleven p.profile g.row s long g.fits) (λ r. (number_word r).1) g.holds (λ dst n. paired.after_wide g.at n dst) k g.here t above g.found slot row)
       (λ k above slot. pairs_held sound p (table p) s g.at g.slot (has_eleven p.profile g.row s long g.fits) (λ r. (number_word r).1) g.row g.kinds long (row_kinds sound p limits paired g.at g.row g.kinds) g.fits g.together g.holds (λ dst n. paired.after_wide g.at n dst) k g.here t above g.found slot l.0 row)
-      (λ k above slot. names_hold (calls_of p.sigs) p.code s g.at g.slot (has_eleven p.profile g.row s long g.fits) (λ r. (number_word r).1) g.names (λ dst n. paired.after_wide g.at n dst) k g.here t above g.found slot row)
+      (λ k above slot. names_hold (calls_of p.sigs) p.code (copies_at p (table p)) s g.at g.slot (has_eleven p.profile g.row s long g.fits) (λ r. (number_word r).1) g.names (λ dst n. paired.after_wide g.at n dst) k g.here t above g.found slot (small_copies n s g) row)
 
   -- the state before the first slot
   stands_first : (input : List ℕ) (used : ℕ) → IsInput p.in_len input used → Stands p 0 (start input used p.out_len)

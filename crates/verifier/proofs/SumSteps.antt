@@ -1,6 +1,6 @@
 -- What sums tell: rows stay rows, and what they admit they still do.
 use Rattle.std.proofs.Common.{◌≡◌, ℕ, ℤ, pos, negsuc, ◌+◌, ◌-◌, ◌^◌, ◌<◌, ◌≤◌, true, Option, Some, None, refl, ap₂, ◌∙◌, subst, length-set, arith}
-use Rattle.std.specs.Prelude.{◌≤ℤ◌, ◌+ℤ◌, int_lt, nat_le, unsigned_abs, unwrap_or}
+use Rattle.std.specs.Prelude.{◌≤ℤ◌, ◌+ℤ◌, int_lt, nat_le, nat_lt, unsigned_abs, unwrap_or}
 use Rattle.std.proofs.lemmas.Int.{ints}
 use Rattle.std.proofs.Math.Nat.{mod-eq_of_lt}
 use Rattle.std.proofs.lemmas.Bool.{cond_both}
@@ -125,6 +125,9 @@ most_word (Ptr q lo hi) h = let last = address_is q hi (omega (arith, ints, h)) 
 
 le_true : (x n : ℕ) → x ≤ n → nat_le x n ≡ true
 le_true x n h = grind arith
+
+pub lt_from : (x n : ℕ) → nat_lt x n ≡ true → x < n
+lt_from x n h = grind arith
 
 pub le_from : (x n : ℕ) → nat_le x n ≡ true → x ≤ n
 le_from x n h = grind arith

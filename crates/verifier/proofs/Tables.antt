@@ -8,6 +8,8 @@ use Rattle.memory.specs.declared.profile.Profile.{Profile}
 use Rattle.verifier.specs.Program.{Program}
 use Rattle.verifier.specs.Registers.{Row, entry}
 use Rattle.verifier.specs.Rows.{row_at, push_one, pushed, Misses, HasKinds, AreRowKinds, IsPass}
+use Rattle.value_names.proofs.Held.{names_below}
+use Rattle.verifier.specs.Naming.{copies_of, copies_at, names_in}
 use Rattle.verifier.specs.Table.{Edge, joined, into, edges_of, arrivals, rows_before, table}
 
 -- ---- the table's rows
@@ -41,8 +43,10 @@ at_rows p (suc n) m h =
 same_below : (p : Program) (rows rows' : List (Option Row)) (n k : ℕ) → ((m : ℕ) → m < n → slice_get rows m ≡ slice_get rows' m) → arrivals p rows n k ≡ arrivals p rows' n k
 same_below p rows rows' zero k h = refl
 same_below p rows rows' (suc n) k h =
-    ap (λ r. into p.profile k (edges_of p n (slice_get p.code n) r) (arrivals p rows n k)) (h n (omega arith))
-    ∙ ap (into p.profile k (edges_of p n (slice_get p.code n) (slice_get rows' n))) (same_below p rows rows' n k (λ m lt. h m (omega arith)))
+    let names = names_below p.code (copies_at p rows) (copies_at p rows') n (λ m lt. ap (copies_of (slice_get p.code m)) (h m (omega (arith, lt)))) in
+    ap (λ r. into p.profile k (edges_of p (names_in p rows n) n (slice_get p.code n) r) (arrivals p rows n k)) (h n (omega arith))
+    ∙ ap (λ q. into p.profile k (edges_of p q n (slice_get p.code n) (slice_get rows' n)) (arrivals p rows n k)) names
+    ∙ ap (into p.profile k (edges_of p (names_in p rows' n) n (slice_get p.code n) (slice_get rows' n))) (same_below p rows rows' n k (λ m lt. h m (omega arith)))
 
 pub table_at : (p : Program) (k : ℕ) → k < length p.code → slice_get (table p) k ≡ Some (arrivals p (table p) k k)
 table_at p k h =
@@ -101,7 +105,7 @@ missed profile k [] o m = refl
 missed profile k (e ∷ es) o m = ap (into profile k es) (cond-false (eqb e.0 k) (joined profile o e.1) o (ne_eqb e.0 k m.0)) ∙ missed profile k es o m.1
 
 -- one slot more
-module _ (p : Program) (rows : List (Option Row)) (here : Option Row) (i : ℕ) (es : List Edge) (h : IsPass p rows here i) (lt : i < length p.code) (is : es ≡ edges_of p i (slice_get p.code i) (slice_get (table p) i)) where
+module _ (p : Program) (rows : List (Option Row)) (here : Option Row) (i : ℕ) (es : List Edge) (h : IsPass p rows here i) (lt : i < length p.code) (is : es ≡ edges_of p (names_in p (table p) i) i (slice_get p.code i) (slice_get (table p) i)) where
   arrive : (k : ℕ) → into p.profile k es (arrivals p (table p) i k) ≡ arrivals p (table p) (i + 1) k
   arrive k = let one : suc i ≡ i + 1 = omega arith in ap (λ xs. into p.profile k xs (arrivals p (table p) i k)) is ∙ ap (λ n. arrivals p (table p) n k) one
 

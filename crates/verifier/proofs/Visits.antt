@@ -1,5 +1,5 @@
 -- One slot of the pass.
-use Rattle.std.proofs.Common.{◌≡◌, ℕ, ◌+◌, ◌<◌, ◌≤◌, List, [], ◌++◌, length, set, Option, Some, None, refl, sym, ap, ◌∙◌, subst, arith}
+use Rattle.std.proofs.Common.{◌≡◌, ℕ, Bool, ◌+◌, ◌<◌, ◌≤◌, List, [], ◌++◌, length, set, Option, Some, None, refl, sym, ap, ◌∙◌, subst, arith}
 use Rattle.std.specs.Prelude.{◌⊎◌, slice_get}
 use Rattle.std.proofs.Common.{inl, inr}
 use Rattle.verifier.specs.Verdict.{IsRefused}
@@ -10,7 +10,10 @@ use Rattle.std.proofs.lemmas.Option.{slice_get_past}
 use Rattle.std.proofs.Common.{⊎_elim}
 use Rattle.insn.specs.declared.Insn.{Insn}
 use Rattle.bpfimage.specs.Form.{IsFormed}
-use Rattle.value_names.specs.Names.{Names, names_at}
+use Rattle.value_names.specs.Names.{Names}
+use Rattle.memory.specs.declared.profile.Profile.{Profile}
+use Rattle.memory.specs.declared.profile.Profile.TheVariants.{First, Second}
+use Rattle.insn.specs.declared.Insn.TheVariants as insn
 use Rattle.verifier.specs.Program.{Program}
 use Rattle.verifier.specs.Registers.{Row}
 use Rattle.helpers.specs.Calls.{Callee}
@@ -22,7 +25,7 @@ use Rattle.verifier.specs.Rules.{callee_in, broken_in, row_taken}
 use Rattle.verifier.specs.Sums.{sum_at, row_on}
 use Rattle.verifier.specs.declared.sum.Sum.{Sum}
 use Rattle.verifier.specs.Rows.{row_at, pushed, Misses, IsPass}
-use Rattle.verifier.specs.Naming.{named}
+use Rattle.verifier.specs.Naming.{copies_of, copies_at, names_in, named}
 use Rattle.verifier.specs.Table.{Edge, joined, next_edge, target_edge, named_edges, edges_of, table, broken_with, broken_at, IsAccepted}
 use Rattle.verifier.specs.declared.rule.KindRule.{KindRule}
 use Rattle.verifier.proofs.Tables.{row_here, row_there, length_pushed, pass_all, pass_alone, pass_taken}
@@ -31,17 +34,40 @@ no_rule : (p : Program) (pairs : Pairs) (o : Option Insn) → broken_with p pair
 no_rule p pairs None = refl
 no_rule p pairs (Some x) = refl
 
-no_edges : (p : Program) (i : ℕ) (o : Option Insn) → [] ≡ edges_of p i o (Some None)
-no_edges p i None = refl
-no_edges p i (Some x) = refl
+no_edges : (p : Program) (names : Names) (i : ℕ) (o : Option Insn) → [] ≡ edges_of p names i o (Some None)
+no_edges p names i None = refl
+no_edges p names i (Some x) = refl
+
+-- names tell nothing by the first profile
+same_named : (profile : Profile) (x : Insn) (names others : Names) (row : Row) → (profile ≡ Second → names ≡ others) → named x profile names row ≡ named x profile others row
+same_named Second x names others row h = ap (λ q. named x Second q row) (h refl)
+same_named First (insn.JumpIf c w l r o) names others row h = refl
+same_named First (insn.Alu o w d src) names others row h = refl
+same_named First (insn.Swap k n d) names others row h = refl
+same_named First (insn.Load size x d b o) names others row h = refl
+same_named First (insn.Store size b o src) names others row h = refl
+same_named First (insn.Jump d) names others row h = refl
+same_named First (insn.Call n) names others row h = refl
+same_named First insn.Exit names others row h = refl
+same_named First (insn.Wide d n) names others row h = refl
+same_named First insn.Tail names others row h = refl
+
+same_edges : (profile : Profile) (callee : Callee) (sum : Option Sum) (names others : Names) (i : ℕ) (row : Row) (x : Insn) → (profile ≡ Second → names ≡ others) → named_edges profile callee sum names i row x ≡ named_edges profile callee sum others i row x
+same_edges profile callee sum names others i row x h =
+    ap (λ r. next_edge (next_of i x) r ++ target_edge (target_of i x) (named x profile names (row_taken profile row x))) (same_named profile x names others (row_on profile callee sum row x) h)
+    ∙ ap (λ r. next_edge (next_of i x) (named x profile others (row_on profile callee sum row x)) ++ target_edge (target_of i x) r) (same_named profile x names others (row_taken profile row x) h)
 
 module _ (p : Program) (rows : List (Option Row)) (i : ℕ) (within : i < length p.code) where
+  -- whether its move of 32 bits copies
+  pub copied_here : (here : Option Row) (copies : Bool) → IsPass p rows here i → copies ≡ copies_of (slice_get p.code i) (Some here) → copies_at p (table p) i ≡ copies
+  copied_here here copies pass e = ap (copies_of (slice_get p.code i)) (row_here p rows here i pass within) ∙ sym e
+
   -- a slot that no kinds reach
   pub none_unbroken : IsPass p rows None i → broken_at p i ≡ None
   none_unbroken pass = let pairs = pairs_at p (table p) i in ap (broken_with p pairs (slice_get p.code i)) (row_here p rows None i pass within) ∙ no_rule p pairs (slice_get p.code i)
 
   pub none_pass : IsPass p rows None i → IsPass p rows (row_at rows (i + 1)) (i + 1)
-  none_pass pass = pass_all p rows None i [] pass within (no_edges p i (slice_get p.code i) ∙ ap (edges_of p i (slice_get p.code i)) (sym (row_here p rows None i pass within))) (row_at rows (i + 1)) (row_there rows (i + 1) (omega (arith, pass.long, within)))
+  none_pass pass = pass_all p rows None i [] pass within (no_edges p (names_in p (table p) i) i (slice_get p.code i) ∙ ap (edges_of p (names_in p (table p) i) i (slice_get p.code i)) (sym (row_here p rows None i pass within))) (row_at rows (i + 1)) (row_there rows (i + 1) (omega (arith, pass.long, within)))
 
   -- at the next one no pair is known
   pub none_paired : IsPass p rows None i → (sum : Option Sum) (pairs : Pairs) → no_pairs ≡ pairs_next p (slice_get p.code i) sum (slice_get (table p) i) pairs
@@ -66,18 +92,20 @@ module _ (p : Program) (rows : List (Option Row)) (i : ℕ) (within : i < length
         ∙ ap (λ o. pairs_next p (Some x) sum o pairs) (sym (row_here p rows (Some row) i pass within))
         ∙ ap (λ o. pairs_next p o sum (slice_get (table p) i) pairs) (sym at)
 
-    edges_here : named_edges p.profile (callee_in p.sigs x) (sum_at p.code i) (names_at p.code i) i row x ≡ edges_of p i (slice_get p.code i) (slice_get (table p) i)
-    edges_here = ap (λ r. edges_of p i (Some x) r) (sym (row_here p rows (Some row) i pass within)) ∙ ap (λ o. edges_of p i o (slice_get (table p) i)) (sym at)
+    edges_here : named_edges p.profile (callee_in p.sigs x) (sum_at p.code i) (names_in p (table p) i) i row x ≡ edges_of p (names_in p (table p) i) i (slice_get p.code i) (slice_get (table p) i)
+    edges_here =
+        let names = names_in p (table p) i in
+        ap (λ r. edges_of p names i (Some x) r) (sym (row_here p rows (Some row) i pass within)) ∙ ap (λ o. edges_of p names i o (slice_get (table p) i)) (sym at)
 
     -- its edges, of which the first is that of the next slot
-    module _ (callee : Callee) (sum : Option Sum) (names : Names) (after : Row) (fs : List Edge) (called : callee ≡ callee_in p.sigs x) (summed : sum ≡ sum_at p.code i) (given : names ≡ names_at p.code i) (goes : after ≡ named x p.profile names (row_on p.profile callee sum row x)) (takes : fs ≡ target_edge (target_of i x) (named x p.profile names (row_taken p.profile row x))) where
-      edges_are : next_edge (next_of i x) after ++ fs ≡ named_edges p.profile (callee_in p.sigs x) (sum_at p.code i) (names_at p.code i) i row x
+    module _ (callee : Callee) (sum : Option Sum) (names : Names) (after : Row) (fs : List Edge) (called : callee ≡ callee_in p.sigs x) (summed : sum ≡ sum_at p.code i) (given : p.profile ≡ Second → names ≡ names_in p (table p) i) (goes : after ≡ named x p.profile names (row_on p.profile callee sum row x)) (takes : fs ≡ target_edge (target_of i x) (named x p.profile names (row_taken p.profile row x))) where
+      edges_are : next_edge (next_of i x) after ++ fs ≡ named_edges p.profile (callee_in p.sigs x) (sum_at p.code i) (names_in p (table p) i) i row x
       edges_are =
           ap (λ r. next_edge (next_of i x) r ++ fs) goes
           ∙ ap (λ es. next_edge (next_of i x) (named x p.profile names (row_on p.profile callee sum row x)) ++ es) takes
           ∙ ap (λ y. named_edges p.profile y sum names i row x) called
           ∙ ap (λ y. named_edges p.profile (callee_in p.sigs x) y names i row x) summed
-          ∙ ap (λ y. named_edges p.profile (callee_in p.sigs x) (sum_at p.code i) y i row x) given
+          ∙ same_edges p.profile (callee_in p.sigs x) (sum_at p.code i) names (names_in p (table p) i) i row x given
 
       pub all_here : (rows' : List (Option Row)) → rows' ≡ pushed p.profile rows (next_edge (next_of i x) after ++ fs) → IsPass p rows' (row_at rows' (i + 1)) (i + 1)
       all_here rows' are =

@@ -1,14 +1,18 @@
 -- What the pass knows of sums and names before a slot is visited.
-use Rattle.std.specs.Prelude.{◌≡◌, ℕ, ◌<◌, List, Some, slice_get, vec_len}
-use Rattle.insn.specs.declared.Insn.{Insn}
+use Rattle.std.specs.Prelude.{◌≡◌, ℕ, ◌<◌, Some, slice_get, vec_len}
+use Rattle.memory.specs.declared.profile.Profile.TheVariants.{Second}
 use Rattle.value_names.specs.Led.{leads_before}
-use Rattle.value_names.specs.Names.{names_at}
+use Rattle.value_names.specs.Courses.{Follows}
+use Rattle.verifier.specs.Program.{Program}
 use Rattle.verifier.specs.Sums.{sum_at}
+use Rattle.verifier.specs.Naming.{copies_at}
+use Rattle.verifier.specs.Table.{table}
 use Rattle.verifier.specs.declared.sums.Sums.{Sums}
 
--- before slot i is visited: the sum that is known there, the names of the registers, and to which of so many slots the jumps of lower ones lead
-pub record AreSums (code : List Insn) (slots i : ℕ) (sums : Sums) : Type 0 where
+-- before slot i is visited: the sum that is known there, and to which of so many slots the jumps of lower ones lead; by the second profile
+-- the names of the registers there, and those that wait, too
+pub record AreSums (p : Program) (slots i : ℕ) (sums : Sums) : Type 0 where
   pub long : vec_len sums.led ≡ slots
-  pub led : (k : ℕ) → k < slots → slice_get sums.led.items k ≡ Some (leads_before code i k)
-  pub sum : sums.sum ≡ sum_at code i
-  pub names : sums.names ≡ names_at code i
+  pub led : (k : ℕ) → k < slots → slice_get sums.led.items k ≡ Some (leads_before p.code i k)
+  pub sum : sums.sum ≡ sum_at p.code i
+  pub names : p.profile ≡ Second → Follows p.code (copies_at p (table p)) slots i sums.names

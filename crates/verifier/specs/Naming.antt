@@ -1,8 +1,8 @@
--- What is told of registers that hold copies of one value where a condition was tested (this store's second profile).
-use Rattle.std.specs.Prelude.{ℕ, true, int_lt, if◌then◌else◌, Result, Ok, Err, List, [], ◌∷◌}
-use Rattle.alu.specs.declared.Op.TheVariants.{Add}
+-- Which names the registers have, and what is told of those that hold copies of one value where a condition was tested (this store's second profile).
+use Rattle.std.specs.Prelude.{ℕ, ◌^◌, Bool, true, false, nat_lt, int_lt, Option, None, Some, slice_get, if◌then◌else◌, Result, Ok, Err, List, [], ◌∷◌}
+use Rattle.alu.specs.declared.Op.TheVariants.{Add, Mov}
 use Rattle.alu.specs.declared.Cond.TheVariants.{Equal}
-use Rattle.alu.specs.declared.Width.TheVariants.{W64}
+use Rattle.alu.specs.declared.Width.TheVariants.{W32, W64}
 use Rattle.insn.specs.declared.Register.{Register}
 use Rattle.insn.specs.declared.Register.TheVariants.{R0, R1, R2, R3, R4, R5, R6, R7, R8, R9}
 use Rattle.insn.specs.declared.Operand.{Operand}
@@ -11,12 +11,35 @@ use Rattle.insn.specs.declared.Insn.{Insn}
 use Rattle.insn.specs.declared.Insn.TheVariants as insn
 use Rattle.memory.specs.declared.profile.Profile.{Profile}
 use Rattle.memory.specs.declared.profile.Profile.TheVariants.{Second}
-use Rattle.value_names.specs.Names.{Names, distance_from, are_alike}
+use Rattle.value_names.specs.Names.{Names, names_at, distance_from, are_alike}
 use Rattle.ranges.specs.declared.kind.Kind.{Kind}
 use Rattle.ranges.specs.declared.kind.Kind.TheVariants.{Num, Ptr}
 use Rattle.ranges.specs.declared.kind.Bad.{Bad}
 use Rattle.ranges.specs.Transfer.{transfer_of, refine_of}
+use Rattle.verifier.specs.Program.{Program}
+use Rattle.verifier.specs.Sums.{most}
 use Rattle.verifier.specs.Registers.{Row, kind_at, with_kind, one_number}
+
+-- ---- names
+
+-- whether an instruction is a move of 32 bits that copies a register: one that holds a number below 2 ^ 32
+abbrev pub copies_in : Row → Insn → Bool
+copies_in row (insn.Alu Mov W32 dst (operand.Register src)) = nat_lt (most (kind_at row src)) (2 ^ 32)
+copies_in row x = false
+
+abbrev pub copies_of : Option Insn → Option (Option Row) → Bool
+copies_of (Some x) (Some (Some row)) = copies_in row x
+copies_of x row = false
+
+-- by the rows of lower slots
+abbrev pub copies_at : Program → List (Option Row) → ℕ → Bool
+copies_at p rows i = copies_of (slice_get p.code i) (slice_get rows i)
+
+-- the names before a slot, by the code and the rows of lower slots
+abbrev pub names_in : Program → List (Option Row) → ℕ → Names
+names_in p rows k = names_at p.code (copies_at p rows) k
+
+-- ---- what they tell
 
 -- what is left of a number that is equal to another kind's, or of a pointer whose address is; where a pointer leads to one place it stays
 abbrev pub equal_to : Kind → Kind → Kind

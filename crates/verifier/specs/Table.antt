@@ -5,14 +5,14 @@ use Rattle.bpfimage.specs.Form.{next_of, target_of, IsFormed}
 use Rattle.ranges.specs.Kinds.{IsKind}
 use Rattle.ranges.specs.Transfer.{join_of}
 use Rattle.memory.specs.declared.profile.Profile.{Profile}
-use Rattle.value_names.specs.Names.{Names, names_at}
+use Rattle.value_names.specs.Names.{Names}
 use Rattle.ranges.specs.declared.kind.Kind.TheVariants.{Unset}
 use Rattle.verifier.specs.Program.{Program}
 use Rattle.verifier.specs.Registers.{Row, entry}
 use Rattle.helpers.specs.Calls.{Callee}
 use Rattle.verifier.specs.Rules.{callee_in, row_taken, broken_in}
 use Rattle.verifier.specs.Sums.{sum_at, row_on}
-use Rattle.verifier.specs.Naming.{named}
+use Rattle.verifier.specs.Naming.{names_in, named}
 use Rattle.verifier.specs.PairSteps.{pairs_at}
 use Rattle.verifier.specs.declared.sum.Sum.{Sum}
 use Rattle.verifier.specs.declared.pair.Pairs.{Pairs}
@@ -62,15 +62,15 @@ into profile k (e ∷ es) before = into profile k es (if e.0 == k then joined pr
 
 -- ---- the table
 
--- the edges of slot i, if some row of kinds reaches it
-abbrev pub edges_of : Program → ℕ → Option Insn → Option (Option Row) → List Edge
-edges_of p i (Some x) (Some (Some row)) = named_edges p.profile (callee_in p.sigs x) (sum_at p.code i) (names_at p.code i) i row x
-edges_of p i x row = []
+-- the edges of slot i, if some row of kinds reaches it, with the names that are known there by the rows of lower slots
+abbrev pub edges_of : Program → Names → ℕ → Option Insn → Option (Option Row) → List Edge
+edges_of p names i (Some x) (Some (Some row)) = named_edges p.profile (callee_in p.sigs x) (sum_at p.code i) names i row x
+edges_of p names i x row = []
 
 -- the join over all edges into slot k from the first n slots of a table; slot 0 has the entry too
 abbrev pub arrivals : Program → List (Option Row) → ℕ → ℕ → Option Row
 arrivals p rows zero k = if k == 0 then Some (entry p) else None
-arrivals p rows (suc n) k = into p.profile k (edges_of p n (slice_get p.code n) (slice_get rows n)) (arrivals p rows n k)
+arrivals p rows (suc n) k = into p.profile k (edges_of p (names_in p rows n) n (slice_get p.code n) (slice_get rows n)) (arrivals p rows n k)
 
 -- the rows of the first n slots: each is the join over all edges into its slot, which come from lower ones
 abbrev pub rows_before : Program → ℕ → List (Option Row)

@@ -1,6 +1,6 @@
-//! Which sum is known at a slot, and what it tells of its numbers; and the names of the registers there.
+//! Which sum is known at a slot, and what it tells of its numbers; and the names of the registers there, by the second profile.
 
-ghost use Rattle.std.specs.Prelude.{◌≡◌, ◌<◌, ◌+◌, ◌||◌, true, ℕ, Bool, if◌then◌else◌, IfOk, Some, None, List, slice_get, length, vec_len};
+ghost use Rattle.std.specs.Prelude.{◌≡◌, ◌<◌, ◌+◌, ◌||◌, true, false, ℕ, Bool, if◌then◌else◌, IfOk, Some, None, List, slice_get, length, vec_len};
 ghost use Rattle.insn.specs.declared.Insn.{Insn};
 ghost use Rattle.alu.specs.declared.Cond.TheVariants.{LessEqual};
 ghost use Rattle.alu.specs.declared.Width.TheVariants.{W64};
@@ -8,7 +8,10 @@ ghost use Rattle.memory.specs.declared.profile.Profile.TheVariants.{Second};
 ghost use Rattle.ranges.specs.Kinds.{IsKind};
 ghost use Rattle.ranges.specs.Transfer.{refine_of};
 ghost use Rattle.verifier.specs.Registers.{one_number};
-ghost use Rattle.verifier.specs.Table.{AreKinds};
+ghost use Rattle.verifier.specs.Program.{Program};
+ghost use Rattle.verifier.specs.Candidates.{program_in};
+ghost use Rattle.verifier.specs.Naming.{copies_at};
+ghost use Rattle.verifier.specs.Table.{table, AreKinds};
 ghost use Rattle.value_names.specs.Led.{is_slot};
 ghost use Rattle.verifier.specs.Sums.{is_operand, has_register, without, copied, is_copy, added, sum_of_op, sum_after, least, most, at_most, register_at_most, operand_at_most, told_by, told};
 ghost use Rattle.verifier.specs.Known.{AreSums};
@@ -21,7 +24,7 @@ use bpfimage::form::target_of;
 use insn::{Insn, Operand, Register};
 use ranges::{Kind, Profile, refine};
 use std::alloc::{AllocError, Global};
-use value_names::{Name, go_on, new_names};
+use value_names::Course;
 
 /// Whether a register is an operand.
 pub fn is_operand(register: Register, operand: Operand) -> bool
@@ -154,38 +157,66 @@ fn note(led: &mut Vec<bool>, target: Option<i64>)
     }
 }
 
-/// The sum that is known at a slot, the names of the registers there, and to which slots jumps lead from before it.
+/// Of so many slots, that a jump leads to none.
+fn none_led(alloc: Global, slots: usize) -> Result<Vec<bool>, AllocError>
+    ensures long { IfOk result (λ led. vec_len led ≡ slots) }
+    ensures none { IfOk result (λ led. (k : ℕ) → k < slots → slice_get led.items k ≡ Some false) }
+{
+    vec![in alloc; false; slots]
+}
+
+/// The sum that is known at a slot, and to which slots jumps lead from before it; by the second profile the names of the registers there
+/// too, and those that wait for other slots.
 #[derive(Drop)]
 pub struct Sums {
     pub led: Vec<bool>,
     pub sum: Option<Sum>,
-    pub names: [Name; 11],
+    pub names: Course,
+}
+
+/// For how many slots names may wait: by the first profile none are known.
+fn named_slots(profile: Profile, slots: usize) -> usize
+    ensures { profile ≡ Second → result ≡ slots }
+{
+    match profile {
+        Profile::First => 0,
+        Profile::Second => slots,
+    }
 }
 
 impl Sums {
     /// At the first of so many slots nothing is known.
-    pub fn new(alloc: Global, slots: usize) -> Result<Sums, AllocError>
-        ensures { IfOk result (λ sums. (code : List Insn) → AreSums code slots 0 sums) }
+    pub fn new(alloc: Global, profile: Profile, slots: usize) -> Result<Sums, AllocError>
+        ensures { IfOk result (λ sums. (p : Program) → p.profile ≡ profile → AreSums p slots 0 sums) }
     {
-        let led = vec![in alloc; false; slots]?;
+        let led = none_led(alloc, slots)?;
+        let names = Course::new(alloc, named_slots(profile, slots))?;
         Ok(Sums {
             led,
             sum: None,
-            names: new_names(0),
+            names,
         })
     }
 
-    /// Goes on to the next slot.
-    pub fn advance(&mut self, program: &Candidate, at: usize)
+    /// Goes on to the next slot. Whether a move of 32 bits copies a number below 2^32 is said.
+    pub fn advance(
+        &mut self,
+        program: &Candidate,
+        at: usize,
+        copies: bool,
+    ) -> Result<(), AllocError>
         requires within { at < length program.now.image.code.items }
-        requires old { AreSums program.now.image.code.items (length program.now.image.code.items + 1) at self.old }
-        ensures { AreSums program.now.image.code.items (length program.now.image.code.items + 1) (at + 1) self.new }
+        requires old { AreSums (program_in program.now) (length program.now.image.code.items + 1) at self.old }
+        requires copies { program.now.image.profile ≡ Second → copies_at (program_in program.now) (table (program_in program.now)) at ≡ copies }
+        ensures { IfOk result (λ _. AreSums (program_in program.now) (length program.now.image.code.items + 1) (at + 1) self.new) }
     {
         let insn = program.image.code[at];
         note(&mut self.led, target_of(at, insn));
-        let is_led = self.led[at + 1];
-        self.sum = sum_on(is_led, insn, self.sum);
-        go_on(at as u32 + 1, insn, is_led, &mut self.names);
+        self.sum = sum_on(self.led[at + 1], insn, self.sum);
+        match program.image.profile {
+            Profile::First => Ok(()),
+            Profile::Second => self.names.advance(at, insn, copies),
+        }
     }
 }
 

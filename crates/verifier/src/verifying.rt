@@ -3,11 +3,12 @@
 ghost use Rattle.std.specs.Prelude.{◌≡◌, ◌<◌, ◌≤◌, ◌+◌, ℕ, IfOk, IfErr, IfSome, IfNone, OnOk, pos, List, Option, Some, None, length, replicate, slice_get, slice_set, vec_len};
 ghost use Rattle.helpers.specs.declared.sig.Entry.{Entry};
 ghost use Rattle.bpfimage.specs.Form.{IsFormed};
+ghost use Rattle.memory.specs.declared.profile.Profile.TheVariants.{Second};
 ghost use Rattle.verifier.specs.Program.{program_of, IsSafeProgram};
 ghost use Rattle.verifier.specs.Candidates.{program_in};
 ghost use Rattle.verifier.specs.Registers.{cell_count, entry};
-ghost use Rattle.value_names.specs.Names.{names_at};
 ghost use Rattle.verifier.specs.Sums.{sum_at};
+ghost use Rattle.verifier.specs.Naming.{names_in};
 ghost use Rattle.verifier.specs.PairSteps.{pairs_next, pairs_at};
 ghost use Rattle.verifier.specs.Table.{IsAccepted, IsFirstRule, AreKinds, broken_at, table};
 ghost use Rattle.verifier.specs.Rows.{IsKnown, HasKinds, IsPass, row_at};
@@ -21,7 +22,7 @@ use crate::candidate::Candidate;
 use crate::cells::{lowered, span_written};
 use crate::edges::{lead_on, named_edge, take_waiting};
 use crate::kinds::one_number;
-use crate::naming::tell_named;
+use crate::naming::{copies_here, tell_named};
 use crate::pair::Pairs;
 use crate::pairs::{no_pairs, pairs_here, pairs_over, pairs_told};
 use crate::rule::{KindRule, Refused, Rule};
@@ -99,7 +100,7 @@ fn visit<const N: usize>(
     requires within { at < length program.now.image.code.items }
     requires pass { IsPass (program_in program.now) (waiting rows.old) here.old at }
     requires sum { sums.now.sum ≡ sum_at program.now.image.code.items at }
-    requires names { sums.now.names ≡ names_at program.now.image.code.items at }
+    requires names { program.now.image.profile ≡ Second → sums.now.names.here ≡ names_in (program_in program.now) (table (program_in program.now)) at }
     requires pairs { pairs.old ≡ pairs_at (program_in program.now) (table (program_in program.now)) at }
     requires pool { IsPool program.now.image.profile rows.old }
     requires here { HasKinds program.now.image.profile rows.old.low here.old }
@@ -119,7 +120,7 @@ fn visit<const N: usize>(
     let callee = callee_in(&program.sigs, insn);
     let profile = program.image.profile;
     rows.low = lowered(rows.low, span_written(&callee, row, insn));
-    let target = named_edge(profile, at, row, insn, &sums.names, taken);
+    let target = named_edge(profile, at, row, insn, &sums.names.here, taken);
     let over = pairs_over(insn, row, *pairs);
     if let Some(rule) = advance(program, &callee, *pairs, row, insn) {
         return Err(Refused {
@@ -129,7 +130,7 @@ fn visit<const N: usize>(
     }
     tell(insn, profile, sums.sum, row);
     *pairs = pairs_told(insn, profile, sums.sum, row, over);
-    tell_named(insn, profile, &sums.names, row);
+    tell_named(insn, profile, &sums.names.here, row);
     let Ok(on) = lead_on(profile, rows, at, row, insn, target, taken) else {
         return Err(no_memory());
     };
@@ -154,7 +155,7 @@ fn check_rows<const N: usize>(alloc: Global, program: &Candidate) -> Result<Vec<
     let Ok(mut rows) = Waiting::new(alloc, slots + 1) else {
         return Err(no_memory());
     };
-    let Ok(mut sums) = Sums::new(alloc, slots + 1) else {
+    let Ok(mut sums) = Sums::new(alloc, program.image.profile, slots + 1) else {
         return Err(no_memory());
     };
     let Ok(mut lows) = vec![in alloc; tail(); slots] else {
@@ -166,10 +167,13 @@ fn check_rows<const N: usize>(alloc: Global, program: &Candidate) -> Result<Vec<
     let mut pairs = no_pairs();
     for at in 0..slots {
         lows[at] = lower_slot(program, at, &here);
+        let copies = copies_here(program, at, &here);
         visit(
             program, at, &mut rows, &mut here, &sums, &mut pairs, &mut taken,
         )?;
-        sums.advance(program, at);
+        let Ok(()) = sums.advance(program, at, copies) else {
+            return Err(no_memory());
+        };
         pairs = pairs_here(&sums.led, at + 1, pairs);
     }
     Ok(lows)
@@ -208,7 +212,7 @@ fn known_before<const N: usize>(
     let Ok(mut rows) = Waiting::new(alloc, slots + 1) else {
         return Err(no_memory());
     };
-    let Ok(mut sums) = Sums::new(alloc, slots + 1) else {
+    let Ok(mut sums) = Sums::new(alloc, program.image.profile, slots + 1) else {
         return Err(no_memory());
     };
     let first: [Kind; N] = entry(program);
@@ -216,10 +220,13 @@ fn known_before<const N: usize>(
     let mut taken = first;
     let mut pairs = no_pairs();
     for at in 0..slot {
+        let copies = copies_here(program, at, &here);
         visit(
             program, at, &mut rows, &mut here, &sums, &mut pairs, &mut taken,
         )?;
-        sums.advance(program, at);
+        let Ok(()) = sums.advance(program, at, copies) else {
+            return Err(no_memory());
+        };
         pairs = pairs_here(&sums.led, at + 1, pairs);
     }
     Ok((here, pairs))

@@ -1,4 +1,4 @@
-use Rattle.std.proofs.Common.{◌≡◌, ◌+◌, ◌<◌, ◌≤◌, length, Some, None, refl, ap, sym, ◌∙◌, subst, arith}
+use Rattle.std.proofs.Common.{rules, ◌≡◌, ◌+◌, ◌<◌, ◌≤◌, length, Some, None, refl, ap, sym, ◌∙◌, subst, arith}
 use Rattle.std.specs.Prelude.{slice_get}
 use Rattle.verifier.specs.Candidates.{program_in}
 use Rattle.value_names.specs.Led.{leads_before}
@@ -7,8 +7,8 @@ use Rattle.verifier.specs.Rows.{IsKnown, AreRowKinds, IsPass}
 use Rattle.verifier.specs.Waiting.{waiting}
 use Rattle.verifier.specs.Known.{AreSums}
 use Rattle.verifier.proofs.Tables.{pass_first, none_kinds}
-use Rattle.verifier.proofs.Noted.{pairs_on, one_more}
-use Rattle.verifier.proofs.Visits.{all_visited}
+use Rattle.verifier.proofs.Noted.{pairs_on, known_kinds, one_more}
+use Rattle.verifier.proofs.Visits.{copied_here, all_visited}
 use Rattle.verifier.proofs.Lowering.{slots_and, slot_here}
 use Rattle.verifier.proofs.verifying.check_rows.Goals as goal
 
@@ -27,22 +27,40 @@ loop-at-init g c =
         registers = subst (λ l. 11 ≤ l) (sym low) c.requires.some;
         short = omega (arith, low);
       };
-      sums = subst (λ n. AreSums code.items n 0 c.in-Ok-new.sums) (omega (arith, c.len-slots.ensures, code.ok.0)) (c.in-Ok-new.ensures code.items);
+      sums = subst (λ n. AreSums p n 0 c.in-Ok-new.sums) (omega (arith, c.len-slots.ensures, code.ok.0)) (c.in-Ok-new.ensures p refl);
       pairs = c.no_pairs-pairs.ensures;
       here = subst (λ l. IsKnown p.profile l c.entry-first.result) (sym low) c.entry-first.ensures.known;
       lows = record { whole = omega (arith, c.in-Ok-vec.lows.ok.0, c.in-Ok-vec.ensures.len, c.len-slots.ensures, code.ok.0); slots = λ k low lt e. absurd (omega arith) };
       unbroken = λ k lt. absurd (omega arith);
     }
 
+pub copies_here-copies-requires : goal.copies_here-copies-requires
+copies_here-copies-requires g c =
+    let p = program_in c.args.program.now in
+    let within : c.loop-at.at < length p.code = omega (arith, c.loop-at-test.true, c.len-slots.ensures, c.args.program.now.image.code.ok.0) in (
+      search rules,
+      (within, known_kinds p.profile c.loop-at.rows.low c.loop-at.here c.loop-at.invariant.here),
+    )
+
+pub advance-requires : goal.advance-requires
+advance-requires g c =
+    let p = program_in c.args.program.now in
+    let within : c.loop-at.at < length p.code = omega (arith, c.loop-at-test.true, c.len-slots.ensures, c.args.program.now.image.code.ok.0) in
+    record {
+      within = within;
+      old = c.loop-at.invariant.sums;
+      copies = λ _. copied_here p (waiting c.loop-at.rows) c.loop-at.at within c.loop-at.here c.copies_here-copies.result c.loop-at.invariant.pass c.copies_here-copies.ensures;
+    }
+
 pub loop-at-preserved : goal.loop-at-preserved
 loop-at-preserved g c = record {
   pass = c.in_ok-visit.ensures.pass;
   pool = c.in_ok-visit.ensures.pool;
-  sums = c.advance.ensures;
+  sums = c.in-Ok-advance.ensures;
   pairs =
       let p = program_in c.args.program.now in
       let next = c.loop-at.at + 1 in
-      let led = c.advance.ensures.led next (omega (arith, c.loop-at-test.true, c.len-slots.ensures, c.args.program.now.image.code.ok.0)) in
+      let led = c.in-Ok-advance.ensures.led next (omega (arith, c.loop-at-test.true, c.len-slots.ensures, c.args.program.now.image.code.ok.0)) in
       pairs_on p (table p) c.loop-at.at (leads_before p.code next next) c.loop-at.sums.sum c.loop-at.pairs _ _ refl c.loop-at.invariant.sums.sum c.loop-at.invariant.pairs c.in_ok-visit.ensures.pairs (c.pairs_here-pairs.ensures (leads_before p.code next next) (ap (λ xs. slice_get xs next) c.deref.ensures.value ∙ led));
   here = c.in_ok-visit.ensures.here;
   lows =

@@ -12,7 +12,7 @@ abbrev pub invariant-loop-at : goal.invariant-loop-at
 invariant-loop-at g l = record {
   pass : IsPass (program_in l.program) (waiting l.rows) l.here l.at;
   pool : IsPool l.program.image.profile l.rows;
-  sums : AreSums l.program.image.code.items (length l.program.image.code.items + 1) l.at l.sums;
+  sums : AreSums (program_in l.program) (length l.program.image.code.items + 1) l.at l.sums;
   pairs : l.pairs ≡ pairs_at (program_in l.program) (table (program_in l.program)) l.at;
   here : HasKinds l.program.image.profile l.rows.low l.here;
   lows : AreSlots (program_in l.program) l.lows.items l.at;

@@ -81,7 +81,7 @@ lead_on-requires g c =
     let ends : Ends low (span_written callee row x) = subst (Ends low) c.span_written.ensures c.lowered-rows.ensures.before in
     let long : 11 ≤ length row = omega (arith, c.requires.long) in
     let told_row : StartsZero profile low c.tell.new.row = subst (StartsZero profile low) (sym (c.tell.ensures.table ∙ ap (told x profile c.args.sums.now.sum) c.in_default-advance.ensures.row)) (told_zeros profile low x c.args.sums.now.sum _ (after_zeros profile low callee row x long ends zeros)) in
-    let after : IsKnown profile low c.tell_named.new.row = record { kinds = c.tell_named.ensures.kinds; zeros = subst (StartsZero profile low) (sym c.tell_named.ensures.table) (named_zeros c.args.sums.now.names x profile profile low _ told_row) } in
+    let after : IsKnown profile low c.tell_named.new.row = record { kinds = c.tell_named.ensures.kinds; zeros = subst (StartsZero profile low) (sym c.tell_named.ensures.table) (named_zeros c.args.sums.now.names.here x profile profile low _ told_row) } in
     let few = c.args.program.now.image.few_slots in (
       search rules,
       (
@@ -92,7 +92,7 @@ lead_on-requires g c =
             (λ k e. let h = next_within c.args.program.now.image.code.items c.args.at c.index-insn.result.now k c.requires.formed insn e in omega (arith, h, c.requires.pass.long)),
             (
               subst (LeadBelow (length rows)) (sym c.named_edge-target.ensures.edge)
-                  (target_below c.args.program.now.image.code.items c.args.at c.index-insn.result.now (named c.index-insn.result.now c.args.program.now.image.profile c.args.sums.now.names (row_taken c.args.program.now.image.profile c.in-Some.row c.index-insn.result.now)) (length rows) c.requires.formed insn (omega (arith, c.requires.pass.long))),
+                  (target_below c.args.program.now.image.code.items c.args.at c.index-insn.result.now (named c.index-insn.result.now c.args.program.now.image.profile c.args.sums.now.names.here (row_taken c.args.program.now.image.profile c.in-Some.row c.index-insn.result.now)) (length rows) c.requires.formed insn (omega (arith, c.requires.pass.long))),
               (
                 after,
                 (
@@ -124,7 +124,7 @@ returns-then-not-on-clause-pass g c =
     let rows = waiting c.args.rows.now in
     let insn = slice_get_read c.args.program.now.image.code.items c.args.program.now.image.code.len c.args.at c.index-insn.result.now c.args.program.now.image.code.ok.0 (omega (arith, c.requires.within, c.args.program.now.image.code.ok.0)) c.index-insn.ensures in
     here_taken p (waiting c.lead_on.new.rows) (waiting c.take_waiting-then-not-on.new.rows) c.take_waiting-then-not-on.new.here (c.args.at + 1)
-    (all_here p rows c.args.at c.requires.within c.in-Some.row c.index-insn.result.now (subst (λ o. IsPass p rows o c.args.at) c.in-Some.is c.requires.pass) insn (callee_from c.callee_in-callee.result) c.args.sums.now.sum c.args.sums.now.names c.tell_named.new.row (edge_list c.named_edge-target.result c.named_edge-target.new.taken) c.callee_in-callee.ensures c.requires.sum c.requires.names (c.tell_named.ensures.table ∙ ap (named c.index-insn.result.now c.args.program.now.image.profile c.args.sums.now.names) (c.tell.ensures.table ∙ ap (told c.index-insn.result.now c.args.program.now.image.profile c.args.sums.now.sum) c.in_default-advance.ensures.row)) c.named_edge-target.ensures.edge (waiting c.lead_on.new.rows) (c.in-Ok.ensures.all c.if-not-on.true))
+    (all_here p rows c.args.at c.requires.within c.in-Some.row c.index-insn.result.now (subst (λ o. IsPass p rows o c.args.at) c.in-Some.is c.requires.pass) insn (callee_from c.callee_in-callee.result) c.args.sums.now.sum c.args.sums.now.names.here c.tell_named.new.row (edge_list c.named_edge-target.result c.named_edge-target.new.taken) c.callee_in-callee.ensures c.requires.sum c.requires.names (c.tell_named.ensures.table ∙ ap (named c.index-insn.result.now c.args.program.now.image.profile c.args.sums.now.names.here) (c.tell.ensures.table ∙ ap (told c.index-insn.result.now c.args.program.now.image.profile c.args.sums.now.sum) c.in_default-advance.ensures.row)) c.named_edge-target.ensures.edge (waiting c.lead_on.new.rows) (c.in-Ok.ensures.all c.if-not-on.true))
     c.take_waiting-then-not-on.ensures.here c.take_waiting-then-not-on.ensures.rows
 
 pub returns-then-not-on-clause-pool : goal.returns-then-not-on-clause-pool
@@ -153,7 +153,7 @@ returns-else-not-on-clause-pass g c =
     let rows = waiting c.args.rows.now in
     let insn = slice_get_read c.args.program.now.image.code.items c.args.program.now.image.code.len c.args.at c.index-insn.result.now c.args.program.now.image.code.ok.0 (omega (arith, c.requires.within, c.args.program.now.image.code.ok.0)) c.index-insn.ensures in
     let on = c.if-not-on.false in
-    alone_here p rows c.args.at c.requires.within c.in-Some.row c.index-insn.result.now (subst (λ o. IsPass p rows o c.args.at) c.in-Some.is c.requires.pass) insn (callee_from c.callee_in-callee.result) c.args.sums.now.sum c.args.sums.now.names c.tell_named.new.row (edge_list c.named_edge-target.result c.named_edge-target.new.taken) c.callee_in-callee.ensures c.requires.sum c.requires.names (c.tell_named.ensures.table ∙ ap (named c.index-insn.result.now c.args.program.now.image.profile c.args.sums.now.names) (c.tell.ensures.table ∙ ap (told c.index-insn.result.now c.args.program.now.image.profile c.args.sums.now.sum) c.in_default-advance.ensures.row)) c.named_edge-target.ensures.edge (waiting c.lead_on.new.rows) c.lead_on.new.row (c.in-Ok.ensures.rest on) (c.in-Ok.ensures.on on) (c.in-Ok.ensures.joined on) (c.in-Ok.ensures.misses on)
+    alone_here p rows c.args.at c.requires.within c.in-Some.row c.index-insn.result.now (subst (λ o. IsPass p rows o c.args.at) c.in-Some.is c.requires.pass) insn (callee_from c.callee_in-callee.result) c.args.sums.now.sum c.args.sums.now.names.here c.tell_named.new.row (edge_list c.named_edge-target.result c.named_edge-target.new.taken) c.callee_in-callee.ensures c.requires.sum c.requires.names (c.tell_named.ensures.table ∙ ap (named c.index-insn.result.now c.args.program.now.image.profile c.args.sums.now.names.here) (c.tell.ensures.table ∙ ap (told c.index-insn.result.now c.args.program.now.image.profile c.args.sums.now.sum) c.in_default-advance.ensures.row)) c.named_edge-target.ensures.edge (waiting c.lead_on.new.rows) c.lead_on.new.row (c.in-Ok.ensures.rest on) (c.in-Ok.ensures.on on) (c.in-Ok.ensures.joined on) (c.in-Ok.ensures.misses on)
 
 pub returns-else-not-on-clause-pairs : goal.returns-else-not-on-clause-pairs
 returns-else-not-on-clause-pairs g c =

@@ -1,0 +1,123 @@
+//! Names on the way through a program's slots.
+
+ghost use Rattle.std.specs.Prelude.{◌≡◌, ◌<◌, ◌≤◌, ◌+◌, ℕ, pos, Bool, false, Some, None, IfOk, IfSome, IfNone, List, slice_get, vec_len};
+ghost use Rattle.insn.specs.declared.Insn.{Insn};
+ghost use Rattle.value_names.specs.Led.{is_slot};
+ghost use Rattle.value_names.specs.Names.{joined, by_jump, by_next, come, goes_on};
+ghost use Rattle.value_names.specs.Courses.{unboxed, held_at, Follows};
+
+use crate::name::Name;
+use crate::naming::{join_names, new_names, rename};
+use bpfimage::form::target_of;
+use insn::Insn;
+use std::alloc::{AllocError, Global};
+
+/// Names that wait for a slot, if a jump leads there.
+type Waiting = Option<Box<[Name; 11]>>;
+
+/// The names before a slot, and those that jumps of lower slots bring to the slots behind it.
+#[derive(Drop)]
+pub struct Course {
+    pub here: [Name; 11],
+    pub waiting: Vec<Waiting>,
+}
+
+/// Joins names into those that wait for a slot.
+fn join_into(
+    alloc: Global,
+    slot: u32,
+    kept: &mut Waiting,
+    names: &[Name; 11],
+) -> Result<(), AllocError>
+    requires { slot ≤ 4096 }
+    ensures { IfOk result (λ _. unboxed kept.new ≡ joined slot (unboxed kept.old) names.now) }
+{
+    match kept {
+        Some(old) => **old = join_names(slot, old, names),
+        None => *kept = Some(Box::new(alloc, *names)?),
+    }
+    Ok(())
+}
+
+/// Where a jump leads, if there is one, among so many slots.
+fn place_of(target: Option<i64>, slots: usize) -> Option<usize>
+    ensures some { IfSome result (λ place. target ≡ Some (pos place)) }
+    ensures within { IfSome result (λ place. place < slots) }
+    ensures none { IfNone result ((k : ℕ) → k < slots → is_slot k target ≡ false) }
+{
+    match target {
+        Some(target) if target >= 0 && (target as usize) < slots => Some(target as usize),
+        _ => None,
+    }
+}
+
+/// Joins the names before a jump, if there is one, into those that wait where it leads.
+fn join_target(
+    alloc: Global,
+    waiting: &mut Vec<Waiting>,
+    target: Option<i64>,
+    names: &[Name; 11],
+) -> Result<(), AllocError>
+    requires { vec_len waiting.old ≤ 4097 }
+    ensures long { IfOk result (λ _. vec_len waiting.new ≡ vec_len waiting.old) }
+    ensures names { IfOk result (λ _. (k : ℕ) → k < vec_len waiting.old → held_at waiting.new.items k ≡ by_jump k target names.now (held_at waiting.old.items k)) }
+{
+    if let Some(place) = place_of(target, waiting.len()) {
+        join_into(alloc, place as u32, &mut waiting[place], names)?;
+    }
+    Ok(())
+}
+
+/// Whether an instruction may go on to the next slot.
+fn goes_on(insn: Insn) -> bool
+    ensures { result ≡ goes_on insn }
+{
+    !matches!(insn, Insn::Jump { .. } | Insn::Exit)
+}
+
+/// Goes over an instruction to the next slot, for which names may wait.
+fn go_on(slot: u32, copies: bool, insn: Insn, waits: &Waiting, names: &mut [Name; 11])
+    requires { slot ≤ 4096 }
+    ensures { names.new ≡ come slot (by_next slot copies insn names.old (unboxed waits.now)) }
+{
+    if goes_on(insn) {
+        rename(slot, copies, insn, names);
+        if let Some(kept) = waits {
+            *names = join_names(slot, kept, names);
+        }
+    } else {
+        *names = match waits {
+            Some(kept) => **kept,
+            None => new_names(slot),
+        };
+    }
+}
+
+impl Course {
+    /// Before the first of so many slots.
+    pub fn new(alloc: Global, slots: usize) -> Result<Course, AllocError>
+        ensures { IfOk result (λ course. (code : List Insn) (copies : ℕ → Bool) → Follows code copies slots 0 course) }
+    {
+        let mut waiting = Vec::with_capacity(alloc, slots)?;
+        for _ in 0..slots {
+            waiting.push(None)?;
+        }
+        Ok(Course {
+            here: new_names(0),
+            waiting,
+        })
+    }
+
+    /// Goes over the instruction of a slot to the next one. Whether its move of 32 bits copies is said.
+    pub fn advance(&mut self, at: usize, insn: Insn, copies: bool) -> Result<(), AllocError>
+        requires few { vec_len self.old.waiting ≤ 4097 }
+        requires within { at + 1 < vec_len self.old.waiting }
+        ensures { IfOk result (λ _. (code : List Insn) (copied : ℕ → Bool) → slice_get code at ≡ Some insn → copied at ≡ copies → Follows code copied (vec_len self.old.waiting) at self.old → Follows code copied (vec_len self.old.waiting) (at + 1) self.new) }
+    {
+        let alloc = *self.waiting.allocator();
+        join_target(alloc, &mut self.waiting, target_of(at, insn), &self.here)?;
+        let waits = self.waiting[at + 1].take();
+        go_on(at as u32 + 1, copies, insn, &waits, &mut self.here);
+        Ok(())
+    }
+}
