@@ -45,14 +45,14 @@ impl Stint {
     /// One of the calling thread that begins now.
     pub fn begin() -> Stint {
         Stint {
-            begin: micros(CLOCK_MONOTONIC).unwrap_or(0),
+            begin: monotonic(),
             worked: micros(CLOCK_THREAD_CPUTIME_ID).unwrap_or(0),
         }
     }
 
     /// So many microseconds have passed since it began.
     pub fn lasted(&self) -> u64 {
-        Stint::begin().begin.saturating_sub(self.begin)
+        monotonic().saturating_sub(self.begin)
     }
 
     /// For so many microseconds the thread, which is the calling one, has waited since it began.
@@ -61,6 +61,11 @@ impl Stint {
         let lasted = begin.saturating_sub(self.begin);
         lasted.saturating_sub(worked.saturating_sub(self.worked))
     }
+}
+
+/// The microseconds of the system's clock that never goes back, or 0 where it can't be read.
+fn monotonic() -> u64 {
+    micros(CLOCK_MONOTONIC).unwrap_or(0)
 }
 
 /// The microseconds of a clock of the system, if it can be read.

@@ -135,9 +135,10 @@ impl Sockets {
         Ok(false)
     }
 
-    // How long is waited, if it is at most so long: not at all where connections are called again.
+    // How long is waited, if it is at most so long: not at all where connections are called again, or were held and are not any more.
     fn longest_wait(&self, most: Duration) -> Duration {
-        if !self.called.is_empty() {
+        let is_freed = self.reading != Reading::Held && !self.held.is_empty();
+        if is_freed || !self.called.is_empty() {
             Duration::ZERO
         } else if self.draining.is_empty() {
             most
