@@ -3,9 +3,8 @@
 use crate::tests::beginnings::merge_of;
 use crate::tests::building::{key_of, value_of};
 use code_parts::expect;
-use dvv::{Clock, Dot};
 use follow::{FollowCode, FollowFault, Follower, Recent};
-use journal::{Entry, Write};
+use journal::Entry;
 use object::{Key, KeyState};
 use std::alloc::Global;
 use std::test::Fail;
@@ -14,35 +13,47 @@ use vnode::Vnode;
 /// A value that has 50 bytes with its media type.
 const VALUE: &[u8] = b"0123456789012345678901234567890123456789";
 
-/// Answers of 100 bytes are kept.
+/// States of 100 bytes that were replaced are kept.
 const TWO_VALUES: Recent = Recent {
     always: 1,
     entries: 16,
     bytes: 100,
 };
 
-/// The state of a key that has the value.
-fn state_of(alloc: Global, key: &Key) -> Result<KeyState, Fail> {
-    let mut vnode = Vnode::new(alloc, 0);
-    let _ = vnode.put_lent(1, key, &Clock::new(alloc), &value_of(alloc, VALUE)?)?;
-    let (state, _) = vnode.read(2, key)?;
-    Ok(state)
+/// A read of a key at a vnode, and a put of the value in the place of what it answered, with these stamps. What the read answered.
+fn replaced(
+    vnode: &mut Vnode,
+    alloc: Global,
+    stamps: (u64, u64),
+    key: &Key,
+) -> Result<KeyState, Fail> {
+    let (read, put) = stamps;
+    let (before, _) = vnode.read(read, key)?;
+    let value = value_of(alloc, VALUE)?;
+    let _ = vnode.put_lent(put, key, before.clock(), &value)?;
+    Ok(before)
 }
 
-/// A put of the value, and three reads of it.
-fn put_and_reads(alloc: Global, key: &Key) -> Result<Vec<Entry>, Fail> {
-    let write = Write::new(
-        alloc,
-        key.copy()?,
-        Clock::new(alloc),
-        value_of(alloc, VALUE)?,
-    );
-    let dot = Dot { vnode: 0, n: 1 };
-    let mut entries = vec![in alloc; Entry::put(1, Box::new(alloc, write)?, dot)]?;
-    for stamp in 2..5 {
-        entries.push(Entry::read(stamp, key.copy()?))?;
+/// Copies of so many first entries of a vnode.
+fn entries_of(alloc: Global, vnode: &Vnode, count: u32) -> Result<Vec<Entry>, Fail> {
+    let mut entries = Vec::new(alloc);
+    for place in 0..count {
+        if let Some(entry) = vnode.journal().get(place) {
+            entries.push(entry.copy(alloc)?)?;
+        }
     }
     Ok(entries)
+}
+
+/// The entries of a vnode where the value was put four times, each time behind a read and in the place of what that answered; and what the second and the
+/// third read answered.
+fn puts_and_reads(alloc: Global, key: &Key) -> Result<(Vec<Entry>, KeyState, KeyState), Fail> {
+    let mut vnode = Vnode::new(alloc, 0);
+    let _ = replaced(&mut vnode, alloc, (1, 2), key)?;
+    let first = replaced(&mut vnode, alloc, (3, 4), key)?;
+    let second = replaced(&mut vnode, alloc, (5, 6), key)?;
+    let _ = replaced(&mut vnode, alloc, (7, 8), key)?;
+    Ok((entries_of(alloc, &vnode, 8)?, first, second))
 }
 
 /// How many bytes wait of two vnodes.
@@ -54,21 +65,22 @@ fn waiting(follower: &Follower) -> Option<(u128, u128)> {
     }
 }
 
-/// Of three answers of 50 bytes the last two are kept: a merge may name the second, and not the first. What waits is counted.
+/// Of three states of 50 bytes that were replaced the last two are kept: a merge may name the third read, which answered one of them, and not the
+/// second. What waits is counted: four puts and both merges before, and none once the second merge is refused.
 #[test]
 fn two_values_are_kept(rt: HostRuntime) -> Result<(), Fail> {
     let alloc = rt.alloc();
     let key = key_of(alloc, b"k")?;
-    let state = state_of(alloc, &key)?;
+    let (entries, first, second) = puts_and_reads(alloc, &key)?;
     let mut follower = Follower::new(alloc, &[0, 1], TWO_VALUES)?;
-    follower.take(0, 0, put_and_reads(alloc, &key)?)?;
+    follower.take(0, 0, entries)?;
     let merges = vec![in alloc;
-        merge_of(alloc, 5, &key, 0, 2, &state)?,
-        merge_of(alloc, 6, &key, 0, 1, &state)?,
+        merge_of(alloc, 9, &key, 0, 4, &second)?,
+        merge_of(alloc, 10, &key, 0, 2, &first)?,
     ]?;
     follower.take(1, 0, merges)?;
     let before = waiting(&follower);
-    expect(before == Some((50, 100)), &before)?;
+    expect(before == Some((200, 100)), &before)?;
     let end = follower.follow(u64::MAX);
     let given_up = FollowFault::Found {
         code: FollowCode::GivenUp,
@@ -77,5 +89,5 @@ fn two_values_are_kept(rt: HostRuntime) -> Result<(), Fail> {
     };
     expect(end == Err(given_up), &end)?;
     let left = waiting(&follower);
-    expect(left == Some((0, 50)), &left)
+    expect(left == Some((0, 0)), &left)
 }
