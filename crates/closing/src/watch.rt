@@ -10,7 +10,7 @@ ghost use Rattle.closing.specs.Following.{AreRestarts, IsTakenMore, IsToldMore, 
 use calls::Request;
 use findings::{TakeFault, WatchFault};
 use follow::{Follower, Recent};
-use journal::Handout;
+use journal::{BLOCK, Handout};
 use pool::{Cluster, Gate, Pass, Room};
 use std::alloc::{AllocError, Global};
 use std::marker::{Brand, Model};
@@ -30,9 +30,6 @@ const MOST_BEHIND: usize = 8_192;
 
 /// So many bytes of contents may.
 const MOST_BYTES_BEHIND: u64 = 33_554_432;
-
-/// How many entries a vnode hands out together.
-const BLOCK: usize = 1_024;
 
 /// Nine tenths of the entries that a vnode can have.
 const NEARLY_FULL: usize = 3_865_470_566;

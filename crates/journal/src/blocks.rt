@@ -10,7 +10,7 @@ use std::marker::Model;
 use std::mem;
 
 /// How many entries a block holds. A block that is full is never copied again.
-const BLOCK: usize = 1024;
+pub const BLOCK: usize = 1024;
 
 /// Entries, oldest first. They lie in blocks, so that a growth copies one block at most, and full blocks can be handed out.
 #[derive(Drop)]

@@ -9,6 +9,7 @@ pub mod laws;
 pub mod rows;
 mod whole;
 
+pub use blocks::BLOCK;
 pub use entry::{Entry, Merged, Said, Taken, Write};
 pub use front::{Front, Handout, Past};
 pub use journal::{Journal, JournalFault};

@@ -14,7 +14,7 @@ use crate::fault::PutRefusal;
 use crate::limits::MAX_SIBLINGS;
 use crate::part::Part;
 use crate::placing::count_kept;
-use crate::state::{KeyState, are_same, have_same_entries};
+use crate::state::KeyState;
 use dvv::{Clock, Dot};
 use std::alloc::{AllocError, Global};
 use std::marker::Model;
@@ -144,8 +144,7 @@ impl Held {
     pub fn is_same(&self, state: &KeyState) -> bool
         ensures { IsTrue result ↔ (self.now ≡ state.now) }
     {
-        have_same_entries(self.clock().entries(), state.clock().entries())
-            && are_same(self.siblings(), state.siblings())
+        state.has(self.siblings(), self.clock())
     }
 
     /// Whether some content that was left out of a part isn't held. Takes no memory.

@@ -157,8 +157,15 @@ impl KeyState {
     pub fn is_same(&self, other: &KeyState) -> bool
         ensures { IsTrue result ↔ (self.now ≡ other.now) }
     {
-        have_same_entries(self.clock().entries(), other.clock().entries())
-            && are_same(self.siblings(), other.siblings())
+        other.has(self.siblings(), self.clock())
+    }
+
+    // Whether these are its siblings and its clock.
+    pub(crate) fn has(&self, siblings: &[Sibling], clock: &Clock) -> bool
+        ensures { IsTrue result ↔ (record { siblings = siblings.now; clock = clock.now } ≡ self.now) }
+    {
+        have_same_entries(clock.entries(), self.clock().entries())
+            && are_same(siblings, self.siblings())
     }
 
     /// The dot that a put at a vnode would get, or what it would be refused for, want of memory aside.
@@ -354,7 +361,7 @@ pub(crate) fn have_same_entries(entries: &[Dot], others: &[Dot]) -> bool
 }
 
 // Whether two lists of siblings are the same.
-pub(crate) fn are_same(siblings: &[Sibling], others: &[Sibling]) -> bool
+fn are_same(siblings: &[Sibling], others: &[Sibling]) -> bool
     ensures { IsTrue result ↔ (siblings.now ≡ others.now) }
 {
     if siblings.len() != others.len() {

@@ -7,14 +7,11 @@ ghost use Rattle.journal.specs.Logs.{with_entry};
 ghost use Rattle.rerun.specs.Again.{Tells};
 
 use dvv::Dot;
-use journal::{Entry, Merged, Taken, Write};
+use journal::{BLOCK, Entry, Merged, Taken, Write};
 use object::Key;
 use std::alloc::Global;
 use thiserror::Error;
 use vnode::{Vnode, VnodeFault};
-
-/// A vnode with more entries here than a full block has is settled.
-const BLOCK: usize = 1024;
 
 /// What an entry answers when it happens again.
 #[derive(Drop)]

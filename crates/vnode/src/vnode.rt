@@ -8,7 +8,7 @@ use crate::seed::Seed;
 use crate::states::{Spread, States};
 use crate::steps::{
     Copied, Placed, copies_at, copy_at, has_places_for, is_at, keys_in, known_in, merge_at,
-    merge_refusal_at, merged_of, put_at, put_refusal_at, read_all_at, write_leaving,
+    merge_refusal_at, merged_of, put_at, put_refusal_at, read_all_at, write_of,
 };
 use dvv::{Clock, Dot};
 use journal::{Entry, Handout, Journal, Merged, Write};
@@ -159,30 +159,7 @@ impl Vnode {
         ensures err { OnErr result (self.new ≡ self.old) }
         ensures legal { IsJournal self.new.vnode self.new.entries }
     {
-        self.put_expecting(stamp, key, seen, content, None)
-    }
-
-    /// The same, by who may know what state it is to leave: where it leaves that one, it shares its memory.
-    pub fn put_expecting(
-        &mut self,
-        stamp: u64,
-        key: &Key,
-        seen: &Clock,
-        content: &Content,
-        left: Option<&KeyState>,
-    ) -> Result<(Dot, u32), VnodeFault>
-        ensures dot { IfOk result (λ put. IsNextDot self.old.entries key.now self.old.vnode put.0) }
-        ensures place { IfOk result (λ put. put.1 ≡ length self.old.entries) }
-        ensures entry { IfOk result (λ put. self.new ≡ with_entry self.old (Put stamp key.now seen.now content.now put.0)) }
-        ensures accepts { OnOk result (AcceptsPut self.old.vnode self.old.entries key.now seen.now) }
-
-        // Want of memory is told only where no limit is passed.
-        ensures why { IfErr result (RefusesPut self.old key.now seen.now) }
-        ensures exact { (fault : VnodeFault) → fault ≢ VnodeFault.NoMemory → RefusesPut self.old key.now seen.now fault → result ≡ Err fault }
-        ensures err { OnErr result (self.new ≡ self.old) }
-        ensures legal { IsJournal self.new.vnode self.new.entries }
-    {
-        match write_leaving(self.alloc, key, seen, content, left) {
+        match write_of(self.alloc, key, seen, content) {
             Ok(write) => self.put(stamp, write),
             Err(_) => Err(self.put_refusal(key, seen)),
         }

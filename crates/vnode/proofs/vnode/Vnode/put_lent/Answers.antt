@@ -1,6 +1,6 @@
 use Rattle.std.proofs.Common.{ap, subst, sym, Err}
 use Rattle.vnode.specs.Refusals.{RefusesPut}
-use Rattle.vnode.proofs.vnode.Vnode.put_expecting.Goals as goal
+use Rattle.vnode.proofs.vnode.Vnode.put_lent.Goals as goal
 
 pub returns-in-Ok-clause-exact : goal.returns-in-Ok-clause-exact
 returns-in-Ok-clause-exact c = λ fault other refuses.
