@@ -1044,9 +1044,9 @@ SUMS = [
     ("an index and a length that may be 0", [load_word(8, 4), *byte_where([copied(6, 7), added(6, 8)])], TWO, refused(24, 7), refused(23, 6)),
     ("an end pointer and a length", [load_word(7, 0), copied(8, 1), added(8, 7), copied(6, 8), raised(6, 1), added(2, 1), CLEAR, fields(0x2D, 6, 2, 1, 0), load_byte(0, 8, 0), EXIT], TWO, comes_to(9, 10), refused(23, 2)),
     ("a sum of 32 bits", byte_where([copied(6, 7), fields(0x04, 6, 0, 0, 1)]), TWO, refused(24, 6), refused(23, 5)),
-    ("a copy of 32 bits", byte_where([fields(0xBC, 6, 7, 0, 0), raised(6, 1)]), TWO, refused(24, 6), refused(23, 5)),
+    ("a copy of 32 bits", byte_where([fields(0xBC, 6, 7, 0, 0), raised(6, 1)]), TWO, comes_to(9, 8), refused(23, 5)),
     ("a sum of which a number is read anew", byte_where([copied(6, 7), raised(6, 1), load_word(7, 4)]), TWO, refused(24, 7), refused(23, 6)),
-    ("a sum where a jump leads", byte_where([copied(6, 7), raised(6, 1), jump(0)]), TWO, refused(24, 7), refused(23, 6)),
+    ("a sum where a jump leads", byte_where([copied(6, 7), raised(6, 1), jump(0)]), TWO, comes_to(9, 9), refused(23, 6)),
     ("a sum that may pass 2^64", [load(7, 1, 0), *byte_where([copied(6, 7), raised(6, 1)])[1:]], TWO, refused(23, 5), refused(23, 5)),
     ("a sum raised again", byte_where([copied(6, 7), raised(6, 1), raised(6, 1)]), TWO, comes_to(9, 9), refused(23, 6)),
 ]
