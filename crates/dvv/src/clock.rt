@@ -11,8 +11,9 @@ use smallvec::SmallVec;
 use std::alloc::{AllocError, Global};
 use std::marker::Model;
 
-// The greatest event of each vnode, vnodes rising. A single one lies in the clock itself: a key is mostly written at one vnode.
-pub(crate) type Entries = SmallVec<Dot, 1>;
+// The greatest event of each vnode, vnodes rising. Up to three lie in the clock itself: a key is mostly written at one vnode, and where the server
+// starts again, or another vnode takes its writes, at two or three.
+pub(crate) type Entries = SmallVec<Dot, 3>;
 
 /// A version vector: a set of events that has, with each event of a vnode, all earlier ones of that vnode. It is
 /// kept, and seen in contracts, as the greatest event of each vnode, vnodes rising.

@@ -30,8 +30,8 @@ pub struct Held {
     bytes: u64,
 }
 
-// With the count of its owners it takes 104 bytes, which fill a block of glibc's `malloc`.
-const _: () = prove!(size_of::<Held>() == 96);
+// With the count of its owners it takes 136 bytes, which fill a block of glibc's `malloc`.
+const _: () = prove!(size_of::<Held>() == 128);
 
 impl Model for Held {
     ghost use Rattle.std.specs.Prelude.{◌≡◌};

@@ -20,8 +20,11 @@ const LOOK: u32 = 64;
 /// Workers are waited for at most so many milliseconds behind a spell.
 const LONGEST_WAIT: u64 = 100;
 
-/// A rest is so many times as long as the thread waited for a processor in the spell before it.
-const REST: u64 = 8;
+/// A rest is so many times as long as the spell before it lasted: so a thread has a fourth of a processor.
+const REST: u64 = 3;
+
+/// It is so many times as long as the thread waited for a processor in that spell, where that is longer.
+const REST_OF_WAITS: u64 = 16;
 
 /// It is at most so many microseconds long.
 const LONGEST_REST: u64 = 100_000;
@@ -31,11 +34,18 @@ pub(crate) fn is_serving(signs: &Signs<'_>) -> bool {
     !signs.is_over() && signs.lobby.roster.ending.stance() != Stance::Stopping
 }
 
+/// How many microseconds are rested behind a spell.
+fn rest_behind(spell: &Stint) -> u64 {
+    let by_time = spell.lasted().saturating_mul(REST);
+    let by_waits = spell.waited().saturating_mul(REST_OF_WAITS);
+    by_time.max(by_waits).min(LONGEST_REST)
+}
+
 /// How fast a snapshot of a vnode goes on, and how long: as long as the server does. It reads spell by spell. Behind one in which somebody else
 /// called the vnode it waits until each worker has ended the turn that it was in: so a merge that a client's request makes still finds the answer
-/// that it names among the last that the follower keeps. Then it rests, the longer the more it had to wait for a processor, so that clients have
-/// most of those that are busy, and a snapshot those that are not. Where nobody else calls the vnode it does neither. Where much waits to be
-/// followed it waits for that in any case, so that no client has to.
+/// that it names among the last that the follower keeps. Then it rests, the longer the longer the spell lasted and the more it had to wait for a
+/// processor, so that clients have most of the time of those that are busy, of the vnode and of who follows. Where nobody else calls the vnode it
+/// does neither. Where much waits to be followed it waits for that in any case, so that no client has to.
 #[derive(Drop)]
 pub(crate) struct Stride<'a, R> {
     rt: &'a R,
@@ -78,10 +88,9 @@ impl<'a, R: Wait> Stride<'a, R> {
 
     /// The spell ends, and another begins.
     fn rest(&mut self) {
-        let waited = self.stint.waited();
         if self.is_shared {
+            let micros = rest_behind(&self.stint);
             self.wait_for_workers();
-            let micros = waited.saturating_mul(REST).min(LONGEST_REST);
             self.signs.wait(self.rt, Duration::from_micros(micros));
         }
         self.wait_for_follower();
