@@ -1,31 +1,30 @@
 //! Names on the way through a program's slots.
 
-ghost use Rattle.std.specs.Prelude.{◌≡◌, ◌<◌, ◌≤◌, ◌+◌, ℕ, pos, Bool, false, Some, None, IfOk, IfSome, IfNone, List, slice_get, vec_len};
+ghost use Rattle.std.specs.Prelude.{◌≡◌, ◌<◌, ◌≤◌, ◌+◌, ℕ, Bool, Some, None, IfOk, List, slice_get, vec_len};
 ghost use Rattle.insn.specs.declared.Insn.{Insn};
-ghost use Rattle.value_names.specs.Led.{is_slot};
 ghost use Rattle.value_names.specs.Names.{joined, by_jump, by_next, come, goes_on};
 ghost use Rattle.value_names.specs.Courses.{unboxed, held_at, Follows};
 
+use crate::led::place_of;
 use crate::name::Name;
 use crate::naming::{join_names, new_names, rename};
+use crate::spare::{Spare, Waiting};
 use bpfimage::form::target_of;
 use insn::Insn;
 use std::alloc::{AllocError, Global};
-
-/// Names that wait for a slot, if a jump leads there.
-type Waiting = Option<Box<[Name; 11]>>;
 
 /// The names before a slot, and those that jumps of lower slots bring to the slots behind it.
 #[derive(Drop)]
 pub struct Course {
     pub here: [Name; 11],
     pub waiting: Vec<Waiting>,
+    spare: Spare,
 }
 
 /// Joins names into those that wait for a slot.
 fn join_into(
-    alloc: Global,
     slot: u32,
+    spare: &mut Spare,
     kept: &mut Waiting,
     names: &[Name; 11],
 ) -> Result<(), AllocError>
@@ -34,26 +33,14 @@ fn join_into(
 {
     match kept {
         Some(old) => **old = join_names(slot, old, names),
-        None => *kept = Some(Box::new(alloc, *names)?),
+        None => *kept = Some(spare.boxed(names)?),
     }
     Ok(())
 }
 
-/// Where a jump leads, if there is one, among so many slots.
-fn place_of(target: Option<i64>, slots: usize) -> Option<usize>
-    ensures some { IfSome result (λ place. target ≡ Some (pos place)) }
-    ensures within { IfSome result (λ place. place < slots) }
-    ensures none { IfNone result ((k : ℕ) → k < slots → is_slot k target ≡ false) }
-{
-    match target {
-        Some(target) if target >= 0 && (target as usize) < slots => Some(target as usize),
-        _ => None,
-    }
-}
-
 /// Joins the names before a jump, if there is one, into those that wait where it leads.
 fn join_target(
-    alloc: Global,
+    spare: &mut Spare,
     waiting: &mut Vec<Waiting>,
     target: Option<i64>,
     names: &[Name; 11],
@@ -63,7 +50,7 @@ fn join_target(
     ensures names { IfOk result (λ _. (k : ℕ) → k < vec_len waiting.old → held_at waiting.new.items k ≡ by_jump k target names.now (held_at waiting.old.items k)) }
 {
     if let Some(place) = place_of(target, waiting.len()) {
-        join_into(alloc, place as u32, &mut waiting[place], names)?;
+        join_into(place as u32, spare, &mut waiting[place], names)?;
     }
     Ok(())
 }
@@ -105,6 +92,7 @@ impl Course {
         Ok(Course {
             here: new_names(0),
             waiting,
+            spare: Spare::new(alloc),
         })
     }
 
@@ -114,10 +102,15 @@ impl Course {
         requires within { at + 1 < vec_len self.old.waiting }
         ensures { IfOk result (λ _. (code : List Insn) (copied : ℕ → Bool) → slice_get code at ≡ Some insn → copied at ≡ copies → Follows code copied (vec_len self.old.waiting) at self.old → Follows code copied (vec_len self.old.waiting) (at + 1) self.new) }
     {
-        let alloc = *self.waiting.allocator();
-        join_target(alloc, &mut self.waiting, target_of(at, insn), &self.here)?;
+        join_target(
+            &mut self.spare,
+            &mut self.waiting,
+            target_of(at, insn),
+            &self.here,
+        )?;
         let waits = self.waiting[at + 1].take();
         go_on(at as u32 + 1, copies, insn, &waits, &mut self.here);
+        self.spare.keep(waits);
         Ok(())
     }
 }

@@ -103,11 +103,32 @@ all_onto profile i a b row e le is = is ∙ all i a b e le
     all (suc i) (x ∷ a) (y ∷ b) e le = ap (λ ks. join_of profile x y ∷ ks) (all i a b (omega (arith, e)) (omega (arith, le)))
 
 -- so is each of the zeros of two rows, joined into the first or onto the second
-pub join_passed : (profile : Profile) (low i : ℕ) (a b row : Row) → i < length a → i < length b → 11 ≤ i → i < low → StartsZero profile low a → StartsZero profile low b → row ≡ join_rows profile (take i a) (take i b) ++ drop i a → row ≡ join_rows profile (take (i + 1) a) (take (i + 1) b) ++ drop (i + 1) a
+join_passed : (profile : Profile) (low i : ℕ) (a b row : Row) → i < length a → i < length b → 11 ≤ i → i < low → StartsZero profile low a → StartsZero profile low b → row ≡ join_rows profile (take i a) (take i b) ++ drop i a → row ≡ join_rows profile (take (i + 1) a) (take (i + 1) b) ++ drop (i + 1) a
 join_passed profile low i a b row h g ge lt za zb e = rw add-one (e ∙ front_skip profile i a b h g (za i ge lt) (zb i ge lt))
 
-pub onto_passed : (profile : Profile) (low i : ℕ) (a b row : Row) → i < length a → i < length b → 11 ≤ i → i < low → StartsZero profile low a → StartsZero profile low b → row ≡ join_rows profile (take i a) (take i b) ++ drop i b → row ≡ join_rows profile (take (i + 1) a) (take (i + 1) b) ++ drop (i + 1) b
+onto_passed : (profile : Profile) (low i : ℕ) (a b row : Row) → i < length a → i < length b → 11 ≤ i → i < low → StartsZero profile low a → StartsZero profile low b → row ≡ join_rows profile (take i a) (take i b) ++ drop i b → row ≡ join_rows profile (take (i + 1) a) (take (i + 1) b) ++ drop (i + 1) b
 onto_passed profile low i a b row h g ge lt za zb e = rw add-one (e ∙ onto_skip profile i a b h g (za i ge lt) (zb i ge lt))
+
+-- and so are all of them, from the first cell on
+join_cells : (profile : Profile) (low n i : ℕ) (a b row : Row) → i ≡ 11 + n → i ≤ low → low ≤ length a → low ≤ length b → StartsZero profile low a → StartsZero profile low b → row ≡ join_rows profile (take 11 a) (take 11 b) ++ drop 11 a → row ≡ join_rows profile (take i a) (take i b) ++ drop i a
+join_cells profile low zero i a b row at le la lb za zb e = subst (λ j. row ≡ join_rows profile (take j a) (take j b) ++ drop j a) (sym at) e
+join_cells profile low (suc n) i a b row at le la lb za zb e =
+    let one : 11 + n + 1 ≡ i = omega (arith, at) in
+    subst (λ j. row ≡ join_rows profile (take j a) (take j b) ++ drop j a) one
+    (join_passed profile low (11 + n) a b row (omega (arith, at, le, la)) (omega (arith, at, le, lb)) (omega arith) (omega (arith, at, le)) za zb (join_cells profile low n (11 + n) a b row refl (omega (arith, at, le)) la lb za zb e))
+
+onto_cells : (profile : Profile) (low n i : ℕ) (a b row : Row) → i ≡ 11 + n → i ≤ low → low ≤ length a → low ≤ length b → StartsZero profile low a → StartsZero profile low b → row ≡ join_rows profile (take 11 a) (take 11 b) ++ drop 11 b → row ≡ join_rows profile (take i a) (take i b) ++ drop i b
+onto_cells profile low zero i a b row at le la lb za zb e = subst (λ j. row ≡ join_rows profile (take j a) (take j b) ++ drop j b) (sym at) e
+onto_cells profile low (suc n) i a b row at le la lb za zb e =
+    let one : 11 + n + 1 ≡ i = omega (arith, at) in
+    subst (λ j. row ≡ join_rows profile (take j a) (take j b) ++ drop j b) one
+    (onto_passed profile low (11 + n) a b row (omega (arith, at, le, la)) (omega (arith, at, le, lb)) (omega arith) (omega (arith, at, le)) za zb (onto_cells profile low n (11 + n) a b row refl (omega (arith, at, le)) la lb za zb e))
+
+pub cells_joined : (profile : Profile) (low : ℕ) (a b row : Row) → 11 ≤ low → low ≤ length a → low ≤ length b → StartsZero profile low a → StartsZero profile low b → row ≡ join_rows profile (take 11 a) (take 11 b) ++ drop 11 a → row ≡ join_rows profile (take low a) (take low b) ++ drop low a
+cells_joined profile low a b row ge = join_cells profile low (low - 11) low a b row (omega (arith, ge)) (omega arith)
+
+pub cells_onto : (profile : Profile) (low : ℕ) (a b row : Row) → 11 ≤ low → low ≤ length a → low ≤ length b → StartsZero profile low a → StartsZero profile low b → row ≡ join_rows profile (take 11 a) (take 11 b) ++ drop 11 b → row ≡ join_rows profile (take low a) (take low b) ++ drop low b
+cells_onto profile low a b row ge = onto_cells profile low (low - 11) low a b row (omega (arith, ge)) (omega arith)
 
 -- ---- a lower place
 

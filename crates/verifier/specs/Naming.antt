@@ -1,5 +1,5 @@
 -- Which names the registers have, and what is told of those that hold copies of one value where a condition was tested (this store's second profile).
-use Rattle.std.specs.Prelude.{ℕ, ◌^◌, Bool, true, false, nat_lt, int_lt, Option, None, Some, slice_get, if◌then◌else◌, Result, Ok, Err, List, [], ◌∷◌}
+use Rattle.std.specs.Prelude.{ℕ, ◌^◌, Bool, true, false, nat_lt, int_lt, Option, Some, slice_get, if◌then◌else◌, Result, Ok, Err, List, [], ◌∷◌}
 use Rattle.alu.specs.declared.Op.TheVariants.{Add, Mov}
 use Rattle.alu.specs.declared.Cond.TheVariants.{Equal}
 use Rattle.alu.specs.declared.Width.TheVariants.{W32, W64}

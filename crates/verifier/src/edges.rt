@@ -60,10 +60,11 @@ fn join_row<const N: usize>(profile: Profile, low: usize, kept: &mut [Kind; N], 
     ensures known { IsKnown profile low kept.new }
 {
     let zero = one_number(profile, 0);
-    for i in 0..N {
-        if i < 11 || low <= i {
-            join_kind(profile, &zero, &mut kept[i], &new[i]);
-        }
+    for i in 0..11 {
+        join_kind(profile, &zero, &mut kept[i], &new[i]);
+    }
+    for cell in low..N {
+        join_kind(profile, &zero, &mut kept[cell], &new[cell]);
     }
 }
 
@@ -82,10 +83,11 @@ fn join_row_onto<const N: usize>(
     ensures known { IsKnown profile low new.new }
 {
     let zero = one_number(profile, 0);
-    for i in 0..N {
-        if i < 11 || low <= i {
-            join_kind_onto(profile, &zero, &kept[i], &mut new[i]);
-        }
+    for i in 0..11 {
+        join_kind_onto(profile, &zero, &kept[i], &mut new[i]);
+    }
+    for cell in low..N {
+        join_kind_onto(profile, &zero, &kept[cell], &mut new[cell]);
     }
 }
 

@@ -24,7 +24,7 @@ use bpfimage::form::target_of;
 use insn::{Insn, Operand, Register};
 use ranges::{Kind, Profile, refine};
 use std::alloc::{AllocError, Global};
-use value_names::Course;
+use value_names::{Course, place_of};
 
 /// Whether a register is an operand.
 pub fn is_operand(register: Register, operand: Operand) -> bool
@@ -150,10 +150,8 @@ fn note(led: &mut Vec<bool>, target: Option<i64>)
     ensures long { vec_len led.new ≡ vec_len led.old }
     ensures noted { (k : ℕ) (b : Bool) → slice_get led.old.items k ≡ Some b → slice_get led.new.items k ≡ Some (is_slot k target || b) }
 {
-    if let Some(target) = target {
-        if target >= 0 && (target as usize) < led.len() {
-            led[target as usize] = true;
-        }
+    if let Some(place) = place_of(target, led.len()) {
+        led[place] = true;
     }
 }
 

@@ -7,3 +7,9 @@ invariant-loop-i g l = record {
   joined : l.kept ≡ join_rows l.profile (take l.i l.initial.kept) (take l.i l.new) ++ drop l.i l.initial.kept;
   kinds : AreKinds l.kept;
 }
+
+abbrev pub invariant-loop-cell : goal.invariant-loop-cell
+invariant-loop-cell g l = record {
+  joined : l.kept ≡ join_rows l.profile (take l.cell l.fn.kept) (take l.cell l.new) ++ drop l.cell l.fn.kept;
+  kinds : AreKinds l.kept;
+}

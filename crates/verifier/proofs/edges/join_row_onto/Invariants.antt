@@ -7,3 +7,9 @@ invariant-loop-i g l = record {
   joined : l.new ≡ join_rows l.profile (take l.i l.kept) (take l.i l.initial.new) ++ drop l.i l.initial.new;
   kinds : AreKinds l.new;
 }
+
+abbrev pub invariant-loop-cell : goal.invariant-loop-cell
+invariant-loop-cell g l = record {
+  joined : l.new ≡ join_rows l.profile (take l.cell l.kept) (take l.cell l.fn.new) ++ drop l.cell l.fn.new;
+  kinds : AreKinds l.new;
+}
