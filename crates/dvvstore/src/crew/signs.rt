@@ -27,7 +27,7 @@ impl Signs<'_> {
         self.over.load(SeqCst)
     }
 
-    /// Waits at most so long, and no longer than until all workers have ended.
+    /// Waits at most so long, and no longer than until all workers have ended. Of several threads that do so at a time one alone waits.
     pub fn wait<R: Wait>(&self, rt: &R, most: Duration) {
         if !self.is_over() {
             self.bell.park_timeout(rt, most);

@@ -5,6 +5,7 @@ use keeping::Pace;
 use listener::{Post, Stint, Timer};
 use sockets::Stance;
 use std::sync::Wait;
+use std::thread::Parker;
 use std::time::Duration;
 
 /// At most so many keys of a vnode are read in a spell: half of the entries of which the follower keeps what they answered. So what a client's
@@ -12,7 +13,7 @@ use std::time::Duration;
 const SPELL: u32 = 8_192;
 
 /// A spell lasts so many microseconds at the most.
-const SPELL_MICROS: u64 = 20_000;
+const SPELL_MICROS: u64 = 5_000;
 
 /// The clock is looked at behind so many reads.
 const LOOK: u32 = 64;
@@ -20,8 +21,8 @@ const LOOK: u32 = 64;
 /// Workers are waited for at most so many milliseconds behind a spell.
 const LONGEST_WAIT: u64 = 100;
 
-/// A rest is so many times as long as the spell before it lasted: so a thread has a fourth of a processor.
-const REST: u64 = 3;
+/// A rest is so many times as long as the spell before it lasted: so a thread has a third of a processor.
+const REST: u64 = 2;
 
 /// It is so many times as long as the thread waited for a processor in that spell, where that is longer.
 const REST_OF_WAITS: u64 = 16;
@@ -50,6 +51,8 @@ fn rest_behind(spell: &Stint) -> u64 {
 pub(crate) struct Stride<'a, R> {
     rt: &'a R,
     signs: Signs<'a>,
+    /// What the thread sleeps on. Nobody wakes it: by the server's bell one alone can wait.
+    idle: Parker,
     /// The spell, as a piece of the thread's work.
     stint: Stint,
     /// How many keys it may still read.
@@ -66,6 +69,7 @@ impl<'a, R: Wait> Stride<'a, R> {
         Stride {
             rt,
             signs,
+            idle: Parker::new(),
             stint: Stint::begin(),
             left: SPELL,
             last: None,
@@ -91,7 +95,7 @@ impl<'a, R: Wait> Stride<'a, R> {
         if self.is_shared {
             let micros = rest_behind(&self.stint);
             self.wait_for_workers();
-            self.signs.wait(self.rt, Duration::from_micros(micros));
+            self.sleep(Duration::from_micros(micros));
         }
         self.wait_for_follower();
         self.stint = Stint::begin();
@@ -132,7 +136,12 @@ impl<'a, R: Wait> Stride<'a, R> {
 
     /// Waits for a millisecond.
     fn wait_a_little(&self) {
-        self.signs.wait(self.rt, Duration::from_millis(1));
+        self.sleep(Duration::from_millis(1));
+    }
+
+    /// Sleeps for so long.
+    fn sleep(&self, time: Duration) {
+        self.idle.park_timeout(self.rt, time);
     }
 }
 
