@@ -25,7 +25,7 @@ const LONGEST_WAIT: u64 = 100;
 const REST: u64 = 2;
 
 /// It is so many times as long as the thread waited for a processor in that spell, where that is longer.
-const REST_OF_WAITS: u64 = 16;
+const REST_OF_WAITS: u64 = 8;
 
 /// It is at most so many microseconds long.
 const LONGEST_REST: u64 = 100_000;
