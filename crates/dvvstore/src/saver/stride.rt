@@ -21,11 +21,11 @@ const LOOK: u32 = 64;
 /// Workers are waited for at most so many milliseconds behind a spell.
 const LONGEST_WAIT: u64 = 100;
 
-/// A rest is so many times as long as the spell before it lasted: so a thread has a third of a processor.
-const REST: u64 = 2;
+/// A rest is so many times as long as the spell before it lasted: so a thread has a seventh of a processor.
+const REST: u64 = 6;
 
 /// It is so many times as long as the thread waited for a processor in that spell, where that is longer.
-const REST_OF_WAITS: u64 = 8;
+const REST_OF_WAITS: u64 = 16;
 
 /// It is at most so many microseconds long.
 const LONGEST_REST: u64 = 100_000;
