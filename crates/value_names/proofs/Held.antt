@@ -1,5 +1,5 @@
 -- Names that wait for slots, from slot to slot.
-use Rattle.std.proofs.Common.{◌≡◌, ◌≢◌, ℕ, zero, suc, pos, ◌+◌, ◌<◌, Bool, false, eqb, List, [], ◌∷◌, ◌++◌, length, set, Option, Some, None, refl, sym, ap, ◌∙◌, subst, ⊎_elim, arith}
+use Rattle.std.proofs.Common.{◌≡◌, ◌≢◌, ℕ, zero, suc, pos, ◌+◌, ◌<◌, false, eqb, List, [], ◌∷◌, ◌++◌, length, set, Option, Some, None, refl, sym, ap, ◌∙◌, subst, ⊎_elim, arith}
 use Rattle.std.specs.Prelude.{ℤ, slice_get}
 use Rattle.std.specs.Global.{Box}
 use Rattle.std.proofs.lemmas.Bool.{cases_eq, cond-true, cond-false, eq-eqb, ne_eqb}
@@ -8,6 +8,7 @@ use Rattle.bpfimage.specs.Form.{target_of}
 use Rattle.value_names.specs.Led.{is_slot}
 use Rattle.value_names.specs.Names.{Names, joined, by_jump, by_next, new_names, brought, come, arriving, names_at}
 use Rattle.value_names.specs.Courses.{unboxed, held_in, held_at}
+use Rattle.value_names.specs.declared.bounds.Bounds.{Bounds}
 
 abbrev Held : Type 0
 Held = List (Option (Box Names))
@@ -47,48 +48,48 @@ none_more [] h (suc k) = refl
 none_more (x ∷ waiting) h zero = h zero
 none_more (x ∷ waiting) h (suc k) = none_more waiting (λ j. h (suc j)) k
 
-pub none_first : (code : List Insn) (copies : ℕ → Bool) (k : ℕ) → 0 < k → None ≡ arriving code copies 0 k
-none_first code copies zero lt = absurd (omega (arith, lt))
-none_first code copies (suc k) lt = sym (cond-false (eqb (suc k) 0) (Some (new_names 0)) None (ne_eqb (suc k) 0 (λ e. omega (arith, e))))
+pub none_first : (code : List Insn) (known : ℕ → Bounds) (k : ℕ) → 0 < k → None ≡ arriving code known 0 k
+none_first code known zero lt = absurd (omega (arith, lt))
+none_first code known (suc k) lt = sym (cond-false (eqb (suc k) 0) (Some (new_names 0)) None (ne_eqb (suc k) 0 (λ e. omega (arith, e))))
 
 -- what is said of the slots above is not read
-pub arriving_below : (code : List Insn) (copies copied : ℕ → Bool) (n k : ℕ) → ((m : ℕ) → m < n → copies m ≡ copied m) → arriving code copies n k ≡ arriving code copied n k
-arriving_below code copies copied zero k h = refl
-arriving_below code copies copied (suc n) k h =
-    let below : (m : ℕ) → m < n → copies m ≡ copied m = λ m lt. h m (omega (arith, lt)) in
+pub arriving_below : (code : List Insn) (known knows : ℕ → Bounds) (n k : ℕ) → ((m : ℕ) → m < n → known m ≡ knows m) → arriving code known n k ≡ arriving code knows n k
+arriving_below code known knows zero k h = refl
+arriving_below code known knows (suc n) k h =
+    let below : (m : ℕ) → m < n → known m ≡ knows m = λ m lt. h m (omega (arith, lt)) in
     let x = slice_get code n in
-    ap (λ c. brought k n c x (come n (arriving code copies n n)) (arriving code copies n k)) (h n (omega arith))
-    ∙ ap (λ o. brought k n (copied n) x (come n o) (arriving code copies n k)) (arriving_below code copies copied n n below)
-    ∙ ap (brought k n (copied n) x (come n (arriving code copied n n))) (arriving_below code copies copied n k below)
+    ap (λ c. brought k n c x (come n (arriving code known n n)) (arriving code known n k)) (h n (omega arith))
+    ∙ ap (λ o. brought k n (knows n) x (come n o) (arriving code known n k)) (arriving_below code known knows n n below)
+    ∙ ap (brought k n (knows n) x (come n (arriving code knows n n))) (arriving_below code known knows n k below)
 
-pub names_below : (code : List Insn) (copies copied : ℕ → Bool) (n : ℕ) → ((m : ℕ) → m < n → copies m ≡ copied m) → names_at code copies n ≡ names_at code copied n
-names_below code copies copied n h = ap (come n) (arriving_below code copies copied n n h)
+pub names_below : (code : List Insn) (known knows : ℕ → Bounds) (n : ℕ) → ((m : ℕ) → m < n → known m ≡ knows m) → names_at code known n ≡ names_at code knows n
+names_below code known knows n h = ap (come n) (arriving_below code known knows n n h)
 
 -- ---- one slot more
 
-module _ (code : List Insn) (copies : ℕ → Bool) (i : ℕ) (x : Insn) (c : Bool) (names : Names) (at : slice_get code i ≡ Some x) (said : copies i ≡ c) (is : names ≡ names_at code copies i) where
-  arrives : (k : ℕ) → brought k i c (Some x) names (arriving code copies i k) ≡ arriving code copies (suc i) k
+module _ (code : List Insn) (known : ℕ → Bounds) (i : ℕ) (x : Insn) (c : Bounds) (names : Names) (at : slice_get code i ≡ Some x) (said : known i ≡ c) (is : names ≡ names_at code known i) where
+  arrives : (k : ℕ) → brought k i c (Some x) names (arriving code known i k) ≡ arriving code known (suc i) k
   arrives k =
-      ap (λ b. brought k i b (Some x) names (arriving code copies i k)) (sym said)
-      ∙ ap (λ o. brought k i (copies i) o names (arriving code copies i k)) (sym at)
-      ∙ ap (λ n. brought k i (copies i) (slice_get code i) n (arriving code copies i k)) is
+      ap (λ b. brought k i b (Some x) names (arriving code known i k)) (sym said)
+      ∙ ap (λ o. brought k i (known i) o names (arriving code known i k)) (sym at)
+      ∙ ap (λ n. brought k i (known i) (slice_get code i) n (arriving code known i k)) is
 
   -- the names there
-  pub here_on : (waits : Option Names) → waits ≡ by_jump (i + 1) (target_of i x) names (arriving code copies i (i + 1)) → come (i + 1) (by_next (i + 1) c x names waits) ≡ names_at code copies (i + 1)
+  pub here_on : (waits : Option Names) → waits ≡ by_jump (i + 1) (target_of i x) names (arriving code known i (i + 1)) → come (i + 1) (by_next (i + 1) c x names waits) ≡ names_at code known (i + 1)
   here_on waits e =
       let one : i + 1 ≡ suc i = omega arith in
-      let led = by_jump (suc i) (target_of i x) names (arriving code copies i (suc i)) in
+      let led = by_jump (suc i) (target_of i x) names (arriving code known i (suc i)) in
       ap (λ w. come (i + 1) (by_next (i + 1) c x names w)) e
-      ∙ ap (λ n. come n (by_next n c x names (by_jump n (target_of i x) names (arriving code copies i n)))) one
+      ∙ ap (λ n. come n (by_next n c x names (by_jump n (target_of i x) names (arriving code known i n)))) one
       ∙ ap (come (suc i)) (sym (cond-true (eqb (suc i) (suc i)) (by_next (suc i) c x names led) led (eq-eqb (suc i) (suc i) refl)) ∙ arrives (suc i))
-      ∙ ap (names_at code copies) (sym one)
+      ∙ ap (names_at code known) (sym one)
 
   -- and what waits behind it
-  pub behind_on : (k : ℕ) (before : Option Names) → i + 1 < k → before ≡ arriving code copies i k → by_jump k (target_of i x) names before ≡ arriving code copies (i + 1) k
+  pub behind_on : (k : ℕ) (before : Option Names) → i + 1 < k → before ≡ arriving code known i k → by_jump k (target_of i x) names before ≡ arriving code known (i + 1) k
   behind_on k before lt e =
       let one : i + 1 ≡ suc i = omega arith in
-      let led = by_jump k (target_of i x) names (arriving code copies i k) in
+      let led = by_jump k (target_of i x) names (arriving code known i k) in
       ap (by_jump k (target_of i x) names) e
       ∙ sym (cond-false (eqb (suc i) k) (by_next k c x names led) led (ne_eqb (suc i) k (λ q. omega (arith, q, lt))))
       ∙ arrives k
-      ∙ ap (λ n. arriving code copies n k) (sym one)
+      ∙ ap (λ n. arriving code known n k) (sym one)

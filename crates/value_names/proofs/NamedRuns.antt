@@ -1,7 +1,7 @@
 -- The names before a slot hold wherever a run comes there.
-use Rattle.std.proofs.Common.{◌≡◌, ◌≢◌, ℕ, zero, suc, Bool, true, ◌&&◌, eqb, ℤ, pos, ◌+◌, ◌*◌, ◌^◌, ◌<◌, ◌≤◌, cond, List, ◌∷◌, length, get_or, set, drop, Option, Some, None, refl, sym, ap, ap₂, ◌∙◌, subst, inl, inr, ⊎_elim, arith, length-set, length-drop}
+use Rattle.std.proofs.Common.{◌≡◌, ◌≢◌, ℕ, zero, suc, true, ◌&&◌, eqb, ltb, ℤ, pos, ◌+◌, ◌*◌, ◌^◌, ◌<◌, ◌≤◌, cond, List, ◌∷◌, length, get_or, set, drop, Option, Some, None, refl, sym, ap, ap₂, ◌∙◌, subst, inl, inr, ⊎_elim, arith, length-set, length-drop}
 use Rattle.std.specs.Prelude.{◌⊎◌, ◌+ℤ◌, slice_get, unwrap_or}
-use Rattle.std.proofs.lemmas.Bool.{cond_both, cases_eq, and_parts, eqb-true, eq-eqb}
+use Rattle.std.proofs.lemmas.Bool.{cond_both, cases_eq, and_parts, eqb-true, eq-eqb, ltb-true}
 use Rattle.std.proofs.lemmas.List.{get_or-set_same, get_or-set_other, get_or-drop}
 use Rattle.std.proofs.lemmas.Option.{unwrap_or-slice_get}
 use Rattle.alu.specs.Value.{wrapped, value, condition}
@@ -21,8 +21,9 @@ use Rattle.memory.specs.State.{Calls, State, number_in, operand_in, with_registe
 use Rattle.bpfimage.specs.Form.{landing, target_of}
 use Rattle.value_names.specs.Led.{is_slot}
 use Rattle.value_names.proofs.Slots.{number_small, slot_on, two_on}
+use Rattle.value_names.specs.declared.bounds.Bounds.{Bounds}
 use Rattle.value_names.specs.declared.name.Name.{Name}
-use Rattle.value_names.specs.Names.{Names, name_at, with_name, new_name, new_names, moved_by, name_of_op, names_after, joined_name, joined_names, joined, goes_on, by_jump, by_next, brought, come, arriving, names_at, AreNamed, distance_from}
+use Rattle.value_names.specs.Names.{Names, name_at, with_name, new_name, new_names, single, moved_by, shifted, name_of_op, names_after, joined_name, joined_names, joined, goes_on, by_jump, by_next, brought, come, arriving, names_at, AreNamed, distance_from}
 use Rattle.value_names.proofs.Modular.{swap_added, move_added, swap_taken, move_taken, taken_back, moved, moved_small}
 
 abbrev none : Name
@@ -48,9 +49,9 @@ pub record Stand (i : ℕ) (names : Names) (s : State) : Type 0 where
 below : (i : ℕ) (names : Names) (s : State) → Stand i names s → (r : Register) → (name_at names r).value < 16 * suc i
 below i names s h r = ⊎_elim (λ lt. omega (arith, lt)) (λ e. let small = number_small r in omega (arith, e, small)) (h.own r)
 
--- a move of 32 bits that is said to copy does
-abbrev pub CopiesRight : Insn → Bool → State → Type 0
-CopiesRight x copies s = (dst src : Register) → x ≡ insn.Alu op.Mov W32 dst (operand.Register src) → copies ≡ true → number_in s src < 2 ^ 32
+-- the number in a register that is an operand is within bounds
+abbrev pub IsWithin : Insn → Bounds → State → Type 0
+IsWithin x known s = (o : Op) (w : Width) (dst src : Register) → x ≡ insn.Alu o w dst (operand.Register src) → (known.least ≤ number_in s src) × (number_in s src ≤ known.most)
 
 -- ---- new names
 
@@ -163,10 +164,10 @@ joined_new k (Some old) names s h = left_stand k names (joined_names k old names
 jump_old : (k : ℕ) (target : Option ℤ) (names : Names) (old : Option Names) (s : State) → StandIn k old s → StandIn k (by_jump k target names old) s
 jump_old k target names old s h = cond_both (is_slot k target) (joined k old names) old (λ o. StandIn k o s) (λ _. joined_old k old names s h) (λ _. h)
 
-next_old : (k : ℕ) (c : Bool) (x : Insn) (names : Names) (old : Option Names) (s : State) → StandIn k old s → StandIn k (by_next k c x names old) s
+next_old : (k : ℕ) (c : Bounds) (x : Insn) (names : Names) (old : Option Names) (s : State) → StandIn k old s → StandIn k (by_next k c x names old) s
 next_old k c x names old s h = cond_both (goes_on x) (joined k old (names_after k c x names)) old (λ o. StandIn k o s) (λ _. joined_old k old (names_after k c x names) s h) (λ _. h)
 
-brought_old : (k n : ℕ) (c : Bool) (x : Option Insn) (names : Names) (old : Option Names) (s : State) → StandIn k old s → StandIn k (brought k n c x names old) s
+brought_old : (k n : ℕ) (c : Bounds) (x : Option Insn) (names : Names) (old : Option Names) (s : State) → StandIn k old s → StandIn k (brought k n c x names old) s
 brought_old k n c None names old s h = h
 brought_old k n c (Some x) names old s h =
     let led = by_jump k (target_of n x) names old in
@@ -177,45 +178,45 @@ come_stand : (k : ℕ) (o : Option Names) (s : State) → StandIn k o s → Stan
 come_stand k None s h = absurd h
 come_stand k (Some names) s h = h
 
-module _ (code : List Insn) (copies : ℕ → Bool) (k : ℕ) (s : State) where
+module _ (code : List Insn) (known : ℕ → Bounds) (k : ℕ) (s : State) where
   -- what came stays right
-  later : (n m : ℕ) → m ≤ n → StandIn k (arriving code copies m k) s → StandIn k (arriving code copies n k) s
+  later : (n m : ℕ) → m ≤ n → StandIn k (arriving code known m k) s → StandIn k (arriving code known n k) s
   later n m le h =
       ⊎_elim
-      (λ same. subst (λ j. StandIn k (arriving code copies j k) s) (sym same) h)
+      (λ same. subst (λ j. StandIn k (arriving code known j k) s) (sym same) h)
       (λ other. more n m le other h)
       (cases_eq n m)
     where
-      more : (n m : ℕ) → m ≤ n → n ≢ m → StandIn k (arriving code copies m k) s → StandIn k (arriving code copies n k) s
+      more : (n m : ℕ) → m ≤ n → n ≢ m → StandIn k (arriving code known m k) s → StandIn k (arriving code known n k) s
       more zero m le ne h = absurd (ne (omega (arith, le)))
       more (suc n) m le ne h =
-          let before : StandIn k (arriving code copies n k) s =
-          ⊎_elim (λ same. subst (λ j. StandIn k (arriving code copies j k) s) (sym same) h) (λ other. more n m (omega (arith, le, ne)) other h) (cases_eq n m) in
-          brought_old k n (copies n) (slice_get code n) (come n (arriving code copies n n)) (arriving code copies n k) s before
+          let before : StandIn k (arriving code known n k) s =
+          ⊎_elim (λ same. subst (λ j. StandIn k (arriving code known j k) s) (sym same) h) (λ other. more n m (omega (arith, le, ne)) other h) (cases_eq n m) in
+          brought_old k n (known n) (slice_get code n) (come n (arriving code known n n)) (arriving code known n k) s before
 
   -- a jump leads there
-  pub led_to : (i : ℕ) (x : Insn) → i < k → slice_get code i ≡ Some x → target_of i x ≡ Some (pos k) → Stand k (names_at code copies i) s → Stand k (names_at code copies k) s
+  pub led_to : (i : ℕ) (x : Insn) → i < k → slice_get code i ≡ Some x → target_of i x ≡ Some (pos k) → Stand k (names_at code known i) s → Stand k (names_at code known k) s
   led_to i x lt at to h =
-      let names = names_at code copies i in
-      let old = arriving code copies i k in
+      let names = names_at code known i in
+      let old = arriving code known i k in
       let led = by_jump k (target_of i x) names old in
       let there : StandIn k led s =
       subst (λ o. StandIn k (by_jump k o names old) s) (sym to) (subst (λ b. StandIn k (cond b (joined k old names) old) s) (sym (eq-eqb k k refl)) (joined_new k old names s h)) in
-      let both : StandIn k (brought k i (copies i) (Some x) names old) s = cond_both (eqb (suc i) k) (by_next k (copies i) x names led) led (λ o. StandIn k o s) (λ _. next_old k (copies i) x names led s there) (λ _. there) in
-      come_stand k (arriving code copies k k) s
-      (later k (suc i) (omega (arith, lt)) (subst (λ o. StandIn k (brought k i (copies i) o names old) s) (sym at) both))
+      let both : StandIn k (brought k i (known i) (Some x) names old) s = cond_both (eqb (suc i) k) (by_next k (known i) x names led) led (λ o. StandIn k o s) (λ _. next_old k (known i) x names led s there) (λ _. there) in
+      come_stand k (arriving code known k k) s
+      (later k (suc i) (omega (arith, lt)) (subst (λ o. StandIn k (brought k i (known i) o names old) s) (sym at) both))
 
 -- and from one slot to the next
-next_stand : (code : List Insn) (copies : ℕ → Bool) (i k : ℕ) (x : Insn) (t : State) → k ≡ suc i → slice_get code i ≡ Some x → goes_on x ≡ true → Stand (suc i) (names_after (suc i) (copies i) x (names_at code copies i)) t → Stand k (names_at code copies k) t
-next_stand code copies i k x t e at goes h =
-    let names = names_at code copies i in
-    let old = arriving code copies i (suc i) in
+next_stand : (code : List Insn) (known : ℕ → Bounds) (i k : ℕ) (x : Insn) (t : State) → k ≡ suc i → slice_get code i ≡ Some x → goes_on x ≡ true → Stand (suc i) (names_after (suc i) (known i) x (names_at code known i)) t → Stand k (names_at code known k) t
+next_stand code known i k x t e at goes h =
+    let names = names_at code known i in
+    let old = arriving code known i (suc i) in
     let led = by_jump (suc i) (target_of i x) names old in
-    let after = names_after (suc i) (copies i) x names in
-    let on : StandIn (suc i) (by_next (suc i) (copies i) x names led) t = subst (λ b. StandIn (suc i) (cond b (joined (suc i) led after) led) t) (sym goes) (joined_new (suc i) led after t h) in
-    let both : StandIn (suc i) (brought (suc i) i (copies i) (Some x) names old) t = subst (λ b. StandIn (suc i) (cond b (by_next (suc i) (copies i) x names led) led) t) (sym (eq-eqb (suc i) (suc i) refl)) on in
-    subst (λ n. Stand n (names_at code copies n) t) (sym e)
-    (come_stand (suc i) (arriving code copies (suc i) (suc i)) t (subst (λ o. StandIn (suc i) (brought (suc i) i (copies i) o names old) t) (sym at) both))
+    let after = names_after (suc i) (known i) x names in
+    let on : StandIn (suc i) (by_next (suc i) (known i) x names led) t = subst (λ b. StandIn (suc i) (cond b (joined (suc i) led after) led) t) (sym goes) (joined_new (suc i) led after t h) in
+    let both : StandIn (suc i) (brought (suc i) i (known i) (Some x) names old) t = subst (λ b. StandIn (suc i) (cond b (by_next (suc i) (known i) x names led) led) t) (sym (eq-eqb (suc i) (suc i) refl)) on in
+    subst (λ n. Stand n (names_at code known n) t) (sym e)
+    (come_stand (suc i) (arriving code known (suc i) (suc i)) t (subst (λ o. StandIn (suc i) (brought (suc i) i (known i) o names old) t) (sym at) both))
 
 -- ---- one register is written
 
@@ -265,32 +266,47 @@ module _ (s : State) (eleven : length s.registers ≡ 11) (words : (r : Register
         ∙ sym (move_taken (number_in s b) (name_at names dst).distance c);
   }
 
-  op_agrees : (copies : Bool) (o : Op) (w : Width) (dst : Register) (src : Operand) → CopiesRight (insn.Alu o w dst src) copies s → Agrees dst (value o w (number_in s dst) (operand_in s src)) (name_of_op (suc i) copies o w dst src names)
-  op_agrees copies op.Mov W64 dst (operand.Register src) right = copy_agrees dst src (number_in s dst)
-  op_agrees copies op.Mov W64 dst (operand.Immediate n) right = new_agrees dst _
-  op_agrees copies op.Mov W32 dst (operand.Immediate n) right = new_agrees dst _
-  op_agrees copies op.Mov W32 dst (operand.Register src) right = cond_both copies (name_at names src) (new_name (suc i) dst) (Agrees dst (value op.Mov W32 (number_in s dst) (number_in s src))) (λ t. small_agrees dst src (number_in s dst) (right dst src refl t)) (λ _. new_agrees dst _)
-  op_agrees copies op.Add W64 dst (operand.Register src) right = new_agrees dst _
-  op_agrees copies op.Add W64 dst (operand.Immediate n) right = added_agrees dst (wrapped 64 n)
-  op_agrees copies op.Add W32 dst src right = new_agrees dst _
-  op_agrees copies op.Sub W64 dst (operand.Register src) right = new_agrees dst _
-  op_agrees copies op.Sub W64 dst (operand.Immediate n) right = taken_agrees dst (wrapped 64 n)
-  op_agrees copies op.Sub W32 dst src right = new_agrees dst _
-  op_agrees copies op.Mul w dst src right = new_agrees dst _
-  op_agrees copies op.Div w dst src right = new_agrees dst _
-  op_agrees copies op.SignedDiv w dst src right = new_agrees dst _
-  op_agrees copies op.Or w dst src right = new_agrees dst _
-  op_agrees copies op.And w dst src right = new_agrees dst _
-  op_agrees copies op.Xor w dst src right = new_agrees dst _
-  op_agrees copies op.Lsh w dst src right = new_agrees dst _
-  op_agrees copies op.Rsh w dst src right = new_agrees dst _
-  op_agrees copies op.Arsh w dst src right = new_agrees dst _
-  op_agrees copies op.Neg w dst src right = new_agrees dst _
-  op_agrees copies op.Mod w dst src right = new_agrees dst _
-  op_agrees copies op.SignedMod w dst src right = new_agrees dst _
-  op_agrees copies op.Movsx8 w dst src right = new_agrees dst _
-  op_agrees copies op.Movsx16 w dst src right = new_agrees dst _
-  op_agrees copies op.Movsx32 w dst src right = new_agrees dst _
+  -- the same of one number, if it is known
+  moves_agree : (o : Op) (dst : Register) (known : Bounds) (src : Operand) → ((c : ℕ) → Agrees dst (value o W64 (number_in s dst) c) (moved_by o c (name_at names dst))) → IsWithin (insn.Alu o W64 dst src) known s
+      → Agrees dst (value o W64 (number_in s dst) (operand_in s src)) (shifted (suc i) dst o (single known src) (name_at names dst))
+  moves_agree o dst known (operand.Immediate n) agrees within = agrees (wrapped 64 n)
+  moves_agree o dst known (operand.Register src) agrees within =
+      let P : Option ℕ → Type 0 = λ n. Agrees dst (value o W64 (number_in s dst) (number_in s src)) (shifted (suc i) dst o n (name_at names dst)) in
+      cond_both (eqb known.least known.most) (Some known.least) None P
+      (λ t.
+      let one = eqb-true known.least known.most t in
+      let bounds = within o W64 dst src refl in
+      let is : known.least ≡ number_in s src = omega (arith, one, bounds) in
+      subst (λ c. Agrees dst (value o W64 (number_in s dst) c) (moved_by o known.least (name_at names dst))) is (agrees known.least))
+      (λ _. new_agrees dst _)
+
+  op_agrees : (known : Bounds) (o : Op) (w : Width) (dst : Register) (src : Operand) → IsWithin (insn.Alu o w dst src) known s → Agrees dst (value o w (number_in s dst) (operand_in s src)) (name_of_op (suc i) known o w dst src names)
+  op_agrees known op.Mov W64 dst (operand.Register src) right = copy_agrees dst src (number_in s dst)
+  op_agrees known op.Mov W64 dst (operand.Immediate n) right = new_agrees dst _
+  op_agrees known op.Mov W32 dst (operand.Immediate n) right = new_agrees dst _
+  op_agrees known op.Mov W32 dst (operand.Register src) right =
+      cond_both (ltb known.most (2 ^ 32)) (name_at names src) (new_name (suc i) dst) (Agrees dst (value op.Mov W32 (number_in s dst) (number_in s src)))
+      (λ t. let low = ltb-true known.most (2 ^ 32) t in let bounds = right op.Mov W32 dst src refl in small_agrees dst src (number_in s dst) (omega (arith, low, bounds)))
+      (λ _. new_agrees dst _)
+  op_agrees known op.Add W64 dst src right = moves_agree op.Add dst known src (added_agrees dst) right
+  op_agrees known op.Add W32 dst src right = new_agrees dst _
+  op_agrees known op.Sub W64 dst src right = moves_agree op.Sub dst known src (taken_agrees dst) right
+  op_agrees known op.Sub W32 dst src right = new_agrees dst _
+  op_agrees known op.Mul w dst src right = new_agrees dst _
+  op_agrees known op.Div w dst src right = new_agrees dst _
+  op_agrees known op.SignedDiv w dst src right = new_agrees dst _
+  op_agrees known op.Or w dst src right = new_agrees dst _
+  op_agrees known op.And w dst src right = new_agrees dst _
+  op_agrees known op.Xor w dst src right = new_agrees dst _
+  op_agrees known op.Lsh w dst src right = new_agrees dst _
+  op_agrees known op.Rsh w dst src right = new_agrees dst _
+  op_agrees known op.Arsh w dst src right = new_agrees dst _
+  op_agrees known op.Neg w dst src right = new_agrees dst _
+  op_agrees known op.Mod w dst src right = new_agrees dst _
+  op_agrees known op.SignedMod w dst src right = new_agrees dst _
+  op_agrees known op.Movsx8 w dst src right = new_agrees dst _
+  op_agrees known op.Movsx16 w dst src right = new_agrees dst _
+  op_agrees known op.Movsx32 w dst src right = new_agrees dst _
 
   module _ (dst : Register) (v : ℕ) (n : Name) where
     name_same : (r : Register) → number r ≡ number dst → name_at (with_name names dst n) r ≡ n
@@ -444,44 +460,44 @@ distance_is names s a b h same word =
 
 -- ---- slots
 
-module _ (calls : Calls) (code : List Insn) (copies : ℕ → Bool) (s : State) (i : ℕ) (at : s.slot ≡ pos i) (eleven : length s.registers ≡ 11) (words : (r : Register) → number_in s r < 2 ^ 64) (stand : Stand i (names_at code copies i) s) (after_wide : (dst : Register) (n : ℕ) → slice_get code i ≡ Some (insn.Wide dst n) → slice_get code (i + 1) ≡ Some insn.Tail) where
+module _ (calls : Calls) (code : List Insn) (known : ℕ → Bounds) (s : State) (i : ℕ) (at : s.slot ≡ pos i) (eleven : length s.registers ≡ 11) (words : (r : Register) → number_in s r < 2 ^ 64) (stand : Stand i (names_at code known i) s) (after_wide : (dst : Register) (n : ℕ) → slice_get code i ≡ Some (insn.Wide dst n) → slice_get code (i + 1) ≡ Some insn.Tail) where
   -- a state that has gone on to the next slot
-  on : (k : ℕ) (x : Insn) (t u : State) → slice_get code i ≡ Some x → goes_on x ≡ true → t ≡ advanced u → u.slot ≡ s.slot → t.slot ≡ pos k → Stand (suc i) (names_after (suc i) (copies i) x (names_at code copies i)) (advanced u) → Stand k (names_at code copies k) t
+  on : (k : ℕ) (x : Insn) (t u : State) → slice_get code i ≡ Some x → goes_on x ≡ true → t ≡ advanced u → u.slot ≡ s.slot → t.slot ≡ pos k → Stand (suc i) (names_after (suc i) (known i) x (names_at code known i)) (advanced u) → Stand k (names_at code known k) t
   on k x t u there goes e same to h =
       let next : (s.slot +ℤ pos 1) ≡ pos k = ap (λ z. z +ℤ pos 1) (sym same) ∙ sym (ap (λ v. v.slot) e) ∙ to in
-      next_stand code copies i k x t (slot_on s.slot i k at next) there goes (subst (Stand (suc i) (names_after (suc i) (copies i) x (names_at code copies i))) (sym e) h)
+      next_stand code known i k x t (slot_on s.slot i k at next) there goes (subst (Stand (suc i) (names_after (suc i) (known i) x (names_at code known i))) (sym e) h)
 
   -- and one that has jumped
-  goes_to : (k : ℕ) (x : Insn) (t : State) (o : ℤ) → t.registers ≡ s.registers → i < k → slice_get code i ≡ Some x → target_of i x ≡ Some (landing i o) → (s.slot +ℤ pos 1 +ℤ o) ≡ pos k → Stand k (names_at code copies k) t
-  goes_to k x t o same lt there to slot = led_to code copies k t i x lt there (to ∙ ap Some (ap (λ z. z +ℤ pos 1 +ℤ o) (sym at) ∙ slot)) (same_stand i k (names_at code copies i) s t lt same stand)
+  goes_to : (k : ℕ) (x : Insn) (t : State) (o : ℤ) → t.registers ≡ s.registers → i < k → slice_get code i ≡ Some x → target_of i x ≡ Some (landing i o) → (s.slot +ℤ pos 1 +ℤ o) ≡ pos k → Stand k (names_at code known k) t
+  goes_to k x t o same lt there to slot = led_to code known k t i x lt there (to ∙ ap Some (ap (λ z. z +ℤ pos 1 +ℤ o) (sym at) ∙ slot)) (same_stand i k (names_at code known i) s t lt same stand)
 
-  fresh : (dst : Register) (v : ℕ) → Stand (suc i) (with_name (names_at code copies i) dst (new_name (suc i) dst)) (advanced (with_register dst v s))
-  fresh dst v = write_stand s eleven words i (names_at code copies i) stand dst v (new_name (suc i) dst) (new_agrees s eleven words i (names_at code copies i) stand dst v)
+  fresh : (dst : Register) (v : ℕ) → Stand (suc i) (with_name (names_at code known i) dst (new_name (suc i) dst)) (advanced (with_register dst v s))
+  fresh dst v = write_stand s eleven words i (names_at code known i) stand dst v (new_name (suc i) dst) (new_agrees s eleven words i (names_at code known i) stand dst v)
 
-  pub names_hold : (k : ℕ) (x : Insn) (t : State) → i < k → slice_get code i ≡ Some x → t.slot ≡ pos k → CopiesRight x (copies i) s → Does calls x s t → Stand k (names_at code copies k) t
+  pub names_hold : (k : ℕ) (x : Insn) (t : State) → i < k → slice_get code i ≡ Some x → t.slot ≡ pos k → IsWithin x (known i) s → Does calls x s t → Stand k (names_at code known k) t
   names_hold k (insn.Alu o w dst src) t lt there to right d =
       on k _ t (with_register dst (value o w (number_in s dst) (operand_in s src)) s) there refl d refl to
-      (write_stand s eleven words i (names_at code copies i) stand dst _ (name_of_op (suc i) (copies i) o w dst src (names_at code copies i)) (op_agrees s eleven words i (names_at code copies i) stand (copies i) o w dst src right))
+      (write_stand s eleven words i (names_at code known i) stand dst _ (name_of_op (suc i) (known i) o w dst src (names_at code known i)) (op_agrees s eleven words i (names_at code known i) stand (known i) o w dst src right))
   names_hold k (insn.Swap kind n dst) t lt there to right d = on k _ t (with_register dst _ s) there refl d refl to (fresh dst _)
   names_hold k (insn.Load size extend dst r offset) t lt there to right d = on k _ t (with_register dst _ s) there refl d.2 refl to (fresh dst _)
-  names_hold k (insn.Store size r offset src) t lt there to right d = on k _ t _ there refl d.2 refl to (same_stand i (suc i) (names_at code copies i) s _ (omega arith) refl stand)
+  names_hold k (insn.Store size r offset src) t lt there to right d = on k _ t _ there refl d.2 refl to (same_stand i (suc i) (names_at code known i) s _ (omega arith) refl stand)
   names_hold k (insn.Jump (distance.Near o)) t lt there to right d = goes_to k _ t o (ap (λ v. v.registers) d) lt there refl (sym (ap (λ v. v.slot) d) ∙ to)
   names_hold k (insn.Jump (distance.Far o)) t lt there to right d = goes_to k _ t o (ap (λ v. v.registers) d) lt there refl (sym (ap (λ v. v.slot) d) ∙ to)
   names_hold k (insn.JumpIf c w l r o) t lt there to right d =
-      let P : State → Type 0 = λ u. u.slot ≡ pos k → Stand k (names_at code copies k) u in
+      let P : State → Type 0 = λ u. u.slot ≡ pos k → Stand k (names_at code known k) u in
       subst P (sym d)
       (cond_both (condition c w (number_in s l) (operand_in s r)) (jumped o s) (advanced s) P
       (λ _ slot. goes_to k _ (jumped o s) o refl lt there refl slot)
-      (λ _ slot. on k _ (advanced s) s there refl refl refl slot (same_stand i (suc i) (names_at code copies i) s (advanced s) (omega arith) refl stand)))
+      (λ _ slot. on k _ (advanced s) s there refl refl refl slot (same_stand i (suc i) (names_at code known i) s (advanced s) (omega arith) refl stand)))
       to
   names_hold k (insn.Call n) t lt there to right d =
       let u = record s { registers = Some d.0 ∷ None ∷ None ∷ None ∷ None ∷ None ∷ drop 6 s.registers; memory = d.1 } in
-      on k _ t u there refl d.3 refl to (call_stand s (advanced u) (Some d.0) i (names_at code copies i) stand refl)
+      on k _ t u there refl d.3 refl to (call_stand s (advanced u) (Some d.0) i (names_at code known i) stand refl)
   names_hold k insn.Exit t lt there to right d = absurd d
   names_hold k (insn.Wide dst n) t lt there to right d =
       let tail : slice_get code (suc i) ≡ Some insn.Tail = ap (slice_get code) (omega arith) ∙ after_wide dst n there in
       let two = two_on s.slot i k at (sym (ap (λ v. v.slot) d) ∙ to) in
       let registers : t.registers ≡ set s.registers (number dst) (Some n) = ap (λ v. v.registers) d in
-      let first = next_stand code copies i (suc i) _ (advanced (with_register dst n s)) refl there refl (fresh dst n) in
-      next_stand code copies (suc i) k insn.Tail t two tail refl (same_stand (suc i) (suc (suc i)) (names_at code copies (suc i)) (advanced (with_register dst n s)) t (omega arith) registers first)
+      let first = next_stand code known i (suc i) _ (advanced (with_register dst n s)) refl there refl (fresh dst n) in
+      next_stand code known (suc i) k insn.Tail t two tail refl (same_stand (suc i) (suc (suc i)) (names_at code known (suc i)) (advanced (with_register dst n s)) t (omega arith) registers first)
   names_hold k insn.Tail t lt there to right d = absurd d

@@ -1,8 +1,9 @@
 -- Names on the way through a program's slots.
-use Rattle.std.specs.Prelude.{◌≡◌, ℕ, ◌<◌, Bool, List, Option, None, Some, slice_get, vec_len}
+use Rattle.std.specs.Prelude.{◌≡◌, ℕ, ◌<◌, List, Option, None, Some, slice_get, vec_len}
 use Rattle.std.specs.Global.{Box}
 use Rattle.insn.specs.declared.Insn.{Insn}
 use Rattle.value_names.specs.Names.{Names, arriving, names_at}
+use Rattle.value_names.specs.declared.bounds.Bounds.{Bounds}
 use Rattle.value_names.specs.declared.course.Course.{Course}
 
 -- names that wait for a slot, if some do
@@ -18,7 +19,7 @@ abbrev pub held_at : List (Option (Box Names)) → ℕ → Option Names
 held_at waiting k = held_in (slice_get waiting k)
 
 -- before slot i of so many: the names there, and what lower slots bring to each slot behind it
-pub record Follows (code : List Insn) (copies : ℕ → Bool) (slots i : ℕ) (course : Course) : Type 0 where
-  pub here : course.here ≡ names_at code copies i
+pub record Follows (code : List Insn) (known : ℕ → Bounds) (slots i : ℕ) (course : Course) : Type 0 where
+  pub here : course.here ≡ names_at code known i
   pub long : vec_len course.waiting ≡ slots
-  pub waiting : (k : ℕ) → i < k → k < slots → held_at course.waiting.items k ≡ arriving code copies i k
+  pub waiting : (k : ℕ) → i < k → k < slots → held_at course.waiting.items k ≡ arriving code known i k

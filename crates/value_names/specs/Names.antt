@@ -1,6 +1,6 @@
--- What is known of registers that hold copies of one value: by how much they differ. It is known by the code, and by which moves of 32 bits
--- copy a number below 2 ^ 32: from the slot on where a register is written, and where ways meet as far as they agree.
-use Rattle.std.specs.Prelude.{◌≡◌, ℕ, zero, suc, ℤ, ◌+◌, ◌*◌, ◌==◌, Bool, true, false, not, ◌&&◌, if◌then◌else◌, Option, None, Some, List, [], ◌∷◌, drop, slice_get, slice_set, slice_index_or}
+-- What is known of registers that hold copies of one value: by how much they differ. It is known by the code, and by the least and the
+-- greatest number that each slot's operand may be: from the slot on where a register is written, and where ways meet as far as they agree.
+use Rattle.std.specs.Prelude.{◌≡◌, ℕ, zero, suc, ℤ, ◌+◌, ◌-◌, ◌*◌, ◌^◌, ◌==◌, nat_lt, Bool, true, false, not, ◌&&◌, if◌then◌else◌, Option, None, Some, List, [], ◌∷◌, drop, slice_get, slice_set, slice_index_or}
 use Rattle.alu.specs.Value.{wrapped, value}
 use Rattle.alu.specs.declared.Op.{Op}
 use Rattle.alu.specs.declared.Op.TheVariants.{Mov, Add, Sub}
@@ -16,6 +16,7 @@ use Rattle.insn.specs.declared.Insn.TheVariants as insn
 use Rattle.memory.specs.State.{State, number_in}
 use Rattle.bpfimage.specs.Form.{target_of}
 use Rattle.value_names.specs.Led.{is_slot}
+use Rattle.value_names.specs.declared.bounds.Bounds.{Bounds}
 use Rattle.value_names.specs.declared.name.Name.{Name}
 
 -- ---- names
@@ -37,26 +38,40 @@ new_name k r = record { value = 16 * k + number r; distance = 0 }
 abbrev pub new_names : ℕ → Names
 new_names k = new_name k R0 ∷ new_name k R1 ∷ new_name k R2 ∷ new_name k R3 ∷ new_name k R4 ∷ new_name k R5 ∷ new_name k R6 ∷ new_name k R7 ∷ new_name k R8 ∷ new_name k R9 ∷ new_name k R10 ∷ []
 
--- ---- what an instruction leaves of them, on the way to slot k
+-- ---- what an instruction leaves of them, on the way to slot k, where its operand is within bounds
+
+-- those of an operand of which nothing is known
+abbrev pub unbounded : Bounds
+unbounded = record { least = 0; most = 2 ^ 64 - 1 }
+
+-- the one number that an operand holds, if it is known: a constant, or that of a register within bounds
+abbrev pub single : Bounds → Operand → Option ℕ
+single known (operand.Immediate n) = Some (wrapped 64 n)
+single known (operand.Register src) = if known.least == known.most then Some known.least else None
 
 abbrev pub moved_by : Op → ℕ → Name → Name
 moved_by o n name = record { value = name.value; distance = value o W64 name.distance n }
 
--- a copy has the name of what is copied, and one number that is added or taken away moves it; a move of 32 bits copies where it is said to
-abbrev pub name_of_op : ℕ → Bool → Op → Width → Register → Operand → Names → Name
-name_of_op k copies Mov W64 dst (operand.Register src) names = name_at names src
-name_of_op k copies Mov W32 dst (operand.Register src) names = if copies then name_at names src else new_name k dst
-name_of_op k copies Add W64 dst (operand.Immediate n) names = moved_by Add (wrapped 64 n) (name_at names dst)
-name_of_op k copies Sub W64 dst (operand.Immediate n) names = moved_by Sub (wrapped 64 n) (name_at names dst)
-name_of_op k copies o w dst src names = new_name k dst
+-- one number moves a name; by any other it is new
+abbrev pub shifted : ℕ → Register → Op → Option ℕ → Name → Name
+shifted k dst o (Some n) name = moved_by o n name
+shifted k dst o None name = new_name k dst
 
-abbrev pub names_after : ℕ → Bool → Insn → Names → Names
-names_after k copies (insn.Alu o w dst src) names = with_name names dst (name_of_op k copies o w dst src names)
-names_after k copies (insn.Swap kind n dst) names = with_name names dst (new_name k dst)
-names_after k copies (insn.Load size extend dst base offset) names = with_name names dst (new_name k dst)
-names_after k copies (insn.Call helper) names = new_name k R0 ∷ new_name k R1 ∷ new_name k R2 ∷ new_name k R3 ∷ new_name k R4 ∷ new_name k R5 ∷ drop 6 names
-names_after k copies (insn.Wide dst n) names = with_name names dst (new_name k dst)
-names_after k copies other names = names
+-- a copy has the name of what is copied, by a move of 32 bits where that is below 2 ^ 32; and one number that is added or taken away moves it
+abbrev pub name_of_op : ℕ → Bounds → Op → Width → Register → Operand → Names → Name
+name_of_op k known Mov W64 dst (operand.Register src) names = name_at names src
+name_of_op k known Mov W32 dst (operand.Register src) names = if nat_lt known.most (2 ^ 32) then name_at names src else new_name k dst
+name_of_op k known Add W64 dst src names = shifted k dst Add (single known src) (name_at names dst)
+name_of_op k known Sub W64 dst src names = shifted k dst Sub (single known src) (name_at names dst)
+name_of_op k known o w dst src names = new_name k dst
+
+abbrev pub names_after : ℕ → Bounds → Insn → Names → Names
+names_after k known (insn.Alu o w dst src) names = with_name names dst (name_of_op k known o w dst src names)
+names_after k known (insn.Swap kind n dst) names = with_name names dst (new_name k dst)
+names_after k known (insn.Load size extend dst base offset) names = with_name names dst (new_name k dst)
+names_after k known (insn.Call helper) names = new_name k R0 ∷ new_name k R1 ∷ new_name k R2 ∷ new_name k R3 ∷ new_name k R4 ∷ new_name k R5 ∷ drop 6 names
+names_after k known (insn.Wide dst n) names = with_name names dst (new_name k dst)
+names_after k known other names = names
 
 -- ---- ways meet at slot k: what is equal stays, and any other register has a name that is new there
 
@@ -87,29 +102,29 @@ goes_on other = true
 abbrev pub by_jump : ℕ → Option ℤ → Names → Option Names → Option Names
 by_jump k target names before = if is_slot k target then joined k before names else before
 
-abbrev pub by_next : ℕ → Bool → Insn → Names → Option Names → Option Names
-by_next k copies x names before = if goes_on x then joined k before (names_after k copies x names) else before
+abbrev pub by_next : ℕ → Bounds → Insn → Names → Option Names → Option Names
+by_next k known x names before = if goes_on x then joined k before (names_after k known x names) else before
 
 -- what the instruction of slot n brings to slot k, joined to what came there before
-abbrev pub brought : ℕ → ℕ → Bool → Option Insn → Names → Option Names → Option Names
-brought k n copies None names before = before
-brought k n copies (Some x) names before =
+abbrev pub brought : ℕ → ℕ → Bounds → Option Insn → Names → Option Names → Option Names
+brought k n known None names before = before
+brought k n known (Some x) names before =
     let led = by_jump k (target_of n x) names before in
-    if suc n == k then by_next k copies x names led else led
+    if suc n == k then by_next k known x names led else led
 
 -- new names where nothing comes
 abbrev pub come : ℕ → Option Names → Names
 come k None = new_names k
 come k (Some names) = names
 
--- what the instructions of the first n slots bring to slot k, where it is said of each slot's move of 32 bits whether it copies
-abbrev pub arriving : List Insn → (ℕ → Bool) → ℕ → ℕ → Option Names
-arriving code copies zero k = if k == 0 then Some (new_names 0) else None
-arriving code copies (suc n) k = brought k n (copies n) (slice_get code n) (come n (arriving code copies n n)) (arriving code copies n k)
+-- what the instructions of the first n slots bring to slot k, where it is said of each slot's operand within which bounds it is
+abbrev pub arriving : List Insn → (ℕ → Bounds) → ℕ → ℕ → Option Names
+arriving code known zero k = if k == 0 then Some (new_names 0) else None
+arriving code known (suc n) k = brought k n (known n) (slice_get code n) (come n (arriving code known n n)) (arriving code known n k)
 
 -- the names before a slot: what all lower slots bring there
-abbrev pub names_at : List Insn → (ℕ → Bool) → ℕ → Names
-names_at code copies k = come k (arriving code copies k k)
+abbrev pub names_at : List Insn → (ℕ → Bounds) → ℕ → Names
+names_at code known k = come k (arriving code known k k)
 
 -- ---- what they mean: of two registers of one name each is as far as its distance from where the other is less its own
 

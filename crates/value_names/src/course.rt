@@ -1,10 +1,12 @@
 //! Names on the way through a program's slots.
 
-ghost use Rattle.std.specs.Prelude.{◌≡◌, ◌<◌, ◌≤◌, ◌+◌, ℕ, Bool, Some, None, IfOk, List, slice_get, vec_len};
+ghost use Rattle.std.specs.Prelude.{◌≡◌, ◌<◌, ◌≤◌, ◌+◌, ℕ, Some, None, IfOk, List, slice_get, vec_len};
 ghost use Rattle.insn.specs.declared.Insn.{Insn};
 ghost use Rattle.value_names.specs.Names.{joined, by_jump, by_next, come, goes_on};
 ghost use Rattle.value_names.specs.Courses.{unboxed, held_at, Follows};
+ghost use Rattle.value_names.specs.declared.bounds.Bounds.{Bounds};
 
+use crate::bounds::Bounds;
 use crate::led::place_of;
 use crate::name::Name;
 use crate::naming::{join_names, new_names, rename};
@@ -62,13 +64,13 @@ fn goes_on(insn: Insn) -> bool
     !matches!(insn, Insn::Jump { .. } | Insn::Exit)
 }
 
-/// Goes over an instruction to the next slot, for which names may wait.
-fn go_on(slot: u32, copies: bool, insn: Insn, waits: &Waiting, names: &mut [Name; 11])
+/// Goes over an instruction, whose operand is within bounds, to the next slot, for which names may wait.
+fn go_on(slot: u32, known: Bounds, insn: Insn, waits: &Waiting, names: &mut [Name; 11])
     requires { slot ≤ 4096 }
-    ensures { names.new ≡ come slot (by_next slot copies insn names.old (unboxed waits.now)) }
+    ensures { names.new ≡ come slot (by_next slot known insn names.old (unboxed waits.now)) }
 {
     if goes_on(insn) {
-        rename(slot, copies, insn, names);
+        rename(slot, known, insn, names);
         if let Some(kept) = waits {
             *names = join_names(slot, kept, names);
         }
@@ -83,7 +85,7 @@ fn go_on(slot: u32, copies: bool, insn: Insn, waits: &Waiting, names: &mut [Name
 impl Course {
     /// Before the first of so many slots.
     pub fn new(alloc: Global, slots: usize) -> Result<Course, AllocError>
-        ensures { IfOk result (λ course. (code : List Insn) (copies : ℕ → Bool) → Follows code copies slots 0 course) }
+        ensures { IfOk result (λ course. (code : List Insn) (known : ℕ → Bounds) → Follows code known slots 0 course) }
     {
         let mut waiting = Vec::with_capacity(alloc, slots)?;
         for _ in 0..slots {
@@ -96,11 +98,11 @@ impl Course {
         })
     }
 
-    /// Goes over the instruction of a slot to the next one. Whether its move of 32 bits copies is said.
-    pub fn advance(&mut self, at: usize, insn: Insn, copies: bool) -> Result<(), AllocError>
+    /// Goes over the instruction of a slot to the next one. It is said within which bounds its operand is, where that is a register.
+    pub fn advance(&mut self, at: usize, insn: Insn, known: Bounds) -> Result<(), AllocError>
         requires few { vec_len self.old.waiting ≤ 4097 }
         requires within { at + 1 < vec_len self.old.waiting }
-        ensures { IfOk result (λ _. (code : List Insn) (copied : ℕ → Bool) → slice_get code at ≡ Some insn → copied at ≡ copies → Follows code copied (vec_len self.old.waiting) at self.old → Follows code copied (vec_len self.old.waiting) (at + 1) self.new) }
+        ensures { IfOk result (λ _. (code : List Insn) (knows : ℕ → Bounds) → slice_get code at ≡ Some insn → knows at ≡ known → Follows code knows (vec_len self.old.waiting) at self.old → Follows code knows (vec_len self.old.waiting) (at + 1) self.new) }
     {
         join_target(
             &mut self.spare,
@@ -109,7 +111,7 @@ impl Course {
             &self.here,
         )?;
         let waits = self.waiting[at + 1].take();
-        go_on(at as u32 + 1, copies, insn, &waits, &mut self.here);
+        go_on(at as u32 + 1, known, insn, &waits, &mut self.here);
         self.spare.keep(waits);
         Ok(())
     }

@@ -2,8 +2,9 @@
 
 ghost use Rattle.std.specs.Prelude.{◌≡◌, ◌≤◌, slice_set};
 ghost use Rattle.insn.specs.Encoding.{number};
-ghost use Rattle.value_names.specs.Names.{name_at, new_names, moved_by, name_of_op, names_after, joined_name, name_in, joined_names, distance_from, are_alike};
+ghost use Rattle.value_names.specs.Names.{name_at, new_names, moved_by, single, shifted, name_of_op, names_after, joined_name, name_in, joined_names, distance_from, are_alike};
 
+use crate::bounds::{Bounds, single};
 use crate::name::{Name, new_name};
 use alu::{Op, Width, eval};
 use insn::{Insn, Operand, Register};
@@ -45,11 +46,22 @@ fn moved_by(op: Op, n: u64, name: Name) -> Name
     }
 }
 
-/// The name of a register that an operation writes: a copy's is that of what is copied, and one number that is added or taken away
-/// moves it. Whether a move of 32 bits copies is said.
+/// The name of a register that gets more or less than it held: by one number it is moved, and by any other it is new.
+fn shifted(slot: u32, dst: Register, op: Op, n: Option<u64>, name: Name) -> Name
+    requires { slot ≤ 4096 }
+    ensures { result ≡ shifted slot dst op n name }
+{
+    match n {
+        Some(n) => moved_by(op, n, name),
+        None => new_name(slot, dst),
+    }
+}
+
+/// The name of a register that an operation writes, whose operand is within bounds: a copy's is that of what is copied, by a move of
+/// 32 bits where that is below 2^32, and one number that is added or taken away moves it.
 fn name_of_op(
     slot: u32,
-    copies: bool,
+    known: Bounds,
     op: Op,
     width: Width,
     dst: Register,
@@ -57,13 +69,15 @@ fn name_of_op(
     names: &[Name; 11],
 ) -> Name
     requires { slot ≤ 4096 }
-    ensures { result ≡ name_of_op slot copies op width dst src names.now }
+    ensures { result ≡ name_of_op slot known op width dst src names.now }
 {
     match (op, width, src) {
         (Op::Mov, Width::W64, Operand::Register(src)) => name_at(names, src),
-        (Op::Mov, Width::W32, Operand::Register(src)) if copies => name_at(names, src),
-        (Op::Add | Op::Sub, Width::W64, Operand::Immediate(n)) => {
-            moved_by(op, i64::from(n).cast_unsigned(), name_at(names, dst))
+        (Op::Mov, Width::W32, Operand::Register(src)) if known.most < 1 << 32 => {
+            name_at(names, src)
+        }
+        (Op::Add | Op::Sub, Width::W64, src) => {
+            shifted(slot, dst, op, single(known, src), name_at(names, dst))
         }
         _ => new_name(slot, dst),
     }
@@ -76,10 +90,10 @@ fn set_name(names: &mut [Name; 11], register: Register, name: Name)
     names[register.number() as usize] = name;
 }
 
-/// Goes over an instruction, on the way to a slot.
-pub fn rename(slot: u32, copies: bool, insn: Insn, names: &mut [Name; 11])
+/// Goes over an instruction, whose operand is within bounds, on the way to a slot.
+pub fn rename(slot: u32, known: Bounds, insn: Insn, names: &mut [Name; 11])
     requires { slot ≤ 4096 }
-    ensures { names.new ≡ names_after slot copies insn names.old }
+    ensures { names.new ≡ names_after slot known insn names.old }
 {
     match insn {
         Insn::Alu {
@@ -88,7 +102,7 @@ pub fn rename(slot: u32, copies: bool, insn: Insn, names: &mut [Name; 11])
             dst,
             src,
         } => {
-            let name = name_of_op(slot, copies, op, width, dst, src, names);
+            let name = name_of_op(slot, known, op, width, dst, src, names);
             set_name(names, dst, name);
         }
         Insn::Swap { dst, .. } | Insn::Load { dst, .. } | Insn::Wide { dst, .. } => {

@@ -6,7 +6,7 @@ use Rattle.value_names.proofs.Held.{here_on, behind_on, held_other}
 use Rattle.value_names.proofs.course.Course.advance.Goals as goal
 
 pub returns : goal.returns
-returns c = λ code copied at said old.
+returns c = λ code knows at said old.
     let i = c.args.at in
     let x = c.args.insn in
     let names = c.args.self.now.here in
@@ -17,7 +17,7 @@ returns c = λ code copied at said old.
     record {
       here =
           c.go_on.ensures
-          ∙ here_on code copied i x c.args.copies names at said old.here (unboxed c.take-waits.result)
+          ∙ here_on code knows i x c.args.known names at said old.here (unboxed c.take-waits.result)
           (ap unboxed c.take-waits.ensures.value
           ∙ sym (ap held_in taken)
           ∙ c.in_ok-join_target.ensures.names (i + 1) c.requires.within
@@ -28,5 +28,5 @@ returns c = λ code copied at said old.
           held_other led.items (i + 1) k _ (λ e. omega (arith, e, above))
           ∙ c.in_ok-join_target.ensures.names k within
           ∙ ap (λ t. by_jump k t names (held_at was.items k)) c.target_of.ensures
-          ∙ behind_on code copied i x c.args.copies names at said old.here k _ above (old.waiting k (omega (arith, above)) within);
+          ∙ behind_on code knows i x c.args.known names at said old.here k _ above (old.waiting k (omega (arith, above)) within);
     }
