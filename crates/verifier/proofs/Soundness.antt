@@ -31,7 +31,8 @@ use Rattle.ranges.specs.Laws.{IsSoundTable}
 use Rattle.bpfimage.specs.Form.{next_of, target_of}
 use Rattle.helpers.specs.Calls.{Callee, Copy, Fill, Same, Helper, Unknown, calls_of}
 use Rattle.value_names.specs.Names.{Names}
-use Rattle.value_names.proofs.NamedRuns.{Stand, CopiesRight, new_stand, names_hold}
+use Rattle.value_names.specs.declared.bounds.Bounds.{Bounds}
+use Rattle.value_names.proofs.NamedRuns.{Stand, IsWithin, new_stand, names_hold}
 use Rattle.verifier.specs.Program.{Program, HasLimits, IsSafeProgram}
 use Rattle.verifier.specs.Registers.{Row, cell_count, IsLong, kind_at, kind_from, one_number, entry}
 use Rattle.verifier.specs.Cells.{span_of, part_at, row_written}
@@ -40,15 +41,15 @@ use Rattle.verifier.specs.PairSteps.{pairs_at}
 use Rattle.verifier.proofs.Together.{HoldPairs}
 use Rattle.verifier.proofs.PairRuns.{pairs_held}
 use Rattle.verifier.specs.Rules.{callee_in, loaded, row_after, row_taken, rules_of}
-use Rattle.verifier.specs.Sums.{most, sum_at, row_on}
-use Rattle.verifier.specs.Naming.{copies_of, copies_at, names_in, named}
+use Rattle.verifier.specs.Sums.{least, most, sum_at, row_on}
+use Rattle.verifier.specs.Naming.{bounds_of, bounds_at, names_in, named}
 use Rattle.verifier.specs.Table.{Edge, next_edge, target_edge, named_edges, edges_of, arrivals, table, broken_with, IsAccepted, AreKinds}
 use Rattle.verifier.proofs.Words.{wrapped_below, size_fits, bytes_zero}
 use Rattle.verifier.proofs.RowSteps.{kinds_set, kinds_drop}
 use Rattle.verifier.proofs.StackCells.{values, has_eleven, stored_long, written_long, stored_kinds, written_kinds, read_kinds, zero_cells, zero_bytes}
 use Rattle.verifier.proofs.Fits.{FitsRow, IsRow, IsRowIfAny, AreRows, FitsSome, SomeEdge, into_is_row, into_old, into_new}
 use Rattle.verifier.proofs.Refined.{refined_is_long, refined_kinds}
-use Rattle.verifier.proofs.SumSteps.{Holds, told_long, told_kinds, most_of, lt_from, at_register}
+use Rattle.verifier.proofs.SumSteps.{Holds, told_long, told_kinds, least_of, most_of, at_register}
 use Rattle.verifier.proofs.SumRuns.{held_at}
 use Rattle.verifier.proofs.Shape.{IsPaired, Leads, AllLead, paired_starts, edges_lead, target_leads}
 use Rattle.verifier.proofs.Places.{IsMemory}
@@ -308,17 +309,15 @@ module _ (sound : (profile : Profile) → IsSoundTable profile) (p : Program) (l
         steps = omega (arith, counted p.code g.at k g.here g.found g.starts l.above, g.steps);
       }
 
-  -- a move of 32 bits that is said to copy does
-  small_copies : (n : ℕ) (s : State) (g : Stands p n s) → CopiesRight g.here (copies_at p (table p) g.at) s
-  small_copies n s g dst src e t =
+  -- the number in a register that is an operand is within what its kind allows
+  bounds_hold : (n : ℕ) (s : State) (g : Stands p n s) → IsWithin g.here (bounds_at p (table p) g.at) s
+  bounds_hold n s g o w dst src e =
       let kinds = row_kinds sound p limits paired g.at g.row g.kinds in
       let x = at_register (sound Second) p.profile s g.row (row_long sound p limits paired g.at g.row g.kinds) kinds g.fits src in
-      let le = most_of (kind_at g.row src) (number_in s src) (kinds (number src)) x.1 x.0 in
-      let is : copies_of (Some (insn.Alu op.Mov W32 dst (operand.Register src))) (Some (Some g.row)) ≡ true =
-      subst (λ y. copies_of (Some y) (Some (Some g.row)) ≡ true) e
-      (subst (λ o. copies_of (Some g.here) o ≡ true) g.kinds (subst (λ o. copies_of o (slice_get (table p) g.at) ≡ true) g.found t)) in
-      let lt = lt_from (most (kind_at g.row src)) (2 ^ 32) is in
-      omega (arith, le, lt)
+      let is : bounds_at p (table p) g.at ≡ record { least = least (kind_at g.row src); most = most (kind_at g.row src) } =
+      ap (λ y. bounds_of y (slice_get (table p) g.at)) g.found ∙ ap (bounds_of (Some g.here)) g.kinds ∙ ap (λ y. bounds_of (Some y) (Some (Some g.row))) e in
+      subst (λ (b : Bounds). (b.least ≤ number_in s src) × (number_in s src ≤ b.most)) (sym is)
+      (least_of (kind_at g.row src) (number_in s src) (kinds (number src)) x.0, most_of (kind_at g.row src) (number_in s src) (kinds (number src)) x.1 x.0)
 
   one_step : (n : ℕ) (s t : State) → Stands p n s → Step (calls_of p.sigs) p.code s t → Stands p (suc n) t
   one_step n s t g d =
@@ -335,7 +334,7 @@ module _ (sound : (profile : Profile) → IsSoundTable profile) (p : Program) (l
       l.1
       (λ k above slot. held_at (calls_of p.sigs) p.code s g.at g.slot (has_eleven p.profile g.row s long g.fits) (λ r. (number_word r).1) g.holds (λ dst n. paired.after_wide g.at n dst) k g.here t above g.found slot row)
       (λ k above slot. pairs_held sound p (table p) s g.at g.slot (has_eleven p.profile g.row s long g.fits) (λ r. (number_word r).1) g.row g.kinds long (row_kinds sound p limits paired g.at g.row g.kinds) g.fits g.together g.holds (λ dst n. paired.after_wide g.at n dst) k g.here t above g.found slot l.0 row)
-      (λ k above slot. names_hold (calls_of p.sigs) p.code (copies_at p (table p)) s g.at g.slot (has_eleven p.profile g.row s long g.fits) (λ r. (number_word r).1) g.names (λ dst n. paired.after_wide g.at n dst) k g.here t above g.found slot (small_copies n s g) row)
+      (λ k above slot. names_hold (calls_of p.sigs) p.code (bounds_at p (table p)) s g.at g.slot (has_eleven p.profile g.row s long g.fits) (λ r. (number_word r).1) g.names (λ dst n. paired.after_wide g.at n dst) k g.here t above g.found slot (bounds_hold n s g) row)
 
   -- the state before the first slot
   stands_first : (input : List ℕ) (used : ℕ) → IsInput p.in_len input used → Stands p 0 (start input used p.out_len)

@@ -1,6 +1,6 @@
 -- What sums tell: rows stay rows, and what they admit they still do.
 use Rattle.std.proofs.Common.{◌≡◌, ℕ, ℤ, pos, negsuc, ◌+◌, ◌-◌, ◌^◌, ◌<◌, ◌≤◌, true, Option, Some, None, refl, ap₂, ◌∙◌, subst, length-set, arith}
-use Rattle.std.specs.Prelude.{◌≤ℤ◌, ◌+ℤ◌, int_lt, nat_le, nat_lt, unsigned_abs, unwrap_or}
+use Rattle.std.specs.Prelude.{◌≤ℤ◌, ◌+ℤ◌, int_lt, nat_le, unsigned_abs, unwrap_or}
 use Rattle.std.proofs.lemmas.Int.{ints}
 use Rattle.std.proofs.Math.Nat.{mod-eq_of_lt}
 use Rattle.std.proofs.lemmas.Bool.{cond_both}
@@ -102,7 +102,7 @@ origin_bounds Output = (omega arith, omega arith)
 address_is : (region : Region) (z : ℤ) → negsuc (2 ^ 33 - 1) ≤ℤ z → pos (address region z) ≡ (pos (origin region) +ℤ z)
 address_is region z low = let bounds = origin_bounds region in abs_is (pos (origin region) +ℤ z) (omega (arith, ints))
 
-least_of : (k : Kind) (x : ℕ) → IsKind k → Admits k (Some x) → least k ≤ x
+pub least_of : (k : Kind) (x : ℕ) → IsKind k → Admits k (Some x) → least k ≤ x
 least_of Unset x is h = omega arith
 least_of (Halves l u) x is h = omega arith
 least_of Dead x is h = absurd h
@@ -125,9 +125,6 @@ most_word (Ptr q lo hi) h = let last = address_is q hi (omega (arith, ints, h)) 
 
 le_true : (x n : ℕ) → x ≤ n → nat_le x n ≡ true
 le_true x n h = grind arith
-
-pub lt_from : (x n : ℕ) → nat_lt x n ≡ true → x < n
-lt_from x n h = grind arith
 
 pub le_from : (x n : ℕ) → nat_le x n ≡ true → x ≤ n
 le_from x n h = grind arith

@@ -9,7 +9,7 @@ use Rattle.verifier.specs.Program.{Program}
 use Rattle.verifier.specs.Registers.{Row, entry}
 use Rattle.verifier.specs.Rows.{row_at, push_one, pushed, Misses, HasKinds, AreRowKinds, IsPass}
 use Rattle.value_names.proofs.Held.{names_below}
-use Rattle.verifier.specs.Naming.{copies_of, copies_at, names_in}
+use Rattle.verifier.specs.Naming.{bounds_of, bounds_at, names_in}
 use Rattle.verifier.specs.Table.{Edge, joined, into, edges_of, arrivals, rows_before, table}
 
 -- ---- the table's rows
@@ -43,7 +43,7 @@ at_rows p (suc n) m h =
 same_below : (p : Program) (rows rows' : List (Option Row)) (n k : ℕ) → ((m : ℕ) → m < n → slice_get rows m ≡ slice_get rows' m) → arrivals p rows n k ≡ arrivals p rows' n k
 same_below p rows rows' zero k h = refl
 same_below p rows rows' (suc n) k h =
-    let names = names_below p.code (copies_at p rows) (copies_at p rows') n (λ m lt. ap (copies_of (slice_get p.code m)) (h m (omega (arith, lt)))) in
+    let names = names_below p.code (bounds_at p rows) (bounds_at p rows') n (λ m lt. ap (bounds_of (slice_get p.code m)) (h m (omega (arith, lt)))) in
     ap (λ r. into p.profile k (edges_of p (names_in p rows n) n (slice_get p.code n) r) (arrivals p rows n k)) (h n (omega arith))
     ∙ ap (λ q. into p.profile k (edges_of p q n (slice_get p.code n) (slice_get rows' n)) (arrivals p rows n k)) names
     ∙ ap (into p.profile k (edges_of p (names_in p rows' n) n (slice_get p.code n) (slice_get rows' n))) (same_below p rows rows' n k (λ m lt. h m (omega arith)))

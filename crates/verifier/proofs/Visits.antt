@@ -1,5 +1,5 @@
 -- One slot of the pass.
-use Rattle.std.proofs.Common.{◌≡◌, ℕ, Bool, ◌+◌, ◌<◌, ◌≤◌, List, [], ◌++◌, length, set, Option, Some, None, refl, sym, ap, ◌∙◌, subst, arith}
+use Rattle.std.proofs.Common.{◌≡◌, ℕ, ◌+◌, ◌<◌, ◌≤◌, List, [], ◌++◌, length, set, Option, Some, None, refl, sym, ap, ◌∙◌, subst, arith}
 use Rattle.std.specs.Prelude.{◌⊎◌, slice_get}
 use Rattle.std.proofs.Common.{inl, inr}
 use Rattle.verifier.specs.Verdict.{IsRefused}
@@ -25,7 +25,8 @@ use Rattle.verifier.specs.Rules.{callee_in, broken_in, row_taken}
 use Rattle.verifier.specs.Sums.{sum_at, row_on}
 use Rattle.verifier.specs.declared.sum.Sum.{Sum}
 use Rattle.verifier.specs.Rows.{row_at, pushed, Misses, IsPass}
-use Rattle.verifier.specs.Naming.{copies_of, copies_at, names_in, named}
+use Rattle.value_names.specs.declared.bounds.Bounds.{Bounds}
+use Rattle.verifier.specs.Naming.{bounds_of, bounds_at, names_in, named}
 use Rattle.verifier.specs.Table.{Edge, joined, next_edge, target_edge, named_edges, edges_of, table, broken_with, broken_at, IsAccepted}
 use Rattle.verifier.specs.declared.rule.KindRule.{KindRule}
 use Rattle.verifier.proofs.Tables.{row_here, row_there, length_pushed, pass_all, pass_alone, pass_taken}
@@ -58,9 +59,9 @@ same_edges profile callee sum names others i row x h =
     ∙ ap (λ r. next_edge (next_of i x) (named x profile others (row_on profile callee sum row x)) ++ target_edge (target_of i x) r) (same_named profile x names others (row_taken profile row x) h)
 
 module _ (p : Program) (rows : List (Option Row)) (i : ℕ) (within : i < length p.code) where
-  -- whether its move of 32 bits copies
-  pub copied_here : (here : Option Row) (copies : Bool) → IsPass p rows here i → copies ≡ copies_of (slice_get p.code i) (Some here) → copies_at p (table p) i ≡ copies
-  copied_here here copies pass e = ap (copies_of (slice_get p.code i)) (row_here p rows here i pass within) ∙ sym e
+  -- within which bounds its operand is
+  pub bounded_here : (here : Option Row) (known : Bounds) → IsPass p rows here i → known ≡ bounds_of (slice_get p.code i) (Some here) → bounds_at p (table p) i ≡ known
+  bounded_here here known pass e = ap (bounds_of (slice_get p.code i)) (row_here p rows here i pass within) ∙ sym e
 
   -- a slot that no kinds reach
   pub none_unbroken : IsPass p rows None i → broken_at p i ≡ None

@@ -5,7 +5,7 @@ use Rattle.value_names.specs.Led.{leads_before}
 use Rattle.value_names.specs.Courses.{Follows}
 use Rattle.verifier.specs.Program.{Program}
 use Rattle.verifier.specs.Sums.{sum_at}
-use Rattle.verifier.specs.Naming.{copies_at}
+use Rattle.verifier.specs.Naming.{bounds_at}
 use Rattle.verifier.specs.Table.{table}
 use Rattle.verifier.specs.declared.sums.Sums.{Sums}
 
@@ -15,4 +15,4 @@ pub record AreSums (p : Program) (slots i : ℕ) (sums : Sums) : Type 0 where
   pub long : vec_len sums.led ≡ slots
   pub led : (k : ℕ) → k < slots → slice_get sums.led.items k ≡ Some (leads_before p.code i k)
   pub sum : sums.sum ≡ sum_at p.code i
-  pub names : p.profile ≡ Second → Follows p.code (copies_at p (table p)) slots i sums.names
+  pub names : p.profile ≡ Second → Follows p.code (bounds_at p (table p)) slots i sums.names

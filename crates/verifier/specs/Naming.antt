@@ -1,8 +1,8 @@
 -- Which names the registers have, and what is told of those that hold copies of one value where a condition was tested (this store's second profile).
-use Rattle.std.specs.Prelude.{ℕ, ◌^◌, Bool, true, false, nat_lt, int_lt, Option, Some, slice_get, if◌then◌else◌, Result, Ok, Err, List, [], ◌∷◌}
-use Rattle.alu.specs.declared.Op.TheVariants.{Add, Mov}
+use Rattle.std.specs.Prelude.{ℕ, true, int_lt, Option, Some, slice_get, if◌then◌else◌, Result, Ok, Err, List, [], ◌∷◌}
+use Rattle.alu.specs.declared.Op.TheVariants.{Add}
 use Rattle.alu.specs.declared.Cond.TheVariants.{Equal}
-use Rattle.alu.specs.declared.Width.TheVariants.{W32, W64}
+use Rattle.alu.specs.declared.Width.TheVariants.{W64}
 use Rattle.insn.specs.declared.Register.{Register}
 use Rattle.insn.specs.declared.Register.TheVariants.{R0, R1, R2, R3, R4, R5, R6, R7, R8, R9}
 use Rattle.insn.specs.declared.Operand.{Operand}
@@ -11,33 +11,34 @@ use Rattle.insn.specs.declared.Insn.{Insn}
 use Rattle.insn.specs.declared.Insn.TheVariants as insn
 use Rattle.memory.specs.declared.profile.Profile.{Profile}
 use Rattle.memory.specs.declared.profile.Profile.TheVariants.{Second}
-use Rattle.value_names.specs.Names.{Names, names_at, distance_from, are_alike}
+use Rattle.value_names.specs.declared.bounds.Bounds.{Bounds}
+use Rattle.value_names.specs.Names.{Names, unbounded, names_at, distance_from, are_alike}
 use Rattle.ranges.specs.declared.kind.Kind.{Kind}
 use Rattle.ranges.specs.declared.kind.Kind.TheVariants.{Num, Ptr}
 use Rattle.ranges.specs.declared.kind.Bad.{Bad}
 use Rattle.ranges.specs.Transfer.{transfer_of, refine_of}
 use Rattle.verifier.specs.Program.{Program}
-use Rattle.verifier.specs.Sums.{most}
+use Rattle.verifier.specs.Sums.{least, most}
 use Rattle.verifier.specs.Registers.{Row, kind_at, with_kind, one_number}
 
 -- ---- names
 
--- whether an instruction is a move of 32 bits that copies a register: one that holds a number below 2 ^ 32
-abbrev pub copies_in : Row → Insn → Bool
-copies_in row (insn.Alu Mov W32 dst (operand.Register src)) = nat_lt (most (kind_at row src)) (2 ^ 32)
-copies_in row x = false
+-- within which bounds the operand of an operation is, where it is a register
+abbrev pub bounds_in : Row → Insn → Bounds
+bounds_in row (insn.Alu o w dst (operand.Register src)) = record { least = least (kind_at row src); most = most (kind_at row src) }
+bounds_in row x = unbounded
 
-abbrev pub copies_of : Option Insn → Option (Option Row) → Bool
-copies_of (Some x) (Some (Some row)) = copies_in row x
-copies_of x row = false
+abbrev pub bounds_of : Option Insn → Option (Option Row) → Bounds
+bounds_of (Some x) (Some (Some row)) = bounds_in row x
+bounds_of x row = unbounded
 
 -- by the rows of lower slots
-abbrev pub copies_at : Program → List (Option Row) → ℕ → Bool
-copies_at p rows i = copies_of (slice_get p.code i) (slice_get rows i)
+abbrev pub bounds_at : Program → List (Option Row) → ℕ → Bounds
+bounds_at p rows i = bounds_of (slice_get p.code i) (slice_get rows i)
 
 -- the names before a slot, by the code and the rows of lower slots
 abbrev pub names_in : Program → List (Option Row) → ℕ → Names
-names_in p rows k = names_at p.code (copies_at p rows) k
+names_in p rows k = names_at p.code (bounds_at p rows) k
 
 -- ---- what they tell
 

@@ -7,16 +7,16 @@ ghost use Rattle.memory.specs.declared.profile.Profile.TheVariants.{Second};
 ghost use Rattle.value_names.specs.Names.{distance_from, are_alike};
 ghost use Rattle.ranges.specs.Kinds.{IsKind};
 ghost use Rattle.ranges.specs.Transfer.{refine_of};
-ghost use Rattle.verifier.specs.Naming.{copies_in, copies_of, equal_to, from_other, told_of, told_each, told_from, told_operand, named};
+ghost use Rattle.verifier.specs.Naming.{bounds_in, bounds_of, equal_to, from_other, told_of, told_each, told_from, told_operand, named};
 ghost use Rattle.verifier.specs.Table.{AreKinds};
 
 use crate::candidate::Candidate;
 use crate::kinds::{kind_of, one_number, set_kind};
-use crate::sums::most;
+use crate::sums::{least, most};
 use alu::{Cond, Op, Width};
 use insn::{Insn, Operand, Register};
 use ranges::{Kind, Profile, refine, transfer};
-use value_names::{Name, are_alike, distance_from};
+use value_names::{Bounds, Name, are_alike, distance_from};
 
 /// The registers that a program may write.
 const REGISTERS: [Register; 10] = [
@@ -32,31 +32,39 @@ const REGISTERS: [Register; 10] = [
     Register::R9,
 ];
 
-/// Whether an instruction is a move of 32 bits that copies a register: one that holds a number below 2^32.
-fn copies_in(row: &[Kind], insn: Insn) -> bool
+/// Within which bounds the operand of an operation is, where it is a register.
+fn bounds_in(row: &[Kind], insn: Insn) -> Bounds
     requires { AreKinds row.now }
-    ensures { result ≡ copies_in row.now insn }
+    ensures { result ≡ bounds_in row.now insn }
 {
     match insn {
         Insn::Alu {
-            op: Op::Mov,
-            width: Width::W32,
             src: Operand::Register(src),
             ..
-        } => most(kind_of(row, src)) < 1 << 32,
-        _ => false,
+        } => {
+            let kind = kind_of(row, src);
+            Bounds {
+                least: least(kind),
+                most: most(kind),
+            }
+        }
+        _ => Bounds::none(),
     }
 }
 
 /// The same at a slot, by the kinds that reach it, if any do.
-pub fn copies_here<const N: usize>(program: &Candidate, at: usize, here: &Option<[Kind; N]>) -> bool
+pub fn bounds_here<const N: usize>(
+    program: &Candidate,
+    at: usize,
+    here: &Option<[Kind; N]>,
+) -> Bounds
     requires within { at < length program.now.image.code.items }
     requires kinds { IfSome here.now (λ row. AreKinds row) }
-    ensures { result ≡ copies_of (slice_get program.now.image.code.items at) (Some here.now) }
+    ensures { result ≡ bounds_of (slice_get program.now.image.code.items at) (Some here.now) }
 {
     match here {
-        Some(row) => copies_in(row, program.image.code[at]),
-        None => false,
+        Some(row) => bounds_in(row, program.image.code[at]),
+        None => Bounds::none(),
     }
 }
 

@@ -10,7 +10,7 @@ ghost use Rattle.ranges.specs.Transfer.{refine_of};
 ghost use Rattle.verifier.specs.Registers.{one_number};
 ghost use Rattle.verifier.specs.Program.{Program};
 ghost use Rattle.verifier.specs.Candidates.{program_in};
-ghost use Rattle.verifier.specs.Naming.{copies_at};
+ghost use Rattle.verifier.specs.Naming.{bounds_at};
 ghost use Rattle.verifier.specs.Table.{table, AreKinds};
 ghost use Rattle.value_names.specs.Led.{is_slot};
 ghost use Rattle.verifier.specs.Sums.{is_operand, has_register, without, copied, is_copy, added, sum_of_op, sum_after, least, most, at_most, register_at_most, operand_at_most, told_by, told};
@@ -24,7 +24,7 @@ use bpfimage::form::target_of;
 use insn::{Insn, Operand, Register};
 use ranges::{Kind, Profile, refine};
 use std::alloc::{AllocError, Global};
-use value_names::{Course, place_of};
+use value_names::{Bounds, Course, place_of};
 
 /// Whether a register is an operand.
 pub fn is_operand(register: Register, operand: Operand) -> bool
@@ -196,16 +196,16 @@ impl Sums {
         })
     }
 
-    /// Goes on to the next slot. Whether a move of 32 bits copies a number below 2^32 is said.
+    /// Goes on to the next slot. It is said within which bounds the operand is, where that is a register.
     pub fn advance(
         &mut self,
         program: &Candidate,
         at: usize,
-        copies: bool,
+        known: Bounds,
     ) -> Result<(), AllocError>
         requires within { at < length program.now.image.code.items }
         requires old { AreSums (program_in program.now) (length program.now.image.code.items + 1) at self.old }
-        requires copies { program.now.image.profile ≡ Second → copies_at (program_in program.now) (table (program_in program.now)) at ≡ copies }
+        requires known { program.now.image.profile ≡ Second → bounds_at (program_in program.now) (table (program_in program.now)) at ≡ known }
         ensures { IfOk result (λ _. AreSums (program_in program.now) (length program.now.image.code.items + 1) (at + 1) self.new) }
     {
         let insn = program.image.code[at];
@@ -213,13 +213,13 @@ impl Sums {
         self.sum = sum_on(self.led[at + 1], insn, self.sum);
         match program.image.profile {
             Profile::First => Ok(()),
-            Profile::Second => self.names.advance(at, insn, copies),
+            Profile::Second => self.names.advance(at, insn, known),
         }
     }
 }
 
 /// The least number that a kind may be, a pointer by its address.
-fn least(kind: Kind) -> u64
+pub fn least(kind: Kind) -> u64
     requires { IsKind kind }
     ensures { result ≡ least kind }
 {

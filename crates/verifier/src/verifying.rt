@@ -22,7 +22,7 @@ use crate::candidate::Candidate;
 use crate::cells::{lowered, span_written};
 use crate::edges::{lead_on, named_edge, take_waiting};
 use crate::kinds::one_number;
-use crate::naming::{copies_here, tell_named};
+use crate::naming::{bounds_here, tell_named};
 use crate::pair::Pairs;
 use crate::pairs::{no_pairs, pairs_here, pairs_over, pairs_told};
 use crate::rule::{KindRule, Refused, Rule};
@@ -167,11 +167,11 @@ fn check_rows<const N: usize>(alloc: Global, program: &Candidate) -> Result<Vec<
     let mut pairs = no_pairs();
     for at in 0..slots {
         lows[at] = lower_slot(program, at, &here);
-        let copies = copies_here(program, at, &here);
+        let known = bounds_here(program, at, &here);
         visit(
             program, at, &mut rows, &mut here, &sums, &mut pairs, &mut taken,
         )?;
-        let Ok(()) = sums.advance(program, at, copies) else {
+        let Ok(()) = sums.advance(program, at, known) else {
             return Err(no_memory());
         };
         pairs = pairs_here(&sums.led, at + 1, pairs);
@@ -220,11 +220,11 @@ fn known_before<const N: usize>(
     let mut taken = first;
     let mut pairs = no_pairs();
     for at in 0..slot {
-        let copies = copies_here(program, at, &here);
+        let known = bounds_here(program, at, &here);
         visit(
             program, at, &mut rows, &mut here, &sums, &mut pairs, &mut taken,
         )?;
-        let Ok(()) = sums.advance(program, at, copies) else {
+        let Ok(()) = sums.advance(program, at, known) else {
             return Err(no_memory());
         };
         pairs = pairs_here(&sums.led, at + 1, pairs);

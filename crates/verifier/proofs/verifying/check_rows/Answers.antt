@@ -8,7 +8,7 @@ use Rattle.verifier.specs.Waiting.{waiting}
 use Rattle.verifier.specs.Known.{AreSums}
 use Rattle.verifier.proofs.Tables.{pass_first, none_kinds}
 use Rattle.verifier.proofs.Noted.{pairs_on, known_kinds, one_more}
-use Rattle.verifier.proofs.Visits.{copied_here, all_visited}
+use Rattle.verifier.proofs.Visits.{bounded_here, all_visited}
 use Rattle.verifier.proofs.Lowering.{slots_and, slot_here}
 use Rattle.verifier.proofs.verifying.check_rows.Goals as goal
 
@@ -34,8 +34,8 @@ loop-at-init g c =
       unbroken = λ k lt. absurd (omega arith);
     }
 
-pub copies_here-copies-requires : goal.copies_here-copies-requires
-copies_here-copies-requires g c =
+pub bounds_here-known-requires : goal.bounds_here-known-requires
+bounds_here-known-requires g c =
     let p = program_in c.args.program.now in
     let within : c.loop-at.at < length p.code = omega (arith, c.loop-at-test.true, c.len-slots.ensures, c.args.program.now.image.code.ok.0) in (
       search rules,
@@ -49,7 +49,7 @@ advance-requires g c =
     record {
       within = within;
       old = c.loop-at.invariant.sums;
-      copies = λ _. copied_here p (waiting c.loop-at.rows) c.loop-at.at within c.loop-at.here c.copies_here-copies.result c.loop-at.invariant.pass c.copies_here-copies.ensures;
+      known = λ _. bounded_here p (waiting c.loop-at.rows) c.loop-at.at within c.loop-at.here c.bounds_here-known.result c.loop-at.invariant.pass c.bounds_here-known.ensures;
     }
 
 pub loop-at-preserved : goal.loop-at-preserved

@@ -5,7 +5,7 @@ use Rattle.memory.specs.declared.profile.Profile.TheVariants.{First, Second}
 use Rattle.value_names.specs.Led.{is_slot, leads_before}
 use Rattle.value_names.specs.Courses.{Follows}
 use Rattle.verifier.specs.Candidates.{program_in}
-use Rattle.verifier.specs.Naming.{copies_at}
+use Rattle.verifier.specs.Naming.{bounds_at}
 use Rattle.verifier.specs.Table.{table}
 use Rattle.verifier.proofs.Noted.{led_on, sum_on, if_ok}
 use Rattle.verifier.proofs.sums.Sums.advance.Goals as goal
@@ -31,7 +31,7 @@ returns-in-Second c =
     let code = c.args.program.now.image.code.items in
     let at = c.args.at in
     let x = c.index-insn.result.now in
-    let copies = copies_at p (table p) in
+    let known = bounds_at p (table p) in
     let insn = slice_get_read code c.args.program.now.image.code.len at x c.args.program.now.image.code.ok.0 (omega (arith, c.requires.within, c.args.program.now.image.code.ok.0)) c.index-insn.ensures in
     let led : (k : ℕ) → k < length code + 1 → slice_get c.note.new.led.items k ≡ Some (leads_before code (at + 1) k) = λ k lt. c.note.ensures.noted k (leads_before code at k) (c.requires.old.led k lt) ∙ ap Some (ap (λ o. is_slot k o || leads_before code at k) c.target_of.ensures ∙ led_on code at k x insn) in
     let here = same_Some _ _ (sym (slice_get_read c.note.new.led.items c.note.new.led.len (at + 1) c.index.result.now c.note.new.led.ok.0 (omega (arith, c.requires.within, c.note.ensures.long, c.requires.old.long)) c.index.ensures) ∙ led (at + 1) (omega (arith, c.requires.within))) in
@@ -42,6 +42,6 @@ returns-in-Second c =
       sum = c.sum_on-self.ensures ∙ sum_on code at x c.index.result.now c.args.self.now.sum insn here c.requires.old.sum;
       names = λ is.
           let old = c.requires.old.names is in
-          subst (λ n. Follows code copies n (at + 1) c.advance.new.self) old.long (on code copies insn (c.requires.copies is) (subst (λ n. Follows code copies n at c.args.self.now.names) (sym old.long) old));
+          subst (λ n. Follows code known n (at + 1) c.advance.new.self) old.long (on code known insn (c.requires.known is) (subst (λ n. Follows code known n at c.args.self.now.names) (sym old.long) old));
     })
     c.advance.ensures
