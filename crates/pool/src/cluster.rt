@@ -15,7 +15,7 @@ use stamps::{Card, STAMPS_EACH, Stamps};
 use std::alloc::{AllocError, Global};
 use std::marker::{Model, PhantomData};
 use std::sync::{Mutex, Wait};
-use vnode::{Seed, Vnode, VnodeFault, in_order};
+use vnode::{Names, Seed, Vnode, VnodeFault, in_order};
 use vnode_locks::{
     CallFault, GatherFault, Locked, Pass, Receipt, Room, deal_passes, deal_vnodes, gathered,
 };
@@ -119,20 +119,20 @@ impl<B: Room> Cluster<B> {
         ensures ok { IfOk result (λ keys. AreKeysOf self.now pass.old vnode keys.items) }
     {
         let unsorted = self.unsorted_keys(rt, pass, vnode)?;
-        let keys = in_order(self.alloc, unsorted)?;
+        let keys = in_order(self.alloc, &unsorted)?;
         Ok(keys)
     }
 
-    // The same in any order. Others that call the vnode wait no longer than it takes to copy them.
+    // The same in any order, most of them shared with the vnode: so others that call it don't wait until they are copied.
     fn unsorted_keys<R: Wait>(
         &self,
         rt: &R,
         pass: &mut Pass<B>,
         vnode: usize,
-    ) -> Result<Vec<Key>, AllocError>
+    ) -> Result<Names, AllocError>
         requires { vnode < self.now.vnodes }
         ensures same { (pass.new.told ≡ pass.old.told) × (pass.new.drawn ≡ pass.old.drawn) }
-        ensures ok { IfOk result (λ keys. AreUnsortedOf self.now pass.old vnode keys.items) }
+        ensures ok { IfOk result (λ names. AreUnsortedOf self.now pass.old vnode names.keys) }
     {
         let mut guard = self.vnodes[vnode].lock(rt);
         guard.unsorted_keys(&self.stamps, pass, self.first + vnode as u32)

@@ -1,6 +1,5 @@
 -- All that a vnode knows, read at once.
-use Rattle.std.proofs.Common.{◌≡◌, ℕ, ◌+◌, ◌<◌, ◌≤◌, Bool, true, false, cond, List, [], ◌∷◌, ◌++◌, map, length, get_or, take, refl, sym, ap, subst, ◌∙◌, arith, append_assoc, length-append}
-use Rattle.std.specs.Prelude.{filter, not, ◌==◌}
+use Rattle.std.proofs.Common.{◌≡◌, ℕ, ◌+◌, ◌<◌, ◌≤◌, List, [], ◌∷◌, ◌++◌, length, get_or, take, refl, sym, ap, subst, ◌∙◌, arith, append_assoc, length-append}
 use Rattle.std.specs.List.{All}
 use Rattle.std.specs.List.Sorted.{IsPermutation, IsSorted, IsStrictlySortedBy}
 use Rattle.std.proofs.lemmas.List.{append-nil, take_more, length-map, length-take-le, map-append}
@@ -8,7 +7,6 @@ use Rattle.std.proofs.lemmas.List.Elements.{All-weaker}
 use Rattle.std.proofs.lemmas.List.Sorted.{IsPermutation-sym, Contains-permutation, length_permutation}
 use Rattle.std.proofs.lemmas.Map.Keys.{IsDistinct-IsPermutation}
 use Rattle.object.specs.declared.content.Key.{Key}
-use Rattle.object.specs.State.{State}
 use Rattle.journal.specs.Entry.{Entry, Read}
 use Rattle.journal.specs.Keys.{key_cmp}
 use Rattle.journal.specs.Logs.{Log, with_entry, with_entries, max_entries}
@@ -16,8 +14,10 @@ use Rattle.journal.specs.Replay.{IsReplay}
 use Rattle.vnode.specs.declared.steps.Copied.{Copied}
 use Rattle.vnode.specs.Keys.{AreKeys, AreUnsorted, reads_of}
 use Rattle.vnode.specs.declared.states.States.{States}
-use Rattle.vnode.specs.States.{key_eq, state_at, Replays, known_keys, all_known, AreKnown, AreCopied, keys_of}
-use Rattle.vnode.proofs.Listed.{known_is_key, key_is_known, known_distinct}
+use Rattle.vnode.specs.declared.states.Spread.{Spread}
+use Rattle.vnode.specs.declared.states.Spread.TheVariants.{One, Many}
+use Rattle.vnode.specs.States.{key_eq, state_at, Replays, all_known, listed_by, listed, AreKnown, AreCopied, keys_of}
+use Rattle.vnode.proofs.Listed.{known_is_key, key_is_known, named_is_key, key_is_named, known_distinct}
 use Rattle.vnode.proofs.Mapped.{key_laws}
 use Rattle.vnode.proofs.Sorted.{sorted_rises, known_rises}
 use Rattle.vnode.proofs.Stepped.{read_kept}
@@ -36,12 +36,21 @@ are_keys states log keys h moves rising = record {
 pub known_are_keys : (states : States) (log : Log) (keys : List Key) → Replays states log → AreKnown states keys → AreKeys log keys
 known_are_keys states log keys h known = are_keys states log keys h known.each (known_rises states keys h.placed known)
 
--- as they lie in the shards they are so, too, in some order
-pub are_unsorted : (states : States) (log : Log) (keys : List Key) → Replays states log → keys ≡ all_known states → AreUnsorted log keys
-are_unsorted states log keys h is = subst (AreUnsorted log) (sym is) (record {
-  each = λ k. (known_is_key states log k h, key_is_known states log k h);
-  once = known_distinct states h.placed;
-})
+-- as they are listed they are so, too, in some order
+pub are_unsorted : (states : States) (log : Log) (keys : List Key) → Replays states log → keys ≡ listed states → AreUnsorted log keys
+are_unsorted states log keys h is = subst (AreUnsorted log) (sym is) (by_spread states.spread refl)
+  where
+    by_spread : (spread : Spread) → states.spread ≡ spread → AreUnsorted log (listed_by spread states)
+    by_spread One one = record {
+      each = λ k. (known_is_key states log k h, key_is_known states log k h);
+      once = known_distinct states h.placed;
+    }
+    by_spread Many many =
+        let named = h.placed.named many in
+        record {
+          each = λ k. (named_is_key states log k h named, key_is_named states log k h named);
+          once = named.once;
+        }
 
 -- and once they are sorted they stand in the order of bytes
 pub sorted_unsorted : (log : Log) (keys sorted : List Key) → AreUnsorted log keys → IsPermutation keys sorted → IsSorted key_cmp sorted → AreKeys log sorted
@@ -90,12 +99,3 @@ reads_kept states log after stamp (key ∷ keys) fits h is =
     reads_kept states (with_entry log (Read stamp key)) after (stamp + 1) keys (let more = length-append log.entries (Read stamp key ∷ []) in omega (arith, more, fits))
     (read_kept states log (with_entry log (Read stamp key)) stamp key (omega (arith, fits)) h refl)
     (is ∙ ap (λ es. record { vnode = log.vnode; entries = es }) (sym (append_assoc log.entries (Read stamp key ∷ []) (reads_of (stamp + 1) keys))))
-
--- no more keys are known than there are entries
-pub known_few : (es : List (Key × State)) → length (known_keys es) ≤ length es
-known_few [] = omega arith
-known_few (e ∷ es) = split (not (length e.1.clock == 0)) (known_few es)
-  where
-    split : (b : Bool) → length (known_keys es) ≤ length es → length (map (λ e. e.0) (cond b (e ∷ filter (λ e. not (length e.1.clock == 0)) es) (filter (λ e. not (length e.1.clock == 0)) es))) ≤ length (e ∷ es)
-    split true le = omega (arith, le)
-    split false le = omega (arith, le)

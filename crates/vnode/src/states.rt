@@ -1,12 +1,13 @@
 //! The states of a vnode's keys, in shards that grow one by one.
 
-ghost use Rattle.std.specs.Prelude.{◌≡◌, ◌<◌, ◌≤◌, false, length, option_map, IfSome, IsTrue, OnOk, OnErr};
+ghost use Rattle.std.specs.Prelude.{◌≡◌, ◌<◌, ◌≤◌, ◌-◌, ◌^◌, false, None, length, min, option_map, IfSome, IsTrue, OnOk, OnErr};
 ghost use Rattle.std.specs.Option.{option_copied};
 ghost use Rattle.object.specs.declared.content.Key.{Key};
 ghost use Rattle.object.specs.State.{empty};
 ghost use Rattle.journal.specs.Keys.{same_key};
-ghost use Rattle.vnode.specs.States.{AreInPlace, count_of, found_at, key_eq, place, state_at};
+ghost use Rattle.vnode.specs.States.{AreInPlace, IsSomeKnown, all_known, count_of, found_at, key_eq, place, state_at};
 
+use crate::names::Names;
 use crate::seed::Seed;
 use object::{Key, Stored};
 use std::alloc::{AllocError, Global};
@@ -42,15 +43,17 @@ impl Spread {
 /// The states of some of the keys, each found by its key's hash. They lie in no order that means anything.
 pub(crate) type Shard = HashMap<Key, Stored, Seed>;
 
-/// The state of each key. Each lies in the shard that the key's hash picks, and a shard grows on its own: no growth moves the keys of
-/// another.
+/// The state of each key at which something is known. Each lies in the shard that the key's hash picks, and a shard grows on its own: no
+/// growth moves the keys of another.
 #[derive(Drop)]
 pub(crate) struct States {
     alloc: Global,
     seed: Seed,
-    spread: Spread,
+    pub(crate) spread: Spread,
     // None of them before the first state is kept.
     pub(crate) shards: Vec<Shard>,
+    // Where there are many shards their keys, too, so that they are listed in next to no time. Else none.
+    pub(crate) names: Names,
 }
 
 impl States {
@@ -64,6 +67,7 @@ impl States {
             seed,
             spread,
             shards: Vec::new(alloc),
+            names: Names::new(alloc),
         }
     }
 
@@ -101,14 +105,19 @@ impl States {
     }
 
     /// How many states are kept, as far as a number reaches.
-    pub(crate) fn len(&self) -> usize {
-        let lens = self.shards.iter().map(|shard| shard.len());
-        lens.fold(0, |all: usize, len| all.saturating_add(len))
+    pub(crate) fn len(&self) -> usize
+        ensures { result ≡ min (length (all_known self.now)) (2 ^ 64 - 1) }
+    {
+        let mut count: usize = 0;
+        for shard in &self.shards {
+            count = count.saturating_add(shard.len());
+        }
+        count
     }
 
     // Makes the shards that lack.
     fn make_shards(&mut self) -> Result<(), AllocError>
-        ensures same { (q : Key) → state_at self.new q ≡ state_at self.old q }
+        ensures same { (q : Key) → found_at self.new q ≡ found_at self.old q }
         ensures placed { AreInPlace self.old → AreInPlace self.new }
         ensures seed { self.new.seed ≡ self.old.seed }
         ensures spread { self.new.spread ≡ self.old.spread }
@@ -123,17 +132,43 @@ impl States {
         Ok(())
     }
 
-    /// Keeps a state as the key's, in the shard `at`: the one where [`place_of`](States::place_of) says that the key lies.
+    // Keeps a state as the key's in the shard `at`, and names the key.
+    fn insert_named(&mut self, at: usize, key: Key, state: Stored) -> Result<(), AllocError>
+        requires place { at ≡ place self.old key }
+        requires within { at < length self.old.shards.items }
+        requires known { IsSomeKnown state }
+        requires absent { found_at self.old key ≡ None }
+        ensures here { OnOk result (state_at self.new key ≡ state) }
+        ensures others { OnOk result ((q : Key) → same_key key q ≡ false → state_at self.new q ≡ state_at self.old q) }
+        ensures err { OnErr result ((q : Key) → state_at self.new q ≡ state_at self.old q) }
+        ensures placed { AreInPlace self.old → AreInPlace self.new }
+    {
+        let name = key.copy()?;
+        self.names.reserve()?;
+        let _ = self.shards[at].insert(key, state)?;
+        self.names.append(name);
+        Ok(())
+    }
+
+    /// Keeps a state, at which something is known, as that of a key that has none, in the shard `at`: the one where
+    /// [`place_of`](States::place_of) says that the key lies.
     pub(crate) fn insert(&mut self, at: usize, key: Key, state: Stored) -> Result<(), AllocError>
         requires place { at ≡ place self.old key }
         requires within { at < count_of self.old.spread }
+        requires known { IsSomeKnown state }
+        requires absent { found_at self.old key ≡ None }
         ensures here { OnOk result (state_at self.new key ≡ state) }
         ensures others { OnOk result ((q : Key) → same_key key q ≡ false → state_at self.new q ≡ state_at self.old q) }
         ensures err { OnErr result ((q : Key) → state_at self.new q ≡ state_at self.old q) }
         ensures placed { AreInPlace self.old → AreInPlace self.new }
     {
         self.make_shards()?;
-        let _ = self.shards[at].insert(key, state)?;
-        Ok(())
+        match self.spread {
+            Spread::One => {
+                let _ = self.shards[at].insert(key, state)?;
+                Ok(())
+            }
+            Spread::Many => self.insert_named(at, key, state),
+        }
     }
 }

@@ -3,11 +3,12 @@
 ghost use Rattle.std.specs.Prelude.{◌≡◌, ◌≢◌, ◌↔◌, Contains, IsTrue, OnOk, OnErr, IfOk, IfErr, [], false, length, Err, List, ◌+◌, ◌^◌, ◌≤◌, ◌<◌, ◌⊎◌, All};
 
 use crate::fault::{PartFault, VnodeFault};
+use crate::names::Names;
 use crate::parts::{make_whole, merged_part_of, part_refusal_at, summary_at};
 use crate::seed::Seed;
 use crate::states::{Spread, States};
 use crate::steps::{
-    Copied, Placed, copies_at, copy_at, has_places_for, is_at, keys_in, known_in, merge_at,
+    Copied, Placed, copies_at, copy_at, has_places_for, is_at, keys_in, listed_in, merge_at,
     merge_refusal_at, merged_of, put_at, put_refusal_at, read_all_at, write_of,
 };
 use dvv::{Clock, Dot};
@@ -107,10 +108,10 @@ impl Vnode {
     }
 
     /// The keys at which something is known, in any order: [`in_order`] sorts them, where nobody waits for the vnode.
-    pub fn unsorted_keys(&self) -> Result<Vec<Key>, AllocError>
-        ensures { IfOk result (λ keys. AreUnsorted self.now keys.items) }
+    pub fn unsorted_keys(&self) -> Result<Names, AllocError>
+        ensures { IfOk result (λ names. AreUnsorted self.now names.keys) }
     {
-        known_in(self.alloc, &self.states)
+        listed_in(self.alloc, &self.states)
     }
 
     /// The keys at which something is known, in the order of bytes.

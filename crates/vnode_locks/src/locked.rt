@@ -15,11 +15,10 @@ use crate::fault::{CallFault, Receipt};
 use crate::pass::{Pass, Room};
 use calls::{Prepared, Reply, answer};
 use journal::{Entry, Handout};
-use object::Key;
 use stamps::{Asking, Card, Stamps};
 use std::alloc::AllocError;
 use std::marker::{Brand, Model, PhantomData};
-use vnode::{PartFault, Vnode, VnodeFault};
+use vnode::{Names, PartFault, Vnode, VnodeFault};
 
 // The vnode's card takes in what the pass knows.
 fn lend(stamps: &Stamps, card: &mut Card, pass: &mut Card)
@@ -171,7 +170,7 @@ fn look(
     vnode: &Vnode,
     card: &mut Card,
     pass: &mut Card,
-) -> Result<Vec<Key>, AllocError>
+) -> Result<Names, AllocError>
     requires table { (card.old.table_id ≡ stamps.now.table.shared.table_id) × (pass.old.table_id ≡ stamps.now.table.shared.table_id) }
     requires vnode { IsVnodes vnode.now card.old.me.0 }
     requires pass { pass.old.me.0 ≡ pass_view pass.old.me.0.drawn pass.old.me.0.told }
@@ -179,7 +178,7 @@ fn look(
     ensures vnode { IsVnodes vnode.now card.new.me.0 }
     ensures pass { pass.new.me ≡ (pass_view pass.old.me.0.drawn pass.old.me.0.told, pass.old.me.1) }
     ensures within { IsWithin vnode.now.vnode (length vnode.now.entries) pass.old.me.0.told }
-    ensures keys { IfOk result (λ keys. AreUnsorted vnode.now keys.items) }
+    ensures keys { IfOk result (λ names. AreUnsorted vnode.now names.keys) }
 {
     lend(stamps, card, pass);
     stamps.look(card);
@@ -220,10 +219,10 @@ impl<B: Room> Locked<B> {
         stamps: &Stamps,
         pass: &mut Pass<B>,
         id: u32,
-    ) -> Result<Vec<Key>, AllocError>
+    ) -> Result<Names, AllocError>
         requires { stamps.now.table.shared.table_id ≡ B.table }
         ensures same { (pass.new.told ≡ pass.old.told) × (pass.new.drawn ≡ pass.old.drawn) }
-        ensures ok { IfOk result (λ keys. (front : List Entered) × IsJournal id front × AreUnsorted (log_of id front) keys.items × IsWithin id (length front) pass.old.told) }
+        ensures ok { IfOk result (λ names. (front : List Entered) × IsJournal id front × AreUnsorted (log_of id front) names.keys × IsWithin id (length front) pass.old.told) }
     {
         let Locked { vnode, card, .. } = self;
         // As in `make`.

@@ -1,0 +1,24 @@
+-- The keys of a vnode in the order in which they came, in blocks of which the last alone may have room.
+use Rattle.std.specs.Prelude.{ℕ, List, ◌++◌}
+use Rattle.std.specs.List.{flat_map}
+use Rattle.std.specs.Global.{Global, Vec}
+use Rattle.std.specs.declared.sync.Arc.{Arc}
+use Rattle.std.specs.Arc.{arc_value}
+use Rattle.object.specs.declared.content.Key.{Key}
+
+-- the keys of a block
+abbrev pub keys_in : Arc (Vec Key) Global → List Key
+keys_in block = let keys : Vec Key = arc_value block in keys.items
+
+-- those of some blocks
+abbrev pub all_of : List (Arc (Vec Key) Global) → List Key
+all_of blocks = flat_map keys_in blocks
+
+-- those of full blocks and of the one behind them
+abbrev pub named_in : List (Arc (Vec Key) Global) → List Key → List Key
+named_in full last = all_of full ++ last
+
+-- keys, and how many can be added before room has to grow
+pub record Named : Type 0 where
+  pub keys : List Key
+  pub room : ℕ
