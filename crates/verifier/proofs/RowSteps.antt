@@ -1,5 +1,5 @@
 -- Rows that change at one register, and rows joined from the front.
-use Rattle.std.proofs.Common.{◌≡◌, ℕ, zero, suc, ◌+◌, ◌<◌, ◌≤◌, List, [], ◌∷◌, ◌++◌, length, get_or, set, take, drop, Option, refl, ap, ◌∙◌, subst, arith, add-one}
+use Rattle.std.proofs.Common.{◌≡◌, ℕ, zero, suc, ◌+◌, ◌-◌, ◌<◌, ◌≤◌, List, [], ◌∷◌, ◌++◌, length, get_or, set, take, drop, Option, refl, ap, ◌∙◌, subst, arith, add-one}
 use Rattle.ranges.specs.Kinds.{IsKind}
 use Rattle.ranges.specs.Transfer.{join_of}
 use Rattle.memory.specs.declared.profile.Profile.{Profile}
@@ -7,7 +7,8 @@ use Rattle.ranges.specs.declared.kind.Kind.{Kind}
 use Rattle.ranges.specs.declared.kind.Kind.TheVariants.{Unset}
 use Rattle.verifier.specs.Registers.{Row}
 use Rattle.verifier.specs.Table.{join_rows, joined, AreKinds}
-use Rattle.verifier.specs.Rows.{row_at, HasKinds, AreRowKinds}
+use Rattle.verifier.specs.Rows.{row_at, AreAlike, HasKinds, AreRowKinds}
+use Rattle.std.proofs.lemmas.List.{append-nil, length-drop, take_all}
 use Rattle.std.proofs.lemmas.Option.{same_Some}
 
 -- ---- kinds stay kinds
@@ -115,3 +116,25 @@ read_row rows k o h e = e ∙ row_is rows k o h
 
 pub pushed_at : (profile : Profile) (rows : List (Option Row)) (k : ℕ) (o next : Option Row) (row : Row) → k < length rows → o ≡ get_or rows k o → next ≡ joined profile o row → set rows k next ≡ set rows k (joined profile (row_at rows k) row)
 pushed_at profile rows k o next row h e n = ap (set rows k) (n ∙ ap (λ q. joined profile q row) (e ∙ row_is rows k o h))
+
+-- ---- copies
+
+-- the kinds before one place and those from another on are copied, and those between are the same
+copied_from : (n low : ℕ) (row into : Row) → n ≤ low → low ≤ length row → length into ≡ length row → ((i : ℕ) → n ≤ i → i < low → get_or into i Unset ≡ get_or row i Unset) → take low (take n row ++ drop n into) ++ drop low row ≡ row
+copied_from zero zero row into nl lr same h = refl
+copied_from zero (suc low) [] into nl lr same h = absurd (omega (arith, lr))
+copied_from zero (suc low) (x ∷ row) [] nl lr same h = absurd (omega (arith, same))
+copied_from zero (suc low) (x ∷ row) (y ∷ into) nl lr same h =
+    ap (λ k. k ∷ take low into ++ drop low row) (h zero (omega arith) (omega arith))
+    ∙ ap (λ ks. x ∷ ks) (copied_from zero low row into (omega arith) (omega (arith, lr)) (omega (arith, same)) (λ i ge lt. h (suc i) (omega arith) (omega (arith, lt))))
+copied_from (suc n) zero row into nl lr same h = absurd (omega (arith, nl))
+copied_from (suc n) (suc low) [] into nl lr same h = absurd (omega (arith, lr))
+copied_from (suc n) (suc low) (x ∷ row) [] nl lr same h = absurd (omega (arith, same))
+copied_from (suc n) (suc low) (x ∷ row) (y ∷ into) nl lr same h =
+    ap (λ ks. x ∷ ks) (copied_from n low row into (omega (arith, nl)) (omega (arith, lr)) (omega (arith, same)) (λ i ge lt. h (suc i) (omega (arith, ge)) (omega (arith, lt))))
+
+pub copied : (low k : ℕ) (row into first rest : Row) → 11 ≤ low → low ≤ length row → length into ≡ length row → length row - low ≤ k → AreAlike low into row → first ≡ take 11 row → rest ≡ take k (drop low row) → take low (first ++ drop 11 into) ++ (rest ++ []) ≡ row
+copied low k row into first rest ge lr same le alike f r =
+    ap (λ ys. take low (ys ++ drop 11 into) ++ (rest ++ [])) f
+    ∙ ap (λ ys. take low (take 11 row ++ drop 11 into) ++ ys) (append-nil rest ∙ r ∙ take_all k (drop low row) (omega (arith, length-drop low row, le)))
+    ∙ copied_from 11 low row into ge lr same alike

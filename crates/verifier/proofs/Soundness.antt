@@ -1,14 +1,12 @@
 -- A formed program of which no slot breaks a rule is safe.
 use Rattle.std.proofs.Common.{◌≡◌, ◌≢◌, ℕ, zero, suc, ℤ, pos, negsuc, ◌*◌, ◌<◌, ◌≤◌, true, false, eqb, List, [], ◌∷◌, ◌++◌, length, take, drop, Option, Some, None, refl, sym, ap, ◌∙◌, subst, inl, inr, ⊎_elim, arith, length-set, length-drop}
-use Rattle.std.specs.Prelude.{◌^◌, slice_get, slice_index_or, replicate}
+use Rattle.std.specs.Prelude.{slice_get, slice_index_or, replicate}
 use Rattle.std.proofs.lemmas.List.{length-replicate}
 use Rattle.std.proofs.lemmas.Int.{ints}
 use Rattle.std.proofs.lemmas.Bool.{cond_both, cases_lt, cases_eq}
 use Rattle.std.proofs.lemmas.Option.{slice_get_within, slice_get_past, same_Some}
 use Rattle.alu.specs.Value.{wrapped}
 use Rattle.insn.specs.Encoding.{number, size_bytes, IsInstruction}
-use Rattle.alu.specs.declared.Op.TheVariants as op
-use Rattle.alu.specs.declared.Width.TheVariants.{W32}
 use Rattle.insn.specs.declared.Size.{Size}
 use Rattle.insn.specs.declared.Extend.{Extend}
 use Rattle.insn.specs.declared.Extend.TheVariants.{Zero, Sign}

@@ -8,9 +8,10 @@ use Rattle.memory.specs.declared.profile.Profile.{Profile}
 use Rattle.verifier.specs.declared.waiting.Held.{Held}
 use Rattle.verifier.specs.declared.waiting.Waiting.{Waiting}
 use Rattle.verifier.specs.Registers.{Row}
-use Rattle.verifier.specs.Rows.{row_at, IsKnown, HasKinds, AreRowKinds}
-use Rattle.verifier.specs.Waiting.{owner_of, owner_at, owned_by, held_for, waiting_from, waiting, AreOwned, IsPool}
+use Rattle.verifier.specs.Rows.{row_at, StartsZero, AreAlike, IsKnown, HasKinds, AreRowKinds}
+use Rattle.verifier.specs.Waiting.{owner_of, owner_at, owned_by, held_for, waiting_from, waiting, AreOwned, StartZero, IsPool}
 use Rattle.verifier.proofs.Tables.{row_there}
+use Rattle.verifier.proofs.Zeros.{fewer_zeros, zeros_alike}
 
 pub length_waiting : {N : ℕ} (s : ℕ) (places : List ℕ) (rows : List (Held N)) → length (waiting_from s places rows) ≡ length places
 length_waiting s [] rows = refl
@@ -222,11 +223,43 @@ owned_kept rows free place held h lt same q le =
     elsewhere (r ∷ rows) (suc place) zero held ne = refl
     elsewhere (r ∷ rows) (suc place) (suc q) held ne = elsewhere rows place q held (λ e. ne (ap suc e))
 
+module _ (profile : Profile) (low : ℕ) where
+  -- rows that are held begin with zeros: where none is, where one is set, and where there is one more
+  pub none_zeros : {N : ℕ} (rows : List (Held N)) → rows ≡ [] → StartZero profile low rows
+  none_zeros [] e place held got = cc
+  none_zeros (r ∷ rows) e place held got = cc
+
+  pub zeros_set : {N : ℕ} (rows : List (Held N)) (place : ℕ) (held : Held N) → StartZero profile low rows → StartsZero profile low held.kinds → StartZero profile low (set rows place held)
+  zeros_set [] place held h z q other e = h q other e
+  zeros_set (r ∷ rows) zero held h z zero other e = subst (λ o. StartsZero profile low o.kinds) (same_Some _ _ e) z
+  zeros_set (r ∷ rows) zero held h z (suc q) other e = h (suc q) other e
+  zeros_set (r ∷ rows) (suc place) held h z zero other e = h zero other e
+  zeros_set (r ∷ rows) (suc place) held h z (suc q) other e = zeros_set rows place held (λ i o. h (suc i) o) z q other e
+
+  pub zeros_more : {N : ℕ} (rows : List (Held N)) (held : Held N) → StartZero profile low rows → StartsZero profile low held.kinds → StartZero profile low (rows ++ held ∷ [])
+  zeros_more [] held h z zero other e = subst (λ o. StartsZero profile low o.kinds) (same_Some _ _ e) z
+  zeros_more [] held h z (suc q) other e = cc
+  zeros_more (r ∷ rows) held h z zero other e = h zero other e
+  zeros_more (r ∷ rows) held h z (suc q) other e = zeros_more rows held (λ i o. h (suc i) o) z q other e
+
+  -- where one is read
+  pub zeros_read : {N : ℕ} (rows : List (Held N)) (place : ℕ) (held : Held N) → StartZero profile low rows → place < length rows → held ≡ get_or rows place held → StartsZero profile low held.kinds
+  zeros_read rows place held h lt e = h place held (slice_get_read rows (length rows) place held refl lt e)
+
+  -- before a lower place
+  pub zeros_below : {N : ℕ} (less : ℕ) (rows : List (Held N)) → less ≤ low → StartZero profile low rows → StartZero profile less rows
+  zeros_below less rows le h place held e = fewer_zeros profile low less held.kinds le (h place held e)
+
+  -- a row that begins with zeros is like each of them there
+  pub all_alike : {N : ℕ} (rows : List (Held N)) (row : Row) → StartZero profile low rows → StartsZero profile low row → (place : ℕ) (held : Held N) → slice_get rows place ≡ Some held → AreAlike low held.kinds row
+  all_alike rows row h z place held e = zeros_alike profile low held.kinds row (h place held e) z
+
 -- a pool after a row was set, with the same zeros
-pub pool_moved : {N : ℕ} (profile : Profile) (w w' : Waiting N) → w'.low ≡ w.low → AreOwned w'.held.items w'.free → AreRowKinds profile w.low (waiting w') → IsPool profile w → IsPool profile w'
-pool_moved {N} profile w w' e owned kinds pool = record {
+pub pool_moved : {N : ℕ} (profile : Profile) (w w' : Waiting N) → w'.low ≡ w.low → AreOwned w'.held.items w'.free → StartZero profile w.low w'.held.items → AreRowKinds profile w.low (waiting w') → IsPool profile w → IsPool profile w'
+pool_moved {N} profile w w' e owned zeros kinds pool = record {
   kinds = subst (λ l. AreRowKinds profile l (waiting w')) (sym e) kinds;
   owned = owned;
+  zeros = subst (λ l. StartZero profile l w'.held.items) (sym e) zeros;
   registers = subst (λ l. 11 ≤ l) (sym e) pool.registers;
   short = subst (λ l. l ≤ N) (sym e) pool.short;
 }

@@ -23,7 +23,7 @@ use Rattle.verifier.specs.Cells.{is_touched, touched, cells_touched, row_touched
 use Rattle.verifier.specs.Answered.{answer_kind, row_after_call}
 use Rattle.verifier.specs.Rules.{row_after, row_taken, refined}
 use Rattle.verifier.specs.Table.{join_rows}
-use Rattle.verifier.specs.Rows.{StartsZero, IsKnown, HasKinds, AreRowKinds}
+use Rattle.verifier.specs.Rows.{StartsZero, AreAlike, IsKnown, HasKinds, AreRowKinds}
 use Rattle.value_names.proofs.Slots.{number_small}
 use Rattle.verifier.proofs.StackCells.{put_first, first_row}
 use Rattle.verifier.proofs.CellSteps.{part_is}
@@ -129,6 +129,10 @@ cells_joined profile low a b row ge = join_cells profile low (low - 11) low a b 
 
 pub cells_onto : (profile : Profile) (low : ℕ) (a b row : Row) → 11 ≤ low → low ≤ length a → low ≤ length b → StartsZero profile low a → StartsZero profile low b → row ≡ join_rows profile (take 11 a) (take 11 b) ++ drop 11 b → row ≡ join_rows profile (take low a) (take low b) ++ drop low b
 cells_onto profile low a b row ge = onto_cells profile low (low - 11) low a b row (omega (arith, ge)) (omega arith)
+
+-- two rows that begin with zeros are alike there
+pub zeros_alike : (profile : Profile) (low : ℕ) (a b : Row) → StartsZero profile low a → StartsZero profile low b → AreAlike low a b
+zeros_alike profile low a b za zb i ge lt = za i ge lt ∙ sym (zb i ge lt)
 
 -- ---- a lower place
 

@@ -38,6 +38,10 @@ Misses k (e ∷ es) = (e.0 ≢ k) × Misses k es
 abbrev pub StartsZero : Profile → ℕ → Row → Type 0
 StartsZero profile low row = (i : ℕ) → 11 ≤ i → i < low → slice_index_or row i Unset ≡ one_number profile 0
 
+-- two rows have the same cells before a place
+abbrev pub AreAlike : ℕ → Row → Row → Type 0
+AreAlike low a b = (i : ℕ) → 11 ≤ i → i < low → slice_index_or a i Unset ≡ slice_index_or b i Unset
+
 -- a row of the pass: every kind of it may stand in it, and the cells before a place are the zero
 pub record IsKnown (profile : Profile) (low : ℕ) (row : Row) : Type 0 where
   pub kinds : AreKinds row

@@ -1,8 +1,8 @@
 -- Rows that wait for slots: a slot's row is the one at its place, where that one waits for this slot.
-use Rattle.std.specs.Prelude.{◌≢◌, ℕ, suc, ◌<◌, ◌≤◌, ◌==◌, if◌then◌else◌, List, [], ◌∷◌, Option, Some, None, slice_get}
+use Rattle.std.specs.Prelude.{◌≡◌, ◌≢◌, ℕ, suc, ◌<◌, ◌≤◌, ◌==◌, if◌then◌else◌, List, [], ◌∷◌, Option, Some, None, slice_get}
 use Rattle.memory.specs.declared.profile.Profile.{Profile}
 use Rattle.verifier.specs.Registers.{Row}
-use Rattle.verifier.specs.Rows.{AreRowKinds}
+use Rattle.verifier.specs.Rows.{StartsZero, AreRowKinds}
 use Rattle.verifier.specs.declared.waiting.Held.{Held}
 use Rattle.verifier.specs.declared.waiting.Waiting.{Waiting}
 
@@ -38,9 +38,15 @@ waiting w = waiting_from 0 w.places.items w.held.items
 abbrev pub AreOwned : {N : ℕ} → List (Held N) → ℕ → Type 0
 AreOwned rows n = (place : ℕ) → place < n → owner_at rows place ≢ None
 
--- The rows that wait: known, with the zero in each cell before a place; and no free place before that from which one is sought.
+-- each row that is held, for a slot or for none, has the zero in each cell before a place
+abbrev pub StartZero : {N : ℕ} → Profile → ℕ → List (Held N) → Type 0
+StartZero {N} profile low rows = (place : ℕ) (held : Held N) → slice_get rows place ≡ Some held → StartsZero profile low held.kinds
+
+-- The rows that wait: known, with the zero in each cell before a place, as in those that wait no more; and no free place before that
+-- from which one is sought.
 pub record IsPool {N : ℕ} (profile : Profile) (w : Waiting N) : Type 0 where
   pub kinds : AreRowKinds profile w.low (waiting w)
   pub owned : AreOwned w.held.items w.free
+  pub zeros : StartZero profile w.low w.held.items
   pub registers : 11 ≤ w.low
   pub short : w.low ≤ N

@@ -8,7 +8,7 @@ ghost use Rattle.verifier.specs.Table.{join_rows, joined, next_edge, target_edge
 ghost use Rattle.verifier.specs.Registers.{one_number};
 ghost use Rattle.ranges.specs.Kinds.{IsKind};
 ghost use Rattle.ranges.specs.Transfer.{join_of};
-ghost use Rattle.verifier.specs.Rows.{row_at, push_one, pushed, edge_list, LeadBelow, IsKnown, HaveKinds, HasKinds, Misses};
+ghost use Rattle.verifier.specs.Rows.{row_at, push_one, pushed, edge_list, LeadBelow, StartsZero, IsKnown, HaveKinds, HasKinds, Misses};
 ghost use Rattle.verifier.specs.Waiting.{waiting, AreOwned, IsPool};
 ghost use Rattle.memory.specs.declared.profile.Profile.{Profile};
 
@@ -134,6 +134,7 @@ pub fn take_waiting<const N: usize>(
     ensures here { here.new ≡ row_at (waiting rows.old) slot }
     ensures rows { waiting rows.new ≡ slice_set (waiting rows.old) slot None }
     ensures pool { (profile : Profile) → IsPool profile rows.old → IsPool profile rows.new }
+    ensures low { rows.new.low ≡ rows.old.low }
     ensures known { (profile : Profile) → IsPool profile rows.old → HasKinds profile rows.new.low here.new }
 {
     match rows.place_of(slot) {
@@ -168,45 +169,57 @@ fn push_edge<const N: usize>(
     }
 }
 
-/// The edge of a jump: where it leads. The kinds that it brings there are written over a row.
+/// The edge of a jump: where it leads. The kinds that it brings there are written over a row, whose cells before a place are the zero
+/// before and after.
 pub fn taken_edge<const N: usize>(
     profile: Profile,
+    low: usize,
     at: usize,
     row: &[Kind; N],
     insn: Insn,
     taken: &mut [Kind; N],
 ) -> Option<usize>
+    requires registers { 11 ≤ low }
+    requires short { low ≤ N }
     requires small { at < 4096 }
     requires ahead { (z : ℤ) → target_of at insn ≡ Some z → (k : ℕ) × (z ≡ pos k) }
-    requires kinds { AreKinds row.now }
+    requires known { IsKnown profile low row.now }
+    requires zeros { StartsZero profile low taken.old }
     ensures edge { edge_list result taken.new ≡ target_edge (target_of at insn) (row_taken profile row.now insn) }
-    ensures known { (low : ℕ) → IsKnown profile low row.now → HaveKinds profile low (edge_list result taken.new) }
+    ensures known { HaveKinds profile low (edge_list result taken.new) }
+    ensures zeros { StartsZero profile low taken.new }
 {
     match target_of(at, insn) {
         Some(target) => {
-            write_taken(profile, row, insn, taken);
+            write_taken(profile, low, row, insn, taken);
             Some(target as usize)
         }
         None => None,
     }
 }
 
-/// The edge of a jump: where it leads. The kinds that it brings there, with what names tell of them, are written over a row.
+/// The edge of a jump: where it leads. The kinds that it brings there, with what names tell of them, are written over a row, whose cells
+/// before a place are the zero before and after.
 pub fn named_edge<const N: usize>(
     profile: Profile,
+    low: usize,
     at: usize,
     row: &[Kind; N],
     insn: Insn,
     names: &[Name; 11],
     taken: &mut [Kind; N],
 ) -> Option<usize>
+    requires registers { 11 ≤ low }
+    requires short { low ≤ N }
     requires small { at < 4096 }
     requires ahead { (z : ℤ) → target_of at insn ≡ Some z → (k : ℕ) × (z ≡ pos k) }
-    requires kinds { AreKinds row.now }
+    requires known { IsKnown profile low row.now }
+    requires zeros { StartsZero profile low taken.old }
     ensures edge { edge_list result taken.new ≡ target_edge (target_of at insn) (named insn profile names.now (row_taken profile row.now insn)) }
-    ensures known { (low : ℕ) → IsKnown profile low row.now → HaveKinds profile low (edge_list result taken.new) }
+    ensures known { HaveKinds profile low (edge_list result taken.new) }
+    ensures zeros { StartsZero profile low taken.new }
 {
-    let target = taken_edge(profile, at, row, insn, taken)?;
+    let target = taken_edge(profile, low, at, row, insn, taken)?;
     tell_named(insn, profile, names, taken);
     Some(target)
 }
@@ -255,6 +268,7 @@ pub fn lead_on<const N: usize>(
     ensures rest { IfOk result (λ on. on ≡ true → waiting rows.new ≡ pushed profile (slice_set (waiting rows.old) (at + 1) None) (edge_list target taken.now)) }
     ensures all { IfOk result (λ on. on ≡ false → waiting rows.new ≡ pushed profile (waiting rows.old) (next_edge (next_of at insn) row.old ++ edge_list target taken.now)) }
     ensures pool { IfOk result (λ _. IsPool profile rows.new) }
+    ensures low { rows.new.low ≡ rows.old.low }
     ensures known { IfOk result (λ _. IsKnown profile rows.new.low row.new) }
 {
     let next = next_of(at, insn);

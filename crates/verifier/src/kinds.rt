@@ -8,7 +8,7 @@ ghost use Rattle.ranges.specs.Kinds.{IsKind};
 ghost use Rattle.verifier.specs.Registers.{kind_at, with_kind, one_number, kind_from};
 ghost use Rattle.verifier.specs.Rules.{numbers_loaded, loaded, refined, row_taken};
 ghost use Rattle.verifier.specs.Table.{AreKinds};
-ghost use Rattle.verifier.specs.Rows.{StartsZero};
+ghost use Rattle.verifier.specs.Rows.{AreAlike, StartsZero, IsKnown};
 
 use alu::{Cond, Width};
 use insn::{Extend, Insn, Operand, Register, Size};
@@ -126,18 +126,34 @@ pub fn refine_row(
     }
 }
 
+/// Copies a row over one that has the same cells before a place: these are left.
+pub fn copy_row<const N: usize>(low: usize, row: &[Kind; N], into: &mut [Kind; N])
+    requires registers { 11 ≤ low }
+    requires short { low ≤ N }
+    requires alike { AreAlike low into.old row.now }
+    ensures { into.new ≡ row.now }
+{
+    let (from, to) = (&row[..], &mut into[..]);
+    to[..11].copy_from_slice(&from[..11]);
+    to[low..].copy_from_slice(&from[low..]);
+}
+
 /// Copies the kinds to where a jump is taken, and narrows them there.
 fn copy_refined<const N: usize>(
     profile: Profile,
+    low: usize,
     row: &[Kind; N],
     insn: Insn,
     taken: &mut [Kind; N],
 )
-    requires { AreKinds row.now }
+    requires registers { 11 ≤ low }
+    requires short { low ≤ N }
+    requires alike { AreAlike low taken.old row.now }
+    requires kinds { AreKinds row.now }
     ensures table { taken.new ≡ row_taken profile row.now insn }
     ensures kinds { AreKinds taken.new }
 {
-    taken.copy_from_slice(row);
+    copy_row(low, row, taken);
     if let Insn::JumpIf {
         cond,
         width,
@@ -150,17 +166,20 @@ fn copy_refined<const N: usize>(
     }
 }
 
-/// Writes the kinds where a jump is taken. Cells that are the zero with which they begin stay so.
+/// Writes the kinds where a jump is taken over a row. Cells before a place are the zero with which they begin, in both, and stay so.
 pub fn write_taken<const N: usize>(
     profile: Profile,
+    low: usize,
     row: &[Kind; N],
     insn: Insn,
     taken: &mut [Kind; N],
 )
-    requires { AreKinds row.now }
+    requires registers { 11 ≤ low }
+    requires short { low ≤ N }
+    requires known { IsKnown profile low row.now }
+    requires zeros { StartsZero profile low taken.old }
     ensures table { taken.new ≡ row_taken profile row.now insn }
-    ensures kinds { AreKinds taken.new }
-    ensures zeros { (low : ℕ) → StartsZero profile low row.now → StartsZero profile low taken.new }
+    ensures known { IsKnown profile low taken.new }
 {
-    copy_refined(profile, row, insn, taken);
+    copy_refined(profile, low, row, insn, taken);
 }

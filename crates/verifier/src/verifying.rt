@@ -11,7 +11,7 @@ ghost use Rattle.verifier.specs.Sums.{sum_at};
 ghost use Rattle.verifier.specs.Naming.{names_in};
 ghost use Rattle.verifier.specs.PairSteps.{pairs_next, pairs_at};
 ghost use Rattle.verifier.specs.Table.{IsAccepted, IsFirstRule, AreKinds, broken_at, table};
-ghost use Rattle.verifier.specs.Rows.{IsKnown, HasKinds, IsPass, row_at};
+ghost use Rattle.verifier.specs.Rows.{StartsZero, IsKnown, HasKinds, IsPass, row_at};
 ghost use Rattle.verifier.specs.Waiting.{waiting, IsPool};
 ghost use Rattle.verifier.specs.Lowered.{AreSlots};
 ghost use Rattle.verifier.specs.Verdict.{IsRefused};
@@ -104,11 +104,13 @@ fn visit<const N: usize>(
     requires pairs { pairs.old ≡ pairs_at (program_in program.now) (table (program_in program.now)) at }
     requires pool { IsPool program.now.image.profile rows.old }
     requires here { HasKinds program.now.image.profile rows.old.low here.old }
+    requires taken { StartsZero program.now.image.profile rows.old.low taken.old }
     ensures refused { IfErr result (λ refused. IsRefused (program_in program.now) refused.rule refused.slot) }
     ensures unbroken { IfOk result (λ _. broken_at (program_in program.now) at ≡ None) }
     ensures pass { IfOk result (λ _. IsPass (program_in program.now) (waiting rows.new) here.new (at + 1)) }
     ensures pool { IfOk result (λ _. IsPool program.now.image.profile rows.new) }
     ensures here { IfOk result (λ _. HasKinds program.now.image.profile rows.new.low here.new) }
+    ensures taken { IfOk result (λ _. StartsZero program.now.image.profile rows.new.low taken.new) }
     ensures pairs { IfOk result (λ _. pairs.new ≡ pairs_next (program_in program.now) (slice_get program.now.image.code.items at) sums.now.sum (slice_get (table (program_in program.now)) at) pairs.old) }
 {
     let Some(row) = here else {
@@ -120,7 +122,7 @@ fn visit<const N: usize>(
     let callee = callee_in(&program.sigs, insn);
     let profile = program.image.profile;
     rows.low = lowered(rows.low, span_written(&callee, row, insn));
-    let target = named_edge(profile, at, row, insn, &sums.names.here, taken);
+    let target = named_edge(profile, rows.low, at, row, insn, &sums.names.here, taken);
     let over = pairs_over(insn, row, *pairs);
     if let Some(rule) = advance(program, &callee, *pairs, row, insn) {
         return Err(Refused {

@@ -1,9 +1,12 @@
 //! Rows that wait for the slots to which jumps lead.
 
-ghost use Rattle.std.specs.Prelude.{◌≡◌, ◌<◌, ◌⊎◌, IfOk, IfSome, IfNone, true, Some, None, length, replicate, slice_get, slice_set, vec_len};
-ghost use Rattle.verifier.specs.Rows.{row_at};
-ghost use Rattle.verifier.specs.Waiting.{owner_at, waiting, AreOwned};
+ghost use Rattle.std.specs.Prelude.{◌≡◌, ◌<◌, ◌≤◌, ◌⊎◌, ℕ, IfOk, IfSome, IfNone, true, Some, None, length, replicate, slice_get, slice_set, vec_len};
+ghost use Rattle.memory.specs.declared.profile.Profile.{Profile};
+ghost use Rattle.verifier.specs.Rows.{row_at, AreAlike, StartsZero};
+ghost use Rattle.verifier.specs.Waiting.{owner_at, waiting, AreOwned, StartZero};
+ghost use Rattle.verifier.specs.declared.waiting.Held.{Held};
 
+use crate::kinds::copy_row;
 use ranges::Kind;
 use std::alloc::{AllocError, Global};
 
@@ -22,7 +25,7 @@ pub struct Waiting<const N: usize> {
     pub held: Vec<Held<N>>,
     /// The rows at all places before this one wait.
     pub free: usize,
-    /// Behind the registers, the kinds of each row before this place are the zero with which cells begin.
+    /// Behind the registers, the kinds of each row before this place are the zero with which cells begin, whether it waits or not.
     pub low: usize,
 }
 
@@ -31,6 +34,7 @@ impl<const N: usize> Waiting<N> {
     pub fn new(alloc: Global, slots: usize) -> Result<Waiting<N>, AllocError>
         ensures rows { IfOk result (λ rows. waiting rows ≡ replicate slots None) }
         ensures owned { IfOk result (λ rows. AreOwned rows.held.items rows.free) }
+        ensures zeros { (profile : Profile) → IfOk result (λ rows. StartZero profile rows.low rows.held.items) }
         ensures low { IfOk result (λ rows. rows.low ≡ N) }
     {
         let places = vec![in alloc; 0; slots]?;
@@ -72,20 +76,26 @@ impl<const N: usize> Waiting<N> {
         None
     }
 
-    /// Has a copy of a row wait for a slot. A row is made for it only where each that there is waits.
+    /// Has a copy of a row wait for a slot. A row is made for it only where each that there is waits; else the cells that are the zero
+    /// in all of them aren't written again.
     pub fn wait(&mut self, slot: usize, row: &[Kind; N]) -> Result<(), AllocError>
+        requires registers { 11 ≤ self.old.low }
+        requires short { self.old.low ≤ N }
+        requires alike { (place : ℕ) (held : Held N) → slice_get self.old.held.items place ≡ Some held → AreAlike self.old.low held.kinds row.now }
         requires within { slot < length (waiting self.old) }
         requires owned { AreOwned self.old.held.items self.old.free }
         ensures rows { IfOk result (λ _. waiting self.new ≡ slice_set (waiting self.old) slot (Some row.now)) }
         ensures owned { IfOk result (λ _. AreOwned self.new.held.items self.new.free) }
+        ensures zeros { (profile : Profile) → StartZero profile self.old.low self.old.held.items → StartsZero profile self.old.low row.now → IfOk result (λ _. StartZero profile self.old.low self.new.held.items) }
         ensures low { self.new.low ≡ self.old.low }
         ensures few { IfOk result (λ _. (vec_len self.new.held ≡ vec_len self.old.held) ⊎ AreOwned self.old.held.items (vec_len self.old.held)) }
     {
+        let low = self.low;
         match self.free_place() {
             Some(place) => {
                 let held = &mut self.held[place];
                 held.owner = Some(slot);
-                held.kinds.copy_from_slice(row);
+                copy_row(low, row, &mut held.kinds);
                 self.places[slot] = place;
                 self.free = place + 1;
             }
@@ -112,6 +122,7 @@ impl<const N: usize> Waiting<N> {
         ensures rows { waiting self.new ≡ slice_set (waiting self.old) slot None }
         ensures free { owner_at self.new.held.items place ≡ None }
         ensures owned { AreOwned self.new.held.items self.new.free }
+        ensures zeros { (profile : Profile) → StartZero profile self.old.low self.old.held.items → StartZero profile self.old.low self.new.held.items }
         ensures low { self.new.low ≡ self.old.low }
     {
         self.held[place].owner = None;

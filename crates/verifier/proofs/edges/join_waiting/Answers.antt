@@ -23,7 +23,7 @@ pub returns-in-Some-clause-pool : goal.returns-in-Some-clause-pool
 returns-in-Some-clause-pool g c =
     let rows = c.args.rows.now in
     let pool = c.requires.pool in
-    pool_moved c.args.profile rows c.release.new.self c.release.ensures.low c.release.ensures.owned
+    pool_moved c.args.profile rows c.release.new.self c.release.ensures.low c.release.ensures.owned (c.release.ensures.zeros c.args.profile pool.zeros)
     (subst (AreRowKinds c.args.profile rows.low) (sym c.release.ensures.rows) (row_kinds_set c.args.profile rows.low (waiting rows) c.args.slot None pool.kinds tt))
     pool
 

@@ -4,7 +4,7 @@ use Rattle.verifier.specs.Rows.{AreRowKinds}
 use Rattle.verifier.specs.declared.waiting.Held.{Held}
 use Rattle.verifier.specs.Waiting.{waiting}
 use Rattle.verifier.proofs.RowSteps.{row_kinds_set}
-use Rattle.verifier.proofs.Waits.{read_held, row_kinds, changed, owned_kept, pool_moved, ok_both}
+use Rattle.verifier.proofs.Waits.{read_held, row_kinds, changed, owned_kept, zeros_set, all_alike, pool_moved, ok_both}
 use Rattle.verifier.proofs.edges.push_edge.Goals as goal
 
 pub join_row-requires : goal.join_row-requires
@@ -37,16 +37,23 @@ returns-in-Some-clause-pool g c =
           (sym (changed c.args.to rows.places.items rows.held.items c.in-Some.place held found.0 found.1 within there.0))
           (row_kinds_set c.args.profile rows.low (waiting rows) c.args.to (Some c.join_row.new.kept) pool.kinds c.join_row.ensures.known);
       owned = owned_kept rows.held.items rows.free c.in-Some.place held pool.owned within (found.1 ∙ sym there.0);
+      zeros = zeros_set c.args.profile rows.low rows.held.items c.in-Some.place held pool.zeros c.join_row.ensures.known.zeros;
       registers = pool.registers;
       short = pool.short;
     }
+
+pub wait-requires : goal.wait-requires
+wait-requires g c =
+    let rows = c.args.rows.now in
+    let pool = c.requires.pool in
+    (search rules, (search rules, (pool.registers, (pool.short, (all_alike c.args.profile rows.low rows.held.items c.args.row.now pool.zeros c.requires.known.zeros, (c.requires.within, pool.owned))))))
 
 pub returns-in-None-clause-pool : goal.returns-in-None-clause-pool
 returns-in-None-clause-pool g c =
     let rows = c.args.rows.now in
     let pool = c.requires.pool in
-    ok_both c.wait.result _ _ _ c.wait.ensures.rows c.wait.ensures.owned
-    (λ _ e owned.
-    pool_moved c.args.profile rows c.wait.new.self c.wait.ensures.low owned
+    ok_both c.wait.result _ _ _ (ok_both c.wait.result _ _ (λ _. _ × _) c.wait.ensures.rows c.wait.ensures.owned (λ _ e owned. (e, owned))) (c.wait.ensures.zeros c.args.profile pool.zeros c.requires.known.zeros)
+    (λ _ (e, owned) zeros.
+    pool_moved c.args.profile rows c.wait.new.self c.wait.ensures.low owned zeros
     (subst (AreRowKinds c.args.profile rows.low) (sym e) (row_kinds_set c.args.profile rows.low (waiting rows) c.args.to (Some c.args.row.now) pool.kinds c.requires.known))
     pool)

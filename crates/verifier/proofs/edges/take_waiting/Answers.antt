@@ -14,7 +14,7 @@ returns-in-Some-clause-here g c =
 pub returns-in-Some-clause-pool : goal.returns-in-Some-clause-pool
 returns-in-Some-clause-pool g c = λ profile pool.
     let rows = c.args.rows.now in
-    pool_moved profile rows c.release.new.self c.release.ensures.low c.release.ensures.owned
+    pool_moved profile rows c.release.new.self c.release.ensures.low c.release.ensures.owned (c.release.ensures.zeros profile pool.zeros)
     (subst (AreRowKinds profile rows.low) (sym c.release.ensures.rows) (row_kinds_set profile rows.low (waiting rows) c.args.slot None pool.kinds tt))
     pool
 

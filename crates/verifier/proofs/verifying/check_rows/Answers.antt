@@ -3,7 +3,7 @@ use Rattle.std.specs.Prelude.{slice_get}
 use Rattle.verifier.specs.Candidates.{program_in}
 use Rattle.value_names.specs.Led.{leads_before}
 use Rattle.verifier.specs.Table.{table, broken_at}
-use Rattle.verifier.specs.Rows.{IsKnown, AreRowKinds, IsPass}
+use Rattle.verifier.specs.Rows.{StartsZero, IsKnown, AreRowKinds, IsPass}
 use Rattle.verifier.specs.Waiting.{waiting}
 use Rattle.verifier.specs.Known.{AreSums}
 use Rattle.verifier.proofs.Tables.{pass_first, none_kinds}
@@ -24,12 +24,14 @@ loop-at-init g c =
       pool = record {
         kinds = subst (AreRowKinds p.profile c.in-Ok.rows.low) (sym empty) (none_kinds p.profile c.in-Ok.rows.low (c.len-slots.result + 1));
         owned = c.in-Ok.ensures.owned;
+        zeros = c.in-Ok.ensures.zeros p.profile;
         registers = subst (λ l. 11 ≤ l) (sym low) c.requires.some;
         short = omega (arith, low);
       };
       sums = subst (λ n. AreSums p n 0 c.in-Ok-new.sums) (omega (arith, c.len-slots.ensures, code.ok.0)) (c.in-Ok-new.ensures p refl);
       pairs = c.no_pairs-pairs.ensures;
       here = subst (λ l. IsKnown p.profile l c.entry-first.result) (sym low) c.entry-first.ensures.known;
+      taken = subst (λ l. StartsZero p.profile l c.entry-first.result) (sym low) c.entry-first.ensures.known.zeros;
       lows = record { whole = omega (arith, c.in-Ok-vec.lows.ok.0, c.in-Ok-vec.ensures.len, c.len-slots.ensures, code.ok.0); slots = λ k low lt e. absurd (omega arith) };
       unbroken = λ k lt. absurd (omega arith);
     }
@@ -63,6 +65,7 @@ loop-at-preserved g c = record {
       let led = c.in-Ok-advance.ensures.led next (omega (arith, c.loop-at-test.true, c.len-slots.ensures, c.args.program.now.image.code.ok.0)) in
       pairs_on p (table p) c.loop-at.at (leads_before p.code next next) c.loop-at.sums.sum c.loop-at.pairs _ _ refl c.loop-at.invariant.sums.sum c.loop-at.invariant.pairs c.in_ok-visit.ensures.pairs (c.pairs_here-pairs.ensures (leads_before p.code next next) (ap (λ xs. slice_get xs next) c.deref.ensures.value ∙ led));
   here = c.in_ok-visit.ensures.here;
+  taken = c.in_ok-visit.ensures.taken;
   lows =
       let p = program_in c.args.program.now in
       let within : c.loop-at.at < length p.code = omega (arith, c.len-slots.ensures, c.args.program.now.image.code.ok.0, c.loop-at-test.true) in

@@ -3,7 +3,7 @@ use Rattle.std.specs.Prelude.{slice_get}
 use Rattle.verifier.specs.Candidates.{program_in}
 use Rattle.value_names.specs.Led.{leads_before}
 use Rattle.verifier.specs.Table.{table, broken_at}
-use Rattle.verifier.specs.Rows.{IsKnown, AreRowKinds, IsPass}
+use Rattle.verifier.specs.Rows.{StartsZero, IsKnown, AreRowKinds, IsPass}
 use Rattle.verifier.specs.Waiting.{waiting}
 use Rattle.verifier.specs.Known.{AreSums}
 use Rattle.verifier.proofs.Tables.{pass_first, none_kinds, known_here}
@@ -23,12 +23,14 @@ loop-at-init g c =
       pool = record {
         kinds = subst (AreRowKinds p.profile c.in-Ok.rows.low) (sym empty) (none_kinds p.profile c.in-Ok.rows.low (c.len-slots.result + 1));
         owned = c.in-Ok.ensures.owned;
+        zeros = c.in-Ok.ensures.zeros p.profile;
         registers = subst (λ l. 11 ≤ l) (sym low) c.requires.some;
         short = omega (arith, low);
       };
       sums = subst (λ n. AreSums p n 0 c.in-Ok-new.sums) (omega (arith, c.len-slots.ensures, code.ok.0)) (c.in-Ok-new.ensures p refl);
       pairs = c.no_pairs-pairs.ensures;
       here = subst (λ l. IsKnown p.profile l c.entry-first.result) (sym low) c.entry-first.ensures.known;
+      taken = subst (λ l. StartsZero p.profile l c.entry-first.result) (sym low) c.entry-first.ensures.known.zeros;
       unbroken = λ k lt. absurd (omega arith);
     }
 
@@ -61,6 +63,7 @@ loop-at-preserved g c = record {
       let led = c.in-Ok-advance.ensures.led next (omega (arith, c.loop-at-test.true, c.len-slots.ensures, c.args.program.now.image.code.ok.0)) in
       pairs_on p (table p) c.loop-at.at (leads_before p.code next next) c.loop-at.sums.sum c.loop-at.pairs _ _ refl c.loop-at.invariant.sums.sum c.loop-at.invariant.pairs c.in_ok-visit.ensures.pairs (c.pairs_here-pairs.ensures (leads_before p.code next next) (ap (λ xs. slice_get xs next) c.deref.ensures.value ∙ led));
   here = c.in_ok-visit.ensures.here;
+  taken = c.in_ok-visit.ensures.taken;
   unbroken = one_more (λ k. broken_at (program_in c.args.program.now) k ≡ None) c.loop-at.at c.loop-at.invariant.unbroken c.in_ok-visit.ensures.unbroken;
 }
 

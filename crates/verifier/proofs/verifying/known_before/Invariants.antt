@@ -1,7 +1,7 @@
 use Rattle.std.proofs.Common.{◌≡◌, ℕ, ◌+◌, ◌<◌, length, None}
 use Rattle.verifier.specs.Known.{AreSums}
 use Rattle.verifier.specs.Candidates.{program_in}
-use Rattle.verifier.specs.Rows.{HasKinds, IsPass}
+use Rattle.verifier.specs.Rows.{StartsZero, HasKinds, IsPass}
 use Rattle.verifier.specs.Table.{table, broken_at}
 use Rattle.verifier.specs.PairSteps.{pairs_at}
 use Rattle.verifier.specs.Waiting.{waiting, IsPool}
@@ -14,5 +14,6 @@ invariant-loop-at g l = record {
   sums : AreSums (program_in l.program) (length l.program.image.code.items + 1) l.at l.sums;
   pairs : l.pairs ≡ pairs_at (program_in l.program) (table (program_in l.program)) l.at;
   here : HasKinds l.program.image.profile l.rows.low l.here;
+  taken : StartsZero l.program.image.profile l.rows.low l.taken;
   unbroken : (k : ℕ) → k < l.at → broken_at (program_in l.program) k ≡ None;
 }

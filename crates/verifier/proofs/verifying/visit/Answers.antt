@@ -10,7 +10,8 @@ use Rattle.verifier.specs.Naming.{named}
 use Rattle.verifier.specs.PairSteps.{pairs_at}
 use Rattle.verifier.specs.Table.{table}
 use Rattle.verifier.specs.Cells.{span_written}
-use Rattle.verifier.proofs.Zeros.{Ends, fewer_zeros, rows_below, after_zeros}
+use Rattle.verifier.proofs.Zeros.{Ends, fewer_zeros, known_below, rows_below, after_zeros}
+use Rattle.verifier.proofs.Waits.{zeros_below}
 use Rattle.verifier.proofs.SumSteps.{told_zeros}
 use Rattle.verifier.proofs.NamedRows.{named_zeros}
 use Rattle.verifier.proofs.Shape.{next_within, target_within, target_below}
@@ -37,6 +38,9 @@ returns-in_default-clause-pool g c = c.take_waiting.ensures.pool c.args.program.
 pub returns-in_default-clause-here : goal.returns-in_default-clause-here
 returns-in_default-clause-here g c = c.take_waiting.ensures.known c.args.program.now.image.profile c.requires.pool
 
+pub returns-in_default-clause-taken : goal.returns-in_default-clause-taken
+returns-in_default-clause-taken g c = subst (λ l. StartsZero c.args.program.now.image.profile l c.args.taken.now) (sym c.take_waiting.ensures.low) c.requires.taken
+
 pub returns-in_default-clause-pairs : goal.returns-in_default-clause-pairs
 returns-in_default-clause-pairs g c =
     let p = program_in c.args.program.now in
@@ -47,11 +51,24 @@ pub named_edge-target-requires : goal.named_edge-target-requires
 named_edge-target-requires g c =
     let insn = slice_get_read c.args.program.now.image.code.items c.args.program.now.image.code.len c.args.at c.index-insn.result.now c.args.program.now.image.code.ok.0 (omega (arith, c.requires.within, c.args.program.now.image.code.ok.0)) c.index-insn.ensures in
     let few = c.args.program.now.image.few_slots in
-    let known : IsKnown c.args.program.now.image.profile c.args.rows.now.low c.in-Some.row = subst (HasKinds c.args.program.now.image.profile c.args.rows.now.low) c.in-Some.is c.requires.here in (
+    let profile = c.args.program.now.image.profile in
+    let was = c.args.rows.now.low in
+    let low = c.lowered-rows.result in
+    let lower = c.lowered-rows.ensures.lower in
+    let known : IsKnown profile was c.in-Some.row = subst (HasKinds profile was) c.in-Some.is c.requires.here in (
       search rules,
       (
-        omega (arith, c.requires.within, few),
-        ((λ z e. let h = target_within c.args.program.now.image.code.items c.args.at c.index-insn.result.now z c.requires.formed insn e in (h.0, h.1)), known.kinds),
+        c.lowered-rows.ensures.registers,
+        (
+          omega (arith, lower, c.requires.pool.short),
+          (
+            omega (arith, c.requires.within, few),
+            (
+              (λ z e. let h = target_within c.args.program.now.image.code.items c.args.at c.index-insn.result.now z c.requires.formed insn e in (h.0, h.1)),
+              (known_below profile was low c.in-Some.row lower known, fewer_zeros profile was low c.args.taken.now lower c.requires.taken),
+            ),
+          ),
+        ),
       ),
     )
 
@@ -96,10 +113,11 @@ lead_on-requires g c =
               (
                 after,
                 (
-                  c.named_edge-target.ensures.known low (record { kinds = known.kinds; zeros = zeros }),
+                  c.named_edge-target.ensures.known,
                   record {
                     kinds = rows_below profile c.args.rows.now.low low rows c.lowered-rows.ensures.lower pool.kinds;
                     owned = pool.owned;
+                    zeros = zeros_below profile c.args.rows.now.low low c.args.rows.now.held.items c.lowered-rows.ensures.lower pool.zeros;
                     registers = c.lowered-rows.ensures.registers;
                     short = omega (arith, c.lowered-rows.ensures.lower, pool.short);
                   },
@@ -133,6 +151,9 @@ returns-then-not-on-clause-pool g c = c.take_waiting-then-not-on.ensures.pool c.
 pub returns-then-not-on-clause-here : goal.returns-then-not-on-clause-here
 returns-then-not-on-clause-here g c = c.take_waiting-then-not-on.ensures.known c.args.program.now.image.profile c.in-Ok.ensures.pool
 
+pub returns-then-not-on-clause-taken : goal.returns-then-not-on-clause-taken
+returns-then-not-on-clause-taken g c = subst (λ l. StartsZero c.args.program.now.image.profile l c.named_edge-target.new.taken) (sym (c.take_waiting-then-not-on.ensures.low ∙ c.lead_on.ensures.low)) c.named_edge-target.ensures.zeros
+
 pub returns-then-not-on-clause-pairs : goal.returns-then-not-on-clause-pairs
 returns-then-not-on-clause-pairs g c =
     let p = program_in c.args.program.now in
@@ -154,6 +175,9 @@ returns-else-not-on-clause-pass g c =
     let insn = slice_get_read c.args.program.now.image.code.items c.args.program.now.image.code.len c.args.at c.index-insn.result.now c.args.program.now.image.code.ok.0 (omega (arith, c.requires.within, c.args.program.now.image.code.ok.0)) c.index-insn.ensures in
     let on = c.if-not-on.false in
     alone_here p rows c.args.at c.requires.within c.in-Some.row c.index-insn.result.now (subst (λ o. IsPass p rows o c.args.at) c.in-Some.is c.requires.pass) insn (callee_from c.callee_in-callee.result) c.args.sums.now.sum c.args.sums.now.names.here c.tell_named.new.row (edge_list c.named_edge-target.result c.named_edge-target.new.taken) c.callee_in-callee.ensures c.requires.sum c.requires.names (c.tell_named.ensures.table ∙ ap (named c.index-insn.result.now c.args.program.now.image.profile c.args.sums.now.names.here) (c.tell.ensures.table ∙ ap (told c.index-insn.result.now c.args.program.now.image.profile c.args.sums.now.sum) c.in_default-advance.ensures.row)) c.named_edge-target.ensures.edge (waiting c.lead_on.new.rows) c.lead_on.new.row (c.in-Ok.ensures.rest on) (c.in-Ok.ensures.on on) (c.in-Ok.ensures.joined on) (c.in-Ok.ensures.misses on)
+
+pub returns-else-not-on-clause-taken : goal.returns-else-not-on-clause-taken
+returns-else-not-on-clause-taken g c = subst (λ l. StartsZero c.args.program.now.image.profile l c.named_edge-target.new.taken) (sym c.lead_on.ensures.low) c.named_edge-target.ensures.zeros
 
 pub returns-else-not-on-clause-pairs : goal.returns-else-not-on-clause-pairs
 returns-else-not-on-clause-pairs g c =
