@@ -1,6 +1,6 @@
 //! The keys of a vnode, in the order in which they came.
 
-ghost use Rattle.std.specs.Prelude.{◌≡◌, ◌<◌, ◌++◌, ◌∷◌, [], OnOk, OnErr, IfOk, List};
+ghost use Rattle.std.specs.Prelude.{◌≡◌, ◌<◌, ◌-◌, ◌^◌, ◌++◌, ◌∷◌, [], OnOk, OnErr, IfOk, List, length, min};
 ghost use Rattle.object.specs.declared.content.Key.{Key};
 ghost use Rattle.vnode.specs.Names.{all_of};
 
@@ -89,11 +89,22 @@ impl Names {
         })
     }
 
+    // How many keys there are, as far as a number reaches.
+    fn len(&self) -> usize
+        ensures { result ≡ min (length self.now.keys) (2 ^ 64 - 1) }
+    {
+        let mut count: usize = 0;
+        for block in &self.full {
+            count = count.saturating_add(block.len());
+        }
+        count.saturating_add(self.last.len())
+    }
+
     /// Copies of the keys.
     pub(crate) fn copies(&self) -> Result<Vec<Key>, AllocError>
         ensures { IfOk result (λ copies. copies.items ≡ self.now.keys) }
     {
-        let mut keys = Vec::new(self.alloc);
+        let mut keys = Vec::with_capacity(self.alloc, self.len())?;
         for block in &self.full {
             push_copies(block, &mut keys)?;
         }
