@@ -1,18 +1,18 @@
 -- Why a part is refused, and what its merge is of the whole state.
-use Rattle.std.proofs.Common.{◌≡◌, ◌≢◌, ℕ, false, Result, Err, refl, ap, ◌∙◌}
+use Rattle.std.proofs.Common.{◌≡◌, ◌↔◌, Bool, IsTrue, true, false, Option, None, Some, Result, Err, refl, ap, subst}
 use Rattle.std.proofs.lemmas.Bool.{both_ways}
 use Rattle.object.specs.declared.content.Key.{Key}
 use Rattle.object.specs.State.{State}
-use Rattle.object.specs.Parts.{Partial, lacks_some, whole_of}
-use Rattle.journal.specs.Entry.{Merge}
+use Rattle.object.specs.declared.fault.MergeFault.{MergeFault}
+use Rattle.object.specs.declared.fault.PartFault as object
+use Rattle.object.specs.Parts.{Partial, lacks_some}
 use Rattle.journal.specs.Logs.{Log}
 use Rattle.journal.specs.Replay.{IsReplay}
 use Rattle.vnode.specs.declared.fault.VnodeFault.{VnodeFault}
-use Rattle.vnode.specs.declared.fault.VnodeFault.TheVariants.{NoMemory}
 use Rattle.vnode.specs.declared.fault.PartFault.{PartFault}
 use Rattle.vnode.specs.declared.fault.PartFault.TheVariants.{Missing, Refused}
-use Rattle.vnode.specs.Refusals.{RefusesMerge, RefusesMergeAt}
-use Rattle.vnode.specs.Parts.{RefusesPart, RefusesPartAt}
+use Rattle.vnode.specs.Refusals.{RefusesMergeAt}
+use Rattle.vnode.specs.Parts.{RefusesPart, RefusesPartAt, RefusesBrought, RefusesBroughtAt, brought, lacks_of}
 use Rattle.vnode.proofs.Refused.{at_hand, one_merge_at}
 
 -- a part is refused for one reason
@@ -29,20 +29,32 @@ one_part log k part f g p q = one_part_at log part p.0 f g p.2 (at_hand log.entr
 pub refuses_part : (log : Log) (k : Key) (part : Partial) (state : State) (f : PartFault) → IsReplay log.entries k state → RefusesPartAt log part state f → RefusesPart log k part f
 refuses_part log k part state f h r = (state, h, r)
 
--- where none is lacking, the refusal is that of the whole state's merge
-pub merge_refuses : (log : Log) (k : Key) (part : Partial) (own : State) (f : VnodeFault) → IsReplay log.entries k own → lacks_some own part ≡ false → RefusesMerge log k (whole_of part own) f → RefusesPart log k part (Refused f)
-merge_refuses log k part own f h none r = (own, h, (none, at_hand log.entries k own (λ state. RefusesMergeAt log part.clock state f) h r))
+-- the merge of the whole state that came is refused, and so is what came
+pub whole_refused : (log : Log) (part : Option Partial) (came whole own : State) (f : VnodeFault) → lacks_of part own ≡ false → whole ≡ brought part came own → RefusesMergeAt log whole.clock own f → RefusesBroughtAt log part came own (Refused f)
+whole_refused log None came whole own f held is r = subst (λ s. RefusesMergeAt log s.clock own f) is r
+whole_refused log (Some part) came whole own f held is r = (held, subst (λ s. RefusesMergeAt log s.clock own f) is r)
 
--- and the other way round: the merge tells it, want of memory aside
-pub part_refuses : (log : Log) (k : Key) (part : Partial) (own : State) {T : Type 0} (merge : Result T VnodeFault) → IsReplay log.entries k own → lacks_some own part ≡ false
-    → ((f : VnodeFault) → f ≢ NoMemory → RefusesMerge log k (whole_of part own) f → merge ≡ Err f)
-    → (fault : PartFault) → fault ≢ Refused NoMemory → RefusesPart log k part fault → (f : VnodeFault) × (fault ≡ Refused f) × (merge ≡ Err f)
-part_refuses log k part own merge h none exact Missing other r = absurd (both_ways _ none (at_hand log.entries k own (λ state. RefusesPartAt log part state Missing) h r))
-part_refuses log k part own merge h none exact (Refused f) other r =
-    let at : RefusesPartAt log part own (Refused f) = at_hand log.entries k own (λ state. RefusesPartAt log part state (Refused f)) h r in
-    (f, refl, exact f (λ e. other (ap (λ x. Refused x) e)) (own, h, at.1))
+-- what came is refused for one reason
+one_brought_at : (log : Log) (part : Option Partial) (came own : State) (f g : PartFault) → RefusesBroughtAt log part came own f → RefusesBroughtAt log part came own g → f ≡ g
+one_brought_at log (Some part) came own f g p q = one_part_at log part own f g p q
+one_brought_at log None came own Missing g p q = absurd p
+one_brought_at log None came own f Missing p q = absurd q
+one_brought_at log None came own (Refused f) (Refused g) p q = ap (λ x. Refused x) (one_merge_at log came.clock own f g p q)
 
--- the entry of the merge is that of the whole state
-pub whole_entry : {k k' : Key} {from from' at at' : ℕ} {state state' : State} (stamp : ℕ) → k ≡ k' → from ≡ from' → at ≡ at' → state ≡ state' → Merge stamp k from at state ≡ Merge stamp k' from' at' state'
-whole_entry {k' = k'} {from = from} {from' = from'} {at = at} {at' = at'} {state = state} stamp p q r s =
-    ap (λ x. Merge stamp x from at state) p ∙ ap (λ x. Merge stamp k' x at state) q ∙ ap (λ x. Merge stamp k' from' x state) r ∙ ap (Merge stamp k' from' at') s
+pub one_brought : (log : Log) (k : Key) (part : Option Partial) (came : State) (f g : PartFault) → RefusesBrought log k part came f → RefusesBrought log k part came g → f ≡ g
+one_brought log k part came f g p q = one_brought_at log part came p.0 f g p.2 (at_hand log.entries k p.0 (λ own. RefusesBroughtAt log part came own g) p.1 q)
+
+-- a part that isn't missing a content lacks none
+pub not_missing : {T : Type 0} (own : State) (part : Partial) (r : Result T object.PartFault) (f : MergeFault) → (r ≡ Err (object.TheVariants.Missing) ↔ IsTrue (lacks_some own part)) → r ≡ Err (object.TheVariants.Merge f) → lacks_some own part ≡ false
+not_missing own part r f told is = by_test (lacks_some own part) (λ t. clash r f (told.1 t) is)
+  where
+    by_test : (b : Bool) → (b ≡ true → ⊥) → b ≡ false
+    by_test true isnt = absurd (isnt refl)
+    by_test false isnt = refl
+
+    clash : {T : Type 0} (r : Result T object.PartFault) (f : MergeFault) → r ≡ Err object.TheVariants.Missing → r ≡ Err (object.TheVariants.Merge f) → ⊥
+    clash r f p q = cc
+
+-- two refusals of parts that are one are one inside
+pub one_inside : (f g : VnodeFault) → Refused f ≡ Refused g → f ≡ g
+one_inside f g e = cc

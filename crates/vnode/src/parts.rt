@@ -1,13 +1,13 @@
 //! Summaries of what is held, and parts of states, at the keys of a vnode.
 
-ghost use Rattle.std.specs.Prelude.{◌≡◌, OnOk, IfOk, false};
-ghost use Rattle.object.specs.Parts.{summary_of, lacks_some, whole_of};
-ghost use Rattle.vnode.specs.Parts.{RefusesPartAt};
+ghost use Rattle.std.specs.Prelude.{◌≡◌, OnOk, IfOk, IfErr, false};
+ghost use Rattle.object.specs.Parts.{summary_of};
+ghost use Rattle.vnode.specs.Parts.{RefusesPartAt, RefusesBroughtAt, brought, lacks_of};
 ghost use Rattle.vnode.specs.States.{state_at};
 
 use crate::fault::{PartFault, VnodeFault};
 use crate::states::States;
-use crate::steps::copy_at;
+use crate::steps::merge_refusal;
 use journal::{Journal, Merged};
 use object::{Held, Key, KeyState, Part, PreparedPart, Summary};
 use std::alloc::{AllocError, Global};
@@ -50,20 +50,33 @@ pub fn merged_part_of<'a>(
     Ok((Box::new(alloc, merged)?, PreparedPart::new(alloc, part)?))
 }
 
-// Gives what the entry of a part's merge keeps its state: the whole one for which the part stands at the key.
+// Makes a state that came the one that is brought: where a part came in its place, the whole one for which the part stands at the own state.
 pub(crate) fn make_whole(
-    alloc: Global,
-    states: &States,
-    merged: &mut Merged,
-    part: PreparedPart<'_>,
-) -> Result<(), object::PartFault>
-    ensures held { OnOk result (lacks_some (state_at states.now merged.old.key) part.entry ≡ false) }
-    ensures whole { OnOk result (merged.new.state ≡ whole_of part.entry (state_at states.now merged.old.key)) }
-    ensures same { (merged.new.key ≡ merged.old.key) × (merged.new.from ≡ merged.old.from) × (merged.new.at ≡ merged.old.at) }
+    own: &KeyState,
+    journal: &Journal,
+    came: &mut KeyState,
+    part: Option<PreparedPart<'_>>,
+) -> Result<(), PartFault>
+    ensures held { OnOk result (lacks_of part.entry own.now ≡ false) }
+    ensures whole { OnOk result (came.new ≡ brought part.entry came.old own.now) }
+    ensures why { IfErr result (RefusesBroughtAt journal.now.log part.entry came.old own.now) }
 {
-    let state = copy_at(alloc, states, &merged.key)?;
-    merged.state = state.whole_in(part)?;
-    Ok(())
+    let Some(prepared) = part else {
+        return Ok(());
+    };
+    let clock = prepared.part().clock();
+    match own.whole_in(prepared) {
+        Ok(whole) => {
+            *came = whole;
+            Ok(())
+        }
+        Err(object::PartFault::Missing) => Err(PartFault::Missing),
+        Err(object::PartFault::Merge(_)) => Err(PartFault::Refused(merge_refusal(
+            own.clock(),
+            journal,
+            clock,
+        ))),
+    }
 }
 
 // Why a part is refused that lacks a content or finds no memory: for the first limit that it passes, or for memory. Takes none.
@@ -80,6 +93,21 @@ fn part_refusal(state: &Held, journal: &Journal, part: &Part) -> PartFault
         return PartFault::Refused(VnodeFault::JournalFull);
     }
     PartFault::Refused(VnodeFault::NoMemory)
+}
+
+// Why a merge into a state is refused that finds no memory, or a part that lacks a content: of what came, a state or a part in its place.
+pub(crate) fn brought_refusal(
+    own: &Held,
+    journal: &Journal,
+    came: &KeyState,
+    part: &Option<PreparedPart<'_>>,
+) -> PartFault
+    ensures { RefusesBroughtAt journal.now.log part.now came.now own.now result }
+{
+    match part {
+        Some(prepared) => part_refusal(own, journal, prepared.part()),
+        None => PartFault::Refused(merge_refusal(own.clock(), journal, came.clock())),
+    }
 }
 
 // Why a part at a key is refused that lacks a content or finds no memory.

@@ -1,10 +1,12 @@
 //! The states of a vnode's keys, in shards that grow one by one.
 
 ghost use Rattle.std.specs.Prelude.{◌≡◌, ◌<◌, ◌≤◌, ◌-◌, ◌^◌, false, None, length, min, option_map, IfSome, IsTrue, OnOk, OnErr};
-ghost use Rattle.std.specs.Option.{option_copied};
+ghost use Rattle.std.specs.Borrow.{sem};
+ghost use Rattle.std.specs.Option.{option_copied, option_copied_mut};
 ghost use Rattle.object.specs.declared.content.Key.{Key};
 ghost use Rattle.object.specs.State.{empty};
 ghost use Rattle.journal.specs.Keys.{same_key};
+ghost use Rattle.vnode.specs.Lent.{LendsState};
 ghost use Rattle.vnode.specs.States.{AreInPlace, IsSomeKnown, all_known, count_of, found_at, key_eq, place, state_at};
 
 use crate::names::Names;
@@ -93,7 +95,19 @@ impl States {
         }
     }
 
-    /// The same, with the key that is kept beside it.
+    /// The same, to be written to. The key lies in the shard `at`: the one that [`place_of`](States::place_of) says.
+    pub(crate) fn get_mut(&mut self, at: usize, key: &Key) -> Option<&mut Stored>
+        requires place { at ≡ place self.old key.now }
+        ensures* writes_back { sem 𝓛 (LendsState self.entry key.now result) }
+        ensures value { option_copied_mut result ≡ found_at self.old key.now }
+    {
+        match self.shards.get_mut(at) {
+            Some(shard) => shard.get_mut(key),
+            None => None,
+        }
+    }
+
+    /// The same as [`get`](States::get), with the key that is kept beside it.
     pub(crate) fn get_key_value(&self, key: &Key) -> Option<(&Key, &Stored)>
         ensures same_key { IfSome result (λ found. IsTrue (key_eq key.now found.0.now)) }
         ensures value { option_map (λ found. found.1.now) result ≡ found_at self.now key.now }

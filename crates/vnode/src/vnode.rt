@@ -4,7 +4,7 @@ ghost use Rattle.std.specs.Prelude.{◌≡◌, ◌≢◌, ◌↔◌, Contains, I
 
 use crate::fault::{PartFault, VnodeFault};
 use crate::names::Names;
-use crate::parts::{make_whole, merged_part_of, part_refusal_at, summary_at};
+use crate::parts::{merged_part_of, part_refusal_at, summary_at};
 use crate::seed::Seed;
 use crate::states::{Spread, States};
 use crate::steps::{
@@ -54,7 +54,7 @@ impl Vnode {
     ghost use Rattle.vnode.specs.Keys.{AreKeys, AreUnsorted, reads_of};
     ghost use Rattle.vnode.specs.States.{keys_of, state_at, AreInPlace};
     ghost use Rattle.vnode.specs.Refusals.{RefusesPut, RefusesMerge, RefusesEntry};
-    ghost use Rattle.vnode.specs.Parts.{RefusesPart};
+    ghost use Rattle.vnode.specs.Parts.{RefusesPart, RefusesBrought, brought, lacks_of};
 
     /// A vnode at which nothing has happened, for keys that no stranger chooses.
     pub fn new(alloc: Global, id: u32) -> Self
@@ -189,8 +189,41 @@ impl Vnode {
         ensures err { OnErr result (self.new ≡ self.old) }
         ensures legal { IsJournal self.new.vnode self.new.entries }
     {
-        let Merged { key, state, .. } = &*merged;
-        let changed = merge_at(self.alloc, &mut self.states, &mut self.journal, key, state)?;
+        match self.merge_brought(stamp, merged, None) {
+            Ok(merge) => Ok(merge),
+            Err(PartFault::Refused(fault)) => Err(fault),
+            // Nothing was left out of a whole state.
+            Err(PartFault::Missing) => unreachable!(),
+        }
+    }
+
+    // Merges what came: the state that `merged` has, or a part in its place, for which it takes the whole one over.
+    fn merge_brought(
+        &mut self,
+        stamp: u64,
+        mut merged: Box<Merged>,
+        part: Option<PreparedPart<'_>>,
+    ) -> Result<(bool, u32), PartFault>
+        ensures held { OnOk result (Leaves self.old.entries merged.value.key (λ own. lacks_of part.entry own ≡ false)) }
+        ensures changed { IfOk result (λ merge. Leaves self.old.entries merged.value.key (λ own. TellsChange self.old.entries (Merge stamp merged.value.key merged.value.from merged.value.at (brought part.entry merged.value.state own)) merged.value.key merge.0)) }
+        ensures place { IfOk result (λ merge. merge.1 ≡ length self.old.entries) }
+        ensures entry { OnOk result (Leaves self.old.entries merged.value.key (λ own. self.new ≡ with_entry self.old (Merge stamp merged.value.key merged.value.from merged.value.at (brought part.entry merged.value.state own)))) }
+        ensures accepts { OnOk result (Leaves self.old.entries merged.value.key (λ own. AcceptsMerge self.old.entries merged.value.key (brought part.entry merged.value.state own))) }
+
+        ensures why { IfErr result (RefusesBrought self.old merged.value.key part.entry merged.value.state) }
+        ensures exact { (fault : PartFault) → fault ≢ PartFault.Refused VnodeFault.NoMemory → RefusesBrought self.old merged.value.key part.entry merged.value.state fault → result ≡ Err fault }
+        ensures err { OnErr result (self.new ≡ self.old) }
+        ensures legal { IsJournal self.new.vnode self.new.entries }
+    {
+        let Merged { key, state, .. } = &mut *merged;
+        let changed = merge_at(
+            self.alloc,
+            &mut self.states,
+            &mut self.journal,
+            key,
+            state,
+            part,
+        )?;
         Ok((changed, self.journal.append(Entry::merge(stamp, merged))))
     }
 
@@ -302,7 +335,7 @@ impl Vnode {
     pub fn merge_part(
         &mut self,
         stamp: u64,
-        mut merged: Box<Merged>,
+        merged: Box<Merged>,
         part: PreparedPart<'_>,
     ) -> Result<(bool, u32), PartFault>
         ensures held { OnOk result (Leaves self.old.entries merged.value.key (λ own. lacks_some own part.entry ≡ false)) }
@@ -316,14 +349,7 @@ impl Vnode {
         ensures err { OnErr result (self.new ≡ self.old) }
         ensures legal { IsJournal self.new.vnode self.new.entries }
     {
-        let lent = part.part();
-        match make_whole(self.alloc, &self.states, &mut merged, part) {
-            Ok(()) => match self.merge(stamp, merged) {
-                Ok(merge) => Ok(merge),
-                Err(fault) => Err(PartFault::Refused(fault)),
-            },
-            Err(_) => Err(self.part_refusal(&merged.key, lent)),
-        }
+        self.merge_brought(stamp, merged, Some(part))
     }
 
     /// As [`merge_part`](Vnode::merge_part), of a key and a part that are lent: the key is copied, and the entry holds the whole state.

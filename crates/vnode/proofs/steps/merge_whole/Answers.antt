@@ -1,7 +1,7 @@
 use Rattle.std.proofs.Common.{ap, ◌∙◌, Err}
 use Rattle.vnode.specs.Refusals.{TakesMerge, RefusesMergeAt}
 use Rattle.vnode.proofs.FaultLemmas.{journal_refused}
-use Rattle.vnode.proofs.steps.merge_on.Goals as goal
+use Rattle.vnode.proofs.steps.merge_whole.Goals as goal
 
 pub returns-in_err-reserve-clause-why : goal.returns-in_err-reserve-clause-why
 returns-in_err-reserve-clause-why c =
