@@ -3,9 +3,11 @@
 ghost use Rattle.std.specs.Prelude.{◌≡◌, ◌↔◌, IfErr, IfOk, IsTrue, length};
 ghost use Rattle.keeping.specs.Files.{IsFileOf, IsUnkept, end_key, end_of};
 
-use crate::records::{Unread, records_in};
+use crate::halves::records_beside;
+use crate::records::Unread;
 use object::{Key, KeyState};
 use std::alloc::Global;
+use std::thread::Threads;
 use thiserror::Error;
 use wire::{Record, WireFault};
 
@@ -35,12 +37,13 @@ pub enum Unkept {
     NoMemory,
 }
 
-/// The records of a vnode's file. A file that was cut, even behind a record, is told, and so is one that was damaged.
-pub fn read_file(alloc: Global, bytes: &[u8]) -> Result<KeptFile, Unkept>
+/// The records of a vnode's file. A file that was cut, even behind a record, is told, and so is one that was damaged. Its two halves are taken
+/// apart side by side where there are threads for that.
+pub fn read_file<R: Threads>(alloc: Global, rt: &R, bytes: &[u8]) -> Result<KeptFile, Unkept>
     ensures kept { IfOk result (λ file. IsFileOf file.from file.records.items bytes.now) }
     ensures unkept { IfErr result (IsUnkept bytes.now) }
 {
-    let mut records = match records_in(alloc, bytes) {
+    let mut records = match records_beside(alloc, rt, bytes) {
         Ok(records) => records,
         Err(Unread::Faulty { place, fault }) => return Err(Unkept::Faulty { place, fault }),
         Err(Unread::NoMemory) => return Err(Unkept::NoMemory),

@@ -1,8 +1,9 @@
-//! What outlives a process of the store, but for files and threads: the file of a vnode's records, the number of the next start, and
+//! What outlives a process of the store, but for files: the file of a vnode's records, the number of the next start, and
 //! the records of a vnode that serves, or serves no more.
 #![tactic(auto)]
 
 mod file;
+mod halves;
 mod number;
 mod records;
 mod snapshot;
