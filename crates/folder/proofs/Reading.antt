@@ -6,7 +6,7 @@ use Rattle.std.proofs.lemmas.List.{append-nil}
 use Rattle.keeping.specs.Files.{IsFileOf, records_at}
 use Rattle.keeping.specs.declared.file.KeptFile.{KeptFile}
 use Rattle.wire.specs.declared.record.Record.{Record}
-use Rattle.folder.specs.Reads.{IsFileIn, IsReadAt, name_of}
+use Rattle.folder.specs.Reads.{IsFileIn, IsFoundAt, IsReadAt, name_of}
 
 -- the files are of vnodes with indexes below a number
 abbrev pub AreBelow : ℕ → List KeptFile → Type 0
@@ -77,14 +77,12 @@ module _ (finds : List ℕ → Option (List ℕ) → Type 0) where
   pub read_more : (files new : List KeptFile) (bytes : Option (List ℕ)) (found : Option KeptFile) (n : ℕ) → new ≡ files ++ option_to_list found → AreRead files n → finds (name_of n) bytes → IsFileIn bytes n found → AreRead new (n + 1)
   read_more files new bytes found n more so is in_ = subst (λ (fs : List KeptFile). AreRead fs (n + 1)) (sym more) (one_more files bytes found n so is in_)
 
-  -- the files of all three, one after another
-  pub all_read : (none one two three : List KeptFile) (names1 names2 names3 : List ℕ) (bytes1 bytes2 bytes3 : Option (List ℕ)) (found1 found2 found3 : Option KeptFile) →
+  -- the files of all three
+  pub all_found : (none one two three : List KeptFile) (found1 found2 found3 : Option KeptFile) →
       none ≡ [] → one ≡ none ++ option_to_list found1 → two ≡ one ++ option_to_list found2 → three ≡ two ++ option_to_list found3 →
-      names1 ≡ name_of 0 → names2 ≡ name_of 1 → names3 ≡ name_of 2 →
-      finds names1 bytes1 → finds names2 bytes2 → finds names3 bytes3 →
-      IsFileIn bytes1 0 found1 → IsFileIn bytes2 1 found2 → IsFileIn bytes3 2 found3 → (index : ℕ) → index < 3 → IsReadAt finds three index
-  all_read none one two three names1 names2 names3 bytes1 bytes2 bytes3 found1 found2 found3 is0 is1 is2 is3 own1 own2 own3 has1 has2 has3 in1 in2 in3 =
+      IsFoundAt finds 0 found1 → IsFoundAt finds 1 found2 → IsFoundAt finds 2 found3 → (index : ℕ) → index < 3 → IsReadAt finds three index
+  all_found none one two three found1 found2 found3 is0 is1 is2 is3 (bytes1, has1, in1) (bytes2, has2, in2) (bytes3, has3, in3) =
       let at0 : AreRead none 0 = subst (λ (fs : List KeptFile). AreRead fs 0) (sym is0) none_read in
-      let at1 : AreRead one 1 = read_more none one bytes1 found1 0 is1 at0 (subst (λ (n : List ℕ). finds n bytes1) own1 has1) in1 in
-      let at2 : AreRead two 2 = read_more one two bytes2 found2 1 is2 at1 (subst (λ (n : List ℕ). finds n bytes2) own2 has2) in2 in
-      (read_more two three bytes3 found3 2 is3 at2 (subst (λ (n : List ℕ). finds n bytes3) own3 has3) in3).each
+      let at1 : AreRead one 1 = read_more none one bytes1 found1 0 is1 at0 has1 in1 in
+      let at2 : AreRead two 2 = read_more one two bytes2 found2 1 is2 at1 has2 in2 in
+      (read_more two three bytes3 found3 2 is3 at2 has3 in3).each

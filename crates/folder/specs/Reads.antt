@@ -23,6 +23,10 @@ IsFileIn None index (Some file) = ⊥
 IsFileIn (Some bytes) index None = ⊥
 
 module _ (finds : List ℕ → Option (List ℕ) → Type 0) where
+  -- this was read of the vnode with an index: what its file holds, or that there is no such file
+  abbrev pub IsFoundAt : ℕ → Option KeptFile → Type 0
+  IsFoundAt index file = (bytes : Option (List ℕ)) × finds (name_of index) bytes × IsFileIn bytes index file
+
   -- the records of the vnode with an index are those of its file, and none where there is no such file
   abbrev pub IsReadAt : List KeptFile → ℕ → Type 0
   IsReadAt files index =

@@ -2,7 +2,7 @@
 
 ghost use Rattle.std.specs.Prelude.{◌≡◌, ◌<◌, ◌/◌, ◌++◌, ◌∷◌, [], ℕ, List, Option, IfOk, OnOk, Contains, codes, decimal, length, option_to_list};
 ghost use Rattle.keeping.specs.Numbers.{all_ids};
-ghost use Rattle.folder.specs.Reads.{IsFileIn, IsReadAt, bytes_in};
+ghost use Rattle.folder.specs.Reads.{IsFileIn, IsFoundAt, IsReadAt, bytes_in};
 ghost use Rattle.folder.specs.Seals.{sealed};
 ghost use Rattle.folder.specs.Settings.{IsSetBy};
 ghost use Rattle.folder.specs.Steps.{IsPut};
@@ -89,9 +89,9 @@ impl From<AllocError> for OpenFault {
 }
 
 /// Reads all files of a folder, and takes the next number: it is written and forced to the device before anything else is done. An empty
-/// folder is a new store. Nothing is changed where a file is at fault. The files of records are taken apart side by side where there are threads
-/// for that.
-pub fn open<F: Folder, R: Threads>(
+/// folder is a new store. Nothing is changed where a file is at fault. The files of records are read and taken apart side by side where there are
+/// threads for that; of those at fault the first is told.
+pub fn open<F: Folder + Sync, R: Threads + Sync>(
     alloc: Global,
     rt: &R,
     folder: &mut F,
@@ -122,7 +122,11 @@ fn take<F: Folder>(alloc: Global, folder: &mut F, number: u16) -> Result<(), Wri
 }
 
 /// What a folder holds, all of it read.
-fn read_all<F: Folder, R: Threads>(alloc: Global, rt: &R, folder: &F) -> Result<Held, OpenFault>
+fn read_all<F: Folder + Sync, R: Threads + Sync>(
+    alloc: Global,
+    rt: &R,
+    folder: &F,
+) -> Result<Held, OpenFault>
     ensures read { IfOk result (λ held. (index : ℕ) → index < 3 → IsReadAt (F.finds folder.now) held.files.items index) }
     ensures settings { IfOk result (λ held. (found : Option (List ℕ)) × F.finds folder.now (codes "settings") found × IsSetBy found held.settings.every) }
 {
@@ -202,29 +206,26 @@ fn number_of(bytes: &[u8]) -> Option<u16> {
     text.trim_end().parse::<u16>().ok()
 }
 
-/// The files of records that there are. They are read one after another, and taken apart side by side where there are threads for that.
-fn files_in<F: Folder, R: Threads>(
+/// The files of records that there are. They are read and taken apart side by side where there are threads for that.
+fn files_in<F: Folder + Sync, R: Threads + Sync>(
     alloc: Global,
     rt: &R,
     folder: &F,
 ) -> Result<Vec<KeptFile>, OpenFault>
     ensures { IfOk result (λ files. (index : ℕ) → index < 3 → IsReadAt (F.finds folder.now) files.items index) }
 {
-    let first = bytes_of(alloc, folder, name_of(0))?;
-    let second = bytes_of(alloc, folder, name_of(1))?;
-    let third = bytes_of(alloc, folder, name_of(2))?;
     let (first, (second, third)) = thread::join(
         rt,
         || -> Result<Option<KeptFile>, OpenFault>
-            ensures { IfOk result (λ file. IsFileIn (bytes_in first) 0 file) }
-        { file_in(alloc, first, 0) },
+            ensures { IfOk result (λ file. IsFoundAt (F.finds folder.entry.now) 0 file) }
+        { file_in(alloc, rt, folder, 0) },
         || -> (
             Result<Option<KeptFile>, OpenFault>,
             Result<Option<KeptFile>, OpenFault>,
         )
-            ensures second { IfOk result.0 (λ file. IsFileIn (bytes_in second) 1 file) }
-            ensures third { IfOk result.1 (λ file. IsFileIn (bytes_in third) 2 file) }
-        { both_in(alloc, rt, second, third) },
+            ensures second { IfOk result.0 (λ file. IsFoundAt (F.finds folder.entry.now) 1 file) }
+            ensures third { IfOk result.1 (λ file. IsFoundAt (F.finds folder.entry.now) 2 file) }
+        { both_in(alloc, rt, folder) },
     );
     let mut files = Vec::with_capacity(alloc, VNODES)?;
     add(&mut files, first?)?;
@@ -233,27 +234,26 @@ fn files_in<F: Folder, R: Threads>(
     Ok(files)
 }
 
-/// The files that bytes are of the second and the third vnode.
-fn both_in<R: Threads>(
+/// The files of the second and the third vnode.
+fn both_in<F: Folder + Sync, R: Threads + Sync>(
     alloc: Global,
     rt: &R,
-    second: Option<Vec<u8>>,
-    third: Option<Vec<u8>>,
+    folder: &F,
 ) -> (
     Result<Option<KeptFile>, OpenFault>,
     Result<Option<KeptFile>, OpenFault>,
 )
-    ensures second { IfOk result.0 (λ file. IsFileIn (bytes_in second) 1 file) }
-    ensures third { IfOk result.1 (λ file. IsFileIn (bytes_in third) 2 file) }
+    ensures second { IfOk result.0 (λ file. IsFoundAt (F.finds folder.now) 1 file) }
+    ensures third { IfOk result.1 (λ file. IsFoundAt (F.finds folder.now) 2 file) }
 {
     thread::join(
         rt,
         || -> Result<Option<KeptFile>, OpenFault>
-            ensures { IfOk result (λ file. IsFileIn (bytes_in second) 1 file) }
-        { file_in(alloc, second, 1) },
+            ensures { IfOk result (λ file. IsFoundAt (F.finds folder.entry.now) 1 file) }
+        { file_in(alloc, rt, folder, 1) },
         || -> Result<Option<KeptFile>, OpenFault>
-            ensures { IfOk result (λ file. IsFileIn (bytes_in third) 2 file) }
-        { file_in(alloc, third, 2) },
+            ensures { IfOk result (λ file. IsFoundAt (F.finds folder.entry.now) 2 file) }
+        { file_in(alloc, rt, folder, 2) },
     )
 }
 
@@ -270,9 +270,23 @@ fn add(files: &mut Vec<KeptFile>, found: Option<KeptFile>) -> Result<(), OpenFau
     }
 }
 
-/// The records of the vnode with an index, whose file holds these bytes, if there is one.
-fn file_in(
+/// The records of the vnode with an index, if there is a file of them. Its bytes are gone once they are taken apart.
+fn file_in<F: Folder, R: Threads>(
     alloc: Global,
+    rt: &R,
+    folder: &F,
+    index: usize,
+) -> Result<Option<KeptFile>, OpenFault>
+    ensures { IfOk result (λ file. IsFoundAt (F.finds folder.now) index file) }
+{
+    let found = bytes_of(alloc, folder, name_of(index))?;
+    file_of(alloc, rt, found, index)
+}
+
+/// The records of the vnode with an index, whose file holds these bytes, if there is one.
+fn file_of<R: Threads>(
+    alloc: Global,
+    rt: &R,
     found: Option<Vec<u8>>,
     index: usize,
 ) -> Result<Option<KeptFile>, OpenFault>
@@ -282,7 +296,7 @@ fn file_in(
         return Ok(None);
     };
     let name = name_of(index);
-    match read_file(alloc, &bytes) {
+    match read_file(alloc, rt, &bytes) {
         Ok(file) if (file.from % 65_536) as usize == index => Ok(Some(file)),
         Ok(_) => Err(OpenFault::Misplaced { name }),
         Err(Unkept::NoMemory) => Err(OpenFault::NoMemory),

@@ -24,7 +24,7 @@ fn expect(holds: bool, operations: u64) -> Result<(), Fail> {
 }
 
 /// The number that a start takes.
-fn number<R: Threads>(rt: &R, alloc: Global, folder: &mut Memory) -> Option<u16> {
+fn number<R: Threads + Sync>(rt: &R, alloc: Global, folder: &mut Memory) -> Option<u16> {
     match open(alloc, rt, folder) {
         Ok(opened) => Some(opened.number),
         Err(_) => None,
@@ -73,7 +73,7 @@ const SET: [(&[u8], Option<u32>); 11] = [
 ];
 
 /// The seconds that a start reads, if it isn't refused for them.
-fn every<R: Threads>(rt: &R, alloc: Global, folder: &mut Memory) -> Option<u32> {
+fn every<R: Threads + Sync>(rt: &R, alloc: Global, folder: &mut Memory) -> Option<u32> {
     match open(alloc, rt, folder) {
         Ok(opened) => Some(opened.held.settings.every),
         Err(_) => None,
