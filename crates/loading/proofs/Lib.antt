@@ -2,3 +2,4 @@ mod Loading
 mod Fronts
 mod Standing
 mod Acknowledged
+mod Sent

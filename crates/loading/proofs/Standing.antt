@@ -1,18 +1,15 @@
 -- Merges that a pass was told of, in the journals of gathered vnodes.
-use Rattle.std.proofs.Common.{◌≡◌, ℕ, zero, suc, ◌+◌, ◌<◌, List, [], ◌∷◌, ◌++◌, length, get_or, refl, sym, ap, subst, ◌∙◌, arith, append_assoc, ◌≤◌, ⊎_elim}
+use Rattle.std.proofs.Common.{◌≡◌, ℕ, zero, suc, ◌+◌, ◌<◌, List, [], ◌∷◌, ◌++◌, length, get_or, refl, sym, ap, subst, ◌∙◌, arith}
 use Rattle.std.specs.Prelude.{Contains}
-use Rattle.std.proofs.lemmas.Bool.{cases_lt}
 use Rattle.std.proofs.lemmas.List.{append-nil}
 use Rattle.journal.specs.Logs.{Log}
-use Rattle.keeping.specs.Files.{records_at}
-use Rattle.keeping.specs.declared.file.KeptFile.{KeptFile}
 use Rattle.stamps.specs.declared.view.Told.{Told}
 use Rattle.stamps.specs.declared.view.View.{View}
 use Rattle.vnode_locks.specs.Gathers.{Differ, FitsIn, IsGathered, numbers_of}
 use Rattle.vnode_locks.proofs.Differ.{differ}
 use Rattle.vnode_locks.proofs.Stand.{stands}
 use Rattle.wire.specs.declared.record.Record.{Record}
-use Rattle.loading.specs.Beginnings.{BeginWithFiles, BeginsWith, HaveLoaded}
+use Rattle.loading.specs.Beginnings.{BeginsWith}
 use Rattle.loading.specs.Loads.{HasLoaded, Mark, merge_told, merges_told}
 use Rattle.loading.proofs.Fronts.{begins}
 
@@ -57,7 +54,7 @@ begins_with told logs id (r ∷ records) (m ∷ marks) len gathered among =
     let es = begins s.0.entries id 0 (r ∷ records) (m ∷ marks) [] s.0.entries len refl refl each in
     λ some. (s.0, s.1, s.2, es.0, es.1, es.2, es.3)
 
--- ---- of all vnodes
+-- ---- of one vnode that has taken its records over
 
 -- what stands in a part of a list stands in the list
 among_parts : (before part after : List Told) (t : Told) → Contains part t → Contains (before ++ part ++ after) t
@@ -66,49 +63,12 @@ among_parts [] (u ∷ part) after t (zero, lt, is) = (zero, omega (arith), is)
 among_parts [] (u ∷ part) after t (suc k, lt, is) = let there = among_parts [] part after t (k, (let l = lt in omega (arith, l)), is) in (suc there.0, (let l = there.1 in omega (arith, l)), there.2)
 among_parts (u ∷ before) part after t at = let there = among_parts before part after t at in (suc there.0, (let l = there.1 in omega (arith, l)), there.2)
 
--- what was told of these records is a part of what was told in all
-pub record IsPart (old new : View) (id : ℕ) (records : List Record) : Type 0 where
-  pub marks : List Mark
-  pub each : length marks ≡ length records
-  pub before : List Told
-  pub after : List Told
-  pub told : new.told ≡ before ++ merges_told id 0 records marks ++ after
+-- what stands at the end of a list stands in the list
+among_last : (before part : List Told) (t : Told) → Contains part t → Contains (before ++ part) t
+among_last before part t at = subst (λ (ts : List Told). Contains ts t) (append-nil (before ++ part)) (among_parts before part [] t at)
 
-longer : (old mid new : View) (id : ℕ) (records : List Record) (more : List Told) → new.told ≡ mid.told ++ more → IsPart old mid id records → IsPart old new id records
-longer old mid new id records more is p = record {
-  marks = p.marks;
-  each = p.each;
-  before = p.before;
-  after = p.after ++ more;
-  told = is ∙ ap (λ (ts : List Told). ts ++ more) p.told ∙ append_assoc (p.before ++ merges_told id 0 records p.marks) p.after more;
-}
-
-last_part : (old mid new : View) (id : ℕ) (records : List Record) → HasLoaded mid new id records → IsPart old new id records
-last_part old mid new id records (marks, len, told) = record {
-  marks = marks;
-  each = len;
-  before = mid.told;
-  after = [];
-  told = told ∙ sym (append-nil (mid.told ++ merges_told id 0 records marks));
-}
-
--- one more vnode has taken its records over
-pub have_more : (old mid new : View) (first : ℕ) (files : List KeptFile) (n : ℕ) → HaveLoaded old mid first files n → HasLoaded mid new (first + n) (records_at files n) → HaveLoaded old new first files (n + 1)
-have_more old mid new first files n before last = subst (λ (k : ℕ). HaveLoaded old new first files k) (let same : suc n ≡ n + 1 = omega (arith) in same) (mid, before, last)
-
-loaded_part : (old new : View) (first : ℕ) (files : List KeptFile) (n index : ℕ) → HaveLoaded old new first files n → index < n → IsPart old new (first + index) (records_at files index)
-loaded_part old new first files zero index loaded lt = absurd (omega (arith, lt))
-loaded_part old new first files (suc n) index (mid, before, last) lt =
-    ⊎_elim
-    (λ (below : index < n). longer old mid new (first + index) (records_at files index) _ last.2 (loaded_part old mid first files n index before below))
-    (λ (past : n ≤ index). let same : n ≡ index = omega (arith, lt, past) in
-    subst (λ (k : ℕ). IsPart old new (first + k) (records_at files k)) same (last_part old mid new (first + n) (records_at files n) last))
-    (cases_lt index n)
-
--- where what was told stands in the journals of gathered vnodes, those of vnodes that have taken records over begin with their merges
-pub begin_with_files : (before after : List Told) (old new : View) (logs : List Log) (first : ℕ) (files : List KeptFile) (vnodes : ℕ) → IsGathered (before ++ new.told ++ after) logs → HaveLoaded old new first files vnodes
-    → BeginWithFiles logs first files vnodes
-begin_with_files before after old new logs first files vnodes gathered loaded = λ index lt.
-    (let part = loaded_part old new first files vnodes index loaded lt in
-    begins_with (before ++ new.told ++ after) logs (first + index) (records_at files index) part.marks part.each gathered
-    (λ t at. among_parts before new.told after t (subst (λ (ts : List Told). Contains ts t) (sym part.told) (among_parts part.before (merges_told (first + index) 0 (records_at files index) part.marks) part.after t at))))
+-- where what was told stands in the journals of gathered vnodes, that of a vnode that has taken records over begins with their merges
+pub begin_with : (before after : List Told) (old new : View) (logs : List Log) (id : ℕ) (records : List Record) → IsGathered (before ++ new.told ++ after) logs → HasLoaded old new id records → BeginsWith logs id records
+begin_with before after old new logs id records gathered (marks, len, told) =
+    begins_with (before ++ new.told ++ after) logs id records marks len gathered
+    (λ t at. among_parts before new.told after t (subst (λ (ts : List Told). Contains ts t) (sym told) (among_last old.told (merges_told id 0 records marks) t at)))

@@ -5,20 +5,20 @@ use Rattle.journal.specs.Entry.{Entry}
 use Rattle.journal.specs.Logs.{Log}
 use Rattle.keeping.specs.Files.{records_at}
 use Rattle.keeping.specs.declared.file.KeptFile.{KeptFile}
-use Rattle.stamps.specs.declared.view.View.{View}
 use Rattle.wire.specs.declared.record.Record.{Record}
 use Rattle.loading.specs.Loads.{HasLoaded}
+use Rattle.loading.specs.declared.beginning.Loaders.{Loaders}
 
 -- how many records each of so many vnodes begins with, by index
 abbrev pub fronts_to : List KeptFile → ℕ → List ℕ
 fronts_to files zero = []
 fronts_to files (suc n) = fronts_to files n ++ length (records_at files n) ∷ []
 
--- a pass was told that each of so many vnodes, numbered from the first on, merged its records, vnode by vnode and in order, from the first entry of its journal
--- on, and nothing else
-abbrev pub HaveLoaded : View → View → ℕ → List KeptFile → ℕ → Type 0
-HaveLoaded old new first files zero = new.told ≡ old.told
-HaveLoaded old new first files (suc n) = (mid : View) × HaveLoaded old mid first files n × HasLoaded mid new (first + n) (records_at files n)
+-- of three vnodes, numbered from the first on, each has merged its records in order, from the first entry of its journal on: its own pass was told of that, and of
+-- nothing else
+abbrev pub HaveLoaded : {B : Type 0} → Loaders B → Loaders B → ℕ → List KeptFile → Type 0
+HaveLoaded old new first files =
+    HasLoaded old.first new.first (first + 0) (records_at files 0) × HasLoaded old.second new.second (first + 1) (records_at files 1) × HasLoaded old.third new.third (first + 2) (records_at files 2)
 
 -- of these journals that of the vnode with this identifier begins with the merges of these records, if there are any, each once and in order
 abbrev pub BeginsWith : List Log → ℕ → List Record → Type 0

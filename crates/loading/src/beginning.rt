@@ -1,8 +1,9 @@
 //! What the files of a folder hold, taken over by the vnodes of a cluster.
 
-ghost use Rattle.std.specs.Prelude.{◌≡◌, IfOk, OnOk};
+ghost use Rattle.std.specs.Prelude.{◌≡◌, ◌+◌, ◌<◌, IfOk};
 ghost use Rattle.keeping.specs.Files.{records_at};
 ghost use Rattle.loading.specs.Beginnings.{HaveLoaded, fronts_to};
+ghost use Rattle.loading.specs.Loads.{HasLoaded};
 
 use crate::fault::LoadFault;
 use crate::loads::load;
@@ -10,6 +11,8 @@ use keeping::KeptFile;
 use pool::{Cluster, Pass, Room};
 use std::alloc::{AllocError, Global};
 use std::sync::Wait;
+use std::thread;
+use std::thread::Threads;
 use thiserror::Error;
 use wire::Record;
 
@@ -23,24 +26,104 @@ pub struct Unloaded {
     pub fault: LoadFault,
 }
 
-/// Has each vnode of a cluster, which nobody has called before, merge the records of the file that is its own by index, each once and in
-/// order: they are the first entries of its journal. The pass is told of each merge and of nothing else.
-pub fn load_all<B: Room, R: Wait>(
+/// The passes by which vnodes take records over side by side, each by one of its own.
+#[derive(Drop)]
+pub struct Loaders<B: Room> {
+    /// That of the first vnode.
+    pub first: Pass<B>,
+    /// That of the second one.
+    pub second: Pass<B>,
+    /// That of the third one.
+    pub third: Pass<B>,
+}
+
+/// Has each vnode of a cluster of three, which nobody has called before, merge the records of the file that is its own by index, each once and
+/// in order: they are the first entries of its journal. They do so side by side where there are threads for that. The pass of each is told of each
+/// merge there and of nothing else. The error is that of the first vnode that has one.
+pub fn load_all<B: Room + Send + Sync, R: Threads + Wait + Sync>(
     alloc: Global,
     rt: &R,
     cluster: &Cluster<B>,
-    pass: &mut Pass<B>,
+    loaders: Loaders<B>,
     files: &[KeptFile],
-) -> Result<(), Unloaded>
-    ensures loaded { OnOk result (HaveLoaded pass.old pass.new cluster.now.first files.now cluster.now.vnodes) }
+) -> Result<Loaders<B>, Unloaded>
+    requires vnodes { cluster.now.vnodes ≡ 3 }
+    ensures loaded { IfOk result (λ back. HaveLoaded loaders back cluster.now.first files.now) }
 {
-    for index in 0..cluster.count() {
-        match load(alloc, rt, cluster, pass, index, records_of(files, index)) {
-            Ok(()) => {}
-            Err(fault) => return Err(Unloaded { index, fault }),
-        }
+    let Loaders {
+        first,
+        second,
+        third,
+    } = loaders;
+    let (ahead, behind) = thread::join(
+        rt,
+        || -> Result<Pass<B>, Unloaded>
+            requires { cluster.now.vnodes ≡ 3 }
+            ensures { IfOk result (λ back. HasLoaded first back (cluster.entry.now.first + 0) (records_at files.entry.now 0)) }
+        { load_own(alloc, rt, cluster, first, 0, files) },
+        || -> (Result<Pass<B>, Unloaded>, Result<Pass<B>, Unloaded>)
+            requires { cluster.now.vnodes ≡ 3 }
+            ensures second { IfOk result.0 (λ back. HasLoaded second back (cluster.entry.now.first + 1) (records_at files.entry.now 1)) }
+            ensures third { IfOk result.1 (λ back. HasLoaded third back (cluster.entry.now.first + 2) (records_at files.entry.now 2)) }
+        { load_both(alloc, rt, cluster, second, third, files) },
+    );
+    let (next, last) = behind;
+    Ok(Loaders {
+        first: ahead?,
+        second: next?,
+        third: last?,
+    })
+}
+
+/// The same of the second vnode and the third.
+fn load_both<B: Room + Send + Sync, R: Threads + Wait + Sync>(
+    alloc: Global,
+    rt: &R,
+    cluster: &Cluster<B>,
+    second: Pass<B>,
+    third: Pass<B>,
+    files: &[KeptFile],
+) -> (Result<Pass<B>, Unloaded>, Result<Pass<B>, Unloaded>)
+    requires vnodes { cluster.now.vnodes ≡ 3 }
+    ensures second { IfOk result.0 (λ back. HasLoaded second back (cluster.now.first + 1) (records_at files.now 1)) }
+    ensures third { IfOk result.1 (λ back. HasLoaded third back (cluster.now.first + 2) (records_at files.now 2)) }
+{
+    thread::join(
+        rt,
+        || -> Result<Pass<B>, Unloaded>
+            requires { cluster.now.vnodes ≡ 3 }
+            ensures { IfOk result (λ back. HasLoaded second back (cluster.entry.now.first + 1) (records_at files.entry.now 1)) }
+        { load_own(alloc, rt, cluster, second, 1, files) },
+        || -> Result<Pass<B>, Unloaded>
+            requires { cluster.now.vnodes ≡ 3 }
+            ensures { IfOk result (λ back. HasLoaded third back (cluster.entry.now.first + 2) (records_at files.entry.now 2)) }
+        { load_own(alloc, rt, cluster, third, 2, files) },
+    )
+}
+
+/// The same of the vnode with an index, by a pass that comes back.
+fn load_own<B: Room, R: Wait>(
+    alloc: Global,
+    rt: &R,
+    cluster: &Cluster<B>,
+    mut pass: Pass<B>,
+    index: usize,
+    files: &[KeptFile],
+) -> Result<Pass<B>, Unloaded>
+    requires inside { index < cluster.now.vnodes }
+    ensures loaded { IfOk result (λ back. HasLoaded pass back (cluster.now.first + index) (records_at files.now index)) }
+{
+    match load(
+        alloc,
+        rt,
+        cluster,
+        &mut pass,
+        index,
+        records_of(files, index),
+    ) {
+        Ok(()) => Ok(pass),
+        Err(fault) => Err(Unloaded { index, fault }),
     }
-    Ok(())
 }
 
 /// How many records each of so many vnodes begins with, by index.

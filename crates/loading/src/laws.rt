@@ -11,12 +11,11 @@ ghost use Rattle.object.specs.declared.content.Content.{Content};
 ghost use Rattle.object.specs.declared.content.Key.{Key};
 ghost use Rattle.stamps.specs.declared.view.Told.{Told};
 ghost use Rattle.journal.specs.Logs.{Log};
-ghost use Rattle.keeping.specs.declared.file.KeptFile.{KeptFile};
 ghost use Rattle.stamps.specs.declared.view.View.{View};
 ghost use Rattle.vnode_locks.specs.Gathers.{FitsIn, IsGathered};
 ghost use Rattle.wire.specs.declared.record.Record.{Record as OneRecord};
-ghost use Rattle.loading.specs.Beginnings.{BeginWithFiles, HaveLoaded};
-ghost use Rattle.loading.specs.Loads.{Mark, merges_told};
+ghost use Rattle.loading.specs.Beginnings.{BeginsWith};
+ghost use Rattle.loading.specs.Loads.{HasLoaded, Mark, merges_told};
 
 use carrying::laws::records_carry_all;
 
@@ -27,11 +26,11 @@ pub fn loads_begin_journals()
         → (es : List Entry) × (rest : List Entry) × AreMergesOf es records × (journal ≡ es ++ rest) }
 {}
 
-/// Where what was told stands in the journals of gathered vnodes, each of it once, and a pass was told, among other things, that vnodes
-/// took over what files hold, each of these vnodes' journals begins with the merges of its records.
+/// Where what was told stands in the journals of gathered vnodes, each of it once, and a pass was told, among other things, that a vnode took
+/// records over, that vnode's journal begins with their merges.
 pub fn loads_stand()
-    ensures { (before after : List Told) (old new : View) (logs : List Log) (first : ℕ) (files : List KeptFile) (vnodes : ℕ)
-        → IsGathered (before ++ new.told ++ after) logs → HaveLoaded old new first files vnodes → BeginWithFiles logs first files vnodes }
+    ensures { (before after : List Told) (old new : View) (logs : List Log) (id : ℕ) (records : List OneRecord)
+        → IsGathered (before ++ new.told ++ after) logs → HasLoaded old new id records → BeginsWith logs id records }
 {}
 
 /// What was acknowledged stays known over a stop in order: where a journal begins with the merges of records of all keys of another, each write that

@@ -1,9 +1,12 @@
-use Rattle.std.proofs.Common.{◌+◌, subst, List}
-use Rattle.loading.specs.Loads.{HasLoaded}
-use Rattle.wire.specs.declared.record.Record.{Record}
-use Rattle.loading.proofs.Standing.{have_more}
+use denote.Exit.{no}
+use denote.Param.Send.{arg_send, param_send, shr_send, shr_slice_send}
+use denote.Param.{param}
+use Rattle.std.proofs.alloc.Global.TheSendSync as heap
+use Rattle.pool.proofs.Sent.{cluster_sync}
+use Rattle.loading.proofs.Sent.{file_sync, five_send, pass_send}
 use Rattle.loading.proofs.beginning.load_all.Goals as goal
 
-pub loop-index-preserved : goal.loop-index-preserved
-loop-index-preserved g c = have_more c.args.pass.now c.loop-index.pass c.load.new.pass c.args.cluster.now.first c.args.files.now c.loop-index.index c.loop-index.invariant
-    (subst (λ (rs : List Record). HasLoaded c.loop-index.pass c.load.new.pass (c.args.cluster.now.first + c.loop-index.index) rs) c.records_of.ensures c.in-Ok.ensures.loaded)
+pub join-ahead-requires-send-F : goal.join-ahead-requires-send-F
+join-ahead-requires-send-F g c κs within =
+    let cluster = cluster_sync (param 0 g.row.B) g.B.Room c.type_bounds.send-B c.type_bounds.sync-B in
+    param_send 1 _ (arg_send _ no _ (five_send _ _ _ _ _ _ (shr_send _ _ _ heap.the_sync) (shr_send _ _ _ c.type_bounds.sync-R) (shr_send _ _ _ cluster) (pass_send _ _ c.type_bounds.send-B) (shr_slice_send _ _ _ file_sync)))

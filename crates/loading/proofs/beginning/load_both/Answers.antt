@@ -1,0 +1,12 @@
+use denote.Exit.{no}
+use denote.Param.Send.{arg_send, param_send, shr_send, shr_slice_send}
+use denote.Param.{param}
+use Rattle.std.proofs.alloc.Global.TheSendSync as heap
+use Rattle.pool.proofs.Sent.{cluster_sync}
+use Rattle.loading.proofs.Sent.{file_sync, five_send, pass_send}
+use Rattle.loading.proofs.beginning.load_both.Goals as goal
+
+pub join-requires-send-F : goal.join-requires-send-F
+join-requires-send-F g c κs within =
+    let cluster = cluster_sync (param 0 g.row.B) g.B.Room c.type_bounds.send-B c.type_bounds.sync-B in
+    param_send 1 _ (arg_send _ no _ (five_send _ _ _ _ _ _ (shr_send _ _ _ heap.the_sync) (shr_send _ _ _ c.type_bounds.sync-R) (shr_send _ _ _ cluster) (pass_send _ _ c.type_bounds.send-B) (shr_slice_send _ _ _ file_sync)))
