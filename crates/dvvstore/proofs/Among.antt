@@ -1,32 +1,45 @@
--- What one pass of several was told.
-use Rattle.std.proofs.Common.{◌≡◌, ◌++◌, ◌∷◌, [], List, Option, Some, None, ap, refl, sym, subst, ◌∙◌, append_assoc, append-nil, flat_map}
+-- What some passes of several were told.
+use Rattle.std.proofs.Common.{◌≡◌, ◌++◌, ◌∷◌, [], List, Option, Some, None, ap, refl, subst, sym, ◌∙◌, append_assoc, flat_map}
 use Rattle.std.proofs.lemmas.Grind.{flat_map-append}
 use Rattle.journal.specs.Logs.{Log}
 use Rattle.stamps.specs.declared.view.Told.{Told}
 use Rattle.stamps.specs.declared.view.View.{View}
 use Rattle.vnode_locks.specs.Gathers.{IsGathered}
-use Rattle.dvvstore.specs.Asides.{GoOn, passes_of, told_of}
+use Rattle.dvvstore.specs.Asides.{AreGathered, GoOn, passes_of}
 use Rattle.dvvstore.specs.declared.saver.Spares.{Spares}
 
 -- what passes were told
 abbrev all_told : List View → List Told
 all_told passes = flat_map (λ p. p.told) passes
 
--- what the first of spare passes was told is the front of what they were told later
-front_of : {B : Type 0} → (old new : Option (Spares B)) → GoOn old new → (more : List Told) × (all_told (passes_of new) ≡ told_of old ++ more)
-front_of None None goes = ([], refl)
-front_of None (Some new) goes = absurd goes
-front_of (Some old) None goes = absurd goes
-front_of (Some old) (Some new) (more, is) =
-    (more ++ all_told (new.second ∷ new.third ∷ []), ap (λ (ts : List Told). ts ++ all_told (new.second ∷ new.third ∷ [])) is ∙ append_assoc old.first.told more (all_told (new.second ∷ new.third ∷ [])))
+-- what one of them had been told before, among all that they were told later, and more
+one_among : (front before own more behind rest now : List Told) → now ≡ own ++ more → front ++ (before ++ (now ++ behind)) ++ rest ≡ front ++ before ++ own ++ (more ++ (behind ++ rest))
+one_among front before own more behind rest now grown =
+    ap (λ (ts : List Told). front ++ (before ++ (ts ++ behind)) ++ rest) grown
+    ∙ (append_assoc front (before ++ (own ++ more ++ behind)) rest
+    ∙ (ap (λ (ts : List Told). front ++ ts) (append_assoc before (own ++ more ++ behind) rest)
+    ∙ (sym (append_assoc front before (own ++ more ++ behind ++ rest))
+    ∙ (ap (λ (ts : List Told). front ++ before ++ ts) (append_assoc (own ++ more) behind rest ∙ append_assoc own more (behind ++ rest))
+    ∙ sym (append_assoc (front ++ before) own (more ++ (behind ++ rest)))))))
 
-pub told_among : {B : Type 0} → (passes all : List View) (old new : Option (Spares B)) (rest : List Told) (logs : List Log) → all ≡ passes ++ passes_of new → GoOn old new → IsGathered (all_told all ++ rest) logs
-    → (after : List Told) × IsGathered (all_told passes ++ told_of old ++ after) logs
-told_among passes all old new rest logs is goes gathered =
-    let front = front_of old new goes in
-    let more : List Told = front.0 in
-    let parts : all_told all ++ rest ≡ (all_told passes ++ told_of old) ++ (more ++ rest) =
-    ap (λ (ts : List Told). ts ++ rest) (ap all_told is ∙ flat_map-append (λ p. p.told) passes (passes_of new) ∙ ap (λ (ts : List Told). all_told passes ++ ts) front.1)
-    ∙ (append_assoc (all_told passes) (told_of old ++ more) rest ∙ ap (λ (ts : List Told). all_told passes ++ ts) (append_assoc (told_of old) more rest)
-    ∙ sym (append_assoc (all_told passes) (told_of old) (more ++ rest))) in
-    (more ++ rest, subst (λ (ts : List Told). IsGathered ts logs) parts gathered)
+-- what each of spare passes had been told stands among what all passes were told, behind what the others were told
+all_among : {B : Type 0} → (front rest : List Told) (old new : Spares B) (logs : List Log) → GoOn (Some old) (Some new) → IsGathered (front ++ all_told (new.first ∷ new.second ∷ new.third ∷ []) ++ rest) logs
+    → AreGathered front old logs
+all_among front rest old new logs (first, second, third) gathered =
+    let one = new.first.told in
+    let two = new.second.told in
+    let three = new.third.told in
+    let at : (before own more behind now : List Told) → now ≡ own ++ more → one ++ (two ++ (three ++ [])) ≡ before ++ (now ++ behind) → (before after : List Told) × IsGathered (front ++ before ++ own ++ after) logs =
+    λ before own more behind now grown parts.
+    (before, more ++ (behind ++ rest), subst (λ (ts : List Told). IsGathered ts logs) (ap (λ (ts : List Told). front ++ ts ++ rest) parts ∙ one_among front before own more behind rest now grown) gathered) in (
+      at [] old.first.told first.0 (two ++ (three ++ [])) one first.1 refl,
+      at one old.second.told second.0 (three ++ []) two second.1 refl,
+      at (one ++ two) old.third.told third.0 [] three third.1 (sym (append_assoc one two (three ++ []))),
+    )
+
+pub told_among : {B : Type 0} → (passes all : List View) (old : Spares B) (new : Option (Spares B)) (rest : List Told) (logs : List Log) → all ≡ passes ++ passes_of new → GoOn (Some old) new
+    → IsGathered (all_told all ++ rest) logs → AreGathered (all_told passes) old logs
+told_among passes all old None rest logs is goes gathered = absurd goes
+told_among passes all old (Some new) rest logs is goes gathered =
+    all_among (all_told passes) rest old new logs goes
+    (subst (λ (ts : List Told). IsGathered (ts ++ rest) logs) (ap all_told is ∙ flat_map-append (λ p. p.told) passes (passes_of (Some new))) gathered)

@@ -27,7 +27,8 @@ use Rattle.stamps.specs.declared.view.View.{View}
 use Rattle.store.specs.View.{StoreView, shown}
 use Rattle.peers.specs.Calls.{Call as PeerCall}
 use Rattle.serving.specs.Passes.{AreCallsOf, GivesUnnoted, PassCalls, Passing, all_calls, by_pass, told_by}
-use Rattle.vnode_locks.specs.Gathers.{IsGathered}
+use Rattle.dvvstore.specs.Asides.{AreGathered}
+use Rattle.dvvstore.specs.declared.saver.Spares.{Spares}
 use Rattle.dvvstore.specs.Visits.{AfterVisits, AreVisits, HasLed, HasVisited, HaveVisited, IsVisit, Leads, begun, told_with}
 
 -- ---- turn by turn
@@ -170,11 +171,11 @@ module _ {H : Type 0} (finds : H → List ℕ → ImageKind → Result (Option P
 
 -- ---- what was gathered
 
--- what one more pass was told stands among it
-pub gathered_after : {H : Type 0} (finds : H → List ℕ → ImageKind → Result (Option Program) NotSeen → H → Type 0) (names : H → List ℕ → ImageKind → Result (Option (List ℕ)) NameFault → H → Type 0)
-    (takes : H → Change → Result Unit HookFault → H → Type 0) (starts : List (StoreView Passing H)) (own : List Told) (logs : List JournalLog)
-    → AfterVisits finds names takes starts (λ told. (after : List Told) × IsGathered (told ++ own ++ after) logs) → (before after : List Told) × IsGathered (before ++ own ++ after) logs
-gathered_after finds names takes starts own logs (calls, visits, (after, gathered)) = (told_with starts calls, after, gathered)
+-- what spare passes had been told stands among it
+pub gathered_after : {H B : Type 0} (finds : H → List ℕ → ImageKind → Result (Option Program) NotSeen → H → Type 0) (names : H → List ℕ → ImageKind → Result (Option (List ℕ)) NameFault → H → Type 0)
+    (takes : H → Change → Result Unit HookFault → H → Type 0) (starts : List (StoreView Passing H)) (spares : Spares B) (logs : List JournalLog)
+    → AfterVisits finds names takes starts (λ told. AreGathered told spares logs) → (told : List Told) × AreGathered told spares logs
+gathered_after finds names takes starts spares logs (calls, visits, gathered) = (told_with starts calls, gathered)
 
 -- what holds of an answer, by what two clauses say of it
 pub if_both : {T E : Type 0} (r : Result T E) (P Q R : T → Type 0) → ((v : T) → P v → Q v → R v) → IfOk r P → IfOk r Q → IfOk r R

@@ -1,5 +1,5 @@
 -- What stands on the output when a store that is kept has ended (this store's profile).
-use Rattle.std.specs.Prelude.{◌≡◌, ◌++◌, ℕ, List, [], Option, Result, Ok, Err, codes, decimal}
+use Rattle.std.specs.Prelude.{◌≡◌, ◌+◌, ◌++◌, ℕ, List, [], Option, Result, Ok, Err, codes, decimal}
 use Rattle.std.specs.Io.KnownBytes.{Appends}
 use Rattle.commands.specs.Command.{begun}
 use Rattle.commands.specs.Outcome.{line}
@@ -7,7 +7,9 @@ use Rattle.commands.specs.declared.server.Ended.{Ended}
 use Rattle.commands.specs.declared.server.Ended.TheVariants as ended
 use Rattle.closing.specs.Following.{IsSaidOf}
 use Rattle.keeping.specs.declared.file.KeptFile.{KeptFile}
-use Rattle.loading.specs.Beginnings.{BeginWithFiles, HaveLoaded, fronts_to}
+use Rattle.keeping.specs.Files.{records_at}
+use Rattle.loading.specs.Beginnings.{BeginWithFiles, fronts_to}
+use Rattle.loading.specs.Loads.{HasLoaded}
 use Rattle.stamps.specs.declared.view.View.{View}
 use Rattle.dvvstore.specs.declared.crew.running.Served.{Served}
 use Rattle.dvvstore.specs.declared.keeper.Begun.{Begun}
@@ -51,7 +53,7 @@ abbrev pub files_of : {N F B : Type 0} → Stay N F B → List KeptFile
 files_of (stay.Guest lobby) = []
 files_of (stay.Keeper keeper begun) = keeper.held.now.files.items
 
--- how many passes there are besides those of workers: one that the follower has, and three more of a store that is kept, the first of which it begins by
+-- how many passes there are besides those of workers: one that the follower has, and three more of a store that is kept, by which it begins
 abbrev pub passes_for : {N F : Type 0} → Tenant N F → ℕ
 passes_for (tenant.Guest lobby) = 1
 passes_for (tenant.Keeper keeper) = 4
@@ -61,10 +63,12 @@ abbrev pub passes_of : {N F B : Type 0} → Stay N F B → ℕ
 passes_of (stay.Guest lobby) = 1
 passes_of (stay.Keeper keeper begun) = 4
 
--- the three vnodes, numbered from the first on, have taken over what these files hold, each what is its own by index, each record once and in order; the first pass
+-- the three vnodes, numbered from the first on, have taken over what these files hold, each what is its own by index, each record once and in order; its own pass
 -- was told of that, and of nothing else since; and their fronts are the numbers of these records
 abbrev pub HasBegunWith : {B : Type 0} → ℕ → List KeptFile → Begun B → Type 0
-HasBegunWith first files begun = (fresh : View) × HaveLoaded fresh begun.spares.first first files 3 × (begun.fronts.items ≡ fronts_to files 3) × (begun.first ≡ first)
+HasBegunWith first files begun =
+    (one two three : View) × HasLoaded one begun.spares.first (first + 0) (records_at files 0) × HasLoaded two begun.spares.second (first + 1) (records_at files 1)
+    × HasLoaded three begun.spares.third (first + 2) (records_at files 2) × (begun.fronts.items ≡ fronts_to files 3) × (begun.first ≡ first)
 
 -- the same, where the store is kept
 abbrev pub HasBegunRight : {N F B : Type 0} → ℕ → Stay N F B → Type 0

@@ -19,8 +19,8 @@ use keeping::KeptFile;
 use kept_hooks::{HooksAlone, Recorder, ReplayFault, Requests, replay};
 use listener::{Lobby, Setup, open};
 use loading::laws::loads_stand;
-use loading::{Unloaded, fronts_of, load_all};
-use pool::{Cluster, Pass, Room};
+use loading::{Loaders, Unloaded, fronts_of, load_all};
+use pool::{Cluster, Room};
 use std::alloc::{AllocError, Global};
 use std::io;
 use std::io::{Stderr, Stdin, Write};
@@ -69,7 +69,7 @@ impl From<io::Error> for Unbegun {
 /// What a store has begun with that a folder keeps.
 #[derive(Drop)]
 pub struct Begun<B: Room> {
-    /// The pass by which that was brought to its vnodes, and those that make snapshots with it.
+    /// The passes by which that was brought to its vnodes, which make snapshots later.
     pub spares: Spares<B>,
     /// So many of the first entries of each vnode were there then.
     pub fronts: Vec<usize>,
@@ -201,19 +201,20 @@ fn open_lobby<N: Net<Listener = TcpListener, Stream = TcpStream>, O: Write>(
     open(alloc, rt, workers, setup)
 }
 
-/// Has each vnode take over its records. Answers how many of them each has, by index.
-pub fn begin<B: Room, R: Wait>(
+/// Has each of three vnodes take over its records, side by side. The passes come back, and beside them how many records each vnode has, by index.
+pub fn begin<B: Room + Send + Sync, R: Threads + Wait + Sync>(
     alloc: Global,
     rt: &R,
     cluster: &Cluster<B>,
-    pass: &mut Pass<B>,
+    loaders: Loaders<B>,
     files: &[KeptFile],
-) -> Result<Vec<usize>, Unbegun>
-    ensures loaded { IfOk result (λ fronts. HaveLoaded pass.old pass.new cluster.now.first files.now cluster.now.vnodes) }
-    ensures fronts { IfOk result (λ fronts. fronts.items ≡ fronts_to files.now cluster.now.vnodes) }
+) -> Result<(Loaders<B>, Vec<usize>), Unbegun>
+    requires vnodes { cluster.now.vnodes ≡ 3 }
+    ensures loaded { IfOk result (λ begun. HaveLoaded loaders begun.0 cluster.now.first files.now) }
+    ensures fronts { IfOk result (λ begun. begun.1.items ≡ fronts_to files.now cluster.now.vnodes) }
 {
-    match load_all(alloc, rt, cluster, pass, files) {
-        Ok(()) => Ok(fronts_of(alloc, files, cluster.count())?),
+    match load_all(alloc, rt, cluster, loaders, files) {
+        Ok(loaders) => Ok((loaders, fronts_of(alloc, files, cluster.count())?)),
         Err(unloaded) => Err(Unbegun::Records(unloaded)),
     }
 }

@@ -1,7 +1,7 @@
 //! Snapshots of a store that is kept, beside its workers.
 
 ghost use Rattle.std.specs.Prelude.{◌≡◌};
-ghost use Rattle.dvvstore.specs.Asides.{Grows};
+ghost use Rattle.dvvstore.specs.Asides.{AllGrow, Grows};
 
 mod stride;
 
@@ -48,11 +48,11 @@ impl Schedule {
 /// The passes by which snapshots are made: vnodes are read side by side, each by a pass of its own.
 #[derive(Drop)]
 pub struct Spares<B: Room> {
-    /// The pass of the first vnode, by which a store has begun.
+    /// The pass of the first vnode. It has taken over by this pass what a folder held.
     pub first: Pass<B>,
-    /// That of the second one.
+    /// That of the second one, likewise.
     pub second: Pass<B>,
-    /// That of the third one.
+    /// That of the third one, likewise.
     pub third: Pass<B>,
 }
 
@@ -77,7 +77,7 @@ pub struct Saver<F> {
 }
 
 impl<F: Folder + Copy + Send> Saver<F> {
-    /// Makes snapshots until all workers have ended or the server is told to stop, by calls on the vnodes through passes: what the first is told
+    /// Makes snapshots until all workers have ended or the server is told to stop, by calls on the vnodes through passes: what each is told
     /// comes behind what it was told before. The passes come back.
     pub fn run<B: Room + Send + Sync, R: Threads + Wait + Sync>(
         &mut self,
@@ -86,7 +86,7 @@ impl<F: Folder + Copy + Send> Saver<F> {
         mut spares: Spares<B>,
         signs: &Signs<'_>,
     ) -> Spares<B>
-        ensures grows { Grows spares.first result.first }
+        ensures grow { AllGrow spares result }
     {
         let mut timer = Timer::new();
         let mut schedule = Schedule {
@@ -118,7 +118,7 @@ impl<F: Folder + Copy + Send> Saver<F> {
         spares: Spares<B>,
         signs: &Signs<'_>,
     ) -> (Spares<B>, usize)
-        ensures grows { Grows spares.first result.0.first }
+        ensures grow { AllGrow spares result.0 }
     {
         let mut timer = Timer::new();
         let begin = timer.now();
@@ -153,7 +153,7 @@ impl<F: Folder + Copy + Send> Saver<F> {
         spares: Spares<B>,
         signs: &Signs<'_>,
     ) -> (Spares<B>, Result<usize, Unreplaced>)
-        ensures grows { Grows spares.first result.0.first }
+        ensures grow { AllGrow spares result.0 }
     {
         let (spares, came) = self.write_vnodes(rt, cluster, spares, signs);
         (
@@ -183,7 +183,7 @@ impl<F: Folder + Copy + Send> Saver<F> {
         spares: Spares<B>,
         signs: &Signs<'_>,
     ) -> (Spares<B>, Result<usize, Unreplaced>)
-        ensures grows { Grows spares.first result.0.first }
+        ensures grow { AllGrow spares result.0 }
     {
         let Spares {
             first,
@@ -195,7 +195,10 @@ impl<F: Folder + Copy + Send> Saver<F> {
         let three = self.shelf.side(third, 2);
         let (others, one) = thread::join(
             rt,
-            || -> (Saved<B>, Saved<B>) { write_both(rt, cluster, two, three, signs) },
+            || -> (Saved<B>, Saved<B>)
+                ensures second { Grows two.pass result.0.pass }
+                ensures third { Grows three.pass result.1.pass }
+            { write_both(rt, cluster, two, three, signs) },
             || -> Saved<B>
                 ensures { Grows one.pass result.pass }
             { one.write(rt, cluster, signs) },
@@ -299,11 +302,18 @@ fn write_both<B: Room + Send + Sync, F: Folder + Copy + Send, R: Threads + Wait 
     one: Side<B, F>,
     other: Side<B, F>,
     signs: &Signs<'_>,
-) -> (Saved<B>, Saved<B>) {
+) -> (Saved<B>, Saved<B>)
+    ensures one { Grows one.pass result.0.pass }
+    ensures other { Grows other.pass result.1.pass }
+{
     thread::join(
         rt,
-        || -> Saved<B> { one.write(rt, cluster, signs) },
-        || -> Saved<B> { other.write(rt, cluster, signs) },
+        || -> Saved<B>
+            ensures { Grows one.pass result.pass }
+        { one.write(rt, cluster, signs) },
+        || -> Saved<B>
+            ensures { Grows other.pass result.pass }
+        { other.write(rt, cluster, signs) },
     )
 }
 

@@ -19,6 +19,7 @@ use helpers::Table;
 use hooks::{HookChanges, Hooks};
 use kept_hooks::Requests;
 use listener::Lobby;
+use loading::Loaders;
 use place::Placement;
 use pool::{Cluster, Pass, Room};
 use quorum::Hooking;
@@ -179,9 +180,9 @@ fn over_stamps<
     )
 }
 
-/// Has the vnodes take over what they begin with, by one of the passes where a folder held something. Answers for whom they have begun, and from
+/// Has the vnodes take over what they begin with, by three of the passes where a folder held something. Answers for whom they have begun, and from
 /// which fronts what they do is followed.
-fn begin<'a, B: Room, R: Wait, N, F: Copy>(
+fn begin<'a, B: Room + Send + Sync, R: Threads + Wait + Sync, N, F: Copy>(
     alloc: Global,
     rt: &R,
     cluster: &Cluster<B>,
@@ -206,32 +207,36 @@ fn begin<'a, B: Room, R: Wait, N, F: Copy>(
     let (Some(one), Some(second), Some(third)) = (passes.pop(), passes.pop(), passes.pop()) else {
         unreachable!();
     };
-    let spares = Spares {
+    let loaders = Loaders {
         first: one,
         second,
         third,
     };
-    let begun = begin_kept(alloc, rt, cluster, first, spares, &keeper)?;
+    let begun = begin_kept(alloc, rt, cluster, first, loaders, &keeper)?;
     let fronts = begun.fronts.as_slice().to_vec(alloc)?;
     Ok((Stay::Keeper(keeper, begun), fronts))
 }
 
-/// Has the vnodes take over what a folder held, by the first of spare passes.
-fn begin_kept<B: Room, R: Wait, N, F>(
+/// Has the vnodes take over what a folder held, each by a pass of its own, by which it is read for snapshots later.
+fn begin_kept<B: Room + Send + Sync, R: Threads + Wait + Sync, N, F>(
     alloc: Global,
     rt: &R,
     cluster: &Cluster<B>,
     first: u32,
-    mut spares: Spares<B>,
+    loaders: Loaders<B>,
     keeper: &Keeper<'_, N, F>,
 ) -> Result<Begun<B>, Unbegun>
     requires vnodes { cluster.now.vnodes ≡ 3 }
     requires first { first ≡ cluster.now.first }
     ensures { IfOk result (HasBegunWith cluster.now.first keeper.now.held.now.files.items) }
 {
-    let fronts = keeper::begin(alloc, rt, cluster, &mut spares.first, &keeper.held.files)?;
+    let (loaders, fronts) = keeper::begin(alloc, rt, cluster, loaders, &keeper.held.files)?;
     Ok(Begun {
-        spares,
+        spares: Spares {
+            first: loaders.first,
+            second: loaders.second,
+            third: loaders.third,
+        },
         fronts,
         first,
     })

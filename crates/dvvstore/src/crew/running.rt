@@ -3,8 +3,7 @@
 ghost use Rattle.std.specs.Prelude.{◌≡◌, ◌+◌, ◌++◌, ◌≤◌, List, IfOk, map, vec_len};
 ghost use Rattle.stamps.specs.declared.view.Told.{Told};
 ghost use Rattle.closing.specs.Following.{IsFollowedTo, IsSaidOf};
-ghost use Rattle.vnode_locks.specs.Gathers.{IsGathered};
-ghost use Rattle.dvvstore.specs.Asides.{GoOn, count_of, passes_of};
+ghost use Rattle.dvvstore.specs.Asides.{AreGathered, GoOn, count_of, passes_of};
 ghost use Rattle.dvvstore.specs.Visits.{AfterVisits, HaveVisited, begun};
 
 use crate::crew::signs::Signs;
@@ -84,6 +83,7 @@ fn run<
 }
 
 /// Makes snapshots by spare passes until all workers have ended, if there are any and somebody makes them. The passes come back.
+#[tactic(auto, using(crate::proofs::Growing::goes_on_same))]
 fn save_beside<B: Room + Send + Sync, F: Folder + Copy + Send, R: Threads + Wait + Sync>(
     rt: &R,
     cluster: &Cluster<B>,
@@ -136,8 +136,8 @@ pub struct Served {
 }
 
 /// Has a crew serve a store that has begun with something, so many entries of each vnode, by index, while snapshots are made beside it by the
-/// pass that brought these and more. Once all workers have ended, the cluster is gathered, and what is left of the journals is followed; the
-/// vnodes are handed back, whatever is said of them, and what that pass had been told before stands in their journals. The error: memory was
+/// passes that brought these. Once all workers have ended, the cluster is gathered, and what is left of the journals is followed; the
+/// vnodes are handed back, whatever is said of them, and what each of these passes had been told before stands in their journals. The error: memory was
 /// refused before the vnodes were gathered, and they are lost.
 pub fn keep<
     B: Room + Spot + Send + Sync,
@@ -157,7 +157,7 @@ pub fn keep<
 ) -> Result<Served, AllocError>
     requires first { cluster.first ≡ B.first }
     requires all { cluster.passes ≤ vec_len seats + 4 }
-    ensures kept { IfOk result (λ served. AfterVisits H.finds H.names H.takes (map (λ s. begun cluster s.pass s.hooking.hooks s.hooking.table.listed s.placement) seats.items) (λ told. (after : List Told) × IsGathered (told ++ spares.first.told ++ after) served.closed.vnodes.items) × (vec_len served.closed.vnodes ≡ cluster.vnodes)) }
+    ensures kept { IfOk result (λ served. AfterVisits H.finds H.names H.takes (map (λ s. begun cluster s.pass s.hooking.hooks s.hooking.table.listed s.placement) seats.items) (λ told. AreGathered told spares served.closed.vnodes.items) × (vec_len served.closed.vnodes ≡ cluster.vnodes)) }
     ensures said { IfOk result (λ served. IsSaidOf fronts.now served.closed.vnodes.items served.closed.said) }
 {
     let Back {

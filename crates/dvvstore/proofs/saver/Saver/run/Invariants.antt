@@ -1,6 +1,6 @@
-use Rattle.dvvstore.specs.Asides.{Grows}
+use Rattle.dvvstore.specs.Asides.{AllGrow}
 use Rattle.dvvstore.proofs.saver.Saver.run.Given as goal
 
--- what the first pass was told only grew
+-- what each pass was told only grew
 abbrev pub invariant-loop : goal.invariant-loop
-invariant-loop g l = Grows l.initial.spares.first l.spares.first
+invariant-loop g l = AllGrow l.initial.spares l.spares
