@@ -7,30 +7,7 @@ use crate::records::{Unread, records_in};
 use std::alloc::Global;
 use std::thread;
 use std::thread::Threads;
-use wire::Record;
-
-/// How long the mark at the front of a record is, in bytes. The length of its body stands behind it.
-const MARK_LEN: usize = 4;
-
-/// How long that length is, in bytes.
-const LENGTH_LEN: usize = 4;
-
-/// How long the digest behind a body is, in bytes.
-const DIGEST_LEN: usize = 20;
-
-/// How long the record at the front of bytes is, as its head says it; none where there are fewer.
-fn length_of(bytes: &[u8]) -> Option<usize>
-    ensures some { IfSome result (λ len. 0 < len) }
-    ensures within { IfSome result (λ len. len ≤ length bytes.now) }
-{
-    let (_, rest) = bytes.split_first_chunk::<MARK_LEN>()?;
-    let (body, rest) = rest.split_first_chunk::<LENGTH_LEN>()?;
-    let behind = u32::from_be_bytes(*body) as usize + DIGEST_LEN;
-    if rest.len() < behind {
-        return None;
-    }
-    Some(MARK_LEN + LENGTH_LEN + behind)
-}
+use wire::{Record, record_length};
 
 /// The place of the first record that begins in the second half of bytes, as the heads of those before it say it; the end where there is none.
 fn middle_of(bytes: &[u8]) -> usize
@@ -38,7 +15,7 @@ fn middle_of(bytes: &[u8]) -> usize
 {
     let mut left = bytes;
     while left.len() > bytes.len() / 2 {
-        match length_of(left) {
+        match record_length(left) {
             Some(len) => left = &left[len..],
             None => return bytes.len(),
         }

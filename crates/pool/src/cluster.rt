@@ -13,12 +13,17 @@ use journal::{Entry, Handout};
 use object::Key;
 use stamps::{Card, STAMPS_EACH, Stamps};
 use std::alloc::{AllocError, Global};
+use std::hint::spin_loop;
 use std::marker::{Model, PhantomData};
-use std::sync::{Mutex, Wait};
+use std::sync::{Mutex, MutexGuard, Wait};
 use vnode::{Names, Seed, Vnode, VnodeFault, in_order};
 use vnode_locks::{
     CallFault, GatherFault, Locked, Pass, Receipt, Room, deal_passes, deal_vnodes, gathered,
 };
+
+/// How often a vnode's lock is tried before the thread sleeps until it is free: for some 50 microseconds, where the processor is told each time
+/// that the thread waits.
+const TRIES: u32 = 1_000;
 
 /// Is told of each call.
 pub trait Gate {
@@ -54,6 +59,20 @@ impl<B: Room> Cluster<B> {
         ensures { result ≡ self.now.vnodes }
     {
         self.vnodes.len()
+    }
+
+    // A vnode under its lock. Who holds it is through within microseconds, and a thread that sleeps wakes much later: so it is tried for a while.
+    fn locked<'a, R: Wait>(&'a self, rt: &R, vnode: usize) -> MutexGuard<'a, Locked<B>>
+        requires { vnode < self.now.vnodes }
+    {
+        let vnode = &self.vnodes[vnode];
+        for _ in 0..TRIES {
+            if let Some(guard) = vnode.try_lock() {
+                return guard;
+            }
+            spin_loop();
+        }
+        vnode.lock(rt)
     }
 
     /// Makes a call on the vnode of an index, under its lock. The answer is that of one thread at the receipt's place, which is above all
@@ -99,7 +118,7 @@ impl<B: Room> Cluster<B> {
         if pass.drawn() >= STAMPS_EACH {
             return Err(CallFault::PassSpent);
         }
-        let mut guard = self.vnodes[vnode].lock(rt);
+        let mut guard = self.locked(rt, vnode);
         gate.told(vnode);
         guard.make(&self.stamps, pass, self.first + vnode as u32, prepared)
     }
@@ -134,7 +153,7 @@ impl<B: Room> Cluster<B> {
         ensures same { (pass.new.told ≡ pass.old.told) × (pass.new.drawn ≡ pass.old.drawn) }
         ensures ok { IfOk result (λ names. AreUnsortedOf self.now pass.old vnode names.keys) }
     {
-        let mut guard = self.vnodes[vnode].lock(rt);
+        let mut guard = self.locked(rt, vnode);
         guard.unsorted_keys(&self.stamps, pass, self.first + vnode as u32)
     }
 }
@@ -160,7 +179,7 @@ impl<B: Room> Cluster<B> {
         if pass.drawn() >= STAMPS_EACH {
             return None;
         }
-        let mut guard = self.vnodes[vnode].lock(rt);
+        let mut guard = self.locked(rt, vnode);
         guard.hand_out(&self.stamps, pass, self.first + vnode as u32, room)
     }
 }

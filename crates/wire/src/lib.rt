@@ -12,6 +12,6 @@ mod record;
 mod write;
 
 pub use fault::WireFault;
-pub use read::read_record;
+pub use read::{read_record, record_length};
 pub use record::Record;
 pub use write::{has_record, write_record};

@@ -1,6 +1,6 @@
 //! Reading a record.
 
-ghost use Rattle.std.specs.Prelude.{◌≡◌, List, ℕ, ◌≤◌, ◌<◌, ◌+◌, ◌^◌, ◌++◌, ◌↔◌, length, IfOk, IfErr, IsTrue, Err, MatchResult};
+ghost use Rattle.std.specs.Prelude.{◌≡◌, List, ℕ, ◌≤◌, ◌<◌, ◌+◌, ◌^◌, ◌++◌, ◌↔◌, length, IfOk, IfErr, IfSome, OnErr, None, IsTrue, Err, MatchResult};
 ghost use Rattle.sha1.specs.Sha1.{sha1};
 ghost use Rattle.std.specs.Int.{w16, w32, w64};
 ghost use Rattle.wire.specs.Reading.{Gives, chain_at, clock_at, content_at, dot_at, key_at, next_entry, next_sibling, no_dot, number_at, record_in, sent_at, sibling_at, siblings_at, state_at, taken_at, text_at, value_at};
@@ -262,13 +262,13 @@ fn is_digest(body: &[u8], digest: &[u8]) -> bool
     Sha1::digest(body).as_slice() == digest
 }
 
-/// The body of the record at the front, whose digest is right, and the record's length.
-fn framed(bytes: &[u8]) -> Result<(&[u8], usize), WireFault>
+/// The body and the digest of the record at the front, as its head says where they are. Whether they match isn't tested.
+fn parts_of(bytes: &[u8]) -> Result<(&[u8], &[u8]), WireFault>
     ensures whole { IfOk result (λ x. IsWhole bytes.now) }
-    ensures digest { IfOk result (λ x. sha1 (body_in bytes.now) ≡ digest_in bytes.now) }
     ensures body { IfOk result (λ x. x.0.now ≡ body_in bytes.now) }
-    ensures len { IfOk result (λ x. x.1 ≡ 28 + body_length bytes.now) }
+    ensures digest { IfOk result (λ x. x.1.now ≡ digest_in bytes.now) }
     ensures fault { IfErr result (HasFault bytes.now) }
+    ensures cut { OnErr result (IsWhole bytes.now → ⊥) }
 {
     let Some((head, rest)) = bytes.split_first_chunk::<4>() else {
         return Err(WireFault::Cut);
@@ -284,10 +284,45 @@ fn framed(bytes: &[u8]) -> Result<(&[u8], usize), WireFault>
         return Err(WireFault::Cut);
     }
     let (body, rest) = rest.split_at(len);
-    if !is_digest(body, &rest[..DIGEST_LEN]) {
+    Ok((body, &rest[..DIGEST_LEN]))
+}
+
+/// How long a record with a body is.
+fn length_around(body: &[u8]) -> usize
+    ensures { result ≡ 28 + length body.now }
+{
+    HEAD_LEN + body.len() + DIGEST_LEN
+}
+
+/// How long the record at the front of the input is, as its head says it. None where the input doesn't begin with the mark, or ends before all
+/// that the length says. Neither the body nor its digest is looked at.
+pub fn record_length(bytes: &[u8]) -> Option<usize>
+    ensures some { IfSome result (λ len. IsWhole bytes.now × (len ≡ 28 + body_length bytes.now)) }
+    ensures within { IfSome result (λ len. len ≤ length bytes.now) }
+    ensures none { result ≡ None → IsWhole bytes.now → ⊥ }
+{
+    match parts_of(bytes) {
+        Ok((body, _)) => Some(length_around(body)),
+        Err(_) => None,
+    }
+}
+
+/// The body of the record at the front, whose digest is right, and the record's length.
+fn framed(bytes: &[u8]) -> Result<(&[u8], usize), WireFault>
+    ensures whole { IfOk result (λ x. IsWhole bytes.now) }
+    ensures digest { IfOk result (λ x. sha1 (body_in bytes.now) ≡ digest_in bytes.now) }
+    ensures body { IfOk result (λ x. x.0.now ≡ body_in bytes.now) }
+    ensures len { IfOk result (λ x. x.1 ≡ 28 + body_length bytes.now) }
+    ensures fault { IfErr result (HasFault bytes.now) }
+{
+    let (body, digest) = match parts_of(bytes) {
+        Ok(parts) => parts,
+        Err(fault) => return Err(fault),
+    };
+    if !is_digest(body, digest) {
         return Err(WireFault::Digest);
     }
-    Ok((body, HEAD_LEN + len + DIGEST_LEN))
+    Ok((body, length_around(body)))
 }
 
 /// The record at the front of the input, and its length; anything may follow it.
