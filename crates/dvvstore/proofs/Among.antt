@@ -6,7 +6,7 @@ use Rattle.stamps.specs.declared.view.Told.{Told}
 use Rattle.stamps.specs.declared.view.View.{View}
 use Rattle.vnode_locks.specs.Gathers.{IsGathered}
 use Rattle.dvvstore.specs.Asides.{AreGathered, GoOn, passes_of}
-use Rattle.dvvstore.specs.declared.saver.Spares.{Spares}
+use Rattle.loading.specs.declared.beginning.Passes.{Passes}
 
 -- what passes were told
 abbrev all_told : List View → List Told
@@ -23,7 +23,7 @@ one_among front before own more behind rest now grown =
     ∙ sym (append_assoc (front ++ before) own (more ++ (behind ++ rest)))))))
 
 -- what each of spare passes had been told stands among what all passes were told, behind what the others were told
-all_among : {B : Type 0} → (front rest : List Told) (old new : Spares B) (logs : List Log) → GoOn (Some old) (Some new) → IsGathered (front ++ all_told (new.first ∷ new.second ∷ new.third ∷ []) ++ rest) logs
+all_among : {B : Type 0} → (front rest : List Told) (old new : Passes B) (logs : List Log) → GoOn (Some old) (Some new) → IsGathered (front ++ all_told (new.first ∷ new.second ∷ new.third ∷ []) ++ rest) logs
     → AreGathered front old logs
 all_among front rest old new logs (first, second, third) gathered =
     let one = new.first.told in
@@ -37,7 +37,7 @@ all_among front rest old new logs (first, second, third) gathered =
       at (one ++ two) old.third.told third.0 [] three third.1 (sym (append_assoc one two (three ++ []))),
     )
 
-pub told_among : {B : Type 0} → (passes all : List View) (old : Spares B) (new : Option (Spares B)) (rest : List Told) (logs : List Log) → all ≡ passes ++ passes_of new → GoOn (Some old) new
+pub told_among : {B : Type 0} → (passes all : List View) (old : Passes B) (new : Option (Passes B)) (rest : List Told) (logs : List Log) → all ≡ passes ++ passes_of new → GoOn (Some old) new
     → IsGathered (all_told all ++ rest) logs → AreGathered (all_told passes) old logs
 told_among passes all old None rest logs is goes gathered = absurd goes
 told_among passes all old (Some new) rest logs is goes gathered =

@@ -2,7 +2,7 @@
 use Rattle.std.proofs.Common.{◌≡◌, ◌∙◌, ℕ, List, [], ◌∷◌, ◌++◌, Option, None, Some, ap, append_assoc, refl, sym}
 use Rattle.std.proofs.lemmas.List.{append-nil}
 use Rattle.dvvstore.specs.Asides.{GoOn, Grows}
-use Rattle.dvvstore.specs.declared.saver.Spares.{Spares}
+use Rattle.loading.specs.declared.beginning.Passes.{Passes}
 use Rattle.peers.specs.Calls.{Call, Made}
 use Rattle.stamps.specs.declared.view.Told.{Told}
 use Rattle.stamps.specs.declared.view.View.{View}
@@ -11,7 +11,7 @@ pub nothing_more : (old new : View) → new ≡ old → Grows old new
 nothing_more old new is = ([], ap (λ (v : View). v.told) is ∙ sym (append-nil old.told))
 
 -- where nobody calls by spare passes, they are as they were
-pub goes_on_same : {B : Type 0} → (spares : Option (Spares B)) → GoOn spares spares
+pub goes_on_same : {B : Type 0} → (spares : Option (Passes B)) → GoOn spares spares
 goes_on_same None = tt
 goes_on_same (Some spares) = (nothing_more spares.first spares.first refl, nothing_more spares.second spares.second refl, nothing_more spares.third spares.third refl)
 

@@ -4,7 +4,7 @@ use Rattle.keeping.specs.declared.file.KeptFile.{KeptFile}
 use Rattle.journal.specs.Logs.{Log}
 use Rattle.keeping.specs.Files.{records_at}
 use Rattle.loading.specs.Beginnings.{BeginWithFiles, BeginsWith, HaveLoaded, fronts_to}
-use Rattle.loading.specs.declared.beginning.Loaders.{Loaders}
+use Rattle.loading.specs.declared.beginning.Passes.{Passes}
 use Rattle.dvvstore.specs.Keeping.{Leaves}
 use Rattle.dvvstore.specs.declared.keeper.Unbegun.{Unbegun}
 use Rattle.dvvstore.specs.declared.session.Left.{Left}
@@ -13,7 +13,7 @@ pub leaves_as : (first number : ℕ) (files held : List KeptFile) (left : Result
 leaves_as first number files held left is same so = subst (λ (n : ℕ). Leaves n held left) is (subst (λ (fs : List KeptFile). Leaves first fs left) same so)
 
 -- what three vnodes have begun with
-pub begun_with : {B : Type 0} (loaders back : Loaders B) (first n : ℕ) (files held : List KeptFile) (fronts : List ℕ) → files ≡ held → n ≡ 3 → HaveLoaded loaders back first files → fronts ≡ fronts_to files n
+pub begun_with : {B : Type 0} (loaders back : Passes B) (first n : ℕ) (files held : List KeptFile) (fronts : List ℕ) → files ≡ held → n ≡ 3 → HaveLoaded loaders back first files → fronts ≡ fronts_to files n
     → HaveLoaded loaders back first held × (fronts ≡ fronts_to held 3)
 begun_with loaders back first n files held fronts same three loaded is = (
   subst (λ (fs : List KeptFile). HaveLoaded loaders back first fs) same loaded,

@@ -28,7 +28,7 @@ use Rattle.store.specs.View.{StoreView, shown}
 use Rattle.peers.specs.Calls.{Call as PeerCall}
 use Rattle.serving.specs.Passes.{AreCallsOf, GivesUnnoted, PassCalls, Passing, all_calls, by_pass, told_by}
 use Rattle.dvvstore.specs.Asides.{AreGathered}
-use Rattle.dvvstore.specs.declared.saver.Spares.{Spares}
+use Rattle.loading.specs.declared.beginning.Passes.{Passes}
 use Rattle.dvvstore.specs.Visits.{AfterVisits, AreVisits, HasLed, HasVisited, HaveVisited, IsVisit, Leads, begun, told_with}
 
 -- ---- turn by turn
@@ -173,7 +173,7 @@ module _ {H : Type 0} (finds : H → List ℕ → ImageKind → Result (Option P
 
 -- what spare passes had been told stands among it
 pub gathered_after : {H B : Type 0} (finds : H → List ℕ → ImageKind → Result (Option Program) NotSeen → H → Type 0) (names : H → List ℕ → ImageKind → Result (Option (List ℕ)) NameFault → H → Type 0)
-    (takes : H → Change → Result Unit HookFault → H → Type 0) (starts : List (StoreView Passing H)) (spares : Spares B) (logs : List JournalLog)
+    (takes : H → Change → Result Unit HookFault → H → Type 0) (starts : List (StoreView Passing H)) (spares : Passes B) (logs : List JournalLog)
     → AfterVisits finds names takes starts (λ told. AreGathered told spares logs) → (told : List Told) × AreGathered told spares logs
 gathered_after finds names takes starts spares logs (calls, visits, gathered) = (told_with starts calls, gathered)
 

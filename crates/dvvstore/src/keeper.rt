@@ -9,7 +9,7 @@ ghost use Rattle.dvvstore.specs.Keeping.{HasBegunWith, Leaves, Tells};
 use crate::crew;
 use crate::crew::{Lookout, Seat};
 use crate::reasons::listen;
-use crate::saver::{Saver, Shelf, Spares};
+use crate::saver::{Saver, Shelf};
 use crate::session::Left;
 use closing::Spot;
 use folder::{Folder, HOOKS, Held};
@@ -19,7 +19,7 @@ use keeping::KeptFile;
 use kept_hooks::{HooksAlone, Recorder, ReplayFault, Requests, replay};
 use listener::{Lobby, Setup, open};
 use loading::laws::loads_stand;
-use loading::{Loaders, Unloaded, fronts_of, load_all};
+use loading::{Passes, Unloaded, fronts_of, load_all};
 use pool::{Cluster, Room};
 use std::alloc::{AllocError, Global};
 use std::io;
@@ -70,7 +70,7 @@ impl From<io::Error> for Unbegun {
 #[derive(Drop)]
 pub struct Begun<B: Room> {
     /// The passes by which that was brought to its vnodes, which make snapshots later.
-    pub spares: Spares<B>,
+    pub spares: Passes<B>,
     /// So many of the first entries of each vnode were there then.
     pub fronts: Vec<usize>,
     /// The identifier of the first vnode.
@@ -206,15 +206,15 @@ pub fn begin<B: Room + Send + Sync, R: Threads + Wait + Sync>(
     alloc: Global,
     rt: &R,
     cluster: &Cluster<B>,
-    loaders: Loaders<B>,
+    passes: Passes<B>,
     files: &[KeptFile],
-) -> Result<(Loaders<B>, Vec<usize>), Unbegun>
+) -> Result<(Passes<B>, Vec<usize>), Unbegun>
     requires vnodes { cluster.now.vnodes ≡ 3 }
-    ensures loaded { IfOk result (λ begun. HaveLoaded loaders begun.0 cluster.now.first files.now) }
+    ensures loaded { IfOk result (λ begun. HaveLoaded passes begun.0 cluster.now.first files.now) }
     ensures fronts { IfOk result (λ begun. begun.1.items ≡ fronts_to files.now cluster.now.vnodes) }
 {
-    match load_all(alloc, rt, cluster, loaders, files) {
-        Ok(loaders) => Ok((loaders, fronts_of(alloc, files, cluster.count())?)),
+    match load_all(alloc, rt, cluster, passes, files) {
+        Ok(passes) => Ok((passes, fronts_of(alloc, files, cluster.count())?)),
         Err(unloaded) => Err(Unbegun::Records(unloaded)),
     }
 }

@@ -7,14 +7,15 @@ mod stride;
 
 use crate::crew::{Open, Signs};
 use crate::saver::stride::{Stride, is_serving};
+use abreast::join_three;
 use folder::{Folder, Unreplaced, WriteFault, keep_requests, keep_served};
 use keeping::{SnapshotFault, Subject};
 use listener::Timer;
+use loading::Passes;
 use pool::{Cluster, Pass, Room};
 use std::alloc::Global;
 use std::io::{Eprint, Stderr};
 use std::sync::Wait;
-use std::thread;
 use std::thread::Threads;
 use std::time::Duration;
 use workers::PassPeers;
@@ -45,17 +46,6 @@ impl Schedule {
     }
 }
 
-/// The passes by which snapshots are made: vnodes are read side by side, each by a pass of its own.
-#[derive(Drop)]
-pub struct Spares<B: Room> {
-    /// The pass of the first vnode. It has taken over by this pass what a folder held.
-    pub first: Pass<B>,
-    /// That of the second one, likewise.
-    pub second: Pass<B>,
-    /// That of the third one, likewise.
-    pub third: Pass<B>,
-}
-
 /// What came of reading vnodes by a pass.
 #[derive(Drop)]
 struct Saved<B: Room> {
@@ -83,9 +73,9 @@ impl<F: Folder + Copy + Send> Saver<F> {
         &mut self,
         rt: &R,
         cluster: &Cluster<B>,
-        mut spares: Spares<B>,
+        mut spares: Passes<B>,
         signs: &Signs<'_>,
-    ) -> Spares<B>
+    ) -> Passes<B>
         ensures grow { AllGrow spares result }
     {
         let mut timer = Timer::new();
@@ -115,9 +105,9 @@ impl<F: Folder + Copy + Send> Saver<F> {
         &mut self,
         rt: &R,
         cluster: &Cluster<B>,
-        spares: Spares<B>,
+        spares: Passes<B>,
         signs: &Signs<'_>,
-    ) -> (Spares<B>, usize)
+    ) -> (Passes<B>, usize)
         ensures grow { AllGrow spares result.0 }
     {
         let mut timer = Timer::new();
@@ -150,9 +140,9 @@ impl<F: Folder + Copy + Send> Saver<F> {
         &mut self,
         rt: &R,
         cluster: &Cluster<B>,
-        spares: Spares<B>,
+        spares: Passes<B>,
         signs: &Signs<'_>,
-    ) -> (Spares<B>, Result<usize, Unreplaced>)
+    ) -> (Passes<B>, Result<usize, Unreplaced>)
         ensures grow { AllGrow spares result.0 }
     {
         let (spares, came) = self.write_vnodes(rt, cluster, spares, signs);
@@ -180,12 +170,12 @@ impl<F: Folder + Copy + Send> Saver<F> {
         &self,
         rt: &R,
         cluster: &Cluster<B>,
-        spares: Spares<B>,
+        spares: Passes<B>,
         signs: &Signs<'_>,
-    ) -> (Spares<B>, Result<usize, Unreplaced>)
+    ) -> (Passes<B>, Result<usize, Unreplaced>)
         ensures grow { AllGrow spares result.0 }
     {
-        let Spares {
+        let Passes {
             first,
             second,
             third,
@@ -193,19 +183,20 @@ impl<F: Folder + Copy + Send> Saver<F> {
         let one = self.shelf.side(first, 0);
         let two = self.shelf.side(second, 1);
         let three = self.shelf.side(third, 2);
-        let (others, one) = thread::join(
+        let (one, two, three) = join_three(
             rt,
-            || -> (Saved<B>, Saved<B>)
-                ensures second { Grows two.pass result.0.pass }
-                ensures third { Grows three.pass result.1.pass }
-            { write_both(rt, cluster, two, three, signs) },
             || -> Saved<B>
                 ensures { Grows one.pass result.pass }
             { one.write(rt, cluster, signs) },
+            || -> Saved<B>
+                ensures { Grows two.pass result.pass }
+            { two.write(rt, cluster, signs) },
+            || -> Saved<B>
+                ensures { Grows three.pass result.pass }
+            { three.write(rt, cluster, signs) },
         );
-        let (two, three) = others;
         let came = all_keys(one.came, all_keys(two.came, three.came));
-        let spares = Spares {
+        let spares = Passes {
             first: one.pass,
             second: two.pass,
             third: three.pass,
@@ -293,28 +284,6 @@ impl<B: Room, F: Folder + Copy> Side<B, F> {
         }
         Saved { pass, came }
     }
-}
-
-/// Replaces the files of the vnodes of two, side by side.
-fn write_both<B: Room + Send + Sync, F: Folder + Copy + Send, R: Threads + Wait + Sync>(
-    rt: &R,
-    cluster: &Cluster<B>,
-    one: Side<B, F>,
-    other: Side<B, F>,
-    signs: &Signs<'_>,
-) -> (Saved<B>, Saved<B>)
-    ensures one { Grows one.pass result.0.pass }
-    ensures other { Grows other.pass result.1.pass }
-{
-    thread::join(
-        rt,
-        || -> Saved<B>
-            ensures { Grows one.pass result.pass }
-        { one.write(rt, cluster, signs) },
-        || -> Saved<B>
-            ensures { Grows other.pass result.pass }
-        { other.write(rt, cluster, signs) },
-    )
 }
 
 /// How many keys vnodes have together, or which file isn't replaced.

@@ -9,7 +9,6 @@ ghost use Rattle.dvvstore.specs.Keeping.{HasBegunRight, HasBegunWith, Leaves, Te
 
 use crate::crew::{Lookout, Seat, Served};
 use crate::keeper::{Begun, Keeper, Unbegun};
-use crate::saver::Spares;
 use crate::{crew, keeper};
 use closing::{Spot, Watch};
 use findings::Followed;
@@ -19,7 +18,7 @@ use helpers::Table;
 use hooks::{HookChanges, Hooks};
 use kept_hooks::Requests;
 use listener::Lobby;
-use loading::Loaders;
+use loading::Passes;
 use place::Placement;
 use pool::{Cluster, Pass, Room};
 use quorum::Hooking;
@@ -207,12 +206,12 @@ fn begin<'a, B: Room + Send + Sync, R: Threads + Wait + Sync, N, F: Copy>(
     let (Some(one), Some(second), Some(third)) = (passes.pop(), passes.pop(), passes.pop()) else {
         unreachable!();
     };
-    let loaders = Loaders {
+    let spares = Passes {
         first: one,
         second,
         third,
     };
-    let begun = begin_kept(alloc, rt, cluster, first, loaders, &keeper)?;
+    let begun = begin_kept(alloc, rt, cluster, first, spares, &keeper)?;
     let fronts = begun.fronts.as_slice().to_vec(alloc)?;
     Ok((Stay::Keeper(keeper, begun), fronts))
 }
@@ -223,20 +222,16 @@ fn begin_kept<B: Room + Send + Sync, R: Threads + Wait + Sync, N, F>(
     rt: &R,
     cluster: &Cluster<B>,
     first: u32,
-    loaders: Loaders<B>,
+    spares: Passes<B>,
     keeper: &Keeper<'_, N, F>,
 ) -> Result<Begun<B>, Unbegun>
     requires vnodes { cluster.now.vnodes ≡ 3 }
     requires first { first ≡ cluster.now.first }
     ensures { IfOk result (HasBegunWith cluster.now.first keeper.now.held.now.files.items) }
 {
-    let (loaders, fronts) = keeper::begin(alloc, rt, cluster, loaders, &keeper.held.files)?;
+    let (spares, fronts) = keeper::begin(alloc, rt, cluster, spares, &keeper.held.files)?;
     Ok(Begun {
-        spares: Spares {
-            first: loaders.first,
-            second: loaders.second,
-            third: loaders.third,
-        },
+        spares,
         fronts,
         first,
     })

@@ -12,9 +12,9 @@ use crate::names::{HOOKS, INCARNATION, SETTINGS, VNODES, name_of};
 use crate::sealing::{seal, unseal};
 use crate::settings::{Settings, USUAL, settings_in};
 use crate::writing::{WriteFault, replace};
+use abreast::join_three;
 use keeping::{KeptFile, Spent, Unkept, next_incarnation, read_file};
 use std::alloc::{AllocError, Global};
-use std::thread;
 use std::thread::Threads;
 use thiserror::Error;
 
@@ -214,47 +214,23 @@ fn files_in<F: Folder + Sync, R: Threads + Sync>(
 ) -> Result<Vec<KeptFile>, OpenFault>
     ensures { IfOk result (λ files. (index : ℕ) → index < 3 → IsReadAt (F.finds folder.now) files.items index) }
 {
-    let (first, (second, third)) = thread::join(
+    let (first, second, third) = join_three(
         rt,
         || -> Result<Option<KeptFile>, OpenFault>
             ensures { IfOk result (λ file. IsFoundAt (F.finds folder.entry.now) 0 file) }
         { file_in(alloc, rt, folder, 0) },
-        || -> (
-            Result<Option<KeptFile>, OpenFault>,
-            Result<Option<KeptFile>, OpenFault>,
-        )
-            ensures second { IfOk result.0 (λ file. IsFoundAt (F.finds folder.entry.now) 1 file) }
-            ensures third { IfOk result.1 (λ file. IsFoundAt (F.finds folder.entry.now) 2 file) }
-        { both_in(alloc, rt, folder) },
-    );
-    let mut files = Vec::with_capacity(alloc, VNODES)?;
-    add(&mut files, first?)?;
-    add(&mut files, second?)?;
-    add(&mut files, third?)?;
-    Ok(files)
-}
-
-/// The files of the second and the third vnode.
-fn both_in<F: Folder + Sync, R: Threads + Sync>(
-    alloc: Global,
-    rt: &R,
-    folder: &F,
-) -> (
-    Result<Option<KeptFile>, OpenFault>,
-    Result<Option<KeptFile>, OpenFault>,
-)
-    ensures second { IfOk result.0 (λ file. IsFoundAt (F.finds folder.now) 1 file) }
-    ensures third { IfOk result.1 (λ file. IsFoundAt (F.finds folder.now) 2 file) }
-{
-    thread::join(
-        rt,
         || -> Result<Option<KeptFile>, OpenFault>
             ensures { IfOk result (λ file. IsFoundAt (F.finds folder.entry.now) 1 file) }
         { file_in(alloc, rt, folder, 1) },
         || -> Result<Option<KeptFile>, OpenFault>
             ensures { IfOk result (λ file. IsFoundAt (F.finds folder.entry.now) 2 file) }
         { file_in(alloc, rt, folder, 2) },
-    )
+    );
+    let mut files = Vec::with_capacity(alloc, VNODES)?;
+    add(&mut files, first?)?;
+    add(&mut files, second?)?;
+    add(&mut files, third?)?;
+    Ok(files)
 }
 
 /// Adds a file to others, if there is one.

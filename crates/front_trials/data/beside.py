@@ -6,9 +6,12 @@
 Values of 100 bytes under 1,000 keys, over loopback, at 1, 2, 4, 64, 256 and 1,000 connections (or those that are said) that are asked at the same time,
 one request at a time each. The store has as many workers as there are connections, but no more than WORKERS (4). All three are asked by one
 client, asker.c, which cc compiles, on so many threads as there are connections, but no more than THREADS (4); each thread waits for its connections'
-answers by epoll. etcd's data lie in memory, and redis saves nothing. What is told is the middle of the rounds, and the milliseconds in
-which 99 of 100 answers came. Debian: etcd-server redis-server gcc.
+answers by epoll. etcd's data lie in memory, and redis saves nothing. They are asked right after one another for SECONDS (2), in each of so many ROUNDS (3),
+with a fresh server of this store in each: where a machine goes up and down, many short rounds say more than a few long ones. What is told is the middle of
+the rounds, of requests and of ratios, and the milliseconds in which 99 of 100 answers came. Debian: etcd-server redis-server gcc.
 """
+import contextlib
+import itertools
 import os
 import statistics
 import subprocess
@@ -19,6 +22,7 @@ import urllib.request
 from pathlib import Path
 
 CONNECTIONS = (1, 2, 4, 64, 256, 1000)
+METHODS = ("PUT", "GET")
 STORE, ETCD, ETCD_PEERS, REDIS = 8170, 23790, 23800, 6399
 
 
@@ -37,19 +41,19 @@ def ask(folder, who, method, port, connections, seconds, threads):
     return float(rate), float(slow)
 
 
-def of_store(program, folder, port, workers, connections, seconds, threads):
-    """Requests a second, of writes and of reads, by a server of their own whose journals are one run at the end."""
+@contextlib.contextmanager
+def store(program, port, workers, connections):
+    """A server of this store for so many connections twice, whose journals are one run at the end."""
     words = [program, "serve", f"127.0.0.1:{port}", str(min(connections, workers)), str(connections * 2)]
     with subprocess.Popen(words, stdin=subprocess.PIPE, stdout=subprocess.PIPE, text=True) as server:
         try:
             time.sleep(0.3)
-            rates = [ask(folder, "store", method, port, connections, seconds, threads) for method in ("PUT", "GET")]
+            yield
             said = server.communicate(timeout=60)[0]
         finally:
             server.kill()
     if not said.endswith("audit ok\n"):
         sys.exit(f"the store said {said!r}")
-    return rates
 
 
 def servers(folder):
@@ -83,29 +87,27 @@ def main(program, rounds=3, seconds=2, threads=4, workers=4, *which):
             for _ in range(rounds):
                 for connections in which:
                     port += 1
-                    given = {"store": of_store(program, folder, port, workers, connections, seconds, threads)}
-                    for who, at in (("etcd", ETCD), ("redis", REDIS)):
-                        given[who] = [ask(folder, who, method, at, connections, seconds, threads) for method in ("PUT", "GET")]
-                    for who, both in given.items():
-                        for method, rate in zip(("PUT", "GET"), both):
-                            rates.setdefault((who, method, connections), []).append(rate)
+                    with store(program, port, workers, connections):
+                        for method, (who, at) in itertools.product(METHODS, (("store", port), ("redis", REDIS), ("etcd", ETCD))):
+                            given = ask(folder, who, method, at, connections, seconds, threads)
+                            rates.setdefault((who, method, connections), []).append(given)
         finally:
             for server in started:
                 server.kill()
                 server.wait()
     print(f"load at the end {load():.1f}")
     print("                  store     etcd    redis  to etcd  to redis   (least and greatest of the store, of redis; 99 of 100 in ms)")
-    for method in ("PUT", "GET"):
-        for connections in which:
-            told = {who: [rate for rate, _ in rates[who, method, connections]] for who in ("store", "etcd", "redis")}
-            slow = {who: statistics.median(slow for _, slow in rates[who, method, connections]) / 1000 for who in ("store", "redis")}
-            store, etcd, redis = (statistics.median(told[who]) for who in ("store", "etcd", "redis"))
-            ends = "  ".join(f"{min(told[who]):.0f}..{max(told[who]):.0f}" for who in ("store", "redis"))
-            late = "  ".join(f"{slow[who]:.1f}" for who in ("store", "redis"))
-            print(f"{method}, {connections:4} at once {store:7.0f}  {etcd:7.0f}  {redis:7.0f}  {store / etcd:7.2f}  {store / redis:8.2f}   ({ends}; {late})")
+    for method, connections in itertools.product(METHODS, which):
+        told = {who: [rate for rate, _ in rates[who, method, connections]] for who in ("store", "etcd", "redis")}
+        slow = {who: statistics.median(slow for _, slow in rates[who, method, connections]) / 1000 for who in ("store", "redis")}
+        ours, etcd, redis = (statistics.median(told[who]) for who in ("store", "etcd", "redis"))
+        to_etcd, to_redis = (statistics.median(one / other for one, other in zip(told["store"], told[who])) for who in ("etcd", "redis"))
+        ends = "  ".join(f"{min(told[who]):.0f}..{max(told[who]):.0f}" for who in ("store", "redis"))
+        late = "  ".join(f"{slow[who]:.1f}" for who in ("store", "redis"))
+        print(f"{method}, {connections:4} at once {ours:7.0f}  {etcd:7.0f}  {redis:7.0f}  {to_etcd:7.2f}  {to_redis:8.2f}   ({ends}; {late})")
 
 
 if __name__ == "__main__":
     if len(sys.argv) < 2:
         sys.exit(__doc__)
-    main(sys.argv[1], *map(int, sys.argv[2:]))
+    main(sys.argv[1], *(float(word) if "." in word else int(word) for word in sys.argv[2:]))

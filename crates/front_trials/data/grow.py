@@ -1,13 +1,16 @@
 #!/usr/bin/env python3
 """Stores more and more keys in this store and in redis, and tells the requests a second and the memory of each.
 
-    grow.py DVVSTORE [KEYS..]
+    grow.py DVVSTORE [CONNECTIONS [KEYS..]]
 
-KEYS: 1000 10000 100000 400000 1000000, where none are said. For each a server of its own, with two workers: values of 100 bytes under so many
-keys are written in a scattered order and read in it for three seconds, 16 requests together on each of two connections, by one client, asker.c,
-which cc compiles. Memory is what the system says that the process holds once the writes are over. This store is stopped in order at the end, and has to
-print "audit ok". redis saves nothing. Debian: redis-server gcc.
+KEYS: 1000 10000 100000 400000 1000000, where none are said. For each, three rounds with servers of their own, this store's with two workers: values of 100
+bytes under so many keys are written in a scattered order, and then read in it for three times a second, 16 requests together on each of so many
+CONNECTIONS (2), by one client, asker.c, which cc compiles, on no more than two threads. This store and redis are asked right after one another. What is told
+is the middle of the rounds, of requests and of ratios, and memory: what the system says that a process holds once the writes are over. This store is
+stopped in order after each round, and has to print "audit ok". redis saves nothing. Debian: redis-server gcc.
 """
+import contextlib
+import statistics
 import subprocess
 import sys
 import tempfile
@@ -18,64 +21,83 @@ from beside import compile_asker
 from strangers import resident
 
 KEYS = (1_000, 10_000, 100_000, 400_000, 1_000_000)
-CONNECTIONS, TOGETHER, SECONDS, LONGEST = 2, 16, 3, 600
+TOGETHER, THREADS, WORKERS, ROUNDS, READS, LONGEST = 16, 2, 2, 3, 3, 600
 STORE, REDIS = 8190, 6398
 
 
-def ask(asker, who, method, port, keys):
-    """Requests a second."""
-    seconds = LONGEST if method == "PUT" else SECONDS
-    words = [asker, who, method, str(port), str(CONNECTIONS), str(seconds), "2", "0", str(TOGETHER), str(keys)]
-    asked = subprocess.run(words, stdout=subprocess.PIPE, stderr=subprocess.PIPE, text=True, timeout=seconds + 30)
-    if asked.returncode:
-        sys.exit(f"{who} {method}: {asked.stderr}")
-    return float(asked.stdout.split()[0])
+class Asker:
+    """The client, which sends requests together on so many connections."""
+
+    def __init__(self, folder, connections):
+        compile_asker(folder)
+        self.program, self.connections = folder / "asker", connections
+
+    def ask(self, who, method, keys, seconds):
+        """Requests a second."""
+        port = STORE if who == "store" else REDIS
+        threads = min(THREADS, self.connections)
+        words = [who, method, port, self.connections, seconds, threads, 0, TOGETHER, keys]
+        asked = subprocess.run([self.program, *map(str, words)], stdout=subprocess.PIPE, stderr=subprocess.PIPE, text=True, timeout=seconds + 30)
+        if asked.returncode:
+            sys.exit(f"{who} {method}: {asked.stderr}")
+        return float(asked.stdout.split()[0])
+
+    def both(self, method, keys, seconds):
+        """Requests a second, of this store and of redis."""
+        return tuple(self.ask(who, method, keys, seconds) for who in ("store", "redis"))
 
 
-def measure(asker, who, port, server, keys):
-    """Writes a second, reads a second, and bytes."""
-    time.sleep(1)
-    writes = ask(asker, who, "PUT", port, keys)
-    time.sleep(1)
-    held = resident(server.pid)
-    return writes, ask(asker, who, "GET", port, keys), held
-
-
-def of_store(program, asker, keys):
-    words = [program, "serve", f"127.0.0.1:{STORE}", "2"]
+@contextlib.contextmanager
+def store(program):
+    words = [program, "serve", f"127.0.0.1:{STORE}", str(WORKERS)]
     with subprocess.Popen(words, stdin=subprocess.PIPE, stdout=subprocess.PIPE, text=True) as server:
         try:
-            told = measure(asker, "store", STORE, server, keys)
+            yield server
             said = server.communicate("stop\n", timeout=120)[0]
         finally:
             server.kill()
     if not said.endswith("audit ok\n"):
         sys.exit(f"the store said {said!r}")
-    return told
 
 
-def of_redis(folder, asker, keys):
+@contextlib.contextmanager
+def redis(folder):
     words = f"redis-server --port {REDIS} --bind 127.0.0.1 --appendonly no --dir {folder}".split() + ["--save", ""]
     with subprocess.Popen(words, stdout=subprocess.DEVNULL) as server:
         try:
-            return measure(asker, "redis", REDIS, server, keys)
+            yield server
         finally:
             server.kill()
 
 
-def main(program, sizes):
+def measured(program, folder, asker, keys):
+    """The writes and the reads a second of both, and the bytes that both hold."""
+    with store(program) as ours, redis(folder) as its:
+        time.sleep(1)
+        writes = [asker.both("PUT", keys, LONGEST)]
+        held = resident(ours.pid), resident(its.pid)
+        reads = [asker.both("GET", keys, 1) for _ in range(READS)]
+    return writes, reads, held
+
+
+def middle(pairs):
+    """The middle of what each had, and of their ratios."""
+    return *map(statistics.median, zip(*pairs)), statistics.median(one / other for one, other in pairs)
+
+
+def main(program, connections=2, *sizes):
     with tempfile.TemporaryDirectory(dir="/dev/shm") as name:
-        compile_asker(Path(name))
-        asker = Path(name) / "asker"
+        asker = Asker(Path(name), connections)
         print("     keys      PUT      GET  bytes a key   redis: SET      GET  bytes a key   PUT to SET  GET to GET", flush=True)
-        for keys in sizes:
-            writes, reads, held = of_store(program, asker, keys)
-            sets, gets, its = of_redis(name, asker, keys)
-            ratios = f"{writes / sets:13.2f} {reads / gets:11.2f}"
-            print(f"{keys:9} {writes:8.0f} {reads:8.0f} {held / keys:12.0f} {sets:12.0f} {gets:8.0f} {its / keys:12.0f}{ratios}", flush=True)
+        for keys in sizes or KEYS:
+            writes, reads, held = zip(*(measured(program, name, asker, keys) for _ in range(ROUNDS)))
+            put, set_, puts = middle(sum(writes, []))
+            get, its, gets = middle(sum(reads, []))
+            ours, theirs = map(statistics.median, zip(*held))
+            print(f"{keys:9} {put:8.0f} {get:8.0f} {ours / keys:12.0f} {set_:12.0f} {its:8.0f} {theirs / keys:12.0f} {puts:12.2f} {gets:11.2f}", flush=True)
 
 
 if __name__ == "__main__":
     if len(sys.argv) < 2:
         sys.exit(__doc__)
-    main(sys.argv[1], [int(it) for it in sys.argv[2:]] or KEYS)
+    main(sys.argv[1], *map(int, sys.argv[2:]))

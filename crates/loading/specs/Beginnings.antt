@@ -7,7 +7,7 @@ use Rattle.keeping.specs.Files.{records_at}
 use Rattle.keeping.specs.declared.file.KeptFile.{KeptFile}
 use Rattle.wire.specs.declared.record.Record.{Record}
 use Rattle.loading.specs.Loads.{HasLoaded}
-use Rattle.loading.specs.declared.beginning.Loaders.{Loaders}
+use Rattle.loading.specs.declared.beginning.Passes.{Passes}
 
 -- how many records each of so many vnodes begins with, by index
 abbrev pub fronts_to : List KeptFile → ℕ → List ℕ
@@ -16,7 +16,7 @@ fronts_to files (suc n) = fronts_to files n ++ length (records_at files n) ∷ [
 
 -- of three vnodes, numbered from the first on, each has merged its records in order, from the first entry of its journal on: its own pass was told of that, and of
 -- nothing else
-abbrev pub HaveLoaded : {B : Type 0} → Loaders B → Loaders B → ℕ → List KeptFile → Type 0
+abbrev pub HaveLoaded : {B : Type 0} → Passes B → Passes B → ℕ → List KeptFile → Type 0
 HaveLoaded old new first files =
     HasLoaded old.first new.first (first + 0) (records_at files 0) × HasLoaded old.second new.second (first + 1) (records_at files 1) × HasLoaded old.third new.third (first + 2) (records_at files 2)
 

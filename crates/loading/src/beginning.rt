@@ -7,11 +7,11 @@ ghost use Rattle.loading.specs.Loads.{HasLoaded};
 
 use crate::fault::LoadFault;
 use crate::loads::load;
+use abreast::join_three;
 use keeping::KeptFile;
 use pool::{Cluster, Pass, Room};
 use std::alloc::{AllocError, Global};
 use std::sync::Wait;
-use std::thread;
 use std::thread::Threads;
 use thiserror::Error;
 use wire::Record;
@@ -26,9 +26,9 @@ pub struct Unloaded {
     pub fault: LoadFault,
 }
 
-/// The passes by which vnodes take records over side by side, each by one of its own.
+/// A pass for each vnode of a cluster of three, which are called side by side by them.
 #[derive(Drop)]
-pub struct Loaders<B: Room> {
+pub struct Passes<B: Room> {
     /// That of the first vnode.
     pub first: Pass<B>,
     /// That of the second one.
@@ -44,52 +44,23 @@ pub fn load_all<B: Room + Send + Sync, R: Threads + Wait + Sync>(
     alloc: Global,
     rt: &R,
     cluster: &Cluster<B>,
-    loaders: Loaders<B>,
+    passes: Passes<B>,
     files: &[KeptFile],
-) -> Result<Loaders<B>, Unloaded>
+) -> Result<Passes<B>, Unloaded>
     requires vnodes { cluster.now.vnodes ≡ 3 }
-    ensures loaded { IfOk result (λ back. HaveLoaded loaders back cluster.now.first files.now) }
+    ensures loaded { IfOk result (λ back. HaveLoaded passes back cluster.now.first files.now) }
 {
-    let Loaders {
+    let Passes {
         first,
         second,
         third,
-    } = loaders;
-    let (ahead, behind) = thread::join(
+    } = passes;
+    let (first, second, third) = join_three(
         rt,
         || -> Result<Pass<B>, Unloaded>
             requires { cluster.now.vnodes ≡ 3 }
             ensures { IfOk result (λ back. HasLoaded first back (cluster.entry.now.first + 0) (records_at files.entry.now 0)) }
         { load_own(alloc, rt, cluster, first, 0, files) },
-        || -> (Result<Pass<B>, Unloaded>, Result<Pass<B>, Unloaded>)
-            requires { cluster.now.vnodes ≡ 3 }
-            ensures second { IfOk result.0 (λ back. HasLoaded second back (cluster.entry.now.first + 1) (records_at files.entry.now 1)) }
-            ensures third { IfOk result.1 (λ back. HasLoaded third back (cluster.entry.now.first + 2) (records_at files.entry.now 2)) }
-        { load_both(alloc, rt, cluster, second, third, files) },
-    );
-    let (next, last) = behind;
-    Ok(Loaders {
-        first: ahead?,
-        second: next?,
-        third: last?,
-    })
-}
-
-/// The same of the second vnode and the third.
-fn load_both<B: Room + Send + Sync, R: Threads + Wait + Sync>(
-    alloc: Global,
-    rt: &R,
-    cluster: &Cluster<B>,
-    second: Pass<B>,
-    third: Pass<B>,
-    files: &[KeptFile],
-) -> (Result<Pass<B>, Unloaded>, Result<Pass<B>, Unloaded>)
-    requires vnodes { cluster.now.vnodes ≡ 3 }
-    ensures second { IfOk result.0 (λ back. HasLoaded second back (cluster.now.first + 1) (records_at files.now 1)) }
-    ensures third { IfOk result.1 (λ back. HasLoaded third back (cluster.now.first + 2) (records_at files.now 2)) }
-{
-    thread::join(
-        rt,
         || -> Result<Pass<B>, Unloaded>
             requires { cluster.now.vnodes ≡ 3 }
             ensures { IfOk result (λ back. HasLoaded second back (cluster.entry.now.first + 1) (records_at files.entry.now 1)) }
@@ -98,7 +69,12 @@ fn load_both<B: Room + Send + Sync, R: Threads + Wait + Sync>(
             requires { cluster.now.vnodes ≡ 3 }
             ensures { IfOk result (λ back. HasLoaded third back (cluster.entry.now.first + 2) (records_at files.entry.now 2)) }
         { load_own(alloc, rt, cluster, third, 2, files) },
-    )
+    );
+    Ok(Passes {
+        first: first?,
+        second: second?,
+        third: third?,
+    })
 }
 
 /// The same of the vnode with an index, by a pass that comes back.

@@ -6,6 +6,6 @@ mod fault;
 pub mod laws;
 mod loads;
 
-pub use beginning::{Loaders, Unloaded, fronts_of, load_all};
+pub use beginning::{Passes, Unloaded, fronts_of, load_all};
 pub use fault::LoadFault;
 pub use loads::load;

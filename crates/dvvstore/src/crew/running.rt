@@ -9,13 +9,14 @@ ghost use Rattle.dvvstore.specs.Visits.{AfterVisits, HaveVisited, begun};
 use crate::crew::signs::Signs;
 use crate::crew::working::{Lookout, Seat, Shared, work_attended};
 use crate::nowhere::Nowhere;
-use crate::saver::{Saver, Spares};
+use crate::saver::Saver;
 use closing::{Closed, Spot, Watch, close_keeping, close_watched};
 use findings::{Followed, WatchFault};
 use folder::Folder;
 use hooks::{HookChanges, Hooks};
 use kept_hooks::Requests;
 use listener::Lobby;
+use loading::Passes;
 use pool::{Cluster, Pass, Room};
 use std::alloc::{AllocError, Global};
 use std::sync::Wait;
@@ -26,7 +27,7 @@ use std::thread::Threads;
 #[derive(Drop)]
 struct Back<B: Room + Spot> {
     passes: Vec<Pass<B>>,
-    spares: Option<Spares<B>>,
+    spares: Option<Passes<B>>,
     watch: Watch<B>,
     requests: Requests,
 }
@@ -50,7 +51,7 @@ fn run<
     lobby: &Lobby,
     lookout: Lookout<B>,
     saver: Option<Saver<F>>,
-    spares: Option<Spares<B>>,
+    spares: Option<Passes<B>>,
 ) -> Result<Back<B>, AllocError>
     requires first { cluster.now.first ≡ B.first }
     ensures passes { IfOk result (λ left. vec_len left.passes ≡ vec_len seats) }
@@ -61,7 +62,7 @@ fn run<
     let (lent, both) = (cluster, &shared);
     let (spares, back) = thread::join(
         rt,
-        || -> Option<Spares<B>>
+        || -> Option<Passes<B>>
             ensures { GoOn spares result }
         { save_beside(rt, lent, &both.signs(lobby), saver, spares) },
         || -> Result<Vec<Pass<B>>, AllocError>
@@ -89,8 +90,8 @@ fn save_beside<B: Room + Send + Sync, F: Folder + Copy + Send, R: Threads + Wait
     cluster: &Cluster<B>,
     signs: &Signs<'_>,
     saver: Option<Saver<F>>,
-    spares: Option<Spares<B>>,
-) -> Option<Spares<B>>
+    spares: Option<Passes<B>>,
+) -> Option<Passes<B>>
     ensures { GoOn spares result }
 {
     match (saver, spares) {
@@ -152,7 +153,7 @@ pub fn keep<
     lobby: &Lobby,
     lookout: Lookout<B>,
     fronts: &[usize],
-    spares: Spares<B>,
+    spares: Passes<B>,
     saver: Saver<F>,
 ) -> Result<Served, AllocError>
     requires first { cluster.first ≡ B.first }
@@ -183,14 +184,14 @@ pub fn keep<
 /// The passes of workers, and behind them spare ones, if there are any.
 fn all_passes<B: Room>(
     mut passes: Vec<Pass<B>>,
-    spares: Option<Spares<B>>,
+    spares: Option<Passes<B>>,
 ) -> Result<Vec<Pass<B>>, AllocError>
     ensures all { IfOk result (λ all. all.items ≡ passes.items ++ passes_of spares) }
     ensures count { IfOk result (λ all. vec_len all ≡ vec_len passes + count_of spares) }
 {
     match spares {
         Some(
-            Spares {
+            Passes {
                 first,
                 second,
                 third,
