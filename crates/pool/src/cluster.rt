@@ -21,8 +21,8 @@ use vnode_locks::{
     CallFault, GatherFault, Locked, Pass, Receipt, Room, deal_passes, deal_vnodes, gathered,
 };
 
-/// How often a vnode's lock is tried before the thread sleeps until it is free: for some 50 microseconds, where the processor is told each time
-/// that the thread waits.
+/// How often a vnode's lock is tried before the thread sleeps until it is free. The processor is told each time that the thread waits, and lets it
+/// pause: so all take 12 microseconds, and 60 or more on a processor that pauses longer.
 const TRIES: u32 = 1_000;
 
 /// Is told of each call.
