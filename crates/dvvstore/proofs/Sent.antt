@@ -16,7 +16,7 @@ use Rattle.loading.specs.contracts.beginning.Passes as Passes
 use Rattle.dvvstore.specs.contracts.saver.Saver as Saver
 use Rattle.dvvstore.proofs.crew.reporter.Reporter.TheSendSync as reporter
 use Rattle.dvvstore.proofs.saver.Saver.TheSendSync as saver
-use Rattle.loading.proofs.Sent.{passes_send}
+use Rattle.loading.proofs.beginning.Passes.TheSendSync as spares
 use Rattle.dvvstore.specs.contracts.saver.Side as Side
 use Rattle.dvvstore.proofs.saver.Side.TheSendSync as side
 use Rattle.dvvstore.specs.contracts.crew.signs.Signs as Signs
@@ -31,12 +31,15 @@ shared_sync B g h s = search (lock_sync, reporter.the_field_sync, sendable, cros
 saver_alone : (F : RattleType) → IsSend F → IsSend (Saver.the_row F)
 saver_alone F s = search (saver.the_send, s, sendable, crosses) depth 40
 
+spares_alone : (B : RattleType) (g : room.Ghosts B.Denot) → IsSend B → IsSend (Passes.the_row B g)
+spares_alone B g s = search (spares.the_send, sendable, crosses) depth 30
+
 -- the thread beside the workers may be handed who makes snapshots, and passes, if there are any
 pub saver_send : (F : RattleType) → IsSend F → IsSend (Option.the_row (Saver.the_row F))
 saver_send F s = option.the_send _ (saver_alone F s)
 
 pub spares_send : (B : RattleType) (g : room.Ghosts B.Denot) → IsSend B → IsSend (Option.the_row (Passes.the_row B g))
-spares_send B g s = option.the_send _ (passes_send B g s)
+spares_send B g s = option.the_send _ (spares_alone B g s)
 
 -- a thread may be handed who reads some of the vnodes, and look at what is done beside the workers
 pub side_send : (B F : RattleType) (g : room.Ghosts B.Denot) → IsSend B → IsSend F → IsSend (Side.the_row B F g)

@@ -1,11 +1,11 @@
 #!/usr/bin/env python3
 """Whether a server's memory stays flat while clients do the same for minutes.
 
-    flat.py DVVSTORE [MINUTES [A_SECOND]]
+    flat.py DVVSTORE [MINUTES [A_SECOND [LOADS..]]]
 
-Each of three loads has a server of its own, with two workers; all three go on at the same time, for so many minutes (20), A_SECOND (1,000) rounds a second at the most:
-writes to one key that its bucket's hook rejects; a key of 65,536 bytes that is read and written again in the context of that read; and fresh keys, each
-written, read and deleted. Memory is what the system says that a process holds. It is told every half minute, and of deletes how many bytes each
+Each of three loads, or of those that are said, has a server of its own, with two workers; all go on at the same time, for so many minutes (20), A_SECOND (1,000) rounds
+a second at the most. `rejected`: writes to one key that its bucket's hook rejects. `large`: a key of 65,536 bytes that is read and written again in the context of that
+read. `deletes`: fresh keys, each written, read and deleted. Memory is what the system says that a process holds. It is told every half minute, and of deletes how many bytes each
 deleted key has taken since half of the time: until then what is kept of the last answers, and for what waits, fills up. At the end each server is stopped
 in order and has to print "audit ok". The status is 0 where, after that half, no server held more than 5 % above what it held then, less 250 bytes for
 each key that was deleted since.
@@ -128,8 +128,11 @@ def is_flat(load, told):
     return most <= held * (1 + SPARE)
 
 
-def main(program, minutes="20", pace="1000"):
-    loads = [kind(program, float(pace)) for kind in (Rejected, Large, Deletes)]
+LOADS = {"rejected": Rejected, "large": Large, "deletes": Deletes}
+
+
+def main(program, minutes="20", pace="1000", *names):
+    loads = [LOADS[name](program, float(pace)) for name in names or LOADS]
     try:
         for load in loads:
             load.start()
@@ -146,6 +149,6 @@ def main(program, minutes="20", pace="1000"):
 
 
 if __name__ == "__main__":
-    if len(sys.argv) not in (2, 3, 4):
+    if len(sys.argv) < 2 or not LOADS.keys() >= set(sys.argv[4:]):
         sys.exit(__doc__)
     sys.exit(main(*sys.argv[1:]))
