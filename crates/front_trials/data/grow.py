@@ -18,11 +18,11 @@ import time
 from pathlib import Path
 
 from beside import compile_asker
-from strangers import resident
+from strangers import Server, resident
 
 KEYS = (1_000, 10_000, 100_000, 400_000, 1_000_000)
 TOGETHER, THREADS, WORKERS, ROUNDS, READS, LONGEST = 16, 2, 2, 3, 3, 600
-STORE, REDIS = 8190, 6398
+REDIS = 6398
 
 
 class Asker:
@@ -32,9 +32,8 @@ class Asker:
         compile_asker(folder)
         self.program, self.connections = folder / "asker", connections
 
-    def ask(self, who, method, keys, seconds):
+    def ask(self, who, port, method, keys, seconds):
         """Requests a second."""
-        port = STORE if who == "store" else REDIS
         threads = min(THREADS, self.connections)
         words = [who, method, port, self.connections, seconds, threads, 0, TOGETHER, keys]
         asked = subprocess.run([self.program, *map(str, words)], stdout=subprocess.PIPE, stderr=subprocess.PIPE, text=True, timeout=seconds + 30)
@@ -42,20 +41,20 @@ class Asker:
             sys.exit(f"{who} {method}: {asked.stderr}")
         return float(asked.stdout.split()[0])
 
-    def both(self, method, keys, seconds):
-        """Requests a second, of this store and of redis."""
-        return tuple(self.ask(who, method, keys, seconds) for who in ("store", "redis"))
+    def both(self, port, method, keys, seconds):
+        """Requests a second, of this store at a port and of redis."""
+        return tuple(self.ask(who, at, method, keys, seconds) for who, at in (("store", port), ("redis", REDIS)))
 
 
 @contextlib.contextmanager
 def store(program):
-    words = [program, "serve", f"127.0.0.1:{STORE}", str(WORKERS)]
-    with subprocess.Popen(words, stdin=subprocess.PIPE, stdout=subprocess.PIPE, text=True) as server:
-        try:
-            yield server
-            said = server.communicate("stop\n", timeout=120)[0]
-        finally:
-            server.kill()
+    """A server whose journals are one run at the end."""
+    server = Server(program, WORKERS)
+    try:
+        yield server
+        said = server.process.communicate("stop\n", timeout=120)[0]
+    finally:
+        server.process.kill()
     if not said.endswith("audit ok\n"):
         sys.exit(f"the store said {said!r}")
 
@@ -74,9 +73,10 @@ def measured(program, folder, asker, keys):
     """The writes and the reads a second of both, and the bytes that both hold."""
     with store(program) as ours, redis(folder) as its:
         time.sleep(1)
-        writes = [asker.both("PUT", keys, LONGEST)]
-        held = resident(ours.pid), resident(its.pid)
-        reads = [asker.both("GET", keys, 1) for _ in range(READS)]
+        _, port = ours.address
+        writes = [asker.both(port, "PUT", keys, LONGEST)]
+        held = ours.memory(), resident(its.pid)
+        reads = [asker.both(port, "GET", keys, 1) for _ in range(READS)]
     return writes, reads, held
 
 
