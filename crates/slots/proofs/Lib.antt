@@ -1,0 +1,3 @@
+pub mod Probing
+pub mod Putting
+pub mod Hashes
