@@ -1,25 +1,17 @@
 -- At which states something is known.
-use Rattle.std.proofs.Common.{◌≡◌, ◌≢◌, ℕ, ◌≤◌, List, [], ◌∷◌, length, cond, nat_eq, true, false, refl, sym, ap, ◌∙◌, subst, inl, inr, arith}
-use Rattle.std.specs.Prelude.{◌==◌, Result, Ok, Err, Bool, IfOk, OnOk, OnErr}
+use Rattle.std.proofs.Common.{◌≡◌, ◌≢◌, ℕ, ◌≤◌, List, [], ◌∷◌, length, cond, nat_eq, true, false, refl, sym, ap, ◌∙◌, inl, arith}
+use Rattle.std.specs.Prelude.{◌==◌, Bool}
 use Rattle.std.proofs.lemmas.Bool.{both_ways, eq-eqb, eqb-true}
 use Rattle.std.proofs.lemmas.Bool.Decides.{nat_tests}
 use Rattle.dvv.specs.declared.Dot.{Dot}
 use Rattle.dvv.specs.Clock.{counter, Covers, AreRising}
-use Rattle.object.specs.declared.content.Content.{Content}
 use Rattle.object.specs.declared.content.Sibling.{Sibling}
-use Rattle.object.specs.State.{State, IsState, AreCovered, Puts, Merges, empty}
-use Rattle.vnode.specs.declared.steps.Placed.{Placed}
+use Rattle.object.specs.State.{State, IsState, AreCovered, Merges, empty}
 use Rattle.vnode.specs.States.{IsSomeKnown}
 
--- after a put its dot is, and what was before it, if it was refused
-pub put_known : {E : Type 0} (r : Result Placed E) (old new : State) (seen : List Dot) (content : Content) → IfOk r (λ put. Puts old new put.dot seen content) → OnErr r (new ≡ old) → IsSomeKnown old → IsSomeKnown new
-put_known (Ok put) old new seen content puts same some = (put.dot, (puts.clock put.dot).1 (inr refl))
-put_known (Err e) old new seen content puts same some = subst IsSomeKnown (sym same) some
-
--- what was before a merge is
-pub merge_known : {E : Type 0} (r : Result Bool E) (old other new : State) → OnOk r (Merges old other new) → OnErr r (new ≡ old) → IsSomeKnown old → IsSomeKnown new
-merge_known (Ok changed) old other new merges same some = (some.0, (merges.clock some.0).1 (inl some.1))
-merge_known (Err e) old other new merges same some = subst IsSomeKnown (sym same) some
+-- after a merge what was before it is
+pub merge_known : (old other new : State) → Merges old other new → IsSomeKnown old → IsSomeKnown new
+merge_known old other new merges some = (some.0, (merges.clock some.0).1 (inl some.1))
 
 -- a clock that isn't empty covers something
 some_covered : (clock : List Dot) → AreRising 0 clock → length clock ≢ 0 → (d : Dot) × Covers clock d

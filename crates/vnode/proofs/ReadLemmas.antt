@@ -14,11 +14,10 @@ use Rattle.journal.specs.Replay.{IsReplay}
 use Rattle.vnode.specs.declared.steps.Copied.{Copied}
 use Rattle.vnode.specs.Keys.{AreKeys, AreUnsorted, reads_of}
 use Rattle.vnode.specs.declared.states.States.{States}
-use Rattle.vnode.specs.declared.states.Spread.{Spread}
-use Rattle.vnode.specs.declared.states.Spread.TheVariants.{One, Many}
-use Rattle.vnode.specs.States.{key_eq, state_at, Replays, all_known, listed_by, listed, AreKnown, AreCopied, keys_of}
-use Rattle.vnode.proofs.Listed.{known_is_key, key_is_known, named_is_key, key_is_named, known_distinct}
-use Rattle.vnode.proofs.Mapped.{key_laws}
+use Rattle.vnode.specs.Shards.{key_eq}
+use Rattle.vnode.specs.States.{state_at, Replays, all_known, AreKnown, AreCopied, keys_of}
+use Rattle.vnode.proofs.Listed.{known_is_key, key_is_known, known_distinct}
+use Rattle.vnode.proofs.Keyed.{key_laws}
 use Rattle.vnode.proofs.Sorted.{sorted_rises, known_rises}
 use Rattle.vnode.proofs.Stepped.{read_kept}
 
@@ -37,20 +36,11 @@ pub known_are_keys : (states : States) (log : Log) (keys : List Key) → Replays
 known_are_keys states log keys h known = are_keys states log keys h known.each (known_rises states keys h.placed known)
 
 -- as they are listed they are so, too, in some order
-pub are_unsorted : (states : States) (log : Log) (keys : List Key) → Replays states log → keys ≡ listed states → AreUnsorted log keys
-are_unsorted states log keys h is = subst (AreUnsorted log) (sym is) (by_spread states.spread refl)
-  where
-    by_spread : (spread : Spread) → states.spread ≡ spread → AreUnsorted log (listed_by spread states)
-    by_spread One one = record {
-      each = λ k. (known_is_key states log k h, key_is_known states log k h);
-      once = known_distinct states h.placed;
-    }
-    by_spread Many many =
-        let named = h.placed.named many in
-        record {
-          each = λ k. (named_is_key states log k h named, key_is_named states log k h named);
-          once = named.once;
-        }
+pub are_unsorted : (states : States) (log : Log) (keys : List Key) → Replays states log → keys ≡ all_known states → AreUnsorted log keys
+are_unsorted states log keys h is = subst (AreUnsorted log) (sym is) (record {
+  each = λ k. (known_is_key states log k h, key_is_known states log k h);
+  once = known_distinct states h.placed;
+})
 
 -- and once they are sorted they stand in the order of bytes
 pub sorted_unsorted : (log : Log) (keys sorted : List Key) → AreUnsorted log keys → IsPermutation keys sorted → IsSorted key_cmp sorted → AreKeys log sorted

@@ -7,7 +7,7 @@ use Rattle.journal.specs.Entry.{Entry, Read}
 use Rattle.journal.specs.Keys.{key_cmp}
 use Rattle.journal.specs.Logs.{Log}
 use Rattle.journal.specs.Replay.{IsKeyOf}
-use Rattle.vnode.specs.States.{key_eq}
+use Rattle.vnode.specs.Shards.{key_eq}
 
 -- the keys of a vnode, each once, in the order of bytes
 pub record AreKeys (log : Log) (keys : List Key) : Type 0 where

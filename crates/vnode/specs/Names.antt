@@ -1,6 +1,6 @@
--- The keys of a vnode in the order in which they came, in blocks of which the last alone may have room.
-use Rattle.std.specs.Prelude.{ℕ, List, ◌++◌}
-use Rattle.std.specs.List.{flat_map}
+-- Keys in the order in which they came, in blocks that copies share.
+use Rattle.std.specs.Prelude.{◌≡◌, ◌≤◌, ℕ, List, ◌++◌, length}
+use Rattle.std.specs.List.{All, flat_map}
 use Rattle.std.specs.Global.{Global, Vec}
 use Rattle.std.specs.declared.sync.Arc.{Arc}
 use Rattle.std.specs.Arc.{arc_value}
@@ -18,7 +18,16 @@ all_of blocks = flat_map keys_in blocks
 abbrev pub named_in : List (Arc (Vec Key) Global) → List Key → List Key
 named_in full last = all_of full ++ last
 
+-- each of the full blocks has 128 keys, and the one behind them no more
+pub record AreBlocks (full : List (Arc (Vec Key) Global)) (last : List Key) : Type 0 where
+  pub all_full : All (λ block. length (keys_in block) ≡ 128) full
+  pub fits : length last ≤ 128
+
 -- keys, and how many can be added before room has to grow
 pub record Named : Type 0 where
   pub keys : List Key
   pub room : ℕ
+
+-- the keys of a vnode
+pub record Listed : Type 0 where
+  pub keys : List Key

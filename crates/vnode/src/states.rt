@@ -1,19 +1,13 @@
 //! The states of a vnode's keys, in shards that grow one by one.
 
-ghost use Rattle.std.specs.Prelude.{◌≡◌, ◌<◌, ◌≤◌, ◌-◌, ◌^◌, false, None, length, min, option_map, IfSome, IsTrue, OnOk, OnErr};
-ghost use Rattle.std.specs.Borrow.{sem};
-ghost use Rattle.std.specs.Option.{option_copied, option_copied_mut};
-ghost use Rattle.object.specs.declared.content.Key.{Key};
-ghost use Rattle.object.specs.State.{empty};
-ghost use Rattle.journal.specs.Keys.{same_key};
-ghost use Rattle.vnode.specs.Lent.{LendsState};
-ghost use Rattle.vnode.specs.States.{AreInPlace, IsSomeKnown, all_known, count_of, found_at, key_eq, place, state_at};
+ghost use Rattle.std.specs.Prelude.{◌≡◌};
+ghost use Rattle.std.specs.List.{All};
+ghost use Rattle.vnode.specs.Shards.{IsHashed, folded};
 
-use crate::names::Names;
 use crate::seed::Seed;
+use crate::shard::Shard;
 use object::{Key, Stored};
 use std::alloc::{AllocError, Global};
-use std::collections::HashMap;
 use std::hash::BuildHasher;
 
 /// In how many shards the states of a vnode lie.
@@ -25,12 +19,14 @@ pub(crate) enum Spread {
     Many,
 }
 
-/// How many shards [`Spread::Many`] has. A million keys leave some thirty thousand to each, and no growth up to there moves more than 18,432
+/// How many shards [`Spread::Many`] has. A million keys leave some thirty thousand to each, and no growth up to there moves more than 28,672
 /// of them. Each look-up begins at what its shard is made of, a few lines of memory: of many more shards they don't stay in the caches that
 /// are near the processor.
 const MANY: usize = 32;
 
 impl Spread {
+    ghost use Rattle.vnode.specs.States.{count_of};
+
     // How many shards there are, once there are any.
     fn count(self) -> usize
         ensures { result ≡ count_of self }
@@ -42,8 +38,20 @@ impl Spread {
     }
 }
 
-/// The states of some of the keys, each found by its key's hash. They lie in no order that means anything.
-pub(crate) type Shard = HashMap<Key, Stored, Seed>;
+/// Where a key lies, if it has a state: what the key's hash says.
+#[derive(Clone, Copy)]
+pub(crate) struct Spot {
+    shard: usize,
+    /// The hash by which the shard finds the key.
+    hash: u32,
+}
+
+/// Where a state was found: in which shard, and at which place there.
+#[derive(Clone, Copy)]
+pub(crate) struct Found {
+    shard: usize,
+    place: usize,
+}
 
 /// The state of each key at which something is known. Each lies in the shard that the key's hash picks, and a shard grows on its own: no
 /// growth moves the keys of another.
@@ -51,14 +59,21 @@ pub(crate) type Shard = HashMap<Key, Stored, Seed>;
 pub(crate) struct States {
     alloc: Global,
     seed: Seed,
-    pub(crate) spread: Spread,
+    spread: Spread,
     // None of them before the first state is kept.
     pub(crate) shards: Vec<Shard>,
-    // Where there are many shards their keys, too, so that they are listed in next to no time. Else none.
-    pub(crate) names: Names,
+    ghost hashed: { All (IsHashed seed) shards.items },
 }
 
 impl States {
+    ghost use Rattle.std.specs.Prelude.{◌<◌, ◌≤◌, ◌-◌, ◌^◌, false, None, Some, length, min, option_map, IfSome, IfNone, OnOk, OnErr};
+    ghost use Rattle.std.specs.Option.{option_copied};
+    ghost use Rattle.object.specs.declared.content.Key.{Key};
+    ghost use Rattle.object.specs.State.{State, empty};
+    ghost use Rattle.journal.specs.Keys.{same_key};
+    ghost use Rattle.vnode.specs.Kept.{Shows};
+    ghost use Rattle.vnode.specs.States.{AreInPlace, IsSomeKnown, LiesAt, all_known, count_of, found_at, spot_of, state_at};
+
     /// No states yet. Takes no memory.
     pub(crate) fn new(alloc: Global, seed: Seed, spread: Spread) -> States
         ensures none { (q : Key) → state_at result q ≡ empty }
@@ -69,19 +84,61 @@ impl States {
             seed,
             spread,
             shards: Vec::new(alloc),
-            names: Names::new(alloc),
         }
     }
 
-    // In which shard a key's state lies: of many the lowest bits of its hash say it, which nobody computes for one. A map folds both halves of
-    // a hash into one, so that the places in one shard are as even as those in one map of all keys.
-    pub(crate) fn place_of(&self, key: &Key) -> usize
-        ensures place { result ≡ place self.now key.now }
-        ensures within { result < count_of self.now.spread }
+    /// Where a key lies. The highest bits of its hash pick the shard, of many. The shard finds it by others: a search begins where the lowest
+    /// say.
+    pub(crate) fn spot_of(&self, key: &Key) -> Spot
+        ensures spot { result ≡ spot_of self.now key.now }
+        ensures within { result.shard < count_of self.now.spread }
     {
-        match self.spread {
+        let hash = self.seed.hash_one(key);
+        let shard = match self.spread {
             Spread::One => 0,
-            Spread::Many => (self.seed.hash_one(key) % MANY as u64) as usize,
+            Spread::Many => (hash >> 59) as usize,
+        };
+        Spot {
+            shard,
+            hash: fold(hash),
+        }
+    }
+
+    /// Where the state of a key is found, which lies at `spot`.
+    pub(crate) fn find(&self, spot: Spot, key: &Key) -> Option<Found>
+        requires { spot ≡ spot_of self.now key.now }
+        ensures found { IfSome result (λ found. LiesAt self.now key.now found) }
+        ensures absent { IfNone result (found_at self.now key.now ≡ None) }
+    {
+        let Some(shard) = self.shards.get(spot.shard) else {
+            return None;
+        };
+        match shard.find(spot.hash, key) {
+            Some(place) => Some(Found {
+                shard: spot.shard,
+                place,
+            }),
+            None => None,
+        }
+    }
+
+    /// The state that was found, with the key that is kept beside it.
+    pub(crate) fn entry(&self, found: Found) -> (&Key, &Stored)
+        requires { (k : Key) × LiesAt self.now k found }
+        ensures key { (k : Key) → LiesAt self.now k found → result.0.now ≡ k }
+        ensures state { (k : Key) → LiesAt self.now k found → Some result.1.now ≡ found_at self.now k }
+    {
+        self.shards[found.shard].entry(found.place)
+    }
+
+    /// The state that is kept under a key, with the key that is kept beside it.
+    pub(crate) fn get_key_value(&self, key: &Key) -> Option<(&Key, &Stored)>
+        ensures key { IfSome result (λ found. found.0.now ≡ key.now) }
+        ensures value { option_map (λ found. found.1.now) result ≡ found_at self.now key.now }
+    {
+        match self.find(self.spot_of(key), key) {
+            Some(found) => Some(self.entry(found)),
+            None => None,
         }
     }
 
@@ -89,33 +146,18 @@ impl States {
     pub(crate) fn get(&self, key: &Key) -> Option<&Stored>
         ensures value { option_copied result ≡ found_at self.now key.now }
     {
-        match self.shards.get(self.place_of(key)) {
-            Some(shard) => shard.get(key),
+        match self.get_key_value(key) {
+            Some((_, stored)) => Some(stored),
             None => None,
         }
     }
 
-    /// The same, to be written to. The key lies in the shard `at`: the one that [`place_of`](States::place_of) says.
-    pub(crate) fn get_mut(&mut self, at: usize, key: &Key) -> Option<&mut Stored>
-        requires place { at ≡ place self.old key.now }
-        ensures* writes_back { sem 𝓛 (LendsState self.entry key.now result) }
-        ensures value { option_copied_mut result ≡ found_at self.old key.now }
+    /// Writes another state, at which something is known, where one was found.
+    pub(crate) fn set(&mut self, found: Found, state: Stored)
+        requires { (k : Key) × LiesAt self.old k found }
+        ensures { (k : Key) → LiesAt self.old k found → Shows self.old self.new k state }
     {
-        match self.shards.get_mut(at) {
-            Some(shard) => shard.get_mut(key),
-            None => None,
-        }
-    }
-
-    /// The same as [`get`](States::get), with the key that is kept beside it.
-    pub(crate) fn get_key_value(&self, key: &Key) -> Option<(&Key, &Stored)>
-        ensures same_key { IfSome result (λ found. IsTrue (key_eq key.now found.0.now)) }
-        ensures value { option_map (λ found. found.1.now) result ≡ found_at self.now key.now }
-    {
-        match self.shards.get(self.place_of(key)) {
-            Some(shard) => shard.get_key_value(key),
-            None => None,
-        }
+        self.shards[found.shard].set(found.place, state);
     }
 
     /// How many states are kept, as far as a number reaches.
@@ -141,34 +183,15 @@ impl States {
         self.shards
             .reserve_exact(count.saturating_sub(self.shards.len()))?;
         for _shard in self.shards.len()..count {
-            self.shards.push(Shard::with_hasher(self.alloc, self.seed))?;
+            self.shards.push(Shard::new(self.alloc))?;
         }
         Ok(())
     }
 
-    // Keeps a state as the key's in the shard `at`, and names the key.
-    fn insert_named(&mut self, at: usize, key: Key, state: Stored) -> Result<(), AllocError>
-        requires place { at ≡ place self.old key }
-        requires within { at < length self.old.shards.items }
-        requires known { IsSomeKnown state }
-        requires absent { found_at self.old key ≡ None }
-        ensures here { OnOk result (state_at self.new key ≡ state) }
-        ensures others { OnOk result ((q : Key) → same_key key q ≡ false → state_at self.new q ≡ state_at self.old q) }
-        ensures err { OnErr result ((q : Key) → state_at self.new q ≡ state_at self.old q) }
-        ensures placed { AreInPlace self.old → AreInPlace self.new }
-    {
-        let name = key.copy()?;
-        self.names.reserve()?;
-        let _ = self.shards[at].insert(key, state)?;
-        self.names.append(name);
-        Ok(())
-    }
-
-    /// Keeps a state, at which something is known, as that of a key that has none, in the shard `at`: the one where
-    /// [`place_of`](States::place_of) says that the key lies.
-    pub(crate) fn insert(&mut self, at: usize, key: Key, state: Stored) -> Result<(), AllocError>
-        requires place { at ≡ place self.old key }
-        requires within { at < count_of self.old.spread }
+    /// Keeps a state, at which something is known, as that of a key that has none, which lies at `spot`.
+    pub(crate) fn insert(&mut self, spot: Spot, key: Key, state: Stored) -> Result<(), AllocError>
+        requires spot { spot ≡ spot_of self.old key }
+        requires within { spot.shard < count_of self.old.spread }
         requires known { IsSomeKnown state }
         requires absent { found_at self.old key ≡ None }
         ensures here { OnOk result (state_at self.new key ≡ state) }
@@ -177,12 +200,13 @@ impl States {
         ensures placed { AreInPlace self.old → AreInPlace self.new }
     {
         self.make_shards()?;
-        match self.spread {
-            Spread::One => {
-                let _ = self.shards[at].insert(key, state)?;
-                Ok(())
-            }
-            Spread::Many => self.insert_named(at, key, state),
-        }
+        self.shards[spot.shard].push(spot.hash, key, state)
     }
+}
+
+// Both halves of a hash in one.
+fn fold(hash: u64) -> u32
+    ensures { result ≡ folded hash }
+{
+    (hash >> 32) as u32 ^ (hash % (1 << 32)) as u32
 }

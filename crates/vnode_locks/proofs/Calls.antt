@@ -8,7 +8,7 @@ use Rattle.object.specs.declared.content.Key.{Key}
 use Rattle.std.specs.Global.{Vec}
 use Rattle.std.specs.Prelude.{IfOk}
 use Rattle.vnode.specs.Keys.{AreUnsorted}
-use Rattle.vnode.specs.Names.{Named}
+use Rattle.vnode.specs.Names.{Listed}
 use Rattle.vnode.specs.declared.fault.PartFault.{PartFault}
 use Rattle.calls.specs.declared.request.Reply.{Reply}
 use Rattle.calls.specs.declared.request.Request.{Request}
@@ -102,7 +102,7 @@ look_within v p w h drawn ts log ev ep ew within n j =
     let long : entries h.told ≡ length log.entries = sym (length_entries h.told) ∙ ap length j in
     subst (λ k. IsWithin log.vnode k ts) long (subst (λ m. IsWithin m (entries h.told) ts) n i)
 
-pub keys_ok : {E : Type 0} (r : Result Named E) (log : Log) (id : ℕ) (ts : List Told) → IfOk r (λ names. AreUnsorted log names.keys) → IsJournal log.vnode log.entries → log.vnode ≡ id → IsWithin log.vnode (length log.entries) ts
+pub keys_ok : {E : Type 0} (r : Result Listed E) (log : Log) (id : ℕ) (ts : List Told) → IfOk r (λ names. AreUnsorted log names.keys) → IsJournal log.vnode log.entries → log.vnode ≡ id → IsWithin log.vnode (length log.entries) ts
     → IfOk r (λ names. (front : List Entry) × IsJournal id front × AreUnsorted (log_of id front) names.keys × IsWithin id (length front) ts)
 keys_ok (Ok names) log id ts are legal is within = (log.entries, subst (λ i. IsJournal i log.entries) is legal, subst (λ i. AreUnsorted (log_of i log.entries) names.keys) is are, subst (λ i. IsWithin i (length log.entries) ts) is within)
 keys_ok (Err e) log id ts are legal is within = tt

@@ -1,4 +1,4 @@
-//! A put of a further key, for which the map of a vnode may grow.
+//! A put of a further key, for which what finds a vnode's keys, and what keeps them, may grow.
 
 use crate::tests::refusals::refusing::{End, Trial, begin, end_of, in_turn, was_met};
 use dvv::Clock;
@@ -9,8 +9,11 @@ use std::sync::Wait;
 use std::test::Fail;
 use vnode::{Vnode, VnodeFault};
 
-/// How many keys a vnode holds at most before the put: its map grows several times until then.
+/// How many keys a vnode holds at most before the put: its index grows several times until then.
 const MOST: u8 = 64;
+
+/// Or so many, which fill a block of keys: the put closes it.
+const BLOCK: u8 = 128;
 
 /// The key of a number.
 fn key_of(alloc: Global, number: u8) -> Result<Key, AllocError> {
@@ -61,5 +64,6 @@ fn growth_is_refused(rt: HostRuntime) -> Result<(), Fail> {
     for held in 0..MOST {
         in_turn(&rt, rt.alloc(), &Further { held })?;
     }
+    in_turn(&rt, rt.alloc(), &Further { held: BLOCK })?;
     Ok(())
 }

@@ -1,6 +1,6 @@
 use Rattle.std.proofs.Common.{◌≡◌, ◌-◌, ◌^◌, length, min, take}
 use Rattle.std.specs.List.{flat_map}
-use Rattle.vnode.specs.States.{known_keys}
+use Rattle.vnode.specs.Shards.{known_keys}
 use Rattle.vnode.proofs.states.States.len.Given as goal
 
 abbrev pub invariant-loop-shard : goal.invariant-loop-shard

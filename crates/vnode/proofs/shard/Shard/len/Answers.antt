@@ -1,0 +1,8 @@
+use Rattle.std.proofs.Common.{◌∙◌, ap, sym, length}
+use Rattle.vnode.specs.Shards.{Shard}
+use Rattle.vnode.proofs.Entries.{length-entries}
+use Rattle.vnode.proofs.shard.Shard.len.Goals as goal
+
+pub returns : goal.returns
+returns c =
+    c.len.ensures ∙ c.self.invariant.each_hashed ∙ sym (length-entries c.self.inside.keys.keys c.self.inside.states.items c.self.invariant.each_stated) ∙ ap (λ (s : Shard). length s.entries) c.self.view_is

@@ -1,0 +1,127 @@
+//! The keys of a shard.
+
+ghost use Rattle.std.specs.Prelude.{◌≡◌, ◌<◌, ◌≤◌, ◌++◌, ◌∷◌, [], OnOk, OnErr, Some, length, slice_get, slice_index_or};
+ghost use Rattle.vnode.specs.Names.{AreBlocks, all_of};
+ghost use Rattle.vnode.specs.Shards.{key_eq};
+
+use crate::names::{Names, push_copies};
+use object::Key;
+use std::alloc::{AllocError, Global};
+use std::marker::Model;
+use std::mem;
+use std::sync::Arc;
+
+/// How many keys a block holds: few, since a list of a vnode's keys copies those of each shard's last block.
+const BLOCK: usize = 128;
+
+/// Keys, in the order in which they came. They lie in blocks, and a list of the keys shares those that are full.
+#[derive(Drop)]
+pub(crate) struct KeyBlocks {
+    alloc: Global,
+    /// Full blocks.
+    full: Vec<Arc<Vec<Key>>>,
+    /// The block that keys are added to.
+    last: Vec<Key>,
+}
+
+impl Model for KeyBlocks {
+    ghost use Rattle.std.specs.Prelude.{◌-◌, min, vec_len, vec_capacity};
+    ghost use Rattle.vnode.specs.Names.{AreBlocks, Named, named_in};
+
+    ghost Value = { Named };
+
+    ghost view = { λ b. record { keys = named_in b.full.items b.last.items; room = min (vec_capacity b.last) 128 - vec_len b.last } };
+
+    ghost invariant = { λ b. AreBlocks b.full.items b.last.items };
+}
+
+impl KeyBlocks {
+    /// No keys. It takes no memory.
+    pub(crate) fn new(alloc: Global) -> KeyBlocks
+        ensures { result.keys ≡ [] }
+    {
+        KeyBlocks {
+            alloc,
+            full: Vec::new(alloc),
+            last: Vec::new(alloc),
+        }
+    }
+
+    /// The key at a place.
+    pub(crate) fn get(&self, i: usize) -> &Key
+        requires { i < length self.now.keys }
+        ensures { slice_get self.now.keys i ≡ Some result.now }
+    {
+        match self.full.get(i / BLOCK) {
+            Some(block) => &block[i % BLOCK],
+            None => &self.last[i % BLOCK],
+        }
+    }
+
+    /// Whether the key at a place is this one.
+    pub(crate) fn is_at(&self, i: usize, key: &Key) -> bool
+        requires { i < length self.now.keys }
+        ensures { result ≡ key_eq (slice_index_or self.now.keys i key.now) key.now }
+    {
+        self.get(i) == key
+    }
+
+    /// Makes room for one more.
+    pub(crate) fn reserve(&mut self) -> Result<(), AllocError>
+        ensures room { OnOk result (0 < self.new.room) }
+        ensures same { self.new.keys ≡ self.old.keys }
+    {
+        if self.last.len() == BLOCK {
+            close_block(self.alloc, &mut self.full, &mut self.last)?;
+        }
+        self.last.try_reserve(1)?;
+        Ok(())
+    }
+
+    /// Adds a key for which there is room.
+    pub(crate) fn append(&mut self, key: Key)
+        requires room { 0 < self.old.room }
+        ensures { self.new.keys ≡ self.old.keys ++ key ∷ [] }
+    {
+        let _ = self.last.push(key);
+    }
+
+    /// Adds the keys to a list: full blocks are shared.
+    pub(crate) fn list(&self, names: &mut Names) -> Result<(), AllocError>
+        ensures { OnOk result (names.new.keys ≡ names.old.keys ++ self.now.keys) }
+    {
+        for block in &self.full {
+            names.add(block.clone()?)?;
+        }
+        let mut last = Vec::with_capacity(self.alloc, self.last.len())?;
+        push_copies(&self.last, &mut last)?;
+        names.add(Arc::new(self.alloc, last)?)
+    }
+}
+
+// Puts the last block, which is full, behind the others, and an empty one in its place.
+fn close_block(
+    alloc: Global,
+    full: &mut Vec<Arc<Vec<Key>>>,
+    last: &mut Vec<Key>,
+) -> Result<(), AllocError>
+    requires full { length last.old.items ≡ 128 }
+    ensures keys { OnOk result (all_of full.new.items ≡ all_of full.old.items ++ last.old.items) }
+    ensures empty { OnOk result (last.new.items ≡ []) }
+    ensures blocks { AreBlocks full.old.items last.old.items → AreBlocks full.new.items last.new.items }
+    ensures err { OnErr result ((full.new.items ≡ full.old.items) × (last.new.items ≡ last.old.items)) }
+{
+    full.try_reserve(1)?;
+    let empty = Vec::with_capacity(alloc, BLOCK)?;
+    let keys = mem::replace(last, empty);
+    match Arc::new(alloc, keys) {
+        Ok(block) => {
+            let _ = full.push(block);
+            Ok(())
+        }
+        Err(failed) => {
+            *last = failed.value;
+            Err(AllocError)
+        }
+    }
+}

@@ -1,0 +1,115 @@
+//! The states of some of a vnode's keys.
+
+ghost use Rattle.std.specs.Prelude.{◌≡◌, ◌<◌, ◌++◌, ◌∷◌, [], IfSome, IfNone, None, Some, OnOk, OnErr, length, slice_get, slice_set, vec_len, vec_capacity};
+ghost use Rattle.object.specs.declared.content.Key.{Key};
+ghost use Rattle.object.specs.State.{State};
+ghost use Rattle.vnode.specs.Shards.{IsEntry, IsUnique, LacksHashed, found_in, known_keys};
+
+use crate::key_blocks::KeyBlocks;
+use crate::names::Names;
+use object::{Key, Stored};
+use slots::Index;
+use std::alloc::{AllocError, Global};
+use std::marker::Model;
+
+/// The states of some of the keys, each found by its key's hash: the item at a place of the index is the key, and the state, at that
+/// place. Contracts see it as its entries, in the order in which they came, and their hashes.
+#[derive(Drop)]
+pub(crate) struct Shard {
+    index: Index,
+    keys: KeyBlocks,
+    states: Vec<Stored>,
+}
+
+impl Model for Shard {
+    ghost use Rattle.std.specs.List.{zip};
+    ghost use Rattle.vnode.specs.Shards.{AreEntries, Shard};
+
+    ghost Value = { Shard };
+
+    ghost view = { λ s. record { hashes = s.index.hashes; entries = zip s.keys.keys s.states.items } };
+
+    ghost invariant = { λ s. AreEntries s.index.hashes s.keys.keys s.states.items };
+}
+
+impl Shard {
+    /// A shard without entries. It takes no memory.
+    pub(crate) fn new(alloc: Global) -> Shard
+        ensures { result ≡ record { hashes = []; entries = [] } }
+    {
+        Shard {
+            index: Index::new(alloc),
+            keys: KeyBlocks::new(alloc),
+            states: Vec::new(alloc),
+        }
+    }
+
+    /// How many entries it has.
+    pub(crate) fn len(&self) -> usize
+        ensures { result ≡ length self.now.entries }
+    {
+        self.index.len()
+    }
+
+    /// The place of the entry of a key, which has this hash.
+    pub(crate) fn find(&self, hash: u32, key: &Key) -> Option<usize>
+        ensures found { IfSome result (λ i. (v : State) × IsEntry self.now i key.now v) }
+        ensures absent { IfNone result (LacksHashed self.now hash key.now) }
+    {
+        let keys = &self.keys;
+        self.index.find(hash, |i| keys.is_at(i, key))
+    }
+
+    /// The entry at a place.
+    pub(crate) fn entry(&self, i: usize) -> (&Key, &Stored)
+        requires { i < length self.now.entries }
+        ensures { slice_get self.now.entries i ≡ Some (result.0.now, result.1.now) }
+    {
+        (self.keys.get(i), &self.states[i])
+    }
+
+    /// Writes another state at a place.
+    pub(crate) fn set(&mut self, i: usize, state: Stored)
+        requires { i < length self.old.entries }
+        ensures entries { (k : Key) (v : State) → slice_get self.old.entries i ≡ Some (k, v) → self.new.entries ≡ slice_set self.old.entries i (k, state) }
+        ensures hashes { self.new.hashes ≡ self.old.hashes }
+        ensures unique { IsUnique self.new }
+    {
+        self.states[i] = state;
+    }
+
+    /// Adds the entry of a key that has none, by the key's hash. Where memory is refused nothing changes.
+    pub(crate) fn push(&mut self, hash: u32, key: Key, state: Stored) -> Result<(), AllocError>
+        requires { found_in (Some self.old) key ≡ None }
+        ensures entries { OnOk result (self.new.entries ≡ self.old.entries ++ (key, state) ∷ []) }
+        ensures hashes { OnOk result (self.new.hashes ≡ self.old.hashes ++ hash ∷ []) }
+        ensures unique { IsUnique self.new }
+        ensures err { OnErr result (self.new ≡ self.old) }
+    {
+        self.index.reserve()?;
+        self.keys.reserve()?;
+        reserve_state(&mut self.states)?;
+        self.index.push(hash);
+        self.keys.append(key);
+        let _ = self.states.push(state);
+        Ok(())
+    }
+
+    /// Adds the keys to a list of the vnode's.
+    pub(crate) fn list_keys(&self, names: &mut Names) -> Result<(), AllocError>
+        ensures { OnOk result (names.new.keys ≡ names.old.keys ++ known_keys self.now.entries) }
+    {
+        self.keys.list(names)
+    }
+}
+
+// Makes room for one more: for an eighth of those that there are, where there is none, so that little of it lies idle.
+fn reserve_state(states: &mut Vec<Stored>) -> Result<(), AllocError>
+    ensures room { OnOk result (vec_len states.new < vec_capacity states.new) }
+    ensures same { states.new.items ≡ states.old.items }
+{
+    if states.len() == states.capacity() {
+        states.reserve_exact(states.len() / 8 + 4)?;
+    }
+    Ok(())
+}
