@@ -10,14 +10,9 @@ use Rattle.keeping.specs.contracts.file.KeptFile as KeptFile
 use Rattle.vnode_locks.proofs.pass.Pass.TheSendSync as pass
 use Rattle.vnode_locks.specs.contracts.pass.Pass as Pass
 use Rattle.vnode_locks.specs.declared.pass.Room as room
-use Rattle.loading.proofs.beginning.Passes.TheSendSync as passes
-use Rattle.loading.specs.contracts.beginning.Passes as Passes
 
 pub pass_send : (B : RattleType) (g : room.Ghosts B.Denot) → IsSend B → IsSend (Pass.the_row B g)
 pass_send B g s = search (pass.the_send, sendable, crosses) depth 30
-
-pub passes_send : (B : RattleType) (g : room.Ghosts B.Denot) → IsSend B → IsSend (Passes.the_row B g)
-passes_send B g s = search (passes.the_send, sendable, crosses) depth 30
 
 pub file_sync : IsSync KeptFile.the_row
 file_sync = kept_file.the_sync
