@@ -54,17 +54,12 @@ def asked(client, method, key):
 
 def measured(program, key_of, count):
     """The times of all writes and of all reads."""
-    server = Server(program, 1)
-    try:
+    with Server(program, 1) as server:
         with server.connect() as client:
             client.setsockopt(socket.IPPROTO_TCP, socket.TCP_NODELAY, 1)
             asked(client, PUT, b"first")
             times = [sorted(asked(client, method, key_of(number)) for number in range(count)) for method in (PUT, GET)]
-        said = server.process.communicate("stop\n", timeout=300)[0]
-    finally:
-        server.process.kill()
-    if not said.endswith("audit ok\n"):
-        sys.exit(f"the server said {said!r}")
+        server.stop(300)
     return times
 
 

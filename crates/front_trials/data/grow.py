@@ -47,19 +47,6 @@ class Asker:
 
 
 @contextlib.contextmanager
-def store(program):
-    """A server whose journals are one run at the end."""
-    server = Server(program, WORKERS)
-    try:
-        yield server
-        said = server.process.communicate("stop\n", timeout=120)[0]
-    finally:
-        server.process.kill()
-    if not said.endswith("audit ok\n"):
-        sys.exit(f"the store said {said!r}")
-
-
-@contextlib.contextmanager
 def redis(folder):
     words = f"redis-server --port {REDIS} --bind 127.0.0.1 --appendonly no --dir {folder}".split() + ["--save", ""]
     with subprocess.Popen(words, stdout=subprocess.DEVNULL) as server:
@@ -71,12 +58,13 @@ def redis(folder):
 
 def measured(program, folder, asker, keys):
     """The writes and the reads a second of both, and the bytes that both hold."""
-    with store(program) as ours, redis(folder) as its:
+    with Server(program, WORKERS) as ours, redis(folder) as its:
         time.sleep(1)
         _, port = ours.address
         writes = [asker.both(port, "PUT", keys, LONGEST)]
         held = ours.memory(), resident(its.pid)
         reads = [asker.both(port, "GET", keys, 1) for _ in range(READS)]
+        ours.stop()
     return writes, reads, held
 
 

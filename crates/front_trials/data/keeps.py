@@ -44,6 +44,10 @@ THREADS = 2
 
 # The keys of each of three vnodes are listed in order. Where there is no memory for such a list at once, it is made key by key.
 LISTS = 3
+
+# Two vnodes are read at the same time, so which thread makes the allocation at a place differs from snapshot to snapshot, and one that does no
+# harm may be met at several places.
+TIMES = 4
 KEYS = 6
 BOUND = "the hook is bound"
 FILES = ("vnode-0.records", "vnode-1.records", "vnode-2.records", "hooks.requests")
@@ -542,7 +546,7 @@ def refused_snapshots(program, folder, refusals, keys):
         is_whole = bool(line) and line.startswith(f"snapshot {3 * keys} keys ")
         wholes += int(is_whole)
         is_told = bool(line) and line.startswith("not kept ") and line.endswith(": E1")
-        if not (is_told or is_whole) or wholes > THREADS + LISTS or loaded != 3 * keys:
+        if not (is_told or is_whole) or wholes > THREADS + TIMES * LISTS or loaded != 3 * keys:
             faults.append(f"allocation {count}: {line}, and then a start: {loaded}")
         count += 1
     lines.append(line)

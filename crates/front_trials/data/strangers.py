@@ -60,6 +60,18 @@ class Server:
     def memory(self):
         return resident(self.process.pid)
 
+    def stop(self, seconds=120):
+        """Stops it in order: its journals are run, and it has to say that they are right."""
+        said = self.process.communicate("stop\n", timeout=seconds)[0]
+        if not said.endswith("audit ok\n"):
+            sys.exit(f"the server said {said!r}")
+
+    def __enter__(self):
+        return self
+
+    def __exit__(self, *_):
+        self.process.kill()
+
 
 def reads_nothing(server, questions=BIG * 1024):
     """A client that asks for much, 64 MB where nothing else is said, and reads none of it. It doesn't wait for its questions to be taken either."""
