@@ -1,9 +1,10 @@
-//! When workers rest, so that what they do can be followed.
+//! When workers rest, so that what they do can be followed, and when it is.
 
 ghost use Rattle.std.specs.Prelude.{◌≡◌, true};
 
 use closing::{Spot, Watch};
 use pool::Room;
+use std::time::Duration;
 
 /// Workers rest where so many entries wait to be followed, or more, or the contents of as many.
 const MOST_WAITING: usize = 100_000;
@@ -16,6 +17,49 @@ const MOST_BEFORE_SNAPSHOTS: usize = 20_000;
 
 /// For each entry that may wait, so many bytes of contents may: 64 MiB for 100,000.
 const BYTES_EACH: u64 = 671;
+
+/// Where fewer entries wait to be followed, who follows leaves the processor to others between its turns.
+const FEW_WAITING: usize = 4_096;
+
+/// How long the thread that follows waits for a connection before its next turn where nothing is to be followed, in milliseconds.
+const TICK: u64 = 20;
+
+/// How long it does where little is.
+const BREATH: u64 = 1;
+
+/// When the next turn is of the thread that follows.
+#[derive(Clone, Copy, Debug)]
+pub(crate) enum Next {
+    /// At once: much waits to be followed.
+    Now,
+    /// Soon: little does. A client whose thread shares the processor isn't kept waiting for milliseconds.
+    Soon,
+    /// Later: nothing does.
+    Later,
+}
+
+impl Next {
+    /// By what waits, and whether there is more to follow.
+    pub(crate) fn after<B: Room + Spot>(watch: &Watch<B>, is_more: bool) -> Next {
+        if !is_more {
+            Next::Later
+        } else if is_below(watch, FEW_WAITING) {
+            Next::Soon
+        } else {
+            Next::Now
+        }
+    }
+
+    /// How long connections are waited for until then.
+    pub(crate) fn pause(self) -> Duration {
+        let millis = match self {
+            Next::Now => 0,
+            Next::Soon => BREATH,
+            Next::Later => TICK,
+        };
+        Duration::from_millis(millis)
+    }
+}
 
 /// Whether workers rest, by how much waits to be followed.
 ///

@@ -9,7 +9,7 @@ ghost use Rattle.store.specs.View.{StoreView};
 ghost use Rattle.dvvstore.specs.Visits.{HasLed, HasVisited, HaveVisited, Leads, begun};
 
 use crate::crew::held::HeldPeers;
-use crate::crew::pace::{Pace, keeps_snapshots_waiting};
+use crate::crew::pace::{Next, Pace, keeps_snapshots_waiting};
 use crate::crew::reporter::{Aloud, Reporter};
 use crate::crew::signs::Signs;
 use closing::{Spot, Watch};
@@ -34,11 +34,9 @@ use std::time::Duration;
 use store::{NotingBackend, Store};
 use troubles::{Noted, Trouble};
 
-/// How long the thread that follows waits for a connection before it follows again, in milliseconds.
-const TICK: u64 = 20;
-
-/// So many stamps are followed in one turn. Connections that come meanwhile wait.
-const PIECE: u64 = 1_024;
+/// So many stamps are followed in one turn, in some two tenths of a millisecond. Connections that come meanwhile wait, and so may a thread that
+/// shares the processor.
+const PIECE: u64 = 256;
 
 /// How long a worker waits at the most for something to do, in milliseconds.
 const LONGEST_WAIT: u64 = 500;
@@ -139,14 +137,14 @@ struct Floor<'a, B: Room + Spot> {
     ghost first: { cluster.now.first ≡ B.first },
 }
 
-/// Has the vnodes hand out what they did, and follows so many stamps of it. Whether there is more to follow. Workers rest from then on,
-/// or no longer, as the pace says, and so do those who make snapshots.
+/// Has the vnodes hand out what they did, and follows so many stamps of it. Answers when the next turn is. Workers rest from then on, or no
+/// longer, as the pace says, and so do those who make snapshots.
 fn follow<B: Room + Spot, R: Wait>(
     rt: &R,
     floor: &Floor<'_, B>,
     pace: &mut Pace,
     stamps: u64,
-) -> bool {
+) -> Next {
     let shared = floor.shared;
     let alarm = Aloud(shared.err);
     let mut watch = shared.watch.lock(rt);
@@ -154,26 +152,26 @@ fn follow<B: Room + Spot, R: Wait>(
     let is_more = watch.follow_some(stamps, &alarm);
     let rests = pace.look(&watch, is_more);
     let is_trailing = keeps_snapshots_waiting(&watch, is_more);
+    let next = Next::after(&watch, is_more);
     drop(watch);
     shared.is_trailing.store(is_trailing, SeqCst);
     if shared.is_behind.swap(rests, SeqCst) && !rests {
         floor.lobby.roster.wake_all();
     }
-    is_more
+    next
 }
 
 /// Hands out the connections that come, and follows what workers do, turn by turn, until all workers have ended.
 fn attend<B: Room + Spot, R: Wait>(rt: &R, floor: &Floor<'_, B>) {
     floor.shared.is_followed.store(true, SeqCst);
     let mut pace = Pace::new();
-    let mut is_more = false;
+    let mut next = Next::Later;
     for _ in rt.forever() {
         if floor.shared.over.load(SeqCst) {
             break;
         }
-        let most = if is_more { 0 } else { TICK };
-        floor.lobby.accept(rt, Duration::from_millis(most));
-        is_more = follow(rt, floor, &mut pace, PIECE);
+        floor.lobby.accept(rt, next.pause());
+        next = follow(rt, floor, &mut pace, PIECE);
     }
 }
 
