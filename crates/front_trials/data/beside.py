@@ -43,11 +43,13 @@ def ask(folder, who, method, port, connections, seconds, threads):
 
 @contextlib.contextmanager
 def store(program, port, workers, connections):
-    """A server of this store for so many connections twice, whose journals are one run at the end."""
-    words = [program, "serve", f"127.0.0.1:{port}", str(min(connections, workers)), str(connections * 2)]
+    """A server of this store that answers, for so many connections twice, whose journals are one run at the end."""
+    words = [program, "serve", f"127.0.0.1:{port}", str(min(connections, workers)), str(1 + connections * 2)]
     with subprocess.Popen(words, stdin=subprocess.PIPE, stdout=subprocess.PIPE, text=True) as server:
         try:
-            time.sleep(0.3)
+            server.stdout.readline()
+            # It answers from the end of the second in which it starts.
+            urllib.request.urlopen(f"http://127.0.0.1:{port}/ping").close()
             yield
             said = server.communicate(timeout=60)[0]
         finally:
