@@ -10,7 +10,6 @@ answers by epoll. etcd's data lie in memory, and redis saves nothing. They are a
 with a fresh server of this store in each: where a machine goes up and down, many short rounds say more than a few long ones. What is told is the middle of
 the rounds, of requests and of ratios, and the milliseconds in which 99 of 100 answers came. Debian: etcd-server redis-server gcc.
 """
-import contextlib
 import itertools
 import os
 import statistics
@@ -21,9 +20,11 @@ import time
 import urllib.request
 from pathlib import Path
 
+from strangers import Server
+
 CONNECTIONS = (1, 2, 4, 64, 256, 1000)
 METHODS = ("PUT", "GET")
-STORE, ETCD, ETCD_PEERS, REDIS = 8170, 23790, 23800, 6399
+ETCD, ETCD_PEERS, REDIS = 23790, 23800, 6399
 
 
 def compile_asker(folder):
@@ -39,23 +40,6 @@ def ask(folder, who, method, port, connections, seconds, threads):
         sys.exit(f"{who} {method}: {asked.stderr}")
     rate, _, slow = asked.stdout.split()
     return float(rate), float(slow)
-
-
-@contextlib.contextmanager
-def store(program, port, workers, connections):
-    """A server of this store that answers, for so many connections twice, whose journals are one run at the end."""
-    words = [program, "serve", f"127.0.0.1:{port}", str(min(connections, workers)), str(1 + connections * 2)]
-    with subprocess.Popen(words, stdin=subprocess.PIPE, stdout=subprocess.PIPE, text=True) as server:
-        try:
-            server.stdout.readline()
-            # It answers from the end of the second in which it starts.
-            urllib.request.urlopen(f"http://127.0.0.1:{port}/ping").close()
-            yield
-            said = server.communicate(timeout=60)[0]
-        finally:
-            server.kill()
-    if not said.endswith("audit ok\n"):
-        sys.exit(f"the store said {said!r}")
 
 
 def servers(folder):
@@ -85,14 +69,15 @@ def main(program, rounds=3, seconds=2, threads=4, workers=4, *which):
             time.sleep(3)
             urllib.request.urlopen(f"http://127.0.0.1:{ETCD}/v2/keys/", timeout=5).read()
             print(f"{os.cpu_count()} processors, load {load():.1f}; {rounds} rounds of {seconds} seconds, at most {threads} threads and {workers} workers", flush=True)
-            port = STORE
             for _ in range(rounds):
                 for connections in which:
-                    port += 1
-                    with store(program, port, workers, connections):
+                    with Server(program, min(connections, workers)) as ours:
+                        ours.answer()
+                        _, port = ours.address
                         for method, (who, at) in itertools.product(METHODS, (("store", port), ("redis", REDIS), ("etcd", ETCD))):
                             given = ask(folder, who, method, at, connections, seconds, threads)
                             rates.setdefault((who, method, connections), []).append(given)
+                        ours.stop()
         finally:
             for server in started:
                 server.kill()

@@ -3,12 +3,12 @@
 
     flat.py DVVSTORE [MINUTES [A_SECOND [LOADS..]]]
 
-Each of three loads, or of those that are said, has a server of its own, with two workers; all go on at the same time, for so many minutes (20), A_SECOND (1,000) rounds
-a second at the most. `rejected`: writes to one key that its bucket's hook rejects. `large`: a key of 65,536 bytes that is read and written again in the context of that
-read. `deletes`: fresh keys, each written, read and deleted. Memory is what the system says that a process holds. It is told every half minute, and of deletes how many bytes each
-deleted key has taken since half of the time: until then what is kept of the last answers, and for what waits, fills up. At the end each server is stopped
-in order and has to print "audit ok". The status is 0 where, after that half, no server held more than 5 % above what it held then, less 250 bytes for
-each key that was deleted since.
+Each of three loads, or of those that are said, has a server of its own, with two workers; all go on at the same time, for so many minutes (20),
+A_SECOND (1,000) rounds a second at the most. `rejected`: writes to one key that its bucket's hook rejects. `large`: a key of 65,536 bytes that is
+read and written again in the context of that read. `deletes`: fresh keys, each written, read and deleted. Memory is what the system says that a
+process holds. It is told every half minute, and of deletes how many bytes each deleted key has taken since half of the time: until then what is kept
+of the last answers, and for what waits, fills up. At the end each server is stopped in order and has to print "audit ok". The status is 0 where,
+after that half, no server held more than 5 % above what it held then, less 250 bytes for each key that was deleted since.
 """
 import http.client
 import sys

@@ -60,6 +60,12 @@ class Server:
     def memory(self):
         return resident(self.process.pid)
 
+    def answer(self):
+        """Waits until it answers, which it does from the end of the second in which it starts."""
+        client = http.client.HTTPConnection(*self.address, timeout=self.patience)
+        ask(client, "GET", "/ping", None, (200,))
+        client.close()
+
     def stop(self, seconds=120):
         """Stops it in order: its journals are run, and it has to say that they are right."""
         said = self.process.communicate("stop\n", timeout=seconds)[0]
