@@ -24,6 +24,7 @@ The status is 0 where all that held.
 """
 import copy
 import http.client
+import itertools
 import os
 import random
 import resource
@@ -44,10 +45,6 @@ THREADS = 2
 
 # The keys of each of three vnodes are listed in order. Where there is no memory for such a list at once, it is made key by key.
 LISTS = 3
-
-# Two vnodes are read at the same time, so which thread makes the allocation at a place differs from snapshot to snapshot, and one that does no
-# harm may be met at several places.
-TIMES = 4
 KEYS = 6
 BOUND = "the hook is bound"
 FILES = ("vnode-0.records", "vnode-1.records", "vnode-2.records", "hooks.requests")
@@ -511,23 +508,31 @@ def loaded_from(program, folder):
 
 
 class Refusals:
-    """What refuse_one.c is asked for: which allocation of the thread that writes records it refuses."""
+    """What refuse_one.c is asked for: which allocation of a thread that writes records it refuses."""
 
     def __init__(self, folder):
         library, self.asked = f"{folder}-refuse.so", f"{folder}-asked"
         subprocess.run(["cc", "-O2", "-shared", "-fPIC", "-o", library, Path(__file__).with_name("refuse_one.c"), "-ldl"], check=True)
         self.env = {"LD_PRELOAD": library, "REFUSALS": self.asked}
-        write(self.asked, struct.pack("ll", -1, 0))
+        write(self.asked, struct.pack("lll", -1, -1, 0))
 
-    def refuse(self, place):
-        """The allocation at a place from now on is refused; none is where it is below 0."""
+    def refuse(self, place, vnode=-1):
+        """The allocation at a place from now on is refused, of a vnode's thread, or of any; none is where the place is below 0."""
         with open(self.asked, "r+b") as file:
-            file.write(struct.pack("ll", place, 0))
+            file.write(struct.pack("lll", vnode, place, 0))
+
+    def each(self):
+        """The vnode and the place of each allocation in turn. Whoever takes one has it refused; where it isn't met the next vnode's first follows."""
+        for vnode in range(3):
+            for place in itertools.count():
+                yield vnode, place
+                if self.seen() <= place:
+                    break
 
     def seen(self):
         """How many allocations there were since then."""
         with open(self.asked, "rb") as file:
-            return struct.unpack("ll", file.read())[1]
+            return struct.unpack("lll", file.read())[2]
 
 
 def refused_snapshots(program, folder, refusals, keys):
@@ -535,54 +540,55 @@ def refused_snapshots(program, folder, refusals, keys):
     server = Server(program, folder, more=refusals.env)
     for key in range(keys):
         server.put(key, b"x" * 40)
-    # From the first one on it is known which thread writes.
-    lines, faults, count, wholes = [server.snapshot()], [], 0, 0
-    while True:
-        refusals.refuse(count)
+    # From the first one on it is known which thread writes. Vnodes are read at the same time, so it is said of which thread one is refused.
+    lines, faults, refused, wholes = [server.snapshot()], [], 0, 0
+    for vnode, place in refusals.each():
+        refusals.refuse(place, vnode)
         line = server.snapshot()
-        if refusals.seen() <= count:
-            break
+        if refusals.seen() <= place:
+            lines.append(line)
+            continue
+        refused += 1
         loaded = loaded_from(program, folder)
         is_whole = bool(line) and line.startswith(f"snapshot {3 * keys} keys ")
         wholes += int(is_whole)
         is_told = bool(line) and line.startswith("not kept ") and line.endswith(": E1")
-        if not (is_told or is_whole) or wholes > THREADS + TIMES * LISTS or loaded != 3 * keys:
-            faults.append(f"allocation {count}: {line}, and then a start: {loaded}")
-        count += 1
-    lines.append(line)
+        if not (is_told or is_whole) or loaded != 3 * keys:
+            faults.append(f"allocation {place} of vnode {vnode}: {line}, and then a start: {loaded}")
+    if wholes != THREADS + LISTS:
+        faults.append(f"{wholes} snapshots were whole of which an allocation was refused")
     refusals.refuse(-1)
     faults += [f"no allocation is refused: {line}" for line in lines if not line or not line.startswith(f"snapshot {3 * keys} keys ")]
     status, out, told = server.stop()
     if status != 0 or not out.endswith("audit ok\n"):
         faults.append(f"allocations: {status} {out} {told}")
-    return faults, count
+    return faults, refused
 
 
 def refused_stops(program, folder, refusals):
     """The same of a stop, from when it opens the first file on, of copies of a folder where a key more was put."""
-    faults, count, wholes, held = [], 0, 0, loaded_from(program, folder)
-    while True:
-        copied = f"{folder}-{count}"
+    faults, refused, wholes, held = [], 0, 0, loaded_from(program, folder)
+    for vnode, place in refusals.each():
+        copied = f"{folder}-{vnode}-{place}"
         shutil.copytree(folder, copied)
         refusals.refuse(-1)
         server = Server(program, copied, more=refusals.env)
         server.put("more", b"x" * 40)
-        refusals.refuse(count)
+        refusals.refuse(place, vnode)
         status, out, told = server.stop()
-        is_met = refusals.seen() > count
+        is_met = refusals.seen() > place
         loaded = loaded_from(program, copied)
         is_whole = status == 0 and out.startswith("kept ") and loaded == held + 3
+        refused += int(is_met)
         wholes += int(is_met and is_whole)
         # Each of three files is replaced for itself: those behind the one that isn't are replaced all the same.
         is_told = status == 1 and out.startswith("not kept ") and held <= loaded <= held + 3
         if not (is_whole or is_met and is_told) or not out.endswith("audit ok\n"):
-            faults.append(f"allocation {count} of a stop: {status} {out} {told}, and then a start: {loaded}")
+            faults.append(f"allocation {place} of vnode {vnode} at a stop: {status} {out} {told}, and then a start: {loaded}")
         shutil.rmtree(copied)
-        if not is_met:
-            if wholes != LISTS:
-                faults.append(f"{wholes} stops were whole of which an allocation was refused")
-            return faults, count
-        count += 1
+    if wholes != LISTS:
+        faults.append(f"{wholes} stops were whole of which an allocation was refused")
+    return faults, refused
 
 
 def try_allocations(program, folder):
