@@ -1,6 +1,6 @@
 //! Version vectors.
 
-ghost use Rattle.std.specs.Prelude.{◌≡◌, ◌≢◌, ◌+◌, ◌<◌, ◌≤◌, ◌↔◌, [], length, All, Contains, IsTrue, IsOk, OnOk, OnErr, IfOk, IfErr};
+ghost use Rattle.std.specs.Prelude.{◌≡◌, ◌≢◌, ◌+◌, ◌<◌, ◌≤◌, ◌↔◌, [], ◌∷◌, length, All, Contains, IsTrue, IsOk, OnOk, OnErr, IfOk, IfErr};
 ghost use Rattle.dvv.specs.declared.Dot.{Dot};
 ghost use Rattle.dvv.specs.Clock.{counter, Covers, IsUnion, vnodes_together, AddsEvent, AddsVnode, IsClock, IsPlaceOf, IsGapFor, greatest_counter, most_entries};
 
@@ -50,6 +50,17 @@ impl Clock {
         Clock {
             entries: Entries::new(alloc),
         }
+    }
+
+    /// The clock of a vnode's events up to this one. It takes no memory.
+    pub fn up_to(alloc: Global, last: Dot) -> Self
+        requires first { 1 ≤ last.n }
+        requires limit { last.n ≤ greatest_counter }
+        ensures { result ≡ last ∷ [] }
+    {
+        let mut entries = Entries::new(alloc);
+        entries.push_reserved(last);
+        Clock { entries }
     }
 
     /// The clock of these entries: the greatest event of each vnode, vnodes rising. It keeps the vector's memory where there are several.
