@@ -6,5 +6,5 @@ pub mod Placing
 pub mod Merging
 pub mod Parts
 pub mod Known
-pub mod Kept
+pub mod Held
 pub mod Sizes

@@ -1,48 +1,60 @@
 //! What is held at a key, and shared by the copies of its state.
 
-ghost use Rattle.std.specs.Prelude.{◌≡◌, ◌<◌, ◌≤◌, ◌↔◌, length, min, sum_by, IsTrue, OnOk, IfOk};
+ghost use Rattle.std.specs.Prelude.{◌≡◌, ◌<◌, ◌≤◌, ◌↔◌, length, take, IsTrue, OnOk, IfOk, IfErr};
 ghost use Rattle.std.specs.Arc.{arc_value};
-ghost use Rattle.dvv.specs.Clock.{Within, HasRoom, vnodes_together, most_entries};
+ghost use Rattle.dvv.specs.Clock.{Within, HasRoom, IsClock, vnodes_together, most_entries};
+ghost use Rattle.object.specs.Held.{state_of};
+ghost use Rattle.object.specs.declared.held.Body.TheVariants.{Lone};
 ghost use Rattle.object.specs.Limits.{most_siblings};
 ghost use Rattle.object.specs.Parts.{lacks_some};
-ghost use Rattle.object.specs.Sizes.{content_bytes, most_bytes, state_bytes};
+ghost use Rattle.object.specs.Sizes.{state_bytes};
 ghost use Rattle.object.specs.State.{empty, next, kept, AreInOrder, AreCovered, IsState};
 
 use crate::content::{Sibling, Siblings};
 use crate::exchange::lacks;
 use crate::fault::PutRefusal;
+use crate::full::Full;
 use crate::limits::MAX_SIBLINGS;
-use crate::part::Part;
+use crate::part::{Part, are_dots_of};
 use crate::placing::count_kept;
 use crate::state::KeyState;
 use dvv::{Clock, Dot};
 use std::alloc::{AllocError, Global};
 use std::marker::Model;
 use std::mem::size_of;
+use std::slice;
 use std::sync::Arc;
 
 /// The siblings and the clock of a key. They never change while copies of a state share them.
 #[derive(Drop)]
 pub struct Held {
-    siblings: Siblings,
-    clock: Clock,
-    // How many the contents have: counted while these are at hand, so that none is fetched for it later.
-    bytes: u64,
+    alloc: Global,
+    body: Body,
 }
 
-// With the count of its owners it takes 136 bytes, which fill a block of glibc's `malloc`.
-const _: () = prove!(size_of::<Held>() == 128);
+// With the count of its owners it takes 56 bytes, which fill a block of glibc's `malloc` of 64.
+const _: () = prove!(size_of::<Held>() == 48);
+
+// Nearly every key has one sibling, whose dot is the only entry of its clock: such a one is kept alone.
+#[derive(Drop)]
+pub(crate) enum Body {
+    // Nothing written.
+    Nothing,
+    // A sibling whose dot is the only entry of the clock.
+    Lone(Sibling),
+    // Any other siblings, and their clock.
+    Full(Box<Full>),
+}
 
 impl Model for Held {
-    ghost use Rattle.std.specs.Prelude.{◌≡◌};
-    ghost use Rattle.object.specs.Sizes.{state_bytes};
+    ghost use Rattle.object.specs.Held.{state_of};
     ghost use Rattle.object.specs.State.{State, IsState};
 
     ghost Value = { State };
 
-    ghost view = { λ h. record { siblings = h.siblings.items; clock = h.clock } };
+    ghost view = { λ h. state_of h.body };
 
-    ghost invariant = { λ h. IsState (record { siblings = h.siblings.items; clock = h.clock }) × (h.bytes ≡ state_bytes (record { siblings = h.siblings.items; clock = h.clock })) };
+    ghost invariant = { λ h. IsState (state_of h.body) };
 }
 
 impl Held {
@@ -51,37 +63,40 @@ impl Held {
         ensures { result ≡ empty }
     {
         Held {
-            siblings: Siblings::new(alloc),
-            clock: Clock::new(alloc),
-            bytes: 0,
+            alloc,
+            body: Body::Nothing,
         }
     }
 
-    // These siblings, and a clock that counts each of them.
-    pub(crate) fn new(siblings: Siblings, clock: Clock) -> Self
+    // These siblings, and a clock that counts each of them. A lone one takes no memory.
+    pub(crate) fn new(siblings: Siblings, clock: Clock) -> Result<Self, AllocError>
         requires order { AreInOrder siblings.items }
         requires covered { AreCovered clock siblings.items }
-        ensures { result ≡ record { siblings = siblings.items; clock = clock } }
+        ensures { IfOk result (λ held. held ≡ record { siblings = siblings.items; clock = clock }) }
     {
-        // What every clock keeps is told with its entries.
-        let _entries = clock.entries();
-        let bytes = bytes_of(siblings.as_slice());
-        Held {
-            siblings,
-            clock,
-            bytes,
-        }
+        let alloc = *siblings.allocator();
+        let body = match lone_of(siblings, &clock) {
+            Ok(sibling) => Body::Lone(sibling),
+            Err(siblings) => Body::Full(Box::new(alloc, Full::new(siblings, clock))?),
+        };
+        Ok(Held { alloc, body })
     }
 
-    // Takes siblings in place of its own, each counted by the clock.
-    pub(crate) fn set_siblings(&mut self, siblings: Siblings)
+    // The same in memory that was taken for it with its clock.
+    pub(crate) fn new_in(mut full: Box<Full>, siblings: Siblings) -> Self
         requires order { AreInOrder siblings.items }
-        requires covered { AreCovered self.old.clock siblings.items }
-        ensures set { self.new ≡ record { siblings = siblings.items; clock = self.old.clock } }
-        ensures state { IsState self.new }
+        requires covered { AreCovered full.value.clock siblings.items }
+        ensures { result ≡ record { siblings = siblings.items; clock = full.value.clock } }
     {
-        self.bytes = bytes_of(siblings.as_slice());
-        self.siblings = siblings;
+        let alloc = *siblings.allocator();
+        let body = match lone_of(siblings, full.clock()) {
+            Ok(sibling) => Body::Lone(sibling),
+            Err(siblings) => {
+                full.set_siblings(siblings);
+                Body::Full(full)
+            }
+        };
+        Held { alloc, body }
     }
 
     /// The siblings, rising by dot.
@@ -89,21 +104,58 @@ impl Held {
         ensures all { result.now ≡ self.now.siblings }
         ensures state { IsState self.now }
     {
-        self.siblings.as_slice()
+        match &self.body {
+            Body::Nothing => &[],
+            Body::Lone(sibling) => slice::from_ref(sibling),
+            Body::Full(full) => full.siblings(),
+        }
     }
 
-    /// The clock: it counts each event that any known write had seen, and the known writes themselves.
-    pub fn clock(&self) -> &Clock
+    // The entries of the clock.
+    fn entries(&self) -> &[Dot]
+        ensures all { result.now ≡ self.now.clock }
+        ensures clock { IsClock self.now.clock }
+    {
+        match &self.body {
+            Body::Nothing => &[],
+            Body::Lone(sibling) => slice::from_ref(&sibling.dot),
+            Body::Full(full) => full.clock().entries(),
+        }
+    }
+
+    // The clock of the first entry alone, for `clock` to lend. It takes no memory.
+    pub(crate) fn first(&self) -> Clock
+        ensures { result ≡ take 1 self.now.clock }
+    {
+        match self.entries().first() {
+            Some(entry) => Clock::up_to(self.alloc, *entry),
+            None => Clock::new(self.alloc),
+        }
+    }
+
+    // The clock: it counts each event that any known write had seen, and the known writes themselves. Where none is kept, it is that of its
+    // first entry.
+    pub(crate) fn clock<'a>(&'a self, first: &'a Clock) -> &'a Clock
+        requires { first.now ≡ take 1 self.now.clock }
         ensures { result.now ≡ self.now.clock }
     {
-        &self.clock
+        match &self.body {
+            Body::Nothing => first,
+            Body::Lone(_) => first,
+            Body::Full(full) => full.clock(),
+        }
     }
 
-    /// The bytes of its contents, 2^64 - 1 where they are more. They are kept with it: it touches no content.
+    /// The bytes of its contents, 2^64 - 1 where they are more. Those of several siblings are kept with them: only a lone one's content is
+    /// fetched for it.
     pub fn bytes(&self) -> u64
         ensures { result ≡ state_bytes self.now }
     {
-        self.bytes
+        match &self.body {
+            Body::Nothing => 0,
+            Body::Lone(sibling) => sibling.content.bytes(),
+            Body::Full(full) => full.bytes(),
+        }
     }
 
     /// The dot that a put at a vnode would get, or what it would be refused for, want of memory aside.
@@ -116,7 +168,8 @@ impl Held {
         ensures many { result ≡ Err PutRefusal.TooManySiblings ↔ (Within seen.now self.now.clock × (most_siblings ≤ length (kept seen.now self.now.siblings))) }
         ensures full { result ≡ Err PutRefusal.ClockFull ↔ (Within seen.now self.now.clock × (length (kept seen.now self.now.siblings) < most_siblings) × (HasRoom self.now.clock (next self.now vnode) → ⊥)) }
     {
-        let clock = self.clock();
+        let first = self.first();
+        let clock = self.clock(&first);
         if !seen.le(clock) {
             return Err(PutRefusal::ContextAhead);
         }
@@ -133,18 +186,26 @@ impl Held {
         Ok(dot)
     }
 
+    /// Whether a union with another clock keeps the clock within its 1,024 entries.
+    pub fn can_join(&self, other: &Clock) -> bool
+        ensures { IsTrue result ↔ (vnodes_together self.now.clock other.now ≤ most_entries) }
+    {
+        let first = self.first();
+        self.clock(&first).can_join(other)
+    }
+
     /// Whether a merge of another state keeps the clock within its 1,024 entries.
     pub fn can_merge(&self, other: &KeyState) -> bool
         ensures { IsTrue result ↔ (vnodes_together self.now.clock other.now.clock ≤ most_entries) }
     {
-        self.clock().can_join(other.clock())
+        self.can_join(other.clock())
     }
 
     /// Whether a state is the same: each sibling with its content, and the clock.
     pub fn is_same(&self, state: &KeyState) -> bool
         ensures { IsTrue result ↔ (self.now ≡ state.now) }
     {
-        state.has(self.siblings(), self.clock())
+        state.has(self.siblings(), self.entries())
     }
 
     /// Whether some content that was left out of a part isn't held. Takes no memory.
@@ -155,22 +216,21 @@ impl Held {
     }
 }
 
-// How many bytes the contents of siblings have, 2^64 - 1 where they are more.
-fn bytes_of(siblings: &[Sibling]) -> u64
-    ensures { result ≡ min (sum_by (λ s. content_bytes s.content) siblings.now) most_bytes }
+// The sibling that there is alone, where its dot is the only entry of the clock: else the siblings as they were.
+fn lone_of(mut siblings: Siblings, clock: &Clock) -> Result<Sibling, Siblings>
+    requires order { AreInOrder siblings.items }
+    requires covered { AreCovered clock.now siblings.items }
+    ensures lone { IfOk result (λ sibling. record { siblings = siblings.items; clock = clock.now } ≡ state_of (Lone sibling)) }
+    ensures state { IfOk result (λ sibling. IsState (state_of (Lone sibling))) }
+    ensures other { IfErr result (λ same. same.items ≡ siblings.items) }
 {
-    let mut bytes: u64 = 0;
-    for sibling in siblings {
-        bytes = bytes.saturating_add(sibling.content.bytes());
+    if siblings.len() != 1 || !are_dots_of(clock.entries(), siblings.as_slice()) {
+        return Err(siblings);
     }
-    bytes
-}
-
-// What a state keeps: nothing written, with the clock to lend, or what it shares with its copies.
-#[derive(Drop)]
-pub(crate) enum Kept {
-    Nothing(Clock),
-    Shared(Arc<Held>),
+    match siblings.pop() {
+        Some(sibling) => Ok(sibling),
+        None => Err(siblings),
+    }
 }
 
 /// The state of a key as it is kept with many others: it takes no more than a pointer, and shares what it holds with its copies.

@@ -7,6 +7,7 @@ ghost use Rattle.object.specs.State.{IsState};
 use crate::content::{Sibling, Siblings};
 use crate::exchange::content_of;
 use crate::fault::{MergeFault, PartFault};
+use crate::full::Full;
 use crate::held::Held;
 use crate::part::Part;
 use crate::state::KeyState;
@@ -21,19 +22,19 @@ pub struct PreparedPart<'a> {
     part: &'a Part,
     siblings: Vec<Sibling>,
     // Has the clock, and no siblings yet.
+    full: Box<Full>,
     held: Arc<Held>,
 }
 
 impl<'a> Model for PreparedPart<'a> {
     ghost use Rattle.std.specs.Prelude.{◌≡◌, ◌≤◌, [], length, vec_capacity};
-    ghost use Rattle.std.specs.Arc.{arc_value};
     ghost use Rattle.object.specs.Parts.{Partial};
 
     ghost Value = { Partial };
 
     ghost view = { λ p. p.part.now };
 
-    ghost invariant = { λ p. ((arc_value p.held).clock ≡ p.part.now.clock) × (p.siblings.items ≡ []) × (length p.part.now.siblings ≤ vec_capacity p.siblings) };
+    ghost invariant = { λ p. (p.full.value.clock ≡ p.part.now.clock) × (p.siblings.items ≡ []) × (length p.part.now.siblings ≤ vec_capacity p.siblings) };
 }
 
 impl<'a> PreparedPart<'a> {
@@ -41,11 +42,12 @@ impl<'a> PreparedPart<'a> {
     pub fn new(alloc: Global, part: &'a Part) -> Result<Self, AllocError>
         ensures { IfOk result (λ prepared. prepared ≡ part.now) }
     {
-        let held = Held::new(Siblings::new(alloc), part.clock().copy(alloc)?);
+        let full = Full::new(Siblings::new(alloc), part.clock().copy(alloc)?);
         Ok(PreparedPart {
             part,
             siblings: Vec::with_capacity(alloc, part.siblings().len())?,
-            held: Arc::new(alloc, held)?,
+            full: Box::new(alloc, full)?,
+            held: Arc::new(alloc, Held::nothing(alloc))?,
         })
     }
 
@@ -69,6 +71,7 @@ impl KeyState {
         let PreparedPart {
             part,
             mut siblings,
+            full,
             held,
         } = prepared;
         for sent in part.siblings() {
@@ -87,7 +90,7 @@ impl KeyState {
                 Err(_) => unreachable!(),
             }
         }
-        match KeyState::in_held(held, siblings) {
+        match KeyState::in_held(held, full, siblings) {
             Ok(whole) => Ok(whole),
             Err(_) => Err(self.uncopied(part)),
         }

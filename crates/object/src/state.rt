@@ -4,7 +4,8 @@ ghost use Rattle.std.specs.Prelude.{◌≡◌, ◌≢◌, ◌<◌, ◌≤◌, �
 
 use crate::content::{Content, Sibling, Siblings};
 use crate::fault::{MergeFault, PutFault, PutRefusal};
-use crate::held::{Held, Kept, Stored};
+use crate::full::Full;
+use crate::held::{Held, Stored};
 use crate::merging::{covers_some, drops_some, merge_siblings};
 use crate::placing::replacing_seen;
 use dvv::{Clock, ClockFault, Dot};
@@ -17,19 +18,23 @@ use std::sync::Arc;
 #[derive(Drop)]
 pub struct KeyState {
     alloc: Global,
-    kept: Kept,
+    // None where nothing is written.
+    held: Option<Arc<Held>>,
+    // The clock of the first entry alone: where what is held keeps no clock, this one is lent.
+    first: Clock,
 }
 
 impl Model for KeyState {
-    ghost use Rattle.object.specs.State.{State, IsState};
+    ghost use Rattle.std.specs.Prelude.{◌≡◌, take};
+    ghost use Rattle.std.specs.Arc.{arc_value};
+    ghost use Rattle.std.specs.Option.{option_map_or};
+    ghost use Rattle.object.specs.State.{State, IsState, empty};
 
     ghost Value = { State };
 
-    ghost use Rattle.object.specs.Kept.{state_in, LendsNothing};
+    ghost view = { λ s. option_map_or arc_value s.held empty };
 
-    ghost view = { λ s. state_in s.kept };
-
-    ghost invariant = { λ s. IsState (state_in s.kept) × LendsNothing s.kept };
+    ghost invariant = { λ s. IsState (option_map_or arc_value s.held empty) × (s.first ≡ take 1 (option_map_or arc_value s.held empty).clock) };
 }
 
 impl KeyState {
@@ -44,7 +49,8 @@ impl KeyState {
     {
         KeyState {
             alloc,
-            kept: Kept::Nothing(Clock::new(alloc)),
+            held: None,
+            first: Clock::new(alloc),
         }
     }
 
@@ -66,32 +72,38 @@ impl KeyState {
         ensures { IfOk result (λ state. state ≡ record { siblings = siblings.items; clock = clock }) }
     {
         let alloc = *siblings.allocator();
-        let held = Held::new(siblings, clock);
-        Ok(KeyState {
+        let held = Held::new(siblings, clock)?;
+        Ok(KeyState::sharing(alloc, Arc::new(alloc, held)?))
+    }
+
+    // The state of what is shared.
+    fn sharing(alloc: Global, held: Arc<Held>) -> Self
+        ensures { result ≡ arc_value held }
+    {
+        // What every state keeps is told with its siblings.
+        let _siblings = held.siblings();
+        let first = held.first();
+        KeyState {
             alloc,
-            kept: Kept::Shared(Arc::new(alloc, held)?),
-        })
+            held: Some(held),
+            first,
+        }
     }
 
     /// The state that is stored, what it holds shared. Refused where its owners can't be counted further.
     pub fn of(alloc: Global, stored: &Stored) -> Result<Self, AllocError>
         ensures { IfOk result (λ state. state ≡ stored.now) }
     {
-        // What every state keeps is told with its siblings.
-        let _siblings = stored.held().siblings();
-        Ok(KeyState {
-            alloc,
-            kept: Kept::Shared(stored.share()?),
-        })
+        Ok(KeyState::sharing(alloc, stored.share()?))
     }
 
     /// The state to be stored, what it holds shared.
     pub fn stored(&self) -> Result<Stored, AllocError>
         ensures { IfOk result (λ stored. stored ≡ self.now) }
     {
-        let held = match &self.kept {
-            Kept::Nothing(_) => Arc::new(self.alloc, Held::nothing(self.alloc))?,
-            Kept::Shared(held) => held.clone()?,
+        let held = match &self.held {
+            None => Arc::new(self.alloc, Held::nothing(self.alloc))?,
+            Some(held) => held.clone()?,
         };
         Ok(Stored::new(held))
     }
@@ -101,9 +113,9 @@ impl KeyState {
         ensures all { result.now ≡ self.now.siblings }
         ensures state { IsState self.now }
     {
-        match &self.kept {
-            Kept::Nothing(_) => &[],
-            Kept::Shared(held) => held.siblings(),
+        match &self.held {
+            None => &[],
+            Some(held) => held.siblings(),
         }
     }
 
@@ -111,19 +123,20 @@ impl KeyState {
     pub fn clock(&self) -> &Clock
         ensures { result.now ≡ self.now.clock }
     {
-        match &self.kept {
-            Kept::Nothing(clock) => clock,
-            Kept::Shared(held) => held.clock(),
+        match &self.held {
+            None => &self.first,
+            Some(held) => held.clock(&self.first),
         }
     }
 
-    /// The bytes of its contents, 2^64 - 1 where they are more. They are kept with it: it touches no content.
+    /// The bytes of its contents, 2^64 - 1 where they are more. Those of several siblings are kept with them: only a lone one's content is
+    /// fetched for it.
     pub fn bytes(&self) -> u64
         ensures { result ≡ state_bytes self.now }
     {
-        match &self.kept {
-            Kept::Nothing(_) => 0,
-            Kept::Shared(held) => held.bytes(),
+        match &self.held {
+            None => 0,
+            Some(held) => held.bytes(),
         }
     }
 
@@ -132,12 +145,9 @@ impl KeyState {
         ensures same { IfOk result (λ copy. copy ≡ self.now) }
         ensures state { IsState self.now }
     {
-        match &self.kept {
-            Kept::Nothing(_) => Ok(KeyState::new(alloc)),
-            Kept::Shared(held) => Ok(KeyState {
-                alloc,
-                kept: Kept::Shared(held.clone()?),
-            }),
+        match &self.held {
+            None => Ok(KeyState::new(alloc)),
+            Some(held) => Ok(KeyState::sharing(alloc, held.clone()?)),
         }
     }
 
@@ -157,15 +167,14 @@ impl KeyState {
     pub fn is_same(&self, other: &KeyState) -> bool
         ensures { IsTrue result ↔ (self.now ≡ other.now) }
     {
-        other.has(self.siblings(), self.clock())
+        other.has(self.siblings(), self.clock().entries())
     }
 
-    // Whether these are its siblings and its clock.
-    pub(crate) fn has(&self, siblings: &[Sibling], clock: &Clock) -> bool
-        ensures { IsTrue result ↔ (record { siblings = siblings.now; clock = clock.now } ≡ self.now) }
+    // Whether these are its siblings and the entries of its clock.
+    pub(crate) fn has(&self, siblings: &[Sibling], entries: &[Dot]) -> bool
+        ensures { IsTrue result ↔ (record { siblings = siblings.now; clock = entries.now } ≡ self.now) }
     {
-        have_same_entries(clock.entries(), self.clock().entries())
-            && are_same(siblings, self.siblings())
+        have_same_entries(entries, self.clock().entries()) && are_same(siblings, self.siblings())
     }
 
     /// The dot that a put at a vnode would get, or what it would be refused for, want of memory aside.
@@ -178,9 +187,9 @@ impl KeyState {
         ensures many { result ≡ Err PutRefusal.TooManySiblings ↔ (Within seen.now self.now.clock × (most_siblings ≤ length (kept seen.now self.now.siblings))) }
         ensures full { result ≡ Err PutRefusal.ClockFull ↔ (Within seen.now self.now.clock × (length (kept seen.now self.now.siblings) < most_siblings) × (HasRoom self.now.clock (next self.now vnode) → ⊥)) }
     {
-        match &self.kept {
-            Kept::Nothing(_) => Held::nothing(self.alloc).check_put(vnode, seen),
-            Kept::Shared(held) => held.check_put(vnode, seen),
+        match &self.held {
+            None => Held::nothing(self.alloc).check_put(vnode, seen),
+            Some(held) => held.check_put(vnode, seen),
         }
     }
 
@@ -291,20 +300,21 @@ impl KeyState {
     }
 
     // The state of these siblings, in memory that was taken for it with its clock. Refused where a copy shares that memory.
-    pub(crate) fn in_held(mut held: Arc<Held>, siblings: Vec<Sibling>) -> Result<Self, AllocError>
+    pub(crate) fn in_held(
+        mut held: Arc<Held>,
+        full: Box<Full>,
+        siblings: Vec<Sibling>,
+    ) -> Result<Self, AllocError>
         requires order { AreInOrder siblings.items }
-        requires covered { AreCovered (arc_value held).clock siblings.items }
-        ensures { IfOk result (λ state. state ≡ record { siblings = siblings.items; clock = (arc_value held).clock }) }
+        requires covered { AreCovered full.value.clock siblings.items }
+        ensures { IfOk result (λ state. state ≡ record { siblings = siblings.items; clock = full.value.clock }) }
     {
         let alloc = *siblings.allocator();
         match Arc::get_mut(&mut held) {
-            Some(own) => own.set_siblings(Siblings::from_vec(siblings)),
+            Some(own) => *own = Held::new_in(full, Siblings::from_vec(siblings)),
             None => return Err(AllocError),
         }
-        Ok(KeyState {
-            alloc,
-            kept: Kept::Shared(held),
-        })
+        Ok(KeyState::sharing(alloc, held))
     }
 
     // Whether a merge of another state leaves that one: its clock counts all that is known here, and none of its siblings is known.

@@ -12,7 +12,7 @@ use Rattle.peers.specs.declared.fault.PeerFault.{PeerFault}
 use Rattle.peers.specs.Calls.{Call, PutAt, StateOf, Made}
 use Rattle.quorum.specs.declared.fault.QuorumFault.{QuorumFault}
 use Rattle.quorum.specs.declared.fault.QuorumFault.TheVariants.{TooFew}
-use Rattle.quorum.specs.Puts.{gathers, merges, copies, is_ahead, AfterRead, AfterPut, TriesAgain, AfterFirst, IsPut, StoresCopies}
+use Rattle.quorum.specs.Puts.{gathers, merges, copies, is_ahead, AfterRead, AfterPut, TriesAgain, IsPut, StoresCopies}
 use Rattle.quorum.specs.Judged.{AfterSiblings, IsJudgedPut}
 
 chose_enough : (w stored : ℕ) (put dot : Dot) → ◌≡◌ {A = Result Dot QuorumFault} (Ok dot) (cond (nat_le w stored) (Ok put) (Err TooFew)) → (put ≡ dot) × (w ≤ stored)

@@ -5,7 +5,7 @@ ghost use Rattle.object.specs.Parts.{summary_of};
 ghost use Rattle.vnode.specs.Parts.{RefusesPartAt, RefusesBroughtAt, brought, lacks_of};
 ghost use Rattle.vnode.specs.States.{state_at};
 
-use crate::fault::{PartFault, VnodeFault};
+use crate::fault::PartFault;
 use crate::states::States;
 use crate::steps::merge_refusal;
 use journal::{Journal, Merged};
@@ -72,9 +72,8 @@ pub(crate) fn make_whole(
         }
         Err(object::PartFault::Missing) => Err(PartFault::Missing),
         Err(object::PartFault::Merge(_)) => Err(PartFault::Refused(merge_refusal(
-            own.clock(),
+            own.clock().can_join(clock),
             journal,
-            clock,
         ))),
     }
 }
@@ -86,13 +85,7 @@ fn part_refusal(state: &Held, journal: &Journal, part: &Part) -> PartFault
     if state.lacks(part) {
         return PartFault::Missing;
     }
-    if !state.clock().can_join(part.clock()) {
-        return PartFault::Refused(VnodeFault::MergedClockFull);
-    }
-    if journal.is_full() {
-        return PartFault::Refused(VnodeFault::JournalFull);
-    }
-    PartFault::Refused(VnodeFault::NoMemory)
+    PartFault::Refused(merge_refusal(state.can_join(part.clock()), journal))
 }
 
 // Why a merge into a state is refused that finds no memory, or a part that lacks a content: of what came, a state or a part in its place.
@@ -106,7 +99,7 @@ pub(crate) fn brought_refusal(
 {
     match part {
         Some(prepared) => part_refusal(own, journal, prepared.part()),
-        None => PartFault::Refused(merge_refusal(own.clock(), journal, came.clock())),
+        None => PartFault::Refused(merge_refusal(own.can_merge(came), journal)),
     }
 }
 

@@ -3,19 +3,13 @@ use Rattle.peers.specs.Calls.{Made}
 use Rattle.quorum.specs.Puts.{PassedOver, Merged, gathers}
 use Rattle.quorum.proofs.PutLemmas.{one_passed, one_merged, failed}
 use Rattle.quorum.proofs.putting.gather.Goals as goal
-use Rattle.quorum.proofs.putting.gather.Goals.{in-Ok+in-Nothing-1, in-Ok+in-Shared-1, in_default}
+use Rattle.quorum.proofs.putting.gather.Goals.{in-Ok, in_default}
 
 pub loop-i-preserved : goal.loop-i-preserved
 loop-i-preserved g c =
     let h = c.loop-i.invariant in
     elim c.match-state_of.branch [
-      | in-Ok+in-Nothing-1 w ↦ (
-        h.0 ++ Merged w.in-Ok.answer w.merge_at.result ∷ [],
-        subst (Made g.P.Peers.happens c.args.peers.now (gathers c.args.coordinator c.args.key.now c.args.vnodes.now (h.0 ++ Merged w.in-Ok.answer w.merge_at.result ∷ []))) (sym w.peers-is)
-            (one_merged g.P.Peers.happens c.args.peers.now c.loop-i.peers c.state_of.new.self w.merge_at.new.self c.args.coordinator c.args.key.now c.args.vnodes.now h.0 c.loop-i.i-index c.state_of.result w.in-Ok.answer w.merge_at.result h.1 h.2 (omega arith) w.in-Ok.is c.state_of.ensures w.merge_at.ensures),
-        simp length-append (omega arith),
-      )
-      | in-Ok+in-Shared-1 w ↦ (
+      | in-Ok w ↦ (
         h.0 ++ Merged w.in-Ok.answer w.merge_at.result ∷ [],
         subst (Made g.P.Peers.happens c.args.peers.now (gathers c.args.coordinator c.args.key.now c.args.vnodes.now (h.0 ++ Merged w.in-Ok.answer w.merge_at.result ∷ []))) (sym w.peers-is)
             (one_merged g.P.Peers.happens c.args.peers.now c.loop-i.peers c.state_of.new.self w.merge_at.new.self c.args.coordinator c.args.key.now c.args.vnodes.now h.0 c.loop-i.i-index c.state_of.result w.in-Ok.answer w.merge_at.result h.1 h.2 (omega arith) w.in-Ok.is c.state_of.ensures w.merge_at.ensures),

@@ -36,16 +36,6 @@ loop-recent-preserved-in-Some-2 c =
     subst (λ (n : ℕ). IsMore recent n (sum_by kept_bytes now.here.items)) long (subst (λ (b : ℕ). IsMore recent c.len.result b) gone.4 c.loop-recent-test.ensures) in
     one_gone recent c.self.inside.first now.first now.bytes c.from.result c.self.inside.here.items now.here.items c.pop_front.new.self.items c.in-Some.first gone over c.in-Some.ensures.items (c.from.ensures ∙ c.bytes.ensures)
 
-pub loop-recent-preserved-in-Some-3 : goal.loop-recent-preserved-in-Some-3
-loop-recent-preserved-in-Some-3 c =
-    let now = c.loop-recent.self-inside in
-    let recent = c.args.recent in
-    let gone = c.loop-recent.invariant in
-    let long : c.len.result ≡ length now.here.items = omega (arith, c.len.ensures, now.here.ok.0) in
-    let over : IsOver recent now.here.items =
-    subst (λ (n : ℕ). IsMore recent n (sum_by kept_bytes now.here.items)) long (subst (λ (b : ℕ). IsMore recent c.len.result b) gone.4 c.loop-recent-test.ensures) in
-    one_gone recent c.self.inside.first now.first now.bytes c.from.result c.self.inside.here.items now.here.items c.pop_front.new.self.items c.in-Some.first gone over c.in-Some.ensures.items (c.from.ensures ∙ c.bytes.ensures)
-
 pub returns : goal.returns
 returns c =
     let now = c.loop-recent.self-inside in

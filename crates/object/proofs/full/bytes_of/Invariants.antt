@@ -1,7 +1,7 @@
 use Rattle.std.proofs.Common.{◌≡◌, take, min}
 use Rattle.std.specs.Prelude.{sum_by}
 use Rattle.object.specs.Sizes.{content_bytes, most_bytes}
-use Rattle.object.proofs.held.bytes_of.Given as goal
+use Rattle.object.proofs.full.bytes_of.Given as goal
 
 -- the bytes of the siblings so far
 abbrev pub invariant-loop-sibling : goal.invariant-loop-sibling
