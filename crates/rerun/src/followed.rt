@@ -118,7 +118,7 @@ pub(crate) fn open(
     let mut vnodes = Vec::new(alloc);
     let mut answers = Vec::new(alloc);
     for index in 0..ids.len() {
-        vnodes.push(Vnode::seeded_in_one(alloc, ids[index], seed))?;
+        vnodes.push(Vnode::seeded(alloc, ids[index], seed))?;
         answers.push(Answers::new(alloc))?;
     }
     Ok(Followed {

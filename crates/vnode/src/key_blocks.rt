@@ -93,6 +93,9 @@ impl KeyBlocks {
         for block in &self.full {
             names.add(block.clone()?)?;
         }
+        if self.last.is_empty() {
+            return Ok(());
+        }
         let mut last = Vec::with_capacity(self.alloc, self.last.len())?;
         push_copies(&self.last, &mut last)?;
         names.add(Arc::new(self.alloc, last)?)

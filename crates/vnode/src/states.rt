@@ -10,33 +10,10 @@ use object::{Key, Stored};
 use std::alloc::{AllocError, Global};
 use std::hash::BuildHasher;
 
-/// In how many shards the states of a vnode lie.
-#[derive(Clone, Copy)]
-pub(crate) enum Spread {
-    /// In one: for few keys, or where nobody waits while it grows.
-    One,
-    /// In [`MANY`]: for so many keys that to move them all at once would hold calls up.
-    Many,
-}
-
-/// How many shards [`Spread::Many`] has. A million keys leave some thirty thousand to each, and no growth up to there moves more than 28,672
-/// of them. Each look-up begins at what its shard is made of, a few lines of memory: of many more shards they don't stay in the caches that
-/// are near the processor.
-const MANY: usize = 32;
-
-impl Spread {
-    ghost use Rattle.vnode.specs.States.{count_of};
-
-    // How many shards there are, once there are any.
-    fn count(self) -> usize
-        ensures { result ≡ count_of self }
-    {
-        match self {
-            Spread::One => 1,
-            Spread::Many => MANY,
-        }
-    }
-}
+/// In how many shards the states of a vnode lie: to move those of a million keys at once would hold calls up. A million keys leave some thirty
+/// thousand to each, and no growth up to there moves more than 28,672 of them. Each look-up begins at what its shard is made of, a few lines
+/// of memory: of many more shards they don't stay in the caches that are near the processor.
+const SHARDS: usize = 32;
 
 /// Where a key lies, if it has a state: what the key's hash says.
 #[derive(Clone, Copy)]
@@ -59,7 +36,6 @@ pub(crate) struct Found {
 pub(crate) struct States {
     alloc: Global,
     seed: Seed,
-    spread: Spread,
     // None of them before the first state is kept.
     pub(crate) shards: Vec<Shard>,
     ghost hashed: { All (IsHashed seed) shards.items },
@@ -72,34 +48,28 @@ impl States {
     ghost use Rattle.object.specs.State.{State, empty};
     ghost use Rattle.journal.specs.Keys.{same_key};
     ghost use Rattle.vnode.specs.Kept.{Shows};
-    ghost use Rattle.vnode.specs.States.{AreInPlace, IsSomeKnown, LiesAt, all_known, count_of, found_at, spot_of, state_at};
+    ghost use Rattle.vnode.specs.States.{AreInPlace, IsSomeKnown, LiesAt, all_known, found_at, shard_count, spot_of, state_at};
 
     /// No states yet. Takes no memory.
-    pub(crate) fn new(alloc: Global, seed: Seed, spread: Spread) -> States
+    pub(crate) fn new(alloc: Global, seed: Seed) -> States
         ensures none { (q : Key) → state_at result q ≡ empty }
         ensures placed { AreInPlace result }
     {
         States {
             alloc,
             seed,
-            spread,
             shards: Vec::new(alloc),
         }
     }
 
-    /// Where a key lies. The highest bits of its hash pick the shard, of many. The shard finds it by others: a search begins where the lowest
-    /// say.
+    /// Where a key lies. The highest bits of its hash pick the shard, which finds it by others: a search begins where the lowest say.
     pub(crate) fn spot_of(&self, key: &Key) -> Spot
         ensures spot { result ≡ spot_of self.now key.now }
-        ensures within { result.shard < count_of self.now.spread }
+        ensures within { result.shard < shard_count }
     {
         let hash = self.seed.hash_one(key);
-        let shard = match self.spread {
-            Spread::One => 0,
-            Spread::Many => (hash >> 59) as usize,
-        };
         Spot {
-            shard,
+            shard: (hash >> 59) as usize,
             hash: fold(hash),
         }
     }
@@ -110,16 +80,11 @@ impl States {
         ensures found { IfSome result (λ found. LiesAt self.now key.now found) }
         ensures absent { IfNone result (found_at self.now key.now ≡ None) }
     {
-        let Some(shard) = self.shards.get(spot.shard) else {
-            return None;
-        };
-        match shard.find(spot.hash, key) {
-            Some(place) => Some(Found {
-                shard: spot.shard,
-                place,
-            }),
-            None => None,
-        }
+        let place = self.shards.get(spot.shard)?.find(spot.hash, key)?;
+        Some(Found {
+            shard: spot.shard,
+            place,
+        })
     }
 
     /// The state that was found, with the key that is kept beside it.
@@ -176,13 +141,11 @@ impl States {
         ensures same { (q : Key) → found_at self.new q ≡ found_at self.old q }
         ensures placed { AreInPlace self.old → AreInPlace self.new }
         ensures seed { self.new.seed ≡ self.old.seed }
-        ensures spread { self.new.spread ≡ self.old.spread }
-        ensures all { OnOk result (count_of self.old.spread ≤ length self.new.shards.items) }
+        ensures all { OnOk result (shard_count ≤ length self.new.shards.items) }
     {
-        let count = self.spread.count();
         self.shards
-            .reserve_exact(count.saturating_sub(self.shards.len()))?;
-        for _shard in self.shards.len()..count {
+            .reserve_exact(SHARDS.saturating_sub(self.shards.len()))?;
+        for _shard in self.shards.len()..SHARDS {
             self.shards.push(Shard::new(self.alloc))?;
         }
         Ok(())
@@ -191,7 +154,7 @@ impl States {
     /// Keeps a state, at which something is known, as that of a key that has none, which lies at `spot`.
     pub(crate) fn insert(&mut self, spot: Spot, key: Key, state: Stored) -> Result<(), AllocError>
         requires spot { spot ≡ spot_of self.old key }
-        requires within { spot.shard < count_of self.old.spread }
+        requires within { spot.shard < shard_count }
         requires known { IsSomeKnown state }
         requires absent { found_at self.old key ≡ None }
         ensures here { OnOk result (state_at self.new key ≡ state) }

@@ -6,7 +6,7 @@ use crate::fault::{PartFault, VnodeFault};
 use crate::names::Names;
 use crate::parts::{merged_part_of, part_refusal_at, summary_at};
 use crate::seed::Seed;
-use crate::states::{Spread, States};
+use crate::states::States;
 use crate::steps::{
     Copied, Placed, copies_at, copy_at, has_places_for, is_at, keys_in, listed_in, merge_at,
     merge_refusal_at, merged_of, put_at, put_refusal_at, read_all_at, write_of,
@@ -60,33 +60,17 @@ impl Vnode {
     pub fn new(alloc: Global, id: u32) -> Self
         ensures { result ≡ record { vnode = id; entries = [] } }
     {
-        Vnode::with_states(alloc, id, States::new(alloc, Seed::fixed(), Spread::One))
+        Vnode::seeded(alloc, id, Seed::fixed())
     }
 
     /// A vnode at which nothing has happened. The hashes of its keys begin with a seed, by which strangers who choose keys can't make it
-    /// slow. Its states lie in many shards, so that no call waits while all of them are moved.
+    /// slow.
     pub fn seeded(alloc: Global, id: u32, seed: Seed) -> Self
-        ensures { result ≡ record { vnode = id; entries = [] } }
-    {
-        Vnode::with_states(alloc, id, States::new(alloc, seed, Spread::Many))
-    }
-
-    /// The same, with its states in one shard, which costs a hash less at each look-up: for who follows, as nobody waits while it grows.
-    pub fn seeded_in_one(alloc: Global, id: u32, seed: Seed) -> Self
-        ensures { result ≡ record { vnode = id; entries = [] } }
-    {
-        Vnode::with_states(alloc, id, States::new(alloc, seed, Spread::One))
-    }
-
-    // A vnode at which nothing has happened, whose states lie as those of `states`, of which there are none yet.
-    fn with_states(alloc: Global, id: u32, states: States) -> Self
-        requires none { (key : Key) → state_at states key ≡ empty }
-        requires placed { AreInPlace states }
         ensures { result ≡ record { vnode = id; entries = [] } }
     {
         Vnode {
             alloc,
-            states,
+            states: States::new(alloc, seed),
             journal: Journal::new(alloc, id),
         }
     }

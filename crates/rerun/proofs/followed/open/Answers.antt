@@ -11,7 +11,7 @@ loop-index-preserved c =
     let i = c.loop-index.index in
     let inside : i < length c.args.ids.now = search (rules) in
     record {
-      vnodes = vnodes_more ids c.loop-index.vnodes.items c.push.new.self.items c.seeded_in_one.result i _ inside c.loop-index.invariant.vnodes c.seeded_in_one.ensures c.in_ok-push.ensures.items;
+      vnodes = vnodes_more ids c.loop-index.vnodes.items c.push.new.self.items c.seeded.result i _ inside c.loop-index.invariant.vnodes c.seeded.ensures c.in_ok-push.ensures.items;
       answers = empties_more {X = Kept} i c.loop-index.answers.items c.push-in-loop-index.new.self.items c.new.result c.loop-index.invariant.answers c.new.ensures c.in_ok-push-2.ensures.items;
     }
 

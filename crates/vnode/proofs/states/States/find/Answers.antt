@@ -1,11 +1,23 @@
 use Rattle.std.proofs.Common.{◌∙◌, ap, arith, get_or, length}
-use Rattle.vnode.proofs.Mapped.{none_at}
+use Rattle.vnode.proofs.Mapped.{found_there, if_none, none_at}
 use Rattle.vnode.proofs.states.States.find.Goals as goal
 
-pub returns-in-None-clause-absent : goal.returns-in-None-clause-absent
-returns-in-None-clause-absent c =
-    let lookup = c.in-Some.ensures.lookup in
+pub returns-in_err-place-clause-absent : goal.returns-in_err-place-clause-absent
+returns-in_err-place-clause-absent c =
+    let shard = c.in_ok-get.field-0.now in
+    let lookup = c.in_ok-get.ensures.lookup in
     let all = c.deref.ensures.value in
     let within = lookup.3.0 in
     let len = ap length all in
-    none_at c.args.self.now c.args.spot c.in-Some.shard.now c.args.key.now c.requires (omega (arith, within, len)) (lookup.1 ∙ ap (λ xs. get_or xs c.args.spot.shard c.in-Some.shard.now) all) c.in-None.ensures.absent
+    if_none c.from_residual-in_err-place.result
+    (none_at c.args.self.now c.args.spot shard c.args.key.now c.requires (omega (arith, within, len)) (lookup.1 ∙ ap (λ xs. get_or xs c.args.spot.shard shard) all) c.in_err-place.ensures.absent)
+
+pub returns-clause-found : goal.returns-clause-found
+returns-clause-found c =
+    let shard = c.in_ok-get.field-0.now in
+    let lookup = c.in_ok-get.ensures.lookup in
+    let all = c.deref.ensures.value in
+    let within = lookup.3.0 in
+    let len = ap length all in
+    let found = c.in_ok-place.ensures.found in
+    found_there c.args.self.now c.args.spot shard c.args.key.now c.in_ok-place.place found.0 c.requires (omega (arith, within, len)) (lookup.1 ∙ ap (λ xs. get_or xs c.args.spot.shard shard) all) found.1

@@ -9,16 +9,15 @@ pub loop-shard-preserved : goal.loop-shard-preserved
 loop-shard-preserved c =
     let longer = ap length c.in_ok-push.ensures.items in
     let more = length-append c.loop-shard.self.shards.items (c.new.result ∷ []) in
-    let so_far = c.loop-shard.invariant.3 in
+    let so_far = c.loop-shard.invariant.2 in
     let none = ap (λ (s : Shard). s.entries) c.new.ensures in
     let seed = c.loop-shard.self.seed in
     let hashed =
     subst (All (IsHashed seed)) (sym c.in_ok-push.ensures.items)
     (All-push (IsHashed seed) c.loop-shard.self.shards.items c.new.result c.loop-shard.self.hashed (subst (IsHashed seed) (sym c.new.ensures) refl)) in
     let new = record c.loop-shard.self { shards = c.push.new.self; hashed = hashed } in (
-      λ q. added_same c.loop-shard.self new c.new.result refl refl c.in_ok-push.ensures.items none q ∙ c.loop-shard.invariant.0 q,
-      λ placed. added_placed c.loop-shard.self _ c.new.result refl refl c.in_ok-push.ensures.items none (c.loop-shard.invariant.1 placed),
-      c.loop-shard.invariant.2,
+      λ q. added_same c.loop-shard.self new c.new.result refl c.in_ok-push.ensures.items none q ∙ c.loop-shard.invariant.0 q,
+      λ placed. added_placed c.loop-shard.self _ c.new.result refl c.in_ok-push.ensures.items none (c.loop-shard.invariant.1 placed),
       omega (arith, longer, more, so_far),
-      c.loop-shard.invariant.4,
+      c.loop-shard.invariant.3,
     )

@@ -25,6 +25,6 @@ returns c = λ k lies.
     let states = c.args.self.now in
     let shard = c.index_mut.result.now in
     let there = lies_there states k c.args.found shard lies c.index_mut.ensures.value in
-    shows states _ c.args.found.shard shard c.set.new.self refl refl (lies_within states k c.args.found shard lies c.index_mut.ensures.value) c.index_mut.ensures.value refl k c.args.state lies.home
+    shows states _ c.args.found.shard shard c.set.new.self refl (lies_within states k c.args.found shard lies c.index_mut.ensures.value) c.index_mut.ensures.value refl k c.args.state lies.home
     (set_updates shard c.set.new.self c.args.found.place k lies.state c.args.state (slice_get_within shard.entries c.args.found.place (k, lies.state) there) there (c.set.ensures.entries k lies.state there) c.set.ensures.unique)
     c.set.ensures.unique
