@@ -1,17 +1,24 @@
--- One delivery more, and one sender more.
-use Rattle.std.proofs.Common.{◌≡◌, ℕ, ◌+◌, ◌<◌, List, [], ◌∷◌, ◌++◌, length, length-append, take, get_or, map, refl, ap, sym, ◌∙◌, subst, arith, Result, Ok, Err, count_by, is_ok, cond, Bool, true, false}
-use Rattle.std.specs.List.{filter, flat_map}
+-- One delivery more, and one sender more; and none where all states are alike.
+use Rattle.std.proofs.Common.{◌≡◌, ℕ, zero, suc, ◌+◌, ◌<◌, List, [], ◌∷◌, ◌++◌, length, length-append, take, get_or, map, Some, refl, ap, sym, ◌∙◌, subst, arith, Result, Ok, Err, count_by, is_ok, cond, Bool, true, false}
+use Rattle.std.specs.List.{All, AllByRecursion, list_any, filter, flat_map}
+use Rattle.std.specs.Prelude.{IsTrue, ◌↔◌, not, ◌&&◌, ◌||◌, is_some}
 use Rattle.std.proofs.lemmas.List.{map-append, take_more, append-nil}
-use Rattle.std.proofs.lemmas.List.Elements.{filter-append}
+use Rattle.std.proofs.lemmas.List.Elements.{filter-append, recursion_from_All}
 use Rattle.std.proofs.lemmas.Grind.{flat_map-append}
 use Rattle.std.proofs.lemmas.List.Sums.{sum_by-append}
 use Rattle.object.specs.declared.content.Key.{Key}
-use Rattle.object.specs.State.{is_changed_by}
+use Rattle.object.specs.declared.content.Sibling.{Sibling}
+use Rattle.object.specs.State.{State, content_at, is_dot, has_dropped, is_within, is_changed_by}
+use Rattle.object.specs.Parts.{summary_of, Summarized}
+use Rattle.object.proofs.Siblings.{is_dot-same}
+use Rattle.object.proofs.Same.{within_to}
+use Rattle.dvv.specs.declared.Dot.{Dot}
+use Rattle.dvv.specs.Clock.{IsClock, covers}
 use Rattle.peers.specs.declared.peers.Answer.{Answer}
 use Rattle.peers.specs.declared.fault.PeerFault.{PeerFault}
 use Rattle.peers.specs.Calls.{Call, MergeAt, Made}
 use Rattle.peers.proofs.CallLemmas.{made_append}
-use Rattle.repair.specs.Repairs.{Delivery, index_of, deliveries_of, tries}
+use Rattle.repair.specs.Repairs.{Delivery, index_of, deliveries_of, deliveries, tries}
 
 tries_append : (key : Key) (ds es : List Delivery) (backs more : List (Result Bool PeerFault)) → length backs ≡ length ds → tries key (ds ++ es) (backs ++ more) ≡ tries key ds backs ++ tries key es more
 tries_append key [] es [] more h = refl
@@ -86,3 +93,90 @@ module _ {S : Type 0} (happens : S → Call → S → Type 0) (start now next : 
   was_passed kept same counted =
       subst (λ ds. Tried happens start next key ds count) (sym (append-nil (deliveries_of (take i answers) sender)) ∙ longer false kept)
       (subst (λ s. Tried happens start s key (deliveries_of (take i answers) sender) count) same (subst (Tried happens start now key (deliveries_of (take i answers) sender)) counted h))
+
+-- the dots of siblings
+abbrev dots_of : List Sibling → List Dot
+dots_of = map (λ (s : Sibling). s.dot)
+
+-- two lists of siblings with the same dot at each place have the same dots
+same_dots_at : (xs ys : List Sibling) → length xs ≡ length ys → ((k : ℕ) (d e : Sibling) → k < length xs → (get_or xs k d).dot ≡ (get_or ys k e).dot) → dots_of xs ≡ dots_of ys
+same_dots_at [] [] lengths each = refl
+same_dots_at [] (y ∷ ys) lengths each = absurd (omega arith)
+same_dots_at (x ∷ xs) [] lengths each = absurd (omega arith)
+same_dots_at (x ∷ xs) (y ∷ ys) lengths each =
+    ap (λ (d : Dot). d ∷ dots_of xs) (each 0 x y (omega arith))
+    ∙ ap (λ (ds : List Dot). y.dot ∷ ds) (same_dots_at xs ys (omega arith) (λ k d e lt. each (suc k) d e (omega arith)))
+
+-- two lists of siblings with the same dots have the same dot at each place
+have_same_dot_at : (xs ys : List Sibling) → dots_of xs ≡ dots_of ys → (length xs ≡ length ys) × ((k : ℕ) (d e : Sibling) → k < length xs → (get_or xs k d).dot ≡ (get_or ys k e).dot)
+have_same_dot_at [] [] same = (refl, λ k d e lt. absurd (omega arith))
+have_same_dot_at [] (y ∷ ys) same = absurd (cc)
+have_same_dot_at (x ∷ xs) [] same = absurd (cc)
+have_same_dot_at (x ∷ xs) (y ∷ ys) same =
+    let heads : x.dot ≡ y.dot = cc in
+    let tails : dots_of xs ≡ dots_of ys = cc in
+    let rest = have_same_dot_at xs ys tails in
+    (omega (arith, rest.0), λ k d e lt. at heads rest.1 k d e lt)
+  where
+    at : x.dot ≡ y.dot → ((k : ℕ) (d e : Sibling) → k < length xs → (get_or xs k d).dot ≡ (get_or ys k e).dot) → (k : ℕ) (d e : Sibling) → k < length (x ∷ xs) → (get_or (x ∷ xs) k d).dot ≡ (get_or (y ∷ ys) k e).dot
+    at here later zero d e lt = here
+    at here later (suc k) d e lt = later k d e (omega arith)
+
+-- where two states' clocks are the same, their summaries are just where their siblings have the same dot at each place
+pub told_alike : (a b : State) (xs ys : List Sibling) (entries others : List Dot) (r : Bool) → xs ≡ a.siblings → ys ≡ b.siblings → entries ≡ a.clock → others ≡ b.clock → entries ≡ others
+    → (IsTrue r → length xs ≡ length ys) → (IsTrue r → (k : ℕ) (d e : Sibling) → k < length xs → (get_or xs k d).dot ≡ (get_or ys k e).dot)
+    → (length xs ≡ length ys → ((k : ℕ) (d e : Sibling) → k < length xs → (get_or xs k d).dot ≡ (get_or ys k e).dot) → IsTrue r) → IsTrue r ↔ (summary_of a ≡ summary_of b)
+told_alike a b xs ys entries others r own theirs first second clocks lengths each back = (
+  λ t. ap (λ (ds : List Dot). let s : Summarized = record { dots = ds; clock = a.clock } in s) (ap dots_of (sym own) ∙ same_dots_at xs ys (lengths t) (each t) ∙ ap dots_of theirs)
+      ∙ ap (λ (es : List Dot). let s : Summarized = record { dots = dots_of b.siblings; clock = es } in s) (sym first ∙ clocks ∙ second),
+  λ same. let at = have_same_dot_at xs ys (ap dots_of own ∙ ap (λ (s : Summarized). s.dots) same ∙ ap dots_of (sym theirs)) in back at.0 at.1,
+)
+
+-- each dot of some siblings is held by siblings of the same dots
+held_each : (own others : List Sibling) → dots_of own ≡ dots_of others → AllByRecursion (λ s. is_some (content_at others s.dot) ≡ true) own
+held_each [] others same = tt
+held_each (x ∷ xs) [] same = absurd (cc)
+held_each (x ∷ xs) (y ∷ ys) same =
+    let heads : x.dot ≡ y.dot = cc in
+    let tails : dots_of xs ≡ dots_of ys = cc in
+    (rw (is_dot-same y.dot x.dot (sym heads)) refl, later xs (held_each xs ys tails))
+  where
+    later : (zs : List Sibling) → AllByRecursion (λ s. is_some (content_at ys s.dot) ≡ true) zs → AllByRecursion (λ s. is_some (content_at (y ∷ ys) s.dot) ≡ true) zs
+    later [] each = tt
+    later (z ∷ zs) each = (go (is_dot y.dot z.dot), later zs each.1)
+      where
+        go : (b : Bool) → is_some (cond b (Some y.content) (content_at ys z.dot)) ≡ true
+        go true = refl
+        go false = each.0
+
+-- a state of the same dots and the same clock changes nothing
+alike_unchanged : (own other : State) → IsClock other.clock → summary_of own ≡ summary_of other → is_changed_by own other ≡ false
+alike_unchanged own other good same =
+    rw (ap (is_within other.clock) clocks ∙ within_to other.clock other.clock good (λ d h. h)) (none own.siblings (held_each own.siblings other.siblings (ap (λ (s : Summarized). s.dots) same)))
+  where
+    clocks : own.clock ≡ other.clock
+    clocks = ap (λ (s : Summarized). s.clock) same
+
+    held : (covered found : Bool) → found ≡ true → (covered && not found) ≡ false
+    held true found is = rw is refl
+    held false found is = refl
+
+    none : (xs : List Sibling) → AllByRecursion (λ s. is_some (content_at other.siblings s.dot) ≡ true) xs → list_any (λ s. has_dropped other s.dot) xs ≡ false
+    none [] each = refl
+    none (x ∷ xs) each = ap (λ b. b || list_any (λ (s : Sibling). has_dropped other s.dot) xs) (held (covers other.clock x.dot) (is_some (content_at other.siblings x.dot)) each.0) ∙ none xs each.1
+
+-- where each other answered state has the dots and the clock of the first one, nothing is delivered
+pub none_delivered : (answers : List Answer) (first : Answer) (others : List Answer) → answers ≡ first ∷ others → IsClock first.state.clock → All (λ a. summary_of a.state ≡ summary_of first.state) others → deliveries answers ≡ []
+none_delivered answers first others is good same = senders answers alike
+  where
+    alike : AllByRecursion (λ a. summary_of a.state ≡ summary_of first.state) answers
+    alike = rw is (refl, recursion_from_All (λ a. summary_of a.state ≡ summary_of first.state) others same)
+
+    receivers : (sender : Answer) → summary_of sender.state ≡ summary_of first.state → (rs : List Answer) → AllByRecursion (λ a. summary_of a.state ≡ summary_of first.state) rs → deliveries_of rs sender ≡ []
+    receivers sender is [] each = refl
+    receivers sender is (r ∷ rs) each =
+        rw (alike_unchanged r.state sender.state (subst IsClock (ap (λ (s : Summarized). s.clock) (sym is)) good) (each.0 ∙ sym is)) (receivers sender is rs each.1)
+
+    senders : (ss : List Answer) → AllByRecursion (λ a. summary_of a.state ≡ summary_of first.state) ss → flat_map (deliveries_of answers) ss ≡ []
+    senders [] each = refl
+    senders (s ∷ ss) each = rw (receivers s each.0 answers alike, senders ss each.1) refl

@@ -1,11 +1,12 @@
 //! Read repair: what came of a get goes to the vnodes that it would change.
 
-ghost use Rattle.std.specs.Prelude.{◌≡◌, ◌+◌, ◌<◌, ◌≤◌, ◌^◌, ℕ, List, length, count_by, is_ok, Bool, Result};
+ghost use Rattle.std.specs.Prelude.{◌≡◌, ◌↔◌, ◌+◌, ◌<◌, ◌≤◌, ◌^◌, ℕ, List, [], length, count_by, is_ok, Bool, Result, IsTrue};
+ghost use Rattle.object.specs.Parts.{summary_of};
 ghost use Rattle.peers.specs.declared.fault.PeerFault.{PeerFault};
 ghost use Rattle.peers.specs.Calls.{Made};
 ghost use Rattle.repair.specs.Repairs.{deliveries, deliveries_of, tries};
 
-use object::Key;
+use object::{Key, KeyState};
 use peers::{Answer, Peers};
 
 /// Read repair: each answered state goes to every other vnode that answered and whose answered state it would change,
@@ -16,11 +17,40 @@ pub fn repair<P: Peers>(peers: &mut P, key: &Key, answers: &[Answer]) -> u64
         × (length backs ≡ length (deliveries answers.now)) × (result ≡ count_by is_ok backs) }
     ensures origin { P.origin peers.new ≡ P.origin peers.old }
 {
+    if are_alike(answers) {
+        return 0;
+    }
     let mut delivered = 0;
     for sender in answers {
         delivered += deliver(peers, key, sender, answers);
     }
     delivered
+}
+
+// Whether all answered states have the same dots and the same clock, as they have nearly always: then none would change another.
+fn are_alike(answers: &[Answer]) -> bool
+    ensures { IsTrue result → deliveries answers.now ≡ [] }
+{
+    let Some((first, others)) = answers.split_first() else {
+        return true;
+    };
+    // What every state keeps is told with its siblings.
+    let _siblings = first.state.siblings();
+    others
+        .iter()
+        .all(|answer| have_same_dots(&answer.state, &first.state))
+}
+
+// Whether two states have the same dots and the same clock.
+fn have_same_dots(state: &KeyState, other: &KeyState) -> bool
+    ensures { IsTrue result ↔ (summary_of state.now ≡ summary_of other.now) }
+{
+    state.clock().entries() == other.clock().entries()
+        && state
+            .siblings()
+            .iter()
+            .map(|sibling| sibling.dot)
+            .eq(other.siblings().iter().map(|sibling| sibling.dot))
 }
 
 // Delivers one answered state to each vnode whose answered state it would change. Answers how many took it.

@@ -1,4 +1,4 @@
-use Rattle.std.proofs.Common.{arith, sym, subst, ◌+◌, take}
+use Rattle.std.proofs.Common.{arith, sym, subst, refl, [], ◌+◌, take}
 use Rattle.std.specs.List.{flat_map}
 use Rattle.repair.specs.Repairs.{deliveries_of}
 use Rattle.repair.proofs.RepairLemmas.{Tried, tried_more, senders_more}
@@ -14,6 +14,10 @@ loop-sender-preserved g c =
           (record { backs = d.0; made = d.1; each = d.2; taken = d.3 })),
       let f = c.deliver-delivered.ensures.few in omega arith,
     )
+
+pub returns-then-are_alike-clause-calls : goal.returns-then-are_alike-clause-calls
+returns-then-are_alike-clause-calls g c =
+    let none = c.are_alike.ensures c.if-are_alike.true in ([], refl, rw none refl, refl)
 
 pub returns-clause-origin : goal.returns-clause-origin
 returns-clause-origin g c = made_stays g.P.Peers.happens g.P.Peers.origin g.met.P.Peers.stays _ _ _ c.loop-sender.invariant.0.made
