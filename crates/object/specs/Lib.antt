@@ -1,5 +1,6 @@
 pub mod State
 pub mod Keys
+pub mod Names
 pub mod Limits
 pub mod Faults
 pub mod Placing

@@ -3,6 +3,7 @@
 ghost use Rattle.std.specs.Prelude.{◌≡◌, ◌↔◌, IfOk, IsTrue};
 
 use crate::bytes::Bytes;
+use crate::names::Names;
 use dvv::Dot;
 use smallvec::SmallVec;
 use std::alloc::{AllocError, Global};
@@ -10,9 +11,6 @@ use std::cmp::Ordering;
 use std::hash::{Hash, Hasher};
 use std::marker::Model;
 use std::sync::Arc;
-
-/// So many bytes of a key's names lie beside the count of their owners.
-const SHORT: usize = 24;
 
 /// What a write stores: a value of 0 to 65,536 bytes with its media type of 1 to 127 bytes, or the mark of a delete.
 #[derive(Drop)]
@@ -116,66 +114,6 @@ pub struct Key {
     names: Arc<Names>,
 }
 
-// What the copies of a key share.
-#[derive(Drop)]
-struct Names {
-    bytes: SmallVec<u8, SHORT>,
-    // How many of these bytes are the bucket's.
-    split: usize,
-}
-
-impl Model for Names {
-    ghost use Rattle.std.specs.Prelude.{◌≤◌, take, drop, length};
-    ghost use Rattle.object.specs.Keys.{KeyParts};
-
-    ghost Value = { KeyParts };
-
-    ghost view = { λ n. record { bucket = take n.split n.bytes.items; key = drop n.split n.bytes.items } };
-
-    ghost invariant = { λ n. n.split ≤ length n.bytes.items };
-}
-
-impl Names {
-    ghost use Rattle.std.specs.Prelude.{nat_eq};
-    ghost use Rattle.std.specs.Cmp.Lexicographic.{pointwise, slice_cmp};
-    ghost use Rattle.std.specs.Ordering.{eq_of_both, nat_cmp, on, then_cmp};
-
-    // The bucket's bytes.
-    fn bucket(&self) -> &[u8]
-        ensures { result.now ≡ self.now.bucket }
-    {
-        &self.bytes.as_slice()[..self.split]
-    }
-
-    // The bytes of the key in its bucket.
-    fn key(&self) -> &[u8]
-        ensures { result.now ≡ self.now.key }
-    {
-        &self.bytes.as_slice()[self.split..]
-    }
-
-    // Whether both names are the same. Buckets of different lengths differ, and behind those of one length the names decide as one.
-    fn is_same(&self, other: &Names) -> bool
-        ensures { result ≡ eq_of_both (on (λ n. n.bucket) (pointwise nat_eq)) (on (λ n. n.key) (pointwise nat_eq)) self.now other.now }
-    {
-        self.split == other.split && self.bytes.as_slice() == other.bytes.as_slice()
-    }
-
-    // The order of bytes, the bucket's first.
-    fn compare(&self, other: &Names) -> Ordering
-        ensures { result ≡ then_cmp (on (λ n. n.bucket) (slice_cmp nat_cmp)) (on (λ n. n.key) (slice_cmp nat_cmp)) self.now other.now }
-    {
-        // Behind buckets of one length the names decide as one.
-        if self.split == other.split {
-            return self.bytes.as_slice().cmp(other.bytes.as_slice());
-        }
-        match self.bucket().cmp(other.bucket()) {
-            Ordering::Equal => self.key().cmp(other.key()),
-            decided => decided,
-        }
-    }
-}
-
 impl Model for Key {
     ghost use Rattle.std.specs.Arc.{arc_value};
     ghost use Rattle.object.specs.Keys.{KeyParts};
@@ -186,17 +124,12 @@ impl Model for Key {
 }
 
 impl Key {
-    /// The key of this name in a bucket, both copied: it takes memory once, and where the names have more than 24 bytes once more for these.
+    /// The key of this name in a bucket, both copied: it takes memory once, and where the names have more than 29 bytes once more for
+    /// these. Refused where there is no memory, and for a bucket of 2^32 bytes or more.
     pub fn new(alloc: Global, bucket: &[u8], key: &[u8]) -> Result<Key, AllocError>
         ensures { IfOk result (λ made. made ≡ record { bucket = bucket.now; key = key.now }) }
     {
-        let mut bytes = SmallVec::with_capacity(alloc, bucket.len() + key.len())?;
-        bytes.extend_from_slice(bucket)?;
-        bytes.extend_from_slice(key)?;
-        let names = Names {
-            bytes,
-            split: bucket.len(),
-        };
+        let names = Names::new(alloc, bucket, key)?;
         Ok(Key {
             names: Arc::new(alloc, names)?,
         })
@@ -261,9 +194,8 @@ impl Hash for Key {
 
     // The length of the bucket's bytes tells keys apart whose names are the same bytes in a row.
     fn hash<H: Hasher>(&self, state: &mut H) {
-        let Names { bytes, split } = &*self.names;
-        state.write_usize(*split);
-        state.write(bytes.as_slice());
+        state.write_usize(self.names.split());
+        state.write(self.names.bytes());
     }
 }
 

@@ -140,8 +140,7 @@ impl Held {
         ensures { result.now ≡ self.now.clock }
     {
         match &self.body {
-            Body::Nothing => first,
-            Body::Lone(_) => first,
+            Body::Nothing | Body::Lone(_) => first,
             Body::Full(full) => full.clock(),
         }
     }

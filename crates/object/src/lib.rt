@@ -10,6 +10,7 @@ mod held;
 pub mod laws;
 mod limits;
 mod merging;
+mod names;
 mod part;
 mod placing;
 mod prepared;

@@ -1,6 +1,6 @@
 //! The state of a key: siblings and one clock.
 
-ghost use Rattle.std.specs.Prelude.{◌≡◌, ◌≢◌, ◌<◌, ◌≤◌, ◌↔◌, false, length, IsTrue, OnOk, OnErr, IfOk};
+ghost use Rattle.std.specs.Prelude.{◌≡◌, ◌≢◌, ◌<◌, ◌≤◌, ◌↔◌, false, length, map, IsTrue, OnOk, OnErr, IfOk};
 
 use crate::content::{Content, Sibling, Siblings};
 use crate::fault::{MergeFault, PutFault, PutRefusal};
@@ -40,6 +40,7 @@ impl Model for KeyState {
 impl KeyState {
     ghost use Rattle.dvv.specs.Clock.{Within, HasRoom, vnodes_together, most_entries};
     ghost use Rattle.object.specs.Limits.{most_siblings};
+    ghost use Rattle.object.specs.Parts.{summary_of};
     ghost use Rattle.object.specs.Sizes.{state_bytes};
     ghost use Rattle.object.specs.State.{empty, next, kept, is_changed_by, Puts, Merges, AreInOrder, AreCovered, IsState, HaveSameDots};
 
@@ -168,6 +169,14 @@ impl KeyState {
         ensures { IsTrue result ↔ (self.now ≡ other.now) }
     {
         other.has(self.siblings(), self.clock().entries())
+    }
+
+    /// Whether another state has the same dots and the same clock. A merge of either would change nothing in the other then.
+    pub fn has_dots_of(&self, other: &KeyState) -> bool
+        ensures { IsTrue result ↔ (summary_of self.now ≡ summary_of other.now) }
+    {
+        have_same_entries(self.clock().entries(), other.clock().entries())
+            && have_same_dots(self.siblings(), other.siblings())
     }
 
     // Whether these are its siblings and the entries of its clock.
@@ -353,6 +362,7 @@ impl KeyState {
 ghost use Rattle.dvv.specs.Clock.{IsClock, IsUnion, vnodes_together, most_entries};
 ghost use Rattle.object.specs.State.{is_within};
 ghost use Rattle.object.specs.Merging.{drops_some};
+ghost use Rattle.object.specs.declared.content.Sibling.{Sibling as OneSibling};
 ghost use Rattle.std.specs.Arc.{arc_value};
 
 // Whether two clocks' entries are the same.
@@ -364,6 +374,21 @@ pub(crate) fn have_same_entries(entries: &[Dot], others: &[Dot]) -> bool
     }
     for i in 0..entries.len() {
         if entries[i] != others[i] {
+            return false;
+        }
+    }
+    true
+}
+
+// Whether two lists of siblings have the same dots.
+fn have_same_dots(siblings: &[Sibling], others: &[Sibling]) -> bool
+    ensures { IsTrue result ↔ (map (λ (s : OneSibling). s.dot) siblings.now ≡ map (λ (s : OneSibling). s.dot) others.now) }
+{
+    if siblings.len() != others.len() {
+        return false;
+    }
+    for i in 0..siblings.len() {
+        if siblings[i].dot != others[i].dot {
             return false;
         }
     }
