@@ -98,40 +98,6 @@ module _ {S : Type 0} (happens : S → Call → S → Type 0) (start now next : 
 abbrev dots_of : List Sibling → List Dot
 dots_of = map (λ (s : Sibling). s.dot)
 
--- two lists of siblings with the same dot at each place have the same dots
-same_dots_at : (xs ys : List Sibling) → length xs ≡ length ys → ((k : ℕ) (d e : Sibling) → k < length xs → (get_or xs k d).dot ≡ (get_or ys k e).dot) → dots_of xs ≡ dots_of ys
-same_dots_at [] [] lengths each = refl
-same_dots_at [] (y ∷ ys) lengths each = absurd (omega arith)
-same_dots_at (x ∷ xs) [] lengths each = absurd (omega arith)
-same_dots_at (x ∷ xs) (y ∷ ys) lengths each =
-    ap (λ (d : Dot). d ∷ dots_of xs) (each 0 x y (omega arith))
-    ∙ ap (λ (ds : List Dot). y.dot ∷ ds) (same_dots_at xs ys (omega arith) (λ k d e lt. each (suc k) d e (omega arith)))
-
--- two lists of siblings with the same dots have the same dot at each place
-have_same_dot_at : (xs ys : List Sibling) → dots_of xs ≡ dots_of ys → (length xs ≡ length ys) × ((k : ℕ) (d e : Sibling) → k < length xs → (get_or xs k d).dot ≡ (get_or ys k e).dot)
-have_same_dot_at [] [] same = (refl, λ k d e lt. absurd (omega arith))
-have_same_dot_at [] (y ∷ ys) same = absurd (cc)
-have_same_dot_at (x ∷ xs) [] same = absurd (cc)
-have_same_dot_at (x ∷ xs) (y ∷ ys) same =
-    let heads : x.dot ≡ y.dot = cc in
-    let tails : dots_of xs ≡ dots_of ys = cc in
-    let rest = have_same_dot_at xs ys tails in
-    (omega (arith, rest.0), λ k d e lt. at heads rest.1 k d e lt)
-  where
-    at : x.dot ≡ y.dot → ((k : ℕ) (d e : Sibling) → k < length xs → (get_or xs k d).dot ≡ (get_or ys k e).dot) → (k : ℕ) (d e : Sibling) → k < length (x ∷ xs) → (get_or (x ∷ xs) k d).dot ≡ (get_or (y ∷ ys) k e).dot
-    at here later zero d e lt = here
-    at here later (suc k) d e lt = later k d e (omega arith)
-
--- where two states' clocks are the same, their summaries are just where their siblings have the same dot at each place
-pub told_alike : (a b : State) (xs ys : List Sibling) (entries others : List Dot) (r : Bool) → xs ≡ a.siblings → ys ≡ b.siblings → entries ≡ a.clock → others ≡ b.clock → entries ≡ others
-    → (IsTrue r → length xs ≡ length ys) → (IsTrue r → (k : ℕ) (d e : Sibling) → k < length xs → (get_or xs k d).dot ≡ (get_or ys k e).dot)
-    → (length xs ≡ length ys → ((k : ℕ) (d e : Sibling) → k < length xs → (get_or xs k d).dot ≡ (get_or ys k e).dot) → IsTrue r) → IsTrue r ↔ (summary_of a ≡ summary_of b)
-told_alike a b xs ys entries others r own theirs first second clocks lengths each back = (
-  λ t. ap (λ (ds : List Dot). let s : Summarized = record { dots = ds; clock = a.clock } in s) (ap dots_of (sym own) ∙ same_dots_at xs ys (lengths t) (each t) ∙ ap dots_of theirs)
-      ∙ ap (λ (es : List Dot). let s : Summarized = record { dots = dots_of b.siblings; clock = es } in s) (sym first ∙ clocks ∙ second),
-  λ same. let at = have_same_dot_at xs ys (ap dots_of own ∙ ap (λ (s : Summarized). s.dots) same ∙ ap dots_of (sym theirs)) in back at.0 at.1,
-)
-
 -- each dot of some siblings is held by siblings of the same dots
 held_each : (own others : List Sibling) → dots_of own ≡ dots_of others → AllByRecursion (λ s. is_some (content_at others s.dot) ≡ true) own
 held_each [] others same = tt

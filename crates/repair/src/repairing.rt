@@ -1,12 +1,11 @@
 //! Read repair: what came of a get goes to the vnodes that it would change.
 
-ghost use Rattle.std.specs.Prelude.{◌≡◌, ◌↔◌, ◌+◌, ◌<◌, ◌≤◌, ◌^◌, ℕ, List, [], length, count_by, is_ok, Bool, Result, IsTrue};
-ghost use Rattle.object.specs.Parts.{summary_of};
+ghost use Rattle.std.specs.Prelude.{◌≡◌, ◌+◌, ◌<◌, ◌≤◌, ◌^◌, ℕ, List, [], length, count_by, is_ok, Bool, Result, IsTrue};
 ghost use Rattle.peers.specs.declared.fault.PeerFault.{PeerFault};
 ghost use Rattle.peers.specs.Calls.{Made};
 ghost use Rattle.repair.specs.Repairs.{deliveries, deliveries_of, tries};
 
-use object::{Key, KeyState};
+use object::Key;
 use peers::{Answer, Peers};
 
 /// Read repair: each answered state goes to every other vnode that answered and whose answered state it would change,
@@ -38,19 +37,7 @@ fn are_alike(answers: &[Answer]) -> bool
     let _siblings = first.state.siblings();
     others
         .iter()
-        .all(|answer| have_same_dots(&answer.state, &first.state))
-}
-
-// Whether two states have the same dots and the same clock.
-fn have_same_dots(state: &KeyState, other: &KeyState) -> bool
-    ensures { IsTrue result ↔ (summary_of state.now ≡ summary_of other.now) }
-{
-    state.clock().entries() == other.clock().entries()
-        && state
-            .siblings()
-            .iter()
-            .map(|sibling| sibling.dot)
-            .eq(other.siblings().iter().map(|sibling| sibling.dot))
+        .all(|answer| answer.state.has_dots_of(&first.state))
 }
 
 // Delivers one answered state to each vnode whose answered state it would change. Answers how many took it.
