@@ -3,7 +3,7 @@ use Rattle.std.proofs.Common.{◌≡◌, ◌<◌, ℕ, zero, suc, Bool, true, fa
 use Rattle.std.specs.Prelude.{◌↔◌, Contains, OnOk, OnErr, Result, Ok, Err, option_map, slice_get, slice_set, slice_index}
 use Rattle.std.specs.List.{IsDistinct, list_any, zip}
 use Rattle.std.specs.Map.{lookup}
-use Rattle.std.proofs.lemmas.List.{length-map, map-append}
+use Rattle.std.proofs.lemmas.List.{length-map, length-set, map-append}
 use Rattle.std.proofs.lemmas.Map.Entries.{lookup_from_place, place_from_lookup}
 use Rattle.std.proofs.lemmas.Map.Keys.{IsDistinct-push}
 use Rattle.std.proofs.lemmas.Map.Made.{is_some-lookup}
@@ -153,13 +153,8 @@ unique_kept hashes ks same_keys vs same_states are keys states =
     subst (λ xs. IsDistinct key_eq (known_keys (zip xs same_states))) (sym keys) (subst (λ ys. IsDistinct key_eq (known_keys (zip ks ys))) (sym states) (unique_entries hashes ks vs are))
 
 -- another state at a place
-pub length-set : {X : Type 0} (xs : List X) (i : ℕ) (x : X) → length (slice_set xs i x) ≡ length xs
-length-set [] i x = refl
-length-set (y ∷ ys) zero x = refl
-length-set (y ∷ ys) (suc i) x = let rest = length-set ys i x in omega (arith, rest)
-
-pub unique_set : (hashes : List ℕ) (ks : List Key) (vs : List State) (i : ℕ) (w : State) → AreEntries hashes ks vs → IsDistinct key_eq (known_keys (zip ks (slice_set vs i w)))
-unique_set hashes ks vs i w are = subst (IsDistinct key_eq) (sym (known-zip ks (slice_set vs i w) (length-set vs i w ∙ are.each_stated))) are.once
+pub set_entries : (hashes : List ℕ) (ks : List Key) (vs others : List State) (i : ℕ) (w : State) → others ≡ slice_set vs i w → AreEntries hashes ks vs → AreEntries hashes ks others
+set_entries hashes ks vs others i w are_set are = record { each_hashed = are.each_hashed; each_stated = ap length are_set ∙ length-set vs i w ∙ are.each_stated; once = are.once }
 
 known-set : (es : List (Key × State)) (i : ℕ) (k : Key) (v w : State) → slice_get es i ≡ Some (k, v) → known_keys (slice_set es i (k, w)) ≡ known_keys es
 known-set [] i k v w there = refl

@@ -1,7 +1,8 @@
 //! The keys of a shard.
 
 ghost use Rattle.std.specs.Prelude.{◌≡◌, ◌<◌, ◌≤◌, ◌++◌, ◌∷◌, [], OnOk, OnErr, Some, length, slice_get, slice_index_or};
-ghost use Rattle.vnode.specs.Names.{AreBlocks, all_of};
+ghost use Rattle.vnode.specs.Blocks.{AreBlocks};
+ghost use Rattle.vnode.specs.Names.{all_of, keys_in};
 ghost use Rattle.vnode.specs.Shards.{key_eq};
 
 use crate::names::{Names, push_copies};
@@ -11,8 +12,8 @@ use std::marker::Model;
 use std::mem;
 use std::sync::Arc;
 
-/// How many keys a block holds: few, since a list of a vnode's keys copies those of each shard's last block.
-const BLOCK: usize = 128;
+/// How many keys a block holds, or states: few, since a list of a vnode's keys copies those of each shard's last block.
+pub(crate) const BLOCK: usize = 128;
 
 /// Keys, in the order in which they came. They lie in blocks, and a list of the keys shares those that are full.
 #[derive(Drop)]
@@ -25,14 +26,14 @@ pub(crate) struct KeyBlocks {
 }
 
 impl Model for KeyBlocks {
-    ghost use Rattle.std.specs.Prelude.{◌-◌, min, vec_len, vec_capacity};
-    ghost use Rattle.vnode.specs.Names.{AreBlocks, Named, named_in};
+    ghost use Rattle.vnode.specs.Blocks.{AreBlocks, items_of, room_in};
+    ghost use Rattle.vnode.specs.Names.{Named, keys_in};
 
     ghost Value = { Named };
 
-    ghost view = { λ b. record { keys = named_in b.full.items b.last.items; room = min (vec_capacity b.last) 128 - vec_len b.last } };
+    ghost view = { λ b. record { keys = items_of keys_in b.full.items b.last.items; room = room_in b.last } };
 
-    ghost invariant = { λ b. AreBlocks b.full.items b.last.items };
+    ghost invariant = { λ b. AreBlocks keys_in b.full.items b.last.items };
 }
 
 impl KeyBlocks {
@@ -111,7 +112,7 @@ fn close_block(
     requires full { length last.old.items ≡ 128 }
     ensures keys { OnOk result (all_of full.new.items ≡ all_of full.old.items ++ last.old.items) }
     ensures empty { OnOk result (last.new.items ≡ []) }
-    ensures blocks { AreBlocks full.old.items last.old.items → AreBlocks full.new.items last.new.items }
+    ensures blocks { AreBlocks keys_in full.old.items last.old.items → AreBlocks keys_in full.new.items last.new.items }
     ensures err { OnErr result ((full.new.items ≡ full.old.items) × (last.new.items ≡ last.old.items)) }
 {
     full.try_reserve(1)?;

@@ -1,12 +1,13 @@
 //! The states of some of a vnode's keys.
 
-ghost use Rattle.std.specs.Prelude.{◌≡◌, ◌<◌, ◌++◌, ◌∷◌, [], IfSome, IfNone, None, Some, OnOk, OnErr, length, slice_get, slice_set, vec_len, vec_capacity};
+ghost use Rattle.std.specs.Prelude.{◌≡◌, ◌<◌, ◌++◌, ◌∷◌, [], IfSome, IfNone, None, Some, OnOk, OnErr, length, slice_get, slice_set};
 ghost use Rattle.object.specs.declared.content.Key.{Key};
 ghost use Rattle.object.specs.State.{State};
 ghost use Rattle.vnode.specs.Shards.{IsEntry, IsUnique, LacksHashed, found_in, known_keys};
 
 use crate::key_blocks::KeyBlocks;
 use crate::names::Names;
+use crate::state_blocks::StateBlocks;
 use object::{Key, Stored};
 use slots::Index;
 use std::alloc::{AllocError, Global};
@@ -18,7 +19,7 @@ use std::marker::Model;
 pub(crate) struct Shard {
     index: Index,
     keys: KeyBlocks,
-    states: Vec<Stored>,
+    states: StateBlocks,
 }
 
 impl Model for Shard {
@@ -27,9 +28,9 @@ impl Model for Shard {
 
     ghost Value = { Shard };
 
-    ghost view = { λ s. record { hashes = s.index.hashes; entries = zip s.keys.keys s.states.items } };
+    ghost view = { λ s. record { hashes = s.index.hashes; entries = zip s.keys.keys s.states.states } };
 
-    ghost invariant = { λ s. AreEntries s.index.hashes s.keys.keys s.states.items };
+    ghost invariant = { λ s. AreEntries s.index.hashes s.keys.keys s.states.states };
 }
 
 impl Shard {
@@ -40,7 +41,7 @@ impl Shard {
         Shard {
             index: Index::new(alloc),
             keys: KeyBlocks::new(alloc),
-            states: Vec::new(alloc),
+            states: StateBlocks::new(alloc),
         }
     }
 
@@ -65,7 +66,7 @@ impl Shard {
         requires { i < length self.now.entries }
         ensures { slice_get self.now.entries i ≡ Some (result.0.now, result.1.now) }
     {
-        (self.keys.get(i), &self.states[i])
+        (self.keys.get(i), self.states.get(i))
     }
 
     /// Writes another state at a place.
@@ -75,7 +76,7 @@ impl Shard {
         ensures hashes { self.new.hashes ≡ self.old.hashes }
         ensures unique { IsUnique self.new }
     {
-        self.states[i] = state;
+        self.states.set(i, state);
     }
 
     /// Adds the entry of a key that has none, by the key's hash. Where memory is refused nothing changes.
@@ -88,10 +89,10 @@ impl Shard {
     {
         self.index.reserve()?;
         self.keys.reserve()?;
-        reserve_state(&mut self.states)?;
+        self.states.reserve()?;
         self.index.push(hash);
         self.keys.append(key);
-        let _ = self.states.push(state);
+        self.states.append(state);
         Ok(())
     }
 
@@ -101,15 +102,4 @@ impl Shard {
     {
         self.keys.list(names)
     }
-}
-
-// Makes room for one more: for an eighth of those that there are, where there is none, so that little of it lies idle.
-fn reserve_state(states: &mut Vec<Stored>) -> Result<(), AllocError>
-    ensures room { OnOk result (vec_len states.new < vec_capacity states.new) }
-    ensures same { states.new.items ≡ states.old.items }
-{
-    if states.len() == states.capacity() {
-        states.reserve_exact(states.len() / 8 + 4)?;
-    }
-    Ok(())
 }

@@ -8,6 +8,6 @@ use Rattle.vnode.proofs.shard.Shard.new.Goals as goal
 pub invariant_of-result : goal.invariant_of-result
 invariant_of-result c = record {
   each_hashed = ap (λ (index : Indexed). length index.hashes) c.new.ensures ∙ sym (ap length c.new-2.ensures);
-  each_stated = ap length c.new-3.ensures.items ∙ sym (ap length c.new-2.ensures);
+  each_stated = ap length c.new-3.ensures ∙ sym (ap length c.new-2.ensures);
   once = subst (IsDistinct key_eq) (sym c.new-2.ensures) none_distinct;
 }

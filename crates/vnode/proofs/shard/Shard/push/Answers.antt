@@ -1,32 +1,30 @@
-use Rattle.std.proofs.Common.{◌≡◌, ◌∙◌, ◌∷◌, ◌++◌, [], ap, refl, rules}
+use Rattle.std.proofs.Common.{◌∙◌, ◌∷◌, ◌++◌, [], ap, refl}
 use Rattle.std.specs.Map.{lookup}
 use Rattle.vnode.specs.Shards.{Shard, key_eq}
 use Rattle.vnode.proofs.Entries.{more_entries, more_zipped, unique_entries, unique_kept}
 use Rattle.vnode.proofs.shard.Shard.push.Goals as goal
 
 pub returns-in_err-reserve-clause-unique : goal.returns-in_err-reserve-clause-unique
-returns-in_err-reserve-clause-unique c = unique_entries c.self.inside.index.hashes c.self.inside.keys.keys c.self.inside.states.items c.self.invariant
+returns-in_err-reserve-clause-unique c = unique_entries c.self.inside.index.hashes c.self.inside.keys.keys c.self.inside.states.states c.self.invariant
 
 pub returns-in_err-reserve-2-clause-unique : goal.returns-in_err-reserve-2-clause-unique
-returns-in_err-reserve-2-clause-unique c = unique_kept c.self.inside.index.hashes c.self.inside.keys.keys c.reserve-2.new.self.keys c.self.inside.states.items c.self.inside.states.items c.self.invariant c.reserve-2.ensures.same refl
+returns-in_err-reserve-2-clause-unique c = unique_kept c.self.inside.index.hashes c.self.inside.keys.keys c.reserve-2.new.self.keys c.self.inside.states.states c.self.inside.states.states c.self.invariant c.reserve-2.ensures.same refl
 
-pub returns-in_err-reserve_state-clause-unique : goal.returns-in_err-reserve_state-clause-unique
-returns-in_err-reserve_state-clause-unique c =
-    unique_kept c.self.inside.index.hashes c.self.inside.keys.keys c.reserve-2.new.self.keys c.self.inside.states.items c.reserve_state.new.states.items c.self.invariant c.reserve-2.ensures.same c.reserve_state.ensures.same
+pub returns-in_err-reserve-3-clause-unique : goal.returns-in_err-reserve-3-clause-unique
+returns-in_err-reserve-3-clause-unique c =
+    unique_kept c.self.inside.index.hashes c.self.inside.keys.keys c.reserve-2.new.self.keys c.self.inside.states.states c.reserve-3.new.self.states c.self.invariant c.reserve-2.ensures.same c.reserve-3.ensures.same
 
 pub invariant_of-self-2 : goal.invariant_of-self-2
 invariant_of-self-2 c =
-    let items : c.push-2.new.self.items ≡ c.reserve_state.new.states.items ++ c.args.state ∷ [] = search (rules, c.push-2.ensures.items, c.push-2.ensures.succeeds, c.in_ok-reserve_state.ensures.room) in
-    more_entries c.self.inside.index.hashes c.self.inside.keys.keys c.self.inside.states.items c.args.hash c.args.key c.args.state c.push.new.self.hashes c.append.new.self.keys c.push-2.new.self.items
+    more_entries c.self.inside.index.hashes c.self.inside.keys.keys c.self.inside.states.states c.args.hash c.args.key c.args.state c.push.new.self.hashes c.append.new.self.keys c.append-2.new.self.states
     (c.push.ensures.hashes ∙ ap (λ hs. hs ++ c.args.hash ∷ []) c.reserve.ensures.hashes) (c.append.ensures ∙ ap (λ ks. ks ++ c.args.key ∷ []) c.reserve-2.ensures.same)
-    (items ∙ ap (λ vs. vs ++ c.args.state ∷ []) c.reserve_state.ensures.same) c.self.invariant (ap (λ (s : Shard). lookup (key_eq c.args.key) s.entries) c.self.view_is ∙ c.requires)
+    (c.append-2.ensures ∙ ap (λ vs. vs ++ c.args.state ∷ []) c.reserve-3.ensures.same) c.self.invariant (ap (λ (s : Shard). lookup (key_eq c.args.key) s.entries) c.self.view_is ∙ c.requires)
 
 pub returns-clause-entries : goal.returns-clause-entries
 returns-clause-entries c =
-    let items : c.push-2.new.self.items ≡ c.reserve_state.new.states.items ++ c.args.state ∷ [] = search (rules, c.push-2.ensures.items, c.push-2.ensures.succeeds, c.in_ok-reserve_state.ensures.room) in
-    more_zipped c.self.inside.index.hashes c.self.inside.keys.keys c.self.inside.states.items c.args.hash c.args.key c.args.state c.push.new.self.hashes c.append.new.self.keys c.push-2.new.self.items
+    more_zipped c.self.inside.index.hashes c.self.inside.keys.keys c.self.inside.states.states c.args.hash c.args.key c.args.state c.push.new.self.hashes c.append.new.self.keys c.append-2.new.self.states
     (c.push.ensures.hashes ∙ ap (λ hs. hs ++ c.args.hash ∷ []) c.reserve.ensures.hashes) (c.append.ensures ∙ ap (λ ks. ks ++ c.args.key ∷ []) c.reserve-2.ensures.same)
-    (items ∙ ap (λ vs. vs ++ c.args.state ∷ []) c.reserve_state.ensures.same) c.self.invariant ∙ ap (λ (s : Shard). s.entries ++ (c.args.key, c.args.state) ∷ []) c.self.view_is
+    (c.append-2.ensures ∙ ap (λ vs. vs ++ c.args.state ∷ []) c.reserve-3.ensures.same) c.self.invariant ∙ ap (λ (s : Shard). s.entries ++ (c.args.key, c.args.state) ∷ []) c.self.view_is
 
 pub returns-clause-unique : goal.returns-clause-unique
-returns-clause-unique c = unique_entries c.push.new.self.hashes c.append.new.self.keys c.push-2.new.self.items (invariant_of-self-2 c)
+returns-clause-unique c = unique_entries c.push.new.self.hashes c.append.new.self.keys c.append-2.new.self.states (invariant_of-self-2 c)

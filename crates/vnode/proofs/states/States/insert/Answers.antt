@@ -1,10 +1,9 @@
 use Rattle.std.proofs.Common.{◌≡◌, ◌<◌, ◌++◌, ◌∷◌, [], ◌∙◌, length, refl, sym, ap, unwrap_or, arith}
 use Rattle.std.specs.Vec.{with_item}
 use Rattle.std.specs.List.{All}
-use Rattle.std.specs.Prelude.{List, slice_set}
+use Rattle.std.specs.Prelude.{slice_set}
 use Rattle.std.proofs.lemmas.Result.{on_ok_weaker, on_err_weaker}
-use Rattle.object.specs.declared.content.Key.{Key}
-use Rattle.object.specs.State.{State, empty}
+use Rattle.object.specs.State.{empty}
 use Rattle.vnode.specs.Shards.{IsHashed, Shard, short_of}
 use Rattle.vnode.specs.States.{place}
 use Rattle.vnode.specs.declared.states.Spot.{Spot}

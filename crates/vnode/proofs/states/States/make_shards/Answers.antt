@@ -2,7 +2,7 @@ use Rattle.std.proofs.Common.{[], ◌∷◌, ◌∙◌, ap, length, length-appen
 use Rattle.std.specs.List.{All}
 use Rattle.std.proofs.lemmas.List.Elements.{All-push}
 use Rattle.vnode.specs.Shards.{IsHashed, Shard}
-use Rattle.vnode.proofs.Mapped.{added_same, added_placed}
+use Rattle.vnode.proofs.Mapped.{added_same, added_placed, unchanged_placed}
 use Rattle.vnode.proofs.states.States.make_shards.Goals as goal
 
 pub loop-shard-preserved : goal.loop-shard-preserved
@@ -21,3 +21,6 @@ loop-shard-preserved c =
       omega (arith, longer, more, so_far),
       c.loop-shard.invariant.3,
     )
+
+pub returns-in_err-push-clause-placed : goal.returns-in_err-push-clause-placed
+returns-in_err-push-clause-placed c = λ placed. unchanged_placed c.loop-shard.self _ refl c.in_err-push.ensures.items (c.loop-shard.invariant.1 placed)

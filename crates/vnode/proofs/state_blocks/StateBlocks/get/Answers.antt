@@ -1,0 +1,27 @@
+use Rattle.std.proofs.Common.{◌<◌, ◌∙◌, ap, sym, subst, arith, length}
+use Rattle.std.specs.Prelude.{slice_get}
+use Rattle.vnode.specs.Stated.{Stated, states_in}
+use Rattle.vnode.proofs.Blocks.{get_in_block, get_in_last, within_last}
+use Rattle.vnode.proofs.state_blocks.StateBlocks.get.Goals as goal
+
+pub index-requires-in-None : goal.index-requires-in-None
+index-requires-in-None c =
+    let beyond = c.in-None.ensures.lookup.3 in
+    let len = ap length c.deref.ensures.value in
+    let lt = subst (λ (s : Stated). c.args.i < length s.states) (sym c.self.view_is) c.requires in
+    let there = within_last states_in c.self.inside.full.items c.self.inside.last.items c.args.i c.self.invariant (omega (arith, beyond, len)) lt in
+    let last = c.self.inside.last.ok.0 in omega (arith, there, last)
+
+pub returns-in-Some : goal.returns-in-Some
+returns-in-Some c =
+    let lookup = c.in-Some.ensures.lookup in
+    ap (λ (s : Stated). slice_get s.states c.args.i) (sym c.self.view_is)
+    ∙ get_in_block states_in c.self.inside.full.items c.deref.result.now c.self.inside.last.items c.args.i c.in-Some.block.now c.index.result.now c.self.invariant c.deref.ensures.value lookup.3.0 lookup.1 c.index.ensures
+
+pub returns-in-None : goal.returns-in-None
+returns-in-None c =
+    let beyond = c.in-None.ensures.lookup.3 in
+    let len = ap length c.deref.ensures.value in
+    let lt = subst (λ (s : Stated). c.args.i < length s.states) (sym c.self.view_is) c.requires in
+    ap (λ (s : Stated). slice_get s.states c.args.i) (sym c.self.view_is)
+    ∙ get_in_last states_in c.self.inside.full.items c.self.inside.last.items c.args.i c.index-in-None.result.now c.self.invariant (omega (arith, beyond, len)) lt c.index-in-None.ensures
