@@ -1,13 +1,10 @@
 -- The hashes that slots hold.
-use Rattle.std.proofs.Common.{◌≡◌, ◌≢◌, ℕ, zero, suc, ◌+◌, ◌-◌, ◌*◌, ◌/◌, ◌^◌, ◌<◌, ◌≤◌, ◌⊎◌, inl, inr, true, false, cond, nat_eq, arith, refl, sym, ◌∙◌, ap, subst, List, [], ◌∷◌, ◌++◌, length, get_or, max, take, Option, Some, None, IfNone}
+use Rattle.std.proofs.Common.{◌≡◌, ℕ, zero, suc, ◌+◌, ◌-◌, ◌/◌, ◌<◌, ◌≤◌, ◌⊎◌, inl, inr, true, false, cond, nat_eq, arith, refl, sym, ◌∙◌, ap, subst, List, [], ◌∷◌, ◌++◌, length, get_or, max, take, Option, Some, None, IfNone}
 use Rattle.std.proofs.Math.Decide.{dec_lt, ℕ_discrete}
 use Rattle.std.proofs.lemmas.Bool.Decides.{nat_tests}
 use Rattle.std.proofs.lemmas.List.FromFn.{length-map-range_with_len, get_or-map-range_with_len, map-range_with_len_more, fill_by_all}
 use Rattle.std.proofs.Math.Seq.{take-append_seam}
-use Rattle.std.proofs.Math.Nat.{two-pow-succ}
-use Rattle.std.proofs.Math.Pow.{pow_mono}
-use Rattle.slots.specs.declared.probe.Slot.{Slot}
-use Rattle.slots.specs.Slots.{Indexed, HasRoom, IsSlotCount, Reaches, slot_at, item_at, slot_of, taken, AreProbed, Puts, Rehashes, Indexes, IsValid, hash_of, hashes_of}
+use Rattle.slots.specs.Slots.{Slot, Indexed, HasRoom, IsSlotCount, Reaches, slot_at, item_at, slot_of, taken, AreProbed, Puts, Rehashes, Indexes, IsValid, hash_of, hashes_of}
 use Rattle.slots.proofs.Probing.{taken_within, taken_none}
 use Rattle.slots.proofs.Putting.{length_put, put_taken, put_here, put_elsewhere, put_keeps, put_probed}
 
@@ -116,9 +113,6 @@ module _ (from to : List Slot) (n : ℕ) (was : Indexes from n) (re : Rehashes f
       hash_held to i one.1 re.probed (ap (λ (s : Slot). s.item) one.3 ∙ one.2) ∙ (ap (λ (s : Slot). s.hash) one.3 ∙ sym (hash_held from i one.0 was.probed one.2)))
 
 -- ---- what is kept of an index
-pub least_slots : (count : ℕ) → IsSlotCount count → 8 ≤ count
-least_slots count is = let least : 2 ^ 3 ≤ 2 ^ is.0 = pow_mono {i = 3} {j = is.0} is.1 in omega (arith, is.3)
-
 pub none_valid : IsValid [] 0
 none_valid = record {
   count = inl refl;
@@ -142,14 +136,6 @@ push_valid old new n hash was room puts =
       taken = omega (arith, put_taken old (slot_of hash n) new some puts, was.taken);
     }
 
--- twice the slots, or the first eight
-pub wider : (count : ℕ) → (count ≡ 0) ⊎ IsSlotCount count → count ≢ 2 ^ 31 → IsSlotCount (max (2 * count) 8)
-wider count (inl none) few = (3, omega arith, omega arith, ap (λ (n : ℕ). max (2 * n) 8) none)
-wider count (inr is) few =
-    let below : is.0 ≢ 31 = λ same. few (is.3 ∙ ap (λ (k : ℕ). 2 ^ k) same) in
-    let least = least_slots count is in
-    (suc is.0, omega (arith, is.1), omega (arith, is.2, below), omega (arith, is.3, two-pow-succ is.0))
-
 pub wider_valid : (from to : List Slot) (n : ℕ) → IsValid from n → IsSlotCount (length to) → length from ≤ length to → Rehashes from to (length from) → taken to ≡ taken from → IsValid to n
 wider_valid from to n was count more re taken = record {
   count = inr count;
@@ -158,9 +144,9 @@ wider_valid from to n was count more re taken = record {
   taken = taken ∙ was.taken;
 }
 
-pub wider_room : (count n : ℕ) → (count ≡ 0) ⊎ IsSlotCount count → n ≤ count - count / 8 → n < max (2 * count) 8 - max (2 * count) 8 / 8
-wider_room count n (inl none) load = grind arith
-wider_room count n (inr is) load = let least = least_slots count is in grind arith
+-- a quarter more slots, or the first eight, hold one item more
+pub wider_room : (count n more : ℕ) → (count ≡ 0) ⊎ IsSlotCount count → n ≤ count - count / 8 → max (count + count / 4) 8 ≤ more → n < more - more / 8
+wider_room count n more few load long = grind arith
 
 -- what is written back over all that a list held
 pub written_back : (n : ℕ) (slots rest : List Slot) → n ≡ length slots → take n (slots ++ rest) ≡ slots

@@ -1,16 +1,11 @@
 -- Where probes go, and which slots are free.
-use Rattle.std.proofs.Common.{◌≡◌, ℕ, ◌+◌, ◌-◌, ◌*◌, ◌/◌, ◌%◌, ◌<◌, ◌≤◌, not, cond, nat_eq, add-one, arith, refl, sym, ◌∙◌, ap, subst, List, [], ◌∷◌, length, length-take, take, bit_and}
+use Rattle.std.proofs.Common.{◌≡◌, ℕ, ◌+◌, ◌-◌, ◌*◌, ◌/◌, ◌%◌, ◌<◌, ◌≤◌, not, cond, nat_eq, add-one, arith, refl, ◌∙◌, ap, subst, List, [], ◌∷◌, length, length-take, take}
 use Rattle.std.proofs.Math.Decide.{dec_lt, ℕ_discrete}
 use Rattle.std.proofs.Math.ListN.{get_or-eq_default}
 use Rattle.std.proofs.Math.Nat.{mod-eq_of_lt, add-mod_right, add-mul-mod_self_right, mod-add-div'}
 use Rattle.std.proofs.lemmas.Bool.Decides.{nat_tests}
 use Rattle.std.proofs.lemmas.List.Sums.{count_by-le-length, sum_by-cons, sum_by_more}
-use Rattle.std.proofs.lemmas.Nat.{and_mask}
-use Rattle.slots.specs.declared.probe.Slot.{Slot}
-use Rattle.slots.specs.Slots.{IsSlotCount, free, slot_at, item_at, is_taken, taken, probed, PassesTo}
-
-pub masked : (x count : ℕ) → IsSlotCount count → bit_and x (count - 1) ≡ x % count
-masked x count is = ap (λ m. bit_and x (m - 1)) is.3 ∙ and_mask x is.0 ∙ ap (λ m. x % m) (sym is.3)
+use Rattle.slots.specs.Slots.{Slot, free, slot_at, item_at, is_taken, taken, home, probed, PassesTo}
 
 -- a slot that is taken stands in the list
 pub taken_within : (slots : List Slot) (p : ℕ) → 0 < item_at slots p → p < length slots
@@ -20,26 +15,34 @@ taken_within slots p some =
       | no past ↦ absurd (let none : item_at slots p ≡ 0 = ap (λ (slot : Slot). slot.item) (get_or-eq_default slots free (omega arith)) in omega arith)
     ]
 
--- a probe comes to each slot
-pub comes_to : (count hash p : ℕ) → p < count → (j : ℕ) × (j < count) × (probed count hash j ≡ p)
-unfolding probed
-comes_to count hash p within =
-    let rest : ℕ = hash % count in
-    let whole : hash % count + hash / count * count ≡ hash = mod-add-div' hash count in
+-- what goes round by so many is at each place some time
+comes_round : (count from p : ℕ) → p < count → (j : ℕ) × (j < count) × ((from + j) % count ≡ p)
+comes_round count from p within =
+    let rest : ℕ = from % count in
+    let whole : from % count + from / count * count ≡ from = mod-add-div' from count in
     elim (dec_lt p rest) [
       | yes before ↦ (
         p + count - rest,
         omega arith,
-        ap (λ x. x % count) (let e : hash + (p + count - rest) ≡ (p + count) + hash / count * count = omega arith in e)
-            ∙ (add-mul-mod_self_right (p + count) (hash / count) count ∙ (add-mod_right p count ∙ mod-eq_of_lt within)),
+        ap (λ x. x % count) (let e : from + (p + count - rest) ≡ (p + count) + from / count * count = omega arith in e)
+            ∙ (add-mul-mod_self_right (p + count) (from / count) count ∙ (add-mod_right p count ∙ mod-eq_of_lt within)),
       )
       | no past ↦ (
         p - rest,
         omega arith,
-        ap (λ x. x % count) (let e : hash + (p - rest) ≡ p + hash / count * count = omega arith in e)
-            ∙ (add-mul-mod_self_right p (hash / count) count ∙ mod-eq_of_lt within),
+        ap (λ x. x % count) (let e : from + (p - rest) ≡ p + from / count * count = omega arith in e)
+            ∙ (add-mul-mod_self_right p (from / count) count ∙ mod-eq_of_lt within),
       )
     ]
+
+-- a probe comes to each slot
+pub comes_to : (count hash p : ℕ) → p < count → (j : ℕ) × (j < count) × (probed count hash j ≡ p)
+unfolding probed
+comes_to count hash p within = comes_round count (home count hash) p within
+
+-- one step past the last is the first
+pub goes_round : (count at : ℕ) → count ≤ at → at < count + count → at % count ≡ at - count
+goes_round count at past within = ap (λ x. x % count) (let e : at ≡ at - count + count = omega arith in e) ∙ (add-mod_right (at - count) count ∙ mod-eq_of_lt (omega arith))
 
 abbrev HasFree : List Slot → Type 0
 HasFree slots = (p : ℕ) × (p < length slots) × (item_at slots p ≡ 0)

@@ -5,8 +5,7 @@ use Rattle.std.proofs.Math.Decide.{dec_lt, ℕ_discrete}
 use Rattle.std.proofs.Math.ListN.{length-set, get_or-eq_default}
 use Rattle.std.proofs.lemmas.List.{get_or-replicate, length-replicate}
 use Rattle.std.proofs.lemmas.List.Sums.{sum_by-set}
-use Rattle.slots.specs.declared.probe.Slot.{Slot}
-use Rattle.slots.specs.Slots.{free, slot_at, item_at, is_taken, taken, probed, PassesTo, Reaches, AreProbed, Puts, Rehashes}
+use Rattle.slots.specs.Slots.{Slot, free, slot_at, item_at, is_taken, taken, probed, PassesTo, Reaches, AreProbed, Puts, Rehashes}
 use Rattle.slots.proofs.Probing.{weight, weight_some, weight_none, taken_none, taken_first}
 
 module _ (old : List Slot) (slot : Slot) (new : List Slot) (some : 0 < slot.item) (puts : Puts old slot new) where

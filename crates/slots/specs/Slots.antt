@@ -1,20 +1,28 @@
 -- How slots hold hashes and the places of items, and where each slot stands (open addressing with linear probing).
-use Rattle.std.specs.Prelude.{◌≡◌, ◌==◌, ◌+◌, ◌-◌, ◌/◌, ◌%◌, ◌^◌, ◌<◌, ◌≤◌, ◌⊎◌, ℕ, Bool, not, List, [], ◌∷◌, if◌then◌else◌, length, map, slice_index_or, slice_set}
+use Rattle.std.specs.Prelude.{◌≡◌, ◌==◌, ◌+◌, ◌*◌, ◌-◌, ◌/◌, ◌%◌, ◌^◌, ◌<◌, ◌≤◌, ◌⊎◌, ℕ, Bool, not, bit_xor, List, [], ◌∷◌, if◌then◌else◌, length, map, slice_index_or, slice_set}
 use Rattle.std.specs.List.{count_by, range_with_len}
-use Rattle.slots.specs.declared.probe.Slot.{Slot}
 
 -- what callers see of an index: the hashes of the items in the order of their places, and how many slots there are
 pub record Indexed : Type 0 where
   pub hashes : List ℕ
   pub slots : ℕ
 
--- one more item fits: an eighth of the slots stays free
+-- one more item fits: an eighth of the slots, rounded down, stays free
 abbrev pub HasRoom : Indexed → Type 0
 HasRoom index = length index.hashes < index.slots - index.slots / 8
 
--- how many slots there may be, where there are any: a power of two from 8 to 2^31
+-- both halves of a hash XORed, without the lowest 9 bits
+abbrev pub folded : ℕ → ℕ
+folded hash = bit_xor (hash / 2 ^ 32) (hash % 2 ^ 32) / 2 ^ 9
+
+-- how many slots there may be, where there are any
 abbrev pub IsSlotCount : ℕ → Type 0
-IsSlotCount count = (k : ℕ) × (3 ≤ k) × (k ≤ 31) × (count ≡ 2 ^ k)
+IsSlotCount count = (8 ≤ count) × (count ≤ 2 ^ 25)
+
+-- what a slot holds: bits of an item's hash, and the item's place + 1; at 0 it is free
+pub record Slot : Type 0 where
+  pub hash : ℕ
+  pub item : ℕ
 
 -- nobody's slot
 abbrev pub free : Slot
@@ -38,9 +46,13 @@ is_taken slot = not (slot.item == 0)
 unfoldable pub taken : List Slot → ℕ
 taken slots = count_by is_taken slots
 
--- where a probe for a hash stands after so many steps, among so many slots
+-- where a probe for a hash of 23 bits begins, among so many slots: the larger the hash, the further on
+abbrev pub home : ℕ → ℕ → ℕ
+home count hash = hash * count / 2 ^ 23
+
+-- where it stands after so many steps
 unfoldable pub probed : ℕ → ℕ → ℕ → ℕ
-probed count hash step = (hash + step) % count
+probed count hash step = (home count hash + step) % count
 
 -- before so many steps a probe for the hash finds each slot taken
 abbrev pub PassesTo : List Slot → ℕ → ℕ → Type 0

@@ -1,20 +1,22 @@
 //! The index.
 
-ghost use Rattle.std.specs.Prelude.{◌≡◌, ℕ, ◌+◌, ◌*◌, ◌<◌, ◌≤◌, ◌^◌, max, true, false, [], ◌∷◌, ◌++◌, length, IfSome, IfNone, OnOk, OnErr, IsErr, IsOk, IsTrue, ◌↔◌, slice_index};
+ghost use Rattle.std.specs.Prelude.{◌≡◌, ℕ, ◌+◌, ◌/◌, ◌<◌, ◌≤◌, ◌^◌, max, true, false, [], ◌∷◌, ◌++◌, length, IfSome, IfNone, OnOk, OnErr, IsErr, IsOk, IsTrue, ◌↔◌, slice_index};
 ghost use Rattle.slots.specs.Slots.{HasRoom};
 
-use crate::probe::{Slot, find_place, put, put_all};
+use crate::probe::{find_place, put, put_all};
+use crate::slot::{Fingerprint, Slot};
 use std::alloc::{AllocError, Global};
 use std::marker::Model;
 
 // Where there are any.
 const FEWEST_SLOTS: usize = 8;
 
-const MOST_SLOTS: usize = 1 << 31;
+const MOST_SLOTS: usize = 1 << 25;
 
-/// From hashes to the places of items in a list that somebody else keeps. Items are only added. Contracts see it as the items'
-/// hashes, in the order of their places, and the number of its slots, of 8 bytes each: at most 2^31, of which 7 of 8 are taken
-/// at most. A search begins at the slot that the low bits of a hash name, so these are to differ among items.
+/// From hashes to the places of items in a list that somebody else keeps. Items are only added. Contracts see it as
+/// the items' hashes, in the order of their places, and the number of its slots, of 6 bytes each: at most 2^25, of
+/// which an eighth, rounded down, stays free. A search begins where the hash says, so hashes are to be spread evenly.
+/// Only 23 bits of a hash count: each other item whose 23 bits agree may cost a search one more question to `is`.
 #[derive(Drop)]
 pub struct Index {
     slots: Vec<Slot>,
@@ -50,9 +52,9 @@ impl Index {
         self.len
     }
 
-    /// The place of an item that has the hash and of which `is` says so. It is asked only about items that have the hash, until
-    /// it says so of one.
-    pub fn find<F: Fn(usize) -> bool>(&self, hash: u32, is: F) -> Option<usize>
+    /// The place of an item that has the hash and of which `is` says so. It is asked only about items that have the
+    /// hash, until it says so of one.
+    pub fn find<F: Fn(usize) -> bool>(&self, hash: Fingerprint, is: F) -> Option<usize>
         requires { (i : ℕ) → i < length self.now.hashes → slice_index self.now.hashes i ≡ hash → F.pre is i }
         ensures found { IfSome result (λ i. (i < length self.now.hashes) × (slice_index self.now.hashes i ≡ hash) × F.post is i true) }
         ensures absent { IfNone result ((i : ℕ) → i < length self.now.hashes → slice_index self.now.hashes i ≡ hash → F.post is i false) }
@@ -60,17 +62,22 @@ impl Index {
         find_place(self.slots.as_slice(), hash, is)
     }
 
-    /// Makes room for one more item, where there is none: twice the slots, or the first 8. An error is want of memory, or of
-    /// slots, where 7 of 8 of 2^31 are taken. Then nothing has changed.
-    pub fn reserve(&mut self) -> Result<(), AllocError>
+    /// Makes room for one more item, where there is none: a quarter more slots, and no fewer than 8 and `fewest`. Indexes
+    /// that begin with other numbers of slots grow at other numbers of items. An error is want of memory, or of slots,
+    /// where that would be more than 2^25. Then nothing has changed.
+    pub fn reserve(&mut self, fewest: usize) -> Result<(), AllocError>
         ensures hashes { self.new.hashes ≡ self.old.hashes }
         ensures room { OnOk result (HasRoom self.new) }
         ensures kept { HasRoom self.old → IsOk result × (self.new ≡ self.old) }
-        ensures grown { OnOk result (¬ HasRoom self.old → self.new.slots ≡ max 8 (2 * self.old.slots)) }
-        ensures full { 2 ^ 31 ≤ self.old.slots → ¬ HasRoom self.old → IsErr result }
+        ensures grown { OnOk result (¬ HasRoom self.old → self.new.slots ≡ max (max 8 fewest) (self.old.slots + self.old.slots / 4)) }
+        ensures full { 2 ^ 25 < max fewest (self.old.slots + self.old.slots / 4) → ¬ HasRoom self.old → IsErr result }
         ensures err { OnErr result (self.new ≡ self.old) }
     {
-        if self.has_room() { Ok(()) } else { self.grow() }
+        if self.has_room() {
+            Ok(())
+        } else {
+            self.grow(fewest)
+        }
     }
 
     // Whether one more item fits.
@@ -81,20 +88,21 @@ impl Index {
         self.len < count - count / 8
     }
 
-    // Moves all to twice the slots, or makes the first 8.
-    fn grow(&mut self) -> Result<(), AllocError>
+    // Moves all to a quarter more slots, and no fewer than 8 and `fewest`. A store has six indexes in which each of its
+    // keys has a slot, so free slots cost: after a doubling some 7 of 16 would be taken, after a quarter some 7 of 10 are.
+    fn grow(&mut self, fewest: usize) -> Result<(), AllocError>
         requires { ¬ HasRoom self.old }
         ensures hashes { self.new.hashes ≡ self.old.hashes }
         ensures room { OnOk result (HasRoom self.new) }
-        ensures grown { OnOk result (self.new.slots ≡ max 8 (2 * self.old.slots)) }
-        ensures full { 2 ^ 31 ≤ self.old.slots → IsErr result }
+        ensures grown { OnOk result (self.new.slots ≡ max (max 8 fewest) (self.old.slots + self.old.slots / 4)) }
+        ensures full { 2 ^ 25 < max fewest (self.old.slots + self.old.slots / 4) → IsErr result }
         ensures err { OnErr result (self.new ≡ self.old) }
     {
         let count = self.slots.len();
-        if count == MOST_SLOTS {
+        let more = (count + count / 4).max(fewest.max(FEWEST_SLOTS));
+        if more > MOST_SLOTS {
             return Err(AllocError);
         }
-        let more = (2 * count).max(FEWEST_SLOTS);
         let mut slots = vec![in *self.slots.allocator(); Slot::FREE; more]?;
         put_all(self.slots.as_slice(), slots.as_mut_slice());
         self.slots = slots;
@@ -102,18 +110,12 @@ impl Index {
     }
 
     /// Adds an item at the end of the list, by its hash.
-    pub fn push(&mut self, hash: u32)
+    pub fn push(&mut self, hash: Fingerprint)
         requires { HasRoom self.old }
         ensures hashes { self.new.hashes ≡ self.old.hashes ++ hash ∷ [] }
         ensures slots { self.new.slots ≡ self.old.slots }
     {
         self.len += 1;
-        put(
-            self.slots.as_mut_slice(),
-            Slot {
-                hash,
-                item: self.len as u32,
-            },
-        );
+        put(self.slots.as_mut_slice(), Slot::new(hash, self.len));
     }
 }

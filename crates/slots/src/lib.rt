@@ -1,10 +1,12 @@
-//! An index from hashes to the places of items in a list that somebody else keeps: a hash map without its keys and values.
-//! It takes 8 bytes a slot, and at most 7 of 8 slots are taken.
+//! An index from hashes to the places of items in a list that somebody else keeps: a hash map without its keys and
+//! values. It takes 6 bytes a slot, and an eighth of the slots stays free.
 #![tactic(auto)]
 
 mod index;
 mod probe;
+mod slot;
 #[cfg(test)]
 mod tests;
 
 pub use index::Index;
+pub use slot::Fingerprint;

@@ -1,32 +1,28 @@
-//! The slots, and how they are searched: a probe begins where the hash says, and goes from slot to slot, after the last to the
+//! How slots are searched: a probe begins where the hash says, and goes from slot to slot, after the last to the
 //! first, as far as one that is free.
 
 ghost use Rattle.std.specs.Prelude.{◌≡◌, ℕ, ◌+◌, ◌<◌, ◌⊎◌, true, false, length, replicate, IfSome, IfNone};
 ghost use Rattle.slots.specs.Slots.{IsSlotCount, free, slot_at, item_at, slot_of, taken, probed, Reaches, AreProbed, Puts, Rehashes};
 
-/// An item's hash, and its place + 1; at 0 the slot is free.
-#[derive(Clone, Copy)]
-pub(crate) struct Slot {
-    pub(crate) hash: u32,
-    pub(crate) item: u32,
-}
-
-impl Slot {
-    pub(crate) const FREE: Slot = Slot { hash: 0, item: 0 };
-}
+use crate::slot::{Fingerprint, Slot};
 
 // Where a probe for a hash stands after so many steps.
-fn probed(hash: u32, step: usize, count: usize) -> usize
+fn probed(hash: Fingerprint, step: usize, count: usize) -> usize
     requires count { IsSlotCount count }
     requires step { step < count }
     ensures value { result ≡ probed count hash step }
     ensures within { result < count }
 {
-    (hash as usize + step) & (count - 1)
+    let at = hash.home(count) + step;
+    if at < count { at } else { at - count }
 }
 
 /// The place of the first item on the way of a probe that has the hash and of which `is` says so.
-pub(crate) fn find_place<F: Fn(usize) -> bool>(slots: &[Slot], hash: u32, is: F) -> Option<usize>
+pub(crate) fn find_place<F: Fn(usize) -> bool>(
+    slots: &[Slot],
+    hash: Fingerprint,
+    is: F,
+) -> Option<usize>
     requires count { (length slots.now ≡ 0) ⊎ IsSlotCount (length slots.now) }
     requires callable { (p i : ℕ) → slot_at slots.now p ≡ slot_of hash i → F.pre is i }
     ensures found { IfSome result (λ i. (p : ℕ) × (slot_at slots.now p ≡ slot_of hash i) × F.post is i true) }
@@ -34,11 +30,11 @@ pub(crate) fn find_place<F: Fn(usize) -> bool>(slots: &[Slot], hash: u32, is: F)
 {
     for step in 0..slots.len() {
         let slot = slots[probed(hash, step, slots.len())];
-        if slot.item == 0 {
+        if slot.item() == 0 {
             return None;
         }
-        let place = slot.item as usize - 1;
-        if slot.hash == hash && is(place) {
+        let place = slot.item() - 1;
+        if slot.hash() == hash && is(place) {
             return Some(place);
         }
     }
@@ -46,7 +42,7 @@ pub(crate) fn find_place<F: Fn(usize) -> bool>(slots: &[Slot], hash: u32, is: F)
 }
 
 // Where a probe for a hash comes to the first free slot.
-fn first_free(slots: &[Slot], hash: u32) -> usize
+fn first_free(slots: &[Slot], hash: Fingerprint) -> usize
     requires count { IsSlotCount (length slots.now) }
     requires free { taken slots.now < length slots.now }
     ensures within { result < length slots.now }
@@ -55,7 +51,7 @@ fn first_free(slots: &[Slot], hash: u32) -> usize
 {
     for step in 0..slots.len() {
         let at = probed(hash, step, slots.len());
-        if slots[at].item == 0 {
+        if slots[at].item() == 0 {
             return at;
         }
     }
@@ -68,11 +64,12 @@ pub(crate) fn put(slots: &mut [Slot], slot: Slot)
     requires free { taken slots.old < length slots.old }
     ensures { Puts slots.old slot slots.new }
 {
-    let at = first_free(slots, slot.hash);
+    let at = first_free(slots, slot.hash());
     slots[at] = slot;
 }
 
-/// Puts all taken slots into more slots, each of them free.
+/// Puts all taken slots into more slots, each of them free. The larger a hash, the further on a probe for it begins
+/// among any number of slots, so both lists are gone through from front to back.
 pub(crate) fn put_all(from: &[Slot], to: &mut [Slot])
     requires count { IsSlotCount (length to.old) }
     requires larger { length from.now < length to.old }
@@ -82,7 +79,7 @@ pub(crate) fn put_all(from: &[Slot], to: &mut [Slot])
     ensures taken { taken to.new ≡ taken from.now }
 {
     for slot in from {
-        if slot.item != 0 {
+        if slot.item() != 0 {
             put(to, *slot);
         }
     }

@@ -101,3 +101,13 @@ module _ {X B : Type 0} (items_in : B → List X) where
       let place = at_last full last i are beyond lt in
       let at : i - length (flat_map items_in full) ≡ i % 128 = omega (arith, place) in
       sym (set-append_right (flat_map items_in full) last (length (flat_map items_in full)) i x refl (omega (arith, place)) ∙ ap (λ n. flat_map items_in full ++ set last n x) at)
+
+  -- a block of the same items in place of another
+  swapped : (full : List B) (b : ℕ) (block other : B) → b < length full → items_in other ≡ items_in (get_or full b block) → flat_map items_in (set full b other) ≡ flat_map items_in full
+  swapped [] b block other within is = absurd (omega (arith, within))
+  swapped (first ∷ full) zero block other within is = ap (λ xs. xs ++ flat_map items_in full) is
+  swapped (first ∷ full) (suc b) block other within is = ap (λ xs. items_in first ++ xs) (swapped full b block other (omega (arith, within)) is)
+
+  pub items_swapped : (full : List B) (last : List X) (b : ℕ) (block other : B) → b < length full → block ≡ get_or full b block → items_in other ≡ items_in block
+      → items_of items_in (set full b other) last ≡ items_of items_in full last
+  items_swapped full last b block other within there is = ap (λ xs. xs ++ last) (swapped full b block other within (is ∙ ap items_in there))

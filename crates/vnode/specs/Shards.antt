@@ -1,5 +1,5 @@
 -- What a shard has: entries that are found by the hashes of their keys.
-use Rattle.std.specs.Prelude.{◌≡◌, ◌++◌, ◌∷◌, ◌&&◌, ◌/◌, ◌%◌, ◌^◌, [], ℕ, Bool, List, Option, Some, None, nat_eq, bit_xor, map, length, slice_get}
+use Rattle.std.specs.Prelude.{◌≡◌, ◌++◌, ◌∷◌, ◌&&◌, [], ℕ, Bool, List, Option, Some, None, nat_eq, map, length, slice_get}
 use Rattle.std.specs.Cmp.Lexicographic.{pointwise}
 use Rattle.std.specs.Hash as fed
 use Rattle.std.specs.Hash.DefaultHasher.{write, finish}
@@ -7,6 +7,7 @@ use Rattle.std.specs.Map.{lookup}
 use Rattle.std.specs.List.{IsDistinct, fold}
 use Rattle.object.specs.declared.content.Key.{Key}
 use Rattle.object.specs.State.{State}
+use Rattle.slots.specs.Slots.{folded}
 use Rattle.vnode.specs.declared.seed.Seed.{Seed}
 
 -- whether two keys are equal, as a look-up by hash compares them
@@ -22,11 +23,7 @@ pub record Shard : Type 0 where
 abbrev pub hash_of : Seed → Key → ℕ
 hash_of seed k = finish (fold write seed.begun (fed.usize (length k.bucket) ++ (k.bucket ++ k.key) ∷ []))
 
--- both halves of a hash in one
-abbrev pub folded : ℕ → ℕ
-folded hash = bit_xor (hash / 2 ^ 32) (hash % 2 ^ 32)
-
--- the hash by which a shard finds a key
+-- the fingerprint by which a shard finds a key
 abbrev pub short_of : Seed → Key → ℕ
 short_of seed k = folded (hash_of seed k)
 

@@ -15,6 +15,12 @@ use std::sync::Arc;
 /// How many keys a block holds, or states: few, since a list of a vnode's keys copies those of each shard's last block.
 pub(crate) const BLOCK: usize = 128;
 
+/// A full block of a vnode's keys, which the vnode shares.
+#[derive(Drop)]
+pub struct KeyBlock {
+    keys: Arc<Vec<Key>>,
+}
+
 /// Keys, in the order in which they came. They lie in blocks, and a list of the keys shares those that are full.
 #[derive(Drop)]
 pub(crate) struct KeyBlocks {
@@ -23,6 +29,8 @@ pub(crate) struct KeyBlocks {
     full: Vec<Arc<Vec<Key>>>,
     /// The block that keys are added to.
     last: Vec<Key>,
+    /// How many of the full blocks were compared with another vnode's.
+    compared: usize,
 }
 
 impl Model for KeyBlocks {
@@ -45,6 +53,7 @@ impl KeyBlocks {
             alloc,
             full: Vec::new(alloc),
             last: Vec::new(alloc),
+            compared: 0,
         }
     }
 
@@ -100,6 +109,30 @@ impl KeyBlocks {
         let mut last = Vec::with_capacity(self.alloc, self.last.len())?;
         push_copies(&self.last, &mut last)?;
         names.add(Arc::new(self.alloc, last)?)
+    }
+
+    /// The number of the first full block that wasn't compared with another vnode's.
+    pub(crate) fn uncompared(&self) -> Option<usize> {
+        (self.compared < self.full.len()).then_some(self.compared)
+    }
+
+    /// A full block by its number, shared. None where there is none, or its owners can't be counted further.
+    pub(crate) fn block(&self, number: usize) -> Option<KeyBlock> {
+        let keys = self.full.get(number)?.clone().ok()?;
+        Some(KeyBlock { keys })
+    }
+
+    /// Takes the memory of another vnode's block in place of that of its own one of a number, where both have the same
+    /// keys in the same order.
+    pub(crate) fn share(&mut self, number: usize, other: KeyBlock)
+        ensures { self.new ≡ self.old }
+    {
+        if let Some(block) = self.full.get_mut(number) {
+            self.compared = number + 1;
+            if block.as_slice() == other.keys.as_slice() {
+                *block = other.keys;
+            }
+        }
     }
 }
 

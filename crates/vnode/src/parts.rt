@@ -50,7 +50,8 @@ pub fn merged_part_of<'a>(
     Ok((Box::new(alloc, merged)?, PreparedPart::new(alloc, part)?))
 }
 
-// Makes a state that came the one that is brought: where a part came in its place, the whole one for which the part stands at the own state.
+// Makes a state that came the one that is brought: where a part came in its place, the whole one for which the part
+// stands at the own state.
 pub(crate) fn make_whole(
     own: &KeyState,
     journal: &Journal,

@@ -4,8 +4,8 @@ use std::hash::{BuildHasher, DefaultHasher, RandomState};
 use std::io;
 use std::random::RandomSource;
 
-/// What the hashes of a vnode's keys begin with. Nothing that a vnode answers depends on it, only how long it takes: who can guess a seed can
-/// choose keys that hash alike.
+/// What the hashes of a vnode's keys begin with. Nothing that a vnode answers depends on it, only how long it takes: who
+/// can guess a seed can choose keys that hash alike.
 #[derive(Clone, Copy)]
 pub struct Seed {
     begun: DefaultHasher,

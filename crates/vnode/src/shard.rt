@@ -5,11 +5,11 @@ ghost use Rattle.object.specs.declared.content.Key.{Key};
 ghost use Rattle.object.specs.State.{State};
 ghost use Rattle.vnode.specs.Shards.{IsEntry, IsUnique, LacksHashed, found_in, known_keys};
 
-use crate::key_blocks::KeyBlocks;
+use crate::key_blocks::{KeyBlock, KeyBlocks};
 use crate::names::Names;
 use crate::state_blocks::StateBlocks;
 use object::{Key, Stored};
-use slots::Index;
+use slots::{Fingerprint, Index};
 use std::alloc::{AllocError, Global};
 use std::marker::Model;
 
@@ -20,6 +20,8 @@ pub(crate) struct Shard {
     index: Index,
     keys: KeyBlocks,
     states: StateBlocks,
+    /// With how many slots the index begins.
+    slots: usize,
 }
 
 impl Model for Shard {
@@ -34,14 +36,15 @@ impl Model for Shard {
 }
 
 impl Shard {
-    /// A shard without entries. It takes no memory.
-    pub(crate) fn new(alloc: Global) -> Shard
+    /// A shard without entries, whose index will begin with so many slots. It takes no memory.
+    pub(crate) fn new(alloc: Global, slots: usize) -> Shard
         ensures { result ≡ record { hashes = []; entries = [] } }
     {
         Shard {
             index: Index::new(alloc),
             keys: KeyBlocks::new(alloc),
             states: StateBlocks::new(alloc),
+            slots,
         }
     }
 
@@ -53,7 +56,7 @@ impl Shard {
     }
 
     /// The place of the entry of a key, which has this hash.
-    pub(crate) fn find(&self, hash: u32, key: &Key) -> Option<usize>
+    pub(crate) fn find(&self, hash: Fingerprint, key: &Key) -> Option<usize>
         ensures found { IfSome result (λ i. (v : State) × IsEntry self.now i key.now v) }
         ensures absent { IfNone result (LacksHashed self.now hash key.now) }
     {
@@ -80,14 +83,19 @@ impl Shard {
     }
 
     /// Adds the entry of a key that has none, by the key's hash. Where memory is refused nothing changes.
-    pub(crate) fn push(&mut self, hash: u32, key: Key, state: Stored) -> Result<(), AllocError>
+    pub(crate) fn push(
+        &mut self,
+        hash: Fingerprint,
+        key: Key,
+        state: Stored,
+    ) -> Result<(), AllocError>
         requires { found_in (Some self.old) key ≡ None }
         ensures entries { OnOk result (self.new.entries ≡ self.old.entries ++ (key, state) ∷ []) }
         ensures hashes { OnOk result (self.new.hashes ≡ self.old.hashes ++ hash ∷ []) }
         ensures unique { IsUnique self.new }
         ensures err { OnErr result (self.new ≡ self.old) }
     {
-        self.index.reserve()?;
+        self.index.reserve(self.slots)?;
         self.keys.reserve()?;
         self.states.reserve()?;
         self.index.push(hash);
@@ -101,5 +109,22 @@ impl Shard {
         ensures { OnOk result (names.new.keys ≡ names.old.keys ++ known_keys self.now.entries) }
     {
         self.keys.list(names)
+    }
+
+    /// The number of the first full block of its keys that wasn't compared with another vnode's.
+    pub(crate) fn uncompared(&self) -> Option<usize> {
+        self.keys.uncompared()
+    }
+
+    /// A full block of its keys by its number, shared.
+    pub(crate) fn key_block(&self, number: usize) -> Option<KeyBlock> {
+        self.keys.block(number)
+    }
+
+    /// Takes the memory of another vnode's block of keys in place of that of its own one of a number, where both are the same.
+    pub(crate) fn share_keys(&mut self, number: usize, block: KeyBlock)
+        ensures { self.new ≡ self.old }
+    {
+        self.keys.share(number, block);
     }
 }

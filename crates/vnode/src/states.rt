@@ -2,25 +2,31 @@
 
 ghost use Rattle.std.specs.Prelude.{◌≡◌};
 ghost use Rattle.std.specs.List.{All};
-ghost use Rattle.vnode.specs.Shards.{IsHashed, folded};
+ghost use Rattle.vnode.specs.Shards.{IsHashed};
 
+use crate::key_blocks::KeyBlock;
 use crate::seed::Seed;
 use crate::shard::Shard;
 use object::{Key, Stored};
+use slots::Fingerprint;
 use std::alloc::{AllocError, Global};
 use std::hash::BuildHasher;
 
-/// In how many shards the states of a vnode lie: to move those of a million keys at once would hold calls up. A million keys leave some thirty
-/// thousand to each, and no growth up to there moves more than 28,672 of them. Each look-up begins at what its shard is made of, a few lines
-/// of memory: of many more shards they don't stay in the caches that are near the processor.
+/// In how many shards the states of a vnode lie: to move those of a million keys at once would hold calls up. A million
+/// keys leave some thirty thousand to each, and a growth moves no others. Each look-up begins at what its shard is made of,
+/// a few lines of memory: of many more shards they don't stay in the caches that are near the processor.
 const SHARDS: usize = 32;
+
+/// With so many slots the index of the first shard begins, and those of the others with up to a quarter more, by which each
+/// grows: so they grow at different numbers of keys.
+const FIRST_SLOTS: usize = 32;
 
 /// Where a key lies, if it has a state: what the key's hash says.
 #[derive(Clone, Copy)]
 pub(crate) struct Spot {
     shard: usize,
-    /// The hash by which the shard finds the key.
-    hash: u32,
+    /// The hash, by whose fingerprint the shard finds the key.
+    hash: u64,
 }
 
 /// Where a state was found: in which shard, and at which place there.
@@ -30,8 +36,15 @@ pub(crate) struct Found {
     place: usize,
 }
 
-/// The state of each key at which something is known. Each lies in the shard that the key's hash picks, and a shard grows on its own: no
-/// growth moves the keys of another.
+/// Where a full block of a vnode's keys lies: in which shard, and which of those there it is.
+#[derive(Clone, Copy)]
+pub struct BlockSpot {
+    shard: usize,
+    number: usize,
+}
+
+/// The state of each key at which something is known. Each lies in the shard that the key's hash picks, and a shard grows
+/// on its own: no growth moves the keys of another.
 #[derive(Drop)]
 pub(crate) struct States {
     alloc: Global,
@@ -62,7 +75,7 @@ impl States {
         }
     }
 
-    /// Where a key lies. The highest bits of its hash pick the shard, which finds it by others: a search begins where the lowest say.
+    /// Where a key lies. The highest bits of its hash pick the shard, which finds it by a fingerprint that depends on all.
     pub(crate) fn spot_of(&self, key: &Key) -> Spot
         ensures spot { result ≡ spot_of self.now key.now }
         ensures within { result.shard < shard_count }
@@ -70,7 +83,7 @@ impl States {
         let hash = self.seed.hash_one(key);
         Spot {
             shard: (hash >> 59) as usize,
-            hash: fold(hash),
+            hash,
         }
     }
 
@@ -80,7 +93,10 @@ impl States {
         ensures found { IfSome result (λ found. LiesAt self.now key.now found) }
         ensures absent { IfNone result (found_at self.now key.now ≡ None) }
     {
-        let place = self.shards.get(spot.shard)?.find(spot.hash, key)?;
+        let place = self
+            .shards
+            .get(spot.shard)?
+            .find(Fingerprint::of(spot.hash), key)?;
         Some(Found {
             shard: spot.shard,
             place,
@@ -101,10 +117,8 @@ impl States {
         ensures key { IfSome result (λ found. found.0.now ≡ key.now) }
         ensures value { option_map (λ found. found.1.now) result ≡ found_at self.now key.now }
     {
-        match self.find(self.spot_of(key), key) {
-            Some(found) => Some(self.entry(found)),
-            None => None,
-        }
+        let found = self.find(self.spot_of(key), key)?;
+        Some(self.entry(found))
     }
 
     /// The state that is kept under a key.
@@ -145,8 +159,9 @@ impl States {
     {
         self.shards
             .reserve_exact(SHARDS.saturating_sub(self.shards.len()))?;
-        for _shard in self.shards.len()..SHARDS {
-            self.shards.push(Shard::new(self.alloc))?;
+        for shard in self.shards.len()..SHARDS {
+            let slots = FIRST_SLOTS + FIRST_SLOTS * shard / (4 * SHARDS);
+            self.shards.push(Shard::new(self.alloc, slots))?;
         }
         Ok(())
     }
@@ -163,13 +178,30 @@ impl States {
         ensures placed { AreInPlace self.old → AreInPlace self.new }
     {
         self.make_shards()?;
-        self.shards[spot.shard].push(spot.hash, key, state)
+        self.shards[spot.shard].push(Fingerprint::of(spot.hash), key, state)
     }
-}
 
-// Both halves of a hash in one.
-fn fold(hash: u64) -> u32
-    ensures { result ≡ folded hash }
-{
-    (hash >> 32) as u32 ^ (hash % (1 << 32)) as u32
+    /// Where the first full block of keys lies that wasn't compared with another vnode's.
+    pub(crate) fn uncompared(&self) -> Option<BlockSpot> {
+        for shard in 0..self.shards.len() {
+            if let Some(number) = self.shards[shard].uncompared() {
+                return Some(BlockSpot { shard, number });
+            }
+        }
+        None
+    }
+
+    /// A full block of keys, shared.
+    pub(crate) fn key_block(&self, at: BlockSpot) -> Option<KeyBlock> {
+        self.shards.get(at.shard)?.key_block(at.number)
+    }
+
+    /// Takes the memory of another vnode's block of keys in place of that of its own one there, where both are the same.
+    pub(crate) fn share_keys(&mut self, at: BlockSpot, block: KeyBlock)
+        ensures { self.new ≡ self.old }
+    {
+        if let Some(shard) = self.shards.get_mut(at.shard) {
+            shard.share_keys(at.number, block);
+        }
+    }
 }

@@ -3,10 +3,11 @@
 ghost use Rattle.std.specs.Prelude.{◌≡◌, ◌≢◌, ◌↔◌, Contains, IsTrue, OnOk, OnErr, IfOk, IfErr, [], false, length, Err, List, ◌+◌, ◌^◌, ◌≤◌, ◌<◌, ◌⊎◌, All};
 
 use crate::fault::{PartFault, VnodeFault};
+use crate::key_blocks::KeyBlock;
 use crate::names::Names;
 use crate::parts::{merged_part_of, part_refusal_at, summary_at};
 use crate::seed::Seed;
-use crate::states::States;
+use crate::states::{BlockSpot, States};
 use crate::steps::{
     Copied, Placed, copies_at, copy_at, has_places_for, is_at, keys_in, listed_in, merge_at,
     merge_refusal_at, merged_of, put_at, put_refusal_at, read_all_at, write_of,
@@ -421,5 +422,23 @@ impl Vnode {
         ensures out { AreHandedOut self.old.entries result.first result.blocks.items }
     {
         self.journal.settle(room)
+    }
+
+    /// Where the first full block of its keys lies that it hasn't compared with another vnode's.
+    pub fn uncompared(&self) -> Option<BlockSpot> {
+        self.states.uncompared()
+    }
+
+    /// A full block of its keys, shared. None where it has none there, or its owners can't be counted further.
+    pub fn key_block(&self, at: BlockSpot) -> Option<KeyBlock> {
+        self.states.key_block(at)
+    }
+
+    /// Takes the memory of another vnode's block of keys in place of that of its own one there, where both have the same
+    /// keys in the same order: so two vnodes of one seed at which the same happened hold their lists of keys once.
+    pub fn share_keys(&mut self, at: BlockSpot, block: KeyBlock)
+        ensures { self.new ≡ self.old }
+    {
+        self.states.share_keys(at, block);
     }
 }

@@ -1,6 +1,5 @@
 use Rattle.std.proofs.Common.{ap, subst, sym, ◌∙◌, List, []}
-use Rattle.slots.specs.declared.probe.Slot.{Slot}
-use Rattle.slots.specs.Slots.{IsValid}
+use Rattle.slots.specs.Slots.{Slot, IsValid}
 use Rattle.slots.proofs.Hashes.{hashes_none, none_valid, view}
 use Rattle.slots.proofs.index.Index.new.Goals as goal
 

@@ -1,6 +1,5 @@
 use Rattle.std.proofs.Common.{◌≡◌, ◌+◌, ◌-◌, ◌/◌, ◌<◌, ℕ, ap, arith, length, drop, take, subst, sym, ◌∙◌, List, [], ◌∷◌, ◌++◌}
-use Rattle.slots.specs.declared.probe.Slot.{Slot}
-use Rattle.slots.specs.Slots.{Indexed, slot_of, Puts, IsValid, hashes_of}
+use Rattle.slots.specs.Slots.{Slot, Indexed, slot_of, Puts, IsValid, hashes_of}
 use Rattle.slots.proofs.Hashes.{push_hashes, push_valid, room_seen, written_back}
 use Rattle.slots.proofs.index.Index.push.Goals as goal
 
@@ -11,7 +10,7 @@ put-requires-clause-free c =
     rw c.as_mut_slice.ensures.value (omega (arith, c.self.invariant.taken))
 
 puts : (c : goal.After-self-2-1) → Puts c.self.inside.slots.items (slot_of c.args.hash c.self.inside.len) c.put.new.slots
-puts c = subst (λ (old : List Slot). Puts old (slot_of c.args.hash c.self.inside.len) c.put.new.slots) c.as_mut_slice.ensures.value c.put.ensures
+puts c = subst (λ (old : List Slot). Puts old (slot_of c.args.hash c.self.inside.len) c.put.new.slots) c.as_mut_slice.ensures.value (subst (λ (slot : Slot). Puts c.as_mut_slice.result.now slot c.put.new.slots) c.new.ensures c.put.ensures)
 
 written : (c : goal.After-self-2-1) → take c.self.inside.slots.len (c.put.new.slots ++ drop (length c.put.new.slots) c.self.inside.slots.items) ≡ c.put.new.slots
 written c = written_back c.self.inside.slots.len c.put.new.slots _ (omega arith)

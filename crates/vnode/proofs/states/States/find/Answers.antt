@@ -10,7 +10,7 @@ returns-in_err-place-clause-absent c =
     let within = lookup.3.0 in
     let len = ap length all in
     if_none c.from_residual-in_err-place.result
-    (none_at c.args.self.now c.args.spot shard c.args.key.now c.requires (omega (arith, within, len)) (lookup.1 ∙ ap (λ xs. get_or xs c.args.spot.shard shard) all) c.in_err-place.ensures.absent)
+    (none_at c.args.self.now c.args.spot shard c.of.result c.args.key.now c.requires (omega (arith, within, len)) (lookup.1 ∙ ap (λ xs. get_or xs c.args.spot.shard shard) all) c.of.ensures c.in_err-place.ensures.absent)
 
 pub returns-clause-found : goal.returns-clause-found
 returns-clause-found c =

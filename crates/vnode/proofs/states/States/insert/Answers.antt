@@ -4,6 +4,7 @@ use Rattle.std.specs.List.{All}
 use Rattle.std.specs.Prelude.{slice_set}
 use Rattle.std.proofs.lemmas.Result.{on_ok_weaker, on_err_weaker}
 use Rattle.object.specs.State.{empty}
+use Rattle.slots.specs.Slots.{folded}
 use Rattle.vnode.specs.Shards.{IsHashed, Shard, short_of}
 use Rattle.vnode.specs.States.{place}
 use Rattle.vnode.specs.declared.states.Spot.{Spot}
@@ -15,8 +16,8 @@ use Rattle.vnode.proofs.states.States.insert.Goals.{After-self-2-1}
 
 pub invariant_of-self : goal.invariant_of-self
 invariant_of-self c = record {
-  hashed = push_all_hashed c.push.result c.make_shards.new.self c.args.spot c.index_mut.result.now c.push.new.self c.args.key c.args.state
-      (ap (λ (s : Spot). s.hash) c.requires.spot ∙ ap (λ seed. short_of seed c.args.key) (sym c.make_shards.ensures.seed)) c.push.ensures.entries c.push.ensures.hashes c.push.ensures.err
+  hashed = push_all_hashed c.push.result c.make_shards.new.self c.args.spot c.index_mut.result.now c.push.new.self c.of.result c.args.key c.args.state
+      (c.of.ensures ∙ ap (λ (s : Spot). folded s.hash) c.requires.spot ∙ ap (λ seed. short_of seed c.args.key) (sym c.make_shards.ensures.seed)) c.push.ensures.entries c.push.ensures.hashes c.push.ensures.err
       (let within = c.requires.within in let all = c.in_ok-make_shards.ensures.all in omega (arith, within, all)) c.index_mut.ensures.value;
 }
 
@@ -26,8 +27,8 @@ within c = let within = c.requires.within in let all = c.in_ok-make_shards.ensur
 
 hashed : (c : After-self-2-1) → All (IsHashed c.make_shards.new.self.seed) (slice_set c.make_shards.new.self.shards.items c.args.spot.shard c.push.new.self)
 hashed c =
-    push_all_hashed c.push.result c.make_shards.new.self c.args.spot c.index_mut.result.now c.push.new.self c.args.key c.args.state
-    (ap (λ (s : Spot). s.hash) c.requires.spot ∙ ap (λ seed. short_of seed c.args.key) (sym c.make_shards.ensures.seed)) c.push.ensures.entries c.push.ensures.hashes c.push.ensures.err
+    push_all_hashed c.push.result c.make_shards.new.self c.args.spot c.index_mut.result.now c.push.new.self c.of.result c.args.key c.args.state
+    (c.of.ensures ∙ ap (λ (s : Spot). folded s.hash) c.requires.spot ∙ ap (λ seed. short_of seed c.args.key) (sym c.make_shards.ensures.seed)) c.push.ensures.entries c.push.ensures.hashes c.push.ensures.err
     (within c) c.index_mut.ensures.value
 
 -- the states with the shard that was pushed to
