@@ -31,6 +31,10 @@ const MOST_BEHIND: usize = 8_192;
 /// So many bytes of contents may.
 const MOST_BYTES_BEHIND: u64 = 33_554_432;
 
+/// So many blocks of keys of a vnode are shared in a turn: more than are filled between two turns, and so few that none
+/// takes long.
+const SHARED_AT_ONCE: usize = 4;
+
 /// Nine tenths of the entries that a vnode can have.
 const NEARLY_FULL: usize = 3_865_470_566;
 
@@ -181,6 +185,28 @@ fn fill_block<B: Room + Spot, R: Wait>(
             }
             Err(_) => break,
         }
+    }
+}
+
+// Has the follower's vnode with an index take the memory of full blocks of keys from the one that it follows, at most four of them.
+fn share_keys_of<B: Room, R: Wait>(
+    rt: &R,
+    cluster: &Cluster<B>,
+    follower: &mut Follower,
+    index: usize,
+)
+    requires cluster { index < cluster.now.vnodes }
+    requires follower { index < length follower.old.followed }
+    ensures { follower.new ≡ follower.old }
+{
+    for _ in 0..SHARED_AT_ONCE {
+        let Some(at) = follower.uncompared(index) else {
+            break;
+        };
+        let Some(block) = cluster.key_block(rt, index, at) else {
+            break;
+        };
+        follower.share_keys(index, at, block);
     }
 }
 
@@ -372,7 +398,17 @@ impl<B: Room + Spot> Watch<B> {
         }
     }
 
-    /// Has each vnode of a cluster hand out its full blocks: [`Watch::hear`] of each, and then [`Watch::rouse`].
+    // The same of each of the follower's vnodes.
+    fn share_keys<R: Wait>(&mut self, rt: &R, cluster: &Cluster<B>)
+        ensures { self.new ≡ self.old }
+    {
+        for index in 0..cluster.count().min(self.follower.count()) {
+            share_keys_of(rt, cluster, &mut self.follower, index);
+        }
+    }
+
+    /// Has each vnode of a cluster hand out its full blocks: [`Watch::hear`] of each, and then [`Watch::rouse`]. Of the
+    /// keys that were followed full blocks are then held once, by the vnode and the follower's.
     pub fn hear_all<R: Wait, A: Alarm>(
         &mut self,
         alloc: Global,
@@ -387,6 +423,7 @@ impl<B: Room + Spot> Watch<B> {
             self.hear(alloc, rt, cluster, index, alarm);
         }
         self.rouse(rt, cluster);
+        self.share_keys(rt, cluster);
     }
 
     /// How many entries of the vnode with an index were followed. None where no such vnode is.

@@ -15,7 +15,7 @@ use journal::Entry;
 use rerun::{Recent, Rerun};
 use std::alloc::{AllocError, Global};
 use std::marker::Model;
-use vnode::Seed;
+use vnode::{BlockSpot, KeyBlock, Seed};
 
 /// An auditor that goes along with vnodes: their journals are handed over in blocks, and happen again in the order of stamps, at
 /// vnodes of its own that settle. What it has followed of all vnodes is one run of the world, as long as it has found no fault. So many of the first
@@ -172,6 +172,22 @@ impl Follower {
         ensures { result ≡ sum_by entry_bytes (waiting_at self.now.waiting index) }
     {
         self.run.waiting[index].bytes()
+    }
+
+    /// Where the first full block of keys of its own vnode with this index lies that wasn't compared with another vnode's.
+    pub fn uncompared(&self, index: usize) -> Option<BlockSpot>
+        requires inside { index < length self.now.followed }
+    {
+        self.run.rerun.uncompared(index)
+    }
+
+    /// Has its own vnode with this index take the memory of another vnode's block of keys in place of its own, where both are the same. The
+    /// vnode that it follows has the same keys in the same order, where both were made by one seed.
+    pub fn share_keys(&mut self, index: usize, at: BlockSpot, block: KeyBlock)
+        requires inside { index < length self.old.followed }
+        ensures same { self.new ≡ self.old }
+    {
+        self.run.rerun.share_keys(index, at, block);
     }
 
     /// Takes the next entries of the vnode with this index, as [`Follower::take`] does.

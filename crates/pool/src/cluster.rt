@@ -16,7 +16,7 @@ use std::alloc::{AllocError, Global};
 use std::hint::spin_loop;
 use std::marker::{Model, PhantomData};
 use std::sync::{Mutex, MutexGuard, Wait};
-use vnode::{Names, Seed, Vnode, VnodeFault, in_order};
+use vnode::{BlockSpot, KeyBlock, Names, Seed, Vnode, VnodeFault, in_order};
 use vnode_locks::{
     CallFault, GatherFault, Locked, Pass, Receipt, Room, deal_passes, deal_vnodes, gathered,
 };
@@ -155,6 +155,15 @@ impl<B: Room> Cluster<B> {
     {
         let mut guard = self.locked(rt, vnode);
         guard.unsorted_keys(&self.stamps, pass, self.first + vnode as u32)
+    }
+}
+
+impl<B: Room> Cluster<B> {
+    /// A full block of a vnode's keys, shared, under its lock. It is no event there.
+    pub fn key_block<R: Wait>(&self, rt: &R, vnode: usize, at: BlockSpot) -> Option<KeyBlock>
+        requires { vnode < self.now.vnodes }
+    {
+        self.locked(rt, vnode).key_block(at)
     }
 }
 

@@ -17,7 +17,7 @@ use Rattle.object.specs.State.{State}
 use Rattle.journal.specs.Keys.{same_key}
 use Rattle.journal.proofs.Keyed.{one_key, same_itself}
 use Rattle.rerun.specs.declared.kept.Recent.{Recent}
-use Rattle.rerun.specs.Kept.{kept_bytes, first_was, was_before, IsOver, IsLeft}
+use Rattle.rerun.specs.Kept.{kept_bytes, first_was, was_before, IsMore, IsOver, IsLeft}
 
 -- ---- ends
 
@@ -106,8 +106,9 @@ drop_one zero xs = refl
 drop_one (suc n) [] = sym (drop-nil (suc n + 1))
 drop_one (suc n) (x ∷ xs) = drop_one n xs ∙ ap (λ (m : ℕ). drop m (x ∷ xs)) (let m : suc (n + 1) ≡ suc n + 1 = omega arith in m)
 
-pub one_gone : (recent : Recent) (before first bytes less : ℕ) (all here rest : List Kept) (k : Kept) → AreGone recent before all first here bytes → IsOver recent here → here ≡ k ∷ rest → less ≡ kept_bytes k → AreGone recent before all (first + 1) rest (bytes - less)
-one_gone recent before first bytes less all here rest k (cut, at, is, over, held) more split weighs = (
+pub one_gone : (recent : Recent) (before first bytes less count : ℕ) (all here rest : List Kept) (k : Kept) → AreGone recent before all first here bytes → count ≡ length here → IsMore recent count bytes
+    → here ≡ k ∷ rest → less ≡ kept_bytes k → AreGone recent before all (first + 1) rest (bytes - less)
+one_gone recent before first bytes less count all here rest k (cut, at, is, over, held) counted many split weighs = (
   cut + 1,
   omega (arith, at),
   ap (drop 1) (sym split) ∙ ap (drop 1) is ∙ drop_one cut all,
@@ -117,6 +118,9 @@ one_gone recent before first bytes less all here rest k (cut, at, is, over, held
   ],
   (let sum : sum_by kept_bytes here ≡ kept_bytes k + sum_by kept_bytes rest = ap (sum_by kept_bytes) split ∙ sum_by-cons kept_bytes k rest in omega (arith, held, sum, weighs)),
 )
+  where
+    more : IsOver recent here
+    more = subst (λ (n : ℕ). IsMore recent n (sum_by kept_bytes here)) counted (subst (λ (b : ℕ). IsMore recent count b) held many)
 
 -- no more than so many bytes are here
 pub few_bytes : (here : List Kept) → sum_by kept_bytes here ≤ length here * 18446744073709551615

@@ -12,7 +12,7 @@ use findings::FollowFault;
 use journal::Entry;
 use std::alloc::{AllocError, Global};
 use std::marker::Model;
-use vnode::Seed;
+use vnode::{BlockSpot, KeyBlock, Seed};
 
 /// Entries of several vnodes that happen again, one after another, at vnodes of its own that settle. As long as it has found no
 /// fault, all that has happened is one run of the world. So many of the first entries of each vnode, its front, may be no part of it: they were there
@@ -125,6 +125,21 @@ impl Rerun {
         ensures limit { result ≤ 2 ^ 32 }
     {
         self.followed.vnodes[index].journal().len()
+    }
+
+    /// Where the first full block of keys of the vnode with this index lies that it hasn't compared with another vnode's.
+    pub fn uncompared(&self, index: usize) -> Option<BlockSpot>
+        requires inside { index < length self.now.logs }
+    {
+        self.followed.vnodes[index].uncompared()
+    }
+
+    /// Has the vnode with this index take the memory of another vnode's block of keys in place of its own, where both are the same.
+    pub fn share_keys(&mut self, index: usize, at: BlockSpot, block: KeyBlock)
+        requires inside { index < length self.old.logs }
+        ensures same { self.new ≡ self.old }
+    {
+        self.followed.vnodes[index].share_keys(at, block);
     }
 
     /// The fault that was found, if any. Where there is none, what has happened is one run of the world.

@@ -13,4 +13,5 @@ mod refusals;
 mod requests;
 mod rounds;
 mod running;
+mod sharing;
 mod watching;

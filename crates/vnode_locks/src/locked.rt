@@ -18,7 +18,7 @@ use journal::{Entry, Handout};
 use stamps::{Asking, Card, Stamps};
 use std::alloc::AllocError;
 use std::marker::{Brand, Model, PhantomData};
-use vnode::{Names, PartFault, Vnode, VnodeFault};
+use vnode::{BlockSpot, KeyBlock, Names, PartFault, Vnode, VnodeFault};
 
 // The vnode's card takes in what the pass knows.
 fn lend(stamps: &Stamps, card: &mut Card, pass: &mut Card)
@@ -231,6 +231,11 @@ impl<B: Room> Locked<B> {
         }
         let _journal = vnode.journal();
         look(stamps, vnode, card, &mut pass.card)
+    }
+
+    /// A full block of this vnode's keys, shared.
+    pub fn key_block(&self, at: BlockSpot) -> Option<KeyBlock> {
+        self.vnode.key_block(at)
     }
 
     /// Hands out the full blocks of the journal of this vnode, which has this identifier, and takes room for the next ones. The pass, which

@@ -12,7 +12,7 @@ use std::test::Fail;
 use vnode::Vnode;
 
 /// Takes all blocks that a vnode handed out.
-fn take_all(follower: &mut Follower, vnode: u32, handout: Handout) -> Result<(), Fail> {
+pub(super) fn take_all(follower: &mut Follower, vnode: u32, handout: Handout) -> Result<(), Fail> {
     let mut first = handout.first;
     for block in handout.blocks {
         let count = block.len();

@@ -9,32 +9,20 @@ use Rattle.rerun.proofs.kept.Answers.give_up.Goals as goal
 pub loop-recent-preserved : goal.loop-recent-preserved
 loop-recent-preserved c =
     let now = c.loop-recent.self-inside in
-    let recent = c.args.recent in
-    let gone = c.loop-recent.invariant in
-    let long : c.len.result ≡ length now.here.items = omega (arith, c.len.ensures, now.here.ok.0) in
-    let over : IsOver recent now.here.items =
-    subst (λ (n : ℕ). IsMore recent n (sum_by kept_bytes now.here.items)) long (subst (λ (b : ℕ). IsMore recent c.len.result b) gone.4 c.loop-recent-test.ensures) in
-    one_gone recent c.self.inside.first now.first now.bytes c.from.result c.self.inside.here.items now.here.items c.pop_front.new.self.items c.in-Some.first gone over c.in-Some.ensures.items (c.from.ensures ∙ c.bytes.ensures)
+    one_gone c.args.recent c.self.inside.first now.first now.bytes c.from.result c.len.result c.self.inside.here.items now.here.items c.pop_front.new.self.items c.in-Some.first c.loop-recent.invariant
+    (omega (arith, c.len.ensures, now.here.ok.0)) c.loop-recent-test.ensures c.in-Some.ensures.items (c.from.ensures ∙ c.bytes.ensures)
 
 pub loop-recent-preserved-in-Some : goal.loop-recent-preserved-in-Some
 loop-recent-preserved-in-Some c =
     let now = c.loop-recent.self-inside in
-    let recent = c.args.recent in
-    let gone = c.loop-recent.invariant in
-    let long : c.len.result ≡ length now.here.items = omega (arith, c.len.ensures, now.here.ok.0) in
-    let over : IsOver recent now.here.items =
-    subst (λ (n : ℕ). IsMore recent n (sum_by kept_bytes now.here.items)) long (subst (λ (b : ℕ). IsMore recent c.len.result b) gone.4 c.loop-recent-test.ensures) in
-    one_gone recent c.self.inside.first now.first now.bytes c.from.result c.self.inside.here.items now.here.items c.pop_front.new.self.items c.in-Some.first gone over c.in-Some.ensures.items (c.from.ensures ∙ c.bytes.ensures)
+    one_gone c.args.recent c.self.inside.first now.first now.bytes c.from.result c.len.result c.self.inside.here.items now.here.items c.pop_front.new.self.items c.in-Some.first c.loop-recent.invariant
+    (omega (arith, c.len.ensures, now.here.ok.0)) c.loop-recent-test.ensures c.in-Some.ensures.items (c.from.ensures ∙ c.bytes.ensures)
 
 pub loop-recent-preserved-in-Some-2 : goal.loop-recent-preserved-in-Some-2
 loop-recent-preserved-in-Some-2 c =
     let now = c.loop-recent.self-inside in
-    let recent = c.args.recent in
-    let gone = c.loop-recent.invariant in
-    let long : c.len.result ≡ length now.here.items = omega (arith, c.len.ensures, now.here.ok.0) in
-    let over : IsOver recent now.here.items =
-    subst (λ (n : ℕ). IsMore recent n (sum_by kept_bytes now.here.items)) long (subst (λ (b : ℕ). IsMore recent c.len.result b) gone.4 c.loop-recent-test.ensures) in
-    one_gone recent c.self.inside.first now.first now.bytes c.from.result c.self.inside.here.items now.here.items c.pop_front.new.self.items c.in-Some.first gone over c.in-Some.ensures.items (c.from.ensures ∙ c.bytes.ensures)
+    one_gone c.args.recent c.self.inside.first now.first now.bytes c.from.result c.len.result c.self.inside.here.items now.here.items c.pop_front.new.self.items c.in-Some.first c.loop-recent.invariant
+    (omega (arith, c.len.ensures, now.here.ok.0)) c.loop-recent-test.ensures c.in-Some.ensures.items (c.from.ensures ∙ c.bytes.ensures)
 
 pub returns : goal.returns
 returns c =
