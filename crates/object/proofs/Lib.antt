@@ -8,3 +8,4 @@ pub mod Told
 pub mod Shown
 pub mod Forms
 pub mod Named
+pub mod Compared

@@ -5,7 +5,7 @@ ghost use Rattle.object.specs.declared.content.Sibling.{Sibling as OneSibling};
 ghost use Rattle.object.specs.Parts.{summary_of, holds, names, contents_in, IsPart};
 
 use crate::content::{Content, Sibling};
-use crate::state::{KeyState, have_same_entries};
+use crate::state::KeyState;
 use dvv::{Clock, Dot};
 use std::alloc::{AllocError, Global};
 use std::marker::Model;
@@ -51,11 +51,11 @@ impl Summary {
     }
 
     /// Whether it is the summary of this state.
+    #[tactic(auto, using(crate::proofs::Compared::same_dots))]
     pub fn is_of(&self, state: &KeyState) -> bool
         ensures { IsTrue result ↔ (self.now ≡ summary_of state.now) }
     {
-        have_same_entries(self.clock.entries(), state.clock().entries())
-            && are_dots_of(&self.dots, state.siblings())
+        self.clock.entries() == state.clock().entries() && are_dots_of(&self.dots, state.siblings())
     }
 }
 
@@ -154,13 +154,9 @@ impl Part {
 pub(crate) fn are_dots_of(dots: &[Dot], siblings: &[Sibling]) -> bool
     ensures { IsTrue result ↔ (dots.now ≡ map (λ (s : OneSibling). s.dot) siblings.now) }
 {
-    if dots.len() != siblings.len() {
-        return false;
-    }
-    for i in 0..dots.len() {
-        if dots[i] != siblings[i].dot {
-            return false;
-        }
-    }
-    true
+    dots.len() == siblings.len()
+        && dots
+            .iter()
+            .zip(siblings)
+            .all(|(dot, sibling)| *dot == sibling.dot)
 }

@@ -172,18 +172,20 @@ impl KeyState {
     }
 
     /// Whether another state has the same dots and the same clock. A merge of either would change nothing in the other then.
+    #[tactic(auto, using(crate::proofs::Compared::same_dots))]
     pub fn has_dots_of(&self, other: &KeyState) -> bool
         ensures { IsTrue result ↔ (summary_of self.now ≡ summary_of other.now) }
     {
-        have_same_entries(self.clock().entries(), other.clock().entries())
+        self.clock().entries() == other.clock().entries()
             && have_same_dots(self.siblings(), other.siblings())
     }
 
     // Whether these are its siblings and the entries of its clock.
+    #[tactic(auto, using(crate::proofs::Compared::same_dots))]
     pub(crate) fn has(&self, siblings: &[Sibling], entries: &[Dot]) -> bool
         ensures { IsTrue result ↔ (record { siblings = siblings.now; clock = entries.now } ≡ self.now) }
     {
-        have_same_entries(entries, self.clock().entries()) && are_same(siblings, self.siblings())
+        entries == self.clock().entries() && are_same(siblings, self.siblings())
     }
 
     /// The dot that a put at a vnode would get, or what it would be refused for, want of memory aside.
@@ -365,49 +367,26 @@ ghost use Rattle.object.specs.Merging.{drops_some};
 ghost use Rattle.object.specs.declared.content.Sibling.{Sibling as OneSibling};
 ghost use Rattle.std.specs.Arc.{arc_value};
 
-// Whether two clocks' entries are the same.
-pub(crate) fn have_same_entries(entries: &[Dot], others: &[Dot]) -> bool
-    ensures { IsTrue result ↔ (entries.now ≡ others.now) }
-{
-    if entries.len() != others.len() {
-        return false;
-    }
-    for i in 0..entries.len() {
-        if entries[i] != others[i] {
-            return false;
-        }
-    }
-    true
-}
-
 // Whether two lists of siblings have the same dots.
 fn have_same_dots(siblings: &[Sibling], others: &[Sibling]) -> bool
     ensures { IsTrue result ↔ (map (λ (s : OneSibling). s.dot) siblings.now ≡ map (λ (s : OneSibling). s.dot) others.now) }
 {
-    if siblings.len() != others.len() {
-        return false;
-    }
-    for i in 0..siblings.len() {
-        if siblings[i].dot != others[i].dot {
-            return false;
-        }
-    }
-    true
+    siblings.len() == others.len()
+        && siblings
+            .iter()
+            .zip(others)
+            .all(|(sibling, other)| sibling.dot == other.dot)
 }
 
 // Whether two lists of siblings are the same.
 fn are_same(siblings: &[Sibling], others: &[Sibling]) -> bool
     ensures { IsTrue result ↔ (siblings.now ≡ others.now) }
 {
-    if siblings.len() != others.len() {
-        return false;
-    }
-    for i in 0..siblings.len() {
-        if !siblings[i].is_same(&others[i]) {
-            return false;
-        }
-    }
-    true
+    siblings.len() == others.len()
+        && siblings
+            .iter()
+            .zip(others)
+            .all(|(sibling, other)| sibling.is_same(other))
 }
 
 // The union of two clocks, for a merge.

@@ -35,6 +35,11 @@ comes_round count from p within =
       )
     ]
 
+-- where a probe stands that began at its hash's home
+pub from_home : (count hash step from at : ℕ) → from ≡ home count hash → at ≡ (from + step) % count → at ≡ probed count hash step
+unfolding probed
+from_home count hash step from at begun is = is ∙ ap (λ x. (x + step) % count) begun
+
 -- a probe comes to each slot
 pub comes_to : (count hash p : ℕ) → p < count → (j : ℕ) × (j < count) × (probed count hash j ≡ p)
 unfolding probed

@@ -1,23 +1,25 @@
 //! How slots are searched: a probe begins where the hash says, and goes from slot to slot, after the last to the
 //! first, as far as one that is free.
 
-ghost use Rattle.std.specs.Prelude.{◌≡◌, ℕ, ◌+◌, ◌<◌, ◌⊎◌, true, false, length, replicate, IfSome, IfNone};
+ghost use Rattle.std.specs.Prelude.{◌≡◌, ℕ, ◌+◌, ◌%◌, ◌<◌, ◌⊎◌, true, false, length, replicate, IfSome, IfNone};
 ghost use Rattle.slots.specs.Slots.{IsSlotCount, free, slot_at, item_at, slot_of, taken, probed, Reaches, AreProbed, Puts, Rehashes};
 
 use crate::slot::{Fingerprint, Slot};
 
-// Where a probe for a hash stands after so many steps.
-fn probed(hash: Fingerprint, step: usize, count: usize) -> usize
+// Where a probe that began at `home` stands after so many steps.
+fn probed(home: usize, step: usize, count: usize) -> usize
     requires count { IsSlotCount count }
+    requires home { home < count }
     requires step { step < count }
-    ensures value { result ≡ probed count hash step }
+    ensures value { result ≡ (home + step) % count }
     ensures within { result < count }
 {
-    let at = hash.home(count) + step;
+    let at = home + step;
     if at < count { at } else { at - count }
 }
 
 /// The place of the first item on the way of a probe that has the hash and of which `is` says so.
+#[tactic(auto, using(crate::proofs::Probing::from_home))]
 pub(crate) fn find_place<F: Fn(usize) -> bool>(
     slots: &[Slot],
     hash: Fingerprint,
@@ -28,8 +30,9 @@ pub(crate) fn find_place<F: Fn(usize) -> bool>(
     ensures found { IfSome result (λ i. (p : ℕ) × (slot_at slots.now p ≡ slot_of hash i) × F.post is i true) }
     ensures absent { IfNone result ((p i : ℕ) → slot_at slots.now p ≡ slot_of hash i → Reaches slots.now hash p → F.post is i false) }
 {
+    let home = hash.home(slots.len());
     for step in 0..slots.len() {
-        let slot = slots[probed(hash, step, slots.len())];
+        let slot = slots[probed(home, step, slots.len())];
         if slot.item() == 0 {
             return None;
         }
@@ -42,6 +45,7 @@ pub(crate) fn find_place<F: Fn(usize) -> bool>(
 }
 
 // Where a probe for a hash comes to the first free slot.
+#[tactic(auto, using(crate::proofs::Probing::from_home))]
 fn first_free(slots: &[Slot], hash: Fingerprint) -> usize
     requires count { IsSlotCount (length slots.now) }
     requires free { taken slots.now < length slots.now }
@@ -49,8 +53,9 @@ fn first_free(slots: &[Slot], hash: Fingerprint) -> usize
     ensures free { item_at slots.now result ≡ 0 }
     ensures reached { Reaches slots.now hash result }
 {
+    let home = hash.home(slots.len());
     for step in 0..slots.len() {
-        let at = probed(hash, step, slots.len());
+        let at = probed(home, step, slots.len());
         if slots[at].item() == 0 {
             return at;
         }

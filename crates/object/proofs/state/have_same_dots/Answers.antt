@@ -1,16 +1,15 @@
-use Rattle.std.proofs.Common.{◌≡◌, ◌∙◌, ◌<◌, ℕ, List, length, map, get_or, ap, sym, rules}
-use Rattle.std.proofs.lemmas.List.{get_or-map}
+use Rattle.std.proofs.Common.{◌∙◌, sym, rules, tests}
+use Rattle.std.proofs.lemmas.List.{length-map}
+use Rattle.std.proofs.lemmas.Iterator.{YieldsList-from_slice, YieldsList-from_zip, same_from_all}
 use Rattle.dvv.specs.declared.Dot.{Dot}
 use Rattle.object.specs.declared.content.Sibling.{Sibling}
+use Rattle.object.proofs.Compared.{YieldsList-said}
 use Rattle.object.proofs.state.have_same_dots.Goals as goal
 
--- siblings of the same dots have the same dot at each place
-same_dot_at : (xs ys : List Sibling) (i : ℕ) (x y : Sibling) → i < length xs → i < length ys → map (λ (s : Sibling). s.dot) xs ≡ map (λ (s : Sibling). s.dot) ys → (get_or xs i x).dot ≡ (get_or ys i y).dot
-same_dot_at xs ys i x y lt lt' same =
-    sym (get_or-map (λ (s : Sibling). s.dot) xs i x x.dot lt) ∙ ap (λ (dots : List Dot). get_or dots i x.dot) same ∙ get_or-map (λ (s : Sibling). s.dot) ys i y x.dot lt'
-
-pub returns-then-ne : goal.returns-then-ne
-returns-then-ne c = (
-  λ t. absurd (cc),
-  λ same. let alike = same_dot_at c.args.siblings.now c.args.others.now c.loop-i.i c.index-siblings-i.result c.index-others-i.result (search rules) (search rules) same in search rules,
-)
+pub returns-then-siblings-others : goal.returns-then-siblings-others
+returns-then-siblings-others c =
+    let dot : Sibling → Dot = λ s. s.dot in
+    let siblings = c.args.siblings.now in
+    let others = c.args.others.now in
+    let long = length-map siblings dot ∙ c.if-siblings-others.true ∙ sym (length-map others dot) in
+    same_from_all c.all.new.self _ _ _ _ c.all.ensures.ran (YieldsList-from_zip (YieldsList-said dot (YieldsList-from_slice siblings cc)) (YieldsList-said dot (YieldsList-from_slice others cc))) long (λ x q k. search (rules, tests)) (λ x q k. search (rules, tests))
