@@ -12,6 +12,10 @@ hashed bucket key = to_be_bytes w32 (length bucket) ++ bucket ++ key
 abbrev pub place_of : List ℕ → List ℕ → ℕ → ℕ
 place_of bucket key vnodes = from_be_bytes w64 (take 8 (sha1 (hashed bucket key))) % vnodes
 
+-- the place of a key on a ring of three vnodes
+abbrev pub ring_place : List ℕ → List ℕ → ℕ
+ring_place bucket key = place_of bucket key 3
+
 -- how many vnodes there are, and where every key's place is set to one, that
 pub record PlacementView : Type 0 where
   pub vnodes : ℕ

@@ -1,6 +1,6 @@
 //! Where keys stand among the vnodes of a store.
 
-ghost use Rattle.std.specs.Prelude.{◌≡◌, ◌<◌, ◌^◌, length, None, Some};
+ghost use Rattle.std.specs.Prelude.{◌≡◌, ◌↔◌, ◌<◌, ◌^◌, length, IsTrue, None, Some};
 ghost use Rattle.place.specs.Places.{place_in};
 
 use crate::place;
@@ -53,6 +53,13 @@ impl Placement {
         ensures some { 0 < result }
     {
         self.vnodes
+    }
+
+    /// Whether there are three vnodes, and each key at the place among them that its digest gives.
+    pub fn is_ring_of_three(&self) -> bool
+        ensures { IsTrue result ↔ (self.now ≡ record { vnodes = 3; first = None }) }
+    {
+        self.vnodes == 3 && self.first.is_none()
     }
 
     /// The place of a key: the vnode at which its preference list begins. It takes no memory.

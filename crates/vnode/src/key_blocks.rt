@@ -21,6 +21,13 @@ pub struct KeyBlock {
     keys: Arc<Vec<Key>>,
 }
 
+impl KeyBlock {
+    /// How many hold the memory of its keys: this, the vnode, and whoever else shares it.
+    pub fn owners(&self) -> usize {
+        Arc::strong_count(&self.keys)
+    }
+}
+
 /// Keys, in the order in which they came. They lie in blocks, and a list of the keys shares those that are full.
 #[derive(Drop)]
 pub(crate) struct KeyBlocks {

@@ -3,10 +3,12 @@
 ghost use Rattle.std.specs.Prelude.{◌≡◌, ◌<◌, ◌++◌, ◌∷◌, [], IfSome, IfNone, None, Some, OnOk, OnErr, length, slice_get, slice_set};
 ghost use Rattle.object.specs.declared.content.Key.{Key};
 ghost use Rattle.object.specs.State.{State};
+ghost use Rattle.place.specs.Places.{ring_place};
 ghost use Rattle.vnode.specs.Shards.{IsEntry, IsUnique, LacksHashed, found_in, known_keys};
 
 use crate::key_blocks::{KeyBlock, KeyBlocks};
 use crate::names::Names;
+use crate::ring_places::RingPlaces;
 use crate::state_blocks::StateBlocks;
 use object::{Key, Stored};
 use slots::{Fingerprint, Index};
@@ -20,19 +22,21 @@ pub(crate) struct Shard {
     index: Index,
     keys: KeyBlocks,
     states: StateBlocks,
+    ring_places: RingPlaces,
     /// With how many slots the index begins.
     slots: usize,
 }
 
 impl Model for Shard {
     ghost use Rattle.std.specs.List.{zip};
+    ghost use Rattle.vnode.specs.RingPlaces.{AreOf};
     ghost use Rattle.vnode.specs.Shards.{AreEntries, Shard};
 
     ghost Value = { Shard };
 
     ghost view = { λ s. record { hashes = s.index.hashes; entries = zip s.keys.keys s.states.states } };
 
-    ghost invariant = { λ s. AreEntries s.index.hashes s.keys.keys s.states.states };
+    ghost invariant = { λ s. AreEntries s.index.hashes s.keys.keys s.states.states × AreOf s.ring_places s.keys.keys };
 }
 
 impl Shard {
@@ -44,6 +48,7 @@ impl Shard {
             index: Index::new(alloc),
             keys: KeyBlocks::new(alloc),
             states: StateBlocks::new(alloc),
+            ring_places: RingPlaces::new(alloc),
             slots,
         }
     }
@@ -102,6 +107,23 @@ impl Shard {
         self.keys.append(key);
         self.states.append(state);
         Ok(())
+    }
+
+    /// The place on a ring of three vnodes of the key of an entry, where it was told.
+    pub(crate) fn ring_place(&self, i: usize) -> Option<u32>
+        ensures { IfSome result (λ told. (k : Key) (v : State) → slice_get self.now.entries i ≡ Some (k, v) → told ≡ ring_place k.bucket k.key) }
+    {
+        self.ring_places.get(i)
+    }
+
+    /// Keeps that place, if there is memory.
+    pub(crate) fn learn_ring_place(&mut self, i: usize, told: u32)
+        requires within { i < length self.old.entries }
+        requires place { (k : Key) (v : State) → slice_get self.old.entries i ≡ Some (k, v) → told ≡ ring_place k.bucket k.key }
+        ensures { self.new ≡ self.old }
+    {
+        let count = self.len();
+        self.ring_places.learn(i, count, told);
     }
 
     /// Adds the keys to a list of the vnode's.

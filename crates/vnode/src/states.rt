@@ -2,6 +2,7 @@
 
 ghost use Rattle.std.specs.Prelude.{◌≡◌};
 ghost use Rattle.std.specs.List.{All};
+ghost use Rattle.place.specs.Places.{ring_place};
 ghost use Rattle.vnode.specs.Shards.{IsHashed};
 
 use crate::key_blocks::KeyBlock;
@@ -179,6 +180,24 @@ impl States {
     {
         self.make_shards()?;
         self.shards[spot.shard].push(Fingerprint::of(spot.hash), key, state)
+    }
+
+    /// The place of a key on a ring of three vnodes, where it was told.
+    pub(crate) fn ring_place(&self, key: &Key) -> Option<u32>
+        ensures { IfSome result (λ told. told ≡ ring_place key.now.bucket key.now.key) }
+    {
+        let found = self.find(self.spot_of(key), key)?;
+        self.shards[found.shard].ring_place(found.place)
+    }
+
+    /// Keeps that place, where the key has a state and there is memory.
+    pub(crate) fn learn_ring_place(&mut self, key: &Key, told: u32)
+        requires { told ≡ ring_place key.now.bucket key.now.key }
+        ensures { self.new ≡ self.old }
+    {
+        if let Some(found) = self.find(self.spot_of(key), key) {
+            self.shards[found.shard].learn_ring_place(found.place, told);
+        }
     }
 
     /// Where the first full block of keys lies that wasn't compared with another vnode's.

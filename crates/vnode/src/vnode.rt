@@ -1,6 +1,7 @@
 //! A vnode: what its journal says happened.
 
-ghost use Rattle.std.specs.Prelude.{◌≡◌, ◌≢◌, ◌↔◌, Contains, IsTrue, OnOk, OnErr, IfOk, IfErr, [], false, length, Err, List, ◌+◌, ◌^◌, ◌≤◌, ◌<◌, ◌⊎◌, All};
+ghost use Rattle.place.specs.Places.{ring_place};
+ghost use Rattle.std.specs.Prelude.{◌≡◌, ◌≢◌, ◌↔◌, Contains, IsTrue, OnOk, OnErr, IfOk, IfErr, IfSome, [], false, length, Err, List, ◌+◌, ◌^◌, ◌≤◌, ◌<◌, ◌⊎◌, All};
 
 use crate::fault::{PartFault, VnodeFault};
 use crate::key_blocks::KeyBlock;
@@ -422,6 +423,22 @@ impl Vnode {
         ensures out { AreHandedOut self.old.entries result.first result.blocks.items }
     {
         self.journal.settle(room)
+    }
+
+    /// The place of a key on a ring of three vnodes, where [`Vnode::learn_ring_place`] was told it. It is no event.
+    pub fn ring_place(&self, key: &Key) -> Option<u32>
+        ensures { IfSome result (λ told. told ≡ ring_place key.now.bucket key.now.key) }
+    {
+        self.states.ring_place(key)
+    }
+
+    /// Keeps the place of a key on a ring of three vnodes, where it has a state of the key and there is memory, so that who
+    /// asks for it needs no digest. It is no event.
+    pub fn learn_ring_place(&mut self, key: &Key, told: u32)
+        requires { told ≡ ring_place key.now.bucket key.now.key }
+        ensures { self.new ≡ self.old }
+    {
+        self.states.learn_ring_place(key, told);
     }
 
     /// Where the first full block of its keys lies that it hasn't compared with another vnode's.

@@ -6,13 +6,13 @@ use Rattle.vnode.proofs.shard.Shard.entry.Goals as goal
 
 pub get-requires : goal.get-requires
 get-requires c =
-    subst (λ n. c.args.i < n) (length-entries c.self.inside.keys.keys c.self.inside.states.states c.self.invariant.each_stated) (subst (λ (s : Shard). c.args.i < length s.entries) (sym c.self.view_is) c.requires)
+    subst (λ n. c.args.i < n) (length-entries c.self.inside.keys.keys c.self.inside.states.states c.self.invariant.0.each_stated) (subst (λ (s : Shard). c.args.i < length s.entries) (sym c.self.view_is) c.requires)
 
 pub get-requires-2 : goal.get-requires-2
 get-requires-2 c =
     let within = subst (λ (s : Shard). c.args.i < length s.entries) (sym c.self.view_is) c.requires in
-    let count = length-entries c.self.inside.keys.keys c.self.inside.states.states c.self.invariant.each_stated in
-    let stated = c.self.invariant.each_stated in omega (arith, within, count, stated)
+    let count = length-entries c.self.inside.keys.keys c.self.inside.states.states c.self.invariant.0.each_stated in
+    let stated = c.self.invariant.0.each_stated in omega (arith, within, count, stated)
 
 pub returns : goal.returns
 returns c =

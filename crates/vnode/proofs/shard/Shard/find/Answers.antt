@@ -15,7 +15,7 @@ returns-clause-found c =
     let answered = found.2 in
     let equal : true ≡ key_eq (get_or c.self.inside.keys.keys i c.args.key.now) c.args.key.now = search (of_calls, answered) in
     subst (λ (s : Shard). (v : State) × IsEntry s i c.args.key.now v) c.self.view_is
-    (found_entry c.self.inside.index.hashes c.self.inside.keys.keys c.self.inside.states.states i c.args.key.now c.self.invariant found.0 equal))
+    (found_entry c.self.inside.index.hashes c.self.inside.keys.keys c.self.inside.states.states i c.args.key.now c.self.invariant.0 found.0 equal))
 
 pub returns-clause-absent : goal.returns-clause-absent
 returns-clause-absent c =

@@ -5,4 +5,4 @@ use Rattle.vnode.proofs.shard.Shard.len.Goals as goal
 
 pub returns : goal.returns
 returns c =
-    c.len.ensures ∙ c.self.invariant.each_hashed ∙ sym (length-entries c.self.inside.keys.keys c.self.inside.states.states c.self.invariant.each_stated) ∙ ap (λ (s : Shard). length s.entries) c.self.view_is
+    c.len.ensures ∙ c.self.invariant.0.each_hashed ∙ sym (length-entries c.self.inside.keys.keys c.self.inside.states.states c.self.invariant.0.each_stated) ∙ ap (λ (s : Shard). length s.entries) c.self.view_is

@@ -7,5 +7,5 @@ use Rattle.vnode.proofs.shard.Shard.list_keys.Goals as goal
 pub returns : goal.returns
 returns c =
     on_ok_weaker c.list.result
-    (λ listed. listed ∙ ap (λ ks. c.args.names.now.keys ++ ks) (sym (known-zip c.self.inside.keys.keys c.self.inside.states.states c.self.invariant.each_stated) ∙ ap (λ (s : Shard). known_keys s.entries) c.self.view_is))
+    (λ listed. listed ∙ ap (λ ks. c.args.names.now.keys ++ ks) (sym (known-zip c.self.inside.keys.keys c.self.inside.states.states c.self.invariant.0.each_stated) ∙ ap (λ (s : Shard). known_keys s.entries) c.self.view_is))
     c.list.ensures

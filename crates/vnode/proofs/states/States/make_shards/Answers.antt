@@ -1,9 +1,21 @@
-use Rattle.std.proofs.Common.{[], ◌∷◌, ◌∙◌, ap, length, length-append, refl, sym, subst, arith}
+use Rattle.std.proofs.Common.{◌≡◌, Bool, true, false, cond, List, [], ◌∷◌, ◌++◌, ◌∙◌, ap, length, length-append, refl, sym, subst, arith}
 use Rattle.std.specs.List.{All}
 use Rattle.std.proofs.lemmas.List.Elements.{All-push}
 use Rattle.vnode.specs.Shards.{IsHashed, Shard}
 use Rattle.vnode.proofs.Mapped.{added_same, added_placed, unchanged_placed}
 use Rattle.vnode.proofs.states.States.make_shards.Goals as goal
+
+-- what all have, they have with one more that has it or without
+all_if : {X : Type 0} (P : X → Type 0) (b : Bool) (xs new : List X) (x : X) → new ≡ cond b (xs ++ x ∷ []) xs → All P xs → P x → All P new
+all_if P true xs new x is each one = subst (All P) (sym is) (All-push P xs x each one)
+all_if P false xs new x is each one = subst (All P) (sym is) each
+
+pub invariant_of-self-in-loop-shard : goal.invariant_of-self-in-loop-shard
+invariant_of-self-in-loop-shard c =
+    let seed = c.loop-shard.self.seed in
+    record {
+      hashed = all_if (IsHashed seed) _ c.loop-shard.self.shards.items c.push.new.self.items c.new.result c.push.ensures.items c.loop-shard.self.hashed (subst (IsHashed seed) (sym c.new.ensures) refl);
+    }
 
 pub loop-shard-preserved : goal.loop-shard-preserved
 loop-shard-preserved c =
