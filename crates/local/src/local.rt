@@ -408,6 +408,13 @@ impl Peers for Local {
         self.hand_back(false, back)
     }
 
+    // These vnodes are told no places.
+    fn ring_place(&self, _key: &Key) -> Option<u32> {
+        None
+    }
+
+    fn learn_ring_place(&self, _key: &Key, _told: u32) {}
+
     fn failures(&self) -> u64 {
         self.failures
     }

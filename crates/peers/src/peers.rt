@@ -1,6 +1,7 @@
 //! The vnodes, as whoever reaches them: calls, and what came back.
 
-ghost use Rattle.std.specs.Prelude.{◌≡◌, ℕ};
+ghost use Rattle.std.specs.Prelude.{◌≡◌, ℕ, IfSome};
+ghost use Rattle.place.specs.Places.{ring_place};
 
 use crate::fault::PeerFault;
 use dvv::{Clock, Dot};
@@ -96,6 +97,15 @@ pub trait Peers {
     /// The keys of a vnode whose clock isn't empty, in the order of bytes. It is no event there.
     fn keys_of(&mut self, i: usize) -> Result<Vec<Key>, PeerFault>
         ensures { happens self.old (KeysOf i result) self.new };
+
+    /// The place of a key on a ring of three vnodes, where one of these vnodes was told it. It is no event there.
+    fn ring_place(&self, key: &Key) -> Option<u32>
+        ensures { IfSome result (λ told. told ≡ ring_place key.now.bucket key.now.key) };
+
+    /// Tells the place of a key on a ring of three vnodes, so that who asks for it needs no digest. It is no event, and may come to
+    /// nothing.
+    fn learn_ring_place(&self, key: &Key, told: u32)
+        requires { told ≡ ring_place key.now.bucket key.now.key };
 
     /// How many calls were lost or refused.
     fn failures(&self) -> u64

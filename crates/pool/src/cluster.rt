@@ -1,6 +1,7 @@
 //! The vnodes under their locks, and the word from which stamps are drawn.
 ghost use Rattle.std.specs.Prelude.{◌≡◌, ℕ, ◌+◌, ◌<◌, ◌≤◌, ◌^◌, [], map, IfOk, IfErr, IfSome, IfNone, OnOk, vec_len};
 ghost use Rattle.std.specs.List.{flat_map, All, Contains};
+ghost use Rattle.place.specs.Places.{ring_place};
 ghost use Rattle.calls.specs.Answered.{asked};
 ghost use Rattle.stamps.specs.declared.view.Told.{Told};
 ghost use Rattle.stamps.specs.Rule.{newcomer, times, call_of};
@@ -164,6 +165,34 @@ impl<B: Room> Cluster<B> {
         requires { vnode < self.now.vnodes }
     {
         self.locked(rt, vnode).key_block(at)
+    }
+}
+
+impl<B: Room> Cluster<B> {
+    // Which vnode is told the ring place of a key: one, whom all threads ask, and each of them of a part of the keys.
+    fn told_of(&self, key: &Key) -> Option<usize>
+        ensures { IfSome result (λ vnode. vnode < self.now.vnodes) }
+    {
+        let last = key.key().last().copied().unwrap_or(0);
+        usize::from(last).checked_rem(self.count())
+    }
+
+    /// The place of a key on a ring of three vnodes, where a vnode was told it, under that one's lock. It is no event there.
+    pub fn ring_place<R: Wait>(&self, rt: &R, key: &Key) -> Option<u32>
+        ensures { IfSome result (λ told. told ≡ ring_place key.now.bucket key.now.key) }
+    {
+        let vnode = self.told_of(key)?;
+        self.locked(rt, vnode).ring_place(key)
+    }
+
+    /// Tells a vnode the place of a key on a ring of three vnodes, under its lock. It is no event there, and comes to nothing where the
+    /// vnode has no state of the key or there is no memory.
+    pub fn learn_ring_place<R: Wait>(&self, rt: &R, key: &Key, told: u32)
+        requires { told ≡ ring_place key.now.bucket key.now.key }
+    {
+        if let Some(vnode) = self.told_of(key) {
+            self.locked(rt, vnode).learn_ring_place(key, told);
+        }
     }
 }
 

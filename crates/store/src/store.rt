@@ -1,9 +1,9 @@
 //! The store, and the calls on its keys.
 
-ghost use Rattle.std.specs.Prelude.{◌≡◌, ◌<◌, ◌≤◌, ℕ, nat_lt};
+ghost use Rattle.std.specs.Prelude.{◌≡◌, ◌<◌, ◌≤◌, ℕ, IsTrue, nat_lt};
 ghost use Rattle.std.specs.List.{list_any};
 ghost use Rattle.object.specs.Limits.{IsKey};
-ghost use Rattle.place.specs.Places.{copies_of, place_in};
+ghost use Rattle.place.specs.Places.{copies_of, place_in, ring_place};
 ghost use Rattle.store.specs.Calls.{Gets, Puts};
 ghost use Rattle.store.specs.Noting.{of_read};
 ghost use Rattle.store.specs.View.{shown};
@@ -90,15 +90,6 @@ impl<P, H> Store<P, H> {
     {
         place::copies(self.placement.vnodes())
     }
-
-    // The vnode at which a key's preference list begins.
-    fn place_of(&self, key: &Key) -> u32
-        requires { IsKey key.now }
-        ensures place { result ≡ place_in self.now.placement key.now.bucket key.now.key }
-        ensures within { result < self.now.placement.vnodes }
-    {
-        self.placement.place_of(key.bucket(), key.key())
-    }
 }
 
 // Whether one of its kind came.
@@ -106,6 +97,46 @@ fn has_come(note: &Note) -> bool
     ensures { result ≡ nat_lt 0 note.now.count }
 {
     note.count > 0
+}
+
+// The vnode at which a key's preference list begins, and whether the vnodes are to be told it.
+#[derive(Clone, Copy)]
+struct Stand {
+    place: u32,
+    is_untold: bool,
+}
+
+impl<P: Peers, H> Store<P, H> {
+    // Where a key stands. Vnodes on a ring of three may have been told, and else its digest says it.
+    fn stand_of(&self, key: &Key) -> Stand
+        requires { IsKey key.now }
+        ensures place { result.place ≡ place_in self.now.placement key.now.bucket key.now.key }
+        ensures within { result.place < self.now.placement.vnodes }
+        ensures untold { IsTrue result.is_untold → result.place ≡ ring_place key.now.bucket key.now.key }
+    {
+        let is_ring = self.placement.is_ring_of_three();
+        if is_ring {
+            if let Some(place) = self.peers.ring_place(key) {
+                return Stand {
+                    place,
+                    is_untold: false,
+                };
+            }
+        }
+        Stand {
+            place: self.placement.place_of(key.bucket(), key.key()),
+            is_untold: is_ring,
+        }
+    }
+
+    // Tells the vnodes where a key stands that they hold, where none of them knew.
+    fn tell_stand(&self, key: &Key, stand: Stand)
+        requires { IsTrue stand.is_untold → stand.place ≡ ring_place key.now.bucket key.now.key }
+    {
+        if stand.is_untold {
+            self.peers.learn_ring_place(key, stand.place);
+        }
+    }
 }
 
 impl<P: Peers, H: Hooks> Store<P, H> {
@@ -131,9 +162,9 @@ impl<P: Peers, H: Hooks> Store<P, H> {
         ensures noted { self.new.noted.kinds ≡ noted_of self.old.noted.kinds (of_read result.answer result.cut result.unfit) key.now.bucket }
     {
         let vnodes = self.placement.vnodes();
-        let place = self.place_of(key);
-        let list = preferred(place, vnodes);
-        let coordinator = vnode_at(place, at, vnodes);
+        let stand = self.stand_of(key);
+        let list = preferred(stand.place, vnodes);
+        let coordinator = vnode_at(stand.place, at, vnodes);
         let read = quorum::get(
             self.alloc,
             &mut self.peers,
@@ -141,6 +172,7 @@ impl<P: Peers, H: Hooks> Store<P, H> {
             list.as_slice(),
             r as usize,
         );
+        self.tell_stand(key, stand);
         match read {
             Ok((got, answers)) => {
                 repair::repair(&mut self.peers, key, &answers);
@@ -188,18 +220,19 @@ impl<P: Peers, H: Hooks> Store<P, H> {
         ensures { Puts P.happens H.finds (shown self.old.peers self.old.hooking.hooks self.old.hooking.table.listed self.old.placement self.old.noted.kinds) key.now seen.now content.now w at result (shown self.new.peers self.new.hooking.hooks self.new.hooking.table.listed self.new.placement self.new.noted.kinds) }
     {
         let vnodes = self.placement.vnodes();
-        let place = self.place_of(key);
-        let others = others(place, at, vnodes);
+        let stand = self.stand_of(key);
+        let others = others(stand.place, at, vnodes);
         let back = quorum::put(
             &mut self.peers,
             &mut self.hooking,
-            vnode_at(place, at, vnodes),
+            vnode_at(stand.place, at, vnodes),
             others.as_slice(),
             key,
             seen,
             content,
             w as usize,
         );
+        self.tell_stand(key, stand);
         self.noted.note(of_put(&back), key.bucket());
         back
     }

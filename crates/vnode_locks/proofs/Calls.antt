@@ -4,8 +4,6 @@ use Rattle.std.proofs.lemmas.List.{append-nil}
 use Rattle.journal.specs.Entry.{Entry}
 use Rattle.journal.specs.Logs.{Log}
 use Rattle.journal.specs.Journals.{IsJournal}
-use Rattle.object.specs.declared.content.Key.{Key}
-use Rattle.std.specs.Global.{Vec}
 use Rattle.std.specs.Prelude.{IfOk}
 use Rattle.vnode.specs.Keys.{AreUnsorted}
 use Rattle.vnode.specs.Names.{Listed}

@@ -1,12 +1,13 @@
 //! A vnode under a lock, beside what its seat of the stamp word knows.
 
-ghost use Rattle.std.specs.Prelude.{◌≡◌, ◌+◌, ◌*◌, ◌<◌, ◌≤◌, ◌^◌, [], ◌∷◌, ◌++◌, length, IfOk, IfErr, IfSome, IfNone, OnOk, IsTrue, ◌↔◌, Err, false, vec_len};
+ghost use Rattle.std.specs.Prelude.{◌≡◌, ◌+◌, ◌*◌, ◌<◌, ◌≤◌, ◌^◌, [], ◌∷◌, ◌++◌, length, IfOk, IfErr, IfSome, IfNone, OnOk, Err, false, vec_len};
 ghost use Rattle.stamps.specs.Rule.{together, nothing, without_pass, pass_of, stamps_each, IsWithin, call_of, hand_out_of};
 ghost use Rattle.std.specs.Prelude.{List};
 ghost use Rattle.journal.specs.Blocks.{AreHandedOut, all_of};
 ghost use Rattle.journal.specs.Entry.{Entry as Entered};
 ghost use Rattle.journal.specs.Journals.{IsJournal};
 ghost use Rattle.vnode.specs.Keys.{AreUnsorted};
+ghost use Rattle.place.specs.Places.{ring_place};
 ghost use Rattle.calls.specs.Answered.{asked};
 ghost use Rattle.vnode_locks.specs.Answers.{IsVnodes, wants_memory, lacks_memory, log_of};
 ghost use Rattle.vnode_locks.specs.Calls.{pass_view, told_then, IsTold, IsNews, IsFault, IsHandedOut, outcome_ok};
@@ -15,6 +16,7 @@ use crate::fault::{CallFault, Receipt};
 use crate::pass::{Pass, Room};
 use calls::{Prepared, Reply, answer};
 use journal::{Entry, Handout};
+use object::Key;
 use stamps::{Asking, Card, Stamps};
 use std::alloc::AllocError;
 use std::marker::{Brand, Model, PhantomData};
@@ -236,6 +238,21 @@ impl<B: Room> Locked<B> {
     /// A full block of this vnode's keys, shared.
     pub fn key_block(&self, at: BlockSpot) -> Option<KeyBlock> {
         self.vnode.key_block(at)
+    }
+
+    /// The place of a key on a ring of three vnodes, where this one was told it.
+    pub fn ring_place(&self, key: &Key) -> Option<u32>
+        ensures { IfSome result (λ told. told ≡ ring_place key.now.bucket key.now.key) }
+    {
+        self.vnode.ring_place(key)
+    }
+
+    /// Keeps the place of a key on a ring of three vnodes, where this one has a state of it and there is memory.
+    pub fn learn_ring_place(&mut self, key: &Key, told: u32)
+        requires { told ≡ ring_place key.now.bucket key.now.key }
+        ensures { self.new ≡ self.old }
+    {
+        self.vnode.learn_ring_place(key, told);
     }
 
     /// Hands out the full blocks of the journal of this vnode, which has this identifier, and takes room for the next ones. The pass, which

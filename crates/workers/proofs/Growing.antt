@@ -12,10 +12,9 @@ use Rattle.stamps.specs.declared.view.Size.{Size}
 use Rattle.stamps.specs.declared.view.Told.{Told}
 use Rattle.stamps.specs.declared.view.View.{View}
 use Rattle.vnode_locks.specs.Answers.{is_want_of_memory}
-use Rattle.vnode_locks.specs.Calls.{IsFault, IsNews, IsRefusal}
+use Rattle.vnode_locks.specs.Calls.{IsFault, IsNews}
 use Rattle.vnode_locks.specs.declared.fault.CallFault.{CallFault}
 use Rattle.vnode_locks.specs.declared.fault.CallFault.TheVariants as fault
-use Rattle.vnode.specs.declared.fault.PartFault.{PartFault}
 use Rattle.workers.specs.Peering.{IsNoReply, Passes}
 
 -- what was told is what was told before, and more

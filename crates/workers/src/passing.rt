@@ -341,6 +341,14 @@ impl<'a, B: Room, R: Wait, G: Gate> Peers for PassPeers<'a, B, R, G> {
         back
     }
 
+    fn ring_place(&self, key: &Key) -> Option<u32> {
+        self.cluster.ring_place(self.rt, key)
+    }
+
+    fn learn_ring_place(&self, key: &Key, told: u32) {
+        self.cluster.learn_ring_place(self.rt, key, told);
+    }
+
     fn failures(&self) -> u64 {
         self.failures
     }

@@ -136,6 +136,14 @@ impl<B: Room, R: Wait> Peers for HeldPeers<'_, B, R> {
         back
     }
 
+    fn ring_place(&self, key: &Key) -> Option<u32> {
+        self.cluster.ring_place(self.rt, key)
+    }
+
+    fn learn_ring_place(&self, key: &Key, told: u32) {
+        self.cluster.learn_ring_place(self.rt, key, told);
+    }
+
     fn failures(&self) -> u64 {
         self.failures
     }

@@ -83,6 +83,14 @@ impl Peers for Watched {
         self.local.keys_of(i)
     }
 
+    fn ring_place(&self, key: &Key) -> Option<u32> {
+        self.local.ring_place(key)
+    }
+
+    fn learn_ring_place(&self, key: &Key, told: u32) {
+        self.local.learn_ring_place(key, told);
+    }
+
     fn failures(&self) -> u64 {
         self.local.failures()
     }
