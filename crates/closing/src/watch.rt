@@ -398,7 +398,7 @@ impl<B: Room + Spot> Watch<B> {
         }
     }
 
-    // The same of each of the follower's vnodes.
+    // Has each of the follower's vnodes take the memory of full blocks of keys from the one that it follows, at most four of them.
     fn share_keys<R: Wait>(&mut self, rt: &R, cluster: &Cluster<B>)
         ensures { self.new ≡ self.old }
     {

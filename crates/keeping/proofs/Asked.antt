@@ -1,5 +1,5 @@
 -- What is asked of a vnode by a snapshot, whatever comes of it.
-use Rattle.std.proofs.Common.{◌≡◌, ℕ, List, [], ◌∷◌, ◌++◌, refl, subst, Option, Ok}
+use Rattle.std.proofs.Common.{ℕ, List, [], ◌∷◌, ◌++◌, refl, Option}
 use Rattle.std.specs.List.{AllByRecursion}
 use Rattle.object.specs.declared.content.Key.{Key}
 use Rattle.peers.specs.declared.peers.Answer.{Answer}

@@ -1,6 +1,6 @@
 //! The file of a vnode's records.
 
-ghost use Rattle.std.specs.Prelude.{◌≡◌, ◌↔◌, IfErr, IfOk, IsTrue, length};
+ghost use Rattle.std.specs.Prelude.{◌≡◌, ◌↔◌, IfErr, IfOk, IsTrue};
 ghost use Rattle.keeping.specs.Files.{IsFileOf, IsUnkept, end_key, end_of};
 
 use crate::halves::records_beside;

@@ -3,7 +3,7 @@
 ghost use Rattle.std.specs.Prelude.{◌≡◌, ◌⊎◌, ◌<◌, ◌≤◌, ◌+◌, ℕ, OnErr, IfOk, map, [], ◌∷◌};
 ghost use Rattle.std.specs.List.{flat_map};
 ghost use Rattle.dvv.specs.declared.Dot.{Dot as OneDot};
-ghost use Rattle.keeping.specs.Numbers.{IsNamed, above, after, all_ids, ids_in, ids_of};
+ghost use Rattle.keeping.specs.Numbers.{IsNamed, above, after, all_ids, ids_of};
 
 use crate::file::KeptFile;
 use dvv::Dot;

@@ -5,11 +5,10 @@ ghost use Rattle.std.specs.Global.{Vec as List_};
 ghost use Rattle.std.specs.Io.KnownBytes.{Appends};
 ghost use Rattle.std.specs.List.{AllByRecursion};
 ghost use Rattle.object.specs.declared.content.Key.{Key as OneKey};
-ghost use Rattle.object.specs.State.{empty};
 ghost use Rattle.peers.specs.declared.peers.Answer.{Answer as OneAnswer};
 ghost use Rattle.peers.specs.Calls.{Call, Made, StateOf};
 ghost use Rattle.keeping.specs.Records.{AreSpelledBy, record_of};
-ghost use Rattle.keeping.specs.Files.{IsFileOf, end_key, end_of};
+ghost use Rattle.keeping.specs.Files.{IsFileOf, end_of};
 ghost use Rattle.keeping.specs.Snapshots.{IsReadAt, record_read, records_read, reads_at, snapshot_calls};
 
 use crate::file::END;

@@ -1,14 +1,13 @@
 //! The records of a vnode that serves no more.
 
-ghost use Rattle.std.specs.Prelude.{◌≡◌, ℕ, ◌+◌, ◌≤◌, ◌^◌, List, ◌∷◌, [], All, length, OnOk, IfOk};
+ghost use Rattle.std.specs.Prelude.{◌≡◌, ℕ, ◌+◌, ◌≤◌, ◌^◌, List, [], All, length, OnOk, IfOk};
 ghost use Rattle.std.specs.Io.KnownBytes.{Appends};
-ghost use Rattle.journal.specs.Logs.{max_entries};
 ghost use Rattle.journal.specs.Replay.{IsReplay};
 ghost use Rattle.vnode.specs.Keys.{AreKeys};
 ghost use Rattle.vnode.specs.States.{keys_of};
 ghost use Rattle.vnode.specs.declared.steps.Copied.{Copied as OneCopy};
 ghost use Rattle.keeping.specs.Files.{IsFileOf};
-ghost use Rattle.keeping.specs.Records.{AreSpelledBy, record_of};
+ghost use Rattle.keeping.specs.Records.{AreSpelledBy};
 ghost use Rattle.keeping.specs.Snapshots.{records_held};
 
 use crate::snapshot::{SnapshotFault, write_end, write_record};

@@ -1,7 +1,7 @@
 -- One delivery more, and one sender more; and none where all states are alike.
-use Rattle.std.proofs.Common.{◌≡◌, ℕ, zero, suc, ◌+◌, ◌<◌, List, [], ◌∷◌, ◌++◌, length, length-append, take, get_or, map, Some, refl, ap, sym, ◌∙◌, subst, arith, Result, Ok, Err, count_by, is_ok, cond, Bool, true, false}
+use Rattle.std.proofs.Common.{◌≡◌, ℕ, ◌+◌, ◌<◌, List, [], ◌∷◌, ◌++◌, length, length-append, take, get_or, map, Some, refl, ap, sym, ◌∙◌, subst, arith, Result, Ok, Err, count_by, is_ok, cond, Bool, true, false}
 use Rattle.std.specs.List.{All, AllByRecursion, list_any, filter, flat_map}
-use Rattle.std.specs.Prelude.{IsTrue, ◌↔◌, not, ◌&&◌, ◌||◌, is_some}
+use Rattle.std.specs.Prelude.{not, ◌&&◌, ◌||◌, is_some}
 use Rattle.std.proofs.lemmas.List.{map-append, take_more, append-nil}
 use Rattle.std.proofs.lemmas.List.Elements.{filter-append, recursion_from_All}
 use Rattle.std.proofs.lemmas.Grind.{flat_map-append}

@@ -1,8 +1,8 @@
 //! Exchange: of each key of one vnode what the other lacks goes there, and back.
 
-ghost use Rattle.std.specs.Prelude.{◌≡◌, ◌≢◌, ◌+◌, ◌^◌, ◌<◌, ◌≤◌, ◌++◌, ℕ, List, length, count_by, is_ok, Bool, Result, cond, false};
+ghost use Rattle.std.specs.Prelude.{◌≡◌, ◌+◌, ◌^◌, ◌<◌, ◌≤◌, ◌++◌, List, length, count_by, is_ok, Bool, Result, cond, false};
 ghost use Rattle.std.specs.List.{AllByRecursion};
-ghost use Rattle.object.specs.Parts.{summary_of, part_of};
+ghost use Rattle.object.specs.Parts.{part_of};
 ghost use Rattle.peers.specs.declared.fault.PeerFault.{PeerFault};
 ghost use Rattle.peers.specs.Calls.{Call, Made};
 ghost use Rattle.repair.specs.Exchanges.{Sent, Sending, sends, sendings, sends_all, whole_goes, IsFair, is_taken, is_received, is_whole, is_whole_at_once, BringsKeys};

@@ -1,6 +1,6 @@
 //! Read repair: what came of a get goes to the vnodes that it would change.
 
-ghost use Rattle.std.specs.Prelude.{◌≡◌, ◌+◌, ◌<◌, ◌≤◌, ◌^◌, ℕ, List, [], length, count_by, is_ok, Bool, Result, IsTrue};
+ghost use Rattle.std.specs.Prelude.{◌≡◌, ◌+◌, ◌<◌, ◌≤◌, ◌^◌, List, [], length, count_by, is_ok, Bool, Result, IsTrue};
 ghost use Rattle.peers.specs.declared.fault.PeerFault.{PeerFault};
 ghost use Rattle.peers.specs.Calls.{Made};
 ghost use Rattle.repair.specs.Repairs.{deliveries, deliveries_of, tries};
