@@ -14,4 +14,5 @@ mod requests;
 mod rounds;
 mod running;
 mod sharing;
+mod standing;
 mod watching;

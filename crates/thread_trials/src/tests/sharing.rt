@@ -23,7 +23,8 @@ fn write_all(alloc: Global, vnode: &mut Vnode) -> Result<(), Fail> {
     Ok(())
 }
 
-/// Has the follower take one more of the vnode's blocks of keys, if there is one that it hasn't compared.
+/// Has the follower take one more of the vnode's blocks of keys, if there is one that it hasn't compared. Then both hold its memory, and
+/// whoever asks for it.
 fn share_one(vnode: &Vnode, follower: &mut Follower) -> Result<bool, Fail> {
     if follower.count() == 0 {
         return Err(Fail::new("no vnode"));
@@ -35,10 +36,13 @@ fn share_one(vnode: &Vnode, follower: &mut Follower) -> Result<bool, Fail> {
         return Err(Fail::new("no block"));
     };
     follower.share_keys(0, at, block);
+    let owners = vnode.key_block(at).map(|block| block.owners());
+    expect(owners == Some(3), &owners)?;
     Ok(true)
 }
 
-/// A follower that has followed a vnode takes each of its full blocks of keys: one of nearly each shard.
+/// A follower that has followed a vnode takes each of its full blocks of keys, one of nearly each shard, and holds the vnode's memory of
+/// it in place of its own.
 #[test]
 fn keys_are_held_once(rt: HostRuntime) -> Result<(), Fail> {
     let alloc = rt.alloc();

@@ -1,0 +1,100 @@
+//! Where keys stand on a ring of three vnodes, as these are told it.
+
+ghost use Rattle.std.specs.Prelude.{◌≡◌, [], true};
+ghost use Rattle.object.specs.Limits.{IsKey};
+ghost use Rattle.stamps.specs.Rule.{newcomer};
+
+use crate::tests::building::{Open, key_of};
+use code_parts::expect;
+use dvv::Clock;
+use helpers::Table;
+use hooks::Registry;
+use object::{Content, Key, MAX_BUCKET, MAX_KEY};
+use place::Placement;
+use pool::{Cluster, Pass, Room};
+use quorum::Hooking;
+use stamps::{Card, Size, Stamps};
+use std::alloc::Global;
+use std::marker::Brand;
+use std::sync::Wait;
+use std::test::Fail;
+use store::Store;
+use workers::PassPeers;
+
+/// A key of bucket `b`, and its place on a ring of three vnodes.
+type Standing = (&'static [u8], u32);
+
+/// Computed by another program. They are asked for at each of the three vnodes.
+const PLACES: &[Standing] = &[(b"k", 0), (b"cart", 2), (b"m", 0), (b"l", 1)];
+
+/// Whether a bucket and a key in it are within their limits.
+fn is_within_limits(key: &Key) -> bool
+    ensures { result ≡ true → IsKey key.now }
+{
+    let (bucket, name) = (key.bucket().len(), key.key().len());
+    1 <= bucket && bucket <= MAX_BUCKET && 1 <= name && name <= MAX_KEY
+}
+
+/// A read of a key that no vnode holds tells none of them where it stands, and a write does: so the next needs no digest.
+fn place_is_told<B: Room, R: Wait>(
+    rt: &R,
+    alloc: Global,
+    cluster: &Cluster<B>,
+    pass: &mut Pass<B>,
+    standing: Standing,
+) -> Result<(), Fail> {
+    let (name, place) = standing;
+    let key = key_of(alloc, name)?;
+    if !is_within_limits(&key) {
+        return Err(Fail::new("past the limits"));
+    }
+    let peers = PassPeers::new(alloc, rt, cluster, pass, &Open);
+    let hooking = Hooking::new(alloc, Registry::new(alloc), Table::new(alloc));
+    let mut store = Store::new(alloc, peers, hooking, Placement::by_digest(3));
+    let read = store.get(&key, 2, 0);
+    let unheld = cluster.ring_place(rt, &key);
+    let put = store.put(&key, &Clock::new(alloc), &Content::Tombstone, 2, 0);
+    let told = cluster.ring_place(rt, &key);
+    let again = store.get(&key, 2, 0);
+    expect(read.is_ok() && put.is_ok() && again.is_ok(), &name)?;
+    expect((unheld, told) == (None, Some(place)), &name)
+}
+
+/// The same of each of these keys.
+fn all_are_told<B: Room, R: Wait>(
+    rt: &R,
+    alloc: Global,
+    cluster: &Cluster<B>,
+    pass: &mut Pass<B>,
+) -> Result<(), Fail> {
+    for standing in PLACES {
+        place_is_told(rt, alloc, cluster, pass, *standing)?;
+    }
+    Ok(())
+}
+
+/// The same by the pass of a new cluster.
+fn by_one_pass<B: Room, R: Wait>(
+    rt: &R,
+    alloc: Global,
+    stamps: Stamps,
+    card: Card,
+) -> Result<(), Fail>
+    requires table { (stamps.table.shared.table_id ≡ B.table) × (card.table_id ≡ B.table) }
+    requires size { stamps.table.shared.key ≡ record { first = 0; vnodes = 3; passes = 1 } }
+    requires card { card.me ≡ (newcomer stamps.table.shared.key, []) }
+{
+    let (cluster, mut passes) = Cluster::<B>::open(alloc, stamps, card, 0, 3, 1)?;
+    all_are_told(rt, alloc, &cluster, &mut passes[0])
+}
+
+#[test]
+fn places_are_told(rt: HostRuntime) -> Result<(), Fail> {
+    let size = Size {
+        first: 0,
+        vnodes: 3,
+        passes: 1,
+    };
+    let (stamps, card) = Stamps::new(rt.alloc(), &size)?;
+    by_one_pass::<Brand, _>(&rt, rt.alloc(), stamps, card)
+}
