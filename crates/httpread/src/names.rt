@@ -9,7 +9,7 @@ ghost use Rattle.object.specs.Limits.{IsKey, longest_bucket, longest_key};
 ghost use Rattle.httpask.specs.Target as spec;
 
 use httpask::MAX_HOOK_NAME;
-use object::{Bytes, Key, MAX_BUCKET, MAX_KEY};
+use object::{Bytes, Key};
 use percent_encoding::percent_decode;
 use std::alloc::{AllocError, Global};
 use std::borrow::CowSlice;
@@ -26,7 +26,7 @@ pub(crate) fn has_names(key: &Key) -> bool
     ensures names { result ≡ spec.is_name longest_bucket key.now.bucket && spec.is_name longest_key key.now.key }
     ensures fits { result ≡ true → IsKey key.now }
 {
-    is_name(MAX_BUCKET, key.bucket()) && is_name(MAX_KEY, key.key())
+    key.is_within_limits()
 }
 
 /// Whether the name is a hook's: 1 to 64 letters, digits, `_` and `-`.

@@ -1,8 +1,10 @@
 //! What a write stores, and what it is stored under.
 
 ghost use Rattle.std.specs.Prelude.{◌≡◌, ◌↔◌, IfOk, IsTrue};
+ghost use Rattle.object.specs.Limits.{IsKey};
 
 use crate::bytes::Bytes;
+use crate::limits::{MAX_BUCKET, MAX_KEY};
 use crate::names::Names;
 use dvv::Dot;
 use smallvec::SmallVec;
@@ -147,6 +149,14 @@ impl Key {
         ensures { result.now ≡ self.now.key }
     {
         self.names.key()
+    }
+
+    /// Whether both are within their limits.
+    pub fn is_within_limits(&self) -> bool
+        ensures { IsTrue result ↔ IsKey self.now }
+    {
+        let (bucket, key) = (self.bucket().len(), self.key().len());
+        1 <= bucket && bucket <= MAX_BUCKET && 1 <= key && key <= MAX_KEY
     }
 
     /// The same key, its bytes shared with this one.
