@@ -20,10 +20,12 @@ pub(crate) struct Blocks {
     closed: Vec<Vec<Entry>>,
     /// The block that entries are added to.
     last: Vec<Entry>,
+    /// An empty block, which comes behind the last one. It may have no memory yet.
+    next: Vec<Entry>,
 }
 
 impl Model for Blocks {
-    ghost use Rattle.std.specs.Prelude.{◌≤◌, length, vec_len, vec_capacity};
+    ghost use Rattle.std.specs.Prelude.{◌≡◌, ◌≤◌, [], length, vec_len, vec_capacity};
     ghost use Rattle.journal.specs.Logs.{max_entries};
     ghost use Rattle.journal.specs.Blocks.{in_blocks, room_in, AreBlocks, Held};
 
@@ -31,7 +33,7 @@ impl Model for Blocks {
 
     ghost view = { λ b. record { entries = in_blocks b.closed.items b.last.items; room = room_in (vec_capacity b.last) (vec_len b.last) } };
 
-    ghost invariant = { λ b. AreBlocks b.closed.items b.last.items × (length (in_blocks b.closed.items b.last.items) ≤ max_entries) };
+    ghost invariant = { λ b. AreBlocks b.closed.items b.last.items × (b.next.items ≡ []) × (length (in_blocks b.closed.items b.last.items) ≤ max_entries) };
 }
 
 impl Blocks {
@@ -45,6 +47,7 @@ impl Blocks {
             alloc,
             closed: Vec::new(alloc),
             last: Vec::new(alloc),
+            next: Vec::new(alloc),
         }
     }
 
@@ -73,7 +76,7 @@ impl Blocks {
         ensures same { self.new.entries ≡ self.old.entries }
     {
         if self.last.len() == BLOCK {
-            close_block(self.alloc, &mut self.closed, &mut self.last)?;
+            close_block(self.alloc, &mut self.closed, &mut self.last, &mut self.next)?;
         }
         self.last.try_reserve(1)?;
         Ok(())
@@ -129,14 +132,18 @@ impl Blocks {
         self.last.truncate(count % BLOCK);
     }
 
-    /// Takes the full blocks out, and has that room for the next ones in their place.
-    pub(crate) fn take_closed(&mut self, room: Vec<Vec<Entry>>) -> Vec<Vec<Entry>>
-        requires { room.items ≡ [] }
+    /// Takes the full blocks out, and takes over an empty one with memory, where it has none.
+    pub(crate) fn take_closed(&mut self, next: &mut Vec<Entry>) -> Vec<Vec<Entry>>
+        requires { next.old.items ≡ [] }
+        ensures next { next.new.items ≡ [] }
         ensures entries { all_of result.items ++ self.new.entries ≡ self.old.entries }
         ensures full { All IsFullBlock result.items }
         ensures rest { length self.new.entries ≤ 1024 }
     {
-        mem::replace(&mut self.closed, room)
+        if self.next.capacity() == 0 {
+            mem::swap(&mut self.next, next);
+        }
+        mem::replace(&mut self.closed, Vec::new(self.alloc))
     }
 }
 
@@ -147,18 +154,22 @@ fn entry_at(block: &[Entry], index: usize) -> Option<&Entry>
     block.get(index)
 }
 
-// Puts the last block behind the closed ones, and an empty one in its place.
+// Puts the last block behind the closed ones, and the next one, which is empty, in its place.
 fn close_block(
     alloc: Global,
     closed: &mut Vec<Vec<Entry>>,
     last: &mut Vec<Entry>,
+    next: &mut Vec<Entry>,
 ) -> Result<(), AllocError>
+    requires { next.old.items ≡ [] }
     ensures closed { OnOk result (closed.new.items ≡ closed.old.items ++ last.old ∷ []) }
     ensures empty { OnOk result (last.new.items ≡ []) }
+    ensures next { next.new.items ≡ [] }
     ensures err { OnErr result ((closed.new.items ≡ closed.old.items) × (last.new ≡ last.old)) }
 {
     closed.try_reserve(1)?;
-    let empty = Vec::with_capacity(alloc, BLOCK)?;
+    next.reserve_exact(BLOCK)?;
+    let empty = mem::replace(next, Vec::new(alloc));
     let full = mem::replace(last, empty);
     let _ = closed.push(full);
     Ok(())

@@ -132,10 +132,11 @@ impl Journal {
         self.here.get(place - self.first)
     }
 
-    /// Hands out the full blocks that are here, and takes room for the next ones. The journal has their entries as before; what is left here
-    /// is at most one block.
-    pub fn settle(&mut self, room: Vec<Vec<Entry>>) -> Handout
-        requires room { room.items ≡ [] }
+    /// Hands out the full blocks that are here. The journal has their entries as before; what is left here is at most one block. An empty block
+    /// with memory is taken over where there is none, so that the next time that one is full no memory is asked for.
+    pub fn settle(&mut self, next: &mut Vec<Entry>) -> Handout
+        requires empty { next.old.items ≡ [] }
+        ensures empty { next.new.items ≡ [] }
         ensures same { self.new.log ≡ self.old.log }
         ensures first { result.first ≡ self.old.first }
         ensures next { self.new.first ≡ self.old.first + length (all_of result.blocks.items) }
@@ -144,7 +145,7 @@ impl Journal {
     {
         let first = self.first;
         let count = self.here.len();
-        let blocks = self.here.take_closed(room);
+        let blocks = self.here.take_closed(next);
         self.first += count - self.here.len();
         let (front, blocks) = hand_out(self.front.take(), blocks);
         self.front = front;

@@ -38,4 +38,4 @@ invariant_of-self-2 c =
     let all = subst (λ xs. All IsFullBlock xs) (sym (front c)) (All-take IsFullBlock (c.args.count / 1024) c.self.inside.closed.items c.self.invariant.0.0) in
     let short = ap length c.truncate-3.ensures.items ∙ length-take (c.args.count % 1024) c.swap.new.y.items in
     let count = ap length (cut c) ∙ length-take c.args.count (in_blocks c.self.inside.closed.items c.self.inside.last.items) in
-    ((all, omega (arith, short)), omega (arith, count, c.self.invariant.1))
+    ((all, omega (arith, short)), c.self.invariant.1, omega (arith, count, c.self.invariant.2))
