@@ -3,7 +3,7 @@
 ghost use Rattle.std.specs.Prelude.{◌≡◌, OnOk, IfOk, IfErr, false};
 ghost use Rattle.object.specs.Parts.{summary_of};
 ghost use Rattle.vnode.specs.Parts.{RefusesPartAt, RefusesBroughtAt, brought, lacks_of};
-ghost use Rattle.vnode.specs.States.{state_at};
+ghost use Rattle.vnode.specs.States.{AreInPlace, state_at};
 
 use crate::fault::PartFault;
 use crate::states::States;
@@ -19,6 +19,7 @@ pub(crate) fn summary_at(
     states: &States,
     key: &Key,
 ) -> Result<(Key, Summary), AllocError>
+    requires placed { AreInPlace states.now }
     ensures key { IfOk result (λ told. told.0 ≡ key.now) }
     ensures summary { IfOk result (λ told. told.1 ≡ summary_of (state_at states.now key.now)) }
 {
@@ -112,6 +113,7 @@ pub(crate) fn part_refusal_at(
     key: &Key,
     part: &Part,
 ) -> PartFault
+    requires placed { AreInPlace states.now }
     ensures { RefusesPartAt journal.now.log part.now (state_at states.now key.now) result }
 {
     match states.get(key) {

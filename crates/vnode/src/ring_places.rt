@@ -1,22 +1,61 @@
 //! Where the keys of a shard stand on a ring of three vnodes.
 
-ghost use Rattle.std.specs.Prelude.{◌≡◌, ◌<◌, ◌≤◌, ◌⊎◌, ℕ, [], IfSome, Some, length, max, slice_get};
+ghost use Rattle.std.specs.Prelude.{◌≡◌, ◌<◌, ◌≤◌, ◌⊎◌, ℕ, [], IfSome, OnOk, Some, length, max, slice_get};
+ghost use Rattle.vnode.specs.RingPlaces.{number};
 
-use std::alloc::Global;
+use crate::key_blocks::BLOCK;
+use std::alloc::{AllocError, Global};
 use std::marker::Model;
+use std::mem::size_of;
+
+/// The place of a key on a ring of three vnodes, where it was told. A vnode keeps one for each of its keys.
+#[derive(Clone, Copy)]
+enum RingPlace {
+    Untold,
+    First,
+    Second,
+    Third,
+}
+
+const _: () = prove!(size_of::<RingPlace>() == 1);
+
+impl RingPlace {
+    fn of(place: u32) -> RingPlace
+        requires { place < 3 }
+        ensures { number result ≡ Some place }
+    {
+        match place {
+            0 => RingPlace::First,
+            1 => RingPlace::Second,
+            _ => RingPlace::Third,
+        }
+    }
+
+    fn number(self) -> Option<u32>
+        ensures { result ≡ number self }
+    {
+        match self {
+            RingPlace::Untold => None,
+            RingPlace::First => Some(0),
+            RingPlace::Second => Some(1),
+            RingPlace::Third => Some(2),
+        }
+    }
+}
 
 /// The places of keys on a ring of three vnodes, in the order of the keys, where they were told. To make one anew is a digest.
 #[derive(Drop)]
 pub(crate) struct RingPlaces {
-    told: Vec<Option<u8>>,
+    told: Vec<RingPlace>,
 }
 
 impl Model for RingPlaces {
-    ghost use Rattle.std.specs.Prelude.{ℕ, List, Option};
+    ghost use Rattle.std.specs.Prelude.{ℕ, List, Option, map};
+    ghost use Rattle.vnode.specs.RingPlaces.{number};
 
     ghost Value = { List (Option ℕ) };
 
-    ghost view = { λ p. p.told.items };
+    ghost view = { λ p. map number p.told.items };
 }
 
 impl RingPlaces {
@@ -33,8 +72,7 @@ impl RingPlaces {
     pub(crate) fn get(&self, i: usize) -> Option<u32>
         ensures { IfSome result (λ place. slice_get self.now i ≡ Some (Some place)) }
     {
-        let place = (*self.told.get(i)?)?;
-        Some(u32::from(place))
+        self.told.get(i)?.number()
     }
 
     /// Keeps the place of the key at an index, of so many keys, if there is memory.
@@ -44,9 +82,23 @@ impl RingPlaces {
         ensures told { (j p : ℕ) → slice_get self.new j ≡ Some (Some p) → (slice_get self.old j ≡ Some (Some p)) ⊎ ((j ≡ i) × (p ≡ place)) }
         ensures count { length self.new ≤ max (length self.old) keys }
     {
-        if self.told.len() <= i && self.told.resize(keys, None).is_err() {
+        if self.told.len() <= i && self.reach(keys).is_err() {
             return;
         }
-        self.told[i] = Some(place as u8);
+        self.told[i] = RingPlace::of(place);
+    }
+
+    // Has a place for each of so many keys, which are more than before. It grows by a block, not by doubling: so next to nothing lies idle.
+    fn reach(&mut self, keys: usize) -> Result<(), AllocError>
+        requires { length self.old < keys }
+        ensures told { (j p : ℕ) → slice_get self.new j ≡ Some (Some p) → slice_get self.old j ≡ Some (Some p) }
+        ensures count { length self.new ≤ keys }
+        ensures reached { OnOk result (length self.new ≡ keys) }
+    {
+        let more = keys - self.told.len();
+        if self.told.capacity() < keys {
+            self.told.reserve_exact(more.max(BLOCK))?;
+        }
+        self.told.resize(keys, RingPlace::Untold)
     }
 }

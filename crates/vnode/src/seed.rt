@@ -1,5 +1,7 @@
 //! What the hashes of a vnode's keys begin with.
 
+use crate::hint::Hint;
+use object::Key;
 use std::hash::{BuildHasher, DefaultHasher, RandomState};
 use std::io;
 use std::random::RandomSource;
@@ -17,6 +19,11 @@ impl Seed {
         Seed {
             begun: DefaultHasher::new(),
         }
+    }
+
+    /// The hash of a key by this seed, for look-ups at vnodes that have it.
+    pub fn hint(&self, key: &Key) -> Hint {
+        Hint::of(self.hash_one(key))
     }
 
     /// A seed of 128 random bits.

@@ -5,9 +5,11 @@ ghost use Rattle.std.specs.List.{All};
 ghost use Rattle.place.specs.Places.{ring_place};
 ghost use Rattle.vnode.specs.Shards.{IsHashed};
 
+use crate::hint::Hint;
 use crate::key_blocks::KeyBlock;
 use crate::seed::Seed;
 use crate::shard::Shard;
+use crate::spot::Spot;
 use object::{Key, Stored};
 use slots::Fingerprint;
 use std::alloc::{AllocError, Global};
@@ -21,14 +23,6 @@ const SHARDS: usize = 32;
 /// With so many slots the index of the first shard begins, and those of the others with up to a quarter more, by which each
 /// grows: so they grow at different numbers of keys.
 const FIRST_SLOTS: usize = 32;
-
-/// Where a key lies, if it has a state: what the key's hash says.
-#[derive(Clone, Copy)]
-pub(crate) struct Spot {
-    shard: usize,
-    /// The hash, by whose fingerprint the shard finds the key.
-    hash: u64,
-}
 
 /// Where a state was found: in which shard, and at which place there.
 #[derive(Clone, Copy)]
@@ -50,13 +44,15 @@ pub struct BlockSpot {
 pub(crate) struct States {
     alloc: Global,
     seed: Seed,
+    /// The hash that look-ups begin by.
+    hint: Hint,
     // None of them before the first state is kept.
     pub(crate) shards: Vec<Shard>,
     ghost hashed: { All (IsHashed seed) shards.items },
 }
 
 impl States {
-    ghost use Rattle.std.specs.Prelude.{◌<◌, ◌≤◌, ◌-◌, ◌^◌, false, None, Some, length, min, option_map, IfSome, IfNone, OnOk, OnErr};
+    ghost use Rattle.std.specs.Prelude.{◌<◌, ◌≤◌, ◌-◌, ◌^◌, false, None, Some, length, min, option_map, IfSome, IfNone, IfOk, IfErr, OnOk, OnErr};
     ghost use Rattle.std.specs.Option.{option_copied};
     ghost use Rattle.object.specs.declared.content.Key.{Key};
     ghost use Rattle.object.specs.State.{State, empty};
@@ -72,27 +68,23 @@ impl States {
         States {
             alloc,
             seed,
+            hint: Hint::none(),
             shards: Vec::new(alloc),
         }
     }
 
-    /// Where a key lies. The highest bits of its hash pick the shard, which finds it by a fingerprint that depends on all.
-    pub(crate) fn spot_of(&self, key: &Key) -> Spot
-        ensures spot { result ≡ spot_of self.now key.now }
-        ensures within { result.shard < shard_count }
+    /// Has look-ups begin by that hash.
+    pub(crate) fn expect(&mut self, hint: &Hint)
+        ensures { self.new ≡ self.old }
     {
-        let hash = self.seed.hash_one(key);
-        Spot {
-            shard: (hash >> 59) as usize,
-            hash,
-        }
+        self.hint = hint.copy();
     }
 
-    /// Where the state of a key is found, which lies at `spot`.
-    pub(crate) fn find(&self, spot: Spot, key: &Key) -> Option<Found>
-        requires { spot ≡ spot_of self.now key.now }
+    // Where the state of a key is found, if it lies at a spot.
+    fn find(&self, spot: Spot, key: &Key) -> Option<Found>
+        requires { AreInPlace self.now }
         ensures found { IfSome result (λ found. LiesAt self.now key.now found) }
-        ensures absent { IfNone result (found_at self.now key.now ≡ None) }
+        ensures absent { spot ≡ spot_of self.now key.now → IfNone result (found_at self.now key.now ≡ None) }
     {
         let place = self
             .shards
@@ -102,6 +94,29 @@ impl States {
             shard: spot.shard,
             place,
         })
+    }
+
+    /// Where the state of a key is found, or where it is to lie.
+    pub(crate) fn look_up(&self, key: &Key) -> Result<Found, Spot>
+        requires { AreInPlace self.now }
+        ensures found { IfOk result (λ found. LiesAt self.now key.now found) }
+        ensures absent { IfErr result (λ spot. (spot ≡ spot_of self.now key.now) × (spot.shard < shard_count) × (found_at self.now key.now ≡ None)) }
+    {
+        let expected = self.hint.hash();
+        if let Some(hash) = expected {
+            if let Some(found) = self.find(Spot::of(hash), key) {
+                return Ok(found);
+            }
+        }
+        let hash = self.seed.hash_one(key);
+        let spot = Spot::of(hash);
+        if expected == Some(hash) {
+            return Err(spot);
+        }
+        match self.find(spot, key) {
+            Some(found) => Ok(found),
+            None => Err(spot),
+        }
     }
 
     /// The state that was found, with the key that is kept beside it.
@@ -115,15 +130,19 @@ impl States {
 
     /// The state that is kept under a key, with the key that is kept beside it.
     pub(crate) fn get_key_value(&self, key: &Key) -> Option<(&Key, &Stored)>
+        requires { AreInPlace self.now }
         ensures key { IfSome result (λ found. found.0.now ≡ key.now) }
         ensures value { option_map (λ found. found.1.now) result ≡ found_at self.now key.now }
     {
-        let found = self.find(self.spot_of(key), key)?;
-        Some(self.entry(found))
+        match self.look_up(key) {
+            Ok(found) => Some(self.entry(found)),
+            Err(_) => None,
+        }
     }
 
     /// The state that is kept under a key.
     pub(crate) fn get(&self, key: &Key) -> Option<&Stored>
+        requires { AreInPlace self.now }
         ensures value { option_copied result ≡ found_at self.now key.now }
     {
         match self.get_key_value(key) {
@@ -184,18 +203,22 @@ impl States {
 
     /// The place of a key on a ring of three vnodes, where it was told.
     pub(crate) fn ring_place(&self, key: &Key) -> Option<u32>
+        requires { AreInPlace self.now }
         ensures { IfSome result (λ told. told ≡ ring_place key.now.bucket key.now.key) }
     {
-        let found = self.find(self.spot_of(key), key)?;
-        self.shards[found.shard].ring_place(found.place)
+        match self.look_up(key) {
+            Ok(found) => self.shards[found.shard].ring_place(found.place),
+            Err(_) => None,
+        }
     }
 
     /// Keeps that place, where the key has a state and there is memory.
     pub(crate) fn learn_ring_place(&mut self, key: &Key, told: u32)
-        requires { told ≡ ring_place key.now.bucket key.now.key }
+        requires placed { AreInPlace self.old }
+        requires told { told ≡ ring_place key.now.bucket key.now.key }
         ensures { self.new ≡ self.old }
     {
-        if let Some(found) = self.find(self.spot_of(key), key) {
+        if let Ok(found) = self.look_up(key) {
             self.shards[found.shard].learn_ring_place(found.place, told);
         }
     }

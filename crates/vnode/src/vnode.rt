@@ -4,6 +4,7 @@ ghost use Rattle.place.specs.Places.{ring_place};
 ghost use Rattle.std.specs.Prelude.{◌≡◌, ◌≢◌, ◌↔◌, Contains, IsTrue, OnOk, OnErr, IfOk, IfErr, IfSome, [], false, length, Err, List, ◌+◌, ◌^◌, ◌≤◌, ◌<◌, ◌⊎◌, All};
 
 use crate::fault::{PartFault, VnodeFault};
+use crate::hint::Hint;
 use crate::key_blocks::KeyBlock;
 use crate::names::Names;
 use crate::parts::{merged_part_of, part_refusal_at, summary_at};
@@ -415,14 +416,22 @@ impl Vnode {
         Ok(self.journal.append(Entry::restart(stamp)))
     }
 
-    /// Hands out the full blocks of the journal that are still here, and takes room for the next ones. Nothing else changes: the vnode
-    /// answers as before.
-    pub fn settle(&mut self, room: Vec<Vec<Entry>>) -> Handout
-        requires room { room.items ≡ [] }
+    /// Hands out the full blocks of the journal that are still here. Nothing else changes: the vnode answers as before. An empty block with
+    /// memory is taken over where the journal has none, so that the next time that one is full no memory is asked for.
+    pub fn settle(&mut self, next: &mut Vec<Entry>) -> Handout
+        requires empty { next.old.items ≡ [] }
+        ensures empty { next.new.items ≡ [] }
         ensures same { self.new ≡ self.old }
         ensures out { AreHandedOut self.old.entries result.first result.blocks.items }
     {
-        self.journal.settle(room)
+        self.journal.settle(next)
+    }
+
+    /// Has the look-ups to come begin by that hash: at vnodes of one seed a key's hash is made once. It is no event.
+    pub fn expect(&mut self, hint: &Hint)
+        ensures { self.new ≡ self.old }
+    {
+        self.states.expect(hint);
     }
 
     /// The place of a key on a ring of three vnodes, where [`Vnode::learn_ring_place`] was told it. It is no event.

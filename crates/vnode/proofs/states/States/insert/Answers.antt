@@ -7,7 +7,7 @@ use Rattle.object.specs.State.{empty}
 use Rattle.slots.specs.Slots.{folded}
 use Rattle.vnode.specs.Shards.{IsHashed, Shard, short_of}
 use Rattle.vnode.specs.States.{place}
-use Rattle.vnode.specs.declared.states.Spot.{Spot}
+use Rattle.vnode.specs.declared.spot.Spot.{Spot}
 use Rattle.vnode.specs.declared.states.States.{States}
 use Rattle.vnode.proofs.Entries.{Updates, push_updates}
 use Rattle.vnode.proofs.Mapped.{alike_placed, alike_same, by_outcome, held_at, kept_here, kept_other, kept_placed, push_all_hashed, same_place}
