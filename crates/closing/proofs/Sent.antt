@@ -20,4 +20,4 @@ pub follower_send : IsSend Follower.the_row
 follower_send = search (rerun_send, entry.the_send, sendable, crosses) depth 60
 
 pub watch_send : (B : RattleType) (g : room.Ghosts B.Denot) (h : spot.Ghosts B.Denot) → IsSend B → IsSend (Watch.the_row B g h)
-watch_send B g h s = search (follower_send, seat.the_send, sendable, crosses) depth 60
+watch_send B g h s = search (follower_send, entry.the_send, seat.the_send, sendable, crosses) depth 60 fits 20000

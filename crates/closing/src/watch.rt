@@ -10,7 +10,7 @@ ghost use Rattle.closing.specs.Following.{AreRestarts, IsTakenMore, IsToldMore, 
 use calls::Request;
 use findings::{TakeFault, WatchFault};
 use follow::{Follower, Recent};
-use journal::{BLOCK, Handout};
+use journal::{BLOCK, Entry, Handout};
 use pool::{Cluster, Gate, Pass, Room};
 use std::alloc::{AllocError, Global};
 use std::marker::{Brand, Model};
@@ -107,6 +107,8 @@ pub struct Watch<B: Room + Spot> {
     pub(crate) vnodes: usize,
     pub(crate) follower: Follower,
     seen: Vec<Seen>,
+    /// An empty block for the next entries of a vnode that has none.
+    next: Vec<Entry>,
     /// The number below which all was followed.
     reached: u64,
     /// Why a block wasn't taken.
@@ -290,6 +292,7 @@ impl<B: Room + Spot> Watch<B> {
             vnodes,
             follower: Follower::new_seeded(alloc, seed, &ids, fronts, RECENT)?,
             seen,
+            next: Vec::new(alloc),
             reached: 0,
             lost: None,
             told: false,
@@ -321,7 +324,10 @@ impl<B: Room + Spot> Watch<B> {
         requires inside { index < cluster.now.vnodes }
         ensures told { IsToldMore self.old.told self.new.told }
     {
-        let Some(handout) = cluster.hand_out(rt, &mut self.pass, index, Vec::new(alloc)) else {
+        // It is empty as it is. Where there is no memory the vnode asks for it itself, once it needs it.
+        self.next.clear();
+        let _ = self.next.reserve_exact(BLOCK);
+        let Some(handout) = cluster.hand_out(rt, &mut self.pass, index, &mut self.next) else {
             return;
         };
         if self.lost.is_some() || self.follower.fault().is_some() {

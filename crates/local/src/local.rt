@@ -408,6 +408,8 @@ impl Peers for Local {
         self.hand_back(false, back)
     }
 
+    fn expect(&mut self, _key: &Key) {}
+
     // These vnodes are told no places.
     fn ring_place(&self, _key: &Key) -> Option<u32> {
         None

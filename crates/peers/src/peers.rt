@@ -98,6 +98,10 @@ pub trait Peers {
     fn keys_of(&mut self, i: usize) -> Result<Vec<Key>, PeerFault>
         ensures { happens self.old (KeysOf i result) self.new };
 
+    /// Calls to come are about this key: what finding it takes may be made once for all of them. It is no event.
+    fn expect(&mut self, key: &Key)
+        ensures { self.new ≡ self.old };
+
     /// The place of a key on a ring of three vnodes, where one of these vnodes was told it. It is no event there.
     fn ring_place(&self, key: &Key) -> Option<u32>
         ensures { IfSome result (λ told. told ≡ ring_place key.now.bucket key.now.key) };

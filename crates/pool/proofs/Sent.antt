@@ -3,9 +3,10 @@ use denote.RattleType.{RattleType}
 use denote.Param.Send.{IsSend, IsSync, sendable}
 use Rattle.std.proofs.alloc.Global.TheSendSync as heap
 use Rattle.stamps.proofs.word.Stamps.TheSendSync as stamps
+use Rattle.vnode.proofs.seed.Seed.TheSendSync as seed
 use Rattle.pool.specs.contracts.cluster.Cluster as Cluster
 use Rattle.vnode_locks.proofs.Sent.{locks_sync}
 use Rattle.vnode_locks.specs.declared.pass.Room.{Ghosts}
 
 pub cluster_sync : (B : RattleType) (g : Ghosts B.Denot) → IsSend B → IsSync B → IsSync (Cluster.the_row B g)
-cluster_sync B g s y = search (locks_sync, stamps.the_field_sync, heap.the_field_sync, sendable) depth 60
+cluster_sync B g s y = search (locks_sync, stamps.the_field_sync, heap.the_field_sync, seed.the_field_sync, sendable) depth 60

@@ -17,7 +17,7 @@ use std::alloc::{AllocError, Global};
 use std::hint::spin_loop;
 use std::marker::{Model, PhantomData};
 use std::sync::{Mutex, MutexGuard, Wait};
-use vnode::{BlockSpot, KeyBlock, Names, Seed, Vnode, VnodeFault, in_order};
+use vnode::{BlockSpot, Hint, KeyBlock, Names, Seed, Vnode, VnodeFault, in_order};
 use vnode_locks::{
     CallFault, GatherFault, Locked, Pass, Receipt, Room, deal_passes, deal_vnodes, gathered,
 };
@@ -40,6 +40,8 @@ pub struct Cluster<B: Room> {
     vnodes: Vec<Mutex<Locked<B>>>,
     first: u32,
     passes: usize,
+    /// What the hashes of its vnodes' keys begin with.
+    seed: Seed,
     room: PhantomData<B>,
 }
 
@@ -177,38 +179,46 @@ impl<B: Room> Cluster<B> {
         usize::from(last).checked_rem(self.count())
     }
 
-    /// The place of a key on a ring of three vnodes, where a vnode was told it, under that one's lock. It is no event there.
-    pub fn ring_place<R: Wait>(&self, rt: &R, key: &Key) -> Option<u32>
+    /// The hash of a key, as its vnodes make it: for a pass whose calls are about this key.
+    pub fn hint(&self, key: &Key) -> Hint {
+        self.seed.hint(key)
+    }
+
+    /// The place of a key, whose hash may be known, on a ring of three vnodes, where a vnode was told it, under that one's lock. It is no
+    /// event there.
+    pub fn ring_place<R: Wait>(&self, rt: &R, hint: &Hint, key: &Key) -> Option<u32>
         ensures { IfSome result (λ told. told ≡ ring_place key.now.bucket key.now.key) }
     {
         let vnode = self.told_of(key)?;
-        self.locked(rt, vnode).ring_place(key)
+        self.locked(rt, vnode).ring_place(hint, key)
     }
 
-    /// Tells a vnode the place of a key on a ring of three vnodes, under its lock. It is no event there, and comes to nothing where the
-    /// vnode has no state of the key or there is no memory.
-    pub fn learn_ring_place<R: Wait>(&self, rt: &R, key: &Key, told: u32)
+    /// Tells a vnode the place of a key, whose hash may be known, on a ring of three vnodes, under its lock. It is no event there, and comes
+    /// to nothing where the vnode has no state of the key or there is no memory.
+    pub fn learn_ring_place<R: Wait>(&self, rt: &R, hint: &Hint, key: &Key, told: u32)
         requires { told ≡ ring_place key.now.bucket key.now.key }
     {
         if let Some(vnode) = self.told_of(key) {
-            self.locked(rt, vnode).learn_ring_place(key, told);
+            self.locked(rt, vnode).learn_ring_place(hint, key, told);
         }
     }
 }
 
 impl<B: Room> Cluster<B> {
-    /// Hands out the full blocks of the journal of a vnode, under its lock, and takes room for the next ones. It is no event, and changes
-    /// nothing that a call answers. The pass is told what is handed out: it stands in the journal that [`gather`](Cluster::gather) gives,
-    /// from that place on. None, and nothing is handed out, where the pass has drawn all its stamps or no block is full.
+    /// Hands out the full blocks of the journal of a vnode, under its lock. It is no event, and changes nothing that a call answers. The pass
+    /// is told what is handed out: it stands in the journal that [`gather`](Cluster::gather) gives, from that place on. None, and nothing is
+    /// handed out, where the pass has drawn all its stamps or no block is full. An empty block with memory is taken over where the journal has
+    /// none: so no call has to ask for one while others wait for the vnode.
     pub fn hand_out<R: Wait>(
         &self,
         rt: &R,
         pass: &mut Pass<B>,
         vnode: usize,
-        room: Vec<Vec<Entry>>,
+        next: &mut Vec<Entry>,
     ) -> Option<Handout>
         requires vnode { vnode < self.now.vnodes }
-        requires room { room.items ≡ [] }
+        requires empty { next.old.items ≡ [] }
+        ensures empty { next.new.items ≡ [] }
         ensures some { IfSome result (λ handout. IsHandedOut pass.old pass.new (self.now.first + vnode) handout.first handout.blocks.items) }
         ensures block { IfSome result (λ handout. (0 < vec_len handout.blocks) × (pass.new.drawn ≡ pass.old.drawn + 1)) }
         ensures none { IfNone result (pass.new ≡ pass.old) }
@@ -218,7 +228,7 @@ impl<B: Room> Cluster<B> {
             return None;
         }
         let mut guard = self.locked(rt, vnode);
-        guard.hand_out(&self.stamps, pass, self.first + vnode as u32, room)
+        guard.hand_out(&self.stamps, pass, self.first + vnode as u32, next)
     }
 }
 
@@ -294,6 +304,7 @@ impl<B: Room> Cluster<B> {
                 vnodes: locks,
                 first,
                 passes,
+                seed,
                 room: PhantomData,
             },
             dealt,

@@ -108,7 +108,7 @@ fn settle(alloc: Global, vnode: &mut Vnode)
 {
     let journal = vnode.journal();
     if journal.len() - journal.first() > BLOCK {
-        let _ = vnode.settle(Vec::new(alloc));
+        let _ = vnode.settle(&mut Vec::new(alloc));
     }
 }
 

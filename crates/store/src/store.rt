@@ -161,6 +161,7 @@ impl<P: Peers, H: Hooks> Store<P, H> {
         // What is noted is what is answered here.
         ensures noted { self.new.noted.kinds ≡ noted_of self.old.noted.kinds (of_read result.answer result.cut result.unfit) key.now.bucket }
     {
+        self.peers.expect(key);
         let vnodes = self.placement.vnodes();
         let stand = self.stand_of(key);
         let list = preferred(stand.place, vnodes);
@@ -172,9 +173,12 @@ impl<P: Peers, H: Hooks> Store<P, H> {
             list.as_slice(),
             r as usize,
         );
-        self.tell_stand(key, stand);
         match read {
             Ok((got, answers)) => {
+                // No vnode keeps it where nothing is known.
+                if !got.clock().entries().is_empty() {
+                    self.tell_stand(key, stand);
+                }
                 repair::repair(&mut self.peers, key, &answers);
                 let resolved = quorum::resolve(
                     &mut self.peers,
@@ -219,6 +223,7 @@ impl<P: Peers, H: Hooks> Store<P, H> {
         requires at { at < copies_of self.old.placement.vnodes }
         ensures { Puts P.happens H.finds (shown self.old.peers self.old.hooking.hooks self.old.hooking.table.listed self.old.placement self.old.noted.kinds) key.now seen.now content.now w at result (shown self.new.peers self.new.hooking.hooks self.new.hooking.table.listed self.new.placement self.new.noted.kinds) }
     {
+        self.peers.expect(key);
         let vnodes = self.placement.vnodes();
         let stand = self.stand_of(key);
         let others = others(stand.place, at, vnodes);

@@ -11,7 +11,7 @@ use stamps::{Card, Stamps};
 use std::alloc::Global;
 use std::marker::PhantomData;
 use std::sync::Mutex;
-use vnode::{Seed, Vnode};
+use vnode::{Hint, Seed, Vnode};
 
 /// Takes a pass for each part of the card.
 pub fn deal_passes<B: Room>(
@@ -32,6 +32,7 @@ pub fn deal_passes<B: Room>(
         passes.push_reserved(Pass {
             card: pass,
             drawn: 0,
+            hint: Hint::none(),
             room: PhantomData,
         });
     }

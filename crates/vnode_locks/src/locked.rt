@@ -20,7 +20,7 @@ use object::Key;
 use stamps::{Asking, Card, Stamps};
 use std::alloc::AllocError;
 use std::marker::{Brand, Model, PhantomData};
-use vnode::{BlockSpot, KeyBlock, Names, PartFault, Vnode, VnodeFault};
+use vnode::{BlockSpot, Hint, KeyBlock, Names, PartFault, Vnode, VnodeFault};
 
 // The vnode's card takes in what the pass knows.
 fn lend(stamps: &Stamps, card: &mut Card, pass: &mut Card)
@@ -143,6 +143,7 @@ impl<B: Room> Locked<B> {
         if vnode.id() != id {
             return Err(CallFault::Refused(VnodeFault::NoMemory));
         }
+        vnode.expect(&pass.hint);
         let Asked { at, stamp, outcome } = ask::<Brand>(
             stamps,
             vnode,
@@ -240,33 +241,37 @@ impl<B: Room> Locked<B> {
         self.vnode.key_block(at)
     }
 
-    /// The place of a key on a ring of three vnodes, where this one was told it.
-    pub fn ring_place(&self, key: &Key) -> Option<u32>
-        ensures { IfSome result (λ told. told ≡ ring_place key.now.bucket key.now.key) }
+    /// The place of a key, whose hash may be known, on a ring of three vnodes, where this one was told it.
+    pub fn ring_place(&mut self, hint: &Hint, key: &Key) -> Option<u32>
+        ensures place { IfSome result (λ told. told ≡ ring_place key.now.bucket key.now.key) }
+        ensures same { self.new ≡ self.old }
     {
+        self.vnode.expect(hint);
         self.vnode.ring_place(key)
     }
 
-    /// Keeps the place of a key on a ring of three vnodes, where this one has a state of it and there is memory.
-    pub fn learn_ring_place(&mut self, key: &Key, told: u32)
+    /// Keeps the place of a key, whose hash may be known, on a ring of three vnodes, where this one has a state of it and there is memory.
+    pub fn learn_ring_place(&mut self, hint: &Hint, key: &Key, told: u32)
         requires { told ≡ ring_place key.now.bucket key.now.key }
         ensures { self.new ≡ self.old }
     {
+        self.vnode.expect(hint);
         self.vnode.learn_ring_place(key, told);
     }
 
-    /// Hands out the full blocks of the journal of this vnode, which has this identifier, and takes room for the next ones. The pass, which
-    /// can draw a stamp, is told what is handed out. None, and it is told nothing, where no block is full.
+    /// Hands out the full blocks of the journal of this vnode, which has this identifier. The pass, which can draw a stamp, is told what is
+    /// handed out. None, and it is told nothing, where no block is full. An empty block with memory is taken over where the journal has none.
     pub fn hand_out(
         &mut self,
         stamps: &Stamps,
         pass: &mut Pass<B>,
         id: u32,
-        room: Vec<Vec<Entry>>,
+        next: &mut Vec<Entry>,
     ) -> Option<Handout>
         requires table { stamps.now.table.shared.table_id ≡ B.table }
         requires pass { pass.old.drawn < stamps_each }
-        requires room { room.items ≡ [] }
+        requires empty { next.old.items ≡ [] }
+        ensures empty { next.new.items ≡ [] }
         ensures some { IfSome result (λ handout. IsHandedOut pass.old pass.new id handout.first handout.blocks.items) }
         ensures block { IfSome result (λ handout. (0 < vec_len handout.blocks) × (pass.new.drawn ≡ pass.old.drawn + 1)) }
         ensures none { IfNone result (pass.new ≡ pass.old) }
@@ -277,7 +282,7 @@ impl<B: Room> Locked<B> {
         if vnode.id() != id {
             return None;
         }
-        let handout = vnode.settle(room);
+        let handout = vnode.settle(next);
         if handout.blocks.is_empty() {
             return None;
         }

@@ -5,6 +5,7 @@ ghost use Rattle.stamps.specs.Rule.{stamps_each};
 
 use stamps::Card;
 use std::marker::{Brand, Model, PhantomData};
+use vnode::Hint;
 
 /// Names one stamp word. Each call of a program that opens a cluster picks it.
 pub trait Room {
@@ -24,6 +25,8 @@ impl Room for Brand {
 pub struct Pass<B: Room> {
     pub(crate) card: Card,
     pub(crate) drawn: u64,
+    /// The hash of the key that calls are about.
+    pub(crate) hint: Hint,
     pub(crate) room: PhantomData<B>,
 }
 
@@ -47,5 +50,17 @@ impl<B: Room> Pass<B> {
         ensures limit { result ≤ stamps_each }
     {
         self.drawn
+    }
+
+    /// The hash of the key that calls are about, where it was told.
+    pub fn hint(&self) -> &Hint {
+        &self.hint
+    }
+
+    /// Calls to come are about a key of this hash, by the seed of their vnodes: none of these makes it anew.
+    pub fn expect(&mut self, hint: Hint)
+        ensures { self.new ≡ self.old }
+    {
+        self.hint = hint;
     }
 }

@@ -136,12 +136,17 @@ impl<B: Room, R: Wait> Peers for HeldPeers<'_, B, R> {
         back
     }
 
+    fn expect(&mut self, key: &Key) {
+        self.pass.expect(self.cluster.hint(key));
+    }
+
     fn ring_place(&self, key: &Key) -> Option<u32> {
-        self.cluster.ring_place(self.rt, key)
+        self.cluster.ring_place(self.rt, self.pass.hint(), key)
     }
 
     fn learn_ring_place(&self, key: &Key, told: u32) {
-        self.cluster.learn_ring_place(self.rt, key, told);
+        self.cluster
+            .learn_ring_place(self.rt, self.pass.hint(), key, told);
     }
 
     fn failures(&self) -> u64 {
