@@ -83,6 +83,10 @@ impl Peers for Watched {
         self.local.keys_of(i)
     }
 
+    fn expect(&mut self, key: &Key) {
+        self.local.expect(key);
+    }
+
     fn ring_place(&self, key: &Key) -> Option<u32> {
         self.local.ring_place(key)
     }

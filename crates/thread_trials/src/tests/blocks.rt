@@ -5,7 +5,7 @@ ghost use Rattle.std.specs.Prelude.{◌<◌, ◌^◌};
 use crate::tests::building::{SIXTEEN, key_of, value_of};
 use code_parts::expect;
 use follow::Follower;
-use journal::Handout;
+use journal::{BLOCK, Handout};
 use object::{Content, Key};
 use std::alloc::Global;
 use std::test::Fail;
@@ -59,8 +59,8 @@ impl Pair {
 
     /// Takes what the vnodes hand out, and follows it up to a bound. No fault is found.
     fn follow(&mut self, alloc: Global, below: u64) -> Result<(), Fail> {
-        take_all(&mut self.follower, 0, self.a.settle(Vec::new(alloc)))?;
-        take_all(&mut self.follower, 1, self.b.settle(Vec::new(alloc)))?;
+        take_all(&mut self.follower, 0, self.a.settle(&mut Vec::new(alloc)))?;
+        take_all(&mut self.follower, 1, self.b.settle(&mut Vec::new(alloc)))?;
         Ok(self.follower.follow(below)?)
     }
 
@@ -105,4 +105,29 @@ fn blocks_are_followed(rt: HostRuntime) -> Result<(), Fail> {
     };
     pair.rounds(alloc, &key, &content)?;
     expect(pair.has_taken(HANDED_OUT), &HANDED_OUT)
+}
+
+/// Starts a vnode again until a block of its journal is full and another one begun.
+fn fill(vnode: &mut Vnode) -> Result<(), Fail> {
+    for _ in 0..=BLOCK {
+        vnode.restart(0)?;
+    }
+    Ok(())
+}
+
+/// A vnode takes over an empty block with memory, and no other one before that one is full.
+#[test]
+fn empty_blocks_are_taken_over(rt: HostRuntime) -> Result<(), Fail> {
+    let alloc = rt.alloc();
+    let mut vnode = Vnode::new(alloc, 0);
+    let mut next = Vec::with_capacity(alloc, BLOCK)?;
+    let _none = vnode.settle(&mut next);
+    expect(next.capacity() == 0, &"the first")?;
+    next.reserve_exact(BLOCK)?;
+    let _none = vnode.settle(&mut next);
+    expect(next.capacity() == BLOCK, &"the second, too early")?;
+    fill(&mut vnode)?;
+    let handout = vnode.settle(&mut next);
+    expect(handout.blocks.len() == 1, &handout.first)?;
+    expect(next.capacity() == 0, &"the second")
 }

@@ -265,7 +265,7 @@ fn block_is_handed_out<B: Room, R: Wait>(
     for _ in 0..BLOCK {
         let _ = cluster.call(rt, pass, 0, &read, &Open)?;
     }
-    let Some(handout) = cluster.hand_out(rt, pass, 0, Vec::new(alloc)) else {
+    let Some(handout) = cluster.hand_out(rt, pass, 0, &mut Vec::new(alloc)) else {
         return Err(Fail::new("nothing is handed out"));
     };
     expect(handout.first == first && handout.blocks.len() == 1, &first)

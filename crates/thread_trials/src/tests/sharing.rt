@@ -49,7 +49,7 @@ fn keys_are_held_once(rt: HostRuntime) -> Result<(), Fail> {
     let mut vnode = Vnode::new(alloc, 0);
     let mut follower = Follower::new(alloc, &[0], SIXTEEN)?;
     write_all(alloc, &mut vnode)?;
-    take_all(&mut follower, 0, vnode.settle(Vec::new(alloc)))?;
+    take_all(&mut follower, 0, vnode.settle(&mut Vec::new(alloc)))?;
     follower.follow(KEYS)?;
     for shared in 0..64 {
         if !share_one(&vnode, &mut follower)? {

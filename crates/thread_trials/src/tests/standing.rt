@@ -1,7 +1,6 @@
 //! Where keys stand on a ring of three vnodes, as these are told it.
 
-ghost use Rattle.std.specs.Prelude.{◌≡◌, [], true};
-ghost use Rattle.object.specs.Limits.{IsKey};
+ghost use Rattle.std.specs.Prelude.{◌≡◌, []};
 ghost use Rattle.stamps.specs.Rule.{newcomer};
 
 use crate::tests::building::{Open, key_of};
@@ -9,7 +8,7 @@ use code_parts::expect;
 use dvv::Clock;
 use helpers::Table;
 use hooks::Registry;
-use object::{Content, Key, MAX_BUCKET, MAX_KEY};
+use object::{Content, Key};
 use place::Placement;
 use pool::{Cluster, Pass, Room};
 use quorum::Hooking;
@@ -19,6 +18,7 @@ use std::marker::Brand;
 use std::sync::Wait;
 use std::test::Fail;
 use store::Store;
+use vnode::Hint;
 use workers::PassPeers;
 
 /// A key of bucket `b`, and its place on a ring of three vnodes.
@@ -27,12 +27,19 @@ type Standing = (&'static [u8], u32);
 /// Computed by another program. They are asked for at each of the three vnodes.
 const PLACES: &[Standing] = &[(b"k", 0), (b"cart", 2), (b"m", 0), (b"l", 1)];
 
-/// Whether a bucket and a key in it are within their limits.
-fn is_within_limits(key: &Key) -> bool
-    ensures { result ≡ true → IsKey key.now }
-{
-    let (bucket, name) = (key.bucket().len(), key.key().len());
-    1 <= bucket && bucket <= MAX_BUCKET && 1 <= name && name <= MAX_KEY
+/// Where a key stands, as three vnodes were told it: whatever hash the look-up begins by, the key's, none or another key's.
+fn standing_of<B: Room, R: Wait>(
+    rt: &R,
+    alloc: Global,
+    cluster: &Cluster<B>,
+    key: &Key,
+) -> Result<Option<u32>, Fail> {
+    let told = cluster.ring_place(rt, &cluster.hint(key), key);
+    let others = cluster.hint(&key_of(alloc, b"another")?);
+    let name = key.key();
+    expect(cluster.ring_place(rt, &Hint::none(), key) == told, &name)?;
+    expect(cluster.ring_place(rt, &others, key) == told, &name)?;
+    Ok(told)
 }
 
 /// A read of a key that no vnode holds tells none of them where it stands, and a write does: so the next needs no digest.
@@ -45,16 +52,16 @@ fn place_is_told<B: Room, R: Wait>(
 ) -> Result<(), Fail> {
     let (name, place) = standing;
     let key = key_of(alloc, name)?;
-    if !is_within_limits(&key) {
+    if !key.is_within_limits() {
         return Err(Fail::new("past the limits"));
     }
     let peers = PassPeers::new(alloc, rt, cluster, pass, &Open);
     let hooking = Hooking::new(alloc, Registry::new(alloc), Table::new(alloc));
     let mut store = Store::new(alloc, peers, hooking, Placement::by_digest(3));
     let read = store.get(&key, 2, 0);
-    let unheld = cluster.ring_place(rt, &key);
+    let unheld = standing_of(rt, alloc, cluster, &key)?;
     let put = store.put(&key, &Clock::new(alloc), &Content::Tombstone, 2, 0);
-    let told = cluster.ring_place(rt, &key);
+    let told = standing_of(rt, alloc, cluster, &key)?;
     let again = store.get(&key, 2, 0);
     expect(read.is_ok() && put.is_ok() && again.is_ok(), &name)?;
     expect((unheld, told) == (None, Some(place)), &name)
