@@ -1,11 +1,11 @@
 //! The keys of a shard.
 
-ghost use Rattle.std.specs.Prelude.{◌≡◌, ◌<◌, ◌≤◌, ◌++◌, ◌∷◌, [], OnOk, OnErr, Some, length, slice_get, slice_index_or};
+ghost use Rattle.std.specs.Prelude.{◌≡◌, ◌<◌, ◌≤◌, ◌++◌, ◌∷◌, [], OnOk, OnErr, Some, length, slice_get, slice_index_or, vec_capacity};
 ghost use Rattle.vnode.specs.Blocks.{AreBlocks};
 ghost use Rattle.vnode.specs.Names.{all_of, keys_in};
 ghost use Rattle.vnode.specs.Shards.{key_eq};
 
-use crate::names::{Names, push_copies};
+use crate::names::{KeyRun, Names, push_copies};
 use object::Key;
 use std::alloc::{AllocError, Global};
 use std::marker::Model;
@@ -18,7 +18,7 @@ pub(crate) const BLOCK: usize = 128;
 /// A full block of a vnode's keys, which the vnode shares.
 #[derive(Drop)]
 pub struct KeyBlock {
-    keys: Arc<Vec<Key>>,
+    keys: Arc<[Key; BLOCK]>,
 }
 
 impl KeyBlock {
@@ -33,7 +33,7 @@ impl KeyBlock {
 pub(crate) struct KeyBlocks {
     alloc: Global,
     /// Full blocks.
-    full: Vec<Arc<Vec<Key>>>,
+    full: Vec<Arc<[Key; BLOCK]>>,
     /// The block that keys are added to.
     last: Vec<Key>,
     /// How many of the full blocks were compared with another vnode's.
@@ -108,14 +108,14 @@ impl KeyBlocks {
         ensures { OnOk result (names.new.keys ≡ names.old.keys ++ self.now.keys) }
     {
         for block in &self.full {
-            names.add(block.clone()?)?;
+            names.add(KeyRun::Full(block.clone()?))?;
         }
         if self.last.is_empty() {
             return Ok(());
         }
         let mut last = Vec::with_capacity(self.alloc, self.last.len())?;
         push_copies(&self.last, &mut last)?;
-        names.add(Arc::new(self.alloc, last)?)
+        names.add(KeyRun::Rest(last))
     }
 
     /// The number of the first full block that wasn't compared with another vnode's.
@@ -146,7 +146,7 @@ impl KeyBlocks {
 // Puts the last block, which is full, behind the others, and an empty one in its place.
 fn close_block(
     alloc: Global,
-    full: &mut Vec<Arc<Vec<Key>>>,
+    full: &mut Vec<Arc<[Key; BLOCK]>>,
     last: &mut Vec<Key>,
 ) -> Result<(), AllocError>
     requires full { length last.old.items ≡ 128 }
@@ -157,15 +157,27 @@ fn close_block(
 {
     full.try_reserve(1)?;
     let empty = Vec::with_capacity(alloc, BLOCK)?;
-    let keys = mem::replace(last, empty);
+    let Ok(keys) = <[Key; BLOCK]>::try_from(mem::replace(last, empty)) else {
+        unreachable!();
+    };
     match Arc::new(alloc, keys) {
         Ok(block) => {
             let _ = full.push(block);
             Ok(())
         }
         Err(failed) => {
-            *last = failed.value;
+            refill(last, failed.value);
             Err(AllocError)
         }
+    }
+}
+
+// Takes keys, for which there is room.
+fn refill(last: &mut Vec<Key>, keys: [Key; BLOCK])
+    requires { (last.old.items ≡ []) × (128 ≤ vec_capacity last.old) }
+    ensures { last.new.items ≡ keys }
+{
+    for key in keys {
+        last.push_reserved(key);
     }
 }

@@ -1,27 +1,48 @@
 //! The keys of a vnode, as it lists them.
 
 ghost use Rattle.std.specs.Prelude.{◌≡◌, ◌-◌, ◌^◌, ◌++◌, [], OnOk, IfOk, length, min};
-ghost use Rattle.vnode.specs.Names.{keys_in};
+ghost use Rattle.vnode.specs.Names.{run_keys};
 
+use crate::key_blocks::BLOCK;
 use object::Key;
 use std::alloc::{AllocError, Global};
 use std::marker::Model;
 use std::sync::Arc;
+
+/// Some of the keys of a vnode, as a list of them has them.
+#[derive(Drop)]
+pub(crate) enum KeyRun {
+    /// A full block, which the vnode keeps, too.
+    Full(Arc<[Key; BLOCK]>),
+    /// Copies of those behind the full blocks.
+    Rest(Vec<Key>),
+}
+
+impl KeyRun {
+    fn keys(&self) -> &[Key]
+        ensures { result.now ≡ run_keys self.now }
+    {
+        match self {
+            KeyRun::Full(block) => block.as_slice(),
+            KeyRun::Rest(keys) => keys.as_slice(),
+        }
+    }
+}
 
 /// The keys of a vnode, in any order. They lie in blocks, most of which the vnode keeps, too: so it takes next to no time to list them,
 /// however many there are, since few of their names are fetched from far memory.
 #[derive(Drop)]
 pub struct Names {
     alloc: Global,
-    blocks: Vec<Arc<Vec<Key>>>,
+    runs: Vec<KeyRun>,
 }
 
 impl Model for Names {
-    ghost use Rattle.vnode.specs.Names.{Listed, all_of};
+    ghost use Rattle.vnode.specs.Names.{Listed, all_keys};
 
     ghost Value = { Listed };
 
-    ghost view = { λ n. record { keys = all_of n.blocks.items } };
+    ghost view = { λ n. record { keys = all_keys n.runs.items } };
 }
 
 impl Names {
@@ -31,15 +52,15 @@ impl Names {
     {
         Names {
             alloc,
-            blocks: Vec::new(alloc),
+            runs: Vec::new(alloc),
         }
     }
 
-    /// Adds those of a block.
-    pub(crate) fn add(&mut self, block: Arc<Vec<Key>>) -> Result<(), AllocError>
-        ensures { OnOk result (self.new.keys ≡ self.old.keys ++ keys_in block) }
+    /// Adds some.
+    pub(crate) fn add(&mut self, run: KeyRun) -> Result<(), AllocError>
+        ensures { OnOk result (self.new.keys ≡ self.old.keys ++ run_keys run) }
     {
-        self.blocks.push(block)?;
+        self.runs.push(run)?;
         Ok(())
     }
 
@@ -48,8 +69,8 @@ impl Names {
         ensures { result ≡ min (length self.now.keys) (2 ^ 64 - 1) }
     {
         let mut count: usize = 0;
-        for block in &self.blocks {
-            count = count.saturating_add(block.len());
+        for run in &self.runs {
+            count = count.saturating_add(run.keys().len());
         }
         count
     }
@@ -59,8 +80,8 @@ impl Names {
         ensures { IfOk result (λ copies. copies.items ≡ self.now.keys) }
     {
         let mut keys = Vec::with_capacity(self.alloc, self.len())?;
-        for block in &self.blocks {
-            push_copies(block, &mut keys)?;
+        for run in &self.runs {
+            push_copies(run.keys(), &mut keys)?;
         }
         Ok(keys)
     }

@@ -88,7 +88,8 @@ impl RingPlaces {
         self.told[i] = RingPlace::of(place);
     }
 
-    // Has a place for each of so many keys, which are more than before. It grows by a block, not by doubling: so next to nothing lies idle.
+    // Has a place for each of so many keys, which are more than before. It grows by an eighth, and by a block at least: so little lies idle, and
+    // what was given up for it is soon taken for something else.
     fn reach(&mut self, keys: usize) -> Result<(), AllocError>
         requires { length self.old < keys }
         ensures told { (j p : ℕ) → slice_get self.new j ≡ Some (Some p) → slice_get self.old j ≡ Some (Some p) }
@@ -97,7 +98,8 @@ impl RingPlaces {
     {
         let more = keys - self.told.len();
         if self.told.capacity() < keys {
-            self.told.reserve_exact(more.max(BLOCK))?;
+            let growth = more.max(BLOCK).max(self.told.len() / 8);
+            self.told.reserve_exact(growth)?;
         }
         self.told.resize(keys, RingPlace::Untold)
     }

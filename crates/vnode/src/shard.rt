@@ -1,6 +1,6 @@
 //! The states of some of a vnode's keys.
 
-ghost use Rattle.std.specs.Prelude.{◌≡◌, ◌<◌, ◌++◌, ◌∷◌, [], IfSome, IfNone, None, Some, OnOk, OnErr, length, slice_get, slice_set};
+ghost use Rattle.std.specs.Prelude.{◌≡◌, ◌<◌, ◌++◌, ◌∷◌, [], IfSome, IfNone, None, Some, IsTrue, OnOk, OnErr, length, slice_get, slice_set};
 ghost use Rattle.object.specs.declared.content.Key.{Key};
 ghost use Rattle.object.specs.State.{State};
 ghost use Rattle.place.specs.Places.{ring_place};
@@ -60,8 +60,28 @@ impl Shard {
         self.index.len()
     }
 
-    /// The place of the entry of a key, which has this hash.
-    pub(crate) fn find(&self, hash: Fingerprint, key: &Key) -> Option<usize>
+    /// The place of the entry of a key, which has this hash. Where it likely lies is looked at first.
+    pub(crate) fn find(&self, likely: Option<usize>, hash: Fingerprint, key: &Key) -> Option<usize>
+        ensures found { IfSome result (λ i. (v : State) × IsEntry self.now i key.now v) }
+        ensures absent { IfNone result (LacksHashed self.now hash key.now) }
+    {
+        if let Some(i) = likely {
+            if self.is_at(i, key) {
+                return likely;
+            }
+        }
+        self.search(hash, key)
+    }
+
+    // Whether the entry of a key lies at a place.
+    fn is_at(&self, i: usize, key: &Key) -> bool
+        ensures { IsTrue result → (v : State) × IsEntry self.now i key.now v }
+    {
+        i < self.index.len() && self.keys.is_at(i, key)
+    }
+
+    // The place of the entry of a key, by the index.
+    fn search(&self, hash: Fingerprint, key: &Key) -> Option<usize>
         ensures found { IfSome result (λ i. (v : State) × IsEntry self.now i key.now v) }
         ensures absent { IfNone result (LacksHashed self.now hash key.now) }
     {

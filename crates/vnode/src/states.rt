@@ -80,8 +80,8 @@ impl States {
         self.hint = hint.copy();
     }
 
-    // Where the state of a key is found, if it lies at a spot.
-    fn find(&self, spot: Spot, key: &Key) -> Option<Found>
+    // Where the state of a key is found, if it lies at a spot: there it may lie at a place.
+    fn find(&self, spot: Spot, likely: Option<usize>, key: &Key) -> Option<Found>
         requires { AreInPlace self.now }
         ensures found { IfSome result (λ found. LiesAt self.now key.now found) }
         ensures absent { spot ≡ spot_of self.now key.now → IfNone result (found_at self.now key.now ≡ None) }
@@ -89,7 +89,7 @@ impl States {
         let place = self
             .shards
             .get(spot.shard)?
-            .find(Fingerprint::of(spot.hash), key)?;
+            .find(likely, Fingerprint::of(spot.hash), key)?;
         Some(Found {
             shard: spot.shard,
             place,
@@ -102,9 +102,18 @@ impl States {
         ensures found { IfOk result (λ found. LiesAt self.now key.now found) }
         ensures absent { IfErr result (λ spot. (spot ≡ spot_of self.now key.now) × (spot.shard < shard_count) × (found_at self.now key.now ≡ None)) }
     {
-        let expected = self.hint.hash();
+        self.look_up_by(&self.hint, key)
+    }
+
+    // The same by what is remembered of a key.
+    fn look_up_by(&self, hint: &Hint, key: &Key) -> Result<Found, Spot>
+        requires { AreInPlace self.now }
+        ensures found { IfOk result (λ found. LiesAt self.now key.now found) }
+        ensures absent { IfErr result (λ spot. (spot ≡ spot_of self.now key.now) × (spot.shard < shard_count) × (found_at self.now key.now ≡ None)) }
+    {
+        let expected = hint.hash();
         if let Some(hash) = expected {
-            if let Some(found) = self.find(Spot::of(hash), key) {
+            if let Some(found) = self.find(Spot::of(hash), hint.place(), key) {
                 return Ok(found);
             }
         }
@@ -113,7 +122,7 @@ impl States {
         if expected == Some(hash) {
             return Err(spot);
         }
-        match self.find(spot, key) {
+        match self.find(spot, None, key) {
             Some(found) => Ok(found),
             None => Err(spot),
         }
@@ -201,13 +210,16 @@ impl States {
         self.shards[spot.shard].push(Fingerprint::of(spot.hash), key, state)
     }
 
-    /// The place of a key on a ring of three vnodes, where it was told.
-    pub(crate) fn ring_place(&self, key: &Key) -> Option<u32>
+    /// The place of a key on a ring of three vnodes, where it was told. Where the key lies is remembered.
+    pub(crate) fn ring_place(&self, hint: &mut Hint, key: &Key) -> Option<u32>
         requires { AreInPlace self.now }
         ensures { IfSome result (λ told. told ≡ ring_place key.now.bucket key.now.key) }
     {
-        match self.look_up(key) {
-            Ok(found) => self.shards[found.shard].ring_place(found.place),
+        match self.look_up_by(hint, key) {
+            Ok(found) => {
+                hint.note(found.place);
+                self.shards[found.shard].ring_place(found.place)
+            }
             Err(_) => None,
         }
     }

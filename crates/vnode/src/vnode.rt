@@ -434,11 +434,12 @@ impl Vnode {
         self.states.expect(hint);
     }
 
-    /// The place of a key on a ring of three vnodes, where [`Vnode::learn_ring_place`] was told it. It is no event.
-    pub fn ring_place(&self, key: &Key) -> Option<u32>
+    /// The place of a key on a ring of three vnodes, where [`Vnode::learn_ring_place`] was told it. The look-up begins by what is remembered of
+    /// the key, and where it lies here is remembered from then on. It is no event.
+    pub fn ring_place(&self, hint: &mut Hint, key: &Key) -> Option<u32>
         ensures { IfSome result (λ told. told ≡ ring_place key.now.bucket key.now.key) }
     {
-        self.states.ring_place(key)
+        self.states.ring_place(hint, key)
     }
 
     /// Keeps the place of a key on a ring of three vnodes, where it has a state of the key and there is memory, so that who

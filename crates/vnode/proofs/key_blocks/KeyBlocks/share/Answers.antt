@@ -1,4 +1,4 @@
-use Rattle.std.proofs.Common.{◌≡◌, ◌∙◌, Vec, Global, ap, sym}
+use Rattle.std.proofs.Common.{◌≡◌, ◌∙◌, ap, sym}
 use Rattle.object.specs.declared.content.Key.{Key}
 use Rattle.std.specs.Bool.{Decides}
 use Rattle.std.proofs.lemmas.Slice.Eq.{slice_eq-Decides}
@@ -17,8 +17,8 @@ returns-then-eq c =
     let item = c.in-Some.ensures.item in
     let block = c.in-Some.block.now in
     let equal = (slice_eq-Decides keys_decide _ _ _ c.eq.ensures).0 c.if-eq.true in
-    let own = c.as_slice.ensures.value ∙ ap (λ (v : Vec Key Global). v.items) c.deref.ensures in
-    let others = c.as_slice-in-Some.ensures.value ∙ ap (λ (v : Vec Key Global). v.items) c.deref-in-Some.ensures in
+    let own = c.as_slice.ensures ∙ c.deref.ensures in
+    let others = c.as_slice-in-Some.ensures ∙ c.deref-in-Some.ensures in
     let same : keys_in c.args.other.keys ≡ keys_in block = sym others ∙ sym equal ∙ own in
     ap (λ keys. let n : Named = record { keys = keys; room = room_in c.self.inside.last } in n)
     (items_swapped keys_in c.self.inside.full.items c.self.inside.last.items c.args.number block c.args.other.keys item.3.0 item.1 same)

@@ -1,6 +1,6 @@
 use Rattle.std.proofs.Common.{◌≡◌, ◌-◌, ◌^◌, length, min, take}
-use Rattle.vnode.specs.Names.{all_of}
+use Rattle.vnode.specs.Names.{all_keys}
 use Rattle.vnode.proofs.names.Names.len.Given as goal
 
-abbrev pub invariant-loop-block : goal.invariant-loop-block
-invariant-loop-block l = l.count ≡ min (length (all_of (take l.block-index l.block-items))) (2 ^ 64 - 1)
+abbrev pub invariant-loop-run : goal.invariant-loop-run
+invariant-loop-run l = l.count ≡ min (length (all_keys (take l.run-index l.run-items))) (2 ^ 64 - 1)

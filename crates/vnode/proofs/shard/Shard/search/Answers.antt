@@ -3,7 +3,7 @@ use Rattle.std.proofs.lemmas.Option.{IfSome_then}
 use Rattle.object.specs.State.{State}
 use Rattle.vnode.specs.Shards.{IsEntry, LacksHashed, Shard, key_eq}
 use Rattle.vnode.proofs.Entries.{absent_entry, found_entry}
-use Rattle.vnode.proofs.shard.Shard.find.Goals as goal
+use Rattle.vnode.proofs.shard.Shard.search.Goals as goal
 
 none_then : {X P Q : Type 0} (r : Option X) → IfNone r P → (P → Q) → IfNone r Q
 none_then None p then = then p
