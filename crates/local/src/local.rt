@@ -411,7 +411,7 @@ impl Peers for Local {
     fn expect(&mut self, _key: &Key) {}
 
     // These vnodes are told no places.
-    fn ring_place(&self, _key: &Key) -> Option<u32> {
+    fn ring_place(&mut self, _key: &Key) -> Option<u32> {
         None
     }
 

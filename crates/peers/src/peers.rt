@@ -103,8 +103,9 @@ pub trait Peers {
         ensures { self.new ≡ self.old };
 
     /// The place of a key on a ring of three vnodes, where one of these vnodes was told it. It is no event there.
-    fn ring_place(&self, key: &Key) -> Option<u32>
-        ensures { IfSome result (λ told. told ≡ ring_place key.now.bucket key.now.key) };
+    fn ring_place(&mut self, key: &Key) -> Option<u32>
+        ensures same { self.new ≡ self.old }
+        ensures place { IfSome result (λ told. told ≡ ring_place key.now.bucket key.now.key) };
 
     /// Tells the place of a key on a ring of three vnodes, so that who asks for it needs no digest. It is no event, and may come to
     /// nothing.

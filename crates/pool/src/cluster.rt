@@ -171,34 +171,26 @@ impl<B: Room> Cluster<B> {
 }
 
 impl<B: Room> Cluster<B> {
-    // Which vnode is told the ring place of a key: one, whom all threads ask, and each of them of a part of the keys.
-    fn told_of(&self, key: &Key) -> Option<usize>
-        ensures { IfSome result (λ vnode. vnode < self.now.vnodes) }
-    {
-        let last = key.key().last().copied().unwrap_or(0);
-        usize::from(last).checked_rem(self.count())
-    }
-
-    /// The hash of a key, as its vnodes make it: for a pass whose calls are about this key.
+    /// What look-ups of a key at its vnodes begin by: for a pass whose calls are about this key.
     pub fn hint(&self, key: &Key) -> Hint {
         self.seed.hint(key)
     }
 
-    /// The place of a key, whose hash may be known, on a ring of three vnodes, where a vnode was told it, under that one's lock. It is no
-    /// event there.
-    pub fn ring_place<R: Wait>(&self, rt: &R, hint: &Hint, key: &Key) -> Option<u32>
+    /// The place of a key on a ring of three vnodes, where one of them was told it, under that one's lock: which one says what is remembered of the
+    /// key. It is no event there. Where the key lies at that vnode is remembered, too, for the look-ups of the others, which all have it.
+    pub fn ring_place<R: Wait>(&self, rt: &R, hint: &mut Hint, key: &Key) -> Option<u32>
         ensures { IfSome result (λ told. told ≡ ring_place key.now.bucket key.now.key) }
     {
-        let vnode = self.told_of(key)?;
+        let vnode = hint.one_of(self.count())?;
         self.locked(rt, vnode).ring_place(hint, key)
     }
 
-    /// Tells a vnode the place of a key, whose hash may be known, on a ring of three vnodes, under its lock. It is no event there, and comes
-    /// to nothing where the vnode has no state of the key or there is no memory.
+    /// Tells a vnode the place of a key on a ring of three vnodes, under its lock: which one says what is remembered of the key. It is no event there,
+    /// and comes to nothing where nothing is remembered, the vnode has no state of the key, or there is no memory.
     pub fn learn_ring_place<R: Wait>(&self, rt: &R, hint: &Hint, key: &Key, told: u32)
         requires { told ≡ ring_place key.now.bucket key.now.key }
     {
-        if let Some(vnode) = self.told_of(key) {
+        if let Some(vnode) = hint.one_of(self.count()) {
             self.locked(rt, vnode).learn_ring_place(hint, key, told);
         }
     }

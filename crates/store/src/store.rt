@@ -106,29 +106,31 @@ struct Stand {
     is_untold: bool,
 }
 
-impl<P: Peers, H> Store<P, H> {
-    // Where a key stands. Vnodes on a ring of three may have been told, and else its digest says it.
-    fn stand_of(&self, key: &Key) -> Stand
-        requires { IsKey key.now }
-        ensures place { result.place ≡ place_in self.now.placement key.now.bucket key.now.key }
-        ensures within { result.place < self.now.placement.vnodes }
-        ensures untold { IsTrue result.is_untold → result.place ≡ ring_place key.now.bucket key.now.key }
-    {
-        let is_ring = self.placement.is_ring_of_three();
-        if is_ring {
-            if let Some(place) = self.peers.ring_place(key) {
-                return Stand {
-                    place,
-                    is_untold: false,
-                };
-            }
-        }
-        Stand {
-            place: self.placement.place_of(key.bucket(), key.key()),
-            is_untold: is_ring,
+// Where a key stands. Vnodes on a ring of three may have been told, and else its digest says it. Calls to come are about this key.
+fn stand_of<P: Peers>(peers: &mut P, placement: &Placement, key: &Key) -> Stand
+    requires { IsKey key.now }
+    ensures place { result.place ≡ place_in placement.now key.now.bucket key.now.key }
+    ensures within { result.place < placement.now.vnodes }
+    ensures untold { IsTrue result.is_untold → result.place ≡ ring_place key.now.bucket key.now.key }
+    ensures same { peers.new ≡ peers.old }
+{
+    peers.expect(key);
+    let is_ring = placement.is_ring_of_three();
+    if is_ring {
+        if let Some(place) = peers.ring_place(key) {
+            return Stand {
+                place,
+                is_untold: false,
+            };
         }
     }
+    Stand {
+        place: placement.place_of(key.bucket(), key.key()),
+        is_untold: is_ring,
+    }
+}
 
+impl<P: Peers, H> Store<P, H> {
     // Tells the vnodes where a key stands that they hold, where none of them knew.
     fn tell_stand(&self, key: &Key, stand: Stand)
         requires { IsTrue stand.is_untold → stand.place ≡ ring_place key.now.bucket key.now.key }
@@ -161,9 +163,8 @@ impl<P: Peers, H: Hooks> Store<P, H> {
         // What is noted is what is answered here.
         ensures noted { self.new.noted.kinds ≡ noted_of self.old.noted.kinds (of_read result.answer result.cut result.unfit) key.now.bucket }
     {
-        self.peers.expect(key);
         let vnodes = self.placement.vnodes();
-        let stand = self.stand_of(key);
+        let stand = stand_of(&mut self.peers, &self.placement, key);
         let list = preferred(stand.place, vnodes);
         let coordinator = vnode_at(stand.place, at, vnodes);
         let read = quorum::get(
@@ -223,9 +224,8 @@ impl<P: Peers, H: Hooks> Store<P, H> {
         requires at { at < copies_of self.old.placement.vnodes }
         ensures { Puts P.happens H.finds (shown self.old.peers self.old.hooking.hooks self.old.hooking.table.listed self.old.placement self.old.noted.kinds) key.now seen.now content.now w at result (shown self.new.peers self.new.hooking.hooks self.new.hooking.table.listed self.new.placement self.new.noted.kinds) }
     {
-        self.peers.expect(key);
         let vnodes = self.placement.vnodes();
-        let stand = self.stand_of(key);
+        let stand = stand_of(&mut self.peers, &self.placement, key);
         let others = others(stand.place, at, vnodes);
         let back = quorum::put(
             &mut self.peers,

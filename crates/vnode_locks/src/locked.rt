@@ -241,13 +241,11 @@ impl<B: Room> Locked<B> {
         self.vnode.key_block(at)
     }
 
-    /// The place of a key, whose hash may be known, on a ring of three vnodes, where this one was told it.
-    pub fn ring_place(&mut self, hint: &Hint, key: &Key) -> Option<u32>
-        ensures place { IfSome result (λ told. told ≡ ring_place key.now.bucket key.now.key) }
-        ensures same { self.new ≡ self.old }
+    /// The place of a key on a ring of three vnodes, where this one was told it. Where the key lies here is remembered for the look-ups of others.
+    pub fn ring_place(&self, hint: &mut Hint, key: &Key) -> Option<u32>
+        ensures { IfSome result (λ told. told ≡ ring_place key.now.bucket key.now.key) }
     {
-        self.vnode.expect(hint);
-        self.vnode.ring_place(key)
+        self.vnode.ring_place(hint, key)
     }
 
     /// Keeps the place of a key, whose hash may be known, on a ring of three vnodes, where this one has a state of it and there is memory.

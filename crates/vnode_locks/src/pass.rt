@@ -25,7 +25,7 @@ impl Room for Brand {
 pub struct Pass<B: Room> {
     pub(crate) card: Card,
     pub(crate) drawn: u64,
-    /// The hash of the key that calls are about.
+    /// What is remembered of the key that calls are about.
     pub(crate) hint: Hint,
     pub(crate) room: PhantomData<B>,
 }
@@ -52,12 +52,12 @@ impl<B: Room> Pass<B> {
         self.drawn
     }
 
-    /// The hash of the key that calls are about, where it was told.
+    /// What is remembered of the key that calls are about.
     pub fn hint(&self) -> &Hint {
         &self.hint
     }
 
-    /// Calls to come are about a key of this hash, by the seed of their vnodes: none of these makes it anew.
+    /// Calls to come are about a key of which this is remembered: none of their vnodes makes its hash anew.
     pub fn expect(&mut self, hint: Hint)
         ensures { self.new ≡ self.old }
     {

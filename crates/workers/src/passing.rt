@@ -345,8 +345,11 @@ impl<'a, B: Room, R: Wait, G: Gate> Peers for PassPeers<'a, B, R, G> {
         self.pass.expect(self.cluster.hint(key));
     }
 
-    fn ring_place(&self, key: &Key) -> Option<u32> {
-        self.cluster.ring_place(self.rt, self.pass.hint(), key)
+    fn ring_place(&mut self, key: &Key) -> Option<u32> {
+        let mut hint = self.pass.hint().copy();
+        let told = self.cluster.ring_place(self.rt, &mut hint, key);
+        self.pass.expect(hint);
+        told
     }
 
     fn learn_ring_place(&self, key: &Key, told: u32) {

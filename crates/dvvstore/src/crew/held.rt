@@ -140,8 +140,11 @@ impl<B: Room, R: Wait> Peers for HeldPeers<'_, B, R> {
         self.pass.expect(self.cluster.hint(key));
     }
 
-    fn ring_place(&self, key: &Key) -> Option<u32> {
-        self.cluster.ring_place(self.rt, self.pass.hint(), key)
+    fn ring_place(&mut self, key: &Key) -> Option<u32> {
+        let mut hint = self.pass.hint().copy();
+        let told = self.cluster.ring_place(self.rt, &mut hint, key);
+        self.pass.expect(hint);
+        told
     }
 
     fn learn_ring_place(&self, key: &Key, told: u32) {

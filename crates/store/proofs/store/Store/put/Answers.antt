@@ -7,9 +7,9 @@ use Rattle.store.proofs.store.Store.put.Goals as goal
 pub returns : goal.returns
 returns g c =
     let s = c.args.self.now in
-    let old = shown c.expect.new.self s.hooking.hooks s.hooking.table.listed s.placement s.noted.kinds in
+    let old = shown c.stand_of-stand.new.peers s.hooking.hooks s.hooking.table.listed s.placement s.noted.kinds in
     let new = shown c.put-back.new.peers c.put-back.new.hooking.hooks c.put-back.new.hooking.table.listed s.placement c.note.new.self.kinds in
-    subst (λ peers. Puts g.P.Peers.happens g.H.Hooks.finds (shown peers s.hooking.hooks s.hooking.table.listed s.placement s.noted.kinds) c.args.key.now c.args.seen.now c.args.content.now c.args.w c.args.at c.put-back.result new) c.expect.ensures
+    subst (λ peers. Puts g.P.Peers.happens g.H.Hooks.finds (shown peers s.hooking.hooks s.hooking.table.listed s.placement s.noted.kinds) c.args.key.now c.args.seen.now c.args.content.now c.args.w c.args.at c.put-back.result new) c.stand_of-stand.ensures.same
     (put_is g.P.Peers.happens g.H.Hooks.finds old new c.args.key.now c.args.seen.now c.args.content.now c.args.w c.args.at c.put-back.result _ _
     (coordinator_is old c.args.key.now _ _ _ c.args.at c.vnode_at.ensures.vnode c.stand_of-stand.ensures.place c.vnodes-vnodes.ensures.number)
     (c.as_slice.ensures ∙ others_are old c.args.key.now _ _ _ c.args.at c.others-others.ensures.list c.stand_of-stand.ensures.place c.vnodes-vnodes.ensures.number)
