@@ -87,7 +87,7 @@ impl Peers for Watched {
         self.local.expect(key);
     }
 
-    fn ring_place(&self, key: &Key) -> Option<u32> {
+    fn ring_place(&mut self, key: &Key) -> Option<u32> {
         self.local.ring_place(key)
     }
 

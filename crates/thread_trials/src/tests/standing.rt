@@ -9,7 +9,7 @@ use dvv::Clock;
 use helpers::Table;
 use hooks::Registry;
 use object::{Content, Key};
-use place::Placement;
+use place::{Placement, place};
 use pool::{Cluster, Pass, Room};
 use quorum::Hooking;
 use stamps::{Card, Size, Stamps};
@@ -18,7 +18,7 @@ use std::marker::Brand;
 use std::sync::Wait;
 use std::test::Fail;
 use store::Store;
-use vnode::Hint;
+use vnode::{Hint, Seed, Vnode};
 use workers::PassPeers;
 
 /// A key of bucket `b`, and its place on a ring of three vnodes.
@@ -27,18 +27,26 @@ type Standing = (&'static [u8], u32);
 /// Computed by another program. They are asked for at each of the three vnodes.
 const PLACES: &[Standing] = &[(b"k", 0), (b"cart", 2), (b"m", 0), (b"l", 1)];
 
-/// Where a key stands, as three vnodes were told it: whatever hash the look-up begins by, the key's, none or another key's.
+/// Where a key stands, as one of three vnodes was told it. Who remembers another key asks the same vnode, or one that was told nothing.
 fn standing_of<B: Room, R: Wait>(
     rt: &R,
     alloc: Global,
     cluster: &Cluster<B>,
     key: &Key,
 ) -> Result<Option<u32>, Fail> {
-    let told = cluster.ring_place(rt, &cluster.hint(key), key);
-    let others = cluster.hint(&key_of(alloc, b"another")?);
     let name = key.key();
-    expect(cluster.ring_place(rt, &Hint::none(), key) == told, &name)?;
-    expect(cluster.ring_place(rt, &others, key) == told, &name)?;
+    let mut own = cluster.hint(key);
+    let told = cluster.ring_place(rt, &mut own, key);
+    expect(cluster.ring_place(rt, &mut own, key) == told, &name)?;
+    expect(
+        cluster.ring_place(rt, &mut Hint::none(), key).is_none(),
+        &name,
+    )?;
+    for (other, _) in PLACES {
+        let mut others = cluster.hint(&key_of(alloc, *other)?);
+        let by_others = cluster.ring_place(rt, &mut others, key);
+        expect(by_others.is_none() || by_others == told, &name)?;
+    }
     Ok(told)
 }
 
@@ -104,4 +112,43 @@ fn places_are_told(rt: HostRuntime) -> Result<(), Fail> {
     };
     let (stamps, card) = Stamps::new(rt.alloc(), &size)?;
     by_one_pass::<Brand, _>(&rt, rt.alloc(), stamps, card)
+}
+
+/// A vnode gets a key, and is told where it stands.
+fn tell_one(alloc: Global, vnode: &mut Vnode, stamp: u64, name: &[u8]) -> Result<(), Fail> {
+    let key = key_of(alloc, name)?;
+    if !key.is_within_limits() {
+        return Err(Fail::new("past the limits"));
+    }
+    vnode.put_lent(stamp, &key, &Clock::new(alloc), &Content::Tombstone)?;
+    vnode.learn_ring_place(&key, place(key.bucket(), key.key(), 3));
+    Ok(())
+}
+
+/// A vnode tells where a key stands, whether the look-up begins by what is remembered of another key that it has, or by nothing.
+fn is_found_by(alloc: Global, vnode: &Vnode, standing: Standing, other: &[u8]) -> Result<(), Fail> {
+    let (name, place) = standing;
+    let key = key_of(alloc, name)?;
+    let other = key_of(alloc, other)?;
+    let mut hint = Seed::fixed().hint(&other);
+    let _ = vnode.ring_place(&mut hint, &other);
+    let found = vnode.ring_place(&mut hint, &key);
+    expect(found == Some(place), &name)?;
+    let found = vnode.ring_place(&mut Hint::none(), &key);
+    expect(found == Some(place), &name)
+}
+
+#[test]
+fn places_are_found_by_any_hint(rt: HostRuntime) -> Result<(), Fail> {
+    let alloc = rt.alloc();
+    let mut vnode = Vnode::new(alloc, 0);
+    for (name, place) in PLACES {
+        tell_one(alloc, &mut vnode, u64::from(*place), *name)?;
+    }
+    for standing in PLACES {
+        for (other, _) in PLACES {
+            is_found_by(alloc, &vnode, *standing, *other)?;
+        }
+    }
+    Ok(())
 }
