@@ -11,9 +11,9 @@ use smallvec::SmallVec;
 use std::alloc::{AllocError, Global};
 use std::marker::Model;
 
-// The greatest event of each vnode, vnodes rising. Up to three lie in the clock itself: a key is mostly written at one vnode, and where the server
-// starts again, or another vnode takes its writes, at two or three.
-pub(crate) type Entries = SmallVec<Dot, 3>;
+/// The entries of a clock: the greatest event of each vnode, vnodes rising. Up to three lie in the clock itself: a key is mostly written at one
+/// vnode, and where the server starts again, or another vnode takes its writes, at two or three.
+pub type Entries = SmallVec<Dot, 3>;
 
 /// A version vector: a set of events that has, with each event of a vnode, all earlier ones of that vnode. It is
 /// kept, and seen in contracts, as the greatest event of each vnode, vnodes rising.
@@ -52,17 +52,6 @@ impl Clock {
         }
     }
 
-    /// The clock of a vnode's events up to this one. It takes no memory.
-    pub fn up_to(alloc: Global, last: Dot) -> Self
-        requires first { 1 ≤ last.n }
-        requires limit { last.n ≤ greatest_counter }
-        ensures { result ≡ last ∷ [] }
-    {
-        let mut entries = Entries::new(alloc);
-        entries.push_reserved(last);
-        Clock { entries }
-    }
-
     /// The clock of these entries: the greatest event of each vnode, vnodes rising. It keeps the vector's memory where there are several.
     pub fn from_entries(entries: Vec<Dot>) -> Self
         requires { IsClock entries.items }
@@ -70,6 +59,14 @@ impl Clock {
     {
         let mut entries = Entries::from_vec(entries);
         entries.shrink_to_fit();
+        Clock { entries }
+    }
+
+    /// The same of entries as a clock keeps them. It takes no memory.
+    pub fn of(entries: Entries) -> Self
+        requires { IsClock entries.items }
+        ensures { result ≡ entries.items }
+    {
         Clock { entries }
     }
 

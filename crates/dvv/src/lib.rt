@@ -8,7 +8,7 @@ mod clock;
 mod fault;
 mod walk;
 
-pub use clock::Clock;
+pub use clock::{Clock, Entries};
 pub use fault::ClockFault;
 
 /// The greatest counter of a clock's entry.

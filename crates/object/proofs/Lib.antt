@@ -9,3 +9,4 @@ pub mod Shown
 pub mod Forms
 pub mod Named
 pub mod Compared
+pub mod Fewer

@@ -1,11 +1,18 @@
 -- What is held, and the state that it is.
 use Rattle.std.specs.Prelude.{[], ◌∷◌}
+use Rattle.object.specs.declared.content.Sibling.{Sibling}
+use Rattle.object.specs.declared.few.Others.{Others}
 use Rattle.object.specs.declared.held.Body.{Body}
-use Rattle.object.specs.declared.held.Body.TheVariants.{Nothing, Lone, Full}
+use Rattle.object.specs.declared.held.Body.TheVariants.{Nothing, Few, Full}
+use Rattle.object.specs.Few.{few_clock}
 use Rattle.object.specs.State.{State, empty}
 
--- the state of what is held: nothing written, a sibling whose dot is all that the clock counts, or siblings and a clock
+-- the state of a sibling, and of a clock of few entries of which its dot is one
+abbrev pub few_state : Others → Sibling → State
+few_state others sibling = record { siblings = sibling ∷ []; clock = few_clock sibling.dot others }
+
+-- the state of what is held: nothing written, a sibling and few entries, or siblings and a clock
 abbrev pub state_of : Body → State
 state_of Nothing = empty
-state_of (Lone sibling) = record { siblings = sibling ∷ []; clock = sibling.dot ∷ [] }
+state_of (Few others sibling) = few_state others sibling
 state_of (Full full) = full.value

@@ -9,3 +9,4 @@ pub mod Parts
 pub mod Known
 pub mod Held
 pub mod Sizes
+pub mod Few

@@ -1,10 +1,10 @@
 //! What is held at a key, and shared by the copies of its state.
 
-ghost use Rattle.std.specs.Prelude.{◌≡◌, ◌<◌, ◌≤◌, ◌↔◌, length, take, IsTrue, OnOk, IfOk, IfErr};
+ghost use Rattle.std.specs.Prelude.{◌≡◌, ◌<◌, ◌≤◌, ◌↔◌, length, IsTrue, OnOk, IfOk, IfErr};
 ghost use Rattle.std.specs.Arc.{arc_value};
-ghost use Rattle.dvv.specs.Clock.{Within, HasRoom, IsClock, vnodes_together, most_entries};
-ghost use Rattle.object.specs.Held.{state_of};
-ghost use Rattle.object.specs.declared.held.Body.TheVariants.{Lone};
+ghost use Rattle.dvv.specs.Clock.{Within, HasRoom, vnodes_together, most_entries};
+ghost use Rattle.object.specs.Few.{short_of};
+ghost use Rattle.object.specs.Held.{few_state};
 ghost use Rattle.object.specs.Limits.{most_siblings};
 ghost use Rattle.object.specs.Parts.{lacks_some};
 ghost use Rattle.object.specs.Sizes.{state_bytes};
@@ -13,9 +13,10 @@ ghost use Rattle.object.specs.State.{empty, next, kept, AreInOrder, AreCovered, 
 use crate::content::{Sibling, Siblings};
 use crate::exchange::lacks;
 use crate::fault::PutRefusal;
+use crate::few::{Others, entries_of, others_of, short_of};
 use crate::full::Full;
 use crate::limits::MAX_SIBLINGS;
-use crate::part::{Part, are_dots_of};
+use crate::part::Part;
 use crate::placing::count_kept;
 use crate::state::KeyState;
 use dvv::{Clock, Dot};
@@ -35,13 +36,13 @@ pub struct Held {
 // With the count of its owners it takes 56 bytes, which fill a block of glibc's `malloc` of 64.
 const _: () = prove!(size_of::<Held>() == 48);
 
-// Nearly every key has one sibling, whose dot is the only entry of its clock: such a one is kept alone.
+// Nearly every key has one sibling, whose dot is one of up to three entries of its clock: these lie in the state itself.
 #[derive(Drop)]
 pub(crate) enum Body {
     // Nothing written.
     Nothing,
-    // A sibling whose dot is the only entry of the clock.
-    Lone(Sibling),
+    // A sibling whose dot is one of the few entries of the clock, and the others.
+    Few { others: Others, sibling: Sibling },
     // Any other siblings, and their clock.
     Full(Box<Full>),
 }
@@ -68,15 +69,15 @@ impl Held {
         }
     }
 
-    // These siblings, and a clock that counts each of them. A lone one takes no memory.
+    // These siblings, and a clock that counts each of them. One with few entries takes no memory.
     pub(crate) fn new(siblings: Siblings, clock: Clock) -> Result<Self, AllocError>
         requires order { AreInOrder siblings.items }
         requires covered { AreCovered clock siblings.items }
         ensures { IfOk result (λ held. held ≡ record { siblings = siblings.items; clock = clock }) }
     {
         let alloc = *siblings.allocator();
-        let body = match lone_of(siblings, &clock) {
-            Ok(sibling) => Body::Lone(sibling),
+        let body = match few_of(siblings, &clock) {
+            Ok((others, sibling)) => Body::Few { others, sibling },
             Err(siblings) => Body::Full(Box::new(alloc, Full::new(siblings, clock))?),
         };
         Ok(Held { alloc, body })
@@ -89,8 +90,8 @@ impl Held {
         ensures { result ≡ record { siblings = siblings.items; clock = full.value.clock } }
     {
         let alloc = *siblings.allocator();
-        let body = match lone_of(siblings, full.clock()) {
-            Ok(sibling) => Body::Lone(sibling),
+        let body = match few_of(siblings, full.clock()) {
+            Ok((others, sibling)) => Body::Few { others, sibling },
             Err(siblings) => {
                 full.set_siblings(siblings);
                 Body::Full(full)
@@ -106,41 +107,33 @@ impl Held {
     {
         match &self.body {
             Body::Nothing => &[],
-            Body::Lone(sibling) => slice::from_ref(sibling),
+            Body::Few { sibling, .. } => slice::from_ref(sibling),
             Body::Full(full) => full.siblings(),
         }
     }
 
-    // The entries of the clock.
-    fn entries(&self) -> &[Dot]
-        ensures all { result.now ≡ self.now.clock }
-        ensures clock { IsClock self.now.clock }
+    // The clock where it has up to three entries, for `clock` to lend. It takes no memory.
+    pub(crate) fn short_clock(&self) -> Clock
+        ensures { result ≡ short_of self.now.clock }
     {
         match &self.body {
-            Body::Nothing => &[],
-            Body::Lone(sibling) => slice::from_ref(&sibling.dot),
-            Body::Full(full) => full.clock().entries(),
+            Body::Nothing => Clock::new(self.alloc),
+            Body::Few { others, sibling } => {
+                Clock::of(entries_of(self.alloc, sibling.dot, *others))
+            }
+            Body::Full(full) => short_of(self.alloc, full.clock()),
         }
     }
 
-    // The clock of the first entry alone, for `clock` to lend. It takes no memory.
-    pub(crate) fn first(&self) -> Clock
-        ensures { result ≡ take 1 self.now.clock }
-    {
-        match self.entries().first() {
-            Some(entry) => Clock::up_to(self.alloc, *entry),
-            None => Clock::new(self.alloc),
-        }
-    }
-
-    // The clock: it counts each event that any known write had seen, and the known writes themselves. Where none is kept, it is that of its
-    // first entry.
-    pub(crate) fn clock<'a>(&'a self, first: &'a Clock) -> &'a Clock
-        requires { first.now ≡ take 1 self.now.clock }
+    // The clock: it counts each event that any known write had seen, and the known writes themselves. Where no clock is kept,
+    // the short one is lent.
+    #[tactic(auto, using(crate::proofs::Fewer::few_is_short))]
+    pub(crate) fn clock<'a>(&'a self, lent: &'a Clock) -> &'a Clock
+        requires { lent.now ≡ short_of self.now.clock }
         ensures { result.now ≡ self.now.clock }
     {
         match &self.body {
-            Body::Nothing | Body::Lone(_) => first,
+            Body::Nothing | Body::Few { .. } => lent,
             Body::Full(full) => full.clock(),
         }
     }
@@ -152,7 +145,7 @@ impl Held {
     {
         match &self.body {
             Body::Nothing => 0,
-            Body::Lone(sibling) => sibling.content.bytes(),
+            Body::Few { sibling, .. } => sibling.content.bytes(),
             Body::Full(full) => full.bytes(),
         }
     }
@@ -167,8 +160,8 @@ impl Held {
         ensures many { result ≡ Err PutRefusal.TooManySiblings ↔ (Within seen.now self.now.clock × (most_siblings ≤ length (kept seen.now self.now.siblings))) }
         ensures full { result ≡ Err PutRefusal.ClockFull ↔ (Within seen.now self.now.clock × (length (kept seen.now self.now.siblings) < most_siblings) × (HasRoom self.now.clock (next self.now vnode) → ⊥)) }
     {
-        let first = self.first();
-        let clock = self.clock(&first);
+        let short = self.short_clock();
+        let clock = self.clock(&short);
         if !seen.le(clock) {
             return Err(PutRefusal::ContextAhead);
         }
@@ -189,8 +182,8 @@ impl Held {
     pub fn can_join(&self, other: &Clock) -> bool
         ensures { IsTrue result ↔ (vnodes_together self.now.clock other.now ≤ most_entries) }
     {
-        let first = self.first();
-        self.clock(&first).can_join(other)
+        let short = self.short_clock();
+        self.clock(&short).can_join(other)
     }
 
     /// Whether a merge of another state keeps the clock within its 1,024 entries.
@@ -204,7 +197,8 @@ impl Held {
     pub fn is_same(&self, state: &KeyState) -> bool
         ensures { IsTrue result ↔ (self.now ≡ state.now) }
     {
-        state.has(self.siblings(), self.entries())
+        let short = self.short_clock();
+        state.has(self.siblings(), self.clock(&short).entries())
     }
 
     /// Whether some content that was left out of a part isn't held. Takes no memory.
@@ -215,19 +209,23 @@ impl Held {
     }
 }
 
-// The sibling that there is alone, where its dot is the only entry of the clock: else the siblings as they were.
-fn lone_of(mut siblings: Siblings, clock: &Clock) -> Result<Sibling, Siblings>
+// The sibling that there is alone, and what its clock has beside its dot, where these are few: else the siblings as they were.
+fn few_of(mut siblings: Siblings, clock: &Clock) -> Result<(Others, Sibling), Siblings>
     requires order { AreInOrder siblings.items }
     requires covered { AreCovered clock.now siblings.items }
-    ensures lone { IfOk result (λ sibling. record { siblings = siblings.items; clock = clock.now } ≡ state_of (Lone sibling)) }
-    ensures state { IfOk result (λ sibling. IsState (state_of (Lone sibling))) }
+    ensures few { IfOk result (λ few. record { siblings = siblings.items; clock = clock.now } ≡ few_state few.0 few.1) }
+    ensures state { IfOk result (λ few. IsState (few_state few.0 few.1)) }
     ensures other { IfErr result (λ same. same.items ≡ siblings.items) }
 {
-    if siblings.len() != 1 || !are_dots_of(clock.entries(), siblings.as_slice()) {
+    if siblings.len() != 1 {
         return Err(siblings);
     }
+    let alloc = *siblings.allocator();
+    let Some(others) = others_of(alloc, siblings[0].dot, clock.entries()) else {
+        return Err(siblings);
+    };
     match siblings.pop() {
-        Some(sibling) => Ok(sibling),
+        Some(sibling) => Ok((others, sibling)),
         None => Err(siblings),
     }
 }

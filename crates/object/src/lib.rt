@@ -5,6 +5,7 @@ mod bytes;
 mod content;
 mod exchange;
 mod fault;
+mod few;
 mod full;
 mod held;
 pub mod laws;

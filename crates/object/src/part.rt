@@ -151,7 +151,7 @@ impl Part {
 }
 
 // Whether these are the dots of some siblings, in their order.
-pub(crate) fn are_dots_of(dots: &[Dot], siblings: &[Sibling]) -> bool
+fn are_dots_of(dots: &[Dot], siblings: &[Sibling]) -> bool
     ensures { IsTrue result ↔ (dots.now ≡ map (λ (s : OneSibling). s.dot) siblings.now) }
 {
     dots.len() == siblings.len()

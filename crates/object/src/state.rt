@@ -20,21 +20,22 @@ pub struct KeyState {
     alloc: Global,
     // None where nothing is written.
     held: Option<Arc<Held>>,
-    // The clock of the first entry alone: where what is held keeps no clock, this one is lent.
-    first: Clock,
+    // The clock where it has up to three entries: where what is held keeps these otherwise, this one is lent.
+    short: Clock,
 }
 
 impl Model for KeyState {
-    ghost use Rattle.std.specs.Prelude.{◌≡◌, take};
+    ghost use Rattle.std.specs.Prelude.{◌≡◌};
     ghost use Rattle.std.specs.Arc.{arc_value};
     ghost use Rattle.std.specs.Option.{option_map_or};
+    ghost use Rattle.object.specs.Few.{short_of};
     ghost use Rattle.object.specs.State.{State, IsState, empty};
 
     ghost Value = { State };
 
     ghost view = { λ s. option_map_or arc_value s.held empty };
 
-    ghost invariant = { λ s. IsState (option_map_or arc_value s.held empty) × (s.first ≡ take 1 (option_map_or arc_value s.held empty).clock) };
+    ghost invariant = { λ s. IsState (option_map_or arc_value s.held empty) × (s.short ≡ short_of (option_map_or arc_value s.held empty).clock) };
 }
 
 impl KeyState {
@@ -51,7 +52,7 @@ impl KeyState {
         KeyState {
             alloc,
             held: None,
-            first: Clock::new(alloc),
+            short: Clock::new(alloc),
         }
     }
 
@@ -83,11 +84,11 @@ impl KeyState {
     {
         // What every state keeps is told with its siblings.
         let _siblings = held.siblings();
-        let first = held.first();
+        let short = held.short_clock();
         KeyState {
             alloc,
             held: Some(held),
-            first,
+            short,
         }
     }
 
@@ -125,8 +126,8 @@ impl KeyState {
         ensures { result.now ≡ self.now.clock }
     {
         match &self.held {
-            None => &self.first,
-            Some(held) => held.clock(&self.first),
+            None => &self.short,
+            Some(held) => held.clock(&self.short),
         }
     }
 

@@ -7,7 +7,7 @@ use std::alloc::Global;
 use std::test::Fail;
 
 /// The entries of a clock: vnodes, and how many events of each.
-type Entries = &'static [(u32, u64)];
+pub(crate) type Entries = &'static [(u32, u64)];
 
 /// Adds the next event of a vnode.
 fn add_next(clock: &mut Clock, vnode: u32) -> Result<(), ClockFault> {
@@ -26,14 +26,14 @@ fn add_all(clock: &mut Clock, counts: &[(u32, u64)]) -> Result<(), ClockFault> {
 }
 
 /// The clock that counts so many events of each vnode.
-fn clock_of(alloc: Global, counts: &[(u32, u64)]) -> Result<Clock, ClockFault> {
+pub(crate) fn clock_of(alloc: Global, counts: &[(u32, u64)]) -> Result<Clock, ClockFault> {
     let mut clock = Clock::new(alloc);
     add_all(&mut clock, counts)?;
     Ok(clock)
 }
 
 /// Whether the clock has these entries, in this order.
-fn shows(clock: &Clock, want: &[(u32, u64)]) -> bool {
+pub(crate) fn shows(clock: &Clock, want: &[(u32, u64)]) -> bool {
     let entries = clock.entries();
     entries.len() == want.len()
         && entries

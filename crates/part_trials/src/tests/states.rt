@@ -1,5 +1,7 @@
 //! The calls of a key's state by themselves. Puts and merges, event by event, stand in scripts of the examples.
 
+use crate::tests::clocks::{Entries, clock_of, shows};
+use code_parts::expect;
 use dvv::{Clock, ClockFault, Dot};
 use object::{Content, KeyState};
 use std::alloc::{AllocError, Global};
@@ -29,5 +31,133 @@ fn states(rt: HostRuntime) -> Result<(), Fail> {
     let mut state = of_parts(rt.alloc())?;
     let copied = is_copied(rt.alloc(), &state)?;
     assert!(rt; copied && is_deleted(&mut state, &Clock::new(rt.alloc())));
+    Ok(())
+}
+
+/// A put whose writer had seen so many events of each vnode, the vnode at which it is made, and the entries of the clock afterwards.
+struct Put {
+    seen: Entries,
+    vnode: u32,
+    clock: Entries,
+}
+
+/// The first of 65,536 identifiers for each incarnation.
+const SECOND: u32 = 65_536;
+
+const PUTS: &[Put] = &[
+    Put {
+        seen: &[],
+        vnode: 7,
+        clock: &[(7, 1)],
+    },
+    Put {
+        seen: &[(1, 2)],
+        vnode: 1,
+        clock: &[(1, 3)],
+    },
+    // One more entry: of another index, before and after the put's, and of another incarnation.
+    Put {
+        seen: &[(0, 1)],
+        vnode: 3,
+        clock: &[(0, 1), (3, 1)],
+    },
+    Put {
+        seen: &[(3, 9)],
+        vnode: 0,
+        clock: &[(0, 1), (3, 9)],
+    },
+    Put {
+        seen: &[(2, 5)],
+        vnode: SECOND,
+        clock: &[(2, 5), (SECOND, 1)],
+    },
+    Put {
+        seen: &[(SECOND, 5)],
+        vnode: 2,
+        clock: &[(2, 1), (SECOND, 5)],
+    },
+    // Two more.
+    Put {
+        seen: &[(0, 1), (1, 2)],
+        vnode: 2,
+        clock: &[(0, 1), (1, 2), (2, 1)],
+    },
+    Put {
+        seen: &[(0, 1), (2, 2)],
+        vnode: 1,
+        clock: &[(0, 1), (1, 1), (2, 2)],
+    },
+    Put {
+        seen: &[(1, 1), (2, 2)],
+        vnode: 0,
+        clock: &[(0, 1), (1, 1), (2, 2)],
+    },
+    Put {
+        seen: &[(1, 4), (SECOND + 1, 1), (2 * SECOND + 1, 3)],
+        vnode: 2 * SECOND + 1,
+        clock: &[(1, 4), (SECOND + 1, 1), (2 * SECOND + 1, 4)],
+    },
+    // Three more.
+    Put {
+        seen: &[(0, 1), (1, 2), (2, 3)],
+        vnode: 3,
+        clock: &[(0, 1), (1, 2), (2, 3), (3, 1)],
+    },
+    // More events than 16 bits count, an index above 3, and incarnations far apart.
+    Put {
+        seen: &[(0, 65_535)],
+        vnode: 1,
+        clock: &[(0, 65_535), (1, 1)],
+    },
+    Put {
+        seen: &[(0, 65_536)],
+        vnode: 1,
+        clock: &[(0, 65_536), (1, 1)],
+    },
+    Put {
+        seen: &[(4, 1)],
+        vnode: 5,
+        clock: &[(4, 1), (5, 1)],
+    },
+    Put {
+        seen: &[(3, 1)],
+        vnode: 63 * SECOND,
+        clock: &[(3, 1), (63 * SECOND, 1)],
+    },
+    Put {
+        seen: &[(3, 1)],
+        vnode: 64 * SECOND,
+        clock: &[(3, 1), (64 * SECOND, 1)],
+    },
+    Put {
+        seen: &[(0, 1), (65_535 * SECOND + 254, 2)],
+        vnode: 65_535 * SECOND,
+        clock: &[(0, 1), (65_535 * SECOND, 1), (65_535 * SECOND + 254, 2)],
+    },
+];
+
+/// The state of one sibling after a put, as it is kept.
+fn written(alloc: Global, put: &Put) -> Result<KeyState, Fail> {
+    let seen = clock_of(alloc, put.seen)?;
+    let mut state = KeyState::from_parts(seen.copy(alloc)?, Vec::new(alloc))?;
+    state.put(put.vnode, &seen, Content::Tombstone)?;
+    Ok(KeyState::of(alloc, &state.stored()?)?)
+}
+
+/// Whether a state is of this put alone.
+fn is_of(state: &KeyState, put: &Put) -> bool {
+    match state.siblings() {
+        [only] => only.dot.vnode == put.vnode && shows(state.clock(), put.clock),
+        _ => false,
+    }
+}
+
+#[test]
+fn one_sibling_is_kept_with_its_clock(rt: HostRuntime) -> Result<(), Fail> {
+    for put in PUTS {
+        let state = written(rt.alloc(), put)?;
+        let copied = is_copied(rt.alloc(), &state)?;
+        expect(copied && is_of(&state, put), &put.vnode)?;
+    }
     Ok(())
 }
