@@ -26,6 +26,11 @@ impl KeyBlock {
     pub fn owners(&self) -> usize {
         Arc::strong_count(&self.keys)
     }
+
+    /// Whether another block has the same keys in the same order.
+    pub fn is_same(&self, other: &KeyBlock) -> bool {
+        self.keys.as_slice() == other.keys.as_slice()
+    }
 }
 
 /// Keys, in the order in which they came. They lie in blocks, and a list of the keys shares those that are full.

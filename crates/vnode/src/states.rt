@@ -20,9 +20,11 @@ use std::hash::BuildHasher;
 /// a few lines of memory: of many more shards they don't stay in the caches that are near the processor.
 const SHARDS: usize = 32;
 
-/// With so many slots the index of the first shard begins, and those of the others with up to a quarter more, by which each
-/// grows: so they grow at different numbers of keys.
+/// With so many slots at least the index of a shard begins.
 const FIRST_SLOTS: usize = 32;
+
+/// Of so many vnodes that follow one another each has a turn of its own: a ring keeps a key at three of them.
+const TURNS: usize = 3;
 
 /// Where a state was found: in which shard, and at which place there.
 #[derive(Clone, Copy)]
@@ -44,6 +46,8 @@ pub struct BlockSpot {
 pub(crate) struct States {
     alloc: Global,
     seed: Seed,
+    /// By which its shards grow at other numbers of keys than those of the next vnodes.
+    turn: usize,
     /// The hash that look-ups begin by.
     hint: Hint,
     // None of them before the first state is kept.
@@ -60,14 +64,15 @@ impl States {
     ghost use Rattle.vnode.specs.Kept.{Shows};
     ghost use Rattle.vnode.specs.States.{AreInPlace, IsSomeKnown, LiesAt, all_known, found_at, shard_count, spot_of, state_at};
 
-    /// No states yet. Takes no memory.
-    pub(crate) fn new(alloc: Global, seed: Seed) -> States
+    /// No states yet, of a vnode by its identifier. Takes no memory.
+    pub(crate) fn new(alloc: Global, vnode: u32, seed: Seed) -> States
         ensures none { (q : Key) → state_at result q ≡ empty }
         ensures placed { AreInPlace result }
     {
         States {
             alloc,
             seed,
+            turn: vnode as usize % TURNS,
             hint: Hint::none(),
             shards: Vec::new(alloc),
         }
@@ -189,7 +194,7 @@ impl States {
         self.shards
             .reserve_exact(SHARDS.saturating_sub(self.shards.len()))?;
         for shard in self.shards.len()..SHARDS {
-            let slots = FIRST_SLOTS + FIRST_SLOTS * shard / (4 * SHARDS);
+            let slots = first_slots(self.turn, shard);
             self.shards.push(Shard::new(self.alloc, slots))?;
         }
         Ok(())
@@ -258,4 +263,11 @@ impl States {
             shard.share_keys(at.number, block);
         }
     }
+}
+
+/// With how many slots the index of a shard begins: with up to a quarter more than another's, by which each grows. So shards
+/// grow at different numbers of keys, and so do those of vnodes that hear of the same ones: no write waits for three growths.
+fn first_slots(turn: usize, shard: usize) -> usize {
+    let step = (shard % SHARDS + turn % TURNS * SHARDS / TURNS) % SHARDS;
+    FIRST_SLOTS + FIRST_SLOTS * step / (4 * SHARDS)
 }

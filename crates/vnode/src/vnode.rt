@@ -73,7 +73,7 @@ impl Vnode {
     {
         Vnode {
             alloc,
-            states: States::new(alloc, seed),
+            states: States::new(alloc, id, seed),
             journal: Journal::new(alloc, id),
         }
     }
