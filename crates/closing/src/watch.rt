@@ -190,7 +190,8 @@ fn fill_block<B: Room + Spot, R: Wait>(
     }
 }
 
-// Has the follower's vnode with an index take the memory of full blocks of keys from the one that it follows, at most four of them.
+// Has the follower's vnode with an index take the memory of full blocks of keys from the one that it follows, at most four of
+// them, after that one took it from the first vnode: so vnodes that heard of the same keys in the same order hold these once.
 fn share_keys_of<B: Room, R: Wait>(
     rt: &R,
     cluster: &Cluster<B>,
@@ -205,6 +206,7 @@ fn share_keys_of<B: Room, R: Wait>(
         let Some(at) = follower.uncompared(index) else {
             break;
         };
+        cluster.share_keys(rt, index, at);
         let Some(block) = cluster.key_block(rt, index, at) else {
             break;
         };

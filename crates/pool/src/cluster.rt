@@ -168,6 +168,24 @@ impl<B: Room> Cluster<B> {
     {
         self.locked(rt, vnode).key_block(at)
     }
+
+    /// Has a vnode take the memory of the first vnode's full block of keys in place of that of its own one there, where both have
+    /// the same keys in the same order. It is no event there. They are compared before its lock is taken, and once more under it:
+    /// then the keys are near the processor, and nobody waits for them to be fetched.
+    pub fn share_keys<R: Wait>(&self, rt: &R, vnode: usize, at: BlockSpot)
+        requires { vnode < self.now.vnodes }
+    {
+        if vnode == 0 {
+            return;
+        }
+        let (Some(first), Some(own)) = (self.key_block(rt, 0, at), self.key_block(rt, vnode, at))
+        else {
+            return;
+        };
+        if own.is_same(&first) {
+            self.locked(rt, vnode).share_keys(at, first);
+        }
+    }
 }
 
 impl<B: Room> Cluster<B> {

@@ -241,6 +241,14 @@ impl<B: Room> Locked<B> {
         self.vnode.key_block(at)
     }
 
+    /// Takes the memory of another vnode's block of keys in place of that of its own one there, where both have the same keys in
+    /// the same order.
+    pub fn share_keys(&mut self, at: BlockSpot, block: KeyBlock)
+        ensures { self.new ≡ self.old }
+    {
+        self.vnode.share_keys(at, block);
+    }
+
     /// The place of a key on a ring of three vnodes, where this one was told it. Where the key lies here is remembered for the look-ups of others.
     pub fn ring_place(&self, hint: &mut Hint, key: &Key) -> Option<u32>
         ensures { IfSome result (λ told. told ≡ ring_place key.now.bucket key.now.key) }
