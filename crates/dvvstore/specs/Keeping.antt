@@ -46,12 +46,12 @@ HasEnded before after (ended.Unkept followed) = (why : List ℕ) × Appends befo
 -- the files that a store begins with: none for who comes to a lobby
 abbrev pub files_for : {N F : Type 0} → Tenant N F → List KeptFile
 files_for (tenant.Guest lobby) = []
-files_for (tenant.Keeper keeper) = keeper.held.now.files.items
+files_for (tenant.Keeper keeper) = keeper.held.files.items
 
 -- the same of a store that has begun
 abbrev pub files_of : {N F B : Type 0} → Stay N F B → List KeptFile
 files_of (stay.Guest lobby) = []
-files_of (stay.Keeper keeper begun) = keeper.held.now.files.items
+files_of (stay.Keeper keeper begun) = keeper.held.files.items
 
 -- how many passes there are besides those of workers: one that the follower has, and three more of a store that is kept, by which it begins
 abbrev pub passes_for : {N F : Type 0} → Tenant N F → ℕ
@@ -73,7 +73,7 @@ HasBegunWith first files begun =
 -- the same, where the store is kept
 abbrev pub HasBegunRight : {N F B : Type 0} → ℕ → Stay N F B → Type 0
 HasBegunRight first (stay.Guest lobby) = Unit {0}
-HasBegunRight first (stay.Keeper keeper begun) = HasBegunWith first keeper.held.now.files.items begun
+HasBegunRight first (stay.Keeper keeper begun) = HasBegunWith first keeper.held.files.items begun
 
 -- the journals of the vnodes that a store leaves begin with the merges of what these files hold, each with its own, and what is said of them is said from there on
 abbrev pub IsLeftFrom : ℕ → List KeptFile → Served → Type 0

@@ -95,8 +95,8 @@ pub struct Door<'a, N> {
 pub struct Keeper<'a, N, F> {
     /// The folder.
     pub folder: F,
-    /// What it held.
-    pub held: &'a Held,
+    /// What it held. The records are let go once the vnodes have them.
+    pub held: Held,
     /// Where the store answers.
     pub door: Door<'a, N>,
 }
@@ -124,25 +124,28 @@ pub fn live<
     requires all { cluster.passes ≤ vec_len seats + 4 }
     requires spot { cluster.first ≡ B.first }
     requires vnodes { cluster.vnodes ≡ 3 }
-    requires begun { HasBegunWith cluster.first keeper.held.now.files.items begun }
+    requires begun { HasBegunWith cluster.first keeper.held.files.items begun }
     ensures told { Tells result (O.contents out.old) (O.contents out.new) }
-    ensures kept { Leaves cluster.first keeper.entry.held.now.files.items result }
+    ensures kept { Leaves cluster.first keeper.entry.held.files.items result }
 {
     let Some(mut seat) = seats.pop() else {
         unreachable!();
     };
+    let Keeper { folder, held, door } = keeper;
+    let Held {
+        settings,
+        hooks,
+        files,
+        ..
+    } = held;
     let table = &seat.hooking.table;
-    let requests = begin_hooks(
-        alloc,
-        rt,
-        &table.listed,
-        &mut seat.hooking.hooks,
-        &keeper.held.hooks,
-    )?;
+    let requests = begin_hooks(alloc, rt, &table.listed, &mut seat.hooking.hooks, &hooks)?;
     seats.push_reserved(seat);
     let Lookout { watch, err, .. } = lookout;
-    let Keeper { folder, held, door } = keeper;
-    let lobby = open_lobby(alloc, door, held, seats.len(), err, out)?;
+    let loaded = loaded_in(&files);
+    // Else each state would be kept until the end that a key had at the start.
+    drop(files);
+    let lobby = open_lobby(alloc, door, loaded, seats.len(), err, out)?;
     let lookout = Lookout {
         watch,
         requests,
@@ -160,7 +163,7 @@ pub fn live<
             folder,
             first,
         },
-        every: held.settings.every,
+        every: settings.every,
         err,
     };
     match crew::keep(
@@ -171,12 +174,12 @@ pub fn live<
     }
 }
 
-/// Tells how many records a store begins with, binds its address, and opens a lobby for so many workers. The error: the address can't be bound,
+/// Tells with how many records a store begins, binds its address, and opens a lobby for so many workers. The error: the address can't be bound,
 /// the output can't be written, the system has no descriptor for a worker, or memory was refused.
 fn open_lobby<N: Net<Listener = TcpListener, Stream = TcpStream>, O: Write>(
     alloc: Global,
     door: Door<'_, N>,
-    held: &Held,
+    loaded: usize,
     workers: usize,
     err: Stderr,
     out: &mut O,
@@ -189,7 +192,6 @@ fn open_lobby<N: Net<Listener = TcpListener, Stream = TcpStream>, O: Write>(
         count,
         input,
     } = door;
-    let loaded = loaded_in(&held.files);
     writeln!(out, "loaded {loaded}")?;
     let setup = Setup {
         listener: listen(rt, addr, err, out)?,

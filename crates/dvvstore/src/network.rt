@@ -16,7 +16,7 @@ use crate::system_folder::{SystemFolder, take};
 use closing::Closed;
 use commands::server::{Ended, Server, Site, Unserved};
 use findings::{Followed, WatchFault};
-use folder::{Folder, OpenFault, keep_all};
+use folder::{Folder, OpenFault, Opened, keep_all};
 use helpers::Table;
 use listener::{Setup, open};
 use std::alloc::Global;
@@ -153,13 +153,14 @@ impl<
             Err(OpenFault::NoMemory) => return Err(Unserved::NoMemory),
             Err(why) => return Err(refused(alloc, out, &why)),
         };
+        let Opened { number, held } = opened;
         let making = Making {
-            first: u32::from(opened.number) * IDENTIFIERS,
+            first: u32::from(number) * IDENTIFIERS,
             seed,
         };
         let keeper = Keeper {
             folder,
-            held: &opened.held,
+            held,
             door: Door {
                 rt: self.rt,
                 addr: site.addr,

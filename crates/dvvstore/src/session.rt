@@ -227,7 +227,7 @@ fn begin_kept<B: Room + Send + Sync, R: Threads + Wait + Sync, N, F>(
 ) -> Result<Begun<B>, Unbegun>
     requires vnodes { cluster.now.vnodes ≡ 3 }
     requires first { first ≡ cluster.now.first }
-    ensures { IfOk result (HasBegunWith cluster.now.first keeper.now.held.now.files.items) }
+    ensures { IfOk result (HasBegunWith cluster.now.first keeper.now.held.files.items) }
 {
     let (spares, fronts) = keeper::begin(alloc, rt, cluster, spares, &keeper.held.files)?;
     Ok(Begun {

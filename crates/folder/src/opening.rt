@@ -12,11 +12,12 @@ use crate::names::{HOOKS, INCARNATION, SETTINGS, VNODES, name_of};
 use crate::sealing::{seal, unseal};
 use crate::settings::{Settings, USUAL, settings_in};
 use crate::writing::{WriteFault, replace};
-use abreast::join_three;
 use keeping::{KeptFile, Spent, Unkept, next_incarnation, read_file};
 use std::alloc::{AllocError, Global};
+use std::thread;
 use std::thread::Threads;
 use thiserror::Error;
+use wire::Record;
 
 /// What a start has.
 #[derive(Drop)]
@@ -89,8 +90,8 @@ impl From<AllocError> for OpenFault {
 }
 
 /// Reads all files of a folder, and takes the next number: it is written and forced to the device before anything else is done. An empty
-/// folder is a new store. Nothing is changed where a file is at fault. The files of records are read and taken apart side by side where there are
-/// threads for that; of those at fault the first is told.
+/// folder is a new store. Nothing is changed where a file is at fault. The files of records are read and taken apart by several threads where
+/// there are some; of those at fault the first is told.
 pub fn open<F: Folder + Sync, R: Threads + Sync>(
     alloc: Global,
     rt: &R,
@@ -206,7 +207,8 @@ fn number_of(bytes: &[u8]) -> Option<u16> {
     text.trim_end().parse::<u16>().ok()
 }
 
-/// The files of records that there are. They are read and taken apart side by side where there are threads for that.
+/// The files of records that there are. The first is read and taken apart, and then the two others side by side where there are threads for that:
+/// their records take the memory of those of the first that are the same, as nearly all are.
 fn files_in<F: Folder + Sync, R: Threads + Sync>(
     alloc: Global,
     rt: &R,
@@ -214,23 +216,31 @@ fn files_in<F: Folder + Sync, R: Threads + Sync>(
 ) -> Result<Vec<KeptFile>, OpenFault>
     ensures { IfOk result (λ files. (index : ℕ) → index < 3 → IsReadAt (F.finds folder.now) files.items index) }
 {
-    let (first, second, third) = join_three(
+    let first = file_in(alloc, rt, folder, 0, &[])?;
+    let records = records_of(first.as_ref());
+    let (second, third) = thread::join(
         rt,
         || -> Result<Option<KeptFile>, OpenFault>
-            ensures { IfOk result (λ file. IsFoundAt (F.finds folder.entry.now) 0 file) }
-        { file_in(alloc, rt, folder, 0) },
-        || -> Result<Option<KeptFile>, OpenFault>
             ensures { IfOk result (λ file. IsFoundAt (F.finds folder.entry.now) 1 file) }
-        { file_in(alloc, rt, folder, 1) },
+        { file_in(alloc, rt, folder, 1, records) },
         || -> Result<Option<KeptFile>, OpenFault>
             ensures { IfOk result (λ file. IsFoundAt (F.finds folder.entry.now) 2 file) }
-        { file_in(alloc, rt, folder, 2) },
+        { file_in(alloc, rt, folder, 2, records) },
     );
+    let (second, third) = (second?, third?);
     let mut files = Vec::with_capacity(alloc, VNODES)?;
-    add(&mut files, first?)?;
-    add(&mut files, second?)?;
-    add(&mut files, third?)?;
+    add(&mut files, first)?;
+    add(&mut files, second)?;
+    add(&mut files, third)?;
     Ok(files)
+}
+
+/// The records of a file, if there is one.
+fn records_of(file: Option<&KeptFile>) -> &[Record] {
+    match file {
+        Some(file) => &file.records,
+        None => &[],
+    }
 }
 
 /// Adds a file to others, if there is one.
@@ -246,17 +256,19 @@ fn add(files: &mut Vec<KeptFile>, found: Option<KeptFile>) -> Result<(), OpenFau
     }
 }
 
-/// The records of the vnode with an index, if there is a file of them. Its bytes are gone once they are taken apart.
+/// The records of the vnode with an index, if there is a file of them. Its bytes are gone once they are taken apart. Records that are among others
+/// take their memory.
 fn file_in<F: Folder, R: Threads>(
     alloc: Global,
     rt: &R,
     folder: &F,
     index: usize,
+    others: &[Record],
 ) -> Result<Option<KeptFile>, OpenFault>
     ensures { IfOk result (λ file. IsFoundAt (F.finds folder.now) index file) }
 {
     let found = bytes_of(alloc, folder, name_of(index))?;
-    file_of(alloc, rt, found, index)
+    file_of(alloc, rt, found, index, others)
 }
 
 /// The records of the vnode with an index, whose file holds these bytes, if there is one.
@@ -265,6 +277,7 @@ fn file_of<R: Threads>(
     rt: &R,
     found: Option<Vec<u8>>,
     index: usize,
+    others: &[Record],
 ) -> Result<Option<KeptFile>, OpenFault>
     ensures { IfOk result (λ file. IsFileIn (bytes_in found) index file) }
 {
@@ -272,7 +285,7 @@ fn file_of<R: Threads>(
         return Ok(None);
     };
     let name = name_of(index);
-    match read_file(alloc, rt, &bytes) {
+    match read_file(alloc, rt, &bytes, others) {
         Ok(file) if (file.from % 65_536) as usize == index => Ok(Some(file)),
         Ok(_) => Err(OpenFault::Misplaced { name }),
         Err(Unkept::NoMemory) => Err(OpenFault::NoMemory),

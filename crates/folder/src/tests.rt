@@ -1,5 +1,6 @@
 //! Starts, and files that are replaced, which end after each of their operations.
 
+mod alike;
 mod memory;
 
 use crate::writing::replace;

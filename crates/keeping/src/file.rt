@@ -38,12 +38,17 @@ pub enum Unkept {
 }
 
 /// The records of a vnode's file. A file that was cut, even behind a record, is told, and so is one that was damaged. Its two halves are taken
-/// apart side by side where there are threads for that.
-pub fn read_file<R: Threads>(alloc: Global, rt: &R, bytes: &[u8]) -> Result<KeptFile, Unkept>
+/// apart side by side where there are threads for that. Records that are among others, those of another vnode's file, take their memory.
+pub fn read_file<R: Threads>(
+    alloc: Global,
+    rt: &R,
+    bytes: &[u8],
+    others: &[Record],
+) -> Result<KeptFile, Unkept>
     ensures kept { IfOk result (λ file. IsFileOf file.from file.records.items bytes.now) }
     ensures unkept { IfErr result (IsUnkept bytes.now) }
 {
-    let mut records = match records_beside(alloc, rt, bytes) {
+    let mut records = match records_beside(alloc, rt, bytes, others) {
         Ok(records) => records,
         Err(Unread::Faulty { place, fault }) => return Err(Unkept::Faulty { place, fault }),
         Err(Unread::NoMemory) => return Err(Unkept::NoMemory),

@@ -29,6 +29,7 @@ fn records_of_both<R: Threads>(
     rt: &R,
     front: &[u8],
     back: &[u8],
+    others: &[Record],
 ) -> Option<Vec<Record>>
     ensures { IfSome result (λ records. AreSpelledBy records.items (front.now ++ back.now)) }
 {
@@ -36,10 +37,10 @@ fn records_of_both<R: Threads>(
         rt,
         || -> Result<Vec<Record>, Unread>
             ensures { IfOk result (λ records. AreSpelledBy records.items front.entry.now) }
-        { records_in(alloc, front) },
+        { records_in(alloc, front, others) },
         || -> Result<Vec<Record>, Unread>
             ensures { IfOk result (λ records. AreSpelledBy records.items back.entry.now) }
-        { records_in(alloc, back) },
+        { records_in(alloc, back, others) },
     );
     let (Ok(mut records), Ok(mut others)) = (first, second) else {
         return None;
@@ -50,18 +51,20 @@ fn records_of_both<R: Threads>(
     }
 }
 
-/// The records that bytes are, one after another, or the first that has a fault: that is found by one thread, in order.
+/// The records that bytes are, one after another, or the first that has a fault: that is found by one thread, in order. Those that are among
+/// others, which stand in the order of keys, too, take their memory.
 pub(crate) fn records_beside<R: Threads>(
     alloc: Global,
     rt: &R,
     bytes: &[u8],
+    others: &[Record],
 ) -> Result<Vec<Record>, Unread>
     ensures records { IfOk result (λ records. AreSpelledBy records.items bytes.now) }
     ensures unread { IfErr result (IsUnread bytes.now) }
 {
     let (front, back) = bytes.split_at(middle_of(bytes));
-    match records_of_both(alloc, rt, front, back) {
+    match records_of_both(alloc, rt, front, back, others) {
         Some(records) => Ok(records),
-        None => records_in(alloc, bytes),
+        None => records_in(alloc, bytes, others),
     }
 }

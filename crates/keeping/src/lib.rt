@@ -6,6 +6,7 @@ mod file;
 mod halves;
 mod number;
 mod records;
+mod sharing;
 mod snapshot;
 mod whole;
 

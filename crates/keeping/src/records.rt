@@ -6,6 +6,7 @@ ghost use Rattle.wire.specs.Records.{AreContents};
 ghost use Rattle.keeping.specs.declared.records.Unread.TheVariants as unread;
 ghost use Rattle.keeping.specs.Records.{AreSpelledBy, IsUnread, record_of};
 
+use crate::sharing::{from_key, share, share_media};
 use object::{Content, Key, KeyState, MAX_BUCKET, MAX_KEY, MAX_MEDIA, MAX_VALUE, Sibling};
 use std::alloc::{AllocError, Global};
 use wire::{Record, WireFault, has_record, read_record, write_record};
@@ -88,17 +89,24 @@ fn is_content(content: &Content) -> bool
     }
 }
 
-/// The records that bytes are, one after another, or the first that has a fault.
-pub(crate) fn records_in(alloc: Global, bytes: &[u8]) -> Result<Vec<Record>, Unread>
+/// The records that bytes are, one after another, or the first that has a fault. Those that are among others take their memory: both stand in the
+/// order of keys, and where they don't, less is shared.
+pub(crate) fn records_in(
+    alloc: Global,
+    bytes: &[u8],
+    others: &[Record],
+) -> Result<Vec<Record>, Unread>
     ensures records { IfOk result (λ records. AreSpelledBy records.items bytes.now) }
     ensures unread { IfErr result (IsUnread bytes.now) }
 {
     let mut records = Vec::new(alloc);
     let mut left = bytes;
+    let mut rest = others;
     while !left.is_empty() {
         match read_record(alloc, left) {
             Ok((one, len)) => {
-                keep(&mut records, one)?;
+                rest = from_key(rest, &one.key);
+                keep(alloc, &mut records, rest.first(), one)?;
                 left = &left[len..];
             }
             Err(fault) => {
@@ -110,11 +118,22 @@ pub(crate) fn records_in(alloc: Global, bytes: &[u8]) -> Result<Vec<Record>, Unr
     Ok(records)
 }
 
-/// Appends a record to a list.
-fn keep(records: &mut Vec<Record>, one: Record) -> Result<(), Unread>
+/// Appends a record to a list. It takes the memory of another one, where it is the same, and else its media type's bytes are those of the last one's,
+/// where these are the same.
+fn keep(
+    alloc: Global,
+    records: &mut Vec<Record>,
+    other: Option<&Record>,
+    mut one: Record,
+) -> Result<(), Unread>
     ensures kept { OnOk result (records.new.items ≡ records.old.items ++ one ∷ []) }
     ensures short { IfErr result (λ why. why ≡ unread.NoMemory) }
 {
+    match (other, records.last()) {
+        (Some(other), _) => share(&mut one, other),
+        (None, Some(last)) => share_media(alloc, &mut one.state, &last.state),
+        (None, None) => {}
+    }
     match records.push(one) {
         Ok(()) => Ok(()),
         Err(_) => Err(Unread::NoMemory),

@@ -6,8 +6,8 @@ use Rattle.folder.proofs.opening.files_in.Goals as goal
 pub returns : goal.returns
 returns g c =
     all_found (g.F.Folder.finds c.args.folder.now) c.in_ok-files.files.items c.add.new.files.items c.add-2.new.files.items c.add-3.new.files.items
-    c.in_ok-first.field-0 c.in_ok-second.field-0 c.in_ok-third.field-0
+    c.in_ok-first.first c.in_ok-second.second c.in_ok-third.third
     c.in_ok-files.ensures.items c.in_ok-add.ensures c.in_ok-add-2.ensures c.in_ok-add-3.ensures
-    (subst (λ r. IfOk r (IsFoundAt (g.F.Folder.finds c.args.folder.now) 0)) c.in_ok-first.was c.join_three-first.ensures.first)
-    (subst (λ r. IfOk r (IsFoundAt (g.F.Folder.finds c.args.folder.now) 1)) c.in_ok-second.was c.join_three-first.ensures.second)
-    (subst (λ r. IfOk r (IsFoundAt (g.F.Folder.finds c.args.folder.now) 2)) c.in_ok-third.was c.join_three-first.ensures.third)
+    c.in_ok-first.ensures
+    (subst (λ r. IfOk r (IsFoundAt (g.F.Folder.finds c.args.folder.now) 1)) c.in_ok-second.was c.join-second.ensures.first)
+    (subst (λ r. IfOk r (IsFoundAt (g.F.Folder.finds c.args.folder.now) 2)) c.in_ok-third.was c.join-second.ensures.second)
