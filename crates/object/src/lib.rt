@@ -15,6 +15,7 @@ mod names;
 mod part;
 mod placing;
 mod prepared;
+mod shared;
 mod state;
 
 pub use bytes::Bytes;
@@ -24,4 +25,5 @@ pub use held::{Held, Stored};
 pub use limits::{MAX_BUCKET, MAX_KEY, MAX_MEDIA, MAX_SIBLINGS, MAX_VALUE};
 pub use part::{Part, PartSibling, Summary};
 pub use prepared::PreparedPart;
+pub use shared::Shared;
 pub use state::KeyState;

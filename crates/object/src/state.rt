@@ -8,6 +8,7 @@ use crate::full::Full;
 use crate::held::{Held, Stored};
 use crate::merging::{covers_some, drops_some, merge_siblings};
 use crate::placing::replacing_seen;
+use crate::shared::Shared;
 use dvv::{Clock, ClockFault, Dot};
 use std::alloc::{AllocError, Global};
 use std::marker::Model;
@@ -153,15 +154,40 @@ impl KeyState {
         }
     }
 
+    /// What it holds, for who needs the state no longer.
+    pub fn into_shared(self) -> Shared
+        ensures { result ≡ self }
+    {
+        Shared { held: self.held }
+    }
+
     /// Takes the memory of another state in place of its own, where both are the same.
     pub fn share(&mut self, other: &KeyState)
         ensures { self.new ≡ self.old }
     {
-        if !self.is_same(other) {
+        if let Some(held) = &other.held {
+            self.share_held(held);
+        }
+    }
+
+    /// Takes the memory of a shared state in place of its own, where both are the same.
+    pub fn share_with(&mut self, shared: &Shared)
+        ensures { self.new ≡ self.old }
+    {
+        if let Some(held) = &shared.held {
+            self.share_held(held);
+        }
+    }
+
+    // Takes what another state holds in place of its own, where both are the same.
+    fn share_held(&mut self, held: &Arc<Held>)
+        ensures { self.new ≡ self.old }
+    {
+        if !held.is_same(self) {
             return;
         }
-        if let Ok(copy) = other.copy(self.alloc) {
-            *self = copy;
+        if let Ok(same) = held.clone() {
+            *self = KeyState::sharing(self.alloc, same);
         }
     }
 

@@ -3,7 +3,7 @@
 use crate::tests::clocks::{Entries, clock_of, shows};
 use code_parts::expect;
 use dvv::{Clock, ClockFault, Dot};
-use object::{Content, KeyState};
+use object::{Content, KeyState, Shared};
 use std::alloc::{AllocError, Global};
 use std::test::Fail;
 
@@ -14,9 +14,13 @@ fn of_parts(alloc: Global) -> Result<KeyState, ClockFault> {
     Ok(KeyState::from_parts(clock, Vec::new(alloc))?)
 }
 
-/// Whether a copy of a state is the same.
+/// Whether a copy of a state is the same, and what it shares, too, and that isn't nothing.
 fn is_copied(alloc: Global, state: &KeyState) -> Result<bool, AllocError> {
-    Ok(state.copy(alloc)?.is_same(state))
+    let copy = state.copy(alloc)?;
+    let is_same = copy.is_same(state);
+    let shared = copy.into_shared();
+    let is_shared = shared.is_same(state) && shared.copy()?.is_same(state);
+    Ok(is_same && is_shared && !Shared::nothing().is_same(state))
 }
 
 /// Whether a delete at vnode 3 that has seen nothing is told the third event, and is it.
@@ -31,6 +35,7 @@ fn states(rt: HostRuntime) -> Result<(), Fail> {
     let mut state = of_parts(rt.alloc())?;
     let copied = is_copied(rt.alloc(), &state)?;
     assert!(rt; copied && is_deleted(&mut state, &Clock::new(rt.alloc())));
+    assert!(rt; Shared::nothing().is_same(&KeyState::new(rt.alloc())));
     Ok(())
 }
 
