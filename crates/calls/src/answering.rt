@@ -22,11 +22,11 @@ pub fn answer(vnode: &mut Vnode, stamp: u64, prepared: Prepared<'_>) -> Result<R
 {
     match prepared {
         Prepared::Put(write) => match vnode.put(stamp, write) {
-            Ok((dot, _)) => Ok(Reply::Dot(dot)),
+            Ok((dot, _, _was)) => Ok(Reply::Dot(dot)),
             Err(fault) => Err(PartFault::Refused(fault)),
         },
         Prepared::Merge(merged) => match vnode.merge(stamp, merged) {
-            Ok((changed, _)) => Ok(Reply::Changed(changed)),
+            Ok((changed, _, _was)) => Ok(Reply::Changed(changed)),
             Err(fault) => Err(PartFault::Refused(fault)),
         },
         Prepared::Read(key) => match vnode.read(stamp, key) {
@@ -38,7 +38,7 @@ pub fn answer(vnode: &mut Vnode, stamp: u64, prepared: Prepared<'_>) -> Result<R
             Err(fault) => Err(PartFault::Refused(fault)),
         },
         Prepared::Part { merged, part } => match vnode.merge_part(stamp, merged, part) {
-            Ok((changed, _)) => Ok(Reply::Built {
+            Ok((changed, _, _was)) => Ok(Reply::Built {
                 changed,
                 whole: Whole::last_of(vnode),
             }),

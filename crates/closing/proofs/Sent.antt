@@ -4,7 +4,7 @@ use denote.Param.Send.{IsSend, sendable}
 use Rattle.std.proofs.Crossing.{crosses}
 use Rattle.journal.proofs.entry.Entry.TheSendSync as entry
 use Rattle.object.proofs.content.Key.TheSendSync as key
-use Rattle.object.proofs.state.KeyState.TheSendSync as state
+use Rattle.object.proofs.shared.Shared.TheSendSync as shared
 use Rattle.atomic_table.proofs.shared.Seat.TheSendSync as seat
 use Rattle.rerun.specs.contracts.rerun.Rerun as Rerun
 use Rattle.follow.specs.contracts.follower.Follower as Follower
@@ -14,7 +14,7 @@ use Rattle.vnode_locks.specs.declared.pass.Room as room
 use Rattle.closing.specs.declared.watch.Spot as spot
 
 rerun_send : IsSend Rerun.the_row
-rerun_send = search (vnode_send, key.the_send, state.the_send, sendable, crosses) depth 60 fits 20000
+rerun_send = search (vnode_send, key.the_send, shared.the_send, sendable, crosses) depth 60 fits 20000
 
 pub follower_send : IsSend Follower.the_row
 follower_send = search (rerun_send, entry.the_send, sendable, crosses) depth 60

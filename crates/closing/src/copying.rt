@@ -19,7 +19,7 @@ fn copy_of_put(
 ) -> Result<Entry, AllocError>
     ensures { IfOk result (λ copy. copy ≡ Put stamp key.now seen.now content.now dot) }
 {
-    let write = Write::new(alloc, key.copy()?, seen.copy(alloc)?, content.copy()?);
+    let write = Write::new(key.copy()?, seen.copy(alloc)?, content.copy()?);
     Ok(Entry::put(stamp, Box::new(alloc, write)?, dot))
 }
 

@@ -1,6 +1,6 @@
 -- One entry more was followed: what was followed stays one run of the world.
 use Rattle.std.proofs.Common.{◌≡◌, ℕ, ◌+◌, ◌<◌, ◌≤◌, ◌⊎◌, List, [], ◌∷◌, ◌++◌, length, get_or, set, take, drop, refl, sym, ap, subst, ◌∙◌, inl, inr, arith, Option, Some, None, length-set}
-use Rattle.std.specs.Prelude.{slice_get, Contains, leb, Bool, true, false, cond}
+use Rattle.std.specs.Prelude.{slice_get, Contains, leb, Bool, true, false, cond, MatchBool}
 use Rattle.std.proofs.lemmas.Bool.{cases_eq, leb-false}
 use Rattle.std.proofs.lemmas.List.{get_or-set_same, get_or-set_other, length_push, take_all}
 use Rattle.std.proofs.lemmas.List.Elements.{Contains-push_cases}
@@ -407,6 +407,12 @@ step_more fronts logs last recent answers i e a new list run inside follows answ
     subst (λ (ss : List Step). IsSoFar begin (with_entry_at logs i e) ss (with_entry_at logs i e) (run.messages ++ m ∷ [])) (sym joins)
     (so_far_renamed begin logs (with_entry_at logs i e) (same_ids logs i e) (steps_behind fronts run.order ++ s ∷ []) (with_entry_at logs i e) (run.messages ++ m ∷ [])
     (so_far_more fronts begin logs last recent answers run i e a (run.so_far begin begun (fronts_before fronts logs begun i e inside whole are) begins_so) inside follows answer source)))
+
+-- what is kept of an entry that has happened next: of one of a front nothing
+pub next_kept : (fronts : List ℕ) (logs : List Log) (i : ℕ) (e : Entry) (front : Bool) (k new : Kept) → MatchBool front (IsInFront fronts logs i) (IsBehind fronts i (length (log_at logs i).entries))
+    → MatchBool front (new ≡ kept.Other) (new ≡ k) → IsToKeep (log_at logs i).entries e k → IsNextKept fronts logs i e new
+next_kept fronts logs i e true k new inside is to = inl (inside, is)
+next_kept fronts logs i e false k new behind is to = inr (behind, subst (IsToKeep (log_at logs i).entries e) (sym is) to)
 
 -- one entry more
 pub followed_more : (fronts : List ℕ) (logs : List Log) (last : Option ℕ) (recent : Recent) (answers : List (List Kept)) (i : ℕ) (e : Entry) (a : Answer) (new : Kept) (list : List Kept) → HasFollowed fronts logs last recent answers → i < length logs

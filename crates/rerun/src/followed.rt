@@ -5,7 +5,7 @@ ghost use Rattle.journal.specs.Stamps.{stamp_of};
 ghost use Rattle.world.specs.Represents.{AreDistinct, empty_logs, log_at, with_entry_at};
 ghost use Rattle.rerun.specs.Wrong.{IsNewest, IsStampFault, IsMergeFault, IsSourceFault, IsPlaceFault, IsFoundWrong, IsAfterAll, IsFounded, IsHeld, IsToldOf};
 ghost use Rattle.rerun.specs.Beginnings.{AreWhole, IsBehind, IsInFront};
-ghost use Rattle.rerun.specs.Followed.{HasFollowed, HasSource, IsAbove, IsAnswerOf, IsExpected, IsNextKept, IsSourceKept, IsToKeep};
+ghost use Rattle.rerun.specs.Followed.{HasFollowed, HasSource, IsAbove, IsAnswerOf, IsExpected, IsSourceKept};
 
 use crate::again::{Refusal, happen};
 use crate::kept::{Answers, Found, Kept, Recent};
@@ -69,18 +69,11 @@ fn check_merge(
     }
 }
 
-// What is kept of an entry that is behind its front and next at a vnode. Of a put and of a merge it is the state that they will replace: it is shared.
-fn kept_of(vnode: &Vnode, entry: &Entry) -> Result<Kept, AllocError>
-    ensures { IfOk result (IsToKeep vnode.now.entries entry.now) }
+// What is kept of an entry that has happened next at a vnode: of one of its front nothing, since no merge may name it.
+fn kept_behind(is_in_front: bool, kept: Kept) -> Kept
+    ensures { MatchBool is_in_front (result ≡ Kept.Other) (result ≡ kept) }
 {
-    match entry.said() {
-        Said::Read { key, .. } => Ok(Kept::Read(key.copy()?)),
-        Said::Put { key, .. } | Said::Merge { key, .. } => {
-            let state = vnode.state(key)?;
-            Ok(Kept::Was(key.copy()?, state))
-        }
-        Said::Restart { .. } => Ok(Kept::Other),
-    }
+    if is_in_front { Kept::Other } else { kept }
 }
 
 /// What was followed of some vnodes, and what is kept of it.
@@ -248,17 +241,6 @@ impl Followed {
         Err(fault)
     }
 
-    // What is kept of an entry that is next at a vnode: of one of its front nothing, since no merge may name it.
-    fn next_kept(&self, index: usize, entry: &Entry) -> Result<Kept, AllocError>
-        requires inside { index < length self.now.vnodes.items }
-        ensures { IfOk result (IsNextKept self.now.fronts.items self.now.vnodes.items index entry.now) }
-    {
-        if self.is_in_front(index) {
-            return Ok(Kept::Other);
-        }
-        kept_of(&self.vnodes[index], entry)
-    }
-
     // An entry of a vnode happens again.
     fn step(&mut self, alloc: Global, index: usize, entry: Entry) -> Result<(), FollowFault>
         requires run { HasFollowed self.old.fronts.items self.old.vnodes.items self.old.last self.old.recent self.old.answers.items }
@@ -275,13 +257,13 @@ impl Followed {
         ensures told { IfErr result (λ fault. IsToldOf self.old.fronts.items self.old.vnodes.items self.old.recent index entry fault) }
     {
         let illegal = self.fault_at(index, FollowCode::Illegal);
-        let kept = self.next_kept(index, &entry)?;
+        let is_in_front = self.is_in_front(index);
         let stamp = entry.stamp();
-        match happen(alloc, &mut self.vnodes[index], entry) {
-            Ok(_) => {}
+        let kept = match happen(alloc, &mut self.vnodes[index], entry) {
+            Ok((_, kept)) => kept_behind(is_in_front, kept),
             Err(Refusal::Illegal) => return Err(illegal),
             Err(Refusal::NoMemory) => return Err(FollowFault::NoMemory),
-        }
+        };
         self.answers[index].keep(kept, self.recent)?;
         self.last = Some(stamp);
         self.last_index = index;

@@ -4,7 +4,7 @@ ghost use Rattle.std.specs.Prelude.{◌≡◌, ◌++◌, ◌∷◌, [], ◌+◌,
 ghost use Rattle.std.specs.Option.{option_copied};
 ghost use Rattle.rerun.specs.Kept.{IsFound, IsLeft, IsMore, first_was, kept_bytes, was_before};
 
-use object::{Key, KeyState};
+use object::{Key, Shared};
 use std::alloc::{AllocError, Global};
 use std::collections::VecDeque;
 use std::marker::Model;
@@ -12,11 +12,11 @@ use std::marker::Model;
 /// What is kept of an entry that has happened again. What a read answered is the state before the first entry behind it that changes its key, or,
 /// where none does, the one that is there now: so of a read its key is enough.
 #[derive(Drop)]
-pub enum Kept {
+pub(crate) enum Kept {
     /// A read's key.
     Read(Key),
     /// The key of a put or of a merge, and the state that was there before.
-    Was(Key, KeyState),
+    Was(Key, Shared),
     /// It was a restart, or one of a front.
     Other,
     /// No longer anything.
@@ -35,7 +35,7 @@ impl Kept {
     }
 
     // The state that was at a key before, where the entry changed it.
-    fn was_at(&self, key: &Key) -> Option<&KeyState>
+    fn was_at(&self, key: &Key) -> Option<&Shared>
         ensures { option_copied result ≡ was_before self.now key.now }
     {
         match self {
@@ -150,7 +150,7 @@ impl Answers {
     }
 
     /// The state that was at a key before the first entry behind a place that changes it, of those that are here.
-    pub(crate) fn first_was(&self, place: u32, key: &Key) -> Option<&KeyState>
+    pub(crate) fn first_was(&self, place: u32, key: &Key) -> Option<&Shared>
         ensures { option_copied result ≡ first_was (drop (place + 1) self.now) key.now }
     {
         let behind = (place as usize + 1).saturating_sub(self.first);

@@ -13,7 +13,6 @@ mod sources;
 mod stamps;
 mod turns;
 
-pub use again::{Again, Refusal, happen};
 pub use audit_fault::{AuditCode, AuditFault};
 pub use findings::{FollowCode, FollowFault};
 pub use kept::Recent;

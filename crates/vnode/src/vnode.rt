@@ -11,12 +11,12 @@ use crate::parts::{merged_part_of, part_refusal_at, summary_at};
 use crate::seed::Seed;
 use crate::states::{BlockSpot, States};
 use crate::steps::{
-    Copied, Placed, copies_at, copy_at, has_places_for, is_at, keys_in, listed_in, merge_at,
+    Copied, Placed, copies_at, has_places_for, is_at, keys_in, listed_in, merge_at,
     merge_refusal_at, merged_of, put_at, put_refusal_at, read_all_at, write_of,
 };
 use dvv::{Clock, Dot};
 use journal::{Entry, Handout, Journal, Merged, Write};
-use object::{Content, Key, KeyState, Part, PreparedPart, Summary};
+use object::{Content, Key, KeyState, Part, PreparedPart, Shared, Summary};
 use std::alloc::{AllocError, Global};
 use std::marker::Model;
 
@@ -109,11 +109,12 @@ impl Vnode {
         keys_in(self.alloc, &self.states)
     }
 
-    /// Writes a content that had seen what the context counts. Answers its dot, and the place of its entry, which takes the parts over.
-    /// Memory is asked for nothing but what the vnode itself keeps.
-    pub fn put(&mut self, stamp: u64, write: Box<Write>) -> Result<(Dot, u32), VnodeFault>
+    /// Writes a content that had seen what the context counts. Answers its dot, the place of its entry, which takes the parts over, and the
+    /// state that was at its key before. Memory is asked for nothing but what the vnode itself keeps.
+    pub fn put(&mut self, stamp: u64, write: Box<Write>) -> Result<(Dot, u32, Shared), VnodeFault>
         ensures dot { IfOk result (λ put. IsNextDot self.old.entries write.value.key self.old.vnode put.0) }
         ensures place { IfOk result (λ put. put.1 ≡ length self.old.entries) }
+        ensures was { IfOk result (λ put. IsReplay self.old.entries write.value.key put.2) }
         ensures entry { IfOk result (λ put. self.new ≡ with_entry self.old (Put stamp write.value.key write.value.seen write.value.content put.0)) }
         ensures accepts { OnOk result (AcceptsPut self.old.vnode self.old.entries write.value.key write.value.seen) }
 
@@ -123,9 +124,14 @@ impl Vnode {
         ensures err { OnErr result (self.new ≡ self.old) }
         ensures legal { IsJournal self.new.vnode self.new.entries }
     {
-        let Placed { dot, left } = put_at(self.alloc, &mut self.states, &mut self.journal, &write)?;
+        let Placed { dot, left, was } = put_at(
+            self.alloc,
+            &mut self.states,
+            &mut self.journal,
+            &write,
+        )?;
         let entry = Entry::put_leaving(stamp, write, dot, left);
-        Ok((dot, self.journal.append(entry)))
+        Ok((dot, self.journal.append(entry), was))
     }
 
     /// As [`put`](Vnode::put), of parts that are lent, and copied.
@@ -135,9 +141,10 @@ impl Vnode {
         key: &Key,
         seen: &Clock,
         content: &Content,
-    ) -> Result<(Dot, u32), VnodeFault>
+    ) -> Result<(Dot, u32, Shared), VnodeFault>
         ensures dot { IfOk result (λ put. IsNextDot self.old.entries key.now self.old.vnode put.0) }
         ensures place { IfOk result (λ put. put.1 ≡ length self.old.entries) }
+        ensures was { IfOk result (λ put. IsReplay self.old.entries key.now put.2) }
         ensures entry { IfOk result (λ put. self.new ≡ with_entry self.old (Put stamp key.now seen.now content.now put.0)) }
         ensures accepts { OnOk result (AcceptsPut self.old.vnode self.old.entries key.now seen.now) }
 
@@ -163,11 +170,16 @@ impl Vnode {
     }
 
     /// Merges the state that the vnode `from` answered at place `at` of its journal. Answers whether siblings or clock of
-    /// the key changed, and the place of the entry, which takes the parts over. Memory is asked for nothing but what the vnode itself
-    /// keeps.
-    pub fn merge(&mut self, stamp: u64, merged: Box<Merged>) -> Result<(bool, u32), VnodeFault>
+    /// the key changed, the place of the entry, which takes the parts over, and the state that was at the key before. Memory is asked for
+    /// nothing but what the vnode itself keeps.
+    pub fn merge(
+        &mut self,
+        stamp: u64,
+        merged: Box<Merged>,
+    ) -> Result<(bool, u32, Shared), VnodeFault>
         ensures changed { IfOk result (λ merge. TellsChange self.old.entries (Merge stamp merged.value.key merged.value.from merged.value.at merged.value.state) merged.value.key merge.0) }
         ensures place { IfOk result (λ merge. merge.1 ≡ length self.old.entries) }
+        ensures was { IfOk result (λ merge. IsReplay self.old.entries merged.value.key merge.2) }
         ensures entry { OnOk result (self.new ≡ with_entry self.old (Merge stamp merged.value.key merged.value.from merged.value.at merged.value.state)) }
         ensures accepts { OnOk result (AcceptsMerge self.old.entries merged.value.key merged.value.state) }
 
@@ -190,10 +202,11 @@ impl Vnode {
         stamp: u64,
         mut merged: Box<Merged>,
         part: Option<PreparedPart<'_>>,
-    ) -> Result<(bool, u32), PartFault>
+    ) -> Result<(bool, u32, Shared), PartFault>
         ensures held { OnOk result (Leaves self.old.entries merged.value.key (λ own. lacks_of part.entry own ≡ false)) }
         ensures changed { IfOk result (λ merge. Leaves self.old.entries merged.value.key (λ own. TellsChange self.old.entries (Merge stamp merged.value.key merged.value.from merged.value.at (brought part.entry merged.value.state own)) merged.value.key merge.0)) }
         ensures place { IfOk result (λ merge. merge.1 ≡ length self.old.entries) }
+        ensures was { IfOk result (λ merge. IsReplay self.old.entries merged.value.key merge.2) }
         ensures entry { OnOk result (Leaves self.old.entries merged.value.key (λ own. self.new ≡ with_entry self.old (Merge stamp merged.value.key merged.value.from merged.value.at (brought part.entry merged.value.state own)))) }
         ensures accepts { OnOk result (Leaves self.old.entries merged.value.key (λ own. AcceptsMerge self.old.entries merged.value.key (brought part.entry merged.value.state own))) }
 
@@ -203,7 +216,7 @@ impl Vnode {
         ensures legal { IsJournal self.new.vnode self.new.entries }
     {
         let Merged { key, state, .. } = &mut *merged;
-        let changed = merge_at(
+        let (changed, was) = merge_at(
             self.alloc,
             &mut self.states,
             &mut self.journal,
@@ -211,7 +224,11 @@ impl Vnode {
             state,
             part,
         )?;
-        Ok((changed, self.journal.append(Entry::merge(stamp, merged))))
+        Ok((
+            changed,
+            self.journal.append(Entry::merge(stamp, merged)),
+            was,
+        ))
     }
 
     /// As [`merge`](Vnode::merge), of parts that are lent, and copied.
@@ -222,9 +239,10 @@ impl Vnode {
         from: u32,
         at: u32,
         state: &KeyState,
-    ) -> Result<(bool, u32), VnodeFault>
+    ) -> Result<(bool, u32, Shared), VnodeFault>
         ensures changed { IfOk result (λ merge. TellsChange self.old.entries (Merge stamp key.now from at state.now) key.now merge.0) }
         ensures place { IfOk result (λ merge. merge.1 ≡ length self.old.entries) }
+        ensures was { IfOk result (λ merge. IsReplay self.old.entries key.now merge.2) }
         ensures entry { OnOk result (self.new ≡ with_entry self.old (Merge stamp key.now from at state.now)) }
         ensures accepts { OnOk result (AcceptsMerge self.old.entries key.now state.now) }
 
@@ -284,13 +302,6 @@ impl Vnode {
         Ok(self.journal.append(Entry::read(stamp, key)))
     }
 
-    /// The state of a key. It is no event: nothing is written down.
-    pub fn state(&self, key: &Key) -> Result<KeyState, AllocError>
-        ensures { IfOk result (λ state. IsReplay self.now.entries key.now state) }
-    {
-        copy_at(self.alloc, &self.states, key)
-    }
-
     /// Whether a state is that of a key. It is no event: nothing is written down.
     pub fn holds(&self, key: &Key, state: &KeyState) -> bool
         ensures { IsTrue result ↔ IsReplay self.now.entries key.now state.now }
@@ -324,10 +335,11 @@ impl Vnode {
         stamp: u64,
         merged: Box<Merged>,
         part: PreparedPart<'_>,
-    ) -> Result<(bool, u32), PartFault>
+    ) -> Result<(bool, u32, Shared), PartFault>
         ensures held { OnOk result (Leaves self.old.entries merged.value.key (λ own. lacks_some own part.entry ≡ false)) }
         ensures changed { IfOk result (λ merge. Leaves self.old.entries merged.value.key (λ own. TellsChange self.old.entries (Merge stamp merged.value.key merged.value.from merged.value.at (whole_of part.entry own)) merged.value.key merge.0)) }
         ensures place { IfOk result (λ merge. merge.1 ≡ length self.old.entries) }
+        ensures was { IfOk result (λ merge. IsReplay self.old.entries merged.value.key merge.2) }
         ensures entry { OnOk result (Leaves self.old.entries merged.value.key (λ own. self.new ≡ with_entry self.old (Merge stamp merged.value.key merged.value.from merged.value.at (whole_of part.entry own)))) }
         ensures accepts { OnOk result (Leaves self.old.entries merged.value.key (λ own. AcceptsMerge self.old.entries merged.value.key (whole_of part.entry own))) }
 
@@ -347,10 +359,11 @@ impl Vnode {
         from: u32,
         at: u32,
         part: &Part,
-    ) -> Result<(bool, u32), PartFault>
+    ) -> Result<(bool, u32, Shared), PartFault>
         ensures held { OnOk result (Leaves self.old.entries key.now (λ own. lacks_some own part.now ≡ false)) }
         ensures changed { IfOk result (λ merge. Leaves self.old.entries key.now (λ own. TellsChange self.old.entries (Merge stamp key.now from at (whole_of part.now own)) key.now merge.0)) }
         ensures place { IfOk result (λ merge. merge.1 ≡ length self.old.entries) }
+        ensures was { IfOk result (λ merge. IsReplay self.old.entries key.now merge.2) }
         ensures entry { OnOk result (Leaves self.old.entries key.now (λ own. self.new ≡ with_entry self.old (Merge stamp key.now from at (whole_of part.now own)))) }
         ensures accepts { OnOk result (Leaves self.old.entries key.now (λ own. AcceptsMerge self.old.entries key.now (whole_of part.now own))) }
 

@@ -259,7 +259,7 @@ fn put_at(
 {
     let vnode = &mut vnodes[at];
     match vnode.put_lent(*made, key, seen, content) {
-        Ok((dot, _)) => {
+        Ok((dot, _, _was)) => {
             *made += 1;
             Ok(dot)
         }
@@ -292,7 +292,7 @@ fn merge_at(
         message.at,
         &message.state,
     ) {
-        Ok((changed, _)) => {
+        Ok((changed, _, _was)) => {
             *made += 1;
             Ok(changed)
         }
@@ -318,7 +318,7 @@ fn merge_part_at(
 {
     let vnode = &mut vnodes[at];
     match vnode.merge_part_lent(*made, &message.key, message.from, message.at, &message.part) {
-        Ok((changed, _)) => {
+        Ok((changed, _, _was)) => {
             *made += 1;
             Ok(changed)
         }
@@ -719,7 +719,7 @@ fn merge_copy(
     // What every state keeps is told with its siblings.
     let _siblings = one.state.siblings();
     match vnode.merge_lent(stamp, &one.key, from, at, &one.state) {
-        Ok(_) => Ok(()),
+        Ok(_merged) => Ok(()),
         Err(fault) => Err(fault),
     }
 }

@@ -20,7 +20,8 @@ const TWO_VALUES: Recent = Recent {
     bytes: 100,
 };
 
-/// A read of a key at a vnode, and a put of the value in the place of what it answered, with these stamps. What the read answered.
+/// A read of a key at a vnode, and a put of the value in the place of what it answered, with these stamps. What the read answered, which
+/// the put tells as what was there.
 fn replaced(
     vnode: &mut Vnode,
     alloc: Global,
@@ -30,7 +31,8 @@ fn replaced(
     let (read, put) = stamps;
     let (before, _) = vnode.read(read, key)?;
     let value = value_of(alloc, VALUE)?;
-    let _ = vnode.put_lent(put, key, before.clock(), &value)?;
+    let (_, _, was) = vnode.put_lent(put, key, before.clock(), &value)?;
+    expect(was.is_same(&before), &was.bytes())?;
     Ok(before)
 }
 

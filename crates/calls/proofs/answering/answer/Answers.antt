@@ -8,7 +8,7 @@ use Rattle.calls.proofs.answering.answer.Goals as goal
 
 pub returns-in-Ok-clause-exact : goal.returns-in-Ok-clause-exact
 returns-in-Ok-clause-exact c = λ fault other refuses.
-    none_told (RefusesPut c.args.vnode.now c.in-Put.write.value.key c.in-Put.write.value.seen) (c.in-Ok.dot, c.in-Ok.field-0-1) c.put.result c.in-Ok.is c.put.ensures.exact fault other
+    none_told (RefusesPut c.args.vnode.now c.in-Put.write.value.key c.in-Put.write.value.seen) (c.in-Ok.dot, c.in-Ok.field-0-1, c.in-Ok._was) c.put.result c.in-Ok.is c.put.ensures.exact fault other
     (subst (λ (p : Prepared). Refuses c.args.vnode.now (asked p) fault) c.in-Put.is refuses)
 
 pub returns-in-Err-clause-exact : goal.returns-in-Err-clause-exact
@@ -18,7 +18,7 @@ returns-in-Err-clause-exact c = λ fault other refuses.
 
 pub returns-in-Ok-merge-clause-exact : goal.returns-in-Ok-merge-clause-exact
 returns-in-Ok-merge-clause-exact c = λ fault other refuses.
-    none_told (RefusesMerge c.args.vnode.now c.in-Merge.merged.value.key c.in-Merge.merged.value.state) (c.in-Ok-merge.changed, c.in-Ok-merge.field-0-1) c.merge.result c.in-Ok-merge.is c.merge.ensures.exact fault other
+    none_told (RefusesMerge c.args.vnode.now c.in-Merge.merged.value.key c.in-Merge.merged.value.state) (c.in-Ok-merge.changed, c.in-Ok-merge.field-0-1, c.in-Ok-merge._was) c.merge.result c.in-Ok-merge.is c.merge.ensures.exact fault other
     (subst (λ (p : Prepared). Refuses c.args.vnode.now (asked p) fault) c.in-Merge.is refuses)
 
 pub returns-in-Err-merge-clause-exact : goal.returns-in-Err-merge-clause-exact

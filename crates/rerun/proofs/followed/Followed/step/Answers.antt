@@ -5,12 +5,12 @@ use Rattle.journal.specs.Logs.{Log, with_entry}
 use Rattle.world.specs.Represents.{log_at, with_entry_at}
 use Rattle.rerun.proofs.Sorting.{same_default}
 use Rattle.rerun.specs.declared.kept.Kept.{Kept}
-use Rattle.rerun.specs.Followed.{HasFollowed}
+use Rattle.rerun.specs.Followed.{HasFollowed, IsToKeep}
 use Rattle.rerun.specs.Kept.{IsLeft}
 use Rattle.rerun.specs.Wrong.{IsNewest, IsToldOf}
 use Rattle.findings.specs.declared.fault.FollowFault.{FollowFault}
 use Rattle.findings.specs.declared.fault.FollowFault.TheVariants.{NoMemory}
-use Rattle.rerun.proofs.Going.{followed_more}
+use Rattle.rerun.proofs.Going.{followed_more, next_kept}
 use Rattle.rerun.proofs.Opening.{passed}
 use Rattle.rerun.proofs.Telling.{lacked, newest_more}
 use Rattle.rerun.proofs.followed.Followed.step.Goals as goal
@@ -32,11 +32,13 @@ returns-clause-run c =
     let list : c.index_mut-2.result.now ≡ get_or answers i [] = c.index_mut-2.ensures.value ∙ same_default answers i c.index_mut-2.result.now [] also in
     let follows : MayFollow (log_at logs i).vnode (log_at logs i).entries e = subst (λ (l : Log). MayFollow l.vnode l.entries e) vnode c.in-Ok.ensures.legal in
     let answer : Answers (log_at logs i).vnode (log_at logs i).entries e a = subst (λ (l : Log). Answers l.vnode l.entries e a) vnode told.1 in
-    let lack : IsLeft recent (get_or answers i [] ++ c.in_ok-kept.kept ∷ []) c.keep.new.self = subst (λ (xs : List Kept). IsLeft recent (xs ++ c.in_ok-kept.kept ∷ []) c.keep.new.self) list c.in_ok-keep.ensures in
+    let lack : IsLeft recent (get_or answers i [] ++ c.kept_behind-kept.result ∷ []) c.keep.new.self = subst (λ (xs : List Kept). IsLeft recent (xs ++ c.kept_behind-kept.result ∷ []) c.keep.new.self) list c.in_ok-keep.ensures in
     let vnodes : c.happen.new.vnode ≡ with_entry (log_at logs i) e = c.in-Ok.ensures.entry ∙ ap (λ (l : Log). with_entry l e) vnode in
+    let to_keep : IsToKeep (log_at logs i).entries e c.in-Ok.kept = subst (λ (l : Log). IsToKeep l.entries e c.in-Ok.kept) vnode c.in-Ok.ensures.kept in
+    let next = next_kept c.args.self.now.fronts.items logs i e c.is_in_front-is_in_front.result c.in-Ok.kept c.kept_behind-kept.result c.is_in_front-is_in_front.ensures c.kept_behind-kept.ensures to_keep in
     subst (λ (l : Log). HasFollowed c.args.self.now.fronts.items (set logs i l) (Some c.stamp-stamp.result) recent (set answers i c.keep.new.self)) (sym vnodes)
     (subst (λ (s : ℕ). HasFollowed c.args.self.now.fronts.items (with_entry_at logs i e) (Some s) recent (set answers i c.keep.new.self)) (sym c.stamp-stamp.ensures)
-    (followed_more c.args.self.now.fronts.items logs last recent answers i e a c.in_ok-kept.kept c.keep.new.self run inside follows answer c.requires.above c.requires.place c.in_ok-kept.ensures lack))
+    (followed_more c.args.self.now.fronts.items logs last recent answers i e a c.kept_behind-kept.result c.keep.new.self run inside follows answer c.requires.above c.requires.place next lack))
 
 pub returns-clause-newest : goal.returns-clause-newest
 returns-clause-newest c =
@@ -53,14 +55,8 @@ returns-in-Err-NoMemory-clause-told c =
     let own = c.args.self.now in
     lacked own.fronts.items own.vnodes.items own.last own.recent own.answers.items c.args.index c.args.entry c.requires.run c.requires.above c.requires.place
 
-pub returns-in_err-kept-clause-told : goal.returns-in_err-kept-clause-told
-returns-in_err-kept-clause-told c =
-    let own = c.args.self.now in
-    passed c.from_residual.result NoMemory (λ (fault : FollowFault). IsToldOf own.fronts.items own.vnodes.items own.recent c.args.index c.args.entry fault) c.from_residual.ensures.1
-    (lacked own.fronts.items own.vnodes.items own.last own.recent own.answers.items c.args.index c.args.entry c.requires.run c.requires.above c.requires.place)
-
 pub returns-in_err-keep-clause-told : goal.returns-in_err-keep-clause-told
 returns-in_err-keep-clause-told c =
     let own = c.args.self.now in
-    passed c.from_residual-in_err-keep.result NoMemory (λ (fault : FollowFault). IsToldOf own.fronts.items own.vnodes.items own.recent c.args.index c.args.entry fault) c.from_residual-in_err-keep.ensures.1
+    passed c.from_residual.result NoMemory (λ (fault : FollowFault). IsToldOf own.fronts.items own.vnodes.items own.recent c.args.index c.args.entry fault) c.from_residual.ensures.1
     (lacked own.fronts.items own.vnodes.items own.last own.recent own.answers.items c.args.index c.args.entry c.requires.run c.requires.above c.requires.place)

@@ -24,6 +24,12 @@ loop-recent-preserved-in-Some-2 c =
     one_gone c.args.recent c.self.inside.first now.first now.bytes c.from.result c.len.result c.self.inside.here.items now.here.items c.pop_front.new.self.items c.in-Some.first c.loop-recent.invariant
     (omega (arith, c.len.ensures, now.here.ok.0)) c.loop-recent-test.ensures c.in-Some.ensures.items (c.from.ensures ∙ c.bytes.ensures)
 
+pub loop-recent-preserved-in-Some-3 : goal.loop-recent-preserved-in-Some-3
+loop-recent-preserved-in-Some-3 c =
+    let now = c.loop-recent.self-inside in
+    one_gone c.args.recent c.self.inside.first now.first now.bytes c.from.result c.len.result c.self.inside.here.items now.here.items c.pop_front.new.self.items c.in-Some.first c.loop-recent.invariant
+    (omega (arith, c.len.ensures, now.here.ok.0)) c.loop-recent-test.ensures c.in-Some.ensures.items (c.from.ensures ∙ c.bytes.ensures)
+
 pub returns : goal.returns
 returns c =
     let now = c.loop-recent.self-inside in

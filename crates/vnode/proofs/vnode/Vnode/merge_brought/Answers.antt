@@ -1,4 +1,4 @@
-use Rattle.std.proofs.Common.{◌∙◌, ap, subst}
+use Rattle.std.proofs.Common.{◌∙◌, ap, subst, sym}
 use Rattle.object.specs.State.{State}
 use Rattle.journal.specs.declared.entry.Merged.{Merged}
 use Rattle.journal.specs.Entry.{Merge}
@@ -79,3 +79,7 @@ returns-clause-exact c = λ fault other refuses.
           (whole_refused c.self.inside.journal.log c.args.part c.deref_mut.result.now.state c.merge_at.new.came (state_at c.self.inside.states c.deref_mut.result.now.key) NoMemory
           c.in_ok-changed.ensures.held c.in_ok-changed.ensures.whole (c.in_ok-changed.ensures.takes, takes_entry c)),
     ))))
+
+pub returns-clause-was : goal.returns-clause-was
+returns-clause-was c =
+    subst (IsReplay c.args.self.now.entries c.args.merged.value.key) (sym (c.in_ok-changed.ensures.was ∙ ap (λ (m : Merged). state_at c.self.inside.states m.key) c.deref_mut.ensures.value)) (replayed c)
