@@ -1,7 +1,8 @@
 //! How often a worker looks for something to do before it sleeps.
 
-/// At most so many times: for some tens of microseconds.
-const MOST: u32 = 64;
+/// At most so many times: for one or two tenths of a millisecond. A client that reads many answers at once sends its next requests about so much
+/// later, and where processors are virtual a thread that sleeps is often woken no sooner.
+const MOST: u32 = 256;
 
 /// Where looking found nothing, it is tried again before each so many-th sleep.
 const AGAIN: u32 = 64;
