@@ -217,7 +217,7 @@ fn files_in<F: Folder + Sync, R: Threads + Sync>(
     ensures { IfOk result (λ files. (index : ℕ) → index < 3 → IsReadAt (F.finds folder.now) files.items index) }
 {
     let first = file_in(alloc, rt, folder, 0, &[])?;
-    let records = records_of(first.as_ref());
+    let records = records_read(first.as_ref());
     let (second, third) = thread::join(
         rt,
         || -> Result<Option<KeptFile>, OpenFault>
@@ -235,8 +235,8 @@ fn files_in<F: Folder + Sync, R: Threads + Sync>(
     Ok(files)
 }
 
-/// The records of a file, if there is one.
-fn records_of(file: Option<&KeptFile>) -> &[Record] {
+/// The records of a file that was read, if there is one.
+fn records_read(file: Option<&KeptFile>) -> &[Record] {
     match file {
         Some(file) => &file.records,
         None => &[],

@@ -24,7 +24,7 @@ const SHARDS: usize = 32;
 const FIRST_SLOTS: usize = 32;
 
 /// Of so many vnodes that follow one another each has a turn of its own: a ring keeps a key at three of them.
-const TURNS: usize = 3;
+const TURNS: u32 = 3;
 
 /// Where a state was found: in which shard, and at which place there.
 #[derive(Clone, Copy)]
@@ -47,7 +47,7 @@ pub(crate) struct States {
     alloc: Global,
     seed: Seed,
     /// By which its shards grow at other numbers of keys than those of the next vnodes.
-    turn: usize,
+    turn: u8,
     /// The hash that look-ups begin by.
     hint: Hint,
     // None of them before the first state is kept.
@@ -72,7 +72,7 @@ impl States {
         States {
             alloc,
             seed,
-            turn: vnode as usize % TURNS,
+            turn: (vnode % TURNS) as u8,
             hint: Hint::none(),
             shards: Vec::new(alloc),
         }
@@ -267,7 +267,8 @@ impl States {
 
 /// With how many slots the index of a shard begins: with up to a quarter more than another's, by which each grows. So shards
 /// grow at different numbers of keys, and so do those of vnodes that hear of the same ones: no write waits for three growths.
-fn first_slots(turn: usize, shard: usize) -> usize {
-    let step = (shard % SHARDS + turn % TURNS * SHARDS / TURNS) % SHARDS;
+fn first_slots(turn: u8, shard: usize) -> usize {
+    let steps_before = usize::from(turn) * SHARDS / TURNS as usize;
+    let step = (shard % SHARDS + steps_before) % SHARDS;
     FIRST_SLOTS + FIRST_SLOTS * step / (4 * SHARDS)
 }

@@ -141,10 +141,8 @@ impl<B: Room, R: Wait> Peers for HeldPeers<'_, B, R> {
     }
 
     fn ring_place(&mut self, key: &Key) -> Option<u32> {
-        let mut hint = self.pass.hint().copy();
-        let told = self.cluster.ring_place(self.rt, &mut hint, key);
-        self.pass.expect(hint);
-        told
+        let mut peers = PassPeers::new(self.alloc, self.rt, self.cluster, &mut self.pass, &Open);
+        peers.ring_place(key)
     }
 
     fn learn_ring_place(&self, key: &Key, told: u32) {
