@@ -1,12 +1,16 @@
 //! The state of a key, as those keep it who only compare it.
 
 ghost use Rattle.std.specs.Prelude.{◌≡◌, ◌↔◌, IsTrue, IfOk};
+ghost use Rattle.std.specs.Arc.{arc_value};
+ghost use Rattle.object.specs.Few.{short_of};
 ghost use Rattle.object.specs.Sizes.{state_bytes};
-ghost use Rattle.object.specs.State.{empty};
+ghost use Rattle.object.specs.State.{empty, IsState};
 
+use crate::content::Sibling;
 use crate::held::{Held, Stored};
 use crate::state::KeyState;
-use std::alloc::AllocError;
+use dvv::Clock;
+use std::alloc::{AllocError, Global};
 use std::marker::Model;
 use std::sync::Arc;
 
@@ -35,13 +39,18 @@ impl Shared {
         Shared { held: None }
     }
 
+    // What is held.
+    pub(crate) fn holding(held: Arc<Held>) -> Self
+        ensures { result ≡ arc_value held }
+    {
+        Shared { held: Some(held) }
+    }
+
     /// The state that is stored. Refused where its owners can't be counted further.
     pub fn of(stored: &Stored) -> Result<Self, AllocError>
         ensures { IfOk result (λ shared. shared ≡ stored.now) }
     {
-        Ok(Shared {
-            held: Some(stored.share()?),
-        })
+        Ok(Shared::holding(stored.share()?))
     }
 
     /// The same state, shared with this one. Refused where its owners can't be counted further.
@@ -50,9 +59,40 @@ impl Shared {
     {
         match &self.held {
             None => Ok(Shared::nothing()),
-            Some(held) => Ok(Shared {
-                held: Some(held.clone()?),
-            }),
+            Some(held) => Ok(Shared::holding(held.clone()?)),
+        }
+    }
+
+    // The state to be stored, what it holds shared.
+    pub(crate) fn stored(&self, alloc: Global) -> Result<Stored, AllocError>
+        ensures { IfOk result (λ stored. stored ≡ self.now) }
+    {
+        let held = match &self.held {
+            None => Arc::new(alloc, Held::nothing(alloc))?,
+            Some(held) => held.clone()?,
+        };
+        Ok(Stored::new(held))
+    }
+
+    // The siblings, rising by dot.
+    pub(crate) fn siblings(&self) -> &[Sibling]
+        ensures all { result.now ≡ self.now.siblings }
+        ensures state { IsState self.now }
+    {
+        match &self.held {
+            None => &[],
+            Some(held) => held.siblings(),
+        }
+    }
+
+    // The clock: where none is kept, the short one is lent.
+    pub(crate) fn clock<'a>(&'a self, lent: &'a Clock) -> &'a Clock
+        requires { lent.now ≡ short_of self.now.clock }
+        ensures { result.now ≡ self.now.clock }
+    {
+        match &self.held {
+            None => lent,
+            Some(held) => held.clock(lent),
         }
     }
 

@@ -19,24 +19,21 @@ use std::sync::Arc;
 #[derive(Drop)]
 pub struct KeyState {
     alloc: Global,
-    // None where nothing is written.
-    held: Option<Arc<Held>>,
+    shared: Shared,
     // The clock where it has up to three entries: where what is held keeps these otherwise, this one is lent.
     short: Clock,
 }
 
 impl Model for KeyState {
     ghost use Rattle.std.specs.Prelude.{◌≡◌};
-    ghost use Rattle.std.specs.Arc.{arc_value};
-    ghost use Rattle.std.specs.Option.{option_map_or};
     ghost use Rattle.object.specs.Few.{short_of};
-    ghost use Rattle.object.specs.State.{State, IsState, empty};
+    ghost use Rattle.object.specs.State.{State, IsState};
 
     ghost Value = { State };
 
-    ghost view = { λ s. option_map_or arc_value s.held empty };
+    ghost view = { λ s. s.shared };
 
-    ghost invariant = { λ s. IsState (option_map_or arc_value s.held empty) × (s.short ≡ short_of (option_map_or arc_value s.held empty).clock) };
+    ghost invariant = { λ s. IsState s.shared × (s.short ≡ short_of s.shared.clock) };
 }
 
 impl KeyState {
@@ -52,7 +49,7 @@ impl KeyState {
     {
         KeyState {
             alloc,
-            held: None,
+            shared: Shared::nothing(),
             short: Clock::new(alloc),
         }
     }
@@ -88,7 +85,7 @@ impl KeyState {
         let short = held.short_clock();
         KeyState {
             alloc,
-            held: Some(held),
+            shared: Shared::holding(held),
             short,
         }
     }
@@ -104,11 +101,7 @@ impl KeyState {
     pub fn stored(&self) -> Result<Stored, AllocError>
         ensures { IfOk result (λ stored. stored ≡ self.now) }
     {
-        let held = match &self.held {
-            None => Arc::new(self.alloc, Held::nothing(self.alloc))?,
-            Some(held) => held.clone()?,
-        };
-        Ok(Stored::new(held))
+        self.shared.stored(self.alloc)
     }
 
     /// The siblings, rising by dot.
@@ -116,20 +109,14 @@ impl KeyState {
         ensures all { result.now ≡ self.now.siblings }
         ensures state { IsState self.now }
     {
-        match &self.held {
-            None => &[],
-            Some(held) => held.siblings(),
-        }
+        self.shared.siblings()
     }
 
     /// The clock: it counts each event that any known write had seen, and the known writes themselves.
     pub fn clock(&self) -> &Clock
         ensures { result.now ≡ self.now.clock }
     {
-        match &self.held {
-            None => &self.short,
-            Some(held) => held.clock(&self.short),
-        }
+        self.shared.clock(&self.short)
     }
 
     /// The bytes of its contents, 2^64 - 1 where they are more. Those of several siblings are kept with them: only a lone one's content is
@@ -137,10 +124,7 @@ impl KeyState {
     pub fn bytes(&self) -> u64
         ensures { result ≡ state_bytes self.now }
     {
-        match &self.held {
-            None => 0,
-            Some(held) => held.bytes(),
-        }
+        self.shared.bytes()
     }
 
     /// The same state, its siblings and clock shared with this one. Refused where their owners can't be counted further.
@@ -148,46 +132,38 @@ impl KeyState {
         ensures same { IfOk result (λ copy. copy ≡ self.now) }
         ensures state { IsState self.now }
     {
-        match &self.held {
-            None => Ok(KeyState::new(alloc)),
-            Some(held) => Ok(KeyState::sharing(alloc, held.clone()?)),
-        }
+        // What every state keeps is told with its siblings.
+        let _siblings = self.siblings();
+        Ok(KeyState {
+            alloc,
+            shared: self.shared.copy()?,
+            short: self.short.copy(alloc)?,
+        })
     }
 
     /// What it holds, for who needs the state no longer.
     pub fn into_shared(self) -> Shared
         ensures { result ≡ self }
     {
-        Shared { held: self.held }
+        self.shared
     }
 
     /// Takes the memory of another state in place of its own, where both are the same.
     pub fn share(&mut self, other: &KeyState)
         ensures { self.new ≡ self.old }
     {
-        if let Some(held) = &other.held {
-            self.share_held(held);
-        }
+        self.share_with(&other.shared);
     }
 
     /// Takes the memory of a shared state in place of its own, where both are the same.
     pub fn share_with(&mut self, shared: &Shared)
         ensures { self.new ≡ self.old }
     {
-        if let Some(held) = &shared.held {
-            self.share_held(held);
-        }
-    }
-
-    // Takes what another state holds in place of its own, where both are the same.
-    fn share_held(&mut self, held: &Arc<Held>)
-        ensures { self.new ≡ self.old }
-    {
-        if !held.is_same(self) {
+        if !shared.is_same(self) {
             return;
         }
-        if let Ok(same) = held.clone() {
-            *self = KeyState::sharing(self.alloc, same);
+        if let Ok(same) = shared.copy() {
+            self.shared = same;
         }
     }
 
@@ -225,7 +201,7 @@ impl KeyState {
         ensures many { result ≡ Err PutRefusal.TooManySiblings ↔ (Within seen.now self.now.clock × (most_siblings ≤ length (kept seen.now self.now.siblings))) }
         ensures full { result ≡ Err PutRefusal.ClockFull ↔ (Within seen.now self.now.clock × (length (kept seen.now self.now.siblings) < most_siblings) × (HasRoom self.now.clock (next self.now vnode) → ⊥)) }
     {
-        match &self.held {
+        match &self.shared.held {
             None => Held::nothing(self.alloc).check_put(vnode, seen),
             Some(held) => held.check_put(vnode, seen),
         }
