@@ -133,8 +133,11 @@ static size_t http_length(const char *answer) {
     const char *end = strstr(answer, "\r\n\r\n");
     if (!end)
         return 0;
-    const char *field = strcasestr(answer, "\r\nContent-Length:");
-    return end + 4 - answer + (field && field < end ? strtoul(field + 17, NULL, 10) : 0);
+    size_t body = 0;
+    for (const char *line = answer; line < end; line = strchr(line, '\n') + 1)
+        if (!strncasecmp(line, "Content-Length:", 15))
+            body = strtoul(line + 15, NULL, 10);
+    return end + 4 - answer + body;
 }
 
 // How long an answer of redis is, or 0 while that isn't known.
@@ -145,18 +148,24 @@ static size_t redis_length(const char *answer) {
     return end + 2 - answer + (answer[0] == '$' && answer[1] != '-' ? strtoul(answer + 1, NULL, 10) + 2 : 0);
 }
 
-static int is_right(const struct connection *c) {
+// The length of the answer that stands in front, or 0 while it isn't whole.
+static size_t whole_length(const char *answer, const char *end) {
+    size_t length = server == REDIS ? redis_length(answer) : http_length(answer);
+    return answer + length <= end ? length : 0;
+}
+
+static int is_right(const struct connection *c, const char *answer) {
     if (server == REDIS)
-        return c->method == GET ? !strncmp(c->answer, "$100\r\n", 6) : !strncmp(c->answer, "+OK", 3);
-    int status = atoi(c->answer + 9);
+        return c->method == GET ? !strncmp(answer, "$100\r\n", 6) : !strncmp(answer, "+OK", 3);
+    int status = atoi(answer + 9);
     if (c->method == GET)
         return status == 200 || (method == REWRITE && status == 404);
     return status == 200 || status == 201 || status == 204;
 }
 
 // Keeps the line of the context that a read told.
-static void keep_context(struct connection *c) {
-    const char *field = strstr(c->answer, "X-Riak-Vclock:");
+static void keep_context(struct connection *c, const char *answer) {
+    const char *field = strstr(answer, "X-Riak-Vclock:");
     size_t length = field ? strstr(field, "\r\n") + 2 - field : 0;
     if (length >= CONTEXT)
         fail("the context is too long");
@@ -171,20 +180,14 @@ static void note(struct asker *a, const struct connection *c, double time) {
     a->told++;
 }
 
-// Takes the answer that stands in front of what has come, if it is whole.
-static int take(struct asker *a, struct connection *c) {
-    size_t whole = server == REDIS ? redis_length(c->answer) : http_length(c->answer);
-    if (!whole || c->length < whole)
-        return 0;
-    if (!c->waiting || !is_right(c))
-        fail("the answer was %s", c->answer);
+// Takes an answer, which came at this time.
+static void take(struct asker *a, struct connection *c, const char *answer, double time) {
+    if (!c->waiting || !is_right(c, answer))
+        fail("the answer was %s", answer);
     if (method == REWRITE && c->method == GET)
-        keep_context(c);
-    note(a, c, now());
+        keep_context(c, answer);
+    note(a, c, time);
     c->waiting--;
-    c->length -= whole;
-    memmove(c->answer, c->answer + whole, c->length + 1);
-    return 1;
 }
 
 // Reads what has come. Whether all answers have.
@@ -192,10 +195,13 @@ static int hear(struct asker *a, struct connection *c) {
     ssize_t n = recv(c->socket, c->answer + c->length, ROOM - c->length, 0);
     if (n <= 0)
         fail("the connection ended");
-    c->length += n;
-    c->answer[c->length] = 0;
-    while (take(a, c))
-        ;
+    double time = now();
+    char *next = c->answer, *end = next + c->length + n;
+    *end = 0;
+    for (size_t whole; (whole = whole_length(next, end)); next += whole)
+        take(a, c, next, time);
+    c->length = end - next;
+    memmove(c->answer, next, c->length + 1);
     if (!c->waiting && c->length)
         fail("the answer was %s", c->answer);
     return !c->waiting;
