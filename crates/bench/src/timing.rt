@@ -182,8 +182,8 @@ fn time_both(
     })
 }
 
-/// Times the verifier and the run of an image on an input; nothing where the image calls a helper of a table or is not let in otherwise, or where
-/// the input has no room.
+/// Times the verifier and the run of an image on an input; nothing where the image calls a helper of a table or is not let in otherwise, or
+/// where the input has no room.
 pub fn figures_of(
     clock: &impl Clock,
     alloc: Global,

@@ -38,8 +38,8 @@ pub fn beginnings_are_merges()
     ensures { (stamp : ℕ) (records : List OneRecord) → AreMergesOf (merges_of stamp records) records }
 {}
 
-/// A dump's records are a beginning: where a world has led to them, there is one in which the same writes were put, whose first vnode has merged
-/// the records and knows what the dumped vnode knew. So what a run from these records prints goes on from the world before.
+/// A dump's records are a beginning: where a world has led to them, there is one in which the same writes were put, whose first vnode has
+/// merged the records and knows what the dumped vnode knew. So what a run from these records prints goes on from the world before.
 pub fn dumps_begin()
     ensures { (world : Knowledge) (logs : List Log) (vnode incarnation vnodes : ℕ) (listed : List Helper) (records : List OneRecord) (events : List Event)
         → 1 ≤ vnodes → vnodes ≤ max_vnodes → AreRunnableFrom (0 ∷ incarnation ∷ []) vnodes listed events → IsDumpIn world logs vnode incarnation vnodes records events

@@ -25,11 +25,12 @@ pub struct Closed {
     pub said: Followed,
 }
 
-/// Gathers a cluster, all of whose passes are back, the watch's too, and has what is left of the journals of its vnodes followed. Nothing was there before: the
-/// journals are one run from their first entries on.
+/// Gathers a cluster, all of whose passes are back, the watch's too, and has what is left of the journals of its vnodes followed. Nothing
+/// was there before: the journals are one run from their first entries on.
 ///
-/// The fault is the follower's, which may have found it while the cluster served: so much of the journals is one run, and the entry that comes next is wrong
-/// so. `Lost` where it didn't take all that the vnodes handed out, or follows others, or began from fronts. `NoMemory` where a growth was refused.
+/// The fault is the follower's, which may have found it while the cluster served: so much of the journals is one run, and the entry that
+/// comes next is wrong so. `Lost` where it didn't take all that the vnodes handed out, or follows others, or began from fronts. `NoMemory`
+/// where a growth was refused.
 pub fn close_watched<B: Room + Spot>(
     alloc: Global,
     cluster: Cluster<B>,
@@ -45,10 +46,12 @@ pub fn close_watched<B: Room + Spot>(
     }
 }
 
-/// The same of a cluster of which so many of the first entries of each vnode, by index, were there before: its front, from which the watch began. The journals are one
-/// run from there on, for each beginning that has led to the fronts. The vnodes are handed back, whatever is said of them.
+/// The same of a cluster of which so many of the first entries of each vnode, by index, were there before: its front, from which the watch
+/// began. The journals are one run from there on, for each beginning that has led to the fronts. The vnodes are handed back, whatever is
+/// said of them.
 ///
-/// What is said is `Lost`, too, where the watch began from other fronts. `AllocError` where a growth was refused before the vnodes were gathered: they are lost.
+/// What is said is `Lost`, too, where the watch began from other fronts. `AllocError` where a growth was refused before the vnodes were
+/// gathered: they are lost.
 pub fn close_keeping<B: Room + Spot>(
     alloc: Global,
     cluster: Cluster<B>,

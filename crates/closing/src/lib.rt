@@ -1,5 +1,5 @@
-//! How a cluster ends: its passes are gathered, and what a follower has not followed yet while it served is followed. Journals that are whole
-//! may be audited.
+//! How a cluster ends: its passes are gathered, and what a follower has not followed yet while it served is followed. Journals that are
+//! whole may be audited.
 #![tactic(auto)]
 
 mod closing;

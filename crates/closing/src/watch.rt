@@ -166,8 +166,8 @@ fn take_blocks(
     Ok(next)
 }
 
-// Starts the vnode with an index again, under its lock, until it has more than a block of entries behind so many: so a block of them is full.
-// At most so often that it has them, whatever it had.
+// Starts the vnode with an index again, under its lock, until it has more than a block of entries behind so many: so a block of them is
+// full. At most so often that it has them, whatever it had.
 fn fill_block<B: Room + Spot, R: Wait>(
     rt: &R,
     cluster: &Cluster<B>,
@@ -215,8 +215,8 @@ fn share_keys_of<B: Room, R: Wait>(
 }
 
 impl<B: Room + Spot> Watch<B> {
-    /// A follower of so many vnodes, numbered from the first identifier on, of which nothing was handed out. The last of the passes, which were
-    /// told nothing, is told what they hand out.
+    /// A follower of so many vnodes, numbered from the first identifier on, of which nothing was handed out. The last of the passes, which
+    /// were told nothing, is told what they hand out.
     pub fn new(
         alloc: Global,
         passes: &mut Vec<Pass<B>>,
@@ -235,8 +235,8 @@ impl<B: Room + Spot> Watch<B> {
         Watch::new_seeded(alloc, Seed::fixed(), passes, first, vnodes, Vec::new(alloc))
     }
 
-    /// The same of vnodes of which so many of the first entries of each, by index, are there before anything else happens, as a store that begins with what it kept
-    /// makes them: its front. What comes behind the fronts is followed as a run from there on.
+    /// The same of vnodes of which so many of the first entries of each, by index, are there before anything else happens, as a store that
+    /// begins with what it kept makes them: its front. What comes behind the fronts is followed as a run from there on.
     pub fn new_from(
         alloc: Global,
         passes: &mut Vec<Pass<B>>,
@@ -312,8 +312,8 @@ impl<B: Room + Spot> Watch<B> {
         }
     }
 
-    /// Has the vnode with an index hand out its full blocks, under its lock, and takes them. Where nothing is followed any more they are let go.
-    /// That a vnode is nearly full is told, once.
+    /// Has the vnode with an index hand out its full blocks, under its lock, and takes them. Where nothing is followed any more they are
+    /// let go. That a vnode is nearly full is told, once.
     pub fn hear<R: Wait, A: Alarm>(
         &mut self,
         alloc: Global,
@@ -385,8 +385,8 @@ impl<B: Room + Spot> Watch<B> {
         !(self.can_go_on(MOST_BEHIND) && self.holds_less(MOST_BYTES_BEHIND))
     }
 
-    /// Where 8,192 entries wait to be followed, or 32 MiB of contents, has each vnode of a cluster of which none waits fill its block: it is started
-    /// again, at most 1,025 times, each an event of its journal. What it hands out then lets the others be followed.
+    /// Where 8,192 entries wait to be followed, or 32 MiB of contents, has each vnode of a cluster of which none waits fill its block: it
+    /// is started again, at most 1,025 times, each an event of its journal. What it hands out then lets the others be followed.
     ///
     /// Where nothing is followed any more, it does nothing.
     pub fn rouse<R: Wait>(&mut self, rt: &R, cluster: &Cluster<B>)
@@ -461,8 +461,8 @@ impl<B: Room + Spot> Watch<B> {
         left > 0
     }
 
-    /// Whether the contents of the entries that wait to be followed, of all vnodes together, have fewer than so many bytes: those of what puts
-    /// write and of the states that are merged, each as often as it stands there.
+    /// Whether the contents of the entries that wait to be followed, of all vnodes together, have fewer than so many bytes: those of what
+    /// puts write and of the states that are merged, each as often as it stands there.
     pub fn holds_less(&self, bytes: u64) -> bool
         ensures { MatchBool result (bytes_waiting self.now.taken.waiting < bytes) (bytes ≤ bytes_waiting self.now.taken.waiting) }
     {

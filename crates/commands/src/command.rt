@@ -28,8 +28,8 @@ const REFUSED: u8 = 1;
 const FAILED: u8 = 2;
 
 /// Does what the words ask for. Gives the status of the program: 0 where it is done, 1 where it was refused, and 2 after a bad line of a
-/// script, which is told on `out` and why on `err`, or a [`Failure`], whose name is then all that stands on `err`. Programs that are run may
-/// call the helpers of `table`; where the store is served, `more` are the tables of further workers.
+/// script, which is told on `out` and why on `err`, or a [`Failure`], whose name is then all that stands on `err`. Programs that are run
+/// may call the helpers of `table`; where the store is served, `more` are the tables of further workers.
 pub fn command<F: Files, S: Server, O: Write, E: Write>(
     alloc: Global,
     table: Table,

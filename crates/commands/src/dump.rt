@@ -15,8 +15,9 @@ use std::io::Write;
 use telling::refusal_number;
 use world::{Copies, Reply};
 
-/// Runs the script in the file `script`, tells on `out` what its lines print and on `err` why a line is bad, and then makes the file `file` hold the
-/// records of what the vnode at an index knows. Gives the status. No file is written behind a bad line, nor where the dump is refused, which is told on `out`.
+/// Runs the script in the file `script`, tells on `out` what its lines print and on `err` why a line is bad, and then makes the file `file`
+/// hold the records of what the vnode at an index knows. Gives the status. No file is written behind a bad line, nor where the dump is
+/// refused, which is told on `out`.
 pub fn dump<F: Files, O: Write, E: Write>(
     alloc: Global,
     table: &Table,

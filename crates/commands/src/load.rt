@@ -16,10 +16,10 @@ use telling::refusal_number;
 use wire::Record;
 use world::BeginFault;
 
-/// Loads the records of the file `file` into the first of the vnodes, all of which begin under an incarnation, and runs the script in the file `script` then. Tells
-/// on `out` how many records there were and what the script's lines print, and on `err` why a line is bad, and gives the status. Nothing is run where a record has a
-/// fault or is refused, and which one is told. That the records name the incarnation, so that a put may take the identifier of a write that they tell of, is told on
-/// `err` beforehand.
+/// Loads the records of the file `file` into the first of the vnodes, all of which begin under an incarnation, and runs the script in the
+/// file `script` then. Tells on `out` how many records there were and what the script's lines print, and on `err` why a line is bad, and
+/// gives the status. Nothing is run where a record has a fault or is refused, and which one is told. That the records name the incarnation,
+/// so that a put may take the identifier of a write that they tell of, is told on `err` beforehand.
 pub fn load<F: Files, O: Write, E: Write>(
     alloc: Global,
     table: &Table,

@@ -51,8 +51,9 @@ fn add(table: &mut Table, number: u32, sig: Sig, body: Body) -> Result<(), Alloc
     }
 }
 
-/// Does what the words ask for, as [`command`] does, where hooks may call the written helpers 16 to 19 and two of this program: 64, a number
-/// modulo 8, and 65, modulo 9. Where the store is served, each worker has a table of its own. Fails only for want of memory for these.
+/// Does what the words ask for, as [`command`] does, where hooks may call the written helpers 16 to 19 and two of this program: 64, a
+/// number modulo 8, and 65, modulo 9. Where the store is served, each worker has a table of its own. Fails only for want of memory for
+/// these.
 pub fn command_with_helpers<F: Files, S: Server, O: Write, E: Write>(
     alloc: Global,
     words: &[&str],

@@ -71,8 +71,9 @@ pub trait Server {
         ensures told { OnOk result (Listened (O.contents out.old) (O.contents out.new)) }
         ensures untold { IfErr result (λ why. why ≡ Unserved.NoMemory → O.contents out.new ≡ O.contents out.old) };
 
-    /// Takes the store that a folder keeps, tells on `out` how many records it has, and then answers connections as [`serve`](Server::serve)
-    /// does. At the end all that the store holds is written into the folder, and how many records it has is told, or why it isn't.
+    /// Takes the store that a folder keeps, tells on `out` how many records it has, and then answers connections as
+    /// [`serve`](Server::serve) does. At the end all that the store holds is written into the folder, and how many records it has is told,
+    /// or why it isn't.
     fn keep<O: Write>(
         &mut self,
         alloc: Global,

@@ -26,8 +26,8 @@ pub enum Request<'a> {
     Sim {
         script: &'a str,
     },
-    /// To run the script in the file `script`, and to make `file` hold the records of what the vnode at an index knows then. The index `2^32 - 1` stands for
-    /// those past it too: no script has so many vnodes.
+    /// To run the script in the file `script`, and to make `file` hold the records of what the vnode at an index knows then. The index
+    /// `2^32 - 1` stands for those past it too: no script has so many vnodes.
     Dump {
         file: &'a str,
         script: &'a str,
@@ -196,7 +196,8 @@ fn number_in(word: &str) -> Option<u32>
     if word == "0" { Some(0) } else { count_in(word) }
 }
 
-/// The index of a vnode that a decimal without sign and leading zeros spells. One past `2^32 - 1` counts as that one, which no script has either.
+/// The index of a vnode that a decimal without sign and leading zeros spells. One past `2^32 - 1` counts as that one, which no script has
+/// either.
 fn vnode_in(word: &str) -> Option<u32>
     ensures { result ≡ vnode_of word.now }
 {

@@ -174,8 +174,8 @@ pub fn live<
     }
 }
 
-/// Tells with how many records a store begins, binds its address, and opens a lobby for so many workers. The error: the address can't be bound,
-/// the output can't be written, the system has no descriptor for a worker, or memory was refused.
+/// Tells with how many records a store begins, binds its address, and opens a lobby for so many workers. The error: the address can't be
+/// bound, the output can't be written, the system has no descriptor for a worker, or memory was refused.
 fn open_lobby<N: Net<Listener = TcpListener, Stream = TcpStream>, O: Write>(
     alloc: Global,
     door: Door<'_, N>,
@@ -203,7 +203,8 @@ fn open_lobby<N: Net<Listener = TcpListener, Stream = TcpStream>, O: Write>(
     open(alloc, rt, workers, setup)
 }
 
-/// Has each of three vnodes take over its records, side by side. The passes come back, and beside them how many records each vnode has, by index.
+/// Has each of three vnodes take over its records, side by side. The passes come back, and beside them how many records each vnode has, by
+/// index.
 pub fn begin<B: Room + Send + Sync, R: Threads + Wait + Sync>(
     alloc: Global,
     rt: &R,

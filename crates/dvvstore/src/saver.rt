@@ -34,8 +34,8 @@ struct Schedule {
     every: u64,
     /// When the last one ended.
     last: u64,
-    /// For so many milliseconds after it none is made but where it is asked for: as many as a vnode had keys. A read takes a place of its vnode's
-    /// journal, and so a journal lasts months.
+    /// For so many milliseconds after it none is made but where it is asked for: as many as a vnode had keys. A read takes a place of its
+    /// vnode's journal, and so a journal lasts months.
     least: u64,
 }
 
@@ -134,8 +134,8 @@ impl<F: Folder + Copy + Send> Saver<F> {
         (spares, keys)
     }
 
-    /// Replaces the files of a folder by what vnodes hold that serve, and by the requests that install and bind their hooks. Answers how many
-    /// keys the vnodes have. Where a vnode's file isn't replaced those of the others may be, and that of the requests isn't.
+    /// Replaces the files of a folder by what vnodes hold that serve, and by the requests that install and bind their hooks. Answers how
+    /// many keys the vnodes have. Where a vnode's file isn't replaced those of the others may be, and that of the requests isn't.
     fn write<B: Room + Send + Sync, R: Threads + Wait + Sync>(
         &mut self,
         rt: &R,

@@ -56,7 +56,8 @@ pub enum Tenant<'a, N, F> {
 }
 
 impl<N, F> Tenant<'_, N, F> {
-    /// How many passes there are besides those of workers: the follower's, and three more of a store that is kept, by which its snapshots are made.
+    /// How many passes there are besides those of workers: the follower's, and three more of a store that is kept, by which its snapshots
+    /// are made.
     fn passes(&self) -> usize
         ensures exact { result ≡ passes_for self.now }
         ensures few { (0 < result) × (result ≤ 4) }
@@ -179,8 +180,8 @@ fn over_stamps<
     )
 }
 
-/// Has the vnodes take over what they begin with, by three of the passes where a folder held something. Answers for whom they have begun, and from
-/// which fronts what they do is followed.
+/// Has the vnodes take over what they begin with, by three of the passes where a folder held something. Answers for whom they have begun,
+/// and from which fronts what they do is followed.
 fn begin<'a, B: Room + Send + Sync, R: Threads + Wait + Sync, N, F: Copy>(
     alloc: Global,
     rt: &R,

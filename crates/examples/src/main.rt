@@ -1,7 +1,7 @@
 //! The examples in data/, which examples.list names, tried one after another by the commands of dvvstore: whether a program is let in,
 //! whether a script prints what stands beside it, whether the requests of connections are answered by what stands beside them, whether
-//! commands come to what stands behind them, and whether the programs of rows and functions in C are told so. Each program that is let in is
-//! run and driven, which has to come to the same. Records and contexts in rows are read, and written again.
+//! commands come to what stands behind them, and whether the programs of rows and functions in C are told so. Each program that is let in
+//! is run and driven, which has to come to the same. Records and contexts in rows are read, and written again.
 #![tactic(auto)]
 
 mod asking;

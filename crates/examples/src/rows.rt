@@ -47,8 +47,8 @@ fn tell_rows<F: Files>(
     tell_difference(&got, want, told)
 }
 
-/// Tells the name of a row, what the command says of its program, and its status. The parts of a row are its name, the program and its input,
-/// these two in hexadecimal, and a comment.
+/// Tells the name of a row, what the command says of its program, and its status. The parts of a row are its name, the program and its
+/// input, these two in hexadecimal, and a comment.
 fn try_row<F: Files>(
     alloc: Global,
     words: &[&str],

@@ -1,9 +1,9 @@
 //! Commands in the trials of a file, done one after another.
 //!
-//! A trial begins with a dollar sign. Its first line has its name and, each behind a bar, the words of its commands, which one space parts. The
-//! lines behind that are the file `file`, which may end in hexadecimal, behind a tilde: digits in groups, each of them so often as a star
-//! tells. Behind a greater-than sign and a line feed stands what has to come of each command: its output, its status, its
-//! error, and what it made of the file `new`. An empty line ends the trial. What stands before the first trial is a comment.
+//! A trial begins with a dollar sign. Its first line has its name and, each behind a bar, the words of its commands, which one space parts.
+//! The lines behind that are the file `file`, which may end in hexadecimal, behind a tilde: digits in groups, each of them so often as a
+//! star tells. Behind a greater-than sign and a line feed stands what has to come of each command: its output, its status, its error, and
+//! what it made of the file `new`. An empty line ends the trial. What stands before the first trial is a comment.
 
 use crate::asking::tell_command;
 use crate::desk::Desk;

@@ -37,7 +37,8 @@ pub struct Held {
     pub settings: Settings,
     /// The requests that install and bind hooks.
     pub hooks: Vec<u8>,
-    /// The records of each vnode that has a file, with its identifier, whose lower half is the vnode's index. They stand in the order of indexes.
+    /// The records of each vnode that has a file, with its identifier, whose lower half is the vnode's index. They stand in the order of
+    /// indexes.
     pub files: Vec<KeptFile>,
 }
 
@@ -90,8 +91,8 @@ impl From<AllocError> for OpenFault {
 }
 
 /// Reads all files of a folder, and takes the next number: it is written and forced to the device before anything else is done. An empty
-/// folder is a new store. Nothing is changed where a file is at fault. The files of records are read and taken apart by several threads where
-/// there are some; of those at fault the first is told.
+/// folder is a new store. Nothing is changed where a file is at fault. The files of records are read and taken apart by several threads
+/// where there are some; of those at fault the first is told.
 pub fn open<F: Folder + Sync, R: Threads + Sync>(
     alloc: Global,
     rt: &R,
@@ -207,8 +208,8 @@ fn number_of(bytes: &[u8]) -> Option<u16> {
     text.trim_end().parse::<u16>().ok()
 }
 
-/// The files of records that there are. The first is read and taken apart, and then the two others side by side where there are threads for that:
-/// their records take the memory of those of the first that are the same, as nearly all are.
+/// The files of records that there are. The first is read and taken apart, and then the two others side by side where there are threads for
+/// that: their records take the memory of those of the first that are the same, as nearly all are.
 fn files_in<F: Folder + Sync, R: Threads + Sync>(
     alloc: Global,
     rt: &R,
@@ -256,8 +257,8 @@ fn add(files: &mut Vec<KeptFile>, found: Option<KeptFile>) -> Result<(), OpenFau
     }
 }
 
-/// The records of the vnode with an index, if there is a file of them. Its bytes are gone once they are taken apart. Records that are among others
-/// take their memory.
+/// The records of the vnode with an index, if there is a file of them. Its bytes are gone once they are taken apart. Records that are among
+/// others take their memory.
 fn file_in<F: Folder, R: Threads>(
     alloc: Global,
     rt: &R,

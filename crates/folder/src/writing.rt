@@ -140,8 +140,8 @@ pub struct Unreplaced {
     pub fault: WriteFault,
 }
 
-/// Replaces all files by what vnodes hold that nobody calls any more, and by the requests that install and bind their hooks, of which one may be
-/// lacking. Answers how many keys they have. Where a file isn't replaced the others are all the same.
+/// Replaces all files by what vnodes hold that nobody calls any more, and by the requests that install and bind their hooks, of which one
+/// may be lacking. Answers how many keys they have. Where a file isn't replaced the others are all the same.
 pub fn keep_all<F: Folder>(
     alloc: Global,
     folder: &mut F,
@@ -223,8 +223,8 @@ fn put_whole<F: Folder>(
     Ok(count)
 }
 
-/// Replaces the file of the records of a vnode that serves. Answers how many keys it had. Whatever comes of it, nothing but keys and reads is
-/// asked of the vnode, and nothing of others.
+/// Replaces the file of the records of a vnode that serves. Answers how many keys it had. Whatever comes of it, nothing but keys and reads
+/// is asked of the vnode, and nothing of others.
 pub fn keep_served<F: Folder, P: Peers, G: Pace>(
     alloc: Global,
     folder: &mut F,

@@ -18,8 +18,9 @@ use std::marker::Model;
 use vnode::{BlockSpot, KeyBlock, Seed};
 
 /// An auditor that goes along with vnodes: their journals are handed over in blocks, and happen again in the order of stamps, at
-/// vnodes of its own that settle. What it has followed of all vnodes is one run of the world, as long as it has found no fault. So many of the first
-/// entries of each vnode, its front, may have been there before: these are taken and happen again as the others do, but are no part of the run.
+/// vnodes of its own that settle. What it has followed of all vnodes is one run of the world, as long as it has found no fault. So many of
+/// the first entries of each vnode, its front, may have been there before: these are taken and happen again as the others do, but are no
+/// part of the run.
 #[derive(Drop)]
 pub struct Follower {
     run: Run,
@@ -50,8 +51,8 @@ fn queues(alloc: Global, count: usize) -> Result<Vec<Queue>, AllocError>
 }
 
 impl Follower {
-    /// A follower of vnodes with these identifiers, of which nothing was taken. Of each vnode it keeps what the recent entries answered that it
-    /// has followed: a merge may name any of these.
+    /// A follower of vnodes with these identifiers, of which nothing was taken. Of each vnode it keeps what the recent entries answered
+    /// that it has followed: a merge may name any of these.
     pub fn new(alloc: Global, ids: &[u32], recent: Recent) -> Result<Follower, AllocError>
         requires distinct { AreDistinct ids.now }
         ensures followed { IfOk result (λ follower. follower.followed ≡ empty_logs ids.now) }
@@ -63,9 +64,10 @@ impl Follower {
         Follower::new_seeded(alloc, Seed::fixed(), ids, Vec::new(alloc), recent)
     }
 
-    /// The same of vnodes of which so many of the first entries of each, by index, were there before the run: its front, as a store that begins with
-    /// what it kept makes them, before anything else. Where there is no number for a vnode, it has none. The fronts are taken with the others, and come
-    /// first: their stamps are compared, and none of their sources is asked for. A merge behind them that names one of their entries has no source.
+    /// The same of vnodes of which so many of the first entries of each, by index, were there before the run: its front, as a store that
+    /// begins with what it kept makes them, before anything else. Where there is no number for a vnode, it has none. The fronts are taken
+    /// with the others, and come first: their stamps are compared, and none of their sources is asked for. A merge behind them that names
+    /// one of their entries has no source.
     pub fn new_from(
         alloc: Global,
         ids: &[u32],
@@ -211,12 +213,13 @@ impl Follower {
     }
 
     /// Follows all that was taken with stamps below a bound, in the order of stamps: each put accepted with its dot, each merge the
-    /// delivery of what the earlier read that it names answered, or as what it says where it is one of a front. So from each beginning of the world that
-    /// has led to the fronts, all is one run; where there is no front, from nothing on.
+    /// delivery of what the earlier read that it names answered, or as what it says where it is one of a front. So from each beginning of
+    /// the world that has led to the fronts, all is one run; where there is no front, from nothing on.
     ///
-    /// The first fault is told, at the vnode and the place of its entry, which waits no longer. It is the last: from then on nothing is followed, and it is
-    /// told again. A merge that names an answer that is no longer kept is told as such, though it may be right. A bound is to be one below which no stamp is
-    /// drawn any more: an entry that comes later is told as late, and so is one that is behind its front before all fronts are whole.
+    /// The first fault is told, at the vnode and the place of its entry, which waits no longer. It is the last: from then on nothing is
+    /// followed, and it is told again. A merge that names an answer that is no longer kept is told as such, though it may be right. A bound
+    /// is to be one below which no stamp is drawn any more: an entry that comes later is told as late, and so is one that is behind its
+    /// front before all fronts are whole.
     pub fn follow(&mut self, below: u64) -> Result<(), FollowFault>
         ensures yes { OnOk result (IsRunFrom self.old.fronts self.new.followed) }
         ensures alike { OnOk result (AreTakenAlike self.old.followed self.old.waiting self.new.followed self.new.waiting) }

@@ -86,8 +86,8 @@ impl Hall {
     }
 
     /// Does a bounded piece of work for one connection: what it sent is read, its whole requests make their calls and are answered, and the
-    /// answers are written, until it has nothing to give or take now, or ends, or had its share. No other connection is touched, and no call is
-    /// made but those of its own exchanges. One that nobody has, as one that ended meanwhile, is passed over.
+    /// answers are written, until it has nothing to give or take now, or ends, or had its share. No other connection is touched, and no
+    /// call is made but those of its own exchanges. One that nobody has, as one that ended meanwhile, is passed over.
     pub fn attend<R: Ring, B: Backend>(&mut self, number: u64, ring: &mut R, backend: &mut B)
         ensures goes { (log : Log) (old : Sockets) → R.shows ring.old old → AllStand (B.copies backend.old) log old (seat_at self.old)
             → (new : Sockets) × R.shows ring.new new × (goes : Goes B.gives (B.copies backend.old) log backend.old backend.new new (seat_at self.new)) × IsOfOne number goes.made

@@ -17,8 +17,8 @@ const MOST_TEXT: usize = 65_536;
 /// After so many looks the media types are made anew.
 const LOOKS: u32 = 64;
 
-/// What all connections of a worker share: the tables that requests are read by, the room for a body that is made up, the room for what is known of a head, and a buffer
-/// each for the bytes that come and for the answers.
+/// What all connections of a worker share: the tables that requests are read by, the room for a body that is made up, the room for what is
+/// known of a head, and a buffer each for the bytes that come and for the answers.
 #[derive(Drop)]
 pub struct Desk {
     alloc: Global,
@@ -99,7 +99,8 @@ impl Desk {
         None
     }
 
-    /// Adds the answer to a request. The room of a large body is given back. The error is want of memory: a front of the answer may stand there.
+    /// Adds the answer to a request. The room of a large body is given back. The error is want of memory: a front of the answer may stand
+    /// there.
     pub(crate) fn push_answer(
         &mut self,
         out: &mut Vec<u8>,

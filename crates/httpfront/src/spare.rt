@@ -8,8 +8,8 @@ use std::mem;
 /// The most room that is kept: a larger buffer is given back to the system.
 const MOST: usize = 65_536;
 
-/// A buffer without bytes, which goes from connection to connection: one that has bytes to keep takes it, and hands it back once none are left. So
-/// a connection that waits for its client has none, and the next one need not ask the system for any.
+/// A buffer without bytes, which goes from connection to connection: one that has bytes to keep takes it, and hands it back once none are
+/// left. So a connection that waits for its client has none, and the next one need not ask the system for any.
 #[derive(Drop)]
 pub(crate) struct Spare {
     alloc: Global,

@@ -22,7 +22,8 @@ use std::alloc::{AllocError, Global};
 use std::marker::Model;
 
 /// What one connection keeps: the bytes that came and wait to be read, what is known of their head, and the answers that wait to be
-/// written, in buffers that go from connection to connection by the desk. While nothing waits either way it holds 512 bytes at most, with all that it owns.
+/// written, in buffers that go from connection to connection by the desk. While nothing waits either way it holds 512 bytes at most, with
+/// all that it owns.
 #[derive(Drop)]
 pub struct Talk {
     inbox: Queue,

@@ -20,8 +20,9 @@ impl Tables {
         })
     }
 
-    /// Makes the media types anew. Values share those that were there when they came: so a thread that counts owners of what came before, as the one
-    /// that follows does, seldom waits for one that counts those of what comes now. Where there is no memory, the earlier ones stay.
+    /// Makes the media types anew. Values share those that were there when they came: so a thread that counts owners of what came before,
+    /// as the one that follows does, seldom waits for one that counts those of what comes now. Where there is no memory, the earlier ones
+    /// stay.
     pub fn renew(&mut self, alloc: Global) {
         if let Ok(types) = MediaTypes::new(alloc) {
             self.types = types;

@@ -37,8 +37,9 @@ pub enum Unkept {
     NoMemory,
 }
 
-/// The records of a vnode's file. A file that was cut, even behind a record, is told, and so is one that was damaged. Its two halves are taken
-/// apart side by side where there are threads for that. Records that are among others, those of another vnode's file, take their memory.
+/// The records of a vnode's file. A file that was cut, even behind a record, is told, and so is one that was damaged. Its two halves are
+/// taken apart side by side where there are threads for that. Records that are among others, those of another vnode's file, take their
+/// memory.
 pub fn read_file<R: Threads>(
     alloc: Global,
     rt: &R,

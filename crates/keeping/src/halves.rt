@@ -9,7 +9,8 @@ use std::thread;
 use std::thread::Threads;
 use wire::{Record, record_length};
 
-/// The place of the first record that begins in the second half of bytes, as the heads of those before it say it; the end where there is none.
+/// The place of the first record that begins in the second half of bytes, as the heads of those before it say it; the end where there is
+/// none.
 fn middle_of(bytes: &[u8]) -> usize
     ensures { result ≤ length bytes.now }
 {
@@ -23,7 +24,8 @@ fn middle_of(bytes: &[u8]) -> usize
     bytes.len() - left.len()
 }
 
-/// The records of two parts, each taken apart on a thread of its own where there is one. None where a part has a fault, or memory was refused.
+/// The records of two parts, each taken apart on a thread of its own where there is one. None where a part has a fault, or memory was
+/// refused.
 fn records_of_both<R: Threads>(
     alloc: Global,
     rt: &R,
@@ -51,8 +53,8 @@ fn records_of_both<R: Threads>(
     }
 }
 
-/// The records that bytes are, one after another, or the first that has a fault: that is found by one thread, in order. Those that are among
-/// others, which stand in the order of keys, too, take their memory.
+/// The records that bytes are, one after another, or the first that has a fault: that is found by one thread, in order. Those that are
+/// among others, which stand in the order of keys, too, take their memory.
 pub(crate) fn records_beside<R: Threads>(
     alloc: Global,
     rt: &R,

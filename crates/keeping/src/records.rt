@@ -89,8 +89,8 @@ fn is_content(content: &Content) -> bool
     }
 }
 
-/// The records that bytes are, one after another, or the first that has a fault. Those that are among others take their memory: both stand in the
-/// order of keys, and where they don't, less is shared.
+/// The records that bytes are, one after another, or the first that has a fault. Those that are among others take their memory: both stand
+/// in the order of keys, and where they don't, less is shared.
 pub(crate) fn records_in(
     alloc: Global,
     bytes: &[u8],
@@ -118,8 +118,8 @@ pub(crate) fn records_in(
     Ok(records)
 }
 
-/// Appends a record to a list. It takes the memory of another one, where it is the same, and else its media type's bytes are those of the last one's,
-/// where these are the same.
+/// Appends a record to a list. It takes the memory of another one, where it is the same, and else its media type's bytes are those of the
+/// last one's, where these are the same.
 fn keep(
     alloc: Global,
     records: &mut Vec<Record>,

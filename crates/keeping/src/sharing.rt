@@ -14,8 +14,8 @@ pub(crate) fn from_key<'a>(records: &'a [Record], key: &Key) -> &'a [Record] {
     }
 }
 
-/// Has a record take the memory of another's key and state in place of its own, where they are the same. A key whose owners can't be counted
-/// further stays.
+/// Has a record take the memory of another's key and state in place of its own, where they are the same. A key whose owners can't be
+/// counted further stays.
 pub(crate) fn share(one: &mut Record, other: &Record)
     ensures { one.new ≡ one.old }
 {
@@ -37,7 +37,8 @@ pub(crate) fn share_media(alloc: Global, state: &mut KeyState, other: &KeyState)
     }
 }
 
-/// The state of a lone value, with the media type's bytes of another such one. None where that has another media type, or memory was refused.
+/// The state of a lone value, with the media type's bytes of another such one. None where that has another media type, or memory was
+/// refused.
 fn with_media_of(alloc: Global, state: &KeyState, other: &KeyState) -> Option<KeyState>
     ensures { IfSome result (λ same. same ≡ state.now) }
 {

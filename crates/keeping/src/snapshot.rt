@@ -41,8 +41,8 @@ pub enum SnapshotFault {
 
 /// Who is asked before each key of a snapshot whether it goes on.
 pub trait Pace {
-    /// Whether it goes on. It may be made to wait first. It is told at which place of the vnode's journal the key before was read: where that
-    /// isn't the place after the one that it was told before, somebody else called the vnode meanwhile.
+    /// Whether it goes on. It may be made to wait first. It is told at which place of the vnode's journal the key before was read: where
+    /// that isn't the place after the one that it was told before, somebody else called the vnode meanwhile.
     fn goes_on(&mut self, last: Option<u32>) -> bool;
 }
 
@@ -71,8 +71,8 @@ pub struct Subject {
 }
 
 /// Writes the file of a vnode while it serves: it names its keys, each is read, and each answer's record is written before the next key is
-/// read, as long as the pace goes on. Answers how many keys there were. At an error what was written is no whole file. Whatever comes of it,
-/// nothing but keys and reads is asked of the vnode, and nothing of others.
+/// read, as long as the pace goes on. Answers how many keys there were. At an error what was written is no whole file. Whatever comes of
+/// it, nothing but keys and reads is asked of the vnode, and nothing of others.
 pub fn write_snapshot<P: Peers, W: Write, G: Pace>(
     alloc: Global,
     peers: &mut P,

@@ -19,8 +19,8 @@ use vnode::{Copied, Vnode};
 /// Above each stamp that a cluster draws.
 const STAMP: u64 = 1 << 63;
 
-/// Writes the file of a vnode that nobody calls any more: all its keys are read at once, and the record of each is written. Answers how many
-/// there are. At an error what was written is no whole file.
+/// Writes the file of a vnode that nobody calls any more: all its keys are read at once, and the record of each is written. Answers how
+/// many there are. At an error what was written is no whole file.
 pub fn write_whole<W: Write>(
     alloc: Global,
     vnode: &mut Vnode,

@@ -1,5 +1,5 @@
-//! The requests that install and bind the hooks of a store: they are written down as the store makes them, and served to the store that begins
-//! from them.
+//! The requests that install and bind the hooks of a store: they are written down as the store makes them, and served to the store that
+//! begins from them.
 #![tactic(auto)]
 
 mod alone;

@@ -45,8 +45,8 @@ impl<'a, K: Backend + Drop, R: Wait> Recorder<'a, K, R> {
         }
     }
 
-    /// The same, where it is noted that something was written: a key, or which hooks there are, or are bound. It is noted once that is done,
-    /// so who takes the note and reads the store then has it, or finds another note later.
+    /// The same, where it is noted that something was written: a key, or which hooks there are, or are bound. It is noted once that is
+    /// done, so who takes the note and reads the store then has it, or finds another note later.
     pub fn noting(self, written: &'a AtomicBool) -> Recorder<'a, K, R>
         ensures { result.store ≡ self.entry.store }
     {

@@ -37,9 +37,9 @@ pub struct Passes<B: Room> {
     pub third: Pass<B>,
 }
 
-/// Has each vnode of a cluster of three, which nobody has called before, merge the records of the file that is its own by index, each once and
-/// in order: they are the first entries of its journal. They do so side by side where there are threads for that. The pass of each is told of each
-/// merge there and of nothing else. The error is that of the first vnode that has one.
+/// Has each vnode of a cluster of three, which nobody has called before, merge the records of the file that is its own by index, each once
+/// and in order: they are the first entries of its journal. They do so side by side where there are threads for that. The pass of each is
+/// told of each merge there and of nothing else. The error is that of the first vnode that has one.
 pub fn load_all<B: Room + Send + Sync, R: Threads + Wait + Sync>(
     alloc: Global,
     rt: &R,

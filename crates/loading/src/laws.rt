@@ -19,22 +19,22 @@ ghost use Rattle.loading.specs.Loads.{HasLoaded, Mark, merges_told};
 
 use carrying::laws::records_carry_all;
 
-/// Where all that a pass was told while a vnode took records over stands in the vnode's journal, the journal begins with the merges of these
-/// records, each once and in order.
+/// Where all that a pass was told while a vnode took records over stands in the vnode's journal, the journal begins with the merges of
+/// these records, each once and in order.
 pub fn loads_begin_journals()
     ensures { (journal : List Entry) (id : ℕ) (records : List OneRecord) (marks : List Mark) → length marks ≡ length records → ((t : Told) → Contains (merges_told id 0 records marks) t → FitsIn journal t)
         → (es : List Entry) × (rest : List Entry) × AreMergesOf es records × (journal ≡ es ++ rest) }
 {}
 
-/// Where what was told stands in the journals of gathered vnodes, each of it once, and a pass was told, among other things, that a vnode took
-/// records over, that vnode's journal begins with their merges.
+/// Where what was told stands in the journals of gathered vnodes, each of it once, and a pass was told, among other things, that a vnode
+/// took records over, that vnode's journal begins with their merges.
 pub fn loads_stand()
     ensures { (before after : List Told) (old new : View) (logs : List Log) (id : ℕ) (records : List OneRecord)
         → IsGathered (before ++ new.told ++ after) logs → HasLoaded old new id records → BeginsWith logs id records }
 {}
 
-/// What was acknowledged stays known over a stop in order: where a journal begins with the merges of records of all keys of another, each write that
-/// stands in that one is known there, and so is each event of a context that was told there at any time.
+/// What was acknowledged stays known over a stop in order: where a journal begins with the merges of records of all keys of another, each
+/// write that stands in that one is known there, and so is each event of a context that was told there at any time.
 pub fn acknowledged_stays()
     ensures puts { (old : Log) (records : List OneRecord) (es rest : List Entry) (stamp : ℕ) (key : Key) (seen : List Dot) (content : Content) (dot : Dot)
         → IsJournal old.vnode old.entries → AreOfAll old records → AreMergesOf es records → Contains old.entries (Put stamp key seen content dot) → known_in (es ++ rest) key dot ≡ true }

@@ -22,8 +22,8 @@ use vnode_locks::{
     CallFault, GatherFault, Locked, Pass, Receipt, Room, deal_passes, deal_vnodes, gathered,
 };
 
-/// How often a vnode's lock is tried before the thread sleeps until it is free. The processor is told each time that the thread waits, and lets it
-/// pause: so all take 12 microseconds, and 60 or more on a processor that pauses longer.
+/// How often a vnode's lock is tried before the thread sleeps until it is free. The processor is told each time that the thread waits, and
+/// lets it pause: so all take 12 microseconds, and 60 or more on a processor that pauses longer.
 const TRIES: u32 = 1_000;
 
 /// Is told of each call.
@@ -64,7 +64,8 @@ impl<B: Room> Cluster<B> {
         self.vnodes.len()
     }
 
-    // A vnode under its lock. Who holds it is through within microseconds, and a thread that sleeps wakes much later: so it is tried for a while.
+    // A vnode under its lock. Who holds it is through within microseconds, and a thread that sleeps wakes much later: so it is tried for a
+    // while.
     fn locked<'a, R: Wait>(&'a self, rt: &R, vnode: usize) -> MutexGuard<'a, Locked<B>>
         requires { vnode < self.now.vnodes }
     {
@@ -194,8 +195,9 @@ impl<B: Room> Cluster<B> {
         self.seed.hint(key)
     }
 
-    /// The place of a key on a ring of three vnodes, where one of them was told it, under that one's lock: which one says what is remembered of the
-    /// key. It is no event there. Where the key lies at that vnode is remembered, too, for the look-ups of the others, which all have it.
+    /// The place of a key on a ring of three vnodes, where one of them was told it, under that one's lock: which one says what is
+    /// remembered of the key. It is no event there. Where the key lies at that vnode is remembered, too, for the look-ups of the others,
+    /// which all have it.
     pub fn ring_place<R: Wait>(&self, rt: &R, hint: &mut Hint, key: &Key) -> Option<u32>
         ensures { IfSome result (λ told. told ≡ ring_place key.now.bucket key.now.key) }
     {
@@ -203,8 +205,8 @@ impl<B: Room> Cluster<B> {
         self.locked(rt, vnode).ring_place(hint, key)
     }
 
-    /// Tells a vnode the place of a key on a ring of three vnodes, under its lock: which one says what is remembered of the key. It is no event there,
-    /// and comes to nothing where nothing is remembered, the vnode has no state of the key, or there is no memory.
+    /// Tells a vnode the place of a key on a ring of three vnodes, under its lock: which one says what is remembered of the key. It is no
+    /// event there, and comes to nothing where nothing is remembered, the vnode has no state of the key, or there is no memory.
     pub fn learn_ring_place<R: Wait>(&self, rt: &R, hint: &Hint, key: &Key, told: u32)
         requires { told ≡ ring_place key.now.bucket key.now.key }
     {
@@ -215,10 +217,10 @@ impl<B: Room> Cluster<B> {
 }
 
 impl<B: Room> Cluster<B> {
-    /// Hands out the full blocks of the journal of a vnode, under its lock. It is no event, and changes nothing that a call answers. The pass
-    /// is told what is handed out: it stands in the journal that [`gather`](Cluster::gather) gives, from that place on. None, and nothing is
-    /// handed out, where the pass has drawn all its stamps or no block is full. An empty block with memory is taken over where the journal has
-    /// none: so no call has to ask for one while others wait for the vnode.
+    /// Hands out the full blocks of the journal of a vnode, under its lock. It is no event, and changes nothing that a call answers. The
+    /// pass is told what is handed out: it stands in the journal that [`gather`](Cluster::gather) gives, from that place on. None, and
+    /// nothing is handed out, where the pass has drawn all its stamps or no block is full. An empty block with memory is taken over where
+    /// the journal has none: so no call has to ask for one while others wait for the vnode.
     pub fn hand_out<R: Wait>(
         &self,
         rt: &R,
@@ -269,7 +271,8 @@ impl<B: Room> Cluster<B> {
 }
 
 impl<B: Room> Cluster<B> {
-    /// So many vnodes with nothing written, numbered from the first identifier on, and so many passes, over a word that nobody has drawn from.
+    /// So many vnodes with nothing written, numbered from the first identifier on, and so many passes, over a word that nobody has drawn
+    /// from.
     pub fn open(
         alloc: Global,
         stamps: Stamps,

@@ -37,8 +37,8 @@ pub struct Resolved {
 /// pre-commit hook runs on this put, and it isn't brought to other vnodes.
 ///
 /// Else the get's own answer stands, and also where the look-up, the run, one of these merges, the put or the read was
-/// refused or lost, or memory ran out for the resolver's windows or for what it wrote: `cut` tells which. No further call is made then; what was
-/// stored stays. It stands, too, where the resolver was shown too much or its answer has no meaning, as `unfit` tells.
+/// refused or lost, or memory ran out for the resolver's windows or for what it wrote: `cut` tells which. No further call is made then;
+/// what was stored stays. It stands, too, where the resolver was shown too much or its answer has no meaning, as `unfit` tells.
 ///
 /// Which vnode answered is told by its identifier's index, the lower 16 bits.
 pub fn resolve<P: Peers, H: Hooks>(
@@ -78,7 +78,8 @@ pub fn resolve<P: Peers, H: Hooks>(
     }
 }
 
-// The coordinator's state after what a resolver chose was put there, where anything was to be put; and why it chose nothing, where it failed.
+// The coordinator's state after what a resolver chose was put there, where anything was to be put; and why it chose nothing, where it
+// failed.
 fn settle<P: Peers, H: Hooks>(
     peers: &mut P,
     hooking: &mut Hooking<H>,

@@ -23,8 +23,9 @@ pub enum Dumping<'a> {
     BadLine(BadLine<'a>),
 }
 
-/// Runs a script, and a dump of a vnode behind its lines. Gives what the lines print, as [`sim`](crate::sim) prints it, and what comes of the dump,
-/// for which nothing is printed. There is no dump behind a bad line, nor of a vnode that the script doesn't have. The error is want of memory for the script as a whole.
+/// Runs a script, and a dump of a vnode behind its lines. Gives what the lines print, as [`sim`](crate::sim) prints it, and what comes of
+/// the dump, for which nothing is printed. There is no dump behind a bad line, nor of a vnode that the script doesn't have. The error is
+/// want of memory for the script as a whole.
 pub fn run_and_dump<'a, I: Images>(
     alloc: Global,
     bytes: &'a [u8],

@@ -17,8 +17,8 @@ use wire::Record;
 use world::{BeginFault, World};
 
 /// Runs a script over vnodes that begin under an incarnation, the first of which has merged the records. Gives what the lines print, as
-/// [`sim`](crate::sim) prints it, and why the bad line is bad, if one is; a load under this incarnation is, as is one under 0. There is one vnode where the
-/// script has none. The error is the refusal of a record, before any line is done, or want of memory.
+/// [`sim`](crate::sim) prints it, and why the bad line is bad, if one is; a load under this incarnation is, as is one under 0. There is one
+/// vnode where the script has none. The error is the refusal of a record, before any line is done, or want of memory.
 pub fn run_from<'a, I: Images>(
     alloc: Global,
     bytes: &'a [u8],

@@ -25,16 +25,16 @@ pub fn stores_are_of_one_pass<'a, B: Room, R: Wait, G: Gate, H: Hooks + HookChan
         (λ p. record { size = p.cluster.now; pass = p.pass.now; failures = p.failures; origin = p.pass.ghost_name }) }
 {}
 
-/// Where exchanges lead a store of one pass on, as those do that a worker's turn adds to the log of its connections, what the pass was told is longer by the calls of
-/// these exchanges, one exchange after the other.
+/// Where exchanges lead a store of one pass on, as those do that a worker's turn adds to the log of its connections, what the pass was told
+/// is longer by the calls of these exchanges, one exchange after the other.
 pub fn exchanges_are_told<B: Backend, P: Peers, H: Hooks + HookChanges>()
     ensures { (now : B → StoreView P H) (passing : P → Passing) → IsOfOnePass B.gives P.happens H.finds H.names H.takes now passing
         → (xs : List Exchange) (start end : B) → Runs B.gives start xs end
         → (owns : List (List Told)) × AreCallsOf B.gives (told_to now passing) start xs owns end × (told_to now passing end ≡ told_to now passing start ++ all_calls owns) }
 {}
 
-/// Exchanges lead a store on as they lead on what one pass shows of it, where each call on a vnode is one by the pass; what is noted of troubles may be
-/// taken from the store meanwhile.
+/// Exchanges lead a store on as they lead on what one pass shows of it, where each call on a vnode is one by the pass; what is noted of
+/// troubles may be taken from the store meanwhile.
 pub fn exchanges_are_by_a_pass<P: Peers, H: Hooks + HookChanges>()
     ensures { (passing : P → Passing) → ((old new : P) (call : PeerCall) → P.happens old call new → PassCalls (passing old) call (passing new))
         → (xs : List Exchange) (start end : StoreView P H) → Runs (GivesUnnoted P.happens H.finds H.names H.takes) start xs end

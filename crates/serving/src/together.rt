@@ -46,14 +46,14 @@ pub struct Delivery<'a> {
     pub arrival: Arrival<'a>,
 }
 
-/// Answers so many clients, each on a connection of its own, on a store of one thread: each is attended as soon as something comes from it, in the
-/// order of the deliveries, until all that it asked is answered. Answers what was read of each and written to it, and how its connection ended, if it
-/// did. A delivery of a client that there isn't is passed over.
+/// Answers so many clients, each on a connection of its own, on a store of one thread: each is attended as soon as something comes from it,
+/// in the order of the deliveries, until all that it asked is answered. Answers what was read of each and written to it, and how its
+/// connection ended, if it did. A delivery of a client that there isn't is passed over.
 ///
-/// What is written to a client are the answers to all requests of the bytes that came from it, in order, unless a failure came, too: then it is a front of them. One
-/// log has the exchanges of all, in the order of their calls. Whatever the changes of the hooks so far are, each answer is that of the
-/// store with these changes and those that were answered before it, on whichever connection; what it tells of the writes is what the
-/// journals say at that moment.
+/// What is written to a client are the answers to all requests of the bytes that came from it, in order, unless a failure came, too: then
+/// it is a front of them. One log has the exchanges of all, in the order of their calls. Whatever the changes of the hooks so far are, each
+/// answer is that of the store with these changes and those that were answered before it, on whichever connection; what it tells of the
+/// writes is what the journals say at that moment.
 ///
 /// The error is want of memory, be it for one connection alone, which then broke off.
 pub fn answer_all<B: Backend>(
@@ -150,8 +150,8 @@ fn attend_all<B: Backend>(
     Ok(())
 }
 
-// Attends a client from which so many bytes came, until it is not to be attended once more. Each time many rounds are made, and each round reads, answers or writes
-// one byte at least: so it is enough to try as often as there are bytes, and twice for what waited.
+// Attends a client from which so many bytes came, until it is not to be attended once more. Each time many rounds are made, and each round
+// reads, answers or writes one byte at least: so it is enough to try as often as there are bytes, and twice for what waited.
 fn attend<B: Backend>(
     hall: &mut Hall,
     ring: &mut Clients,

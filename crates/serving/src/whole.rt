@@ -12,8 +12,8 @@ use crate::serving::serve;
 use httpfront::{Backend, FailSink, FailSource, Front, FrontFault};
 use std::alloc::Global;
 
-/// The answers to all the requests of a connection whose bytes are these, on a store of one thread: what [`serve`](crate::serve) writes. The
-/// fault is want of memory.
+/// The answers to all the requests of a connection whose bytes are these, on a store of one thread: what [`serve`](crate::serve) writes.
+/// The fault is want of memory.
 pub fn answers_to<B: Backend>(
     alloc: Global,
     bytes: &[u8],

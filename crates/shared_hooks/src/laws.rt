@@ -1,4 +1,5 @@
-//! What holds of readers of one registry and its installer, whatever they do. Each of these functions does nothing: its contract is the law.
+//! What holds of readers of one registry and its installer, whatever they do. Each of these functions does nothing: its contract is the
+//! law.
 
 ghost use Rattle.std.specs.Prelude.{◌⊎◌};
 ghost use mathlib.Core.List.{IsPrefix};

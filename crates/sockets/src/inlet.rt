@@ -28,8 +28,8 @@ impl Inlet {
         }
     }
 
-    /// Hands a connection over, and wakes the worker. The connection is handed back where the worker hasn't begun or takes no more, or where
-    /// there is no memory.
+    /// Hands a connection over, and wakes the worker. The connection is handed back where the worker hasn't begun or takes no more, or
+    /// where there is no memory.
     pub fn offer<R: Wait>(&self, rt: &R, stream: TcpStream) -> Result<(), TcpStream> {
         self.put(rt, stream)?;
         self.wake();

@@ -33,8 +33,8 @@ impl Watch {
         }
     }
 
-    /// The connection stands so now, and some bytes of its answers were taken meanwhile or not. Where it stands as before, and none were, it
-    /// does so since then, and else since now.
+    /// The connection stands so now, and some bytes of its answers were taken meanwhile or not. Where it stands as before, and none were,
+    /// it does so since then, and else since now.
     pub fn after(self, standing: Standing, has_taken: bool, now: u64) -> Watch
         ensures standing { result.standing ≡ standing }
         ensures goes_on { standing ≡ self.standing → has_taken ≡ false → result.since ≡ self.since }

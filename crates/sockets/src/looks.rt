@@ -1,7 +1,7 @@
 //! How often a worker looks for something to do before it sleeps.
 
-/// At most so many times: for one or two tenths of a millisecond. A client that reads many answers at once sends its next requests about so much
-/// later, and where processors are virtual a thread that sleeps is often woken no sooner.
+/// At most so many times: for one or two tenths of a millisecond. A client that reads many answers at once sends its next requests about so
+/// much later, and where processors are virtual a thread that sleeps is often woken no sooner.
 const MOST: u32 = 256;
 
 /// Where looking found nothing, it is tried again before each so many-th sleep.
@@ -9,9 +9,9 @@ const AGAIN: u32 = 64;
 
 /// How often a worker looks whether something is to be done before it sleeps until something is.
 ///
-/// A thread that sleeps is woken later than a client that asks one request after another sends the next one, so a worker looks for a while first.
-/// Where that finds nothing it looks half as often the next time, and in the end but once in a while, so that an idle worker, or one whose
-/// clients take longer, leaves the processor to others.
+/// A thread that sleeps is woken later than a client that asks one request after another sends the next one, so a worker looks for a while
+/// first. Where that finds nothing it looks half as often the next time, and in the end but once in a while, so that an idle worker, or one
+/// whose clients take longer, leaves the processor to others.
 #[derive(Clone, Copy, Debug, PartialEq, Eq)]
 pub(crate) struct Looks {
     /// How often it looks before the next sleep.

@@ -16,7 +16,8 @@ pub enum Stance {
 pub struct Orders {
     /// The time, in milliseconds of a clock that never goes back.
     pub now: u64,
-    /// Whether it reads. Where it doesn't, it writes the answers that wait and answers the requests that were read whole, and reads nothing.
+    /// Whether it reads. Where it doesn't, it writes the answers that wait and answers the requests that were read whole, and reads
+    /// nothing.
     pub may_read: bool,
     /// What it is there for.
     pub stance: Stance,

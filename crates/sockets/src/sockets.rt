@@ -147,8 +147,8 @@ impl Sockets {
         }
     }
 
-    /// A connection was reported, and whether its client sends nothing more, or it failed. Whether it is attended at once: one that is called
-    /// again, or of which much was read and written when it was last attended, has its turn behind others.
+    /// A connection was reported, and whether its client sends nothing more, or it failed. Whether it is attended at once: one that is
+    /// called again, or of which much was read and written when it was last attended, has its turn behind others.
     pub(crate) fn report(&mut self, number: u64, closes: bool) -> bool
         ensures next { self.new.next ≡ self.old.next }
     {

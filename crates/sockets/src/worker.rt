@@ -80,9 +80,9 @@ pub fn open<R: Net<Listener = TcpListener, Stream = TcpStream>>(
 }
 
 impl Worker {
-    /// One turn: it waits at most `most` for something to do, seats what was offered, attends the connections that were reported, then some of
-    /// those that had their share before and are called again, and gives up those whose clients are too slow. Each connection has a bounded
-    /// share of it, so that who asks for little waits for nobody who asks for much.
+    /// One turn: it waits at most `most` for something to do, seats what was offered, attends the connections that were reported, then some
+    /// of those that had their share before and are called again, and gives up those whose clients are too slow. Each connection has a
+    /// bounded share of it, so that who asks for little waits for nobody who asks for much.
     pub fn turn<R: Wait, B: Backend>(
         &mut self,
         rt: &R,

@@ -20,7 +20,8 @@ use std::alloc::Global;
 use std::mem;
 use troubles::{Note, Noted};
 
-/// What a read of a key comes to. Where the bucket's resolver wrote nothing though it was to, the siblings are answered, and why is told beside.
+/// What a read of a key comes to. Where the bucket's resolver wrote nothing though it was to, the siblings are answered, and why is told
+/// beside.
 #[derive(Drop)]
 pub struct Read {
     /// What is answered.
@@ -64,7 +65,8 @@ impl<P, H> Store<P, H> {
     }
 
     /// Takes what is noted of troubles since it was taken last, and begins anew: how many reads and writes came to each, and the bucket of
-    /// the last. A pre-commit hook that rejects is no trouble, nor is a refusal that clients bring about; want of memory is one, in reads and writes.
+    /// the last. A pre-commit hook that rejects is no trouble, nor is a refusal that clients bring about; want of memory is one, in reads
+    /// and writes.
     pub fn take_troubles(&mut self) -> Noted
         ensures taken { result ≡ self.old.noted }
         ensures anew { self.new.noted.kinds ≡ no_notes }
@@ -154,8 +156,8 @@ impl<P: Peers, H: Hooks> Store<P, H> {
     /// Reads a key at each vnode of its preference list, brings what came to those that it would change, and asks the bucket's
     /// resolver where siblings came. The vnode at the index `at` of the list coordinates.
     ///
-    /// As [`quorum::get`]: `TooFew` where fewer than `r` vnodes answered, else `Refused`. What was stored stays. Want of memory is noted, and
-    /// a resolver that decides nothing or whose choice isn't written.
+    /// As [`quorum::get`]: `TooFew` where fewer than `r` vnodes answered, else `Refused`. What was stored stays. Want of memory is noted,
+    /// and a resolver that decides nothing or whose choice isn't written.
     pub fn read(&mut self, key: &Key, r: u32, at: u32) -> Read
         requires key { IsKey key.now }
         requires at { at < copies_of self.old.placement.vnodes }

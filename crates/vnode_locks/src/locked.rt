@@ -249,7 +249,8 @@ impl<B: Room> Locked<B> {
         self.vnode.share_keys(at, block);
     }
 
-    /// The place of a key on a ring of three vnodes, where this one was told it. Where the key lies here is remembered for the look-ups of others.
+    /// The place of a key on a ring of three vnodes, where this one was told it. Where the key lies here is remembered for the look-ups of
+    /// others.
     pub fn ring_place(&self, hint: &mut Hint, key: &Key) -> Option<u32>
         ensures { IfSome result (λ told. told ≡ ring_place key.now.bucket key.now.key) }
     {
@@ -266,7 +267,8 @@ impl<B: Room> Locked<B> {
     }
 
     /// Hands out the full blocks of the journal of this vnode, which has this identifier. The pass, which can draw a stamp, is told what is
-    /// handed out. None, and it is told nothing, where no block is full. An empty block with memory is taken over where the journal has none.
+    /// handed out. None, and it is told nothing, where no block is full. An empty block with memory is taken over where the journal has
+    /// none.
     pub fn hand_out(
         &mut self,
         stamps: &Stamps,

@@ -294,8 +294,8 @@ fn length_around(body: &[u8]) -> usize
     HEAD_LEN + body.len() + DIGEST_LEN
 }
 
-/// How long the record at the front of the input is, as its head says it. None where the input doesn't begin with the mark, or ends before all
-/// that the length says. Neither the body nor its digest is looked at.
+/// How long the record at the front of the input is, as its head says it. None where the input doesn't begin with the mark, or ends before
+/// all that the length says. Neither the body nor its digest is looked at.
 pub fn record_length(bytes: &[u8]) -> Option<usize>
     ensures some { IfSome result (λ len. IsWhole bytes.now × (len ≡ 28 + body_length bytes.now)) }
     ensures within { IfSome result (λ len. len ≤ length bytes.now) }

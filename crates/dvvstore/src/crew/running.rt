@@ -35,9 +35,9 @@ struct Back<B: Room + Spot> {
 /// Has the worker of each seat answer the connections that it is handed, while a thread of its own accepts them in a lobby and follows
 /// what the workers do to the vnodes, whose journals are handed out for that; where no thread can be made for it, workers do so after
 /// each of their turns. What can't wait is told on standard error, and the workers go on; what goes wrong while they answer is told
-/// there, too, at most once a second and kind. Snapshots are made beside them by spare passes, if there are any and somebody makes them: on one
-/// more thread and those that it makes, and where it can't be made there are none. The error: a growth was refused for the threads; some
-/// workers may have answered no connection then.
+/// there, too, at most once a second and kind. Snapshots are made beside them by spare passes, if there are any and somebody makes them: on
+/// one more thread and those that it makes, and where it can't be made there are none. The error: a growth was refused for the threads;
+/// some workers may have answered no connection then.
 fn run<
     B: Room + Spot + Send + Sync,
     H: Hooks + HookChanges + Send + Drop,
@@ -136,10 +136,10 @@ pub struct Served {
     pub requests: Requests,
 }
 
-/// Has a crew serve a store that has begun with something, so many entries of each vnode, by index, while snapshots are made beside it by the
-/// passes that brought these. Once all workers have ended, the cluster is gathered, and what is left of the journals is followed; the
-/// vnodes are handed back, whatever is said of them, and what each of these passes had been told before stands in their journals. The error: memory was
-/// refused before the vnodes were gathered, and they are lost.
+/// Has a crew serve a store that has begun with something, so many entries of each vnode, by index, while snapshots are made beside it by
+/// the passes that brought these. Once all workers have ended, the cluster is gathered, and what is left of the journals is followed; the
+/// vnodes are handed back, whatever is said of them, and what each of these passes had been told before stands in their journals. The
+/// error: memory was refused before the vnodes were gathered, and they are lost.
 pub fn keep<
     B: Room + Spot + Send + Sync,
     H: Hooks + HookChanges + Send + Drop,

@@ -34,8 +34,8 @@ use std::time::Duration;
 use store::{NotingBackend, Store};
 use troubles::{Noted, Trouble};
 
-/// So many stamps are followed in one turn, in some two tenths of a millisecond. Connections that come meanwhile wait, and so may a thread that
-/// shares the processor.
+/// So many stamps are followed in one turn, in some two tenths of a millisecond. Connections that come meanwhile wait, and so may a thread
+/// that shares the processor.
 const PIECE: u64 = 256;
 
 /// How long a worker waits at the most for something to do, in milliseconds.
@@ -286,7 +286,8 @@ fn tell_troubles<P: Peers, H: Hooks + HookChanges, K: NotingBackend<P, H>, R: Wa
     }
 }
 
-/// One turn of a worker over a store, behind which it lets a connection go where it is asked to and tells what went wrong. Whether it goes on.
+/// One turn of a worker over a store, behind which it lets a connection go where it is asked to and tells what went wrong. Whether it goes
+/// on.
 fn take_turn<B: Room + Spot, P: Peers, H: Hooks + HookChanges, K: NotingBackend<P, H>, R: Wait>(
     rt: &R,
     floor: &Floor<'_, B>,
@@ -327,8 +328,8 @@ fn stay<B: Room + Spot, P: Peers, H: Hooks + HookChanges, K: NotingBackend<P, H>
     }
 }
 
-/// Has a worker, to which no connection came before, answer its connections until it ends, over the vnodes of the floor, which are called by a
-/// pass. The pass is handed back.
+/// Has a worker, to which no connection came before, answer its connections until it ends, over the vnodes of the floor, which are called
+/// by a pass. The pass is handed back.
 fn visit<B: Room + Spot, H: Hooks + HookChanges + Drop, R: Wait>(
     rt: &R,
     floor: &Floor<'_, B>,
@@ -419,8 +420,8 @@ fn work_all<
     back
 }
 
-/// The same, while a thread of its own accepts connections and follows what the workers do; where none can be made for it, workers do so after
-/// each of their turns.
+/// The same, while a thread of its own accepts connections and follows what the workers do; where none can be made for it, workers do so
+/// after each of their turns.
 pub(crate) fn work_attended<
     B: Room + Spot + Send + Sync,
     H: Hooks + HookChanges + Send + Drop,

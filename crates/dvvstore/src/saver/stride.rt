@@ -8,8 +8,8 @@ use std::sync::Wait;
 use std::thread::Parker;
 use std::time::Duration;
 
-/// At most so many keys of a vnode are read in a spell: half of the entries of which the follower keeps what they answered. So what a client's
-/// call answered is kept for longer than a spell lasts.
+/// At most so many keys of a vnode are read in a spell: half of the entries of which the follower keeps what they answered. So what a
+/// client's call answered is kept for longer than a spell lasts.
 const SPELL: u32 = 8_192;
 
 /// A spell lasts so many microseconds at the most.
@@ -42,11 +42,11 @@ fn rest_behind(spell: &Stint) -> u64 {
     by_time.max(by_waits).min(LONGEST_REST)
 }
 
-/// How fast a snapshot of a vnode goes on, and how long: as long as the server does. It reads spell by spell. Behind one in which somebody else
-/// called the vnode it waits until each worker has ended the turn that it was in: so a merge that a client's request makes still finds the answer
-/// that it names among the last that the follower keeps. Then it rests, the longer the longer the spell lasted and the more it had to wait for a
-/// processor, so that clients have most of the time of those that are busy, of the vnode and of who follows. Where nobody else calls the vnode it
-/// does neither. Where much waits to be followed it waits for that in any case, so that no client has to.
+/// How fast a snapshot of a vnode goes on, and how long: as long as the server does. It reads spell by spell. Behind one in which somebody
+/// else called the vnode it waits until each worker has ended the turn that it was in: so a merge that a client's request makes still finds
+/// the answer that it names among the last that the follower keeps. Then it rests, the longer the longer the spell lasted and the more it
+/// had to wait for a processor, so that clients have most of the time of those that are busy, of the vnode and of who follows. Where nobody
+/// else calls the vnode it does neither. Where much waits to be followed it waits for that in any case, so that no client has to.
 #[derive(Drop)]
 pub(crate) struct Stride<'a, R> {
     rt: &'a R,

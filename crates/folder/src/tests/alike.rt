@@ -13,8 +13,8 @@ use wire::Record;
 /// Keys in the order of bytes, each with a value.
 type Written = &'static [(&'static [u8], &'static [u8])];
 
-/// What three vnodes hold. All have the same at `a` and `d`; at `b` one lacks what the first has and one has another value; `c` and `e` are held
-/// by one.
+/// What three vnodes hold. All have the same at `a` and `d`; at `b` one lacks what the first has and one has another value; `c` and `e` are
+/// held by one.
 const WRITTEN: [Written; 3] = [
     &[(b"a", b"1"), (b"b", b"2"), (b"d", b"4")],
     &[(b"a", b"1"), (b"c", b"3"), (b"d", b"4")],

@@ -131,8 +131,8 @@ enum Device {
 /// What a connection came to, and how often its source and its sink failed.
 type End = (Result<u64, FrontFault>, u64, u64);
 
-/// Whether a connection had ended before its device could fail at this call, by one front: each request was answered then. Else that it failed
-/// was told, and a front of the answers was written.
+/// Whether a connection had ended before its device could fail at this call, by one front: each request was answered then. Else that it
+/// failed was told, and a front of the answers was written.
 fn has_ended(
     alloc: Global,
     front: &mut Front,
@@ -178,8 +178,9 @@ fn calls_that_fail(alloc: Global, rows: &[Row], device: Device) -> Result<u64, F
     first_without_failure(alloc, &mut front, &asked, &told, device)
 }
 
-/// Whichever read or write fails, that is told, and a front of the answers was written. 625 bytes that come seven at a time are 90 reads and one
-/// that finds the end; nine answers, each of which goes out before the next request has come, are 145 writes of at most seven bytes.
+/// Whichever read or write fails, that is told, and a front of the answers was written. 625 bytes that come seven at a time are 90 reads
+/// and one that finds the end; nine answers, each of which goes out before the next request has come, are 145 writes of at most seven
+/// bytes.
 #[test]
 fn devices_that_fail(rt: HostRuntime) -> Result<(), Fail> {
     let reads = calls_that_fail(rt.alloc(), &HTTP_SIBLINGS, Device::Source)?;

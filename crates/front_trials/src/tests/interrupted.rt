@@ -61,7 +61,8 @@ impl<T: io::Write> io::Write for Held<T> {
     }
 }
 
-/// What the dialogue of the rows comes to, and what is told, where each read and each write fails so often for a reason before it goes through.
+/// What the dialogue of the rows comes to, and what is told, where each read and each write fails so often for a reason before it goes
+/// through.
 fn dialogue(
     alloc: Global,
     why: io::ErrorKind,
@@ -77,7 +78,8 @@ fn dialogue(
     Ok((ended, told))
 }
 
-/// A call that was interrupted is made again, so that nothing is lost; one that fails for another reason ends the connection at its first read.
+/// A call that was interrupted is made again, so that nothing is lost; one that fails for another reason ends the connection at its first
+/// read.
 #[test]
 fn interrupted_calls(rt: HostRuntime) -> Result<(), Fail> {
     let (_, answers) = bytes_of(rt.alloc(), &HTTP_SIBLINGS)?;

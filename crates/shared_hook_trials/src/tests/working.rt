@@ -48,7 +48,8 @@ const SECOND: &[Row] = &[
     (Change::Bind(&[(RESOLVER, b"take")]), Ok(())),
 ];
 
-/// Whether the worker of a place does what it should: the first two bind a hook each, and the others look for one that may not be there yet.
+/// Whether the worker of a place does what it should: the first two bind a hook each, and the others look for one that may not be there
+/// yet.
 fn works<H: Hooks + HookChanges>(alloc: Global, hooks: &mut H, place: usize) -> bool {
     match place {
         0 => is_seen_at_once(alloc, hooks, FIRST, BEFORE, b"no"),

@@ -48,8 +48,9 @@ fn outcome(
     outcome_at(alloc, &mut local, operation, calls, answers)
 }
 
-/// An operation, and some of its calls by their numbers, from one to before another: why the operation is refused where such a call is lost,
-/// its answer, or it and all calls after it; and how many calls have failed by its end where its answer is lost, of which one fails anyhow.
+/// An operation, and some of its calls by their numbers, from one to before another: why the operation is refused where such a call is
+/// lost, its answer, or it and all calls after it; and how many calls have failed by its end where its answer is lost, of which one fails
+/// anyhow.
 type Row = (Operation, (usize, usize), [Option<QuorumFault>; 3], u64);
 
 const FEW: Option<QuorumFault> = Some(QuorumFault::TooFew);

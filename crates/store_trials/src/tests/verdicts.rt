@@ -12,8 +12,8 @@ use std::test::Fail;
 /// A sibling by its dot, and its value if it is no tombstone.
 type Shown = (u32, u64, Option<&'static [u8]>);
 
-/// What is shown to a hook of a kind in a window of so many bytes, of the new contents the first, how many of the bytes are used, and what stands
-/// at the window's front.
+/// What is shown to a hook of a kind in a window of so many bytes, of the new contents the first, how many of the bytes are used, and what
+/// stands at the window's front.
 struct Row {
     kind: ImageKind,
     new: &'static [Shown],
