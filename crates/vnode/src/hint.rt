@@ -5,9 +5,9 @@ ghost use Rattle.std.specs.Prelude.{◌<◌, IfSome};
 use crate::spot::Spot;
 use std::marker::Model;
 
-/// The hash of a key, as who looks it up at several vnodes of one seed remembers it, and the place at which one of them has it: vnodes that hear
-/// of the same keys in the same order have each at the same place. A look-up begins by what is remembered. Contracts don't see it: by the hash
-/// or the place of another key, or by another seed, the same is found, later.
+/// The hash of a key, as who looks it up at several vnodes of one seed remembers it, and the place at which one of them has it: vnodes that
+/// hear of the same keys in the same order have each at the same place. A look-up begins by what is remembered. Contracts don't see it: by
+/// the hash or the place of another key, or by another seed, the same is found, later.
 #[derive(Drop)]
 pub struct Hint {
     hash: Option<u64>,
@@ -46,8 +46,8 @@ impl Hint {
         }
     }
 
-    /// One of so many vnodes, the same for all keys of a shard: who keeps something of each key at one of them alone has it there for whole shards,
-    /// and nothing of those keys at the others. None where no hash is remembered.
+    /// One of so many vnodes, the same for all keys of a shard: who keeps something of each key at one of them alone has it there for whole
+    /// shards, and nothing of those keys at the others. None where no hash is remembered.
     pub fn one_of(&self, vnodes: usize) -> Option<usize>
         ensures { IfSome result (λ vnode. vnode < vnodes) }
     {

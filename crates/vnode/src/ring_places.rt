@@ -88,8 +88,8 @@ impl RingPlaces {
         self.told[i] = RingPlace::of(place);
     }
 
-    // Has a place for each of so many keys, which are more than before. It grows by an eighth, and by a block at least: so little lies idle, and
-    // what was given up for it is soon taken for something else.
+    // Has a place for each of so many keys, which are more than before. It grows by an eighth, and by a block at least: so little lies
+    // idle, and what was given up for it is soon taken for something else.
     fn reach(&mut self, keys: usize) -> Result<(), AllocError>
         requires { length self.old < keys }
         ensures told { (j p : ℕ) → slice_get self.new j ≡ Some (Some p) → slice_get self.old j ≡ Some (Some p) }

@@ -3,6 +3,7 @@
 ghost use Rattle.place.specs.Places.{ring_place};
 ghost use Rattle.std.specs.Prelude.{◌≡◌, ◌≢◌, ◌↔◌, Contains, IsTrue, OnOk, OnErr, IfOk, IfErr, IfSome, [], false, length, Err, List, ◌+◌, ◌^◌, ◌≤◌, ◌<◌, ◌⊎◌, All};
 
+use crate::answers::{MergeAnswer, PutAnswer};
 use crate::fault::{PartFault, VnodeFault};
 use crate::hint::Hint;
 use crate::key_blocks::KeyBlock;
@@ -14,9 +15,9 @@ use crate::steps::{
     Copied, Placed, copies_at, has_places_for, is_at, keys_in, listed_in, merge_at,
     merge_refusal_at, merged_of, put_at, put_refusal_at, read_all_at, write_of,
 };
-use dvv::{Clock, Dot};
+use dvv::Clock;
 use journal::{Entry, Handout, Journal, Merged, Write};
-use object::{Content, Key, KeyState, Part, PreparedPart, Shared, Summary};
+use object::{Content, Key, KeyState, Part, PreparedPart, Summary};
 use std::alloc::{AllocError, Global};
 use std::marker::Model;
 
@@ -109,13 +110,13 @@ impl Vnode {
         keys_in(self.alloc, &self.states)
     }
 
-    /// Writes a content that had seen what the context counts. Answers its dot, the place of its entry, which takes the parts over, and the
-    /// state that was at its key before. Memory is asked for nothing but what the vnode itself keeps.
-    pub fn put(&mut self, stamp: u64, write: Box<Write>) -> Result<(Dot, u32, Shared), VnodeFault>
-        ensures dot { IfOk result (λ put. IsNextDot self.old.entries write.value.key self.old.vnode put.0) }
-        ensures place { IfOk result (λ put. put.1 ≡ length self.old.entries) }
-        ensures was { IfOk result (λ put. IsReplay self.old.entries write.value.key put.2) }
-        ensures entry { IfOk result (λ put. self.new ≡ with_entry self.old (Put stamp write.value.key write.value.seen write.value.content put.0)) }
+    /// Writes a content that had seen what the context counts. Its entry takes the parts over. Memory is asked for nothing but what the
+    /// vnode itself keeps.
+    pub fn put(&mut self, stamp: u64, write: Box<Write>) -> Result<PutAnswer, VnodeFault>
+        ensures dot { IfOk result (λ put. IsNextDot self.old.entries write.value.key self.old.vnode put.dot) }
+        ensures place { IfOk result (λ put. put.place ≡ length self.old.entries) }
+        ensures was { IfOk result (λ put. IsReplay self.old.entries write.value.key put.was) }
+        ensures entry { IfOk result (λ put. self.new ≡ with_entry self.old (Put stamp write.value.key write.value.seen write.value.content put.dot)) }
         ensures accepts { OnOk result (AcceptsPut self.old.vnode self.old.entries write.value.key write.value.seen) }
 
         // Each refusal comes exactly where its limit is the first that is passed; no memory is asked for before.
@@ -131,7 +132,11 @@ impl Vnode {
             &write,
         )?;
         let entry = Entry::put_leaving(stamp, write, dot, left);
-        Ok((dot, self.journal.append(entry), was))
+        Ok(PutAnswer {
+            dot,
+            place: self.journal.append(entry),
+            was,
+        })
     }
 
     /// As [`put`](Vnode::put), of parts that are lent, and copied.
@@ -141,11 +146,11 @@ impl Vnode {
         key: &Key,
         seen: &Clock,
         content: &Content,
-    ) -> Result<(Dot, u32, Shared), VnodeFault>
-        ensures dot { IfOk result (λ put. IsNextDot self.old.entries key.now self.old.vnode put.0) }
-        ensures place { IfOk result (λ put. put.1 ≡ length self.old.entries) }
-        ensures was { IfOk result (λ put. IsReplay self.old.entries key.now put.2) }
-        ensures entry { IfOk result (λ put. self.new ≡ with_entry self.old (Put stamp key.now seen.now content.now put.0)) }
+    ) -> Result<PutAnswer, VnodeFault>
+        ensures dot { IfOk result (λ put. IsNextDot self.old.entries key.now self.old.vnode put.dot) }
+        ensures place { IfOk result (λ put. put.place ≡ length self.old.entries) }
+        ensures was { IfOk result (λ put. IsReplay self.old.entries key.now put.was) }
+        ensures entry { IfOk result (λ put. self.new ≡ with_entry self.old (Put stamp key.now seen.now content.now put.dot)) }
         ensures accepts { OnOk result (AcceptsPut self.old.vnode self.old.entries key.now seen.now) }
 
         // Want of memory is told only where no limit is passed.
@@ -169,17 +174,12 @@ impl Vnode {
         put_refusal_at(self.alloc, &self.states, &self.journal, key, seen)
     }
 
-    /// Merges the state that the vnode `from` answered at place `at` of its journal. Answers whether siblings or clock of
-    /// the key changed, the place of the entry, which takes the parts over, and the state that was at the key before. Memory is asked for
+    /// Merges the state that the vnode `from` answered at place `at` of its journal. The entry takes the parts over. Memory is asked for
     /// nothing but what the vnode itself keeps.
-    pub fn merge(
-        &mut self,
-        stamp: u64,
-        merged: Box<Merged>,
-    ) -> Result<(bool, u32, Shared), VnodeFault>
-        ensures changed { IfOk result (λ merge. TellsChange self.old.entries (Merge stamp merged.value.key merged.value.from merged.value.at merged.value.state) merged.value.key merge.0) }
-        ensures place { IfOk result (λ merge. merge.1 ≡ length self.old.entries) }
-        ensures was { IfOk result (λ merge. IsReplay self.old.entries merged.value.key merge.2) }
+    pub fn merge(&mut self, stamp: u64, merged: Box<Merged>) -> Result<MergeAnswer, VnodeFault>
+        ensures changed { IfOk result (λ merge. TellsChange self.old.entries (Merge stamp merged.value.key merged.value.from merged.value.at merged.value.state) merged.value.key merge.changed) }
+        ensures place { IfOk result (λ merge. merge.place ≡ length self.old.entries) }
+        ensures was { IfOk result (λ merge. IsReplay self.old.entries merged.value.key merge.was) }
         ensures entry { OnOk result (self.new ≡ with_entry self.old (Merge stamp merged.value.key merged.value.from merged.value.at merged.value.state)) }
         ensures accepts { OnOk result (AcceptsMerge self.old.entries merged.value.key merged.value.state) }
 
@@ -202,11 +202,11 @@ impl Vnode {
         stamp: u64,
         mut merged: Box<Merged>,
         part: Option<PreparedPart<'_>>,
-    ) -> Result<(bool, u32, Shared), PartFault>
+    ) -> Result<MergeAnswer, PartFault>
         ensures held { OnOk result (Leaves self.old.entries merged.value.key (λ own. lacks_of part.entry own ≡ false)) }
-        ensures changed { IfOk result (λ merge. Leaves self.old.entries merged.value.key (λ own. TellsChange self.old.entries (Merge stamp merged.value.key merged.value.from merged.value.at (brought part.entry merged.value.state own)) merged.value.key merge.0)) }
-        ensures place { IfOk result (λ merge. merge.1 ≡ length self.old.entries) }
-        ensures was { IfOk result (λ merge. IsReplay self.old.entries merged.value.key merge.2) }
+        ensures changed { IfOk result (λ merge. Leaves self.old.entries merged.value.key (λ own. TellsChange self.old.entries (Merge stamp merged.value.key merged.value.from merged.value.at (brought part.entry merged.value.state own)) merged.value.key merge.changed)) }
+        ensures place { IfOk result (λ merge. merge.place ≡ length self.old.entries) }
+        ensures was { IfOk result (λ merge. IsReplay self.old.entries merged.value.key merge.was) }
         ensures entry { OnOk result (Leaves self.old.entries merged.value.key (λ own. self.new ≡ with_entry self.old (Merge stamp merged.value.key merged.value.from merged.value.at (brought part.entry merged.value.state own)))) }
         ensures accepts { OnOk result (Leaves self.old.entries merged.value.key (λ own. AcceptsMerge self.old.entries merged.value.key (brought part.entry merged.value.state own))) }
 
@@ -224,11 +224,11 @@ impl Vnode {
             state,
             part,
         )?;
-        Ok((
+        Ok(MergeAnswer {
             changed,
-            self.journal.append(Entry::merge(stamp, merged)),
+            place: self.journal.append(Entry::merge(stamp, merged)),
             was,
-        ))
+        })
     }
 
     /// As [`merge`](Vnode::merge), of parts that are lent, and copied.
@@ -239,10 +239,10 @@ impl Vnode {
         from: u32,
         at: u32,
         state: &KeyState,
-    ) -> Result<(bool, u32, Shared), VnodeFault>
-        ensures changed { IfOk result (λ merge. TellsChange self.old.entries (Merge stamp key.now from at state.now) key.now merge.0) }
-        ensures place { IfOk result (λ merge. merge.1 ≡ length self.old.entries) }
-        ensures was { IfOk result (λ merge. IsReplay self.old.entries key.now merge.2) }
+    ) -> Result<MergeAnswer, VnodeFault>
+        ensures changed { IfOk result (λ merge. TellsChange self.old.entries (Merge stamp key.now from at state.now) key.now merge.changed) }
+        ensures place { IfOk result (λ merge. merge.place ≡ length self.old.entries) }
+        ensures was { IfOk result (λ merge. IsReplay self.old.entries key.now merge.was) }
         ensures entry { OnOk result (self.new ≡ with_entry self.old (Merge stamp key.now from at state.now)) }
         ensures accepts { OnOk result (AcceptsMerge self.old.entries key.now state.now) }
 
@@ -335,11 +335,11 @@ impl Vnode {
         stamp: u64,
         merged: Box<Merged>,
         part: PreparedPart<'_>,
-    ) -> Result<(bool, u32, Shared), PartFault>
+    ) -> Result<MergeAnswer, PartFault>
         ensures held { OnOk result (Leaves self.old.entries merged.value.key (λ own. lacks_some own part.entry ≡ false)) }
-        ensures changed { IfOk result (λ merge. Leaves self.old.entries merged.value.key (λ own. TellsChange self.old.entries (Merge stamp merged.value.key merged.value.from merged.value.at (whole_of part.entry own)) merged.value.key merge.0)) }
-        ensures place { IfOk result (λ merge. merge.1 ≡ length self.old.entries) }
-        ensures was { IfOk result (λ merge. IsReplay self.old.entries merged.value.key merge.2) }
+        ensures changed { IfOk result (λ merge. Leaves self.old.entries merged.value.key (λ own. TellsChange self.old.entries (Merge stamp merged.value.key merged.value.from merged.value.at (whole_of part.entry own)) merged.value.key merge.changed)) }
+        ensures place { IfOk result (λ merge. merge.place ≡ length self.old.entries) }
+        ensures was { IfOk result (λ merge. IsReplay self.old.entries merged.value.key merge.was) }
         ensures entry { OnOk result (Leaves self.old.entries merged.value.key (λ own. self.new ≡ with_entry self.old (Merge stamp merged.value.key merged.value.from merged.value.at (whole_of part.entry own)))) }
         ensures accepts { OnOk result (Leaves self.old.entries merged.value.key (λ own. AcceptsMerge self.old.entries merged.value.key (whole_of part.entry own))) }
 
@@ -359,11 +359,11 @@ impl Vnode {
         from: u32,
         at: u32,
         part: &Part,
-    ) -> Result<(bool, u32, Shared), PartFault>
+    ) -> Result<MergeAnswer, PartFault>
         ensures held { OnOk result (Leaves self.old.entries key.now (λ own. lacks_some own part.now ≡ false)) }
-        ensures changed { IfOk result (λ merge. Leaves self.old.entries key.now (λ own. TellsChange self.old.entries (Merge stamp key.now from at (whole_of part.now own)) key.now merge.0)) }
-        ensures place { IfOk result (λ merge. merge.1 ≡ length self.old.entries) }
-        ensures was { IfOk result (λ merge. IsReplay self.old.entries key.now merge.2) }
+        ensures changed { IfOk result (λ merge. Leaves self.old.entries key.now (λ own. TellsChange self.old.entries (Merge stamp key.now from at (whole_of part.now own)) key.now merge.changed)) }
+        ensures place { IfOk result (λ merge. merge.place ≡ length self.old.entries) }
+        ensures was { IfOk result (λ merge. IsReplay self.old.entries key.now merge.was) }
         ensures entry { OnOk result (Leaves self.old.entries key.now (λ own. self.new ≡ with_entry self.old (Merge stamp key.now from at (whole_of part.now own)))) }
         ensures accepts { OnOk result (Leaves self.old.entries key.now (λ own. AcceptsMerge self.old.entries key.now (whole_of part.now own))) }
 
@@ -447,8 +447,8 @@ impl Vnode {
         self.states.expect(hint);
     }
 
-    /// The place of a key on a ring of three vnodes, where [`Vnode::learn_ring_place`] was told it. The look-up begins by what is remembered of
-    /// the key, and where it lies here is remembered from then on. It is no event.
+    /// The place of a key on a ring of three vnodes, where [`Vnode::learn_ring_place`] was told it. The look-up begins by what is
+    /// remembered of the key, and where it lies here is remembered from then on. It is no event.
     pub fn ring_place(&self, hint: &mut Hint, key: &Key) -> Option<u32>
         ensures { IfSome result (λ told. told ≡ ring_place key.now.bucket key.now.key) }
     {

@@ -1,18 +1,18 @@
-use Rattle.std.proofs.Common.{ℕ, Bool, IfOk, Result, Err, sym, ap, subst}
+use Rattle.std.proofs.Common.{ℕ, IfOk, Result, Err, sym, ap, subst}
 use Rattle.object.specs.declared.content.Key.{Key}
 use Rattle.object.specs.Parts.{Partial, whole_of}
-use Rattle.object.specs.State.{State}
 use Rattle.journal.specs.Answers.{TellsChange}
 use Rattle.journal.specs.Entry.{Merge}
 use Rattle.journal.specs.Logs.{Log}
 use Rattle.journal.specs.Replay.{Leaves}
+use Rattle.vnode.specs.declared.answers.MergeAnswer.{MergeAnswer}
 use Rattle.vnode.specs.declared.fault.PartFault.{PartFault}
 use Rattle.vnode.specs.Parts.{RefusesPart}
 use Rattle.vnode.proofs.vnode.Vnode.merge_part_lent.Goals as goal
 
 -- what is told of a part's merge
-abbrev Told : Log → Result (Bool × ℕ × State) PartFault → ℕ → Key → ℕ → ℕ → Partial → Type 0
-Told log result stamp key from at part = IfOk result (λ merge. Leaves log.entries key (λ own. TellsChange log.entries (Merge stamp key from at (whole_of part own)) key merge.0))
+abbrev Told : Log → Result MergeAnswer PartFault → ℕ → Key → ℕ → ℕ → Partial → Type 0
+Told log result stamp key from at part = IfOk result (λ merge. Leaves log.entries key (λ own. TellsChange log.entries (Merge stamp key from at (whole_of part own)) key merge.changed))
 
 pub returns-in-Ok-clause-changed : goal.returns-in-Ok-clause-changed
 returns-in-Ok-clause-changed c =
