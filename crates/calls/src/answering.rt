@@ -22,11 +22,11 @@ pub fn answer(vnode: &mut Vnode, stamp: u64, prepared: Prepared<'_>) -> Result<R
 {
     match prepared {
         Prepared::Put(write) => match vnode.put(stamp, write) {
-            Ok((dot, _, _was)) => Ok(Reply::Dot(dot)),
+            Ok(put) => Ok(Reply::Dot(put.dot)),
             Err(fault) => Err(PartFault::Refused(fault)),
         },
         Prepared::Merge(merged) => match vnode.merge(stamp, merged) {
-            Ok((changed, _, _was)) => Ok(Reply::Changed(changed)),
+            Ok(merge) => Ok(Reply::Changed(merge.changed)),
             Err(fault) => Err(PartFault::Refused(fault)),
         },
         Prepared::Read(key) => match vnode.read(stamp, key) {
@@ -38,8 +38,8 @@ pub fn answer(vnode: &mut Vnode, stamp: u64, prepared: Prepared<'_>) -> Result<R
             Err(fault) => Err(PartFault::Refused(fault)),
         },
         Prepared::Part { merged, part } => match vnode.merge_part(stamp, merged, part) {
-            Ok((changed, _, _was)) => Ok(Reply::Built {
-                changed,
+            Ok(merge) => Ok(Reply::Built {
+                changed: merge.changed,
                 whole: Whole::last_of(vnode),
             }),
             Err(fault) => Err(fault),

@@ -195,7 +195,7 @@ fn put_at(
     match vnodes.get_mut(i) {
         None => Err(PeerFault::Lost),
         Some(vnode) => match vnode.put_lent(stamp, key, seen, content) {
-            Ok((dot, _, _was)) => Ok(dot),
+            Ok(put) => Ok(put.dot),
             Err(fault) => Err(PeerFault::Refused(fault)),
         },
     }
@@ -217,7 +217,7 @@ fn merge_at(
     match vnodes.get_mut(i) {
         None => Err(PeerFault::Lost),
         Some(vnode) => match vnode.merge_lent(stamp, key, from, at, state) {
-            Ok((changed, _, _was)) => Ok(changed),
+            Ok(merge) => Ok(merge.changed),
             Err(fault) => Err(PeerFault::Refused(fault)),
         },
     }
@@ -275,7 +275,7 @@ fn merge_part_in(
 {
     journal::laws::replays_are_one();
     match vnode.merge_part_lent(stamp, key, from, at, part) {
-        Ok((changed, _, _was)) => Ok(PartAnswer::Merged(changed)),
+        Ok(merge) => Ok(PartAnswer::Merged(merge.changed)),
         Err(PartFault::Missing) => Ok(PartAnswer::Missing),
         Err(PartFault::Refused(fault)) => Err(PeerFault::Refused(fault)),
     }

@@ -79,11 +79,11 @@ fn put_again(
     ensures id { vnode.new.vnode ≡ vnode.old.vnode }
 {
     let key = write.key.copy()?;
-    let (next, _, was) = vnode.put(stamp, write)?;
-    if next != dot {
+    let put = vnode.put(stamp, write)?;
+    if put.dot != dot {
         return Err(Refusal::Illegal);
     }
-    Ok((Again::Numbered(next), Kept::Was(key, was)))
+    Ok((Again::Numbered(put.dot), Kept::Was(key, put.was)))
 }
 
 // A merge happens again.
@@ -96,8 +96,8 @@ fn merge_again(vnode: &mut Vnode, stamp: u64, merged: Box<Merged>) -> Result<(Ag
     ensures id { vnode.new.vnode ≡ vnode.old.vnode }
 {
     let key = merged.key.copy()?;
-    let (changed, _, was) = vnode.merge(stamp, merged)?;
-    Ok((Again::Changed(changed), Kept::Was(key, was)))
+    let merge = vnode.merge(stamp, merged)?;
+    Ok((Again::Changed(merge.changed), Kept::Was(key, merge.was)))
 }
 
 // A read happens again. Nothing is looked up.
@@ -138,8 +138,8 @@ fn settle(alloc: Global, vnode: &mut Vnode)
 }
 
 /// An entry, which is taken over, happens again at a vnode that has those before it. The vnode settles: it keeps at most a block of its
-/// entries in memory. Answers what the vnode answers, but not the state that a read does, and what is to be kept of the entry: of a put and of
-/// a merge the state that it replaced, which is shared.
+/// entries in memory. Answers what the vnode answers, but not the state that a read does, and what is to be kept of the entry: of a put and
+/// of a merge the state that it replaced, which is shared.
 ///
 /// `Illegal` where the entry may not follow those at the vnode. A put with another dot than the next one is found after it was
 /// written, and stays there under that one: a vnode that has refused is of no further use. `NoMemory` where a growth was refused.

@@ -27,8 +27,8 @@ pub(crate) fn index_of(vnodes: &[Vnode], id: u32) -> Option<usize>
     None
 }
 
-// Whether a state is what a read of a key answered, which is kept at a place of a vnode: it is the one before the first change of the key behind the read, or,
-// where there is none, the one that is there now.
+// Whether a state is what a read of a key answered, which is kept at a place of a vnode: it is the one before the first change of the key
+// behind the read, or, where there is none, the one that is there now.
 fn is_answer(vnode: &Vnode, kept: &Answers, at: u32, key: &Key, state: &KeyState) -> bool
     ensures { IsTrue result ↔ IsAnswerOf vnode.now kept.now at key.now state.now }
 {

@@ -9,8 +9,8 @@ use std::alloc::{AllocError, Global};
 use std::collections::VecDeque;
 use std::marker::Model;
 
-/// What is kept of an entry that has happened again. What a read answered is the state before the first entry behind it that changes its key, or,
-/// where none does, the one that is there now: so of a read its key is enough.
+/// What is kept of an entry that has happened again. What a read answered is the state before the first entry behind it that changes its
+/// key, or, where none does, the one that is there now: so of a read its key is enough.
 #[derive(Drop)]
 pub(crate) enum Kept {
     /// A read's key.
@@ -46,7 +46,8 @@ impl Kept {
 }
 
 /// Of how many of the last entries that have happened at a vnode it is kept what tells what they answered: of the longest end of them that
-/// has at most so many entries, and replaced states of at most so many bytes, or of the last ones that are always kept, where these are more.
+/// has at most so many entries, and replaced states of at most so many bytes, or of the last ones that are always kept, where these are
+/// more.
 #[derive(Clone, Copy, Debug, PartialEq, Eq, Drop)]
 pub struct Recent {
     /// Of so many all is kept, whatever they hold.

@@ -15,8 +15,8 @@ use std::marker::Model;
 use vnode::{BlockSpot, KeyBlock, Seed};
 
 /// Entries of several vnodes that happen again, one after another, at vnodes of its own that settle. As long as it has found no
-/// fault, all that has happened is one run of the world. So many of the first entries of each vnode, its front, may be no part of it: they were there
-/// before, so their sources aren't asked for, and no merge may name them. They come first.
+/// fault, all that has happened is one run of the world. So many of the first entries of each vnode, its front, may be no part of it: they
+/// were there before, so their sources aren't asked for, and no merge may name them. They come first.
 #[derive(Drop)]
 pub struct Rerun {
     alloc: Global,
@@ -50,8 +50,8 @@ impl Rerun {
         Rerun::new_seeded(alloc, Seed::fixed(), ids, Vec::new(alloc), recent)
     }
 
-    /// The same of vnodes of which so many of the first entries of each, by index, were there before the run: its front. Where there is no number
-    /// for a vnode, it has none.
+    /// The same of vnodes of which so many of the first entries of each, by index, were there before the run: its front. Where there is no
+    /// number for a vnode, it has none.
     pub fn new_from(
         alloc: Global,
         ids: &[u32],
@@ -150,11 +150,11 @@ impl Rerun {
         self.followed.fault
     }
 
-    /// The next entry of the vnode with this index is taken over and happens again, where no fault was found: a put with its dot, a merge as the delivery
-    /// of what the earlier read that it names answered, or as what it says where it is one of its vnode's front.
+    /// The next entry of the vnode with this index is taken over and happens again, where no fault was found: a put with its dot, a merge
+    /// as the delivery of what the earlier read that it names answered, or as what it says where it is one of its vnode's front.
     ///
-    /// A fault is that of this entry, and the last: from then on nothing happens. A merge that names an answer that is no longer kept is told
-    /// as such, and only then, though it may be right.
+    /// A fault is that of this entry, and the last: from then on nothing happens. A merge that names an answer that is no longer kept is
+    /// told as such, and only then, though it may be right.
     pub fn go_on(&mut self, index: usize, entry: Entry) -> Result<(), FollowFault>
         requires going { self.old.fault ≡ None }
         requires inside { index < length self.old.logs }

@@ -60,8 +60,8 @@ pub enum Event {
     Dump {
         vnode: usize,
     },
-    /// The identifier of an index is closed. The index goes on under that of another incarnation, which knows what an earlier dump copied and no
-    /// more.
+    /// The identifier of an index is closed. The index goes on under that of another incarnation, which knows what an earlier dump copied
+    /// and no more.
     Load {
         dump: usize,
         vnode: usize,

@@ -59,8 +59,8 @@ pub fn merges_are_of_world()
         × (LeaveAlike (log_at logs vnode).entries ((log_at logs vnode).entries ++ Merge stamp key from at state ∷ []) key ↔ LookAlike (known_at world vnode key) (known_at world vnode key ++ writes)) }
 {}
 
-/// Beside what a vnode has of a key, a part of the state of a world's writes stands for that state, unless it lacks a content there; and it does so
-/// exactly where a dot whose content was left out is that of no current write there.
+/// Beside what a vnode has of a key, a part of the state of a world's writes stands for that state, unless it lacks a content there; and it
+/// does so exactly where a dot whose content was left out is that of no current write there.
 pub fn parts_are_of_world()
     ensures whole { (logs : List Log) (world : Knowledge) (vnode : ℕ) (key : Key) (own : State) (writes held : List Write) (part : Partial) → Represents logs world → vnode < length logs → IsReplay (log_at logs vnode).entries key own → WerePut world key writes → IsPartOf writes held part
         → lacks_some own part ≡ false → IsStateOf writes (whole_of part own) }

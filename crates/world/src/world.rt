@@ -74,9 +74,9 @@ impl World {
     /// journals share one. An event that is refused makes no entry, and draws no stamp.
     ///
     /// Each event's vnode exists, and what it names is an earlier get (of a context or an answer), summary (of dots), send (of a
-    /// message, whole or in part), dump (of copies) or resolver's run (of a choice). A load's incarnation was not in use at its index, where 0 is from the start. What
-    /// runs as a resolver is a resolver's program, and the table has the helpers that it was verified with. The only error is want
-    /// of memory for the vnodes and the list of replies; within an event it is that event's reply.
+    /// message, whole or in part), dump (of copies) or resolver's run (of a choice). A load's incarnation was not in use at its index,
+    /// where 0 is from the start. What runs as a resolver is a resolver's program, and the table has the helpers that it was verified with.
+    /// The only error is want of memory for the vnodes and the list of replies; within an event it is that event's reply.
     pub fn run(
         alloc: Global,
         vnodes: usize,
@@ -259,9 +259,9 @@ fn put_at(
 {
     let vnode = &mut vnodes[at];
     match vnode.put_lent(*made, key, seen, content) {
-        Ok((dot, _, _was)) => {
+        Ok(put) => {
             *made += 1;
-            Ok(dot)
+            Ok(put.dot)
         }
         Err(fault) => Err(fault),
     }
@@ -292,9 +292,9 @@ fn merge_at(
         message.at,
         &message.state,
     ) {
-        Ok((changed, _, _was)) => {
+        Ok(merge) => {
             *made += 1;
-            Ok(changed)
+            Ok(merge.changed)
         }
         Err(fault) => Err(fault),
     }
@@ -318,9 +318,9 @@ fn merge_part_at(
 {
     let vnode = &mut vnodes[at];
     match vnode.merge_part_lent(*made, &message.key, message.from, message.at, &message.part) {
-        Ok((changed, _, _was)) => {
+        Ok(merge) => {
             *made += 1;
-            Ok(changed)
+            Ok(merge.changed)
         }
         Err(fault) => Err(fault),
     }

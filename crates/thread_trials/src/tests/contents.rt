@@ -31,7 +31,7 @@ fn replaced(
     let (read, put) = stamps;
     let (before, _) = vnode.read(read, key)?;
     let value = value_of(alloc, VALUE)?;
-    let (_, _, was) = vnode.put_lent(put, key, before.clock(), &value)?;
+    let was = vnode.put_lent(put, key, before.clock(), &value)?.was;
     expect(was.is_same(&before), &was.bytes())?;
     Ok(before)
 }
@@ -47,8 +47,8 @@ fn entries_of(alloc: Global, vnode: &Vnode, count: u32) -> Result<Vec<Entry>, Fa
     Ok(entries)
 }
 
-/// The entries of a vnode where the value was put four times, each time behind a read and in the place of what that answered; and what the second and the
-/// third read answered.
+/// The entries of a vnode where the value was put four times, each time behind a read and in the place of what that answered; and what the
+/// second and the third read answered.
 fn puts_and_reads(alloc: Global, key: &Key) -> Result<(Vec<Entry>, KeyState, KeyState), Fail> {
     let mut vnode = Vnode::new(alloc, 0);
     let _ = replaced(&mut vnode, alloc, (1, 2), key)?;
@@ -67,8 +67,8 @@ fn waiting(follower: &Follower) -> Option<(u128, u128)> {
     }
 }
 
-/// Of three states of 50 bytes that were replaced the last two are kept: a merge may name the third read, which answered one of them, and not the
-/// second. What waits is counted: four puts and both merges before, and none once the second merge is refused.
+/// Of three states of 50 bytes that were replaced the last two are kept: a merge may name the third read, which answered one of them, and
+/// not the second. What waits is counted: four puts and both merges before, and none once the second merge is refused.
 #[test]
 fn two_values_are_kept(rt: HostRuntime) -> Result<(), Fail> {
     let alloc = rt.alloc();

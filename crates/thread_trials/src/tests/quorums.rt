@@ -45,8 +45,8 @@ fn put<P: Peers>(
     }
 }
 
-/// Gets a key, brings what was read to each vnode that lacks it, so that a coordinator knows what was seen, and puts over all of it. Whether
-/// both were answered.
+/// Gets a key, brings what was read to each vnode that lacks it, so that a coordinator knows what was seen, and puts over all of it.
+/// Whether both were answered.
 fn get_and_put<P: Peers>(
     alloc: Global,
     peers: &mut P,

@@ -8,7 +8,7 @@ use Rattle.calls.proofs.answering.answer.Goals as goal
 
 pub returns-in-Ok-clause-exact : goal.returns-in-Ok-clause-exact
 returns-in-Ok-clause-exact c = λ fault other refuses.
-    none_told (RefusesPut c.args.vnode.now c.in-Put.write.value.key c.in-Put.write.value.seen) (c.in-Ok.dot, c.in-Ok.field-0-1, c.in-Ok._was) c.put.result c.in-Ok.is c.put.ensures.exact fault other
+    none_told (RefusesPut c.args.vnode.now c.in-Put.write.value.key c.in-Put.write.value.seen) c.in-Ok.put c.put.result c.in-Ok.is c.put.ensures.exact fault other
     (subst (λ (p : Prepared). Refuses c.args.vnode.now (asked p) fault) c.in-Put.is refuses)
 
 pub returns-in-Err-clause-exact : goal.returns-in-Err-clause-exact
@@ -18,7 +18,7 @@ returns-in-Err-clause-exact c = λ fault other refuses.
 
 pub returns-in-Ok-merge-clause-exact : goal.returns-in-Ok-merge-clause-exact
 returns-in-Ok-merge-clause-exact c = λ fault other refuses.
-    none_told (RefusesMerge c.args.vnode.now c.in-Merge.merged.value.key c.in-Merge.merged.value.state) (c.in-Ok-merge.changed, c.in-Ok-merge.field-0-1, c.in-Ok-merge._was) c.merge.result c.in-Ok-merge.is c.merge.ensures.exact fault other
+    none_told (RefusesMerge c.args.vnode.now c.in-Merge.merged.value.key c.in-Merge.merged.value.state) c.in-Ok-merge.merge c.merge.result c.in-Ok-merge.is c.merge.ensures.exact fault other
     (subst (λ (p : Prepared). Refuses c.args.vnode.now (asked p) fault) c.in-Merge.is refuses)
 
 pub returns-in-Err-merge-clause-exact : goal.returns-in-Err-merge-clause-exact
@@ -29,13 +29,13 @@ returns-in-Err-merge-clause-exact c = λ fault other refuses.
 pub returns-in-Ok-merge_part-clause-outcome : goal.returns-in-Ok-merge_part-clause-outcome
 returns-in-Ok-merge_part-clause-outcome c =
     let e = c.in-Ok-merge_part.ensures in
-    subst (λ (p : Prepared). IsReply c.args.vnode.now c.args.stamp (asked p) (Built c.in-Ok-merge_part.changed c.last_of.result)) (sym c.in-Part.is)
-    (part_replied c.args.vnode.now c.merge_part.new.self c.in-Part.merged.value.key c.args.stamp c.in-Part.merged.value.from c.in-Part.merged.value.at c.in-Part.part c.in-Ok-merge_part.changed c.last_of.result c.last_of.ensures e.entry e.held e.changed e.accepts)
+    subst (λ (p : Prepared). IsReply c.args.vnode.now c.args.stamp (asked p) (Built c.in-Ok-merge_part.merge.changed c.last_of.result)) (sym c.in-Part.is)
+    (part_replied c.args.vnode.now c.merge_part.new.self c.in-Part.merged.value.key c.args.stamp c.in-Part.merged.value.from c.in-Part.merged.value.at c.in-Part.part c.in-Ok-merge_part.merge.changed c.last_of.result c.last_of.ensures e.entry e.held e.changed e.accepts)
 
 pub returns-in-Ok-merge_part-clause-log : goal.returns-in-Ok-merge_part-clause-log
 returns-in-Ok-merge_part-clause-log c =
-    subst (λ (p : Prepared). c.merge_part.new.self ≡ with_made c.args.vnode.now c.args.stamp (asked p) (Ok (Built c.in-Ok-merge_part.changed c.last_of.result))) (sym c.in-Part.is)
-    (part_made c.args.vnode.now c.merge_part.new.self c.in-Part.merged.value.key c.args.stamp c.in-Part.merged.value.from c.in-Part.merged.value.at c.in-Part.part c.in-Ok-merge_part.changed c.last_of.result c.last_of.ensures c.in-Ok-merge_part.ensures.entry)
+    subst (λ (p : Prepared). c.merge_part.new.self ≡ with_made c.args.vnode.now c.args.stamp (asked p) (Ok (Built c.in-Ok-merge_part.merge.changed c.last_of.result))) (sym c.in-Part.is)
+    (part_made c.args.vnode.now c.merge_part.new.self c.in-Part.merged.value.key c.args.stamp c.in-Part.merged.value.from c.in-Part.merged.value.at c.in-Part.part c.in-Ok-merge_part.merge.changed c.last_of.result c.last_of.ensures c.in-Ok-merge_part.ensures.entry)
 
 pub returns-in-Ok-merge_part-clause-exact : goal.returns-in-Ok-merge_part-clause-exact
 returns-in-Ok-merge_part-clause-exact c = λ fault other refuses.

@@ -10,7 +10,7 @@ use Rattle.world.proofs.world.merge_at.Goals as goal
 
 pub returns-in-Ok-clause-changed : goal.returns-in-Ok-clause-changed
 returns-in-Ok-clause-changed c =
-    subst (λ (l : Log). TellsChange l.entries (Merge c.args.made.now c.args.message.now.key c.args.message.now.from c.args.message.now.at c.args.message.now.state) c.args.message.now.key c.in-Ok.changed)
+    subst (λ (l : Log). TellsChange l.entries (Merge c.args.made.now c.args.message.now.key c.args.message.now.from c.args.message.now.at c.args.message.now.state) c.args.message.now.key c.in-Ok.merge.changed)
     (get_or_default c.args.vnodes.now c.args.at c.index-vnodes-at.result (record { vnode = 0; entries = [] }) c.requires.inside) c.in-Ok.ensures.changed
 
 pub returns-in-Err-clause-refused : goal.returns-in-Err-clause-refused

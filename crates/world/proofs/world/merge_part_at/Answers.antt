@@ -12,7 +12,7 @@ use Rattle.world.proofs.Sources.{go_on_more}
 use Rattle.world.proofs.world.merge_part_at.Goals as goal
 
 pub returns-in-Ok-clause-merged : goal.returns-in-Ok-clause-merged
-returns-in-Ok-clause-merged c = part_merged c.args.vnodes.now c.args.at c.args.made.now c.index-vnodes-at.result c.merge_part_lent.new.self c.args.message.now c.in-Ok.changed c.requires.inside c.in-Ok.ensures.held c.in-Ok.ensures.changed c.in-Ok.ensures.entry c.in-Ok.ensures.accepts
+returns-in-Ok-clause-merged c = part_merged c.args.vnodes.now c.args.at c.args.made.now c.index-vnodes-at.result c.merge_part_lent.new.self c.args.message.now c.in-Ok.merge.changed c.requires.inside c.in-Ok.ensures.held c.in-Ok.ensures.changed c.in-Ok.ensures.entry c.in-Ok.ensures.accepts
 
 pub returns-in-Ok-clause-stamps : goal.returns-in-Ok-clause-stamps
 returns-in-Ok-clause-stamps c =

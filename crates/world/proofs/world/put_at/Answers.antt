@@ -8,7 +8,7 @@ use Rattle.world.proofs.Sources.{go_on_none, go_on_back}
 use Rattle.world.proofs.world.put_at.Goals as goal
 
 pub returns-in-Ok-clause-stamps : goal.returns-in-Ok-clause-stamps
-returns-in-Ok-clause-stamps c = stamped_at c.args.vnodes.now c.args.made.now c.args.at (Put c.args.made.now c.args.key.now c.args.seen.now c.args.content.now c.in-Ok.dot) c.index-vnodes-at.result c.put_lent.new.self c.requires.inside c.in-Ok.ensures.entry refl
+returns-in-Ok-clause-stamps c = stamped_at c.args.vnodes.now c.args.made.now c.args.at (Put c.args.made.now c.args.key.now c.args.seen.now c.args.content.now c.in-Ok.put.dot) c.index-vnodes-at.result c.put_lent.new.self c.requires.inside c.in-Ok.ensures.entry refl
 
 pub returns-in-Err-clause-refused : goal.returns-in-Err-clause-refused
 returns-in-Err-clause-refused c =
@@ -16,7 +16,7 @@ returns-in-Err-clause-refused c =
     (get_or_default c.args.vnodes.now c.args.at c.index-vnodes-at.result (record { vnode = 0; entries = [] }) c.requires.inside) c.in-Err.ensures.why
 
 pub returns-in-Ok-clause-goes : goal.returns-in-Ok-clause-goes
-returns-in-Ok-clause-goes c = go_on_none c.args.vnodes.now c.args.at (Put c.args.made.now c.args.key.now c.args.seen.now c.args.content.now c.in-Ok.dot ∷ []) c.index-vnodes-at.result c.put_lent.new.self c.requires.inside c.in-Ok.ensures.entry refl
+returns-in-Ok-clause-goes c = go_on_none c.args.vnodes.now c.args.at (Put c.args.made.now c.args.key.now c.args.seen.now c.args.content.now c.in-Ok.put.dot ∷ []) c.index-vnodes-at.result c.put_lent.new.self c.requires.inside c.in-Ok.ensures.entry refl
 
 pub returns-in-Err-clause-goes : goal.returns-in-Err-clause-goes
 returns-in-Err-clause-goes c = go_on_back c.args.vnodes.now c.args.at c.index-vnodes-at.result c.put_lent.new.self c.in-Err.ensures.err
