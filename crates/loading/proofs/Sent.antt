@@ -17,6 +17,6 @@ pass_send B g s = search (pass.the_send, sendable, crosses) depth 30
 pub file_sync : IsSync KeptFile.the_row
 file_sync = kept_file.the_sync
 
--- five captures
-pub five_send : (ν : Sym) (A B C D E : RattleType) → IsSend A → IsSend B → IsSend C → IsSend D → IsSend E → IsSend (TupleAt ν (A ∷ B ∷ C ∷ D ∷ E ∷ []))
-five_send ν A B C D E a b c d e = search (sendable) depth 30
+-- six captures
+pub six_send : (ν : Sym) (A B C D E F : RattleType) → IsSend A → IsSend B → IsSend C → IsSend D → IsSend E → IsSend F → IsSend (TupleAt ν (A ∷ B ∷ C ∷ D ∷ E ∷ F ∷ []))
+six_send ν A B C D E F a b c d e f = search (sendable) depth 30

@@ -6,7 +6,7 @@ ghost use Rattle.loading.specs.Beginnings.{HaveLoaded, fronts_to};
 ghost use Rattle.loading.specs.Loads.{HasLoaded};
 
 use crate::fault::LoadFault;
-use crate::loads::load;
+use crate::loads::{Throttle, load};
 use abreast::join_three;
 use keeping::KeptFile;
 use pool::{Cluster, Pass, Room};
@@ -39,13 +39,14 @@ pub struct Passes<B: Room> {
 
 /// Has each vnode of a cluster of three, which nobody has called before, merge the records of the file that is its own by index, each once
 /// and in order: they are the first entries of its journal. They do so side by side where there are threads for that. The pass of each is
-/// told of each merge there and of nothing else. The error is that of the first vnode that has one.
-pub fn load_all<B: Room + Send + Sync, R: Threads + Wait + Sync>(
+/// told of each merge there and of nothing else. Each is throttled on its own. The error is that of the first vnode that has one.
+pub fn load_all<B: Room + Send + Sync, R: Threads + Wait + Sync, T: Throttle + Sync>(
     alloc: Global,
     rt: &R,
     cluster: &Cluster<B>,
     passes: Passes<B>,
     files: &[KeptFile],
+    throttle: &T,
 ) -> Result<Passes<B>, Unloaded>
     requires vnodes { cluster.now.vnodes ≡ 3 }
     ensures loaded { IfOk result (λ back. HaveLoaded passes back cluster.now.first files.now) }
@@ -60,15 +61,15 @@ pub fn load_all<B: Room + Send + Sync, R: Threads + Wait + Sync>(
         || -> Result<Pass<B>, Unloaded>
             requires { cluster.now.vnodes ≡ 3 }
             ensures { IfOk result (λ back. HasLoaded first back (cluster.entry.now.first + 0) (records_at files.entry.now 0)) }
-        { load_own(alloc, rt, cluster, first, 0, files) },
+        { load_own(alloc, rt, cluster, first, 0, files, throttle) },
         || -> Result<Pass<B>, Unloaded>
             requires { cluster.now.vnodes ≡ 3 }
             ensures { IfOk result (λ back. HasLoaded second back (cluster.entry.now.first + 1) (records_at files.entry.now 1)) }
-        { load_own(alloc, rt, cluster, second, 1, files) },
+        { load_own(alloc, rt, cluster, second, 1, files, throttle) },
         || -> Result<Pass<B>, Unloaded>
             requires { cluster.now.vnodes ≡ 3 }
             ensures { IfOk result (λ back. HasLoaded third back (cluster.entry.now.first + 2) (records_at files.entry.now 2)) }
-        { load_own(alloc, rt, cluster, third, 2, files) },
+        { load_own(alloc, rt, cluster, third, 2, files, throttle) },
     );
     Ok(Passes {
         first: first?,
@@ -78,13 +79,14 @@ pub fn load_all<B: Room + Send + Sync, R: Threads + Wait + Sync>(
 }
 
 /// The same of the vnode with an index, by a pass that comes back.
-fn load_own<B: Room, R: Wait>(
+fn load_own<B: Room, R: Wait, T: Throttle>(
     alloc: Global,
     rt: &R,
     cluster: &Cluster<B>,
     mut pass: Pass<B>,
     index: usize,
     files: &[KeptFile],
+    throttle: &T,
 ) -> Result<Pass<B>, Unloaded>
     requires inside { index < cluster.now.vnodes }
     ensures loaded { IfOk result (λ back. HasLoaded pass back (cluster.now.first + index) (records_at files.now index)) }
@@ -96,6 +98,7 @@ fn load_own<B: Room, R: Wait>(
         &mut pass,
         index,
         records_of(files, index),
+        throttle,
     ) {
         Ok(()) => Ok(pass),
         Err(fault) => Err(Unloaded { index, fault }),

@@ -8,4 +8,4 @@ mod loads;
 
 pub use beginning::{Passes, Unloaded, fronts_of, load_all};
 pub use fault::LoadFault;
-pub use loads::load;
+pub use loads::{Throttle, load};

@@ -19,20 +19,28 @@ impl Gate for Open {
     fn told(&self, _vnode: usize) {}
 }
 
+/// May have who merges records wait, for who goes over what they have merged.
+pub trait Throttle {
+    /// The record at a place is about to be merged at the vnode with an index. No lock is held.
+    fn before(&self, vnode: usize, place: usize);
+}
+
 /// Merges records at the vnode with an index, which nobody has called before, each once and in order: they are the first entries of its
 /// journal. The pass is told of each merge and of nothing else.
-pub fn load<B: Room, R: Wait>(
+pub fn load<B: Room, R: Wait, T: Throttle>(
     alloc: Global,
     rt: &R,
     cluster: &Cluster<B>,
     pass: &mut Pass<B>,
     index: usize,
     records: &[Record],
+    throttle: &T,
 ) -> Result<(), LoadFault>
     requires inside { index < cluster.now.vnodes }
     ensures loaded { OnOk result (HasLoaded pass.old pass.new (cluster.now.first + index) records.now) }
 {
     for (place, one) in records.iter().enumerate() {
+        throttle.before(index, place);
         match merge(alloc, rt, cluster, pass, index, one) {
             Ok(at) if at == place => {}
             Ok(_) => return Err(LoadFault::Elsewhere { place }),
