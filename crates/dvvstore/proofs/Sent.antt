@@ -1,6 +1,9 @@
 -- Threads may share what workers share: a watch under a lock may be handed from one to another.
 use denote.RattleType.{RattleType}
 use denote.Param.Send.{IsSend, IsSync, sendable}
+use denote.Struct.Tuple.{TupleAt}
+use mir.Syntax.{Sym}
+use mathlib.Core.List.{[], ◌∷◌}
 use Rattle.std.proofs.Crossing.{crosses}
 use Rattle.std.specs.contracts.sync.Mutex as Mutex
 use Rattle.closing.specs.contracts.watch.Watch as Watch
@@ -10,8 +13,6 @@ use Rattle.vnode_locks.specs.declared.pass.Room as room
 use Rattle.dvvstore.specs.contracts.crew.working.Shared as Shared
 use Rattle.std.proofs.option.Option.TheSendSync as option
 use Rattle.std.specs.contracts.option.Option as Option
-use Rattle.vnode_locks.proofs.pass.Pass.TheSendSync as pass
-use Rattle.vnode_locks.specs.contracts.pass.Pass as Pass
 use Rattle.loading.specs.contracts.beginning.Passes as Passes
 use Rattle.dvvstore.specs.contracts.saver.Saver as Saver
 use Rattle.dvvstore.proofs.crew.reporter.Reporter.TheSendSync as reporter
@@ -20,6 +21,10 @@ use Rattle.loading.proofs.beginning.Passes.TheSendSync as spares
 use Rattle.dvvstore.specs.contracts.saver.Side as Side
 use Rattle.dvvstore.proofs.saver.Side.TheSendSync as side
 use Rattle.dvvstore.specs.contracts.crew.signs.Signs as Signs
+use Rattle.dvvstore.specs.contracts.beginning.Load as Load
+use Rattle.dvvstore.proofs.beginning.Load.TheSendSync as load
+use Rattle.keeping.proofs.file.KeptFile.TheSendSync as kept_file
+use Rattle.keeping.specs.contracts.file.KeptFile as KeptFile
 use Rattle.listener.proofs.Sent.{lobby_sync}
 
 lock_sync : (B : RattleType) (g : room.Ghosts B.Denot) (h : spot.Ghosts B.Denot) → IsSend B → IsSync (Mutex.the_row (Watch.the_row B g h))
@@ -31,7 +36,7 @@ shared_sync B g h s = search (lock_sync, reporter.the_field_sync, sendable, cros
 saver_alone : (F : RattleType) → IsSend F → IsSend (Saver.the_row F)
 saver_alone F s = search (saver.the_send, s, sendable, crosses) depth 40
 
-spares_alone : (B : RattleType) (g : room.Ghosts B.Denot) → IsSend B → IsSend (Passes.the_row B g)
+pub spares_alone : (B : RattleType) (g : room.Ghosts B.Denot) → IsSend B → IsSend (Passes.the_row B g)
 spares_alone B g s = search (spares.the_send, sendable, crosses) depth 30
 
 -- the thread beside the workers may be handed who makes snapshots, and passes, if there are any
@@ -47,3 +52,14 @@ side_send B F g b f = search (side.the_send, sendable, crosses) depth 40
 
 pub signs_sync : (l : _) → IsSync (Signs.the_row l)
 signs_sync l = search (lobby_sync, sendable, crosses) depth 60
+
+-- those who take records over may share what they and who follows tell each other, and the files that these are from
+pub load_sync : (l : _) (R : RattleType) → IsSync R → IsSync (Load.the_row l R)
+load_sync l R s = search (load.the_sync, s, sendable, crosses) depth 60
+
+pub file_sync : IsSync KeptFile.the_row
+file_sync = kept_file.the_sync
+
+-- six captures
+pub six_send : (ν : Sym) (A B C D E F : RattleType) → IsSend A → IsSend B → IsSend C → IsSend D → IsSend E → IsSend F → IsSend (TupleAt ν (A ∷ B ∷ C ∷ D ∷ E ∷ F ∷ []))
+six_send ν A B C D E F a b c d e f = search (sendable) depth 30

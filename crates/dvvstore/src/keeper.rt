@@ -3,7 +3,6 @@
 ghost use Rattle.std.specs.Prelude.{◌≡◌, ◌+◌, ◌<◌, ◌≤◌, ℕ, List, IfOk, OnOk, vec_len};
 ghost use Rattle.std.specs.Io.KnownBytes.{Appends};
 ghost use Rattle.commands.specs.Command.{begun};
-ghost use Rattle.loading.specs.Beginnings.{HaveLoaded, fronts_to};
 ghost use Rattle.dvvstore.specs.Keeping.{HasBegunWith, Leaves, Tells};
 
 use crate::crew;
@@ -19,7 +18,7 @@ use keeping::KeptFile;
 use kept_hooks::{HooksAlone, Recorder, ReplayFault, Requests, replay};
 use listener::{Lobby, Setup, open};
 use loading::laws::loads_stand;
-use loading::{Passes, Unloaded, fronts_of, load_all};
+use loading::{Passes, Unloaded};
 use pool::{Cluster, Room};
 use std::alloc::{AllocError, Global};
 use std::io;
@@ -201,25 +200,6 @@ fn open_lobby<N: Net<Listener = TcpListener, Stream = TcpStream>, O: Write>(
         err,
     };
     open(alloc, rt, workers, setup)
-}
-
-/// Has each of three vnodes take over its records, side by side. The passes come back, and beside them how many records each vnode has, by
-/// index.
-pub fn begin<B: Room + Send + Sync, R: Threads + Wait + Sync>(
-    alloc: Global,
-    rt: &R,
-    cluster: &Cluster<B>,
-    passes: Passes<B>,
-    files: &[KeptFile],
-) -> Result<(Passes<B>, Vec<usize>), Unbegun>
-    requires vnodes { cluster.now.vnodes ≡ 3 }
-    ensures loaded { IfOk result (λ begun. HaveLoaded passes begun.0 cluster.now.first files.now) }
-    ensures fronts { IfOk result (λ begun. begun.1.items ≡ fronts_to files.now cluster.now.vnodes) }
-{
-    match load_all(alloc, rt, cluster, passes, files) {
-        Ok(passes) => Ok((passes, fronts_of(alloc, files, cluster.count())?)),
-        Err(unloaded) => Err(Unbegun::Records(unloaded)),
-    }
 }
 
 /// How many records there are.

@@ -1,6 +1,7 @@
 //! A store that keeps siblings, with hooks in BPF: the program.
 #![tactic(auto)]
 
+mod beginning;
 mod crew;
 mod disk;
 mod keeper;

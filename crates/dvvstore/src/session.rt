@@ -9,16 +9,17 @@ ghost use Rattle.dvvstore.specs.Keeping.{HasBegunRight, HasBegunWith, Leaves, Te
 
 use crate::crew::{Lookout, Seat, Served};
 use crate::keeper::{Begun, Keeper, Unbegun};
-use crate::{crew, keeper};
+use crate::{beginning, crew, keeper};
 use closing::{Spot, Watch};
 use findings::Followed;
 use folder::Folder;
 use fronts::Naming;
 use helpers::Table;
 use hooks::{HookChanges, Hooks};
+use keeping::KeptFile;
 use kept_hooks::Requests;
 use listener::Lobby;
-use loading::Passes;
+use loading::{Passes, fronts_of};
 use place::Placement;
 use pool::{Cluster, Pass, Room};
 use quorum::Hooking;
@@ -159,14 +160,7 @@ fn over_stamps<
     let (cluster, mut passes) = Cluster::<B>::open_seeded(
         alloc, seed, stamps, card, first, vnodes, passes,
     )?;
-    let (stay, fronts) = begin(alloc, rt, &cluster, first, &mut passes, tenant)?;
-    let watch = Watch::new_seeded(alloc, seed, &mut passes, first, vnodes, fronts)?;
-    let requests = Requests::none(alloc);
-    let lookout = Lookout {
-        watch,
-        requests,
-        err,
-    };
+    let (stay, lookout) = begin(alloc, rt, &cluster, making, &mut passes, tenant, err)?;
     over_cluster::<B, Brand, R, N, F, O>(
         alloc,
         rt,
@@ -180,30 +174,60 @@ fn over_stamps<
     )
 }
 
-/// Has the vnodes take over what they begin with, by three of the passes where a folder held something. Answers for whom they have begun,
-/// and from which fronts what they do is followed.
-fn begin<'a, B: Room + Send + Sync, R: Threads + Wait + Sync, N, F: Copy>(
+/// Has the vnodes take over what they begin with, and what they do followed, by the last of the passes. Answers for whom they have begun,
+/// and who follows.
+fn begin<'a, B: Room + Spot + Send + Sync, R: Threads + Wait + Sync, N, F: Copy>(
     alloc: Global,
     rt: &R,
     cluster: &Cluster<B>,
-    first: u32,
+    making: Making,
     passes: &mut Vec<Pass<B>>,
     tenant: Tenant<'a, N, F>,
-) -> Result<(Stay<'a, N, F, B>, Vec<usize>), Unbegun>
+    err: Stderr,
+) -> Result<(Stay<'a, N, F, B>, Lookout<B>), Unbegun>
     requires vnodes { cluster.now.vnodes ≡ 3 }
-    requires first { first ≡ cluster.now.first }
+    requires first { making.first ≡ cluster.now.first }
+    requires spot { cluster.now.first ≡ B.first }
+    requires numbers { making.first + 3 ≤ 2 ^ 32 }
     requires some { passes_for tenant ≤ vec_len passes.old }
     requires fresh { All (λ p. p ≡ pass_view 0 []) passes.old.items }
-    ensures fresh { IfOk result (λ begun. All (λ p. p ≡ pass_view 0 []) passes.new.items) }
-    ensures left { IfOk result (λ begun. vec_len passes.new + passes_of begun.0 ≡ vec_len passes.old + 1) }
+    ensures left { IfOk result (λ begun. vec_len passes.new + passes_of begun.0 ≡ vec_len passes.old) }
     ensures passes { IfOk result (λ begun. passes_of begun.0 ≡ passes_for tenant.entry) }
     ensures files { IfOk result (λ begun. files_of begun.0 ≡ files_for tenant.entry) }
     ensures begun { IfOk result (λ begun. HasBegunRight cluster.now.first begun.0) }
 {
-    let keeper = match tenant {
-        Tenant::Guest(lobby) => return Ok((Stay::Guest(lobby), Vec::new(alloc))),
-        Tenant::Keeper(keeper) => keeper,
-    };
+    match tenant {
+        Tenant::Guest(lobby) => {
+            let lookout = watched(alloc, making, passes, Vec::new(alloc), err)?;
+            Ok((Stay::Guest(lobby), lookout))
+        }
+        Tenant::Keeper(keeper) => {
+            let files = &keeper.held.files;
+            let (begun, lookout) = begin_kept(alloc, rt, cluster, making, passes, files, err)?;
+            Ok((Stay::Keeper(keeper, begun), lookout))
+        }
+    }
+}
+
+/// Has the vnodes take over what a folder held, each by a pass of its own, by which it is read for snapshots later, while that is followed.
+fn begin_kept<B: Room + Spot + Send + Sync, R: Threads + Wait + Sync>(
+    alloc: Global,
+    rt: &R,
+    cluster: &Cluster<B>,
+    making: Making,
+    passes: &mut Vec<Pass<B>>,
+    files: &[KeptFile],
+    err: Stderr,
+) -> Result<(Begun<B>, Lookout<B>), Unbegun>
+    requires vnodes { cluster.now.vnodes ≡ 3 }
+    requires first { making.first ≡ cluster.now.first }
+    requires spot { cluster.now.first ≡ B.first }
+    requires numbers { making.first + 3 ≤ 2 ^ 32 }
+    requires some { 4 ≤ vec_len passes.old }
+    requires fresh { All (λ p. p ≡ pass_view 0 []) passes.old.items }
+    ensures left { IfOk result (λ _. vec_len passes.new + 4 ≡ vec_len passes.old) }
+    ensures begun { IfOk result (λ kept. HasBegunWith cluster.now.first files.now kept.0) }
+{
     let (Some(one), Some(second), Some(third)) = (passes.pop(), passes.pop(), passes.pop()) else {
         unreachable!();
     };
@@ -212,29 +236,41 @@ fn begin<'a, B: Room + Send + Sync, R: Threads + Wait + Sync, N, F: Copy>(
         second,
         third,
     };
-    let begun = begin_kept(alloc, rt, cluster, first, spares, &keeper)?;
-    let fronts = begun.fronts.as_slice().to_vec(alloc)?;
-    Ok((Stay::Keeper(keeper, begun), fronts))
+    let fronts = fronts_of(alloc, files, cluster.count())?;
+    let mut lookout = watched(alloc, making, passes, fronts.as_slice().to_vec(alloc)?, err)?;
+    match beginning::begin(alloc, rt, cluster, spares, files, &mut lookout) {
+        Ok(spares) => Ok((
+            Begun {
+                spares,
+                fronts,
+                first: making.first,
+            },
+            lookout,
+        )),
+        Err(unloaded) => Err(Unbegun::Records(unloaded)),
+    }
 }
 
-/// Has the vnodes take over what a folder held, each by a pass of its own, by which it is read for snapshots later.
-fn begin_kept<B: Room + Send + Sync, R: Threads + Wait + Sync, N, F>(
+/// Who follows vnodes from their fronts on, by the last of the passes.
+fn watched<B: Room + Spot>(
     alloc: Global,
-    rt: &R,
-    cluster: &Cluster<B>,
-    first: u32,
-    spares: Passes<B>,
-    keeper: &Keeper<'_, N, F>,
-) -> Result<Begun<B>, Unbegun>
-    requires vnodes { cluster.now.vnodes ≡ 3 }
-    requires first { first ≡ cluster.now.first }
-    ensures { IfOk result (HasBegunWith cluster.now.first keeper.now.held.files.items) }
+    making: Making,
+    passes: &mut Vec<Pass<B>>,
+    fronts: Vec<usize>,
+    err: Stderr,
+) -> Result<Lookout<B>, AllocError>
+    requires first { making.first ≡ B.first }
+    requires numbers { making.first + 3 ≤ 2 ^ 32 }
+    requires some { 0 < vec_len passes.old }
+    requires fresh { All (λ p. p ≡ pass_view 0 []) passes.old.items }
+    ensures passes { vec_len passes.new + 1 ≡ vec_len passes.old }
 {
-    let (spares, fronts) = keeper::begin(alloc, rt, cluster, spares, &keeper.held.files)?;
-    Ok(Begun {
-        spares,
-        fronts,
-        first,
+    let Making { first, seed } = making;
+    let watch = Watch::new_seeded(alloc, seed, passes, first, VNODES as usize, fronts)?;
+    Ok(Lookout {
+        watch,
+        requests: Requests::none(alloc),
+        err,
     })
 }
 

@@ -2,6 +2,8 @@
 
 ghost use Rattle.std.specs.Prelude.{◌≡◌, IfOk, vec_len};
 
+mod starting;
+
 use crate::keeper::Unbegun;
 use crate::nowhere::Nowhere;
 use crate::session;

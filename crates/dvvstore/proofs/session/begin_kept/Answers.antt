@@ -1,8 +1,9 @@
-use Rattle.dvvstore.proofs.Staying.{begun_with}
+use Rattle.dvvstore.proofs.Staying.{fresh_before}
 use Rattle.dvvstore.proofs.session.begin_kept.Goals as goal
 
-pub returns : goal.returns
-returns g c =
-    let ((first, second, third), fronts) = begun_with c.args.spares c.in_ok-spares.spares c.args.cluster.now.first c.args.cluster.now.vnodes c.deref.result.now c.args.keeper.now.held.files.items c.in_ok-spares.fronts.items
-    c.deref.ensures.value c.requires.vnodes c.in_ok-spares.ensures.loaded c.in_ok-spares.ensures.fronts in
-    (c.args.spares.first, c.args.spares.second, c.args.spares.third, first, second, third, fronts, c.requires.first)
+pub watched-requires-clause-fresh : goal.watched-requires-clause-fresh
+watched-requires-clause-fresh g c =
+    let some = c.in-Some-Some-Some in
+    fresh_before c.pop-2.new.self.items c.pop-3.new.self.items some.third (
+    fresh_before c.pop.new.self.items c.pop-2.new.self.items some.second (fresh_before c.args.passes.now.items c.pop.new.self.items some.one c.requires.fresh some.ensures.items) some.ensures'.items
+    ) some.ensures''.items

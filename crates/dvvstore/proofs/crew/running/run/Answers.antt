@@ -1,22 +1,14 @@
-use denote.RattleType.{RattleType}
 use denote.Exit.{no}
-use denote.Param.Send.{IsSend, sendable, shr_send, arg_send, param_send}
+use denote.Param.Send.{shr_send, arg_send, param_send}
 use denote.Param.{param}
-use denote.Struct.Tuple.{TupleAt}
-use mir.Syntax.{Sym}
-use mathlib.Core.List.{[], ◌∷◌}
 use Rattle.listener.proofs.Sent.{lobby_sync}
 use Rattle.pool.proofs.Sent.{cluster_sync}
-use Rattle.dvvstore.proofs.Sent.{saver_send, shared_sync, spares_send}
+use Rattle.dvvstore.proofs.Sent.{saver_send, shared_sync, six_send, spares_send}
 use Rattle.dvvstore.proofs.crew.running.run.Goals as goal
-
--- six captures
-captures_send : (ν : Sym) (A B C D E F : RattleType) → IsSend A → IsSend B → IsSend C → IsSend D → IsSend E → IsSend F → IsSend (TupleAt ν (A ∷ B ∷ C ∷ D ∷ E ∷ F ∷ []))
-captures_send ν A B C D E F a b c d e f = search (sendable) depth 30
 
 pub join-spares-requires-send-F : goal.join-spares-requires-send-F
 join-spares-requires-send-F g c κs within =
     let cluster = cluster_sync (param 0 g.row.B) g.B.Room c.type_bounds.send-B c.type_bounds.sync-B in
     let shared = shared_sync (param 0 g.row.B) g.B.Room g.B.Spot c.type_bounds.send-B in
-    param_send 1 _ (arg_send _ no _ (captures_send _ _ _ _ _ _ _ (shr_send _ _ _ c.type_bounds.sync-R) (shr_send _ _ _ cluster) (shr_send _ _ _ shared) (shr_send _ _ _ lobby_sync) (saver_send _ c.type_bounds.send-F)
+    param_send 1 _ (arg_send _ no _ (six_send _ _ _ _ _ _ _ (shr_send _ _ _ c.type_bounds.sync-R) (shr_send _ _ _ cluster) (shr_send _ _ _ shared) (shr_send _ _ _ lobby_sync) (saver_send _ c.type_bounds.send-F)
     (spares_send _ _ c.type_bounds.send-B)))

@@ -1,0 +1,13 @@
+use denote.Exit.{no}
+use denote.Param.Send.{arg_send, param_send, shr_send, shr_slice_send}
+use denote.Param.{param}
+use Rattle.std.proofs.alloc.Global.TheSendSync as heap
+use Rattle.pool.proofs.Sent.{cluster_sync}
+use Rattle.dvvstore.proofs.Sent.{file_sync, load_sync, six_send, spares_alone}
+use Rattle.dvvstore.proofs.beginning.begin.Goals as goal
+
+pub join-loaded-requires-send-F : goal.join-loaded-requires-send-F
+join-loaded-requires-send-F g c κs within =
+    let cluster = cluster_sync (param 0 g.row.B) g.B.Room c.type_bounds.send-B c.type_bounds.sync-B in
+    param_send 1 _ (arg_send _ no _ (six_send _ _ _ _ _ _ _ (shr_send _ _ _ heap.the_sync) (shr_send _ _ _ c.type_bounds.sync-R) (shr_send _ _ _ cluster) (spares_alone _ _ c.type_bounds.send-B) (shr_slice_send _ _ _ file_sync)
+    (shr_send _ _ _ (load_sync _ _ c.type_bounds.sync-R))))

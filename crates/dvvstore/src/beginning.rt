@@ -1,0 +1,129 @@
+//! How the vnodes of a store take over what a folder held, while that is followed.
+
+ghost use Rattle.std.specs.Prelude.{◌≡◌, IfOk};
+ghost use Rattle.loading.specs.Beginnings.{HaveLoaded};
+
+use crate::crew::Lookout;
+use crate::crew::reporter::Aloud;
+use closing::Spot;
+use keeping::KeptFile;
+use loading::{Passes, Throttle, Unloaded, load_all};
+use pool::{Cluster, Room};
+use std::alloc::Global;
+use std::sync::Wait;
+use std::sync::atomic::AtomicBool;
+use std::sync::atomic::Ordering::SeqCst;
+use std::thread;
+use std::thread::{Parker, Threads};
+use std::time::Duration;
+
+/// Behind so many records who takes them over looks whether it is to wait: as many as a block of a vnode's journal has entries.
+const STRETCH: usize = 1_024;
+
+/// So many entries may wait to be followed before it is: some 64 MB, and half a second's work of who follows. With fewer a start would take
+/// as long as that work does.
+const MOST_BEHIND: usize = 524_288;
+
+/// How long it waits then, in milliseconds.
+const REST: u64 = 2;
+
+/// So many stamps are followed in one turn.
+const PIECE: u64 = 4_096;
+
+/// How long who follows waits where there is nothing to follow, in milliseconds.
+const NAP: u64 = 1;
+
+/// What those who take records over and who follows them tell each other.
+#[derive(Drop)]
+pub struct Load<'a, R> {
+    rt: &'a R,
+    /// Whether so much waits to be followed that the others wait.
+    is_behind: AtomicBool,
+    /// Whether they have ended.
+    is_over: AtomicBool,
+    /// What each of them waits on, by its vnode's index.
+    beds: [Parker; 3],
+}
+
+impl<'a, R: Wait> Load<'a, R> {
+    fn new(rt: &'a R) -> Load<'a, R> {
+        Load {
+            rt,
+            is_behind: AtomicBool::new(false),
+            is_over: AtomicBool::new(false),
+            beds: [Parker::new(), Parker::new(), Parker::new()],
+        }
+    }
+}
+
+impl<R: Wait> Throttle for Load<'_, R> {
+    fn before(&self, vnode: usize, place: usize) {
+        if place % STRETCH != 0 || !self.is_behind.load(SeqCst) {
+            return;
+        }
+        if let Some(bed) = self.beds.get(vnode) {
+            bed.park_timeout(self.rt, Duration::from_millis(REST));
+        }
+    }
+}
+
+/// Has each of three vnodes take over its records, side by side, while the follower follows them: so what they take for it is let go again
+/// as they go on. They wait where they are too far ahead of it. What is left to be followed behind them is followed as the store serves.
+/// The passes come back.
+pub fn begin<B: Room + Spot + Send + Sync, R: Threads + Wait + Sync>(
+    alloc: Global,
+    rt: &R,
+    cluster: &Cluster<B>,
+    passes: Passes<B>,
+    files: &[KeptFile],
+    lookout: &mut Lookout<B>,
+) -> Result<Passes<B>, Unloaded>
+    requires vnodes { cluster.now.vnodes ≡ 3 }
+    requires spot { cluster.now.first ≡ B.first }
+    ensures loaded { IfOk result (λ back. HaveLoaded passes back cluster.now.first files.now) }
+{
+    let load = Load::new(rt);
+    let both = &load;
+    let (loaded, ()) = thread::join(
+        rt,
+        || -> Result<Passes<B>, Unloaded>
+            requires { cluster.now.vnodes ≡ 3 }
+            ensures { IfOk result (λ back. HaveLoaded passes back cluster.entry.now.first files.entry.now) }
+        {
+            let loaded = load_all(alloc, rt, cluster, passes, files, both);
+            both.is_over.store(true, SeqCst);
+            loaded
+        },
+        || -> ()
+            requires { cluster.now.first ≡ B.first }
+        { follow_load(alloc, cluster, lookout, both) },
+    );
+    loaded
+}
+
+/// Follows what vnodes take over, until all of them have.
+fn follow_load<B: Room + Spot, R: Wait>(
+    alloc: Global,
+    cluster: &Cluster<B>,
+    lookout: &mut Lookout<B>,
+    load: &Load<'_, R>,
+)
+    requires spot { cluster.now.first ≡ B.first }
+{
+    let Lookout { watch, err, .. } = lookout;
+    let alarm = Aloud(*err);
+    let nap = Parker::new();
+    for _ in load.rt.forever() {
+        if load.is_over.load(SeqCst) {
+            break;
+        }
+        for index in 0..cluster.count() {
+            watch.hear(alloc, load.rt, cluster, index, &alarm);
+        }
+        let is_more = watch.follow_some(PIECE, &alarm);
+        load.is_behind.store(!watch.can_go_on(MOST_BEHIND), SeqCst);
+        if !is_more {
+            nap.park_timeout(load.rt, Duration::from_millis(NAP));
+        }
+    }
+}

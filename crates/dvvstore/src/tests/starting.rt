@@ -1,0 +1,100 @@
+//! A start from what a folder held.
+
+use crate::keeper::{Door, Keeper, Unbegun};
+use crate::nowhere::Nowhere;
+use crate::session;
+use crate::session::{Left, Making, Tenant};
+use crate::tests::two_tables;
+use code_parts::expect;
+use dvv::Clock;
+use findings::{Followed, WatchFault};
+use folder::{Held, Settings};
+use keeping::KeptFile;
+use object::{Content, Key, KeyState};
+use std::alloc::Global;
+use std::io;
+use std::test::Fail;
+use vnode::Seed;
+use wire::Record;
+
+/// So many keys each vnode begins with: its journal hands out some blocks while it takes them over.
+const KEYS: usize = 25_000;
+
+/// The first identifier of the start before.
+const BEFORE: u32 = 6 * 65_536;
+
+/// The file of a vnode, of the start before: each of its keys was deleted there.
+fn file_of(alloc: Global, from: u32) -> Result<KeptFile, Fail> {
+    let nothing = Clock::new(alloc);
+    let mut records = Vec::with_capacity(alloc, KEYS)?;
+    for number in 0..KEYS {
+        let mut state = KeyState::new(alloc);
+        state.put(from, &nothing, Content::Tombstone)?;
+        records.push(Record {
+            key: Key::new(alloc, b"b", &number.to_be_bytes())?,
+            from,
+            at: number as u32,
+            state,
+        })?;
+    }
+    Ok(KeptFile { from, records })
+}
+
+/// How many entries the journals of a store have that is kept, and what is said of them.
+fn kept_by(left: Result<Left, Unbegun>) -> (usize, Followed) {
+    match left {
+        Ok(Left::Kept(served)) => {
+            let mut entries = 0usize;
+            for vnode in &served.closed.vnodes {
+                entries = entries.saturating_add(vnode.journal().len());
+            }
+            (entries, served.closed.said)
+        }
+        _ => (0, Err(WatchFault::Lost)),
+    }
+}
+
+/// Three vnodes take over what files hold, side by side, and are followed meanwhile. No connection may come, so the store ends: their
+/// journals have an entry for each record, and it is said that they are one run.
+#[test]
+fn kept_store(rt: HostRuntime) -> Result<(), Fail> {
+    let alloc = rt.alloc();
+    let mut files = Vec::new(alloc);
+    for from in BEFORE..BEFORE + 3 {
+        files.push(file_of(alloc, from)?)?;
+    }
+    let keeper = Keeper {
+        folder: Nowhere,
+        held: Held {
+            last: Some(6),
+            settings: Settings { every: 0 },
+            hooks: Vec::new(alloc),
+            files,
+        },
+        door: Door {
+            rt: &rt,
+            addr: "127.0.0.1:0",
+            count: Some(0),
+            input: rt.stdin(),
+        },
+    };
+    let making = Making {
+        first: BEFORE + 65_536,
+        seed: Seed::fixed(),
+    };
+    let tables = two_tables(alloc)?;
+    let tenant = Tenant::Keeper(keeper);
+    let left = session::live(
+        alloc,
+        &rt,
+        making,
+        tables,
+        tenant,
+        rt.stderr(),
+        &mut io::sink(),
+    );
+    let (entries, said) = kept_by(left);
+    expect(entries >= 3 * KEYS, &entries)?;
+    expect(said == Ok(()), &said)?;
+    Ok(())
+}
