@@ -960,6 +960,67 @@ def images():
     yield request("PUT /buckets/b/props", body='{"props":{"resolver":"no"}}'), done()
 
 
+def together():
+    """Many reads that come together, with other requests among them and behind them."""
+    key, other = Key("b", "k"), Key("b", "other")
+    one = key.vnode()
+    last = not_found().replace(b"Content-Length", b"Connection: close\r\nContent-Length", 1)
+
+    def read(of, *fields):
+        return request(f"GET {of.target}", *fields)
+
+    def absent(count):
+        return itertools.repeat((read(other), not_found()), count)
+
+    def present(count):
+        return itertools.repeat((read(key), value({one: 1}, "a")), count)
+
+    # 40 in a row, a write among reads, which those behind it see, and a delete.
+    yield from absent(40)
+    yield read(key), not_found()
+    yield request(f"PUT {key.target}", typed(TEXT), body="a"), written(one, 1)
+    yield from present(20)
+    yield read(other), not_found()
+    yield request(f"DELETE {key.target}", seen({one: 1})), written(one, 2)
+    yield from itertools.repeat((read(key), not_found({one: 2})), 3)
+    # Requests that are refused, and others that read no key.
+    for query in "r=4", "at=3":
+        yield read(other), not_found()
+        yield request(f"GET {key.target}?{query}"), told(400, "bad query")
+    yield from absent(2)
+    yield ping(), pong()
+    yield read(other), not_found()
+    yield request("GET /buckets/b/props"), properties(None, None)
+    # A resolver that is bound among reads.
+    yield from absent(2)
+    yield install("x", few_slots(RESOLVER, writing(b"x"))), done()
+    yield from siblings(first_key("c", "k"))
+    yield read(first_key("c", "k")), choices({0: 1, 1: 1}, (0, 1), (1, 1))
+    yield bind("c", '{"resolver":"x"}'), done()
+    yield read(first_key("c", "k")), value({0: 2, 1: 1}, "x", OCTETS)
+    # A read that ends the connection, the 16th and the 17th, and one behind it.
+    yield NEXT
+    yield from absent(15)
+    yield read(other, "Connection: close"), last
+    yield read(other), NOTHING
+    yield NEXT
+    yield from absent(16)
+    yield read(other, "Connection: close"), last
+    yield read(other), NOTHING
+    # A head that is none behind reads, and one that is cut.
+    yield NEXT
+    yield from absent(3)
+    yield b"GET no path HTTP/1.1\r\n\r\n", told(*BAD_HEAD, closes=True)
+    yield read(other), NOTHING
+    yield NEXT
+    yield from absent(17)
+    yield read(other)[:-1], NOTHING
+    # A body that is cut.
+    yield NEXT
+    yield from absent(2)
+    yield request(f"PUT {key.target}", typed(TEXT), body="ab")[:-1], NOTHING
+
+
 DIALOGUES = {
     "broken": broken,
     "cart": cart,
@@ -971,6 +1032,7 @@ DIALOGUES = {
     "reads": reads,
     "refused": refused,
     "strange": strange,
+    "together": together,
 }
 
 
