@@ -964,7 +964,8 @@ def together():
     """Many reads that come together, with other requests among them and behind them."""
     key, other = Key("b", "k"), Key("b", "other")
     one = key.vnode()
-    last = not_found().replace(b"Content-Length", b"Connection: close\r\nContent-Length", 1)
+    last = told(404, "not found", closes=True)
+    chosen = first_key("c", "k")
 
     def read(of, *fields):
         return request(f"GET {of.target}", *fields)
@@ -994,10 +995,10 @@ def together():
     # A resolver that is bound among reads.
     yield from absent(2)
     yield install("x", few_slots(RESOLVER, writing(b"x"))), done()
-    yield from siblings(first_key("c", "k"))
-    yield read(first_key("c", "k")), choices({0: 1, 1: 1}, (0, 1), (1, 1))
+    yield from siblings(chosen)
+    yield read(chosen), choices({0: 1, 1: 1}, (0, 1), (1, 1))
     yield bind("c", '{"resolver":"x"}'), done()
-    yield read(first_key("c", "k")), value({0: 2, 1: 1}, "x", OCTETS)
+    yield read(chosen), value({0: 2, 1: 1}, "x", OCTETS)
     # A read that ends the connection, the 16th and the 17th, and one behind it.
     yield NEXT
     yield from absent(15)
