@@ -415,9 +415,8 @@ impl<B: Room + Spot> Watch<B> {
         }
     }
 
-    /// Has each vnode of a cluster hand out its full blocks: [`Watch::hear`] of each, and then [`Watch::rouse`]. Of the
-    /// keys that were followed full blocks are then held once, by the vnode and the follower's.
-    pub fn hear_all<R: Wait, A: Alarm>(
+    /// Has each vnode of a cluster hand out its full blocks: [`Watch::hear`] of each.
+    pub fn hear_each<R: Wait, A: Alarm>(
         &mut self,
         alloc: Global,
         rt: &R,
@@ -430,6 +429,21 @@ impl<B: Room + Spot> Watch<B> {
         for index in 0..cluster.count() {
             self.hear(alloc, rt, cluster, index, alarm);
         }
+    }
+
+    /// Has each vnode of a cluster hand out its full blocks: [`Watch::hear_each`], and then [`Watch::rouse`]. Of the
+    /// keys that were followed full blocks are then held once, by the vnode and the follower's.
+    pub fn hear_all<R: Wait, A: Alarm>(
+        &mut self,
+        alloc: Global,
+        rt: &R,
+        cluster: &Cluster<B>,
+        alarm: &A,
+    )
+        requires first { cluster.now.first ≡ B.first }
+        ensures told { IsToldMore self.old.told self.new.told }
+    {
+        self.hear_each(alloc, rt, cluster, alarm);
         self.rouse(rt, cluster);
         self.share_keys(rt, cluster);
     }

@@ -117,9 +117,7 @@ fn follow_load<B: Room + Spot, R: Wait>(
         if load.is_over.load(SeqCst) {
             break;
         }
-        for index in 0..cluster.count() {
-            watch.hear(alloc, load.rt, cluster, index, &alarm);
-        }
+        watch.hear_each(alloc, load.rt, cluster, &alarm);
         let is_more = watch.follow_some(PIECE, &alarm);
         load.is_behind.store(!watch.can_go_on(MOST_BEHIND), SeqCst);
         if !is_more {

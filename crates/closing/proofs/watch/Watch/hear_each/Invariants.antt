@@ -1,5 +1,5 @@
 use Rattle.closing.specs.Following.{IsToldMore}
-use Rattle.closing.proofs.watch.Watch.hear_all.Given as goal
+use Rattle.closing.proofs.watch.Watch.hear_each.Given as goal
 
 -- the pass was told more
 abbrev pub invariant-loop-index : goal.invariant-loop-index
