@@ -1,9 +1,6 @@
 -- Threads may share what workers share: a watch under a lock may be handed from one to another.
 use denote.RattleType.{RattleType}
 use denote.Param.Send.{IsSend, IsSync, sendable}
-use denote.Struct.Tuple.{TupleAt}
-use mir.Syntax.{Sym}
-use mathlib.Core.List.{[], ◌∷◌}
 use Rattle.std.proofs.Crossing.{crosses}
 use Rattle.std.specs.contracts.sync.Mutex as Mutex
 use Rattle.closing.specs.contracts.watch.Watch as Watch
@@ -23,8 +20,6 @@ use Rattle.dvvstore.proofs.saver.Side.TheSendSync as side
 use Rattle.dvvstore.specs.contracts.crew.signs.Signs as Signs
 use Rattle.dvvstore.specs.contracts.beginning.Load as Load
 use Rattle.dvvstore.proofs.beginning.Load.TheSendSync as load
-use Rattle.keeping.proofs.file.KeptFile.TheSendSync as kept_file
-use Rattle.keeping.specs.contracts.file.KeptFile as KeptFile
 use Rattle.listener.proofs.Sent.{lobby_sync}
 
 lock_sync : (B : RattleType) (g : room.Ghosts B.Denot) (h : spot.Ghosts B.Denot) → IsSend B → IsSync (Mutex.the_row (Watch.the_row B g h))
@@ -53,13 +48,6 @@ side_send B F g b f = search (side.the_send, sendable, crosses) depth 40
 pub signs_sync : (l : _) → IsSync (Signs.the_row l)
 signs_sync l = search (lobby_sync, sendable, crosses) depth 60
 
--- those who take records over may share what they and who follows tell each other, and the files that these are from
+-- those who take records over may share what they and who follows tell each other
 pub load_sync : (l : _) (R : RattleType) → IsSync R → IsSync (Load.the_row l R)
 load_sync l R s = search (load.the_sync, s, sendable, crosses) depth 60
-
-pub file_sync : IsSync KeptFile.the_row
-file_sync = kept_file.the_sync
-
--- six captures
-pub six_send : (ν : Sym) (A B C D E F : RattleType) → IsSend A → IsSend B → IsSend C → IsSend D → IsSend E → IsSend F → IsSend (TupleAt ν (A ∷ B ∷ C ∷ D ∷ E ∷ F ∷ []))
-six_send ν A B C D E F a b c d e f = search (sendable) depth 30

@@ -2,4 +2,4 @@ mod Loading
 mod Fronts
 mod Standing
 mod Acknowledged
-mod Sent
+pub mod Sent

@@ -3,7 +3,8 @@ use denote.Param.Send.{arg_send, param_send, shr_send, shr_slice_send}
 use denote.Param.{param}
 use Rattle.std.proofs.alloc.Global.TheSendSync as heap
 use Rattle.pool.proofs.Sent.{cluster_sync}
-use Rattle.dvvstore.proofs.Sent.{file_sync, load_sync, six_send, spares_alone}
+use Rattle.loading.proofs.Sent.{file_sync, six_send}
+use Rattle.dvvstore.proofs.Sent.{load_sync, spares_alone}
 use Rattle.dvvstore.proofs.beginning.begin.Goals as goal
 
 pub join-loaded-requires-send-F : goal.join-loaded-requires-send-F

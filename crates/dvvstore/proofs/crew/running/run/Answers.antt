@@ -3,7 +3,8 @@ use denote.Param.Send.{shr_send, arg_send, param_send}
 use denote.Param.{param}
 use Rattle.listener.proofs.Sent.{lobby_sync}
 use Rattle.pool.proofs.Sent.{cluster_sync}
-use Rattle.dvvstore.proofs.Sent.{saver_send, shared_sync, six_send, spares_send}
+use Rattle.loading.proofs.Sent.{six_send}
+use Rattle.dvvstore.proofs.Sent.{saver_send, shared_sync, spares_send}
 use Rattle.dvvstore.proofs.crew.running.run.Goals as goal
 
 pub join-spares-requires-send-F : goal.join-spares-requires-send-F
