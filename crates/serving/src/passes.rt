@@ -22,7 +22,7 @@ pub fn stores_are_of_one_pass<'a, B: Room, R: Wait, G: Gate, H: Hooks + HookChan
 )
     ensures { IsOfOnePass ⟦<Store<PassPeers<'a, B, R, G>, H> as Backend>⟧.gives ⟦<PassPeers<'a, B, R, G> as Peers>⟧.happens H.finds H.names H.takes
         (λ s. shown s.peers s.hooking.hooks s.hooking.table.listed s.placement s.noted.kinds)
-        (λ p. record { size = p.cluster.now; pass = p.pass.now; failures = p.failures; origin = p.pass.ghost_name }) }
+        (λ p. record { size = p.reach.cluster.now; pass = p.pass.now; failures = p.failures; origin = p.pass.ghost_name }) }
 {}
 
 /// Where exchanges lead a store of one pass on, as those do that a worker's turn adds to the log of its connections, what the pass was told

@@ -10,5 +10,5 @@ returns g c =
     let same = same_by_calls _ (λ p. p.pass.ghost_name) (λ old new call h. h.origin_is) _ _ asked.0 asked.2 in
     let back = c.pass-1.given.1 (sym c.new-peers.ensures.lent ∙ sym same) in
     let grown = grows_then c.args.pass.now c.new-peers.result.pass.now c.keep_served.new.peers.pass.now (nothing_more _ _ c.new-peers.ensures.pass)
-    (grows_by_calls _ (λ p. p.pass.now) (λ old new call h. c.calls_only_add.ensures old.cluster.now old.pass.now call new.pass.now h.known) _ _ asked.0 asked.2) in
+    (grows_by_calls _ (λ p. p.pass.now) (λ old new call h. c.calls_only_add.ensures old.reach.cluster.now old.pass.now call new.pass.now h.known) _ _ asked.0 asked.2) in
     record { grows = subst (λ (v : View). Grows c.args.pass.now v) (sym back) grown }

@@ -7,12 +7,12 @@ use Rattle.stamps.specs.Rule.{call_of}
 use Rattle.vnode_locks.specs.Calls.{IsNews, IsFault, outcome_ok}
 use Rattle.workers.specs.Peering.{IsPart}
 use Rattle.workers.proofs.Parts.{is_merged, is_refused}
-use Rattle.workers.proofs.passing.part_through.Goals.{in-Ok-Built-default, in-Err}
-use Rattle.workers.proofs.passing.part_through.Goals as goal
+use Rattle.workers.proofs.passing.Reach.merge_part.Goals.{in-Ok-Built-default, in-Err}
+use Rattle.workers.proofs.passing.Reach.merge_part.Goals as goal
 
 pub returns : goal.returns
 returns g c =
-    let size = c.args.cluster.now in
+    let size = c.args.self.now.cluster.now in
     let old = c.args.pass.now in
     let new = c.call_prepared.new.pass in
     let request = Part c.args.key.now c.args.from c.args.at c.args.part.now in
