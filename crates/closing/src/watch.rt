@@ -11,7 +11,7 @@ use calls::Request;
 use findings::{TakeFault, WatchFault};
 use follow::{Follower, Recent};
 use journal::{BLOCK, Entry, Handout};
-use pool::{Cluster, Gate, Pass, Room};
+use pool::{Cluster, Open, Pass, Room};
 use std::alloc::{AllocError, Global};
 use std::marker::{Brand, Model};
 use std::sync::Wait;
@@ -62,13 +62,6 @@ pub enum Notice {
 pub trait Alarm {
     /// Tells it.
     fn raise(&self, notice: Notice);
-}
-
-/// Is told of calls that nobody waits for.
-struct Unheard;
-
-impl Gate for Unheard {
-    fn told(&self, _vnode: usize) {}
 }
 
 /// What was handed out by one vnode.
@@ -179,7 +172,7 @@ fn fill_block<B: Room + Spot, R: Wait>(
     ensures { AreRestarts (cluster.now.first + index) 1025 pass.old.told pass.new.told }
 {
     for _ in 0..BLOCK + 1 {
-        match cluster.call(rt, pass, index, &Request::Restart, &Unheard) {
+        match cluster.call(rt, pass, index, &Request::Restart, &Open) {
             Ok((_, receipt)) => {
                 if receipt.place as usize >= entries.saturating_add(BLOCK) {
                     break;

@@ -7,7 +7,6 @@ mod running;
 mod signs;
 mod working;
 
-pub use held::Open;
 pub use running::{Served, keep, serve};
 pub use signs::Signs;
 pub use working::{Lookout, Seat};

@@ -5,14 +5,14 @@ ghost use Rattle.dvvstore.specs.Asides.{AllGrow, Grows};
 
 mod stride;
 
-use crate::crew::{Open, Signs};
+use crate::crew::Signs;
 use crate::saver::stride::{Stride, is_serving};
 use abreast::join_three;
 use folder::{Folder, Unreplaced, WriteFault, keep_requests, keep_served};
 use keeping::{SnapshotFault, Subject};
 use listener::Timer;
 use loading::Passes;
-use pool::{Cluster, Pass, Room};
+use pool::{Cluster, Open, Pass, Room};
 use std::alloc::Global;
 use std::io::{Eprint, Stderr};
 use std::sync::Wait;

@@ -5,19 +5,11 @@ ghost use Rattle.loading.specs.Loads.{HasLoaded, IsMerged};
 
 use crate::fault::LoadFault;
 use calls::{Prepared, Reply};
-use pool::{CallFault, Cluster, Gate, Pass, Room};
+use pool::{CallFault, Cluster, Open, Pass, Room};
 use std::alloc::Global;
 use std::sync::Wait;
 use vnode::VnodeFault;
 use wire::Record;
-
-/// A gate that lets every call through.
-#[derive(Clone, Copy)]
-struct Open;
-
-impl Gate for Open {
-    fn told(&self, _vnode: usize) {}
-}
 
 /// May have who merges records wait, for who goes over what they have merged.
 pub trait Throttle {

@@ -3,5 +3,5 @@
 
 mod cluster;
 
-pub use cluster::{Cluster, Gate};
+pub use cluster::{Cluster, Gate, Open};
 pub use vnode_locks::{CallFault, GatherFault, Pass, Receipt, Room, hand_outs_are_a_front};

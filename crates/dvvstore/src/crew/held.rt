@@ -5,18 +5,10 @@ ghost use Rattle.std.specs.Prelude.{◌≡◌, ◌+◌, ◌-◌, ◌^◌, min, i
 use dvv::{Clock, Dot};
 use object::{Content, Key, KeyState, Part};
 use peers::{Answer, PartAnswer, PeerFault, Peers, SummaryAnswer};
-use pool::{Cluster, Gate, Pass, Room};
+use pool::{Cluster, Open, Pass, Room};
 use std::alloc::Global;
 use std::sync::Wait;
 use workers::PassPeers;
-
-/// A gate that lets every call through.
-#[derive(Clone, Copy, Debug)]
-pub struct Open;
-
-impl Gate for Open {
-    fn told(&self, _vnode: usize) {}
-}
 
 /// The vnodes of a cluster, by a pass of its own: each call is that of [`PassPeers`]. A pass that is held comes back as it was left.
 #[derive(Drop)]

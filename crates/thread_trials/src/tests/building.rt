@@ -2,7 +2,6 @@
 
 use follow::Recent;
 use object::{Bytes, Content, Key};
-use pool::Gate;
 use std::alloc::{AllocError, Global};
 
 /// A key of bucket `b`.
@@ -24,10 +23,3 @@ pub(super) const SIXTEEN: Recent = Recent {
     entries: 16,
     bytes: 0,
 };
-
-/// A gate that holds no call.
-pub(super) struct Open;
-
-impl Gate for Open {
-    fn told(&self, _vnode: usize) {}
-}

@@ -3,12 +3,12 @@
 ghost use Rattle.std.specs.Prelude.{◌≡◌, []};
 ghost use Rattle.stamps.specs.Rule.{newcomer};
 
-use crate::tests::building::{Open, key_of};
+use crate::tests::building::key_of;
 use crate::tests::watching::Silent;
 use calls::Request;
 use closing::{Spot, Watch, close_watched};
 use code_parts::expect;
-use pool::{Cluster, Pass, Room};
+use pool::{Cluster, Open, Pass, Room};
 use stamps::{Card, Size, Stamps};
 use std::alloc::Global;
 use std::marker::Brand;

@@ -1,6 +1,6 @@
 //! A million calls of four threads, handed over in pieces of 64 entries.
 
-use crate::tests::building::{Open, key_of};
+use crate::tests::building::key_of;
 use crate::tests::putting::THREE_BY_FOUR;
 use crate::tests::rounds::Rounders;
 use crate::tests::running::served;
@@ -8,6 +8,7 @@ use code_parts::expect;
 use follow::{Follower, Recent};
 use journal::Entry;
 use object::Key;
+use pool::Open;
 use std::alloc::Global;
 use std::test::Fail;
 use vnode::Vnode;

@@ -1,10 +1,11 @@
 //! Workers on threads who put, and whose journals are one run.
 
-use crate::tests::building::{Open, key_of, value_of};
+use crate::tests::building::{key_of, value_of};
 use crate::tests::running::{Answered, Staff, are_one_run, served};
 use dvv::Clock;
 use object::{Content, Key};
 use peers::Peers;
+use pool::Open;
 use stamps::Size;
 use std::alloc::{AllocError, Global};
 use std::test::Fail;

@@ -2,13 +2,14 @@
 
 ghost use Rattle.std.specs.Prelude.{◌≡◌};
 
-use crate::tests::building::{Open, key_of};
+use crate::tests::building::key_of;
 use crate::tests::running::{Answered, Staff, are_one_run, served};
 use dvv::{Clock, Dot};
 use helpers::Table;
 use hooks::Registry;
 use object::{Content, Key};
 use peers::Peers;
+use pool::Open;
 use quorum::{Hooking, QuorumFault};
 use stamps::Size;
 use std::alloc::{AllocError, Global};

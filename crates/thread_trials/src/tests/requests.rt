@@ -3,14 +3,14 @@
 ghost use Rattle.std.specs.Prelude.{◌≡◌, []};
 ghost use Rattle.stamps.specs.Rule.{newcomer};
 
-use crate::tests::building::{Open, key_of};
+use crate::tests::building::key_of;
 use crate::tests::running::gathered;
 use calls::{Reply, Request};
 use closing::{CloseFault, audit_vnodes};
 use code_parts::expect;
 use dvv::{Clock, ClockFault, Dot};
 use object::{Content, KeyState, Part};
-use pool::{CallFault, Cluster, Pass, Receipt, Room};
+use pool::{CallFault, Cluster, Open, Pass, Receipt, Room};
 use repair::exchange;
 use stamps::{Card, Size, Stamps};
 use std::alloc::{AllocError, Global};

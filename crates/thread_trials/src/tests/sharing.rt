@@ -4,12 +4,12 @@ ghost use Rattle.std.specs.Prelude.{◌≡◌, ◌<◌, []};
 ghost use Rattle.stamps.specs.Rule.{newcomer};
 
 use crate::tests::blocks::take_all;
-use crate::tests::building::{Open, SIXTEEN, key_of, value_of};
+use crate::tests::building::{SIXTEEN, key_of, value_of};
 use code_parts::expect;
 use dvv::Clock;
 use follow::Follower;
 use peers::Peers;
-use pool::{Cluster, Pass, Room};
+use pool::{Cluster, Open, Pass, Room};
 use stamps::{Card, Size, Stamps};
 use std::alloc::Global;
 use std::marker::Brand;

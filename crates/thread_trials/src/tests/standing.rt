@@ -3,14 +3,14 @@
 ghost use Rattle.std.specs.Prelude.{◌≡◌, []};
 ghost use Rattle.stamps.specs.Rule.{newcomer};
 
-use crate::tests::building::{Open, key_of};
+use crate::tests::building::key_of;
 use code_parts::expect;
 use dvv::Clock;
 use helpers::Table;
 use hooks::Registry;
 use object::{Content, Key};
 use place::{Placement, place};
-use pool::{Cluster, Pass, Room};
+use pool::{Cluster, Open, Pass, Room};
 use quorum::Hooking;
 use stamps::{Card, Size, Stamps};
 use std::alloc::Global;

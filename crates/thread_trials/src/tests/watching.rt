@@ -3,12 +3,11 @@
 ghost use Rattle.std.specs.Prelude.{◌≡◌, []};
 ghost use Rattle.stamps.specs.Rule.{newcomer};
 
-use crate::tests::building::Open;
 use crate::tests::rounds::Rounders;
 use crate::tests::running::{passes_of, workers_of};
 use closing::{Alarm, Notice, Spot, Watch, close_watched};
 use code_parts::expect;
-use pool::{Cluster, Pass, Room};
+use pool::{Cluster, Open, Pass, Room};
 use stamps::{Card, Size, Stamps};
 use std::alloc::Global;
 use std::marker::Brand;

@@ -3,12 +3,11 @@
 ghost use Rattle.std.specs.Prelude.{◌≡◌, []};
 ghost use Rattle.stamps.specs.Rule.{newcomer};
 
-use crate::tests::building::Open;
 use crate::tests::refusals::refusing::{End, Trial, begin, end_of, in_turn, was_met};
 use calls::Request;
 use dvv::Clock;
 use object::{Content, Key};
-use pool::{CallFault, Cluster, Pass, Room};
+use pool::{CallFault, Cluster, Open, Pass, Room};
 use stamps::{Card, Size, Stamps};
 use std::alloc::Global;
 use std::env::Env;
