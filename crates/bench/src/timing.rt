@@ -1,18 +1,18 @@
 //! The times of programs, from their images on: the least of some rounds, in each of which the same is done often.
 
 ghost use Rattle.std.specs.Prelude.{◌≡◌, ◌≤◌, length};
-ghost use Rattle.helpers.specs.Entries.{AgreesWith};
-ghost use Rattle.memory.specs.Step.{IsInput};
+ghost use Rattle.bpf_helpers.specs.Entries.{AgreesWith};
+ghost use Rattle.bpf_semantics.specs.Step.{IsInput};
 
-use admission::admit_program;
-use helpers::Table;
-use machine::{Done, padded, run};
+use bpf_admission::admit_program;
+use bpf_helpers::Table;
+use bpf_interpreter::{Done, padded, run};
+use bpf_verifier::Verified;
 use std::alloc::Global;
 use std::io;
 use std::io::Write;
 use std::rt::Clock;
 use std::time::Instant;
-use verifier::Verified;
 
 /// At least how many slots are verified, and how many instructions run, between two looks at the clock.
 const BATCH: u32 = 65_536;

@@ -7,9 +7,9 @@ use Rattle.journal.specs.Answers.{Answer, numbered, changed, copied, done, Answe
 use Rattle.journal.specs.Journals.{MayFollow}
 use Rattle.journal.specs.Logs.{Log}
 use Rattle.journal.specs.Replay.{Leaves}
-use Rattle.object.specs.declared.content.Key.{Key}
-use Rattle.object.specs.Parts.{Summarized, Partial, summary_of, lacks_some, whole_of}
-use Rattle.object.specs.State.{State, empty}
+use Rattle.key_state.specs.declared.content.Key.{Key}
+use Rattle.key_state.specs.Parts.{Summarized, Partial, summary_of, lacks_some, whole_of}
+use Rattle.key_state.specs.State.{State, empty}
 use Rattle.vnode.specs.Parts.{RefusesPart}
 use Rattle.vnode.specs.Refusals.{RefusesPut, RefusesMerge, RefusesEntry}
 use Rattle.vnode.specs.declared.fault.PartFault.{PartFault}

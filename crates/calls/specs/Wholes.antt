@@ -1,6 +1,6 @@
 -- The state that the last of some entries merged.
 use Rattle.std.specs.Prelude.{List, [], ◌∷◌}
-use Rattle.object.specs.State.{State, empty}
+use Rattle.key_state.specs.State.{State, empty}
 use Rattle.journal.specs.Entry.{Entry, Put, Merge, Read, Restart}
 
 -- the state that an entry merges: nothing written where it is no merge

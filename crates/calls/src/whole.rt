@@ -16,7 +16,7 @@ pub struct Whole {
 }
 
 impl Model for Whole {
-    ghost use Rattle.object.specs.State.{State};
+    ghost use Rattle.key_state.specs.State.{State};
     ghost use Rattle.calls.specs.Wholes.{last_merged};
 
     ghost Value = { State };

@@ -10,12 +10,12 @@ use Rattle.std.proofs.lemmas.List.{append-nil, get_or-set_same, get_or-set_other
 use Rattle.std.proofs.lemmas.Map.Keys.{IsDistinct-from_sorted}
 use Rattle.std.proofs.lemmas.Map.Made.{length-le_from_is_member}
 use Rattle.std.proofs.lemmas.Option.{slice_get-get_or}
-use Rattle.helpers.specs.declared.sig.Entry.{Entry as Helper}
+use Rattle.bpf_helpers.specs.declared.sig.Entry.{Entry as Helper}
 use Rattle.dvv.specs.declared.Dot.{Dot}
 use Rattle.dvv.specs.Clock.{covers}
-use Rattle.object.specs.declared.content.Key.{Key}
-use Rattle.object.specs.Known.{Write, InContext, ShowsKnown}
-use Rattle.object.specs.State.{is_dot}
+use Rattle.key_state.specs.declared.content.Key.{Key}
+use Rattle.key_state.specs.Known.{Write, InContext, ShowsKnown}
+use Rattle.key_state.specs.State.{is_dot}
 use Rattle.journal.specs.Entry.{Entry, Put, Merge, Read, Restart}
 use Rattle.journal.specs.Keys.{key_cmp, same_key}
 use Rattle.journal.specs.Logs.{Log, max_entries}
@@ -25,7 +25,7 @@ use Rattle.journal.specs.Replay.{known_in}
 use Rattle.journal.proofs.Keyed.{one_key, same_is, same_itself}
 use Rattle.journal.specs.Brought.{BringsAll}
 use Rattle.journal.specs.Brought as brought
-use Rattle.wire.specs.declared.record.Record.{Record}
+use Rattle.record_codec.specs.declared.record.Record.{Record}
 use Rattle.world.specs.declared.event.Event.{Event}
 use Rattle.world.specs.declared.event.Event.TheVariants.{Load}
 use Rattle.world.specs.Beginning.{BeginsWith, first_logs, merges_of}

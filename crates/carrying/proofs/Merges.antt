@@ -12,9 +12,9 @@ use Rattle.std.proofs.lemmas.List.{append-nil}
 use Rattle.std.proofs.lemmas.List.Sums.{count_by-le-length}
 use Rattle.dvv.specs.declared.Dot.{Dot}
 use Rattle.dvv.specs.Clock.{covers, counter}
-use Rattle.object.specs.declared.content.Content.{Content}
-use Rattle.object.specs.declared.content.Key.{Key}
-use Rattle.object.specs.State.{State, empty, IsState, content_at}
+use Rattle.key_state.specs.declared.content.Content.{Content}
+use Rattle.key_state.specs.declared.content.Key.{Key}
+use Rattle.key_state.specs.State.{State, empty, IsState, content_at}
 use Rattle.journal.specs.Entry.{Entry, Merge}
 use Rattle.journal.specs.Keys.{key_cmp, same_key}
 use Rattle.journal.specs.Logs.{Log, max_entries}
@@ -24,7 +24,7 @@ use Rattle.journal.specs.Entries.{drops}
 use Rattle.journal.proofs.BroughtLemmas.{empty_replayed}
 use Rattle.journal.proofs.Keyed.{one_key, same_itself, same_is}
 use Rattle.journal.proofs.Replayed.{silent_replayed, merge_silent, held_known, dropped_known, journal_end, no_entry}
-use Rattle.wire.specs.declared.record.Record.{Record}
+use Rattle.record_codec.specs.declared.record.Record.{Record}
 use Rattle.world.specs.Beginning.{merges_of}
 use Rattle.world.proofs.Lists.{Contains-later, Contains-first, Contains-cases, Contains-nil}
 use Rattle.carrying.specs.Records.{AreMergesOf, AreOfAll, AreRising, keys_in, nothing, one_more}

@@ -1,8 +1,8 @@
 -- A world that has led to the records of a dump, and the one that goes on from them (this store's profile).
 use Rattle.std.specs.Prelude.{◌≡◌, ℕ, ◌<◌, List, length}
-use Rattle.object.specs.declared.content.Key.{Key}
+use Rattle.key_state.specs.declared.content.Key.{Key}
 use Rattle.journal.specs.Logs.{Log}
-use Rattle.wire.specs.declared.record.Record.{Record}
+use Rattle.record_codec.specs.declared.record.Record.{Record}
 use Rattle.world.specs.declared.event.Event.{Event}
 use Rattle.world.specs.Happening.{IsNewId}
 use Rattle.world.specs.Knowledge.{Knowledge, id_under, known_at}

@@ -1,14 +1,14 @@
 -- Records of a vnode's keys, and the merges by which another vnode takes them over (this store's profile).
 use Rattle.std.specs.Prelude.{ℕ, List, [], ◌∷◌, map, Contains}
 use Rattle.std.specs.List.Sorted.{IsStrictlySortedBy}
-use Rattle.object.specs.declared.content.Key.{Key}
-use Rattle.object.specs.State.{IsState}
+use Rattle.key_state.specs.declared.content.Key.{Key}
+use Rattle.key_state.specs.State.{IsState}
 use Rattle.journal.specs.Entry.{Entry, Merge}
 use Rattle.journal.specs.Keys.{key_cmp}
 use Rattle.journal.specs.Logs.{Log}
 use Rattle.journal.specs.Replay.{IsReplay}
 use Rattle.vnode.specs.Keys.{AreKeys}
-use Rattle.wire.specs.declared.record.Record.{Record}
+use Rattle.record_codec.specs.declared.record.Record.{Record}
 
 -- the keys of records
 abbrev pub keys_in : List Record → List Key

@@ -1,14 +1,14 @@
 //! Laws of records that are merged. Each of these functions does nothing: its contract is the law.
 
 ghost use Rattle.std.specs.Prelude.{◌≡◌, ℕ, ◌≤◌, List, [], ◌∷◌, length, Contains};
-ghost use Rattle.helpers.specs.declared.sig.Entry.{Entry as Helper};
-ghost use Rattle.object.specs.declared.content.Key.{Key};
-ghost use Rattle.object.specs.State.{empty};
+ghost use Rattle.bpf_helpers.specs.declared.sig.Entry.{Entry as Helper};
+ghost use Rattle.key_state.specs.declared.content.Key.{Key};
+ghost use Rattle.key_state.specs.State.{empty};
 ghost use Rattle.journal.specs.Entry.{Entry};
 ghost use Rattle.journal.specs.Journals.{IsJournal};
 ghost use Rattle.journal.specs.Logs.{Log, max_entries};
 ghost use Rattle.journal.specs.Replay.{IsReplay, LeaveAlike};
-ghost use Rattle.wire.specs.declared.record.Record.{Record as OneRecord};
+ghost use Rattle.record_codec.specs.declared.record.Record.{Record as OneRecord};
 ghost use Rattle.world.specs.declared.event.Event.{Event};
 ghost use Rattle.world.specs.Beginning.{BeginsWith, merges_of};
 ghost use Rattle.world.specs.Knowledge.{Knowledge};

@@ -2,14 +2,14 @@
 use Rattle.std.proofs.Common.{◌≡◌, ℕ, List, refl, subst, ◌∙◌, Option}
 use Rattle.std.specs.Prelude.{Result, Ok, Err, IfOk, IfSome}
 use Rattle.std.specs.Io.KnownBytes.{Appends}
-use Rattle.helpers.specs.declared.sig.Entry.{Entry}
+use Rattle.bpf_helpers.specs.declared.sig.Entry.{Entry}
 use Rattle.world.specs.declared.event.Reply.{Reply}
 use Rattle.world.specs.Running.{Ran}
-use Rattle.lines.specs.declared.bad.BadLine.{BadLine}
-use Rattle.script.specs.Dumping.{Dumps as Comes, IsDumpReply, PrintsAndDumps}
-use Rattle.script.specs.Printing.{PrintsUpTo}
-use Rattle.script.specs.declared.dumping.Dumping.{Dumping}
-use Rattle.script.specs.declared.dumping.Dumping.TheVariants as dumping
+use Rattle.script_lines.specs.declared.bad.BadLine.{BadLine}
+use Rattle.script_run.specs.Dumping.{Dumps as Comes, IsDumpReply, PrintsAndDumps}
+use Rattle.script_run.specs.Printing.{PrintsUpTo}
+use Rattle.script_run.specs.declared.dumping.Dumping.{Dumping}
+use Rattle.script_run.specs.declared.dumping.Dumping.TheVariants as dumping
 use Rattle.commands.specs.declared.failure.Failure.{Failure}
 use Rattle.commands.specs.Dumped.{DumpedFile, EndsWith, Wrote, done, up_to}
 

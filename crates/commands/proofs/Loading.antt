@@ -2,10 +2,10 @@
 use Rattle.std.proofs.Common.{◌≡◌, ℕ, List, [], ◌∷◌, ◌++◌, length, refl, sym, subst, append_assoc, ◌∙◌}
 use Rattle.std.specs.Prelude.{codes, decimal, Option, Some, None, MatchOption, Result, Ok, Err, IfOk, IfSome}
 use Rattle.std.specs.Io.KnownBytes.{Appends}
-use Rattle.helpers.specs.declared.sig.Entry.{Entry}
-use Rattle.wire.specs.declared.fault.WireFault.{WireFault}
-use Rattle.wire.specs.declared.record.Record.{Record}
-use Rattle.script.specs.Loading.{PrintsAllFrom, PrintsUpToFrom}
+use Rattle.bpf_helpers.specs.declared.sig.Entry.{Entry}
+use Rattle.record_codec.specs.declared.fault.WireFault.{WireFault}
+use Rattle.record_codec.specs.declared.record.Record.{Record}
+use Rattle.script_run.specs.Loading.{PrintsAllFrom, PrintsUpToFrom}
 use Rattle.commands.specs.declared.failure.Failure.{Failure}
 use Rattle.commands.specs.declared.records.Unread.{Unread}
 use Rattle.commands.specs.declared.records.Unread.TheVariants as unread

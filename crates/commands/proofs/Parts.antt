@@ -3,17 +3,17 @@ use Rattle.std.proofs.Common.{◌≡◌, ℕ, ◌<◌, ◌≤◌, inl, inr, List
 use Rattle.std.specs.Prelude.{Bool, MatchBool, true, false, Option, None, Some, IfSome, Result, Ok, Err, OnOk, IfOk, codes}
 use Rattle.std.specs.Io.KnownBytes.{Appends}
 use Rattle.std.proofs.lemmas.List.{take_all, take-take, length-take}
-use Rattle.bpfimage.specs.Image.{number_at, IsImage, IsRaw, is_marked}
-use Rattle.bpfimage.specs.declared.image.ImageFault.TheVariants.{Window, NoMemory}
-use Rattle.helpers.specs.declared.sig.Entry.{Entry}
-use Rattle.verifier.specs.Program.{Program}
-use Rattle.admission.specs.Enough.{AreReadAlike}
-use Rattle.admission.specs.Admissions.{IsProgramOf, IsNotRun, refusal_text}
-use Rattle.admission.specs.declared.refusal.Refusal.{Refusal}
-use Rattle.admission.specs.declared.refusal.Refusal.TheVariants as refusal
-use Rattle.explain.specs.Explained.{IsExplained, IsUnexplained}
-use Rattle.explain.specs.Texts.{explanation_text}
-use Rattle.explain.specs.declared.explanation.Explanation.{Explanation}
+use Rattle.bpf_image.specs.Image.{number_at, IsImage, IsRaw, is_marked}
+use Rattle.bpf_image.specs.declared.image.ImageFault.TheVariants.{Window, NoMemory}
+use Rattle.bpf_helpers.specs.declared.sig.Entry.{Entry}
+use Rattle.bpf_verifier.specs.Program.{Program}
+use Rattle.bpf_admission.specs.Enough.{AreReadAlike}
+use Rattle.bpf_admission.specs.Admissions.{IsProgramOf, IsNotRun, refusal_text}
+use Rattle.bpf_admission.specs.declared.refusal.Refusal.{Refusal}
+use Rattle.bpf_admission.specs.declared.refusal.Refusal.TheVariants as refusal
+use Rattle.bpf_explain.specs.Explained.{IsExplained, IsUnexplained}
+use Rattle.bpf_explain.specs.Texts.{explanation_text}
+use Rattle.bpf_explain.specs.declared.explanation.Explanation.{Explanation}
 use Rattle.commands.specs.Command.{Ran, Judged, Explained, explained, unexplained, explanation_status}
 use Rattle.commands.specs.declared.failure.Failure.{Failure}
 use Rattle.commands.specs.Outcome.{line, text_of, status_of}

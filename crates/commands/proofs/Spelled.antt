@@ -4,8 +4,8 @@ use Rattle.std.specs.List.{AllByRecursion, flat_map}
 use Rattle.std.proofs.lemmas.List.{append-nil, length-drop, length-take-le, take-append-drop, take_all, take_more}
 use Rattle.std.proofs.lemmas.Grind.{flat_map-append}
 use Rattle.vnode.specs.declared.steps.Copied.{Copied}
-use Rattle.wire.specs.declared.record.Record.{Record}
-use Rattle.wire.specs.Records.{Begins, IsRecord, spelling}
+use Rattle.record_codec.specs.declared.record.Record.{Record}
+use Rattle.record_codec.specs.Records.{Begins, IsRecord, spelling}
 use Rattle.commands.specs.Records.{AreSpelledBy, record_of, records_from}
 
 all_append : (xs ys : List Record) → AllByRecursion IsRecord xs → AllByRecursion IsRecord ys → AllByRecursion IsRecord (xs ++ ys)

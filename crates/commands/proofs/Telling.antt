@@ -2,8 +2,8 @@
 use Rattle.std.proofs.Common.{◌≡◌, ◌<◌, ℕ, List, ◌++◌, Bor, ap, sym, subst, ◌∙◌, append_assoc, refl, Option, Some, None}
 use Rattle.std.specs.Prelude.{codes, decimal, Result, Ok, Err, OnOk, IfOk}
 use Rattle.std.specs.Io.KnownBytes.{Appends}
-use Rattle.findings.specs.declared.fault.WatchFault.{WatchFault}
-use Rattle.helpers.specs.declared.sig.Entry.{Entry}
+use Rattle.audit_faults.specs.declared.fault.WatchFault.{WatchFault}
+use Rattle.bpf_helpers.specs.declared.sig.Entry.{Entry}
 use Rattle.commands.specs.declared.failure.Failure.{Failure}
 use Rattle.commands.specs.Outcome.{line}
 use Rattle.commands.specs.Audited.{audit_text, audit_status}

@@ -1,10 +1,10 @@
 -- How what is said of the journals at the end is told (this store's profile).
 use Rattle.std.specs.Prelude.{ℕ, List, ◌++◌, codes, decimal, Result, Ok, Err}
-use Rattle.findings.specs.declared.fault.FollowCode.{FollowCode}
-use Rattle.findings.specs.declared.fault.FollowCode.TheVariants.{Twice, Falls, NoSource, OtherState, GivenUp, Late, Illegal}
-use Rattle.findings.specs.declared.fault.FollowFault.TheVariants as follow
-use Rattle.findings.specs.declared.fault.WatchFault.{WatchFault}
-use Rattle.findings.specs.declared.fault.WatchFault.TheVariants.{Found, Lost, NoMemory}
+use Rattle.audit_faults.specs.declared.fault.FollowCode.{FollowCode}
+use Rattle.audit_faults.specs.declared.fault.FollowCode.TheVariants.{Twice, Falls, NoSource, OtherState, GivenUp, Late, Illegal}
+use Rattle.audit_faults.specs.declared.fault.FollowFault.TheVariants as follow
+use Rattle.audit_faults.specs.declared.fault.WatchFault.{WatchFault}
+use Rattle.audit_faults.specs.declared.fault.WatchFault.TheVariants.{Found, Lost, NoMemory}
 use Rattle.commands.specs.Outcome.{line}
 
 -- the names of the faults

@@ -1,15 +1,15 @@
 -- What a command leaves on its output (this store's profile).
 use Rattle.std.specs.Prelude.{◌≡◌, ℕ, List, ◌++◌, codes, decimal, Option, IfSome, Result}
-use Rattle.admission.specs.Admissions.{refusal_text}
-use Rattle.admission.specs.declared.refusal.Refusal.{Refusal}
-use Rattle.explain.specs.Explained.{IsExplained, IsUnexplained}
-use Rattle.explain.specs.Texts.{explanation_text}
-use Rattle.explain.specs.declared.explanation.Explanation.{Explanation}
-use Rattle.explain.specs.declared.explanation.Explanation.TheVariants.{Accepted, Broken}
+use Rattle.bpf_admission.specs.Admissions.{refusal_text}
+use Rattle.bpf_admission.specs.declared.refusal.Refusal.{Refusal}
+use Rattle.bpf_explain.specs.Explained.{IsExplained, IsUnexplained}
+use Rattle.bpf_explain.specs.Texts.{explanation_text}
+use Rattle.bpf_explain.specs.declared.explanation.Explanation.{Explanation}
+use Rattle.bpf_explain.specs.declared.explanation.Explanation.TheVariants.{Accepted, Broken}
 use Rattle.std.specs.Io.KnownBytes.{Appends}
-use Rattle.findings.specs.declared.fault.WatchFault.{WatchFault}
-use Rattle.helpers.specs.declared.sig.Entry.{Entry}
-use Rattle.script.specs.Printing.{Simulated}
+use Rattle.audit_faults.specs.declared.fault.WatchFault.{WatchFault}
+use Rattle.bpf_helpers.specs.declared.sig.Entry.{Entry}
+use Rattle.script_run.specs.Printing.{Simulated}
 use Rattle.commands.specs.Audited.{audit_text, audit_status}
 use Rattle.commands.specs.Help.{help_text}
 use Rattle.commands.specs.declared.outcome.Outcome.{Outcome}

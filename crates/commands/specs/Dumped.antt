@@ -1,11 +1,11 @@
 -- What the commands of dumps leave on their output and in their file (this store's profile).
 use Rattle.std.specs.Prelude.{◌≡◌, ℕ, List, [], ◌∷◌, ◌++◌, length, codes, decimal, Option, IfSome}
 use Rattle.std.specs.Io.KnownBytes.{Appends}
-use Rattle.helpers.specs.declared.sig.Entry.{Entry}
-use Rattle.telling.specs.Numbers.{refusal_number}
+use Rattle.bpf_helpers.specs.declared.sig.Entry.{Entry}
+use Rattle.script_replies.specs.Numbers.{refusal_number}
 use Rattle.vnode.specs.declared.fault.VnodeFault.{VnodeFault}
-use Rattle.wire.specs.declared.fault.WireFault.{WireFault}
-use Rattle.wire.specs.declared.record.Record.{Record}
+use Rattle.record_codec.specs.declared.fault.WireFault.{WireFault}
+use Rattle.record_codec.specs.declared.record.Record.{Record}
 use Rattle.world.specs.declared.beginning.BeginFault.TheVariants as begin
 use Rattle.world.specs.declared.event.Copies.{Copies}
 use Rattle.world.specs.declared.event.Reply.{Reply}
@@ -13,9 +13,9 @@ use Rattle.world.specs.declared.event.Reply.TheVariants.{Dumped, Refused}
 use Rattle.world.specs.Beginning.{RefusesRecords}
 use Rattle.world.specs.Knowledge.{id_under}
 use Rattle.world.specs.Running.{Ran}
-use Rattle.script.specs.Dumping.{PrintsAndDumps}
-use Rattle.script.specs.Loading.{PrintsAllFrom, PrintsUpToFrom}
-use Rattle.script.specs.Printing.{PrintsUpTo}
+use Rattle.script_run.specs.Dumping.{PrintsAndDumps}
+use Rattle.script_run.specs.Loading.{PrintsAllFrom, PrintsUpToFrom}
+use Rattle.script_run.specs.Printing.{PrintsUpTo}
 use Rattle.commands.specs.Outcome.{line}
 use Rattle.commands.specs.Records.{records_of, AreSpelledBy, FaultAt, fault_text}
 

@@ -1,6 +1,6 @@
 -- What a run, and a refusal, is told as (this store's profile).
 use Rattle.std.specs.Prelude.{ℕ, ◌==◌, ◌&&◌, if◌then◌else◌, List, [], ◌∷◌, ◌++◌, length, codes, decimal, string_bytes}
-use Rattle.admission.specs.Admissions.{refusal_text}
+use Rattle.bpf_admission.specs.Admissions.{refusal_text}
 use Rattle.commands.specs.declared.outcome.Outcome.{Outcome}
 use Rattle.commands.specs.declared.outcome.Outcome.TheVariants as outcome
 

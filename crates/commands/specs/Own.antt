@@ -1,10 +1,10 @@
 -- The helpers of this program.
 use Rattle.std.specs.Prelude.{ℕ, ◌-◌, ◌^◌, List, [], ◌∷◌, map}
-use Rattle.helpers.specs.declared.sig.ArgRule.{ArgRule}
-use Rattle.helpers.specs.declared.sig.ArgRule.TheVariants as rule
-use Rattle.helpers.specs.declared.sig.Entry.{Entry}
-use Rattle.memory.specs.Windows.{longest_window}
-use Rattle.helpers.specs.Shapes.{Shape, shape_of, shape, one_text, two_texts}
+use Rattle.bpf_helpers.specs.declared.sig.ArgRule.{ArgRule}
+use Rattle.bpf_helpers.specs.declared.sig.ArgRule.TheVariants as rule
+use Rattle.bpf_helpers.specs.declared.sig.Entry.{Entry}
+use Rattle.bpf_semantics.specs.Windows.{longest_window}
+use Rattle.bpf_helpers.specs.Shapes.{Shape, shape_of, shape, one_text, two_texts}
 
 -- one number of any size
 abbrev pub one_number : List ArgRule

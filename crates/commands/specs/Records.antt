@@ -2,10 +2,10 @@
 use Rattle.std.specs.Prelude.{◌≡◌, ◌≢◌, ℕ, ◌+◌, ◌/◌, ◌==◌, ◌||◌, Bool, List, [], ◌∷◌, ◌++◌, length, codes}
 use Rattle.std.specs.List.{AllByRecursion, flat_map, list_any}
 use Rattle.vnode.specs.declared.steps.Copied.{Copied}
-use Rattle.wire.specs.declared.fault.WireFault.{WireFault}
-use Rattle.wire.specs.declared.fault.WireFault.TheVariants.{Cut, Mark, Digest, NotCanonical, NoMemory}
-use Rattle.wire.specs.declared.record.Record.{Record}
-use Rattle.wire.specs.Records.{IsRecord, HasFault, spelling}
+use Rattle.record_codec.specs.declared.fault.WireFault.{WireFault}
+use Rattle.record_codec.specs.declared.fault.WireFault.TheVariants.{Cut, Mark, Digest, NotCanonical, NoMemory}
+use Rattle.record_codec.specs.declared.record.Record.{Record}
+use Rattle.record_codec.specs.Records.{IsRecord, HasFault, spelling}
 use Rattle.world.specs.declared.event.Copies.{Copies}
 use Rattle.commands.specs.declared.records.Unread.{Unread}
 use Rattle.commands.specs.declared.records.Unread.TheVariants as unread

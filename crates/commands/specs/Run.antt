@@ -1,14 +1,14 @@
 -- What running the program in a file on an input comes to: from the bytes of the files to the answer (this store's profile).
 use Rattle.std.specs.Prelude.{◌≡◌, ℕ, ◌-◌, ◌<◌, ◌≤◌, List, ◌++◌, length, replicate, string_bytes}
 use Rattle.hex.specs.Hex.{encode_lower}
-use Rattle.memory.specs.State.{State}
-use Rattle.memory.specs.Step.{Finishes, start, instruction_count}
-use Rattle.helpers.specs.Calls.{calls_of}
-use Rattle.helpers.specs.declared.sig.Entry.{Entry}
-use Rattle.verifier.specs.Program.{Program}
-use Rattle.verifier.specs.Table.{IsAccepted}
+use Rattle.bpf_semantics.specs.State.{State}
+use Rattle.bpf_semantics.specs.Step.{Finishes, start, instruction_count}
+use Rattle.bpf_helpers.specs.Calls.{calls_of}
+use Rattle.bpf_helpers.specs.declared.sig.Entry.{Entry}
+use Rattle.bpf_verifier.specs.Program.{Program}
+use Rattle.bpf_verifier.specs.Table.{IsAccepted}
 use Rattle.commands.specs.Outcome.{up_to_last_set}
-use Rattle.admission.specs.Admissions.{IsProgramOf, IsNotRun}
+use Rattle.bpf_admission.specs.Admissions.{IsProgramOf, IsNotRun}
 use Rattle.commands.specs.declared.outcome.Outcome.{Outcome}
 use Rattle.commands.specs.declared.outcome.Outcome.TheVariants as outcome
 

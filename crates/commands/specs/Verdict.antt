@@ -1,9 +1,9 @@
 -- What the verifier says of the program in a file (this store's profile).
 use Rattle.std.specs.Prelude.{◌≡◌, ℕ, List, ◌++◌, length, codes, decimal}
-use Rattle.verifier.specs.Program.{Program}
+use Rattle.bpf_verifier.specs.Program.{Program}
 use Rattle.commands.specs.Run.{IsLetIn}
-use Rattle.helpers.specs.declared.sig.Entry.{Entry}
-use Rattle.admission.specs.Admissions.{IsNotRun, refusal_text}
+use Rattle.bpf_helpers.specs.declared.sig.Entry.{Entry}
+use Rattle.bpf_admission.specs.Admissions.{IsNotRun, refusal_text}
 use Rattle.commands.specs.Outcome.{line}
 use Rattle.commands.specs.declared.verify.Verdict.{Verdict}
 use Rattle.commands.specs.declared.verify.Verdict.TheVariants.{Accepted, Refused}

@@ -4,7 +4,7 @@ ghost use Rattle.std.specs.Io.KnownBytes.{Appends};
 ghost use Rattle.commands.specs.Audited.{audit_text, audit_status, code_text};
 
 use crate::failure::Failure;
-use findings::{FollowCode, FollowFault, Followed, WatchFault};
+use audit_faults::{FollowCode, FollowFault, Followed, WatchFault};
 use std::fmt;
 use std::io::Write;
 

@@ -17,7 +17,7 @@ use crate::server::{Ended, Server, Site, Unserved};
 use crate::simulate::simulate;
 use crate::verify::verify;
 use crate::words::{Request, parse};
-use helpers::Table;
+use bpf_helpers::Table;
 use std::alloc::Global;
 use std::io::Write;
 

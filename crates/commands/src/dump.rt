@@ -1,6 +1,6 @@
 //! The command `dump FILE SCRIPT V`.
 ghost use Rattle.std.specs.Prelude.{◌≡◌, ◌++◌, ◌∷◌, [], ◌<◌, ◌≤◌, List, ℕ, IfOk, Option, string_bytes};
-ghost use Rattle.script.specs.Dumping.{IsDumpReply};
+ghost use Rattle.script_run.specs.Dumping.{IsDumpReply};
 ghost use Rattle.world.specs.declared.event.Reply.{Reply as OneReply};
 ghost use Rattle.commands.specs.Dumped.{Dumps, DumpedFile, EndsWith, Wrote, WroteCopies};
 
@@ -8,11 +8,11 @@ use crate::failure::Failure;
 use crate::files::Files;
 use crate::records::{Unspelled, spelled};
 use crate::simulate::FileImages;
-use helpers::Table;
-use script::{Dumping, run_and_dump};
+use bpf_helpers::Table;
+use script_replies::refusal_number;
+use script_run::{Dumping, run_and_dump};
 use std::alloc::Global;
 use std::io::Write;
-use telling::refusal_number;
 use world::{Copies, Reply};
 
 /// Runs the script in the file `script`, tells on `out` what its lines print and on `err` why a line is bad, and then makes the file `file`

@@ -1,16 +1,16 @@
 //! The command `explain IMAGE`.
 ghost use Rattle.std.specs.Prelude.{◌≡◌, ◌++◌, codes, IfOk, OnOk};
 ghost use Rattle.std.specs.Io.KnownBytes.{Appends};
-ghost use Rattle.admission.specs.Admissions.{refusal_text};
-ghost use Rattle.explain.specs.Texts.{explanation_text};
+ghost use Rattle.bpf_admission.specs.Admissions.{refusal_text};
+ghost use Rattle.bpf_explain.specs.Texts.{explanation_text};
 ghost use Rattle.commands.specs.Command.{Explained, explanation_status};
 ghost use Rattle.commands.specs.Outcome.{line};
 
 use crate::failure::Failure;
 use crate::files::{Files, read_program};
-use admission::Refusal;
-use explain::{Explanation, text_of};
-use helpers::Table;
+use bpf_admission::Refusal;
+use bpf_explain::{Explanation, text_of};
+use bpf_helpers::Table;
 use std::alloc::Global;
 use std::io::Write;
 
@@ -50,7 +50,7 @@ pub fn explain<F: Files, O: Write>(
     ensures { IfOk result (Explained table.now.listed (F.held files.now image.now) (O.contents out.old) (O.contents out.new)) }
 {
     let image = read_program(files, alloc, image)?;
-    let explanation = match explain::explain(alloc, &image, &table.listed) {
+    let explanation = match bpf_explain::explain(alloc, &image, &table.listed) {
         Ok(explanation) => explanation,
         Err(refusal) => return refuse(refusal, out),
     };

@@ -1,6 +1,6 @@
 //! Files, real ones or others: whole, or as much of them as is needed.
 ghost use Rattle.std.specs.Prelude.{◌≡◌, ℕ, List, length, take, Option, None, OnOk, IfOk, IfSome};
-ghost use Rattle.admission.specs.Enough.{AreReadAlike};
+ghost use Rattle.bpf_admission.specs.Enough.{AreReadAlike};
 
 use std::alloc::Global;
 use std::io;
@@ -37,7 +37,7 @@ pub trait Files {
 pub fn read_program<F: Files>(files: &F, alloc: Global, name: &str) -> io::Result<Vec<u8>>
     ensures { IfOk result (λ bytes. IfSome (F.held files.now name.now) (λ known. AreReadAlike bytes.items known)) }
 {
-    let mut part = files.read_part(alloc, name, admission::MOST)?;
-    part.bytes.truncate(admission::enough(part.len));
+    let mut part = files.read_part(alloc, name, bpf_admission::MOST)?;
+    part.bytes.truncate(bpf_admission::enough(part.len));
     Ok(part.bytes)
 }

@@ -7,13 +7,13 @@ use crate::failure::Failure;
 use crate::files::Files;
 use crate::records::{Unread, fault_number, name_incarnation, records_in};
 use crate::simulate::FileImages;
-use events::Images;
-use helpers::Table;
-use script::run_from;
+use bpf_helpers::Table;
+use record_codec::Record;
+use script_events::Images;
+use script_replies::refusal_number;
+use script_run::run_from;
 use std::alloc::Global;
 use std::io::Write;
-use telling::refusal_number;
-use wire::Record;
 use world::BeginFault;
 
 /// Loads the records of the file `file` into the first of the vnodes, all of which begin under an incarnation, and runs the script in the

@@ -2,7 +2,7 @@
 ghost use Rattle.std.specs.Prelude.{◌≡◌};
 ghost use Rattle.commands.specs.Outcome.{or_dash, up_to_last_set};
 
-use admission::Refusal;
+use bpf_admission::Refusal;
 use std::fmt;
 
 /// What a run came to.

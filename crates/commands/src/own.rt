@@ -2,12 +2,12 @@
 
 ghost use Rattle.std.specs.Prelude.{◌≡◌, ◌≤◌, ◌<◌, ◌+◌, ◌^◌, ℕ, List, length, max, IfOk, OnOk, IsSome, ◌++◌, ◌∷◌, [], Option, None, Some};
 ghost use Rattle.std.specs.Borrow.{Bor};
-ghost use Rattle.helpers.specs.Text.{order_of, place_of, spelled};
-ghost use Rattle.helpers.specs.Layout.{newest_of};
-ghost use Rattle.helpers.specs.Shapes.{shape_of, written_shape};
-ghost use Rattle.helpers.specs.declared.sig.Entry.{Entry};
-ghost use Rattle.helpers.specs.Entries.{IsAdmitted};
-ghost use Rattle.helpers.specs.Answers.{IsCallableOn, AnswersOn};
+ghost use Rattle.bpf_helpers.specs.Text.{order_of, place_of, spelled};
+ghost use Rattle.bpf_helpers.specs.Layout.{newest_of};
+ghost use Rattle.bpf_helpers.specs.Shapes.{shape_of, written_shape};
+ghost use Rattle.bpf_helpers.specs.declared.sig.Entry.{Entry};
+ghost use Rattle.bpf_helpers.specs.Entries.{IsAdmitted};
+ghost use Rattle.bpf_helpers.specs.Answers.{IsCallableOn, AnswersOn};
 ghost use Rattle.commands.specs.Command.{Explained, Helped, Judged, KeptFolder, Ran, Served, SimulatedFile};
 ghost use Rattle.commands.specs.Dumped.{DumpedFile, LoadedFile};
 ghost use Rattle.commands.specs.Own.{one_number, shapes_of, own_shapes};
@@ -18,7 +18,7 @@ use crate::files::Files;
 use crate::server::Server;
 use crate::tables::OwnTables;
 use crate::words::{MOST_WORKERS, Request, parse};
-use helpers::{
+use bpf_helpers::{
     ArgRule, Body, Helper, HelperFault, Sig, Table, decimal, find, newest, order, written_sig,
 };
 use std::alloc::{AllocError, Global};

@@ -1,16 +1,16 @@
 //! The records of a dump in a file, one after another.
 
 ghost use Rattle.std.specs.Prelude.{◌≡◌, ◌++◌, ◌∷◌, [], ◌↔◌, ◌+◌, IfErr, IfOk, IsTrue, OnOk};
-ghost use Rattle.object.specs.Limits.{IsContent, IsKey};
-ghost use Rattle.wire.specs.Records.{AreContents, IsRecord, spelling};
+ghost use Rattle.key_state.specs.Limits.{IsContent, IsKey};
+ghost use Rattle.record_codec.specs.Records.{AreContents, IsRecord, spelling};
 ghost use Rattle.commands.specs.declared.records.Unread.TheVariants as unread;
 ghost use Rattle.commands.specs.Records.{AreSpelledBy, IsUnread, fault_text, is_of, names_incarnation, record_of, records_of};
 ghost use Rattle.std.specs.List.{list_any};
 
 use dvv::Dot;
-use object::{Content, Key, MAX_BUCKET, MAX_KEY, MAX_MEDIA, MAX_VALUE, Sibling};
+use key_state::{Content, Key, MAX_BUCKET, MAX_KEY, MAX_MEDIA, MAX_VALUE, Sibling};
+use record_codec::{Record, WireFault, has_record, read_record, write_record};
 use std::alloc::{AllocError, Global};
-use wire::{Record, WireFault, has_record, read_record, write_record};
 use world::{Copied, Copies};
 
 /// How many vnodes' identifiers an incarnation has.

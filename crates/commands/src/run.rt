@@ -1,10 +1,10 @@
 //! The command `run IMAGE INPUT`.
 ghost use Rattle.std.specs.Prelude.{◌≤◌, length, IfOk, List, ℕ, string_bytes, ◌≡◌, replicate};
 ghost use Rattle.hex.specs.Hex.{encode_lower};
-ghost use Rattle.memory.specs.Step.{IsInput, instruction_count};
-ghost use Rattle.helpers.specs.Calls.{calls_of};
-ghost use Rattle.helpers.specs.Entries.{AgreesWith};
-ghost use Rattle.machine.specs.Running.{EndsWith};
+ghost use Rattle.bpf_semantics.specs.Step.{IsInput, instruction_count};
+ghost use Rattle.bpf_helpers.specs.Calls.{calls_of};
+ghost use Rattle.bpf_helpers.specs.Entries.{AgreesWith};
+ghost use Rattle.bpf_interpreter.specs.Running.{EndsWith};
 ghost use Rattle.commands.specs.Command.{Ran};
 ghost use Rattle.commands.specs.Outcome.{up_to_last_set};
 ghost use Rattle.commands.specs.Run.{ComesTo, IsRunOf};
@@ -12,13 +12,13 @@ ghost use Rattle.commands.specs.Run.{ComesTo, IsRunOf};
 use crate::failure::Failure;
 use crate::files::{Files, read_program};
 use crate::outcome::{Outcome, up_to_last_set};
-use admission::admit_program;
-use helpers::Table;
-use machine::{Done, padded, run as run_verified};
-use memory::MAX_WINDOW;
+use bpf_admission::admit_program;
+use bpf_helpers::Table;
+use bpf_interpreter::{Done, padded, run as run_verified};
+use bpf_semantics::MAX_WINDOW;
+use bpf_verifier::Verified;
 use std::alloc::{AllocError, Global};
 use std::io::Write;
-use verifier::Verified;
 
 /// At most how many bytes of an input are read: those of the longest window, and one that has no room there.
 const MOST_INPUT: usize = MAX_WINDOW as usize + 1;
@@ -74,7 +74,7 @@ struct End {
     output: String,
 }
 
-/// Runs a program on a window, as [`machine::run`] does: what this command tells rests on the Sigs of helpers alone.
+/// Runs a program on a window, as [`bpf_interpreter::run`] does: what this command tells rests on the Sigs of helpers alone.
 fn run_window(
     verified: &Verified,
     table: &Table,

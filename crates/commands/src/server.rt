@@ -2,8 +2,8 @@
 ghost use Rattle.std.specs.Prelude.{◌≡◌, ◌<◌, OnOk, IfOk, IfErr, vec_len};
 ghost use Rattle.commands.specs.Command.{HasKept, HasRefused, Listened};
 
-use findings::Followed;
-use helpers::Table;
+use audit_faults::Followed;
+use bpf_helpers::Table;
 use std::alloc::Global;
 use std::io;
 use std::io::Write;

@@ -1,18 +1,18 @@
 //! The command `sim SCRIPT`.
 ghost use Rattle.std.specs.Prelude.{◌≤◌, IfOk};
-ghost use Rattle.helpers.specs.Entries.{AgreesWith};
+ghost use Rattle.bpf_helpers.specs.Entries.{AgreesWith};
 ghost use Rattle.commands.specs.Command.{SimulatedFile};
 
 use crate::failure::Failure;
 use crate::files::{Files, read_program};
-use admission::admit_hook;
-use bpfimage::ImageKind;
-use events::{Images, NoHook};
-use helpers::{Sigs, Table};
-use script::sim;
+use bpf_admission::admit_hook;
+use bpf_helpers::{Sigs, Table};
+use bpf_image::ImageKind;
+use bpf_verifier::Verified;
+use script_events::{Images, NoHook};
+use script_run::sim;
 use std::alloc::Global;
 use std::io::Write;
-use verifier::Verified;
 
 /// The images of hooks in files, for a table with these helpers.
 #[derive(Drop)]

@@ -4,7 +4,7 @@ ghost use Rattle.std.specs.Prelude.{◌≡◌, ◌<◌, ◌+◌, OnOk, vec_len};
 ghost use Rattle.std.specs.List.{All};
 ghost use Rattle.commands.specs.Own.{shapes_of, own_shapes};
 
-use helpers::Table;
+use bpf_helpers::Table;
 use std::alloc::{AllocError, Global};
 
 /// Tables of the program's helpers.

@@ -5,8 +5,8 @@ ghost use Rattle.commands.specs.Verdict.{IsVerdict};
 
 use crate::failure::Failure;
 use crate::files::{Files, read_program};
-use admission::{Refusal, admit_program};
-use helpers::Table;
+use bpf_admission::{Refusal, admit_program};
+use bpf_helpers::Table;
 use std::alloc::Global;
 use std::fmt;
 use std::io::Write;

@@ -2,11 +2,11 @@
 use Rattle.std.proofs.Common.{◌≡◌, ◌++◌, ◌∷◌, [], List, Option, Some, None, ap, refl, subst, sym, ◌∙◌, append_assoc, flat_map}
 use Rattle.std.proofs.lemmas.Grind.{flat_map-append}
 use Rattle.journal.specs.Logs.{Log}
-use Rattle.stamps.specs.declared.view.Told.{Told}
-use Rattle.stamps.specs.declared.view.View.{View}
-use Rattle.vnode_locks.specs.Gathers.{IsGathered}
+use Rattle.cluster_stamps.specs.declared.view.Told.{Told}
+use Rattle.cluster_stamps.specs.declared.view.View.{View}
+use Rattle.cluster_vnode.specs.Gathers.{IsGathered}
 use Rattle.dvvstore.specs.Asides.{AreGathered, GoOn, passes_of}
-use Rattle.loading.specs.declared.beginning.Passes.{Passes}
+use Rattle.kept_restore.specs.declared.beginning.Passes.{Passes}
 
 -- what passes were told
 abbrev all_told : List View → List Told

@@ -2,10 +2,10 @@
 use Rattle.std.proofs.Common.{◌≡◌, ◌∙◌, ℕ, List, [], ◌∷◌, ◌++◌, Option, None, Some, ap, append_assoc, refl, sym}
 use Rattle.std.proofs.lemmas.List.{append-nil}
 use Rattle.dvvstore.specs.Asides.{GoOn, Grows}
-use Rattle.loading.specs.declared.beginning.Passes.{Passes}
+use Rattle.kept_restore.specs.declared.beginning.Passes.{Passes}
 use Rattle.peers.specs.Calls.{Call, Made}
-use Rattle.stamps.specs.declared.view.Told.{Told}
-use Rattle.stamps.specs.declared.view.View.{View}
+use Rattle.cluster_stamps.specs.declared.view.Told.{Told}
+use Rattle.cluster_stamps.specs.declared.view.View.{View}
 
 pub nothing_more : (old new : View) → new ≡ old → Grows old new
 nothing_more old new is = ([], ap (λ (v : View). v.told) is ∙ sym (append-nil old.told))

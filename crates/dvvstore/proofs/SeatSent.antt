@@ -13,13 +13,13 @@ use Rattle.std.proofs.alloc.Global.TheSendSync as heap
 use Rattle.std.specs.contracts.dyn_box.DynBox as Dyn
 use Rattle.std.specs.contracts.alloc.Global as Heap
 use Rattle.std.specs.contracts.impls.GlobalAllocator.TheImpl.{ghosts}
-use Rattle.helpers.proofs.sig.Sig.TheSendSync as sig
-use Rattle.helpers.proofs.sigs.Sigs.TheSendSync as sigs
-use Rattle.helpers.specs.contracts.helper.Helper as Helper
-use Rattle.helpers.specs.contracts.table.Table as Table
+use Rattle.bpf_helpers.proofs.sig.Sig.TheSendSync as sig
+use Rattle.bpf_helpers.proofs.sigs.Sigs.TheSendSync as sigs
+use Rattle.bpf_helpers.specs.contracts.helper.Helper as Helper
+use Rattle.bpf_helpers.specs.contracts.table.Table as Table
 use Rattle.quorum.specs.contracts.hooking.Hooking as Hooking
-use Rattle.vnode_locks.proofs.pass.Pass.TheSendSync as pass
-use Rattle.vnode_locks.specs.declared.pass.Room as room
+use Rattle.cluster_vnode.proofs.pass.Pass.TheSendSync as pass
+use Rattle.cluster_vnode.specs.declared.pass.Room as room
 use Rattle.dvvstore.specs.contracts.crew.working.Seat as Seat
 
 -- D, d, f: the closures of this program, and what they may answer

@@ -3,24 +3,24 @@ use denote.RattleType.{RattleType}
 use denote.Param.Send.{IsSend, IsSync, sendable}
 use Rattle.std.proofs.Crossing.{crosses}
 use Rattle.std.specs.contracts.sync.Mutex as Mutex
-use Rattle.closing.specs.contracts.watch.Watch as Watch
-use Rattle.closing.specs.declared.watch.Spot as spot
-use Rattle.closing.proofs.Sent.{watch_send}
-use Rattle.vnode_locks.specs.declared.pass.Room as room
+use Rattle.audit_cluster.specs.contracts.watch.Watch as Watch
+use Rattle.audit_cluster.specs.declared.watch.Spot as spot
+use Rattle.audit_cluster.proofs.Sent.{watch_send}
+use Rattle.cluster_vnode.specs.declared.pass.Room as room
 use Rattle.dvvstore.specs.contracts.crew.working.Shared as Shared
 use Rattle.std.proofs.option.Option.TheSendSync as option
 use Rattle.std.specs.contracts.option.Option as Option
-use Rattle.loading.specs.contracts.beginning.Passes as Passes
+use Rattle.kept_restore.specs.contracts.beginning.Passes as Passes
 use Rattle.dvvstore.specs.contracts.saver.Saver as Saver
 use Rattle.dvvstore.proofs.crew.reporter.Reporter.TheSendSync as reporter
 use Rattle.dvvstore.proofs.saver.Saver.TheSendSync as saver
-use Rattle.loading.proofs.beginning.Passes.TheSendSync as spares
+use Rattle.kept_restore.proofs.beginning.Passes.TheSendSync as spares
 use Rattle.dvvstore.specs.contracts.saver.Side as Side
 use Rattle.dvvstore.proofs.saver.Side.TheSendSync as side
 use Rattle.dvvstore.specs.contracts.crew.signs.Signs as Signs
 use Rattle.dvvstore.specs.contracts.beginning.Load as Load
 use Rattle.dvvstore.proofs.beginning.Load.TheSendSync as load
-use Rattle.listener.proofs.Sent.{lobby_sync}
+use Rattle.server_accept.proofs.Sent.{lobby_sync}
 
 lock_sync : (B : RattleType) (g : room.Ghosts B.Denot) (h : spot.Ghosts B.Denot) → IsSend B → IsSync (Mutex.the_row (Watch.the_row B g h))
 lock_sync B g h s = search (watch_send, sendable, crosses) depth 40

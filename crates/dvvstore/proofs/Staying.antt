@@ -2,12 +2,12 @@
 use Rattle.std.proofs.Common.{◌≡◌, ◌∙◌, ◌+◌, ◌<◌, ◌++◌, ℕ, zero, suc, List, Result, [], ◌∷◌, arith, subst, sym}
 use Rattle.std.specs.List.{All}
 use Rattle.std.proofs.lemmas.List.{get_or_append_left, length-append}
-use Rattle.keeping.specs.declared.file.KeptFile.{KeptFile}
+use Rattle.kept_file.specs.declared.file.KeptFile.{KeptFile}
 use Rattle.journal.specs.Logs.{Log}
-use Rattle.stamps.specs.declared.view.View.{View}
-use Rattle.vnode_locks.specs.Calls.{pass_view}
-use Rattle.keeping.specs.Files.{records_at}
-use Rattle.loading.specs.Beginnings.{BeginWithFiles, BeginsWith}
+use Rattle.cluster_stamps.specs.declared.view.View.{View}
+use Rattle.cluster_vnode.specs.Calls.{pass_view}
+use Rattle.kept_file.specs.Files.{records_at}
+use Rattle.kept_restore.specs.Beginnings.{BeginWithFiles, BeginsWith}
 use Rattle.dvvstore.specs.Keeping.{Leaves}
 use Rattle.dvvstore.specs.declared.keeper.Unbegun.{Unbegun}
 use Rattle.dvvstore.specs.declared.session.Left.{Left}

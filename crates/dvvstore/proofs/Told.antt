@@ -9,9 +9,9 @@ use Rattle.commands.specs.declared.server.Unserved.{Unserved}
 use Rattle.commands.specs.declared.server.Ended.TheVariants as ended
 use Rattle.commands.specs.Outcome.{line}
 use Rattle.journal.specs.Logs.{Log}
-use Rattle.stamps.specs.declared.view.Told.{Told}
-use Rattle.stamps.specs.declared.view.View.{View}
-use Rattle.vnode_locks.specs.Gathers.{IsGathered}
+use Rattle.cluster_stamps.specs.declared.view.Told.{Told}
+use Rattle.cluster_stamps.specs.declared.view.View.{View}
+use Rattle.cluster_vnode.specs.Gathers.{IsGathered}
 use Rattle.dvvstore.specs.Keeping.{HasBegun, HasEnded}
 
 -- what passes were told

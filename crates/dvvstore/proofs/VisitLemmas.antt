@@ -1,34 +1,34 @@
 -- On the visits of workers.
 use Rattle.std.proofs.Common.{◌≡◌, ◌∙◌, ℕ, suc, ◌<◌, List, [], ◌∷◌, ◌++◌, Option, Some, None, Result, Ok, Err, IfOk, ap, refl, sym, subst, arith, append-nil, append_assoc, flat_map, length, map}
 use Rattle.std.specs.Prelude.{slice_index_or}
-use Rattle.bpfimage.specs.declared.image.ImageKind.{ImageKind}
-use Rattle.verifier.specs.Program.{Program}
-use Rattle.helpers.specs.declared.sig.Entry.{Entry}
-use Rattle.hooks.specs.Changes.{Change}
-use Rattle.hooks.specs.declared.fault.HookFault.{HookFault}
-use Rattle.hooks.specs.declared.fault.NameFault.{NameFault}
-use Rattle.hooks.specs.declared.fault.NotSeen.{NotSeen}
-use Rattle.httpask.specs.declared.ask.Call.{Call}
-use Rattle.httpreply.specs.declared.reply.Reply.{Reply}
-use Rattle.httpfront.specs.Dialogue.{Does, Exchange, Runs, call_of}
-use Rattle.hall.specs.Halls.{AllStand, Log, all_parts}
-use Rattle.hall.specs.Sockets.{Sockets, unborn}
-use Rattle.hall.specs.declared.seat.Seat.{Seat}
-use Rattle.hall.proofs.LogLemmas.{all_parts-both}
-use Rattle.hall.proofs.TalkLemmas.{Runs-append}
+use Rattle.bpf_image.specs.declared.image.ImageKind.{ImageKind}
+use Rattle.bpf_verifier.specs.Program.{Program}
+use Rattle.bpf_helpers.specs.declared.sig.Entry.{Entry}
+use Rattle.hook_registry.specs.Changes.{Change}
+use Rattle.hook_registry.specs.declared.fault.HookFault.{HookFault}
+use Rattle.hook_registry.specs.declared.fault.NameFault.{NameFault}
+use Rattle.hook_registry.specs.declared.fault.NotSeen.{NotSeen}
+use Rattle.http_request.specs.declared.ask.Call.{Call}
+use Rattle.http_response.specs.declared.reply.Reply.{Reply}
+use Rattle.http_connection.specs.Dialogue.{Does, Exchange, Runs, call_of}
+use Rattle.http_connections.specs.Halls.{AllStand, Log, all_parts}
+use Rattle.http_connections.specs.Sockets.{Sockets, unborn}
+use Rattle.http_connections.specs.declared.seat.Seat.{Seat}
+use Rattle.http_connections.proofs.LogLemmas.{all_parts-both}
+use Rattle.http_connections.proofs.TalkLemmas.{Runs-append}
 use Rattle.journal.specs.Logs.{Log as JournalLog}
-use Rattle.listener.specs.Waiting.{HasHadNone}
-use Rattle.place.specs.Places.{PlacementView, copies_of}
-use Rattle.sockets.specs.Work.{Stays, Works, seats_of, shows}
-use Rattle.sockets.specs.declared.worker.Worker.{Worker}
-use Rattle.stamps.specs.declared.view.Size.{Size}
-use Rattle.stamps.specs.declared.view.Told.{Told}
-use Rattle.stamps.specs.declared.view.View.{View}
-use Rattle.store.specs.View.{StoreView, shown}
+use Rattle.server_accept.specs.Waiting.{HasHadNone}
+use Rattle.ring.specs.Places.{PlacementView, copies_of}
+use Rattle.server_sockets.specs.Work.{Stays, Works, seats_of, shows}
+use Rattle.server_sockets.specs.declared.worker.Worker.{Worker}
+use Rattle.cluster_stamps.specs.declared.view.Size.{Size}
+use Rattle.cluster_stamps.specs.declared.view.Told.{Told}
+use Rattle.cluster_stamps.specs.declared.view.View.{View}
+use Rattle.server_store.specs.View.{StoreView, shown}
 use Rattle.peers.specs.Calls.{Call as PeerCall}
-use Rattle.serving.specs.Passes.{AreCallsOf, GivesUnnoted, PassCalls, Passing, all_calls, by_pass, told_by}
+use Rattle.server_one_thread.specs.Passes.{AreCallsOf, GivesUnnoted, PassCalls, Passing, all_calls, by_pass, told_by}
 use Rattle.dvvstore.specs.Asides.{AreGathered}
-use Rattle.loading.specs.declared.beginning.Passes.{Passes}
+use Rattle.kept_restore.specs.declared.beginning.Passes.{Passes}
 use Rattle.dvvstore.specs.Visits.{AfterVisits, AreVisits, HasLed, HasVisited, HaveVisited, IsVisit, Leads, begun, told_with}
 
 -- ---- turn by turn

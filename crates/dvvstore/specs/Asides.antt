@@ -1,10 +1,10 @@
 -- What is done beside workers.
 use Rattle.std.specs.Prelude.{◌≡◌, ◌++◌, ◌∷◌, ℕ, List, [], Option, Some, None}
 use Rattle.journal.specs.Logs.{Log}
-use Rattle.stamps.specs.declared.view.Told.{Told}
-use Rattle.stamps.specs.declared.view.View.{View}
-use Rattle.vnode_locks.specs.Gathers.{IsGathered}
-use Rattle.loading.specs.declared.beginning.Passes.{Passes}
+use Rattle.cluster_stamps.specs.declared.view.Told.{Told}
+use Rattle.cluster_stamps.specs.declared.view.View.{View}
+use Rattle.cluster_vnode.specs.Gathers.{IsGathered}
+use Rattle.kept_restore.specs.declared.beginning.Passes.{Passes}
 
 -- a pass was told more, behind what it was told before
 abbrev pub Grows : View → View → Type 0

@@ -1,7 +1,7 @@
 -- Workers over one cluster: where their keys stand (this store's profile).
 use Rattle.std.specs.Prelude.{◌≡◌, List, None}
 use Rattle.std.specs.List.{All}
-use Rattle.place.specs.Places.{PlacementView}
+use Rattle.ring.specs.Places.{PlacementView}
 
 -- keys stand at three vnodes, each at the place that its digest names
 abbrev pub by_digest : PlacementView

@@ -5,12 +5,12 @@ use Rattle.commands.specs.Command.{begun}
 use Rattle.commands.specs.Outcome.{line}
 use Rattle.commands.specs.declared.server.Ended.{Ended}
 use Rattle.commands.specs.declared.server.Ended.TheVariants as ended
-use Rattle.closing.specs.Following.{IsSaidOf}
-use Rattle.keeping.specs.declared.file.KeptFile.{KeptFile}
-use Rattle.keeping.specs.Files.{records_at}
-use Rattle.loading.specs.Beginnings.{BeginWithFiles, fronts_to}
-use Rattle.loading.specs.Loads.{HasLoaded}
-use Rattle.stamps.specs.declared.view.View.{View}
+use Rattle.audit_cluster.specs.Following.{IsSaidOf}
+use Rattle.kept_file.specs.declared.file.KeptFile.{KeptFile}
+use Rattle.kept_file.specs.Files.{records_at}
+use Rattle.kept_restore.specs.Beginnings.{BeginWithFiles, fronts_to}
+use Rattle.kept_restore.specs.Loads.{HasLoaded}
+use Rattle.cluster_stamps.specs.declared.view.View.{View}
 use Rattle.dvvstore.specs.declared.crew.running.Served.{Served}
 use Rattle.dvvstore.specs.declared.keeper.Begun.{Begun}
 use Rattle.dvvstore.specs.declared.session.Stay.{Stay}

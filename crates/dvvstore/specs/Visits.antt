@@ -1,25 +1,25 @@
 -- What the workers of a crew do to the vnodes, by the passes of their seats (this store's profile).
 use Rattle.std.specs.Prelude.{◌≡◌, ℕ, List, [], ◌∷◌, ◌++◌, Option, Result}
-use Rattle.bpfimage.specs.declared.image.ImageKind.{ImageKind}
-use Rattle.verifier.specs.Program.{Program}
-use Rattle.helpers.specs.declared.sig.Entry.{Entry}
-use Rattle.hooks.specs.Changes.{Change}
-use Rattle.hooks.specs.declared.fault.HookFault.{HookFault}
-use Rattle.hooks.specs.declared.fault.NameFault.{NameFault}
-use Rattle.hooks.specs.declared.fault.NotSeen.{NotSeen}
-use Rattle.httpask.specs.declared.ask.Call.{Call}
-use Rattle.httpreply.specs.declared.reply.Reply.{Reply}
-use Rattle.hall.specs.Halls.{AllStand, HallStands, Log, all_parts}
-use Rattle.hall.specs.Sockets.{Sockets}
-use Rattle.hall.specs.declared.seat.Seat.{Seat}
-use Rattle.place.specs.Places.{PlacementView, copies_of}
-use Rattle.sockets.specs.Work.{seats_of, shows}
-use Rattle.sockets.specs.declared.worker.Worker.{Worker}
-use Rattle.stamps.specs.declared.view.Size.{Size}
-use Rattle.stamps.specs.declared.view.Told.{Told}
-use Rattle.stamps.specs.declared.view.View.{View}
-use Rattle.store.specs.View.{StoreView, shown}
-use Rattle.serving.specs.Passes.{AreCallsOf, GivesUnnoted, PassCalls, Passing, all_calls, told_by}
+use Rattle.bpf_image.specs.declared.image.ImageKind.{ImageKind}
+use Rattle.bpf_verifier.specs.Program.{Program}
+use Rattle.bpf_helpers.specs.declared.sig.Entry.{Entry}
+use Rattle.hook_registry.specs.Changes.{Change}
+use Rattle.hook_registry.specs.declared.fault.HookFault.{HookFault}
+use Rattle.hook_registry.specs.declared.fault.NameFault.{NameFault}
+use Rattle.hook_registry.specs.declared.fault.NotSeen.{NotSeen}
+use Rattle.http_request.specs.declared.ask.Call.{Call}
+use Rattle.http_response.specs.declared.reply.Reply.{Reply}
+use Rattle.http_connections.specs.Halls.{AllStand, HallStands, Log, all_parts}
+use Rattle.http_connections.specs.Sockets.{Sockets}
+use Rattle.http_connections.specs.declared.seat.Seat.{Seat}
+use Rattle.ring.specs.Places.{PlacementView, copies_of}
+use Rattle.server_sockets.specs.Work.{seats_of, shows}
+use Rattle.server_sockets.specs.declared.worker.Worker.{Worker}
+use Rattle.cluster_stamps.specs.declared.view.Size.{Size}
+use Rattle.cluster_stamps.specs.declared.view.Told.{Told}
+use Rattle.cluster_stamps.specs.declared.view.View.{View}
+use Rattle.server_store.specs.View.{StoreView, shown}
+use Rattle.server_one_thread.specs.Passes.{AreCallsOf, GivesUnnoted, PassCalls, Passing, all_calls, told_by}
 
 -- a store as it begins on so many vnodes, as a pass shows it: what the pass knows, the hooks, the helpers that these may call, and where keys stand
 abbrev pub begun : {H : Type 0} → Size → View → H → List Entry → PlacementView → StoreView Passing H

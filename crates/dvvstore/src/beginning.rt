@@ -1,14 +1,14 @@
 //! How the vnodes of a store take over what a folder held, while that is followed.
 
 ghost use Rattle.std.specs.Prelude.{◌≡◌, IfOk};
-ghost use Rattle.loading.specs.Beginnings.{HaveLoaded};
+ghost use Rattle.kept_restore.specs.Beginnings.{HaveLoaded};
 
 use crate::crew::Lookout;
 use crate::crew::reporter::Aloud;
-use closing::Spot;
-use keeping::KeptFile;
-use loading::{Passes, Throttle, Unloaded, load_all};
-use pool::{Cluster, Room};
+use audit_cluster::Spot;
+use cluster::{Cluster, Room};
+use kept_file::KeptFile;
+use kept_restore::{Passes, Throttle, Unloaded, load_all};
 use std::alloc::Global;
 use std::sync::Wait;
 use std::sync::atomic::AtomicBool;

@@ -13,12 +13,12 @@ use crate::session;
 use crate::session::{Left, Making, Tenant};
 use crate::start::start_at;
 use crate::system_folder::{SystemFolder, take};
-use closing::Closed;
+use audit_cluster::Closed;
+use audit_faults::{Followed, WatchFault};
+use bpf_helpers::Table;
 use commands::server::{Ended, Server, Site, Unserved};
-use findings::{Followed, WatchFault};
-use folder::{Folder, OpenFault, Opened, keep_all};
-use helpers::Table;
-use listener::{Setup, open};
+use kept_folder::{Folder, OpenFault, Opened, keep_all};
+use server_accept::{Setup, open};
 use std::alloc::Global;
 use std::fmt::Display;
 use std::io;
@@ -148,7 +148,7 @@ impl<
             Err(why) => return Err(refused(alloc, out, &why)),
         };
         let mut folder = SystemFolder::at(self.files, alloc, site.folder);
-        let opened = match folder::open(alloc, self.rt, &mut folder) {
+        let opened = match kept_folder::open(alloc, self.rt, &mut folder) {
             Ok(opened) => opened,
             Err(OpenFault::NoMemory) => return Err(Unserved::NoMemory),
             Err(why) => return Err(refused(alloc, out, &why)),

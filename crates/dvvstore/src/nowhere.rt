@@ -1,6 +1,6 @@
 //! The folder of a store that is forgotten.
 
-use folder::{FileFault, Folder};
+use kept_folder::{FileFault, Folder};
 use std::alloc::Global;
 use std::fs;
 

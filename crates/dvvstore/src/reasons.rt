@@ -21,7 +21,7 @@ pub fn reasoned<T>(err: Stderr, name: &str, came: io::Result<T>) -> io::Result<T
     came
 }
 
-/// Binds an address as [`listener::listen`] does. Where it can't be bound, why is told first.
+/// Binds an address as [`server_accept::listen`] does. Where it can't be bound, why is told first.
 pub fn listen<R: Net, O: Write>(
     rt: &R,
     addr: &str,
@@ -30,7 +30,7 @@ pub fn listen<R: Net, O: Write>(
 ) -> io::Result<TcpListener>
     ensures { OnOk result ((bound : List ℕ) × Appends (O.contents out.old) (O.contents out.new) (codes "listening " ++ bound ++ 10 ∷ [])) }
 {
-    let came = listener::listen(rt, addr, out);
+    let came = server_accept::listen(rt, addr, out);
     if is_of_output(&came) {
         came
     } else {

@@ -8,18 +8,18 @@ mod stride;
 use crate::crew::Signs;
 use crate::saver::stride::{Stride, is_serving};
 use abreast::join_three;
-use folder::{Folder, Unreplaced, WriteFault, keep_requests, keep_served};
-use keeping::{SnapshotFault, Subject};
-use listener::Timer;
-use loading::Passes;
-use pool::{Cluster, Open, Pass, Room};
+use cluster::{Cluster, Open, Pass, Room};
+use cluster_peers::PassPeers;
+use cluster_peers::laws::calls_only_add;
+use kept_file::{SnapshotFault, Subject};
+use kept_folder::{Folder, Unreplaced, WriteFault, keep_requests, keep_served};
+use kept_restore::Passes;
+use server_accept::Timer;
 use std::alloc::Global;
 use std::io::{Eprint, Stderr};
 use std::sync::Wait;
 use std::thread::Threads;
 use std::time::Duration;
-use workers::PassPeers;
-use workers::laws::calls_only_add;
 
 /// How long it waits before it looks again whether a snapshot is due or asked for, in milliseconds.
 const TICK: u64 = 100;

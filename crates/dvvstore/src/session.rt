@@ -1,30 +1,30 @@
 //! The store of several workers, from its opening to what is left of it.
 
 ghost use Rattle.std.specs.Prelude.{◌≡◌, ◌+◌, ◌<◌, ◌≤◌, ◌^◌, [], All, IfOk, map, reverse, vec_len};
-ghost use Rattle.shared_hooks.specs.Lists.{list_of};
-ghost use Rattle.stamps.specs.Rule.{newcomer};
-ghost use Rattle.vnode_locks.specs.Calls.{pass_view};
+ghost use Rattle.hook_sharing.specs.Lists.{list_of};
+ghost use Rattle.cluster_stamps.specs.Rule.{newcomer};
+ghost use Rattle.cluster_vnode.specs.Calls.{pass_view};
 ghost use Rattle.dvvstore.specs.Crews.{AreAllPlaced};
 ghost use Rattle.dvvstore.specs.Keeping.{HasBegunRight, HasBegunWith, Leaves, Tells, files_for, files_of, passes_for, passes_of};
 
 use crate::crew::{Lookout, Seat, Served};
 use crate::keeper::{Begun, Keeper, Unbegun};
 use crate::{beginning, crew, keeper};
-use closing::{Spot, Watch};
-use findings::Followed;
-use folder::Folder;
+use audit_cluster::{Spot, Watch};
+use audit_faults::Followed;
+use bpf_helpers::Table;
+use cluster::{Cluster, Pass, Room};
+use cluster_stamps::{Card, Size, Stamps};
 use fronts::Naming;
-use helpers::Table;
-use hooks::{HookChanges, Hooks};
-use keeping::KeptFile;
+use hook_registry::{HookChanges, Hooks};
+use hook_sharing::{Ground, HookReader, Installer, Opening, Rack};
+use kept_file::KeptFile;
+use kept_folder::Folder;
 use kept_hooks::Requests;
-use listener::Lobby;
-use loading::{Passes, fronts_of};
-use place::Placement;
-use pool::{Cluster, Pass, Room};
+use kept_restore::{Passes, fronts_of};
 use quorum::Hooking;
-use shared_hooks::{Ground, HookReader, Installer, Opening, Rack};
-use stamps::{Card, Size, Stamps};
+use ring::Placement;
+use server_accept::Lobby;
 use std::alloc::{AllocError, Global};
 use std::hash::BuildHasher as _;
 use std::io::{Stderr, Write};

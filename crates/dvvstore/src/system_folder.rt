@@ -1,6 +1,6 @@
 //! The folder of a store that is kept, in the system's files.
 
-use folder::{FileFault, Folder};
+use kept_folder::{FileFault, Folder};
 use std::alloc::{AllocError, Global};
 use std::io::{ErrorKind, Read as _};
 use std::{fs, io};

@@ -8,17 +8,17 @@ use crate::keeper::Unbegun;
 use crate::nowhere::Nowhere;
 use crate::session;
 use crate::session::{Left, Making, Tenant};
-use code_parts::expect;
-use findings::{Followed, WatchFault};
-use helpers::Table;
-use listener::{Lobby, Setup, open};
+use audit_faults::{Followed, WatchFault};
+use bpf_helpers::Table;
 use mio::net::TcpListener;
+use server_accept::{Lobby, Setup, open};
 use std::alloc::{AllocError, Global};
 use std::io::{Read as _, Write as _};
 use std::net::{Ipv4Addr, Net, SocketAddr, TcpListener as StdListener, TcpStream};
 use std::test::Fail;
 use std::time::Duration;
 use std::{io, thread};
+use test_support::expect;
 use vnode::Seed;
 
 /// How many clients there are, each with a connection of its own.

@@ -1,20 +1,20 @@
 //! Programs run as verified code, and driven step by step.
 
 ghost use Rattle.std.specs.Prelude.{◌≤◌, length};
-ghost use Rattle.helpers.specs.Entries.{AgreesWith};
+ghost use Rattle.bpf_helpers.specs.Entries.{AgreesWith};
 
 use crate::asking::ask;
-use admission::admit_program;
+use audit_faults::Followed;
+use bpf_admission::admit_program;
+use bpf_helpers::Table;
+use bpf_interpreter::{State, Stop, drive, padded, run};
+use bpf_semantics::Windows;
+use bpf_verifier::Verified;
 use commands::files::Files;
 use commands::server::{Ended, Server, Site, Unserved};
-use findings::Followed;
-use helpers::Table;
-use machine::{State, Stop, drive, padded, run};
-use memory::Windows;
 use std::alloc::{AllocError, Global};
 use std::io;
 use std::io::Write;
-use verifier::Verified;
 
 /// At most how many steps a program takes: it has no more slots, and runs none of them twice.
 const FUEL: u64 = 4096;

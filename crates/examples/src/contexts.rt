@@ -1,11 +1,11 @@
 //! Causal contexts: clocks as text.
 
 use crate::clocks::tell_clock;
+use context_token::{TokenFault, read, read_bytes, write, write_to};
 use dvv::Clock;
 use std::alloc::{AllocError, Global};
 use std::io::Write;
 use std::{io, str};
-use token::{TokenFault, read, read_bytes, write, write_to};
 
 /// Tells the clock that bytes spell, its text, and whether it is written as these bytes; or why they are no context.
 pub fn tell_context(alloc: Global, bytes: &[u8], told: &mut Vec<u8>) -> io::Result<()> {

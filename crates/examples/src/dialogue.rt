@@ -6,18 +6,18 @@ ghost use Rattle.commands.specs.Command.{Listened};
 use crate::asking::ask;
 use crate::folder::{Folder, read_ending};
 use crate::texts::first_difference;
+use audit_faults::{Followed, WatchFault};
+use bpf_helpers::Table;
 use commands::files::Files;
 use commands::server::{Ended, Server, Site, Unserved};
-use findings::{Followed, WatchFault};
-use helpers::Table;
-use hooks::Registry;
-use httpfront::Backend;
+use hook_registry::Registry;
+use http_connection::Backend;
 use local::Local;
-use serving::{answers_to, one_thread};
+use server_one_thread::{answers_to, one_thread};
+use server_store::Store;
 use std::alloc::{AllocError, Global};
 use std::io::Write;
 use std::{io, rt};
-use store::Store;
 
 /// What stands between two connections of a file: the separator of records.
 pub const SEPARATOR: u8 = 0x1e;

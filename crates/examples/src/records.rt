@@ -1,14 +1,14 @@
 //! Records: the states of keys as bytes.
 
-ghost use Rattle.wire.specs.Records.{IsRecord};
+ghost use Rattle.record_codec.specs.Records.{IsRecord};
 
 use crate::clocks::tell_clock;
 use dvv::Dot;
-use object::{Content, Key, Sibling};
+use key_state::{Content, Key, Sibling};
+use record_codec::{Record, has_record, read_record, write_record};
 use std::alloc::{AllocError, Global};
 use std::io;
 use std::io::Write;
-use wire::{Record, has_record, read_record, write_record};
 
 /// At most so many bytes of a name or a value are told.
 const SHOWN: usize = 16;

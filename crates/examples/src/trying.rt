@@ -11,10 +11,10 @@ use crate::trials::try_trials;
 use crate::turns::try_turns;
 use commands::files::Files;
 use commands::server::Offline;
+use record_codec::WireFault;
 use std::alloc::Global;
 use std::io::Write;
 use std::{fs, io, rt};
-use wire::WireFault;
 
 /// Tells of each example what it comes to.
 pub fn try_all<R: rt::Files + AllocGlobal>(rt: &R, told: &mut Vec<u8>) -> io::Result<()> {

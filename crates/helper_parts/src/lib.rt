@@ -3,11 +3,11 @@
 #![tactic(auto)]
 
 ghost use Rattle.std.specs.Prelude.{◌≡◌, ◌≤◌, length, max};
-ghost use Rattle.helpers.specs.Answers.{IsCallableOn, AnswersOn};
-ghost use Rattle.helpers.specs.Layout.{newest_of};
-ghost use Rattle.helpers.specs.Text.{order_of, place_of, spelled};
+ghost use Rattle.bpf_helpers.specs.Answers.{IsCallableOn, AnswersOn};
+ghost use Rattle.bpf_helpers.specs.Layout.{newest_of};
+ghost use Rattle.bpf_helpers.specs.Text.{order_of, place_of, spelled};
 
-use helpers::{ArgRule, Body, Helper, Sig, decimal, find, newest, order};
+use bpf_helpers::{ArgRule, Body, Helper, Sig, decimal, find, newest, order};
 
 /// Any number.
 pub const ANY: ArgRule = ArgRule::Num {

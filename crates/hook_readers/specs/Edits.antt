@@ -2,12 +2,12 @@
 use Rattle.std.specs.Prelude.{◌≡◌, ℕ, List, map, Option, Result, IfOk, OnErr}
 use Rattle.std.specs.Arc.{arc_value}
 use mathlib.Core.List.{IsPrefix}
-use Rattle.bpfimage.specs.declared.image.ImageKind.{ImageKind}
-use Rattle.verifier.specs.Program.{Program}
-use Rattle.hooks.specs.declared.fault.NotSeen.{NotSeen}
-use Rattle.hooks.specs.declared.fault.NameFault.{NameFault}
-use Rattle.hooks.specs.Changes as hooks
-use Rattle.hooks.specs.Changes.{Change, hook_at, bound_at}
+use Rattle.bpf_image.specs.declared.image.ImageKind.{ImageKind}
+use Rattle.bpf_verifier.specs.Program.{Program}
+use Rattle.hook_registry.specs.declared.fault.NotSeen.{NotSeen}
+use Rattle.hook_registry.specs.declared.fault.NameFault.{NameFault}
+use Rattle.hook_registry.specs.Changes as hooks
+use Rattle.hook_registry.specs.Changes.{Change, hook_at, bound_at}
 use Rattle.hook_readers.specs.declared.edit.Edit.{Edit}
 use Rattle.hook_readers.specs.declared.edit.Edit.TheVariants.{Install, Remove, Bind}
 

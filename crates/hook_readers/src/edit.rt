@@ -1,9 +1,9 @@
 //! One change.
 
-use bpfimage::ImageKind;
-use object::Bytes;
+use bpf_image::ImageKind;
+use bpf_verifier::Verified;
+use key_state::Bytes;
 use std::sync::Arc;
-use verifier::Verified;
 
 /// A change that is kept until each copy of the registry has taken it in.
 #[derive(Drop)]

@@ -1,13 +1,13 @@
 //! What readers look into, and what changes it.
 
 ghost use Rattle.std.specs.Prelude.{◌≡◌, ◌++◌, ◌∷◌, [], List};
-ghost use Rattle.hooks.specs.Tables.{Shows};
+ghost use Rattle.hook_registry.specs.Tables.{Shows};
 ghost use Rattle.hook_readers.specs.Edits.{changes_of};
 ghost use Rattle.hook_readers.specs.declared.edit.Edit.{Edit as Made};
 
 use crate::edit::Edit;
 use fronts::{Front, Naming};
-use hooks::Registry;
+use hook_registry::Registry;
 use left_right::Absorb;
 use std::marker::Model;
 

@@ -4,19 +4,19 @@ ghost use Rattle.std.specs.Prelude.{◌≡◌, ◌⊎◌, OnErr, IfOk, IfSome};
 ghost use Rattle.std.specs.Option.{option_map};
 ghost use Rattle.std.specs.Arc.{arc_value};
 ghost use mathlib.Core.List.{IsPrefix};
-ghost use Rattle.hooks.specs.Changes.{hook_at, bound_at};
+ghost use Rattle.hook_registry.specs.Changes.{hook_at, bound_at};
 ghost use Rattle.hook_readers.specs.Edits.{changes_of, Finds, Names};
 
 use crate::edit::Edit;
 use crate::rack::Rack;
-use bpfimage::ImageKind;
+use bpf_image::ImageKind;
+use bpf_verifier::Verified;
 use fronts::{Front, Naming};
-use hooks::{Hooks, NameFault, NotSeen};
+use hook_registry::{Hooks, NameFault, NotSeen};
+use key_state::Bytes;
 use left_right::ReadHandle;
-use object::Bytes;
 use std::marker::Model;
 use std::sync::Arc;
-use verifier::Verified;
 
 /// Word of what was published. Contracts see the changes.
 #[derive(Drop)]
@@ -26,7 +26,7 @@ pub struct Note<J: Naming> {
 
 impl<J: Naming> Model for Note<J> {
     ghost use Rattle.std.specs.Prelude.{List};
-    ghost use Rattle.hooks.specs.Changes.{Change};
+    ghost use Rattle.hook_registry.specs.Changes.{Change};
     ghost use Rattle.hook_readers.specs.Edits.{changes_of};
 
     ghost Value = { List Change };
@@ -59,7 +59,7 @@ pub struct HookReader<J: Naming, T: Drop> {
 
 impl<J: Naming, T: Drop> Model for HookReader<J, T> {
     ghost use Rattle.std.specs.Prelude.{List};
-    ghost use Rattle.hooks.specs.Changes.{Change};
+    ghost use Rattle.hook_registry.specs.Changes.{Change};
     ghost use Rattle.hook_readers.specs.Edits.{changes_of};
 
     ghost Value = { List Change };
@@ -108,7 +108,7 @@ impl<J: Naming, T: Rack<J> + Drop> HookReader<J, T> {
         ensures hook { IfOk result (λ hook. option_map arc_value hook ≡ hook_at self.new bucket.now kind) }
         ensures err { OnErr result (self.new ≡ self.old) }
     {
-        hooks::laws::hook_is_of_changes();
+        hook_registry::laws::hook_is_of_changes();
         let Some(guard) = self.handle.enter() else {
             return Err(NotSeen);
         };

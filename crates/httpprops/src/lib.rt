@@ -6,10 +6,10 @@
 
 ghost use Rattle.std.specs.Prelude.{◌≡◌, ℕ, List, option_map, Option, Some, None, IfOk};
 ghost use Rattle.serde_json.specs.View.{view};
-ghost use Rattle.httpask.specs.Props as spec;
+ghost use Rattle.http_request.specs.Props as spec;
 
-use httpask::Change;
-use object::Bytes;
+use http_request::Change;
+use key_state::Bytes;
 use serde_json::Value;
 use std::alloc::{AllocError, Global};
 

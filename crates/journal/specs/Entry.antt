@@ -1,9 +1,9 @@
 -- What happened at a vnode, with the stamp of the event (this store's profile).
 use Rattle.std.specs.Prelude.{ℕ, List}
 use Rattle.dvv.specs.declared.Dot.{Dot}
-use Rattle.object.specs.declared.content.Content.{Content}
-use Rattle.object.specs.declared.content.Key.{Key}
-use Rattle.object.specs.State.{State}
+use Rattle.key_state.specs.declared.content.Content.{Content}
+use Rattle.key_state.specs.declared.content.Key.{Key}
+use Rattle.key_state.specs.State.{State}
 
 -- one event of a vnode
 pub data Entry : Type 0 where

@@ -1,18 +1,18 @@
 -- What calls do to hooks without a store of keys (this store's profile).
 use Rattle.std.specs.Prelude.{List, [], ◌∷◌, ◌++◌, Some, None, Result, Ok}
-use Rattle.bpfimage.specs.declared.image.ImageKind.{ImageKind}
-use Rattle.bpfimage.specs.declared.image.ImageKind.TheVariants.{PreCommit, Resolver}
-use Rattle.helpers.specs.declared.sig.Entry.{Entry}
-use Rattle.verifier.specs.Program.{Program}
-use Rattle.admission.specs.Admissions.{IsLetIn}
-use Rattle.hooks.specs.declared.fault.HookFault.{HookFault}
-use Rattle.hooks.specs.Changes as registry
-use Rattle.httpask.specs.declared.ask.Change.{Change}
-use Rattle.httpask.specs.declared.ask.Change.TheVariants.{Kept, Unbound, Bound}
-use Rattle.httpask.specs.declared.ask.Call.{Call}
-use Rattle.httpask.specs.declared.ask.Call.TheVariants as call
-use Rattle.httpreply.specs.declared.reply.Reply.{Reply}
-use Rattle.httpreply.specs.declared.reply.Reply.TheVariants as reply
+use Rattle.bpf_image.specs.declared.image.ImageKind.{ImageKind}
+use Rattle.bpf_image.specs.declared.image.ImageKind.TheVariants.{PreCommit, Resolver}
+use Rattle.bpf_helpers.specs.declared.sig.Entry.{Entry}
+use Rattle.bpf_verifier.specs.Program.{Program}
+use Rattle.bpf_admission.specs.Admissions.{IsLetIn}
+use Rattle.hook_registry.specs.declared.fault.HookFault.{HookFault}
+use Rattle.hook_registry.specs.Changes as registry
+use Rattle.http_request.specs.declared.ask.Change.{Change}
+use Rattle.http_request.specs.declared.ask.Change.TheVariants.{Kept, Unbound, Bound}
+use Rattle.http_request.specs.declared.ask.Call.{Call}
+use Rattle.http_request.specs.declared.ask.Call.TheVariants as call
+use Rattle.http_response.specs.declared.reply.Reply.{Reply}
+use Rattle.http_response.specs.declared.reply.Reply.TheVariants as reply
 
 -- the binding that a change of one kind makes, if any
 abbrev pub binding_of : ImageKind → Change → List registry.Binding

@@ -2,8 +2,8 @@
 use Rattle.std.specs.Prelude.{ℕ, Bool, true, false, ◌&&◌, if◌then◌else◌, List, [], ◌∷◌, ◌++◌, length, codes, decimal}
 use Rattle.percent_encoding.specs.Percent.{percent_encode}
 use Rattle.percent_encoding.specs.declared.ascii_set.TheConstants.{NON_ALPHANUMERIC}
-use Rattle.httpask.specs.declared.ask.Change.{Change}
-use Rattle.httpask.specs.declared.ask.Change.TheVariants.{Kept, Unbound, Bound}
+use Rattle.http_request.specs.declared.ask.Change.{Change}
+use Rattle.http_request.specs.declared.ask.Change.TheVariants.{Kept, Unbound, Bound}
 
 -- what stands behind a target
 abbrev pub head_end : List ℕ

@@ -3,15 +3,15 @@
 ghost use Rattle.std.specs.Prelude.{◌≡◌, ◌++◌, IfOk, OnOk};
 ghost use Rattle.kept_hooks.specs.Alone.{Changes, binding_of, bindings_of};
 
-use admission::{Refusal, admit_image};
-use bpfimage::ImageKind;
+use bpf_admission::{Refusal, admit_image};
+use bpf_helpers::Sigs;
+use bpf_image::ImageKind;
 use dvv::{Clock, Dot};
-use helpers::Sigs;
-use hooks::{HookChanges, HookFault, NameFault};
-use httpask::Change;
-use httpfront::Backend;
-use httpreply::Bound;
-use object::{Bytes, Content, Key, KeyState};
+use hook_registry::{HookChanges, HookFault, NameFault};
+use http_connection::Backend;
+use http_request::Change;
+use http_response::Bound;
+use key_state::{Bytes, Content, Key, KeyState};
 use quorum::QuorumFault;
 use std::alloc::{AllocError, Global};
 use std::sync::Arc;

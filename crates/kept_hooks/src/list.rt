@@ -4,9 +4,9 @@ ghost use Rattle.std.specs.Prelude.{◌≡◌, ◌++◌, [], true, false, IfOk, 
 ghost use Rattle.kept_hooks.specs.Lists.{IsAdded};
 ghost use Rattle.kept_hooks.specs.Spelling as spec;
 
-use httpask::Change;
+use http_request::Change;
 use itoa::Buffer;
-use object::Bytes;
+use key_state::Bytes;
 use percent_encoding::{NON_ALPHANUMERIC, percent_encode};
 use std::alloc::{AllocError, Global};
 use std::marker::Model;

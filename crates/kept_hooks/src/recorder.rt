@@ -3,20 +3,20 @@
 ghost use Rattle.std.specs.Prelude.{◌≡◌};
 
 use crate::list::Requests;
-use admission::Refusal;
+use bpf_admission::Refusal;
 use dvv::{Clock, Dot};
-use hooks::{HookChanges, HookFault, Hooks, NameFault};
-use httpask::Change;
-use httpfront::Backend;
-use httpreply::Bound;
-use object::{Bytes, Content, Key, KeyState};
+use hook_registry::{HookChanges, HookFault, Hooks, NameFault};
+use http_connection::Backend;
+use http_request::Change;
+use http_response::Bound;
+use key_state::{Bytes, Content, Key, KeyState};
 use peers::Peers;
 use quorum::QuorumFault;
+use server_log::Noted;
+use server_store::NotingBackend;
 use std::sync::atomic::AtomicBool;
 use std::sync::atomic::Ordering::SeqCst;
 use std::sync::{Mutex, Wait};
-use store::NotingBackend;
-use troubles::Noted;
 
 /// A store that writes down which requests changed its hooks, in a list that it shares with other stores of the same hooks.
 ///

@@ -1,10 +1,10 @@
 //! Requests that are served to the store which begins from them.
 
 ghost use Rattle.std.specs.Prelude.{◌≡◌, ◌++◌, ℕ, List, [], Some, IfOk, OnOk};
-ghost use Rattle.httpfront.specs.Dialogue.{Completes};
+ghost use Rattle.http_connection.specs.Dialogue.{Completes};
 ghost use Rattle.kept_hooks.specs.Replays.{no_contents};
 
-use httpfront::{Backend, FailSink, FailSource, Front, FrontFault};
+use http_connection::{Backend, FailSink, FailSource, Front, FrontFault};
 use std::alloc::{AllocError, Global};
 use thiserror::Error;
 

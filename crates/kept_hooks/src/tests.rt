@@ -1,10 +1,10 @@
 //! Requests that are served are those that were written down.
 
 use crate::{HooksAlone, Recorder, Requests, replay};
-use helpers::Sigs;
-use hooks::Registry;
-use httpask::Change;
-use object::Bytes;
+use bpf_helpers::Sigs;
+use hook_registry::Registry;
+use http_request::Change;
+use key_state::Bytes;
 use std::alloc::{AllocError, Global};
 use std::sync::Mutex;
 use std::test::Fail;

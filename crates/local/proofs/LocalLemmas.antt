@@ -1,9 +1,9 @@
 -- One vnode more, and what calls keep.
 use Rattle.std.proofs.Common.{◌≡◌, ℕ, zero, suc, ◌+◌, List, [], ◌∷◌, ◌++◌, ap, ◌∙◌, sym, subst, arith, length, refl, Option, Some, None, Bool, true, false, MatchBool, if◌then◌else◌, Result, Err, is_ok, slice_get}
 use Rattle.std.proofs.lemmas.List.{length-set}
-use Rattle.object.specs.declared.content.Key.{Key}
-use Rattle.object.specs.State.{State}
-use Rattle.object.specs.Parts.{Partial, lacks_some, whole_of}
+use Rattle.key_state.specs.declared.content.Key.{Key}
+use Rattle.key_state.specs.State.{State}
+use Rattle.key_state.specs.Parts.{Partial, lacks_some, whole_of}
 use Rattle.journal.specs.Entry.{Entry, Merge}
 use Rattle.journal.specs.Answers.{TellsChange}
 use Rattle.journal.specs.Limits.{AcceptsMerge}

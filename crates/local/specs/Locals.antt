@@ -3,10 +3,10 @@ use Rattle.std.specs.Prelude.{◌≡◌, ℕ, zero, suc, ◌+◌, ◌*◌, ◌-�
 use Rattle.std.specs.List.{list_any}
 use Rattle.std.specs.Global.{Vec}
 use Rattle.dvv.specs.declared.Dot.{Dot}
-use Rattle.object.specs.declared.content.Content.{Content}
-use Rattle.object.specs.declared.content.Key.{Key}
-use Rattle.object.specs.State.{State}
-use Rattle.object.specs.Parts.{Partial, summary_of, lacks_some, whole_of}
+use Rattle.key_state.specs.declared.content.Content.{Content}
+use Rattle.key_state.specs.declared.content.Key.{Key}
+use Rattle.key_state.specs.State.{State}
+use Rattle.key_state.specs.Parts.{Partial, summary_of, lacks_some, whole_of}
 use Rattle.journal.specs.Entry.{Put, Merge, Read}
 use Rattle.journal.specs.Replay.{IsNextDot, IsReplay, Leaves}
 use Rattle.journal.specs.Limits.{TakesEntry, AcceptsPut, AcceptsMerge}

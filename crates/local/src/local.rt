@@ -6,9 +6,9 @@ ghost use Rattle.peers.specs.Calls.{PutAt, MergeAt, StateOf, SummaryAt, MergePar
 ghost use Rattle.local.specs.Locals.{Does, KeysIn, MergesPartIn, fresh, counted};
 
 use dvv::{Clock, Dot};
-use object::{Content, Key, KeyState, Part};
+use key_state::{Content, Key, KeyState, Part};
 use peers::{Answer, PartAnswer, PeerFault, Peers, SummaryAnswer};
-use place::Placement;
+use ring::Placement;
 use std::alloc::{AllocError, Global};
 use std::marker::Model;
 use vnode::{PartFault, Vnode, VnodeFault};
@@ -29,7 +29,7 @@ pub struct Local {
 
 impl Model for Local {
     ghost use Rattle.std.specs.Prelude.{length};
-    ghost use Rattle.place.specs.Places.{IsPlaced};
+    ghost use Rattle.ring.specs.Places.{IsPlaced};
     ghost use Rattle.local.specs.Locals.{LocalView};
 
     ghost Value = { LocalView };

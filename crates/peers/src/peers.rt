@@ -1,11 +1,11 @@
 //! The vnodes, as whoever reaches them: calls, and what came back.
 
 ghost use Rattle.std.specs.Prelude.{◌≡◌, ℕ, IfSome};
-ghost use Rattle.place.specs.Places.{ring_place};
+ghost use Rattle.ring.specs.Places.{ring_place};
 
 use crate::fault::PeerFault;
 use dvv::{Clock, Dot};
-use object::{Content, Key, KeyState, Part, Summary};
+use key_state::{Content, Key, KeyState, Part, Summary};
 
 /// What a vnode's read answered.
 #[derive(Drop)]

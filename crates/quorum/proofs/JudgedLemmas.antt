@@ -2,14 +2,14 @@
 use Rattle.std.proofs.Common.{◌≡◌, ℕ, ◌+◌, ◌≤◌, List, ◌∷◌, length, refl, ap, ◌∙◌, subst, Result, Ok, Err, Option, Some, None, true, inl, inr}
 use Rattle.std.specs.List.{list_any}
 use Rattle.dvv.specs.declared.Dot.{Dot}
-use Rattle.object.specs.declared.content.Content.{Content}
-use Rattle.object.specs.declared.content.Key.{Key}
-use Rattle.verifier.specs.Program.{Program}
-use Rattle.helpers.specs.declared.sig.Entry.{Entry}
-use Rattle.abi.specs.Verdicts.{Meaning, Pass, Write, Reject, Keep, Delete, Take}
-use Rattle.hookrun.specs.declared.deciding.RunFault.{RunFault}
-use Rattle.hookrun.specs.declared.deciding.RunFault.TheVariants.{Disagrees, TooLarge, Bad, NoMemory}
-use Rattle.hooks.specs.declared.fault.NotSeen.{NotSeen}
+use Rattle.key_state.specs.declared.content.Content.{Content}
+use Rattle.key_state.specs.declared.content.Key.{Key}
+use Rattle.bpf_verifier.specs.Program.{Program}
+use Rattle.bpf_helpers.specs.declared.sig.Entry.{Entry}
+use Rattle.hook_abi.specs.Verdicts.{Meaning, Pass, Write, Reject, Keep, Delete, Take}
+use Rattle.hook_run.specs.declared.deciding.RunFault.{RunFault}
+use Rattle.hook_run.specs.declared.deciding.RunFault.TheVariants.{Disagrees, TooLarge, Bad, NoMemory}
+use Rattle.hook_registry.specs.declared.fault.NotSeen.{NotSeen}
 use Rattle.quorum.specs.declared.fault.QuorumFault.{QuorumFault}
 use Rattle.quorum.specs.declared.fault.QuorumFault.TheVariants.{TooFew}
 use Rattle.peers.specs.declared.peers.Answer.{Answer}

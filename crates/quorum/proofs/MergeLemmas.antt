@@ -4,8 +4,8 @@ use Rattle.std.proofs.lemmas.List.{map-append, take_more}
 use Rattle.peers.specs.declared.peers.Answer.{Answer}
 use Rattle.std.proofs.Math.Nat.{lt_of_not-le}
 use Rattle.dvv.specs.Clock.{vnodes_together, most_entries}
-use Rattle.object.specs.declared.content.Key.{Key}
-use Rattle.object.specs.State.{State}
+use Rattle.key_state.specs.declared.content.Key.{Key}
+use Rattle.key_state.specs.State.{State}
 use Rattle.journal.specs.Replay.{IsMergeOf}
 use Rattle.quorum.specs.Gets.{states_of, PassesClock}
 

@@ -1,8 +1,8 @@
 -- States that show their writes do so dot by dot.
 use Rattle.std.proofs.Common.{◌↔◌, List, [], ◌∷◌, ◌++◌}
 use Rattle.std.proofs.lemmas.List.Elements.{Contains-append_left, Contains-append_right}
-use Rattle.object.specs.State.{State}
-use Rattle.object.specs.Known.{Write, Shows, ShowsKnown, AreUnique, NoneSawItself}
+use Rattle.key_state.specs.State.{State}
+use Rattle.key_state.specs.Known.{Write, Shows, ShowsKnown, AreUnique, NoneSawItself}
 use Rattle.journal.specs.Brought.{AllShow, all_writes}
 use Rattle.quorum.specs.Gets.{EachShows}
 

@@ -1,7 +1,7 @@
 -- Which answer a refusal is.
-use Rattle.object.specs.declared.fault.MergeFault as merge
+use Rattle.key_state.specs.declared.fault.MergeFault as merge
 use Rattle.vnode.specs.declared.fault.VnodeFault as vnode
-use Rattle.hookrun.specs.declared.deciding.RunFault as run
+use Rattle.hook_run.specs.declared.deciding.RunFault as run
 use Rattle.peers.specs.declared.fault.PeerFault as peer
 use Rattle.quorum.specs.declared.fault.QuorumFault as quorum
 

@@ -2,9 +2,9 @@
 use Rattle.std.specs.Prelude.{◌≡◌, ℕ, ◌≤◌, ◌<◌, ◌⊎◌, true, List, [], ◌∷◌, ◌++◌, Result, Ok, Err, map, length}
 use Rattle.std.specs.Global.{Vec}
 use Rattle.dvv.specs.Clock.{vnodes_together, most_entries}
-use Rattle.object.specs.declared.content.Key.{Key}
-use Rattle.object.specs.State.{State, is_changed_by}
-use Rattle.object.specs.Known.{Write, Shows}
+use Rattle.key_state.specs.declared.content.Key.{Key}
+use Rattle.key_state.specs.State.{State, is_changed_by}
+use Rattle.key_state.specs.Known.{Write, Shows}
 use Rattle.journal.specs.Replay.{IsMergeOf}
 use Rattle.vnode.specs.declared.fault.VnodeFault.TheVariants.{MergedClockFull, NoMemory}
 use Rattle.peers.specs.declared.peers.Answer.{Answer}

@@ -1,18 +1,18 @@
 -- A put with its bucket's pre-commit hook in front (Riak KV documentation, pre-commit hooks; this store's profile).
 use Rattle.std.specs.Prelude.{◌≡◌, ℕ, ◌⊎◌, List, [], ◌∷◌, Option, Some, None, Result, Ok, Err}
 use Rattle.dvv.specs.declared.Dot.{Dot}
-use Rattle.object.specs.declared.content.Key.{Key}
-use Rattle.object.specs.declared.content.Content.{Content}
-use Rattle.object.specs.declared.content.Content.TheVariants.{Value, Tombstone}
+use Rattle.key_state.specs.declared.content.Key.{Key}
+use Rattle.key_state.specs.declared.content.Content.{Content}
+use Rattle.key_state.specs.declared.content.Content.TheVariants.{Value, Tombstone}
 use Rattle.vnode.specs.declared.fault.VnodeFault.TheVariants.{NoMemory}
-use Rattle.verifier.specs.Program.{Program}
-use Rattle.helpers.specs.declared.sig.Entry.{Entry}
-use Rattle.abi.specs.declared.answer.BadAnswer.TheVariants.{UnknownCode}
-use Rattle.abi.specs.Verdicts.{Meaning, Pass, Write, Reject, Keep, Delete, Take}
-use Rattle.abi.specs.Written.{octet_stream}
-use Rattle.hookrun.specs.declared.deciding.RunFault.{RunFault}
-use Rattle.hookrun.specs.Decisions.{IsDecision}
-use Rattle.hooks.specs.declared.fault.NotSeen.{NotSeen}
+use Rattle.bpf_verifier.specs.Program.{Program}
+use Rattle.bpf_helpers.specs.declared.sig.Entry.{Entry}
+use Rattle.hook_abi.specs.declared.answer.BadAnswer.TheVariants.{UnknownCode}
+use Rattle.hook_abi.specs.Verdicts.{Meaning, Pass, Write, Reject, Keep, Delete, Take}
+use Rattle.hook_abi.specs.Written.{octet_stream}
+use Rattle.hook_run.specs.declared.deciding.RunFault.{RunFault}
+use Rattle.hook_run.specs.Decisions.{IsDecision}
+use Rattle.hook_registry.specs.declared.fault.NotSeen.{NotSeen}
 use Rattle.peers.specs.declared.peers.Answer.{Answer}
 use Rattle.peers.specs.declared.fault.PeerFault.{PeerFault}
 use Rattle.quorum.specs.declared.fault.QuorumFault.{QuorumFault}

@@ -1,17 +1,17 @@
 -- What a bucket's resolver makes of a get that found several siblings (this store's profile).
 use Rattle.std.specs.Prelude.{◌≡◌, ℕ, ◌%◌, ◌<◌, ◌⊎◌, ◌==◌, not, Bool, List, [], ◌∷◌, ◌++◌, Option, Some, None, Result, Ok, Err, map, filter, length, nat_le, MatchBool, MatchResult}
 use Rattle.dvv.specs.declared.Dot.{Dot}
-use Rattle.object.specs.declared.content.Key.{Key}
-use Rattle.object.specs.declared.content.Content.{Content}
-use Rattle.object.specs.declared.content.Sibling.{Sibling}
-use Rattle.object.specs.State.{State}
-use Rattle.verifier.specs.Program.{Program}
-use Rattle.helpers.specs.declared.sig.Entry.{Entry}
-use Rattle.hookrun.specs.declared.resolving.Resolution.{Resolution}
-use Rattle.hookrun.specs.declared.resolving.Resolution.TheVariants as resolution
-use Rattle.hookrun.specs.declared.resolving.Unresolved.{Unresolved}
-use Rattle.hookrun.specs.Resolving.{IsResolution, IsUnresolved, chosen_by}
-use Rattle.hooks.specs.declared.fault.NotSeen.{NotSeen}
+use Rattle.key_state.specs.declared.content.Key.{Key}
+use Rattle.key_state.specs.declared.content.Content.{Content}
+use Rattle.key_state.specs.declared.content.Sibling.{Sibling}
+use Rattle.key_state.specs.State.{State}
+use Rattle.bpf_verifier.specs.Program.{Program}
+use Rattle.bpf_helpers.specs.declared.sig.Entry.{Entry}
+use Rattle.hook_run.specs.declared.resolving.Resolution.{Resolution}
+use Rattle.hook_run.specs.declared.resolving.Resolution.TheVariants as resolution
+use Rattle.hook_run.specs.declared.resolving.Unresolved.{Unresolved}
+use Rattle.hook_run.specs.Resolving.{IsResolution, IsUnresolved, chosen_by}
+use Rattle.hook_registry.specs.declared.fault.NotSeen.{NotSeen}
 use Rattle.peers.specs.declared.peers.Answer.{Answer}
 use Rattle.peers.specs.declared.fault.PeerFault.{PeerFault}
 use Rattle.quorum.specs.declared.fault.ResolveFault.{ResolveFault}

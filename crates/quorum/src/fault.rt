@@ -1,8 +1,8 @@
 //! Why a get or a put gives no answer.
 
-use abi::BadAnswer;
-use hookrun::{RunFault, Unresolved};
-use object::MergeFault;
+use hook_abi::BadAnswer;
+use hook_run::{RunFault, Unresolved};
+use key_state::MergeFault;
 use peers::PeerFault;
 use std::alloc::AllocError;
 use thiserror::Error;

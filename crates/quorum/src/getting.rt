@@ -1,19 +1,19 @@
 //! A get: each vnode of the list is read, and what came is merged.
 
 ghost use Rattle.std.specs.Prelude.{◌≡◌, ◌+◌, ◌≤◌, ◌<◌, ℕ, [], List, length, IfOk, OnOk, Result, Err, vec_capacity};
-ghost use Rattle.object.specs.declared.content.Key.{Key as StoredKey};
-ghost use Rattle.object.specs.Known.{Write, AreUnique, NoneSawItself, Shows, ShowsKnown};
+ghost use Rattle.key_state.specs.declared.content.Key.{Key as StoredKey};
+ghost use Rattle.key_state.specs.Known.{Write, AreUnique, NoneSawItself, Shows, ShowsKnown};
 ghost use Rattle.journal.specs.Replay.{IsMergeOf};
 ghost use Rattle.journal.specs.Brought.{AllShow, all_writes};
 ghost use Rattle.peers.specs.declared.peers.Answer.{Answer as Answered};
 ghost use Rattle.peers.specs.declared.fault.PeerFault.{PeerFault};
 ghost use Rattle.peers.specs.Calls.{Made};
 ghost use Rattle.peers.specs.Counts.{HasRisen};
-ghost use Rattle.place.specs.Places.{AreDifferent};
+ghost use Rattle.ring.specs.Places.{AreDifferent};
 ghost use Rattle.quorum.specs.Gets.{reads, answers, states_of, PassesClock, MayLackMemory, EachShows, GetsAnswer};
 
 use crate::fault::QuorumFault;
-use object::{Key, KeyState, MergeFault};
+use key_state::{Key, KeyState, MergeFault};
 use peers::{Answer, Peers};
 use std::alloc::Global;
 
@@ -45,7 +45,7 @@ pub fn get<P: Peers>(
     ensures origin { P.origin peers.new ≡ P.origin peers.old }
 {
     journal::laws::merges_are_current();
-    object::laws::forms_agree();
+    key_state::laws::forms_agree();
     let mut found = Vec::with_capacity(alloc, vnodes.len())?;
     read_all(peers, key, vnodes, &mut found);
     if found.len() < r {

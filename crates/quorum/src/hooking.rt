@@ -1,23 +1,23 @@
 //! What a bucket's hooks make of the siblings of a key.
 
 ghost use Rattle.std.specs.Prelude.{◌≡◌, List, Option, Some, None, Result, Ok, Err, IfOk, MatchResult};
-ghost use Rattle.abi.specs.Verdicts.{Meaning, meaning_of};
-ghost use Rattle.hookrun.specs.declared.deciding.RunFault.{RunFault as Failure};
-ghost use Rattle.hookrun.specs.Decisions.{IsDecision};
-ghost use Rattle.hookrun.specs.Resolving.{IsResolution, IsUnresolved};
-ghost use Rattle.hooks.specs.Tables.{programs_of};
+ghost use Rattle.hook_abi.specs.Verdicts.{Meaning, meaning_of};
+ghost use Rattle.hook_run.specs.declared.deciding.RunFault.{RunFault as Failure};
+ghost use Rattle.hook_run.specs.Decisions.{IsDecision};
+ghost use Rattle.hook_run.specs.Resolving.{IsResolution, IsUnresolved};
+ghost use Rattle.hook_registry.specs.Tables.{programs_of};
 ghost use Rattle.quorum.specs.Judged.{Judges, or_same, rewritten};
 
 use crate::fault::QuorumFault;
-use abi::{BadAnswer, Verdict, octet_stream};
-use bpfimage::ImageKind;
-use helpers::Table;
-use hookrun::{Resolution, Room, Unresolved, decide};
-use hooks::{Hooks, NotSeen};
-use object::{Bytes, Content, Key, Sibling};
+use bpf_helpers::Table;
+use bpf_image::ImageKind;
+use bpf_verifier::Verified;
+use hook_abi::{BadAnswer, Verdict, octet_stream};
+use hook_registry::{Hooks, NotSeen};
+use hook_run::{Resolution, Room, Unresolved, decide};
+use key_state::{Bytes, Content, Key, Sibling};
 use std::alloc::{AllocError, Global};
 use std::sync::Arc;
-use verifier::Verified;
 
 /// What the hooks of buckets are found and run with.
 #[derive(Drop)]
@@ -83,7 +83,7 @@ impl<H> Hooking<H> {
         ensures hooks { self.new.hooks ≡ self.old.hooks }
         ensures table { self.new.table ≡ self.old.table }
     {
-        hookrun::resolve(self.alloc, &mut self.room, hook, &self.table, siblings)
+        hook_run::resolve(self.alloc, &mut self.room, hook, &self.table, siblings)
     }
 }
 

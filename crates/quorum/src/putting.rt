@@ -1,25 +1,25 @@
 //! A put: the bucket's pre-commit hook, then the coordinator, then its state to the other vnodes of the list.
 
 ghost use Rattle.std.specs.Prelude.{◌≡◌, ◌+◌, ◌≤◌, ◌<◌, ◌∷◌, List, length, Bool, Option, Some, Result, Ok, Err, IfOk, ◌^◌, nat_le, if◌then◌else◌};
-ghost use Rattle.verifier.specs.Program.{Program};
-ghost use Rattle.hooks.specs.declared.fault.NotSeen.{NotSeen as LookUpFault};
+ghost use Rattle.bpf_verifier.specs.Program.{Program};
+ghost use Rattle.hook_registry.specs.declared.fault.NotSeen.{NotSeen as LookUpFault};
 ghost use Rattle.peers.specs.declared.fault.PeerFault.{PeerFault as Failure};
 ghost use Rattle.peers.specs.Calls.{Call, Made};
 ghost use Rattle.peers.specs.Counts.{HasRisen};
-ghost use Rattle.place.specs.Places.{AreDifferent};
+ghost use Rattle.ring.specs.Places.{AreDifferent};
 ghost use Rattle.quorum.specs.Faults.{fault_of};
-ghost use Rattle.helpers.specs.declared.sig.Entry.{Entry as Helper};
+ghost use Rattle.bpf_helpers.specs.declared.sig.Entry.{Entry as Helper};
 ghost use Rattle.quorum.specs.Judged.{AfterJudged, IsJudgedPut, or_same};
 ghost use Rattle.quorum.specs.Puts.{Brought, gathers, merges, copies, AfterPut, IsPut, StoresCopies, is_ahead};
 
 use crate::fault::QuorumFault;
 use crate::hooking::{Hooking, hook_of};
-use bpfimage::ImageKind;
+use bpf_image::ImageKind;
+use bpf_verifier::Verified;
 use dvv::{Clock, Dot};
-use hooks::Hooks;
-use object::{Content, Key};
+use hook_registry::Hooks;
+use key_state::{Content, Key};
 use peers::{Answer, PeerFault, Peers};
-use verifier::Verified;
 use vnode::VnodeFault;
 
 /// Puts a content at the coordinator, as one who had seen what the clock counts, and brings its state to the other vnodes

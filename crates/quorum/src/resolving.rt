@@ -2,22 +2,22 @@
 
 ghost use Rattle.std.specs.Prelude.{◌≡◌, ◌<◌, ◌∷◌, List, Bool, Option, Some, None, Result, Ok, Err, MatchResult};
 ghost use Rattle.std.specs.Option.{option_copied};
-ghost use Rattle.object.specs.State.{State};
+ghost use Rattle.key_state.specs.State.{State};
 ghost use Rattle.peers.specs.declared.fault.PeerFault.{PeerFault as Failure};
 ghost use Rattle.dvv.specs.declared.Dot.{Dot};
-ghost use Rattle.hooks.specs.declared.fault.NotSeen.{NotSeen};
-ghost use Rattle.verifier.specs.Program.{Program};
+ghost use Rattle.hook_registry.specs.declared.fault.NotSeen.{NotSeen};
+ghost use Rattle.bpf_verifier.specs.Program.{Program};
 ghost use Rattle.peers.specs.Calls.{Call, PutAt, Made};
 ghost use Rattle.quorum.specs.Resolves.{is_others, others_of, brings, AllTaken, OneFailed, AfterChoice, AfterCommit, Commits, AfterRun, AfterLookUp, IsResolve, IsUnfit, UnfitOf, end_of, state_told, cut_of, unfit_by};
 ghost use Rattle.quorum.specs.declared.fault.ResolveFault.{ResolveFault as Unmade};
 
 use crate::fault::{ResolveFault, Unfit};
 use crate::hooking::{Hooking, hook_of};
-use bpfimage::ImageKind;
+use bpf_image::ImageKind;
 use dvv::Clock;
-use hookrun::{Resolution, Unresolved};
-use hooks::Hooks;
-use object::{Content, Key, KeyState};
+use hook_registry::Hooks;
+use hook_run::{Resolution, Unresolved};
+use key_state::{Content, Key, KeyState};
 use peers::{Answer, PeerFault, Peers};
 
 /// What a get answers once its bucket's resolver was asked.

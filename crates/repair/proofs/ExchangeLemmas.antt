@@ -3,9 +3,9 @@ use Rattle.std.proofs.Common.{◌≡◌, ℕ, zero, suc, ◌+◌, ◌<◌, ◌�
 use Rattle.std.specs.List.{AllByRecursion}
 use Rattle.std.proofs.lemmas.List.{append-nil}
 use Rattle.std.proofs.lemmas.List.Sums.{sum_by-append}
-use Rattle.object.specs.declared.content.Key.{Key}
+use Rattle.key_state.specs.declared.content.Key.{Key}
 use Rattle.std.specs.Global.{Vec}
-use Rattle.object.specs.Parts.{Summarized, Partial, part_of}
+use Rattle.key_state.specs.Parts.{Summarized, Partial, part_of}
 use Rattle.peers.specs.declared.peers.Answer.{Answer}
 use Rattle.peers.specs.declared.peers.PartAnswer.{PartAnswer}
 use Rattle.peers.specs.declared.fault.PeerFault.{PeerFault}

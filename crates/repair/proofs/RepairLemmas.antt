@@ -6,12 +6,12 @@ use Rattle.std.proofs.lemmas.List.{map-append, take_more, append-nil}
 use Rattle.std.proofs.lemmas.List.Elements.{filter-append, recursion_from_All}
 use Rattle.std.proofs.lemmas.Grind.{flat_map-append}
 use Rattle.std.proofs.lemmas.List.Sums.{sum_by-append}
-use Rattle.object.specs.declared.content.Key.{Key}
-use Rattle.object.specs.declared.content.Sibling.{Sibling}
-use Rattle.object.specs.State.{State, content_at, is_dot, has_dropped, is_within, is_changed_by}
-use Rattle.object.specs.Parts.{summary_of, Summarized}
-use Rattle.object.proofs.Siblings.{is_dot-same}
-use Rattle.object.proofs.Same.{within_to}
+use Rattle.key_state.specs.declared.content.Key.{Key}
+use Rattle.key_state.specs.declared.content.Sibling.{Sibling}
+use Rattle.key_state.specs.State.{State, content_at, is_dot, has_dropped, is_within, is_changed_by}
+use Rattle.key_state.specs.Parts.{summary_of, Summarized}
+use Rattle.key_state.proofs.Siblings.{is_dot-same}
+use Rattle.key_state.proofs.Same.{within_to}
 use Rattle.dvv.specs.declared.Dot.{Dot}
 use Rattle.dvv.specs.Clock.{IsClock, covers}
 use Rattle.peers.specs.declared.peers.Answer.{Answer}

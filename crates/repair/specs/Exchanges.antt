@@ -2,8 +2,8 @@
 use Rattle.std.specs.Prelude.{◌≡◌, ◌≢◌, ℕ, List, [], ◌∷◌, ◌++◌, Result, Ok, Err, Bool, true, false, is_ok, length, count_by}
 use Rattle.std.specs.List.{AllByRecursion}
 use Rattle.std.specs.Global.{Vec}
-use Rattle.object.specs.declared.content.Key.{Key}
-use Rattle.object.specs.Parts.{Summarized, summary_of, part_of}
+use Rattle.key_state.specs.declared.content.Key.{Key}
+use Rattle.key_state.specs.Parts.{Summarized, summary_of, part_of}
 use Rattle.peers.specs.declared.peers.Answer.{Answer}
 use Rattle.peers.specs.declared.peers.PartAnswer.{PartAnswer}
 use Rattle.peers.specs.declared.peers.PartAnswer.TheVariants.{Merged, Missing}

@@ -1,8 +1,8 @@
 -- Read repair, and what it delivers (Riak KV documentation, read repair).
 use Rattle.std.specs.Prelude.{ℕ, Bool, ◌%◌, List, [], ◌∷◌, Result, map, filter}
 use Rattle.std.specs.List.{flat_map}
-use Rattle.object.specs.declared.content.Key.{Key}
-use Rattle.object.specs.State.{is_changed_by}
+use Rattle.key_state.specs.declared.content.Key.{Key}
+use Rattle.key_state.specs.State.{is_changed_by}
 use Rattle.peers.specs.declared.peers.Answer.{Answer}
 use Rattle.peers.specs.declared.fault.PeerFault.{PeerFault}
 use Rattle.peers.specs.Calls.{Call, MergeAt}

@@ -2,12 +2,12 @@
 
 ghost use Rattle.std.specs.Prelude.{◌≡◌, ◌+◌, ◌^◌, ◌<◌, ◌≤◌, ◌++◌, List, length, count_by, is_ok, Bool, Result, cond, false};
 ghost use Rattle.std.specs.List.{AllByRecursion};
-ghost use Rattle.object.specs.Parts.{part_of};
+ghost use Rattle.key_state.specs.Parts.{part_of};
 ghost use Rattle.peers.specs.declared.fault.PeerFault.{PeerFault};
 ghost use Rattle.peers.specs.Calls.{Call, Made};
 ghost use Rattle.repair.specs.Exchanges.{Sent, Sending, sends, sendings, sends_all, whole_goes, IsFair, is_taken, is_received, is_whole, is_whole_at_once, BringsKeys};
 
-use object::{Key, Part};
+use key_state::{Key, Part};
 use peers::{Answer, PartAnswer, Peers, SummaryAnswer};
 use std::alloc::Global;
 

@@ -1,9 +1,9 @@
 //! What holds of exchanges. Each of these functions does nothing: its contract is the law.
 
 ghost use Rattle.std.specs.Prelude.{◌≡◌, ◌++◌, List, false};
-ghost use Rattle.object.specs.Parts.{summary_of, part_of, whole_of, lacks_some};
-ghost use Rattle.object.specs.State.{State, IsState};
-ghost use Rattle.object.specs.Known.{Write, Shows, AreUnique};
+ghost use Rattle.key_state.specs.Parts.{summary_of, part_of, whole_of, lacks_some};
+ghost use Rattle.key_state.specs.State.{State, IsState};
+ghost use Rattle.key_state.specs.Known.{Write, Shows, AreUnique};
 ghost use Rattle.peers.specs.declared.peers.Answer.{Answer};
 ghost use Rattle.peers.specs.declared.peers.SummaryAnswer.{SummaryAnswer};
 ghost use Rattle.repair.specs.Exchanges.{Alike, IsFair};
@@ -13,7 +13,7 @@ ghost use Rattle.repair.specs.Exchanges.{Alike, IsFair};
 pub fn alike_are_equal()
     ensures { (mine theirs : List Write) (held : State) (told : SummaryAnswer) (own : Answer) → IsState own.state → IsState held → told.summary ≡ summary_of held → Shows mine own.state → Shows theirs held → AreUnique (mine ++ theirs) → IsFair (Alike told own) → own.state ≡ held }
 {
-    object::laws::states_are_told_by_dots_and_clocks();
+    key_state::laws::states_are_told_by_dots_and_clocks();
 }
 
 /// Where an exchange sent a part and no content that was left out lacked at the receiver, what the part stood for there is the sender's
@@ -21,5 +21,5 @@ pub fn alike_are_equal()
 pub fn parts_are_whole()
     ensures { (mine theirs : List Write) (held : State) (told : SummaryAnswer) (own : Answer) → IsState own.state → Shows mine held → Shows theirs own.state → AreUnique (mine ++ theirs) → lacks_some held (part_of own.state told.summary) ≡ false → whole_of (part_of own.state told.summary) held ≡ own.state }
 {
-    object::laws::parts_stand_for_their_states();
+    key_state::laws::parts_stand_for_their_states();
 }

@@ -5,7 +5,7 @@ ghost use Rattle.peers.specs.declared.fault.PeerFault.{PeerFault};
 ghost use Rattle.peers.specs.Calls.{Made};
 ghost use Rattle.repair.specs.Repairs.{deliveries, deliveries_of, tries};
 
-use object::Key;
+use key_state::Key;
 use peers::{Answer, Peers};
 
 /// Read repair: each answered state goes to every other vnode that answered and whose answered state it would change,

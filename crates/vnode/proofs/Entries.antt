@@ -10,8 +10,8 @@ use Rattle.std.proofs.lemmas.Map.Made.{is_some-lookup}
 use Rattle.std.proofs.lemmas.Map.Views.{Contains-from_lookup, lookup-from_Contains}
 use Rattle.std.proofs.lemmas.Option.{get_or_from_slice_get, same_Some, slice_get-get_or, slice_get-map, slice_get_within}
 use Rattle.std.proofs.lemmas.Slice.Zip.{firsts-zip}
-use Rattle.object.specs.declared.content.Key.{Key}
-use Rattle.object.specs.State.{State, empty}
+use Rattle.key_state.specs.declared.content.Key.{Key}
+use Rattle.key_state.specs.State.{State, empty}
 use Rattle.vnode.specs.Shards.{AreEntries, IsEntry, IsHashed, IsUnique, LacksHashed, Shard, found_in, key_eq, known_keys, short_of}
 use Rattle.vnode.specs.declared.seed.Seed.{Seed}
 use Rattle.vnode.proofs.Keyed.{key_laws, key_one}

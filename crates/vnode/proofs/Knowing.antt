@@ -5,8 +5,8 @@ use Rattle.std.proofs.lemmas.Bool.{both_ways, eq-eqb, eqb-true}
 use Rattle.std.proofs.lemmas.Bool.Decides.{nat_tests}
 use Rattle.dvv.specs.declared.Dot.{Dot}
 use Rattle.dvv.specs.Clock.{counter, Covers, AreRising}
-use Rattle.object.specs.declared.content.Sibling.{Sibling}
-use Rattle.object.specs.State.{State, IsState, AreCovered, Merges, empty}
+use Rattle.key_state.specs.declared.content.Sibling.{Sibling}
+use Rattle.key_state.specs.State.{State, IsState, AreCovered, Merges, empty}
 use Rattle.vnode.specs.States.{IsSomeKnown}
 
 -- after a merge what was before it is

@@ -1,11 +1,11 @@
 -- Why a part is refused, and what its merge is of the whole state.
 use Rattle.std.proofs.Common.{◌≡◌, ◌↔◌, Bool, IsTrue, true, false, Option, None, Some, Result, Err, refl, ap, subst}
 use Rattle.std.proofs.lemmas.Bool.{both_ways}
-use Rattle.object.specs.declared.content.Key.{Key}
-use Rattle.object.specs.State.{State}
-use Rattle.object.specs.declared.fault.MergeFault.{MergeFault}
-use Rattle.object.specs.declared.fault.PartFault as object
-use Rattle.object.specs.Parts.{Partial, lacks_some}
+use Rattle.key_state.specs.declared.content.Key.{Key}
+use Rattle.key_state.specs.State.{State}
+use Rattle.key_state.specs.declared.fault.MergeFault.{MergeFault}
+use Rattle.key_state.specs.declared.fault.PartFault as object
+use Rattle.key_state.specs.Parts.{Partial, lacks_some}
 use Rattle.journal.specs.Logs.{Log}
 use Rattle.journal.specs.Replay.{IsReplay}
 use Rattle.vnode.specs.declared.fault.VnodeFault.{VnodeFault}

@@ -4,9 +4,9 @@ use Rattle.std.specs.Prelude.{slice_get, slice_set, map, max, replicate, take, B
 use Rattle.std.specs.List.{zip}
 use Rattle.std.proofs.Math.Nat.{mod-lt}
 use Rattle.std.proofs.lemmas.Option.{slice_get-get_or, slice_get_within, same_Some}
-use Rattle.object.specs.declared.content.Key.{Key}
-use Rattle.object.specs.State.{State, empty}
-use Rattle.place.specs.Places.{ring_place}
+use Rattle.key_state.specs.declared.content.Key.{Key}
+use Rattle.key_state.specs.State.{State, empty}
+use Rattle.ring.specs.Places.{ring_place}
 use Rattle.vnode.specs.RingPlaces.{AreOf, number}
 use Rattle.vnode.specs.declared.ring_places.RingPlace.{RingPlace}
 use Rattle.vnode.specs.declared.ring_places.RingPlace.TheVariants.{Untold}

@@ -1,7 +1,7 @@
 -- What the states of a vnode are once one is kept under a key.
 use Rattle.std.specs.Prelude.{◌≡◌, false}
-use Rattle.object.specs.declared.content.Key.{Key}
-use Rattle.object.specs.State.{State}
+use Rattle.key_state.specs.declared.content.Key.{Key}
+use Rattle.key_state.specs.State.{State}
 use Rattle.journal.specs.Keys.{same_key}
 use Rattle.vnode.specs.declared.states.States.{States}
 use Rattle.vnode.specs.States.{AreInPlace, IsSomeKnown, state_at}

@@ -1,9 +1,9 @@
 -- When a vnode refuses a part of a state (this store's profile). As with a merge it is said once, of the state at hand; of a journal it is
 -- said of the state that the journal leaves.
 use Rattle.std.specs.Prelude.{◌≡◌, Bool, IsTrue, false, Option, None, Some}
-use Rattle.object.specs.declared.content.Key.{Key}
-use Rattle.object.specs.State.{State}
-use Rattle.object.specs.Parts.{Partial, lacks_some, whole_of}
+use Rattle.key_state.specs.declared.content.Key.{Key}
+use Rattle.key_state.specs.State.{State}
+use Rattle.key_state.specs.Parts.{Partial, lacks_some, whole_of}
 use Rattle.journal.specs.Logs.{Log}
 use Rattle.journal.specs.Replay.{Leaves}
 use Rattle.vnode.specs.declared.fault.PartFault.{PartFault}

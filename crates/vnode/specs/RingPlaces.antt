@@ -1,7 +1,7 @@
 -- Where the keys of a shard stand on a ring of three vnodes, as far as it was told.
 use Rattle.std.specs.Prelude.{◌≡◌, ◌≤◌, ℕ, List, Option, None, Some, length, slice_get}
-use Rattle.object.specs.declared.content.Key.{Key}
-use Rattle.place.specs.Places.{ring_place}
+use Rattle.key_state.specs.declared.content.Key.{Key}
+use Rattle.ring.specs.Places.{ring_place}
 use Rattle.vnode.specs.declared.ring_places.RingPlace.{RingPlace}
 use Rattle.vnode.specs.declared.ring_places.RingPlace.TheVariants.{Untold, First, Second, Third}
 

@@ -5,9 +5,9 @@ use Rattle.std.specs.Hash as fed
 use Rattle.std.specs.Hash.DefaultHasher.{write, finish}
 use Rattle.std.specs.Map.{lookup}
 use Rattle.std.specs.List.{IsDistinct, fold}
-use Rattle.object.specs.declared.content.Key.{Key}
-use Rattle.object.specs.State.{State}
-use Rattle.slots.specs.Slots.{folded}
+use Rattle.key_state.specs.declared.content.Key.{Key}
+use Rattle.key_state.specs.State.{State}
+use Rattle.vnode_index.specs.Slots.{folded}
 use Rattle.vnode.specs.declared.seed.Seed.{Seed}
 
 -- whether two keys are equal, as a look-up by hash compares them

@@ -1,7 +1,7 @@
 -- States in the order in which their keys came, in blocks.
 use Rattle.std.specs.Prelude.{ℕ, List}
 use Rattle.std.specs.Global.{Vec}
-use Rattle.object.specs.State.{State}
+use Rattle.key_state.specs.State.{State}
 
 -- the states of a block
 abbrev pub states_in : Vec State → List State

@@ -1,7 +1,7 @@
 //! What a put and a merge answer.
 
 use dvv::Dot;
-use object::Shared;
+use key_state::Shared;
 
 /// What a put did.
 #[derive(Drop)]

@@ -6,7 +6,7 @@ ghost use Rattle.vnode.specs.Names.{all_of, keys_in};
 ghost use Rattle.vnode.specs.Shards.{key_eq};
 
 use crate::names::{KeyRun, Names, push_copies};
-use object::Key;
+use key_state::Key;
 use std::alloc::{AllocError, Global};
 use std::marker::Model;
 use std::mem;

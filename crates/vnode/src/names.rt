@@ -4,7 +4,7 @@ ghost use Rattle.std.specs.Prelude.{◌≡◌, ◌-◌, ◌^◌, ◌++◌, [], O
 ghost use Rattle.vnode.specs.Names.{run_keys};
 
 use crate::key_blocks::BLOCK;
-use object::Key;
+use key_state::Key;
 use std::alloc::{AllocError, Global};
 use std::marker::Model;
 use std::sync::Arc;

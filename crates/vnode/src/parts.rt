@@ -1,7 +1,7 @@
 //! Summaries of what is held, and parts of states, at the keys of a vnode.
 
 ghost use Rattle.std.specs.Prelude.{◌≡◌, OnOk, IfOk, IfErr, false};
-ghost use Rattle.object.specs.Parts.{summary_of};
+ghost use Rattle.key_state.specs.Parts.{summary_of};
 ghost use Rattle.vnode.specs.Parts.{RefusesPartAt, RefusesBroughtAt, brought, lacks_of};
 ghost use Rattle.vnode.specs.States.{AreInPlace, state_at};
 
@@ -9,7 +9,7 @@ use crate::fault::PartFault;
 use crate::states::States;
 use crate::steps::merge_refusal;
 use journal::{Journal, Merged};
-use object::{Held, Key, KeyState, Part, PreparedPart, Summary};
+use key_state::{Held, Key, KeyState, Part, PreparedPart, Summary};
 use std::alloc::{AllocError, Global};
 
 // A copy of a key and the summary of the state at it. A key that is kept shares its bytes with its copy, so that the bytes of the
@@ -72,8 +72,8 @@ pub(crate) fn make_whole(
             *came = whole;
             Ok(())
         }
-        Err(object::PartFault::Missing) => Err(PartFault::Missing),
-        Err(object::PartFault::Merge(_)) => Err(PartFault::Refused(merge_refusal(
+        Err(key_state::PartFault::Missing) => Err(PartFault::Missing),
+        Err(key_state::PartFault::Merge(_)) => Err(PartFault::Refused(merge_refusal(
             own.clock().can_join(clock),
             journal,
         ))),

@@ -1,7 +1,7 @@
 //! What the hashes of a vnode's keys begin with.
 
 use crate::hint::Hint;
-use object::Key;
+use key_state::Key;
 use std::hash::{BuildHasher, DefaultHasher, RandomState};
 use std::io;
 use std::random::RandomSource;

@@ -1,19 +1,19 @@
 //! The states of some of a vnode's keys.
 
 ghost use Rattle.std.specs.Prelude.{◌≡◌, ◌<◌, ◌++◌, ◌∷◌, [], IfSome, IfNone, None, Some, IsTrue, OnOk, OnErr, length, slice_get, slice_set};
-ghost use Rattle.object.specs.declared.content.Key.{Key};
-ghost use Rattle.object.specs.State.{State};
-ghost use Rattle.place.specs.Places.{ring_place};
+ghost use Rattle.key_state.specs.declared.content.Key.{Key};
+ghost use Rattle.key_state.specs.State.{State};
+ghost use Rattle.ring.specs.Places.{ring_place};
 ghost use Rattle.vnode.specs.Shards.{IsEntry, IsUnique, LacksHashed, found_in, known_keys};
 
 use crate::key_blocks::{KeyBlock, KeyBlocks};
 use crate::names::Names;
 use crate::ring_places::RingPlaces;
 use crate::state_blocks::StateBlocks;
-use object::{Key, Stored};
-use slots::{Fingerprint, Index};
+use key_state::{Key, Stored};
 use std::alloc::{AllocError, Global};
 use std::marker::Model;
+use vnode_index::{Fingerprint, Index};
 
 /// The states of some of the keys, each found by its key's hash: the item at a place of the index is the key, and the state, at that
 /// place. Contracts see it as its entries, in the order in which they came, and their hashes.

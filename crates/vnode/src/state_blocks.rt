@@ -3,7 +3,7 @@
 ghost use Rattle.std.specs.Prelude.{◌≡◌, ◌<◌, ◌++◌, ◌∷◌, [], OnOk, Some, length, slice_get, slice_set};
 
 use crate::key_blocks::BLOCK;
-use object::Stored;
+use key_state::Stored;
 use std::alloc::{AllocError, Global};
 use std::marker::Model;
 use std::mem;

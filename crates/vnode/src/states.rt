@@ -2,7 +2,7 @@
 
 ghost use Rattle.std.specs.Prelude.{◌≡◌};
 ghost use Rattle.std.specs.List.{All};
-ghost use Rattle.place.specs.Places.{ring_place};
+ghost use Rattle.ring.specs.Places.{ring_place};
 ghost use Rattle.vnode.specs.Shards.{IsHashed};
 
 use crate::hint::Hint;
@@ -10,10 +10,10 @@ use crate::key_blocks::KeyBlock;
 use crate::seed::Seed;
 use crate::shard::Shard;
 use crate::spot::Spot;
-use object::{Key, Stored};
-use slots::Fingerprint;
+use key_state::{Key, Stored};
 use std::alloc::{AllocError, Global};
 use std::hash::BuildHasher;
+use vnode_index::Fingerprint;
 
 /// In how many shards the states of a vnode lie: to move those of a million keys at once would hold calls up. A million
 /// keys leave some thirty thousand to each, and a growth moves no others. Each look-up begins at what its shard is made of,
@@ -58,8 +58,8 @@ pub(crate) struct States {
 impl States {
     ghost use Rattle.std.specs.Prelude.{◌<◌, ◌≤◌, ◌-◌, ◌^◌, false, None, Some, length, min, option_map, IfSome, IfNone, IfOk, IfErr, OnOk, OnErr};
     ghost use Rattle.std.specs.Option.{option_copied};
-    ghost use Rattle.object.specs.declared.content.Key.{Key};
-    ghost use Rattle.object.specs.State.{State, empty};
+    ghost use Rattle.key_state.specs.declared.content.Key.{Key};
+    ghost use Rattle.key_state.specs.State.{State, empty};
     ghost use Rattle.journal.specs.Keys.{same_key};
     ghost use Rattle.vnode.specs.Kept.{Shows};
     ghost use Rattle.vnode.specs.States.{AreInPlace, IsSomeKnown, LiesAt, all_known, found_at, shard_count, spot_of, state_at};

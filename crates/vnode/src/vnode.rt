@@ -1,6 +1,6 @@
 //! A vnode: what its journal says happened.
 
-ghost use Rattle.place.specs.Places.{ring_place};
+ghost use Rattle.ring.specs.Places.{ring_place};
 ghost use Rattle.std.specs.Prelude.{◌≡◌, ◌≢◌, ◌↔◌, Contains, IsTrue, OnOk, OnErr, IfOk, IfErr, IfSome, [], false, length, Err, List, ◌+◌, ◌^◌, ◌≤◌, ◌<◌, ◌⊎◌, All};
 
 use crate::answers::{MergeAnswer, PutAnswer};
@@ -17,7 +17,7 @@ use crate::steps::{
 };
 use dvv::Clock;
 use journal::{Entry, Handout, Journal, Merged, Write};
-use object::{Content, Key, KeyState, Part, PreparedPart, Summary};
+use key_state::{Content, Key, KeyState, Part, PreparedPart, Summary};
 use std::alloc::{AllocError, Global};
 use std::marker::Model;
 
@@ -43,15 +43,15 @@ impl Model for Vnode {
 impl Vnode {
     ghost use Rattle.journal.specs.Entry.{Put, Merge, Read, Restart};
     ghost use Rattle.journal.specs.Logs.{Log, with_entry, with_entries, max_entries};
-    ghost use Rattle.object.specs.declared.content.Key.{Key};
-    ghost use Rattle.object.specs.State.{State, empty};
+    ghost use Rattle.key_state.specs.declared.content.Key.{Key};
+    ghost use Rattle.key_state.specs.State.{State, empty};
     ghost use Rattle.std.specs.List.Sorted.{IsStrictlySortedBy};
     ghost use Rattle.journal.specs.Keys.{key_cmp};
     ghost use Rattle.journal.specs.Replay.{Leaves, IsReplay, IsNextDot, IsKeyOf};
     ghost use Rattle.journal.specs.Limits.{TakesEntry, AcceptsPut, AcceptsMerge};
     ghost use Rattle.journal.specs.Journals.{IsJournal};
     ghost use Rattle.journal.specs.Answers.{TellsChange};
-    ghost use Rattle.object.specs.Parts.{summary_of, lacks_some, whole_of};
+    ghost use Rattle.key_state.specs.Parts.{summary_of, lacks_some, whole_of};
     ghost use Rattle.vnode.specs.declared.fault.PartFault.{PartFault};
     ghost use Rattle.vnode.specs.declared.fault.VnodeFault.{VnodeFault};
     ghost use Rattle.journal.specs.Blocks.{AreHandedOut};

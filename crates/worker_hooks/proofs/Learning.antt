@@ -1,7 +1,7 @@
 -- What a reader knows once it was told of all changes, and of which it is told.
 use Rattle.std.proofs.Common.{◌≡◌, ◌⊎◌, ◌++◌, List, sym, refl, ⊎_elim, subst}
 use mathlib.Core.List.{IsPrefix}
-use Rattle.hooks.specs.Changes.{Change}
+use Rattle.hook_registry.specs.Changes.{Change}
 use Rattle.fronts.proofs.Fronts.{prefix_whole, prefix_length, prefix_trans}
 
 -- it knows what it was told, where that begins with all that it knew

@@ -1,9 +1,9 @@
 -- What a change of hooks does to what a worker knows of a registry that several workers change (this store's profile).
 use Rattle.std.specs.Prelude.{◌≡◌, ◌++◌, ◌∷◌, [], List, Result, Ok, Err}
 use mathlib.Core.List.{IsPrefix}
-use Rattle.hooks.specs.declared.fault.HookFault.{HookFault}
-use Rattle.hooks.specs.Changes.{Change}
-use Rattle.shared_hooks.specs.Standing.{IsAllowed, Refuses}
+use Rattle.hook_registry.specs.declared.fault.HookFault.{HookFault}
+use Rattle.hook_registry.specs.Changes.{Change}
+use Rattle.hook_sharing.specs.Standing.{IsAllowed, Refuses}
 
 -- a change that all changes so far allow is the last that the worker knows of from then on; or it is refused, and the worker knows what it knew
 abbrev pub Judged : List Change → List Change → Change → Result Unit HookFault → List Change → Type 0

@@ -5,7 +5,7 @@ ghost use mathlib.Core.List.{IsPrefix};
 
 use crate::worker::ReadHooks;
 use fronts::Naming;
-use shared_hooks::{Rack, readers_agree};
+use hook_sharing::{Rack, readers_agree};
 
 /// Of what two workers know, one begins the other.
 pub fn workers_agree<J: Naming, T: Rack<J> + Drop, M: Drop>(

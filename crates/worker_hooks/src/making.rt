@@ -4,17 +4,17 @@ ghost use Rattle.std.specs.Prelude.{◌≡◌, OnErr, OnOk, IfErr};
 ghost use Rattle.std.specs.Sync.Mutex.{mutex_guard_value};
 ghost use Rattle.std.specs.Arc.{arc_value};
 ghost use mathlib.Core.List.{IsPrefix};
-ghost use Rattle.hooks.specs.declared.fault.HookFault.{HookFault as Fault};
-ghost use Rattle.hooks.specs.Changes.{Bind, Install, Remove};
+ghost use Rattle.hook_registry.specs.declared.fault.HookFault.{HookFault as Fault};
+ghost use Rattle.hook_registry.specs.Changes.{Bind, Install, Remove};
 ghost use Rattle.worker_hooks.specs.Taking.{Takes, Judged};
 
-use bpfimage::ImageKind;
+use bpf_image::ImageKind;
+use bpf_verifier::Verified;
 use fronts::Naming;
-use hooks::{HookChanges, HookFault};
-use object::Bytes;
-use shared_hooks::{HookReader, Installer, Rack};
+use hook_registry::{HookChanges, HookFault};
+use hook_sharing::{HookReader, Installer, Rack};
+use key_state::Bytes;
 use std::sync::{Arc, Mutex, MutexGuard, Wait};
-use verifier::Verified;
 
 /// The installer, taken once it has all that the reader knows. Of a reader of its own registry it has that at once.
 pub(crate) fn caught_up<'a, J: Naming, T: Rack<J> + Drop, R: Wait + Drop>(

@@ -4,7 +4,7 @@ ghost use Rattle.std.specs.Prelude.{◌≡◌, ◌<◌, ◌^◌, [], IfOk, vec_l
 ghost use Rattle.std.specs.List.{All};
 
 use fronts::Naming;
-use shared_hooks::{Ground, HookReader, Installer, NoReader, Rack};
+use hook_sharing::{Ground, HookReader, Installer, NoReader, Rack};
 use std::alloc::{AllocError, Global};
 use std::sync::{Mutex, Wait};
 use thiserror::Error;

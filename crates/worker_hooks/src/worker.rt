@@ -5,14 +5,14 @@ ghost use Rattle.hook_readers.specs.Edits.{Finds, Names};
 ghost use Rattle.worker_hooks.specs.Taking.{Takes};
 
 use crate::making;
-use bpfimage::ImageKind;
+use bpf_image::ImageKind;
+use bpf_verifier::Verified;
 use fronts::Naming;
-use hooks::{HookChanges, HookFault, Hooks, NameFault, NotSeen};
-use object::Bytes;
-use shared_hooks::{HookReader, Installer, Rack};
+use hook_registry::{HookChanges, HookFault, Hooks, NameFault, NotSeen};
+use hook_sharing::{HookReader, Installer, Rack};
+use key_state::Bytes;
 use std::marker::Model;
 use std::sync::{Arc, Mutex, Wait};
-use verifier::Verified;
 
 /// Hooks that are looked up in a reader, and changed by a maker. Contracts see the changes that the reader has seen or was told of. A
 /// look-up waits for nobody, whatever the maker is: it has nothing to wait by.
@@ -24,7 +24,7 @@ pub struct ReadHooks<J: Naming, T: Rack<J> + Drop, M: Drop> {
 
 impl<J: Naming, T: Rack<J> + Drop, M: Drop> Model for ReadHooks<J, T, M> {
     ghost use Rattle.std.specs.Prelude.{List};
-    ghost use Rattle.hooks.specs.Changes.{Change};
+    ghost use Rattle.hook_registry.specs.Changes.{Change};
 
     ghost Value = { List Change };
 

@@ -5,7 +5,7 @@ use Rattle.std.proofs.Math.ListN.{get_or-append}
 use Rattle.std.proofs.lemmas.List.{get_or-set_same, take_more, length-take-le, length-map}
 use Rattle.journal.specs.Entry.{Entry, Merge}
 use Rattle.journal.specs.Logs.{Log, with_entry, with_entries}
-use Rattle.wire.specs.declared.record.Record.{Record}
+use Rattle.record_codec.specs.declared.record.Record.{Record}
 use Rattle.world.specs.declared.event.Event.{Event}
 use Rattle.world.specs.declared.event.Reply.{Reply}
 use Rattle.world.specs.Beginning.{merges_of, first_logs}

@@ -6,11 +6,11 @@ use Rattle.std.proofs.lemmas.List.{append_assoc, append-nil}
 use Rattle.std.proofs.lemmas.List.Sums.{sum_by-append}
 use Rattle.std.proofs.lemmas.List.Elements.{Contains-append_left, Contains-append_cases, Contains-push, Contains-push_cases}
 use Rattle.dvv.specs.declared.Dot.{Dot}
-use Rattle.object.specs.declared.content.Key.{Key}
-use Rattle.object.specs.declared.content.Content.{Content}
-use Rattle.object.specs.Known.{Write}
+use Rattle.key_state.specs.declared.content.Key.{Key}
+use Rattle.key_state.specs.declared.content.Content.{Content}
+use Rattle.key_state.specs.Known.{Write}
 use Rattle.journal.proofs.Keyed.{one_key}
-use Rattle.helpers.specs.declared.sig.Entry.{Entry as Helper}
+use Rattle.bpf_helpers.specs.declared.sig.Entry.{Entry as Helper}
 use Rattle.std.specs.Prelude.{Option}
 use Rattle.world.specs.declared.event.Event.{Event}
 use Rattle.vnode.specs.declared.fault.VnodeFault.{VnodeFault}

@@ -3,7 +3,7 @@ use Rattle.std.proofs.Common.{◌≡◌, ℕ, ◌+◌, ◌<◌, ◌≤◌, List,
 use Rattle.std.specs.Prelude.{◌↔◌, Result, Err, slice_set}
 use Rattle.std.specs.List.{All}
 use Rattle.std.proofs.lemmas.List.{get_or_default, length-map}
-use Rattle.object.specs.declared.content.Key.{Key}
+use Rattle.key_state.specs.declared.content.Key.{Key}
 use Rattle.journal.specs.Journals.{IsJournal}
 use Rattle.journal.specs.Logs.{Log, with_entries, max_entries}
 use Rattle.journal.specs.Replay.{IsReplay}

@@ -4,13 +4,13 @@ use Rattle.std.specs.Prelude.{Contains, map}
 use Rattle.std.specs.List.{AllByRecursion}
 use Rattle.std.proofs.lemmas.Bool.{cases_Bool}
 use Rattle.dvv.specs.declared.Dot.{Dot}
-use Rattle.object.specs.declared.content.Content.{Content}
-use Rattle.object.specs.declared.content.Key.{Key}
-use Rattle.object.specs.declared.content.Sibling.{Sibling}
-use Rattle.object.specs.State.{State, IsState, AreInOrder, IsBefore, content_at, is_dot}
-use Rattle.object.specs.Known.{Write}
-use Rattle.object.proofs.Same.{same_state}
-use Rattle.object.proofs.Siblings.{found_covers}
+use Rattle.key_state.specs.declared.content.Content.{Content}
+use Rattle.key_state.specs.declared.content.Key.{Key}
+use Rattle.key_state.specs.declared.content.Sibling.{Sibling}
+use Rattle.key_state.specs.State.{State, IsState, AreInOrder, IsBefore, content_at, is_dot}
+use Rattle.key_state.specs.Known.{Write}
+use Rattle.key_state.proofs.Same.{same_state}
+use Rattle.key_state.proofs.Siblings.{found_covers}
 use Rattle.world.specs.Knowledge.{Knowledge, IsStateOf}
 use Rattle.world.specs.Numbering.{IsLawful, WerePut}
 use Rattle.world.proofs.Lists.{Contains-nil, Contains-first, Contains-later, Contains-cases}

@@ -4,10 +4,10 @@ use Rattle.std.specs.Prelude.{Contains, map, filter}
 use Rattle.std.proofs.lemmas.Bool.{cases_lt, cases_eq, and_parts, and_from, leb-true, le-leb}
 use Rattle.std.proofs.lemmas.List.{get_or-set_same, get_or-set_other, append_assoc, append-nil}
 use Rattle.std.proofs.lemmas.List.Elements.{Contains-append_left}
-use Rattle.object.specs.declared.content.Key.{Key}
+use Rattle.key_state.specs.declared.content.Key.{Key}
 use Rattle.dvv.specs.declared.Dot.{Dot}
 use Rattle.dvv.specs.Clock.{Covers, covers}
-use Rattle.object.specs.Known.{Write}
+use Rattle.key_state.specs.Known.{Write}
 use Rattle.journal.specs.Keys.{same_key}
 use Rattle.journal.proofs.Keyed.{one_key, same_itself}
 use Rattle.world.specs.Knowledge.{KeyedWrite, of_key, under}

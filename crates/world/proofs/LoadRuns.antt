@@ -3,8 +3,8 @@ use Rattle.std.proofs.Common.{◌≡◌, ℕ, ◌+◌, ◌<◌, ◌≤◌, ◌�
 use Rattle.std.specs.Prelude.{Contains, ◌↔◌, slice_get}
 use Rattle.std.specs.List.{All}
 use Rattle.std.proofs.lemmas.List.Elements.{All-head, All-tail, Contains-append_left, Contains-append_right}
-use Rattle.object.specs.declared.content.Key.{Key}
-use Rattle.object.specs.Known.{Write}
+use Rattle.key_state.specs.declared.content.Key.{Key}
+use Rattle.key_state.specs.Known.{Write}
 use Rattle.journal.specs.Logs.{Log, with_entries, max_entries}
 use Rattle.journal.specs.Entry.{Entry, Merge}
 use Rattle.journal.specs.Replay.{IsReplay}
@@ -13,7 +13,7 @@ use Rattle.vnode.specs.declared.fault.VnodeFault.{VnodeFault}
 use Rattle.vnode.specs.declared.fault.VnodeFault.TheVariants.{JournalFull, NoMemory}
 use Rattle.vnode.specs.Keys.{AreKeys, reads_of}
 use Rattle.vnode.specs.States.{keys_of}
-use Rattle.helpers.specs.declared.sig.Entry.{Entry as Helper}
+use Rattle.bpf_helpers.specs.declared.sig.Entry.{Entry as Helper}
 use Rattle.world.specs.declared.event.Copies.{Copies}
 use Rattle.world.specs.declared.event.Event.TheVariants.{Dump, Load}
 use Rattle.world.specs.declared.event.Reply.{Reply}

@@ -5,9 +5,9 @@ use Rattle.std.proofs.Math.ListN.{get_or-append}
 use Rattle.std.proofs.Math.Seq.{get_or-append_seam}
 use Rattle.std.proofs.lemmas.Bool.{cases_eq, cases_lt}
 use Rattle.std.proofs.lemmas.List.{append-nil, get_or-set_same, get_or-set_other}
-use Rattle.object.specs.declared.content.Key.{Key}
-use Rattle.object.specs.State.{State}
-use Rattle.object.specs.Known.{Write, AreUnique, ShowsKnown}
+use Rattle.key_state.specs.declared.content.Key.{Key}
+use Rattle.key_state.specs.State.{State}
+use Rattle.key_state.specs.Known.{Write, AreUnique, ShowsKnown}
 use Rattle.journal.specs.Keys.{same_key}
 use Rattle.journal.specs.Entry.{Entry, Merge, Read}
 use Rattle.journal.specs.Logs.{Log, with_entries}

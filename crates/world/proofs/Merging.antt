@@ -9,8 +9,8 @@ use Rattle.std.proofs.lemmas.List.{append-nil, take_more, length-take-le}
 use Rattle.std.proofs.lemmas.List.Sums.{count_by-le-length}
 use Rattle.dvv.specs.declared.Dot.{Dot}
 use Rattle.dvv.specs.Clock.{counter}
-use Rattle.object.specs.declared.content.Key.{Key}
-use Rattle.object.specs.State.{State, empty, IsState}
+use Rattle.key_state.specs.declared.content.Key.{Key}
+use Rattle.key_state.specs.State.{State, empty, IsState}
 use Rattle.journal.specs.Entry.{Entry, Merge}
 use Rattle.journal.specs.Keys.{key_cmp, same_key}
 use Rattle.journal.specs.Limits.{TakesEntry}

@@ -6,8 +6,8 @@ use Rattle.std.proofs.lemmas.List.{append_assoc, append-nil, get_or-set_same}
 use Rattle.std.proofs.lemmas.List.Sums.{sum_by-append}
 use Rattle.std.proofs.lemmas.List.Elements.{Contains-append_left, Contains-push}
 use Rattle.dvv.specs.declared.Dot.{Dot}
-use Rattle.object.specs.declared.content.Key.{Key}
-use Rattle.object.specs.Known.{Write, InContext, AreUnique, NoneSawItself}
+use Rattle.key_state.specs.declared.content.Key.{Key}
+use Rattle.key_state.specs.Known.{Write, InContext, AreUnique, NoneSawItself}
 use Rattle.journal.specs.Keys.{same_key}
 use Rattle.journal.specs.Entry.{Entry}
 use Rattle.journal.specs.Replay.{IsNextDot}

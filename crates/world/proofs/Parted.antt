@@ -5,13 +5,13 @@ use Rattle.std.specs.List.{list_any}
 use Rattle.std.proofs.lemmas.Bool.{both_ways}
 use Rattle.std.proofs.lemmas.List.{get_or_default}
 use Rattle.dvv.specs.declared.Dot.{Dot}
-use Rattle.object.specs.declared.content.Content.{Content}
-use Rattle.object.specs.declared.content.Key.{Key}
-use Rattle.object.specs.declared.content.Sibling.{Sibling}
-use Rattle.object.specs.Known.{Write, AreUnique}
-use Rattle.object.specs.Parts.{Partial, summary_of, whole_of, lacks_some}
-use Rattle.object.specs.State.{State, content_at, is_dot}
-use Rattle.object.proofs.Exchanged.{whole_in_world, lacking_to, lacking_from}
+use Rattle.key_state.specs.declared.content.Content.{Content}
+use Rattle.key_state.specs.declared.content.Key.{Key}
+use Rattle.key_state.specs.declared.content.Sibling.{Sibling}
+use Rattle.key_state.specs.Known.{Write, AreUnique}
+use Rattle.key_state.specs.Parts.{Partial, summary_of, whole_of, lacks_some}
+use Rattle.key_state.specs.State.{State, content_at, is_dot}
+use Rattle.key_state.proofs.Exchanged.{whole_in_world, lacking_to, lacking_from}
 use Rattle.journal.specs.Answers.{TellsChange}
 use Rattle.journal.specs.Entry.{Merge}
 use Rattle.journal.specs.Limits.{AcceptsMerge}

@@ -5,9 +5,9 @@ use Rattle.std.proofs.Math.ListN.{get_or-append}
 use Rattle.std.proofs.Math.Seq.{get_or-append_seam}
 use Rattle.std.proofs.lemmas.Bool.{cases_eq, cases_lt}
 use Rattle.std.proofs.lemmas.List.Elements.{Contains-push_cases}
-use Rattle.helpers.specs.declared.sig.Entry.{Entry as Helper}
-use Rattle.object.specs.declared.content.Key.{Key}
-use Rattle.object.specs.Known.{Write}
+use Rattle.bpf_helpers.specs.declared.sig.Entry.{Entry as Helper}
+use Rattle.key_state.specs.declared.content.Key.{Key}
+use Rattle.key_state.specs.Known.{Write}
 use Rattle.journal.specs.Logs.{Log}
 use Rattle.world.specs.declared.event.Event.{Event}
 use Rattle.world.specs.declared.event.Event.TheVariants.{Put, Get, Summarize, Send, SendPart, Deliver, Restart, Dump, Load, ResolveRead, ResolveWrite}

@@ -4,12 +4,12 @@ use Rattle.std.specs.Prelude.{slice_get, MatchBool, ◌↔◌}
 use Rattle.std.proofs.lemmas.List.{map-append}
 use Rattle.std.proofs.lemmas.Option.{slice_get_read, slice_get_within}
 use Rattle.dvv.specs.declared.Dot.{Dot}
-use Rattle.object.specs.declared.content.Key.{Key}
-use Rattle.object.specs.Known.{Write}
-use Rattle.object.specs.State.{State, kept, next}
-use Rattle.object.specs.Parts.{Summarized as Summary, summary_of, part_of, whole_of}
+use Rattle.key_state.specs.declared.content.Key.{Key}
+use Rattle.key_state.specs.Known.{Write}
+use Rattle.key_state.specs.State.{State, kept, next}
+use Rattle.key_state.specs.Parts.{Summarized as Summary, summary_of, part_of, whole_of}
 use Rattle.journal.specs.Logs.{Log}
-use Rattle.object.specs.declared.content.Content.{Content}
+use Rattle.key_state.specs.declared.content.Content.{Content}
 use Rattle.journal.specs.Entry.{Entry}
 use Rattle.journal.specs.Entry as entry
 use Rattle.journal.specs.Answers.{TellsChange}
@@ -23,8 +23,8 @@ use Rattle.world.proofs.Steps.{put_step, copy_step, part_step, restart_step, ref
 use Rattle.std.proofs.lemmas.Bool.{cases_lt}
 use Rattle.dvv.specs.Clock.{HasRoom, Within, vnodes_together}
 use Rattle.journal.specs.Limits.{TakesDot}
-use Rattle.helpers.specs.declared.sig.Entry.{Entry as Helper}
-use Rattle.verifier.specs.Program.{Program}
+use Rattle.bpf_helpers.specs.declared.sig.Entry.{Entry as Helper}
+use Rattle.bpf_verifier.specs.Program.{Program}
 use Rattle.std.specs.Prelude.{None}
 use Rattle.world.specs.declared.event.Event.{Event}
 use Rattle.world.specs.declared.event.Event.TheVariants.{Put, Get, Summarize, Send, SendPart, Deliver, Restart, Dump, Load, ResolveRead, ResolveWrite}
@@ -34,11 +34,11 @@ use Rattle.world.specs.declared.event.PartMessage.{PartMessage}
 use Rattle.vnode.specs.declared.fault.VnodeFault.{VnodeFault}
 use Rattle.world.specs.declared.event.Seen.{Seen}
 use Rattle.world.specs.declared.event.Seen.TheVariants.{Clock as Given, Get as ContextOf}
-use Rattle.hookrun.specs.declared.resolving.Resolution.{Resolution}
+use Rattle.hook_run.specs.declared.resolving.Resolution.{Resolution}
 use Rattle.world.specs.declared.event.Reply.{Reply}
 use Rattle.world.specs.declared.event.Reply.TheVariants.{Stored, Found, Summarized, Sent, SentPart, Changed, Missing, Restarted, Resolved, Nothing, Refused}
 use Rattle.world.specs.Knowledge.{Knowledge, Copied, Chosen, Failed, below, left_by, known_at, id_of, next_dot, write_of, after_refusal, after_put, after_copy, after_part, after_delivery, after_restart, after_run, after_nothing, IsStateOf, id_under, ids_under}
-use Rattle.hookrun.specs.Resolving.{IsResolution, chosen_by}
+use Rattle.hook_run.specs.Resolving.{IsResolution, chosen_by}
 use Rattle.world.proofs.Equal.{one_state}
 use Rattle.world.proofs.Parted.{lacks_there, holds_there, stands_for}
 use Rattle.world.specs.Happening.{Means, Happens, wants_memory, refused_alike, stored, put_refused, found, summarized, sent, part_sent, whole_sent, part_refused, whole, part, delivered, delivery_refused, missing, restarted, full, resolved, choice_stored, choice_refused, nothing_chosen, RefusesPut, RefusesDelivery, IsAt, IsKnown, CountTogether, HasPlace, MayPut, MayDeliver, MayHappen}

@@ -6,14 +6,14 @@ use Rattle.std.specs.Option.{option_or}
 use Rattle.std.proofs.lemmas.Bool.{cases_Bool, and_parts, and_from, eq-eqb, eqb-true, both_ways}
 use Rattle.dvv.specs.declared.Dot.{Dot}
 use Rattle.dvv.specs.Clock.{covers}
-use Rattle.object.specs.declared.content.Content.{Content}
-use Rattle.object.specs.declared.content.Key.{Key}
-use Rattle.object.specs.State.{State, is_dot, content_at}
-use Rattle.object.specs.Known.{Write, IsCurrent, InContext, AreUnique}
+use Rattle.key_state.specs.declared.content.Content.{Content}
+use Rattle.key_state.specs.declared.content.Key.{Key}
+use Rattle.key_state.specs.State.{State, is_dot, content_at}
+use Rattle.key_state.specs.Known.{Write, IsCurrent, InContext, AreUnique}
 use Rattle.journal.specs.Entry.{Entry}
 use Rattle.journal.specs.Replay.{IsReplay}
 use Rattle.journal.specs.Journals.{IsJournal}
-use Rattle.object.specs.Known.{NoneSawItself, ShowsKnown, seen_among, written_among, current_among, context_of}
+use Rattle.key_state.specs.Known.{NoneSawItself, ShowsKnown, seen_among, written_among, current_among, context_of}
 use Rattle.journal.specs.Brought.{BringsAll}
 use Rattle.journal.proofs.BroughtLemmas.{siblings_current, context_known}
 use Rattle.world.specs.Knowledge.{IsStateOf}

@@ -4,7 +4,7 @@ use Rattle.std.specs.Prelude.{Contains, slice_set}
 use Rattle.std.proofs.lemmas.Bool.{cases_eq, cases_lt}
 use Rattle.std.proofs.lemmas.List.{append-nil, get_or-set_same}
 use Rattle.std.proofs.lemmas.List.Sums.{sum_by-set, sum_by-append}
-use Rattle.object.specs.declared.content.Key.{Key}
+use Rattle.key_state.specs.declared.content.Key.{Key}
 use Rattle.journal.specs.Entry.{Entry}
 use Rattle.journal.specs.Logs.{Log, with_entry, with_entries}
 use Rattle.journal.specs.Stamps.{stamp_of}

@@ -7,17 +7,17 @@ use Rattle.std.proofs.lemmas.List.{append-nil, get_or-set_same, get_or-set_other
 use Rattle.std.proofs.lemmas.List.Elements.{Contains-append_cases, Contains-push, Contains-push_cases}
 use Rattle.dvv.specs.declared.Dot.{Dot}
 use Rattle.dvv.specs.Clock.{covers, counter, HasRoom, vnodes_together}
-use Rattle.object.specs.declared.content.Content.{Content}
-use Rattle.object.specs.declared.content.Key.{Key}
-use Rattle.object.specs.State.{State, next, kept}
-use Rattle.object.specs.Known.{Write, IsCurrent, AreUnique}
+use Rattle.key_state.specs.declared.content.Content.{Content}
+use Rattle.key_state.specs.declared.content.Key.{Key}
+use Rattle.key_state.specs.State.{State, next, kept}
+use Rattle.key_state.specs.Known.{Write, IsCurrent, AreUnique}
 use Rattle.journal.specs.Keys.{same_key}
 use Rattle.journal.specs.Entry.{Entry, Put, Merge, Read, Restart}
 use Rattle.journal.specs.Logs.{Log, with_entry}
 use Rattle.journal.specs.Replay.{sibling_in, known_in, IsReplay, IsNextDot, LeaveAlike, Knows, Leaves}
 use Rattle.journal.specs.Limits.{TakesEntry, TakesClock, AcceptsPut}
 use Rattle.journal.specs.Journals.{MayFollow, IsJournal}
-use Rattle.object.specs.Known.{ShowsKnown}
+use Rattle.key_state.specs.Known.{ShowsKnown}
 use Rattle.journal.specs.Brought.{Brings, BringsAll, nothing, one_more}
 use Rattle.journal.proofs.Keyed.{one_key}
 use Rattle.journal.proofs.Replayed.{journal_end}

@@ -9,22 +9,22 @@ use Rattle.std.proofs.lemmas.Bool.{cases_lt}
 use Rattle.std.proofs.lemmas.List.{take_more, take_all, length-map, map-append, get_or_default, append-nil, drop_all}
 use Rattle.std.proofs.lemmas.Option.{slice_get_read, slice_get_within, get_or_from_slice_get}
 use Rattle.journal.specs.Logs.{Log}
-use Rattle.helpers.specs.declared.sig.Entry.{Entry as Helper}
-use Rattle.verifier.specs.Program.{Program}
-use Rattle.object.specs.declared.content.Key.{Key}
-use Rattle.object.specs.Known.{Write}
-use Rattle.object.specs.State.{State}
+use Rattle.bpf_helpers.specs.declared.sig.Entry.{Entry as Helper}
+use Rattle.bpf_verifier.specs.Program.{Program}
+use Rattle.key_state.specs.declared.content.Key.{Key}
+use Rattle.key_state.specs.Known.{Write}
+use Rattle.key_state.specs.State.{State}
 use Rattle.world.specs.declared.event.Event.{Event}
 use Rattle.world.specs.declared.event.Event.TheVariants.{Put, Get, Summarize, Send, SendPart, Deliver, Restart, Dump, Load, ResolveRead, ResolveWrite}
 use Rattle.vnode.specs.declared.fault.VnodeFault.{VnodeFault}
 use Rattle.vnode.specs.declared.fault.VnodeFault.TheVariants.{NoMemory, JournalFull}
-use Rattle.hookrun.specs.declared.resolving.Resolution.{Resolution}
+use Rattle.hook_run.specs.declared.resolving.Resolution.{Resolution}
 use Rattle.world.specs.declared.event.Reply.{Reply}
 use Rattle.world.specs.declared.event.Reply.TheVariants.{Restarted, Dumped, Found, Stored, Summarized, Sent, SentPart, Changed, Missing, Loaded, Resolved, Nothing as NothingToPut, Refused}
 use Rattle.world.specs.declared.event.Seen.{Seen}
 use Rattle.world.specs.declared.event.Seen.TheVariants.{Clock as Given, Get as ContextOf}
 use Rattle.world.specs.Knowledge.{Knowledge, KeyedWrite, Copy, Left, Nothing, Copied, Parted, CopiedAll, Chosen, Failed, below, start, known_at, left_by, copies_at, id_under, ids_under, IsStateOf}
-use Rattle.hookrun.specs.Resolving.{chosen_by}
+use Rattle.hook_run.specs.Resolving.{chosen_by}
 use Rattle.world.specs.Happening.{Run, Happens, wants_memory, refused_alike, stored, put_refused, found, summarized, sent, part_sent, whole_sent, part_refused, delivered, delivery_refused, missing, restarted, dumped, dump_refused, loaded, full, resolved, choice_stored, choice_refused, nothing_chosen}
 use Rattle.world.specs.Represents.{Represents, AreDistinct, empty_logs}
 use Rattle.world.specs.Running.{Holds, Remember, Recall, MayReply, MayComeFrom, IsReady, IsReadyContext, IsGetAt, IsMessageAt, IsEarlierContext, IsSentOrRefused, IsMessageOrRefused, ReplyAt, ShowCopies, AreRunnable, AreRunnableFrom, AreNewFrom, IsNewFor, IsNoLoad, Begins, IsRunSoFar, IsKnownSoFar, IsAnswered, found as was_found, copied as was_copied, dumped as was_dumped, kept as was_kept, IsWorldFrom, is_loaded, max_vnodes}

@@ -2,11 +2,11 @@
 use Rattle.std.specs.Prelude.{◌≡◌, ℕ, ◌+◌, ◌≤◌, Bool, false, List, [], ◌∷◌, ◌++◌, length, slice_set}
 use Rattle.std.specs.List.{All}
 use Rattle.std.specs.List.Sorted.{IsStrictlySortedBy}
-use Rattle.object.specs.Parts.{part_of, whole_of, lacks_some, Summarized}
-use Rattle.object.specs.State.{State}
+use Rattle.key_state.specs.Parts.{part_of, whole_of, lacks_some, Summarized}
+use Rattle.key_state.specs.State.{State}
 use Rattle.journal.specs.Answers.{TellsChange}
 use Rattle.journal.specs.Entry.{Entry, Merge}
-use Rattle.object.specs.declared.content.Key.{Key}
+use Rattle.key_state.specs.declared.content.Key.{Key}
 use Rattle.journal.specs.Journals.{MayFollow, IsJournal}
 use Rattle.journal.specs.Keys.{key_cmp}
 use Rattle.journal.specs.Logs.{Log, with_entries, max_entries}

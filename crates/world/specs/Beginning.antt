@@ -3,7 +3,7 @@ use Rattle.std.specs.Prelude.{◌≡◌, ℕ, ◌+◌, List, [], ◌∷◌, take
 use Rattle.journal.specs.Entry.{Entry, Merge}
 use Rattle.journal.specs.Logs.{Log, with_entries}
 use Rattle.vnode.specs.Refusals.{RefusesMerge}
-use Rattle.wire.specs.declared.record.Record.{Record}
+use Rattle.record_codec.specs.declared.record.Record.{Record}
 use Rattle.world.specs.declared.beginning.BeginFault.{BeginFault}
 use Rattle.world.specs.declared.beginning.BeginFault.TheVariants as begin
 use Rattle.world.specs.declared.event.Event.{Event}

@@ -1,6 +1,6 @@
 -- Causality of puts (causal histories, Preguiça et al. 2010).
 use Rattle.std.specs.Prelude.{◌≡◌, ◌≢◌, List, [], ◌∷◌, ◌++◌, Contains}
-use Rattle.object.specs.Known.{Saw}
+use Rattle.key_state.specs.Known.{Saw}
 use Rattle.world.specs.Knowledge.{KeyedWrite}
 
 -- each of a list, with those before it

@@ -1,14 +1,14 @@
 -- What an event may reply and lead to (Riak KV documentation: siblings and causal contexts; the limits are this store's profile).
 use Rattle.std.specs.Prelude.{◌≡◌, ◌≢◌, ℕ, ◌+◌, ◌<◌, ◌≤◌, ◌↔◌, Contains, Bool, List, [], ◌∷◌, ◌++◌, length, MatchBool, Option, Some, None}
-use Rattle.helpers.specs.declared.sig.Entry.{Entry}
-use Rattle.verifier.specs.Program.{Program}
+use Rattle.bpf_helpers.specs.declared.sig.Entry.{Entry}
+use Rattle.bpf_verifier.specs.Program.{Program}
 use Rattle.dvv.specs.declared.Dot.{Dot}
 use Rattle.dvv.specs.Clock.{Covers, HasRoom, vnodes_together}
-use Rattle.object.specs.declared.content.Content.{Content}
-use Rattle.object.specs.declared.content.Key.{Key}
-use Rattle.object.specs.State.{State, kept}
-use Rattle.object.specs.Known.{Write, InContext, IsCurrent}
-use Rattle.object.specs.Parts.{summary_of}
+use Rattle.key_state.specs.declared.content.Content.{Content}
+use Rattle.key_state.specs.declared.content.Key.{Key}
+use Rattle.key_state.specs.State.{State, kept}
+use Rattle.key_state.specs.Known.{Write, InContext, IsCurrent}
+use Rattle.key_state.specs.Parts.{summary_of}
 use Rattle.std.specs.List.{All}
 use Rattle.vnode.specs.States.{keys_of}
 use Rattle.world.specs.declared.event.Copies.{Copies}
@@ -19,7 +19,7 @@ use Rattle.world.specs.declared.event.Event.{Event}
 use Rattle.world.specs.declared.event.Event.TheVariants.{Put, Get, Summarize, Send, SendPart, Deliver, Restart, Dump, Load, ResolveRead, ResolveWrite}
 use Rattle.world.specs.declared.event.Message.{Message}
 use Rattle.world.specs.declared.event.PartMessage.{PartMessage}
-use Rattle.hookrun.specs.declared.resolving.Resolution.{Resolution}
+use Rattle.hook_run.specs.declared.resolving.Resolution.{Resolution}
 use Rattle.world.specs.declared.event.Seen.{Seen}
 use Rattle.world.specs.declared.event.Seen.TheVariants.{Clock as Given, Get as ContextOf}
 use Rattle.vnode.specs.declared.fault.VnodeFault.{VnodeFault}
@@ -27,7 +27,7 @@ use Rattle.vnode.specs.declared.fault.VnodeFault.TheVariants.{ContextAhead, TooM
 use Rattle.world.specs.declared.event.Reply.{Reply}
 use Rattle.world.specs.declared.event.Reply.TheVariants.{Stored, Found, Summarized, Sent, SentPart, Changed, Missing, Restarted, Dumped, Loaded, Resolved, Nothing, Refused}
 use Rattle.world.specs.Knowledge.{Knowledge, KeyedWrite, Copy, Copied, Parted, CopiedAll, Chosen, Failed, left_by, known_at, id_of, accepted_at, IsContext, IsStateOf, IsPartOf, write_of, next_dot, after_refusal, after_put, after_copy, after_part, after_delivery, after_restart, after_dump, after_load, after_run, after_nothing, id_under}
-use Rattle.hookrun.specs.Resolving.{IsResolution, chosen_by}
+use Rattle.hook_run.specs.Resolving.{IsResolution, chosen_by}
 
 -- the earlier event that an event names, by its place
 abbrev pub named : Event → Option ℕ

@@ -3,11 +3,11 @@ use Rattle.std.specs.Prelude.{◌≡◌, ℕ, zero, suc, ◌+◌, ◌*◌, ◌==
 use Rattle.std.specs.List.{flat_map}
 use Rattle.dvv.specs.declared.Dot.{Dot}
 use Rattle.dvv.specs.Clock.{Covers, covers, IsClock}
-use Rattle.object.specs.declared.content.Content.{Content}
-use Rattle.object.specs.declared.content.Key.{Key}
-use Rattle.object.specs.State.{State, AreInOrder}
-use Rattle.object.specs.Known.{Write, InContext, Shows}
-use Rattle.object.specs.Parts.{Partial, summary_of, part_of}
+use Rattle.key_state.specs.declared.content.Content.{Content}
+use Rattle.key_state.specs.declared.content.Key.{Key}
+use Rattle.key_state.specs.State.{State, AreInOrder}
+use Rattle.key_state.specs.Known.{Write, InContext, Shows}
+use Rattle.key_state.specs.Parts.{Partial, summary_of, part_of}
 use Rattle.journal.specs.Keys.{same_key}
 use Rattle.vnode.specs.declared.fault.VnodeFault.{VnodeFault}
 

@@ -1,8 +1,8 @@
 -- How the puts of a world are numbered, and where what is known comes from.
 use Rattle.std.specs.Prelude.{◌≡◌, ℕ, ◌+◌, ◌<◌, List, [], length, count_by, slice_index_or, Contains}
 use Rattle.dvv.specs.declared.Dot.{Dot}
-use Rattle.object.specs.declared.content.Key.{Key}
-use Rattle.object.specs.Known.{Write, Saw}
+use Rattle.key_state.specs.declared.content.Key.{Key}
+use Rattle.key_state.specs.Known.{Write, Saw}
 use Rattle.world.specs.Causality.{EachAfter}
 use Rattle.world.specs.Knowledge.{Knowledge, KeyedWrite, Copy, Copied, Parted, CopiedAll, all_copied, id_of, is_of, left_by}
 

@@ -1,9 +1,9 @@
 -- Vnodes and what they know: a journal is what was known at its vnode, put by put and message by message.
 use Rattle.std.specs.Prelude.{◌≡◌, ℕ, ◌<◌, ◌↔◌, true, List, [], length, slice_set, slice_index_or, Some, map}
 use Rattle.dvv.specs.declared.Dot.{Dot}
-use Rattle.object.specs.declared.content.Content.{Content}
-use Rattle.object.specs.declared.content.Key.{Key}
-use Rattle.object.specs.Known.{Write, IsCurrent, InContext}
+use Rattle.key_state.specs.declared.content.Content.{Content}
+use Rattle.key_state.specs.declared.content.Key.{Key}
+use Rattle.key_state.specs.Known.{Write, IsCurrent, InContext}
 use Rattle.journal.specs.Entry.{Entry}
 use Rattle.journal.specs.Logs.{Log, with_entry}
 use Rattle.journal.specs.Replay.{sibling_in, known_in}

@@ -4,14 +4,14 @@ use Rattle.std.specs.List.{AllZip}
 use Rattle.vnode.specs.declared.steps.Copied.{Copied as Held}
 use Rattle.world.specs.declared.event.Copies.{Copies}
 use Rattle.dvv.specs.declared.Dot.{Dot}
-use Rattle.helpers.specs.declared.sig.Entry.{Entry}
-use Rattle.verifier.specs.Program.{Program}
-use Rattle.object.specs.declared.content.Content.{Content}
-use Rattle.object.specs.declared.content.Key.{Key}
-use Rattle.object.specs.declared.content.Sibling.{Sibling}
-use Rattle.object.specs.Known.{Write}
-use Rattle.object.specs.State.{State}
-use Rattle.object.specs.Parts.{Summarized as Summary, summary_of}
+use Rattle.bpf_helpers.specs.declared.sig.Entry.{Entry}
+use Rattle.bpf_verifier.specs.Program.{Program}
+use Rattle.key_state.specs.declared.content.Content.{Content}
+use Rattle.key_state.specs.declared.content.Key.{Key}
+use Rattle.key_state.specs.declared.content.Sibling.{Sibling}
+use Rattle.key_state.specs.Known.{Write}
+use Rattle.key_state.specs.State.{State}
+use Rattle.key_state.specs.Parts.{Summarized as Summary, summary_of}
 use Rattle.journal.specs.Logs.{Log}
 use Rattle.journal.specs.Replay.{IsReplay}
 use Rattle.world.specs.declared.event.Event.{Event}
@@ -21,13 +21,13 @@ use Rattle.world.specs.declared.event.Seen.TheVariants.{Clock as Given, Get as C
 use Rattle.world.specs.declared.event.Message.{Message}
 use Rattle.world.specs.declared.event.PartMessage.{PartMessage}
 use Rattle.vnode.specs.declared.fault.VnodeFault.{VnodeFault}
-use Rattle.hookrun.specs.declared.resolving.Resolution.{Resolution}
+use Rattle.hook_run.specs.declared.resolving.Resolution.{Resolution}
 use Rattle.world.specs.declared.event.Reply.{Reply}
 use Rattle.world.specs.declared.event.Reply.TheVariants.{Stored, Found, Summarized, Sent, SentPart, Changed, Missing, Restarted, Dumped, Loaded, Resolved, Nothing, Refused}
 use Rattle.world.specs.Causality.{IsCausal}
 use Rattle.world.specs.Happening.{Run, IsNewId}
 use Rattle.world.specs.Knowledge.{Knowledge, Copy, Left, Copied, Parted, CopiedAll, Chosen, Failed, start, left_by, id_under, known_at, IsContext, IsStateOf, IsPartOf}
-use Rattle.hookrun.specs.Resolving.{chosen_by}
+use Rattle.hook_run.specs.Resolving.{chosen_by}
 use Rattle.world.specs.Resolving.{MayRun}
 use Rattle.world.specs.Appending.{AreCopies}
 use Rattle.world.specs.Represents.{ShowsAt, Represents, log_at}

@@ -1,6 +1,6 @@
 -- What the merges of journals name: of which read each brings the answer.
 use Rattle.std.specs.Prelude.{◌≡◌, ℕ, ◌+◌, ◌<◌, List, [], ◌∷◌, ◌++◌, length, map, slice_set, slice_index_or}
-use Rattle.object.specs.declared.content.Key.{Key}
+use Rattle.key_state.specs.declared.content.Key.{Key}
 use Rattle.vnode.specs.declared.steps.Copied.{Copied as Held}
 use Rattle.journal.specs.Entry.{Entry, Put, Merge, Read, Restart}
 use Rattle.journal.specs.Logs.{Log, with_entries}

@@ -10,10 +10,10 @@ ghost use Rattle.vnode.specs.Refusals.{RefusesMerge};
 ghost use Rattle.world.specs.declared.beginning.BeginFault.TheVariants as begin;
 ghost use Rattle.world.specs.Beginning.{RefusesRecordsAt, merges_of};
 
+use record_codec::Record;
 use std::alloc::AllocError;
 use thiserror::Error;
 use vnode::{Vnode, VnodeFault};
-use wire::Record;
 
 /// Why a run doesn't begin from records.
 #[derive(Clone, Copy, Debug, PartialEq, Eq, Error)]

@@ -2,8 +2,8 @@
 
 use crate::hook::Hook;
 use dvv::{Clock, Dot};
-use hookrun::Resolution;
-use object::{Content, Key, KeyState, Part, Summary};
+use hook_run::Resolution;
+use key_state::{Content, Key, KeyState, Part, Summary};
 use vnode::{Copied, VnodeFault};
 
 /// What a put had seen.

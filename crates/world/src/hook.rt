@@ -2,10 +2,10 @@
 
 ghost use Rattle.std.specs.Prelude.{◌≡◌, IfOk};
 
+use bpf_verifier::Verified;
 use std::alloc::{AllocError, Global};
 use std::marker::Model;
 use std::sync::Arc;
-use verifier::Verified;
 
 /// A verified program that an event runs as a hook. Events share it. Contracts see the program.
 #[derive(Drop)]
@@ -15,7 +15,7 @@ pub struct Hook {
 
 impl Model for Hook {
     ghost use Rattle.std.specs.Arc.{arc_value};
-    ghost use Rattle.verifier.specs.Program.{Program};
+    ghost use Rattle.bpf_verifier.specs.Program.{Program};
 
     ghost Value = { Program };
 

@@ -2,13 +2,13 @@
 
 ghost use Rattle.std.specs.Prelude.{◌≡◌, ℕ, ◌<◌, ◌≤◌, ◌↔◌, ◌++◌, ◌∷◌, [], false, IsTrue, List, length, map};
 ghost use Rattle.dvv.specs.declared.Dot.{Dot};
-ghost use Rattle.helpers.specs.declared.sig.Entry.{Entry as Helper};
-ghost use Rattle.object.specs.declared.content.Content.{Content};
-ghost use Rattle.object.specs.declared.content.Key.{Key};
-ghost use Rattle.object.specs.declared.content.Sibling.{Sibling};
-ghost use Rattle.object.specs.Known.{Write};
-ghost use Rattle.object.specs.Parts.{Partial, lacks_some, whole_of};
-ghost use Rattle.object.specs.State.{State};
+ghost use Rattle.bpf_helpers.specs.declared.sig.Entry.{Entry as Helper};
+ghost use Rattle.key_state.specs.declared.content.Content.{Content};
+ghost use Rattle.key_state.specs.declared.content.Key.{Key};
+ghost use Rattle.key_state.specs.declared.content.Sibling.{Sibling};
+ghost use Rattle.key_state.specs.Known.{Write};
+ghost use Rattle.key_state.specs.Parts.{Partial, lacks_some, whole_of};
+ghost use Rattle.key_state.specs.State.{State};
 ghost use Rattle.journal.specs.Entry.{Entry, Put, Merge, Read, Restart};
 ghost use Rattle.journal.specs.Journals.{MayFollow};
 ghost use Rattle.journal.specs.Limits.{TakesEntry};

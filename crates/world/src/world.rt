@@ -1,11 +1,11 @@
 //! Whole runs.
 
 ghost use Rattle.std.specs.Option.{option_copied};
-ghost use Rattle.helpers.specs.declared.sig.Entry.{Entry as Helper};
+ghost use Rattle.bpf_helpers.specs.declared.sig.Entry.{Entry as Helper};
 ghost use Rattle.std.specs.Prelude.{◌≡◌, ◌↔◌, ℕ, ◌<◌, ◌≤◌, ◌^◌, ◌+◌, ◌⊎◌, List, [], ◌∷◌, ◌++◌, length, slice_get, slice_set, slice_index_or, Some, IfOk, IfErr, OnOk, OnErr};
-ghost use Rattle.verifier.specs.Program.{Program};
+ghost use Rattle.bpf_verifier.specs.Program.{Program};
 ghost use Rattle.dvv.specs.declared.Dot.{Dot as Identifier};
-ghost use Rattle.object.specs.declared.content.Key.{Key as StoredKey};
+ghost use Rattle.key_state.specs.declared.content.Key.{Key as StoredKey};
 ghost use Rattle.journal.specs.Entry.{Put, Merge, Read, Restart};
 ghost use Rattle.world.specs.declared.event.Event.TheVariants as event;
 ghost use Rattle.journal.specs.Logs.{Log, with_entry, max_entries};
@@ -21,8 +21,8 @@ ghost use Rattle.vnode.specs.Keys.{AreKeys};
 ghost use Rattle.vnode.specs.States.{keys_of};
 ghost use Rattle.journal.specs.Keys.{key_cmp};
 ghost use Rattle.std.specs.List.Sorted.{IsStrictlySortedBy};
-ghost use Rattle.object.specs.State.{State, empty};
-ghost use Rattle.object.specs.Parts.{summary_of};
+ghost use Rattle.key_state.specs.State.{State, empty};
+ghost use Rattle.key_state.specs.Parts.{summary_of};
 ghost use Rattle.vnode.specs.Parts.{RefusesPart};
 ghost use Rattle.journal.specs.Limits.{TakesEntry};
 ghost use Rattle.world.specs.Stamped.{AreStamped};
@@ -34,15 +34,15 @@ ghost use Rattle.world.specs.Beginning.{BeginsWith, RefusesRecords, first_logs, 
 use crate::beginning::{BeginFault, merge_all};
 use crate::event::{Copies, Event, Message, PartMessage, Reply, Seen};
 use crate::hook::Hook;
+use bpf_helpers::Table;
 use dvv::{Clock, Dot};
-use helpers::Table;
-use hookrun::{Resolution, Room, Unresolved, resolve};
-use object::{Content, Key, KeyState, Summary};
+use hook_run::{Resolution, Room, Unresolved, resolve};
+use key_state::{Content, Key, KeyState, Summary};
+use record_codec::Record;
 use std::alloc::{AllocError, Global};
 use std::marker::Model;
 use std::mem;
 use vnode::{Copied, PartFault, Vnode, VnodeFault};
-use wire::Record;
 
 /// A world after a run: its vnodes, each seen as its journal, and what each event replied.
 #[derive(Drop)]

@@ -2,13 +2,13 @@
 
 ghost use Rattle.std.specs.Prelude.{◌≡◌, ◌+◌, ◌-◌, ◌^◌, min, if◌then◌else◌};
 
+use cluster::{Cluster, Open, Pass, Room};
+use cluster_peers::PassPeers;
 use dvv::{Clock, Dot};
-use object::{Content, Key, KeyState, Part};
+use key_state::{Content, Key, KeyState, Part};
 use peers::{Answer, PartAnswer, PeerFault, Peers, SummaryAnswer};
-use pool::{Cluster, Open, Pass, Room};
 use std::alloc::Global;
 use std::sync::Wait;
-use workers::PassPeers;
 
 /// The vnodes of a cluster, by a pass of its own: each call is that of [`PassPeers`]. A pass that is held comes back as it was left.
 #[derive(Drop)]
@@ -54,7 +54,7 @@ impl<'a, B: Room, R: Wait> HeldPeers<'a, B, R> {
 
 impl<B: Room, R: Wait> Peers for HeldPeers<'_, B, R> {
     ghost use Rattle.std.specs.Prelude.{refl};
-    ghost use Rattle.workers.specs.Peering.{PassStep};
+    ghost use Rattle.cluster_peers.specs.Peering.{PassStep};
 
     ghost happens = { λ old call new. PassStep old.cluster.now old.pass old.failures call new.pass new.failures 0 0 new.cluster.now };
 

@@ -2,8 +2,8 @@
 
 ghost use Rattle.std.specs.Prelude.{◌≡◌, true};
 
-use closing::{Spot, Watch};
-use pool::Room;
+use audit_cluster::{Spot, Watch};
+use cluster::Room;
 use std::time::Duration;
 
 /// Workers rest where so many entries wait to be followed, or more, or the contents of as many.

@@ -1,9 +1,9 @@
 //! What is told on standard error while requests are answered.
 
-use closing::{Alarm, Notice};
+use audit_cluster::{Alarm, Notice};
+use server_log::{Line, Ration, Trouble};
 use std::io::{Eprint, Stderr};
 use std::sync::{Mutex, Wait};
-use troubles::{Line, Ration, Trouble};
 
 /// Tells notices on standard error.
 #[derive(Clone, Copy)]

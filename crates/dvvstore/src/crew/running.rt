@@ -1,8 +1,8 @@
 //! A crew at work, from its beginning to what is left of it.
 
 ghost use Rattle.std.specs.Prelude.{◌≡◌, ◌+◌, ◌++◌, ◌≤◌, List, IfOk, map, vec_len};
-ghost use Rattle.stamps.specs.declared.view.Told.{Told};
-ghost use Rattle.closing.specs.Following.{IsFollowedTo, IsSaidOf};
+ghost use Rattle.cluster_stamps.specs.declared.view.Told.{Told};
+ghost use Rattle.audit_cluster.specs.Following.{IsFollowedTo, IsSaidOf};
 ghost use Rattle.dvvstore.specs.Asides.{AreGathered, GoOn, count_of, passes_of};
 ghost use Rattle.dvvstore.specs.Visits.{AfterVisits, HaveVisited, begun};
 
@@ -10,14 +10,14 @@ use crate::crew::signs::Signs;
 use crate::crew::working::{Lookout, Seat, Shared, work_attended};
 use crate::nowhere::Nowhere;
 use crate::saver::Saver;
-use closing::{Closed, Spot, Watch, close_keeping, close_watched};
-use findings::{Followed, WatchFault};
-use folder::Folder;
-use hooks::{HookChanges, Hooks};
+use audit_cluster::{Closed, Spot, Watch, close_keeping, close_watched};
+use audit_faults::{Followed, WatchFault};
+use cluster::{Cluster, Pass, Room};
+use hook_registry::{HookChanges, Hooks};
+use kept_folder::Folder;
 use kept_hooks::Requests;
-use listener::Lobby;
-use loading::Passes;
-use pool::{Cluster, Pass, Room};
+use kept_restore::Passes;
+use server_accept::Lobby;
 use std::alloc::{AllocError, Global};
 use std::sync::Wait;
 use std::thread;

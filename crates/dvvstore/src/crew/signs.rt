@@ -1,7 +1,7 @@
 //! What somebody looks at who does something beside the workers.
 
 use kept_hooks::Requests;
-use listener::Lobby;
+use server_accept::Lobby;
 use std::alloc::{AllocError, Global};
 use std::sync::atomic::AtomicBool;
 use std::sync::atomic::Ordering::SeqCst;

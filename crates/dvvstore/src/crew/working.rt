@@ -1,28 +1,30 @@
 //! Workers, and a thread that hands them connections and follows what they do.
 
 ghost use Rattle.std.specs.Prelude.{◌≡◌, IfOk, map, vec_len};
-ghost use Rattle.listener.specs.Waiting.{HasHadNone};
-ghost use Rattle.place.specs.Places.{copies_of};
-ghost use Rattle.serving.specs.Passes.{GivesUnnoted, unnoted};
-ghost use Rattle.sockets.specs.Work.{Stays, Works};
-ghost use Rattle.store.specs.View.{StoreView};
+ghost use Rattle.server_accept.specs.Waiting.{HasHadNone};
+ghost use Rattle.ring.specs.Places.{copies_of};
+ghost use Rattle.server_one_thread.specs.Passes.{GivesUnnoted, unnoted};
+ghost use Rattle.server_sockets.specs.Work.{Stays, Works};
+ghost use Rattle.server_store.specs.View.{StoreView};
 ghost use Rattle.dvvstore.specs.Visits.{HasLed, HasVisited, HaveVisited, Leads, begun};
 
 use crate::crew::held::HeldPeers;
 use crate::crew::pace::{Next, Pace, keeps_snapshots_waiting};
 use crate::crew::reporter::{Aloud, Reporter};
 use crate::crew::signs::Signs;
-use closing::{Spot, Watch};
-use hooks::{HookChanges, Hooks};
-use httpfront::Backend;
+use audit_cluster::{Spot, Watch};
+use cluster::{Cluster, Pass, Room};
+use hook_registry::{HookChanges, Hooks};
+use http_connection::Backend;
 use kept_hooks::{Recorder, Requests};
-use listener::{Lobby, Post, Timer};
 use peers::Peers;
-use place::Placement;
-use pool::{Cluster, Pass, Room};
 use quorum::Hooking;
-use serving::passes::exchanges_are_by_a_pass;
-use sockets::{Orders, Stance, Worker};
+use ring::Placement;
+use server_accept::{Lobby, Post, Timer};
+use server_log::{Noted, Trouble};
+use server_one_thread::passes::exchanges_are_by_a_pass;
+use server_sockets::{Orders, Stance, Worker};
+use server_store::{NotingBackend, Store};
 use std::alloc::{AllocError, Global};
 use std::io::Stderr;
 use std::sync::atomic::AtomicBool;
@@ -31,8 +33,6 @@ use std::sync::{Mutex, Wait};
 use std::thread;
 use std::thread::{Parker, Threads};
 use std::time::Duration;
-use store::{NotingBackend, Store};
-use troubles::{Noted, Trouble};
 
 /// So many stamps are followed in one turn, in some two tenths of a millisecond. Connections that come meanwhile wait, and so may a thread
 /// that shares the processor.

@@ -1,9 +1,9 @@
 //! How fast a snapshot of a vnode goes on.
 
 use crate::crew::Signs;
-use keeping::Pace;
-use listener::{Post, Stint, Timer};
-use sockets::Stance;
+use kept_file::Pace;
+use server_accept::{Post, Stint, Timer};
+use server_sockets::Stance;
 use std::sync::Wait;
 use std::thread::Parker;
 use std::time::Duration;

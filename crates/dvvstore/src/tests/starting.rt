@@ -5,17 +5,17 @@ use crate::nowhere::Nowhere;
 use crate::session;
 use crate::session::{Left, Making, Tenant};
 use crate::tests::two_tables;
-use code_parts::expect;
+use audit_faults::{Followed, WatchFault};
 use dvv::Clock;
-use findings::{Followed, WatchFault};
-use folder::{Held, Settings};
-use keeping::KeptFile;
-use object::{Content, Key, KeyState};
+use kept_file::KeptFile;
+use kept_folder::{Held, Settings};
+use key_state::{Content, Key, KeyState};
+use record_codec::Record;
 use std::alloc::Global;
 use std::io;
 use std::test::Fail;
+use test_support::expect;
 use vnode::Seed;
-use wire::Record;
 
 /// So many keys each vnode begins with: its journal hands out some blocks while it takes them over.
 const KEYS: usize = 25_000;

@@ -1,9 +1,9 @@
 use Rattle.std.proofs.Common.{List, ℕ, subst}
 use Rattle.std.specs.Io.KnownBytes.{Appends}
-use Rattle.admission.specs.declared.refusal.Refusal.{Refusal}
-use Rattle.admission.specs.declared.refusal.Refusal.TheVariants as refusal
-use Rattle.explain.specs.Explained.{IsExplained, IsUnexplained}
-use Rattle.explain.specs.declared.explanation.Explanation.{Explanation}
+use Rattle.bpf_admission.specs.declared.refusal.Refusal.{Refusal}
+use Rattle.bpf_admission.specs.declared.refusal.Refusal.TheVariants as refusal
+use Rattle.bpf_explain.specs.Explained.{IsExplained, IsUnexplained}
+use Rattle.bpf_explain.specs.declared.explanation.Explanation.{Explanation}
 use Rattle.commands.proofs.Parts.{explained_by, unexplained_told}
 use Rattle.commands.proofs.explained.explain.Goals as goal
 

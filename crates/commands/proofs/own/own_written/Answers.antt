@@ -2,7 +2,7 @@ use Rattle.std.proofs.Common.{sym, ap, subst, ◌∙◌}
 use Rattle.std.specs.Prelude.{IsSome}
 use Rattle.std.specs.Option.{option_map}
 use Rattle.std.proofs.lemmas.Bool.{true≢false}
-use Rattle.helpers.specs.Shapes.{shape_of}
+use Rattle.bpf_helpers.specs.Shapes.{shape_of}
 use Rattle.commands.proofs.own.own_written.Goals as goal
 
 pub unreachable-requires : goal.unreachable-requires

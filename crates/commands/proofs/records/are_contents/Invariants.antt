@@ -1,5 +1,5 @@
 use Rattle.std.proofs.Common.{take}
-use Rattle.wire.specs.Records.{AreContents}
+use Rattle.record_codec.specs.Records.{AreContents}
 use Rattle.commands.proofs.records.are_contents.Given as goal
 
 abbrev pub invariant-loop-sibling : goal.invariant-loop-sibling

@@ -1,5 +1,5 @@
 use Rattle.std.proofs.Common.{subst}
-use Rattle.script.specs.Printing.{Simulated}
+use Rattle.script_run.specs.Printing.{Simulated}
 use Rattle.commands.proofs.simulate.simulate.Goals as goal
 
 pub returns-clause-simulated : goal.returns-clause-simulated

@@ -2,8 +2,8 @@ use denote.Exit.{no}
 use denote.Param.Send.{arg_send, param_send, shr_send, shr_slice_send}
 use denote.Param.{param}
 use Rattle.std.proofs.alloc.Global.TheSendSync as heap
-use Rattle.pool.proofs.Sent.{cluster_sync}
-use Rattle.loading.proofs.Sent.{file_sync, six_send}
+use Rattle.cluster.proofs.Sent.{cluster_sync}
+use Rattle.kept_restore.proofs.Sent.{file_sync, six_send}
 use Rattle.dvvstore.proofs.Sent.{load_sync, spares_alone}
 use Rattle.dvvstore.proofs.beginning.begin.Goals as goal
 

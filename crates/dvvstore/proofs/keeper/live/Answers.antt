@@ -1,6 +1,6 @@
 use Rattle.std.proofs.Common.{◌∙◌, ◌+◌, ◌++◌, List, ℕ, subst}
-use Rattle.closing.specs.Following.{IsSaidOf}
-use Rattle.keeping.specs.Files.{records_at}
+use Rattle.audit_cluster.specs.Following.{IsSaidOf}
+use Rattle.kept_file.specs.Files.{records_at}
 use Rattle.dvvstore.proofs.Staying.{three_begin}
 use Rattle.dvvstore.proofs.VisitLemmas.{gathered_after}
 use Rattle.dvvstore.proofs.keeper.live.Goals as goal

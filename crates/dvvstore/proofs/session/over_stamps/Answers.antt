@@ -1,5 +1,5 @@
 use Rattle.std.proofs.Common.{ap, rules}
-use Rattle.stamps.specs.declared.view.Size.{Size}
+use Rattle.cluster_stamps.specs.declared.view.Size.{Size}
 use Rattle.dvvstore.specs.Keeping.{files_for, files_of}
 use Rattle.dvvstore.proofs.Staying.{leaves_as}
 use Rattle.dvvstore.proofs.session.over_stamps.Goals as goal

@@ -1,4 +1,4 @@
-use Rattle.shared_hooks.specs.Lists.{list_of}
+use Rattle.hook_sharing.specs.Lists.{list_of}
 use Rattle.dvvstore.proofs.session.over_stamps.Given as goal
 
 -- the opening's own list

@@ -1,6 +1,6 @@
 use denote.Param.Send.{sendable}
 use Rattle.std.proofs.Crossing.{crosses}
-use Rattle.listener.proofs.Sent.{lobby_sync}
+use Rattle.server_accept.proofs.Sent.{lobby_sync}
 use Rattle.dvvstore.proofs.tests.two_workers.Goals as goal
 
 pub join-answered-requires-send-F : goal.join-answered-requires-send-F

@@ -1,8 +1,8 @@
 use Rattle.std.proofs.Common.{◌≡◌, List, take, drop, suc, sym, subst}
 use Rattle.std.proofs.lemmas.List.{take_all}
 use Rattle.dvv.specs.Clock.{vnodes_together}
-use Rattle.object.specs.declared.fault.MergeFault
-use Rattle.object.specs.State.{State, is_changed_by}
+use Rattle.key_state.specs.declared.fault.MergeFault
+use Rattle.key_state.specs.State.{State, is_changed_by}
 use Rattle.journal.specs.Replay.{IsMergeOf, merges_of}
 use Rattle.peers.specs.declared.peers.Answer.{Answer}
 use Rattle.quorum.specs.Gets.{states_of, PassesClock}

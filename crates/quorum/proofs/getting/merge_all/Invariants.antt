@@ -1,5 +1,5 @@
 use Rattle.std.proofs.Common.{take}
-use Rattle.object.specs.declared.content.Key.{Key}
+use Rattle.key_state.specs.declared.content.Key.{Key}
 use Rattle.journal.specs.Replay.{IsMergeOf}
 use Rattle.quorum.specs.Gets.{states_of, PassesClock}
 use Rattle.quorum.proofs.getting.merge_all.Given as goal

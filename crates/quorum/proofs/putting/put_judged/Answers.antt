@@ -1,6 +1,6 @@
 use Rattle.std.proofs.Common.{[], ◌∷◌, Ok, Err, Some, refl, ap, subst, List}
-use Rattle.object.specs.declared.content.Sibling.{Sibling}
-use Rattle.hookrun.specs.Decisions.{IsDecision}
+use Rattle.key_state.specs.declared.content.Sibling.{Sibling}
+use Rattle.hook_run.specs.Decisions.{IsDecision}
 use Rattle.peers.specs.Calls.{StateOf}
 use Rattle.quorum.specs.Judged.{or_same}
 use Rattle.quorum.proofs.PutLemmas.{one_first}

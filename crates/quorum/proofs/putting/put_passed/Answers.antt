@@ -1,5 +1,5 @@
 use Rattle.std.proofs.Common.{Ok, Option, ap, sym, ◌∙◌, subst}
-use Rattle.object.specs.declared.content.Content.{Content}
+use Rattle.key_state.specs.declared.content.Content.{Content}
 use Rattle.quorum.specs.Judged.{AfterJudged, or_same}
 use Rattle.quorum.proofs.putting.put_passed.Goals as goal
 

@@ -1,5 +1,5 @@
 use Rattle.std.proofs.Common.{sym, ◌∙◌, ap}
-use Rattle.object.specs.Parts.{Summarized}
+use Rattle.key_state.specs.Parts.{Summarized}
 use Rattle.repair.proofs.laws.alike_are_equal.Goals as goal
 
 pub returns : goal.returns

@@ -1,6 +1,6 @@
 use Rattle.std.proofs.Common.{◌≡◌, rules}
 use Rattle.std.specs.Prelude.{All, IsTrue}
-use Rattle.object.specs.Parts.{summary_of}
+use Rattle.key_state.specs.Parts.{summary_of}
 use Rattle.peers.specs.declared.peers.Answer.{Answer}
 use Rattle.repair.proofs.RepairLemmas.{none_delivered}
 use Rattle.repair.proofs.repairing.are_alike.Goals as goal

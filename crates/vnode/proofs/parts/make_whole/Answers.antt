@@ -3,7 +3,7 @@ use Rattle.std.specs.Prelude.{IsTrue}
 use Rattle.dvv.specs.declared.Dot.{Dot}
 use Rattle.dvv.specs.Clock.{vnodes_together}
 use Rattle.journal.specs.Limits.{TakesClock}
-use Rattle.object.specs.Parts.{Partial}
+use Rattle.key_state.specs.Parts.{Partial}
 use Rattle.vnode.specs.declared.fault.PartFault.TheVariants.{Refused}
 use Rattle.vnode.specs.Parts.{RefusesBroughtAt}
 use Rattle.vnode.proofs.Lacking.{not_missing}

@@ -1,5 +1,5 @@
 use Rattle.std.proofs.Common.{◌∙◌, ◌↔◌, IsTrue, sym, ap, subst}
-use Rattle.object.specs.State.{empty, Merges, HaveSameDots}
+use Rattle.key_state.specs.State.{empty, Merges, HaveSameDots}
 use Rattle.journal.specs.Limits.{TakesEntry}
 use Rattle.vnode.specs.declared.fault.PartFault.TheVariants.{Refused}
 use Rattle.vnode.specs.declared.fault.VnodeFault.TheVariants.{NoMemory}

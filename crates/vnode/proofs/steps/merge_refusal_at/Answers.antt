@@ -1,5 +1,5 @@
 use Rattle.std.proofs.Common.{ap, subst, sym, ◌∙◌, unwrap_or}
-use Rattle.object.specs.State.{State, empty}
+use Rattle.key_state.specs.State.{State, empty}
 use Rattle.vnode.specs.Refusals.{RefusesMergeAt}
 use Rattle.vnode.proofs.Mapped.{state_at-absent}
 use Rattle.vnode.proofs.steps.merge_refusal_at.Goals as goal

@@ -1,6 +1,6 @@
 use Rattle.std.proofs.Common.{◌≡◌, ◌≤◌, List, vec_len, vec_capacity}
 use Rattle.std.specs.List.{All}
-use Rattle.hooks.specs.Changes.{Change}
+use Rattle.hook_registry.specs.Changes.{Change}
 use Rattle.worker_hooks.proofs.opening.readers_of.Given as goal
 
 abbrev pub invariant-loop : goal.invariant-loop

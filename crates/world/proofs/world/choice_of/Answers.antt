@@ -1,9 +1,9 @@
 use Rattle.std.proofs.Common.{List, Option, sym, subst, ap, ◌∙◌}
 use Rattle.std.specs.Option.{option_copied}
 use Rattle.dvv.specs.declared.Dot.{Dot}
-use Rattle.object.specs.declared.content.Content.{Content}
+use Rattle.key_state.specs.declared.content.Content.{Content}
 use Rattle.world.specs.declared.event.Reply.TheVariants as reply
-use Rattle.hookrun.specs.Resolving.{chosen_by}
+use Rattle.hook_run.specs.Resolving.{chosen_by}
 use Rattle.world.specs.Running.{IsChoiceOf}
 use Rattle.world.proofs.Runs.{choice_held, never_refused}
 use Rattle.world.proofs.world.choice_of.Goals as goal

@@ -1,7 +1,7 @@
 use Rattle.std.proofs.Common.{[], List, subst}
 use Rattle.std.specs.Prelude.{◌↔◌, ◌+◌, ◌<◌, ◌≡◌, length}
 use Rattle.std.proofs.lemmas.List.{get_or_default}
-use Rattle.object.specs.declared.content.Key.{Key}
+use Rattle.key_state.specs.declared.content.Key.{Key}
 use Rattle.journal.specs.Logs.{Log, max_entries}
 use Rattle.vnode.specs.declared.fault.VnodeFault.TheVariants.{JournalFull}
 use Rattle.vnode.specs.Keys.{AreKeys}

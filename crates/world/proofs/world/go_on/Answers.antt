@@ -2,7 +2,7 @@ use Rattle.std.proofs.Common.{◌≡◌, ℕ, ◌+◌, List, length, take, sym, 
 use Rattle.std.specs.Prelude.{slice_get}
 use Rattle.std.proofs.lemmas.List.{take_all, length-take-le}
 use Rattle.std.proofs.lemmas.Option.{slice_get_read}
-use Rattle.helpers.specs.declared.sig.Entry.{Entry as Helper}
+use Rattle.bpf_helpers.specs.declared.sig.Entry.{Entry as Helper}
 use Rattle.world.specs.declared.event.Event.{Event}
 use Rattle.world.specs.declared.event.Reply.{Reply}
 use Rattle.world.specs.Running.{IsRunSoFar, IsKnownSoFar, IsReady, Remember, Recall}

@@ -1,6 +1,6 @@
 use Rattle.std.proofs.Common.{◌+◌, List, take, arith, ap, sym, subst, ◌∙◌}
 use Rattle.std.proofs.lemmas.List.{take_all, length-take-le}
-use Rattle.object.specs.State.{empty}
+use Rattle.key_state.specs.State.{empty}
 use Rattle.journal.specs.Entry.{Entry, Merge}
 use Rattle.journal.specs.Limits.{TakesEntry}
 use Rattle.journal.specs.Logs.{Log, with_entry}

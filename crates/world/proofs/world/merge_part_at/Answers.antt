@@ -1,7 +1,7 @@
 use Rattle.std.proofs.Common.{List, [], ap, refl, sym, subst, ◌∙◌, ◌∷◌}
 use Rattle.std.specs.Prelude.{slice_set}
 use Rattle.std.proofs.lemmas.List.{get_or_default, set-get_or}
-use Rattle.object.specs.Parts.{whole_of}
+use Rattle.key_state.specs.Parts.{whole_of}
 use Rattle.journal.specs.Entry.{Merge}
 use Rattle.journal.specs.Logs.{Log}
 use Rattle.vnode.specs.Parts.{RefusesPart}

@@ -1,7 +1,7 @@
 use Rattle.std.proofs.Common.{List, subst}
-use Rattle.object.specs.declared.content.Sibling.{Sibling}
-use Rattle.verifier.specs.Program.{Program}
-use Rattle.hookrun.specs.Resolving.{IsResolution}
+use Rattle.key_state.specs.declared.content.Sibling.{Sibling}
+use Rattle.bpf_verifier.specs.Program.{Program}
+use Rattle.hook_run.specs.Resolving.{IsResolution}
 use Rattle.world.proofs.Runs.{run_happened, run_wants, get_was_refused}
 use Rattle.world.proofs.world.resolve_read.Goals as goal
 

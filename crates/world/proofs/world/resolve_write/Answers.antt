@@ -1,6 +1,6 @@
 use Rattle.std.proofs.Common.{Option, Bor, subst}
 use Rattle.std.specs.Option.{option_copied}
-use Rattle.object.specs.declared.content.Content.{Content}
+use Rattle.key_state.specs.declared.content.Content.{Content}
 use Rattle.world.specs.declared.event.Event.TheVariants as event
 use Rattle.world.specs.declared.event.Reply.TheVariants as reply
 use Rattle.world.specs.Running.{IsChoiceOf}

@@ -1,6 +1,6 @@
 use Rattle.std.proofs.Common.{◌≡◌, [], refl, subst, ◌∷◌}
 use Rattle.std.proofs.lemmas.List.{get_or_default}
-use Rattle.object.specs.Parts.{summary_of}
+use Rattle.key_state.specs.Parts.{summary_of}
 use Rattle.journal.specs.Entry.{Read}
 use Rattle.journal.specs.Logs.{Log}
 use Rattle.journal.specs.Replay.{Leaves}

@@ -1,5 +1,5 @@
 use Rattle.std.proofs.Common.{List, subst}
-use Rattle.stamps.specs.declared.view.Told.{Told}
+use Rattle.cluster_stamps.specs.declared.view.Told.{Told}
 use Rattle.dvvstore.specs.Asides.{AreGathered}
 use Rattle.dvvstore.proofs.Among.{told_among}
 use Rattle.dvvstore.proofs.VisitLemmas.{told_after}

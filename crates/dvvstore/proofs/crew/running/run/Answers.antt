@@ -1,9 +1,9 @@
 use denote.Exit.{no}
 use denote.Param.Send.{shr_send, arg_send, param_send}
 use denote.Param.{param}
-use Rattle.listener.proofs.Sent.{lobby_sync}
-use Rattle.pool.proofs.Sent.{cluster_sync}
-use Rattle.loading.proofs.Sent.{six_send}
+use Rattle.server_accept.proofs.Sent.{lobby_sync}
+use Rattle.cluster.proofs.Sent.{cluster_sync}
+use Rattle.kept_restore.proofs.Sent.{six_send}
 use Rattle.dvvstore.proofs.Sent.{saver_send, shared_sync, spares_send}
 use Rattle.dvvstore.proofs.crew.running.run.Goals as goal
 

@@ -1,6 +1,6 @@
 use Rattle.std.proofs.Common.{List, [], ◌++◌, subst}
-use Rattle.closing.specs.Following.{IsFollowedTo}
-use Rattle.stamps.specs.declared.view.Told.{Told}
+use Rattle.audit_cluster.specs.Following.{IsFollowedTo}
+use Rattle.cluster_stamps.specs.declared.view.Told.{Told}
 use Rattle.dvvstore.proofs.VisitLemmas.{no_visits, told_after}
 use Rattle.dvvstore.proofs.crew.running.serve.Goals as goal
 

@@ -1,6 +1,6 @@
 use Rattle.std.proofs.Common.{ap}
-use Rattle.place.specs.Places.{copies_of}
-use Rattle.serving.specs.Passes.{GivesUnnoted, unnoted}
+use Rattle.ring.specs.Places.{copies_of}
+use Rattle.server_one_thread.specs.Passes.{GivesUnnoted, unnoted}
 use Rattle.dvvstore.proofs.VisitLemmas.{leads_as, leads_first, led}
 use Rattle.dvvstore.proofs.crew.working.stay.Goals as goal
 use Rattle.dvvstore.proofs.crew.working.stay.Goals.{in-None, in-Some+then-not-take_turn}

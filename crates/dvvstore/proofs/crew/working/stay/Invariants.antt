@@ -1,6 +1,6 @@
-use Rattle.listener.specs.Waiting.{HasHadNone}
-use Rattle.place.specs.Places.{copies_of}
-use Rattle.serving.specs.Passes.{GivesUnnoted, unnoted}
+use Rattle.server_accept.specs.Waiting.{HasHadNone}
+use Rattle.ring.specs.Places.{copies_of}
+use Rattle.server_one_thread.specs.Passes.{GivesUnnoted, unnoted}
 use Rattle.dvvstore.specs.Visits.{Leads}
 use Rattle.dvvstore.proofs.crew.working.stay.Given as goal
 

@@ -1,5 +1,5 @@
-use Rattle.place.specs.Places.{copies_of}
-use Rattle.serving.specs.Passes.{GivesUnnoted, unnoted}
+use Rattle.ring.specs.Places.{copies_of}
+use Rattle.server_one_thread.specs.Passes.{GivesUnnoted, unnoted}
 use Rattle.dvvstore.proofs.VisitLemmas.{leads_round}
 use Rattle.dvvstore.proofs.crew.working.take_turn.Goals as goal
 

@@ -1,6 +1,6 @@
 use Rattle.std.proofs.Common.{◌≡◌, ◌∙◌, [], ap, refl}
-use Rattle.store.specs.View.{shown}
-use Rattle.workers.specs.Peering.{PassStep}
+use Rattle.server_store.specs.View.{shown}
+use Rattle.cluster_peers.specs.Peering.{PassStep}
 use Rattle.dvvstore.proofs.VisitLemmas.{begun_as, visited_by}
 use Rattle.dvvstore.proofs.crew.working.visit.Goals as goal
 

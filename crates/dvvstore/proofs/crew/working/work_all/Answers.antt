@@ -9,11 +9,11 @@ use mir.Syntax.{Sym, erased}
 use mathlib.Core.List.{[], ◌∷◌}
 use Rattle.std.proofs.Common.{arith, slice_index_or, subst, sym}
 use Rattle.std.proofs.alloc.Global.TheSendSync as heap
-use Rattle.listener.proofs.Sent.{lobby_sync}
+use Rattle.server_accept.proofs.Sent.{lobby_sync}
 use Rattle.dvvstore.proofs.Sent.{shared_sync}
 use Rattle.dvvstore.proofs.SeatSent.{seat_send}
 use Rattle.dvvstore.specs.contracts.crew.working.work_all as work_all
-use Rattle.pool.proofs.Sent.{cluster_sync}
+use Rattle.cluster.proofs.Sent.{cluster_sync}
 use Rattle.dvvstore.specs.Visits.{HasVisited, begun}
 use Rattle.dvvstore.proofs.VisitLemmas.{have_visited, if_both}
 use Rattle.dvvstore.proofs.crew.working.work_all.Goals as goal

@@ -5,8 +5,8 @@ use denote.Struct.Tuple.{TupleAt}
 use mir.Syntax.{Sym, erased}
 use mathlib.Core.List.{[], ◌∷◌}
 use Rattle.std.proofs.alloc.Global.TheSendSync as heap
-use Rattle.listener.proofs.Sent.{lobby_sync}
-use Rattle.pool.proofs.Sent.{cluster_sync}
+use Rattle.server_accept.proofs.Sent.{lobby_sync}
+use Rattle.cluster.proofs.Sent.{cluster_sync}
 use Rattle.dvvstore.proofs.Sent.{shared_sync}
 use Rattle.dvvstore.proofs.crew.working.work_attended.Goals as goal
 

@@ -5,7 +5,7 @@ use denote.Param.{param}
 use denote.Struct.Tuple.{TupleAt}
 use mir.Syntax.{Sym}
 use mathlib.Core.List.{[], ◌∷◌}
-use Rattle.pool.proofs.Sent.{cluster_sync}
+use Rattle.cluster.proofs.Sent.{cluster_sync}
 use Rattle.dvvstore.proofs.Sent.{side_send, signs_sync}
 use Rattle.dvvstore.proofs.saver.Saver.write_vnodes.Goals as goal
 

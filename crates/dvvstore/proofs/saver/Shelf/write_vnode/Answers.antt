@@ -1,5 +1,5 @@
 use Rattle.std.proofs.Common.{◌∙◌, sym, subst}
-use Rattle.stamps.specs.declared.view.View.{View}
+use Rattle.cluster_stamps.specs.declared.view.View.{View}
 use Rattle.dvvstore.specs.Asides.{Grows}
 use Rattle.dvvstore.proofs.Growing.{grows_by_calls, grows_then, nothing_more, same_by_calls}
 use Rattle.dvvstore.proofs.saver.Shelf.write_vnode.Goals as goal

@@ -1,6 +1,6 @@
 use Rattle.std.proofs.Common.{◌≡◌, ◌∙◌, refl, sym, subst, ℕ, Result, Err, List, MatchOption, slice_get, false}
 use Rattle.std.specs.Global.{Vec}
-use Rattle.object.specs.declared.content.Key.{Key}
+use Rattle.key_state.specs.declared.content.Key.{Key}
 use Rattle.journal.specs.Logs.{Log}
 use Rattle.peers.specs.declared.fault.PeerFault.{PeerFault}
 use Rattle.peers.specs.declared.fault.PeerFault.TheVariants.{Lost}

@@ -1,5 +1,5 @@
 use Rattle.std.proofs.Common.{Ok, Err, ap}
-use Rattle.abi.specs.Verdicts.{meaning_of}
+use Rattle.hook_abi.specs.Verdicts.{meaning_of}
 use Rattle.quorum.proofs.hooking.Hooking.judge.Goals as goal
 
 pub returns-in-Ok-clause-judges : goal.returns-in-Ok-clause-judges

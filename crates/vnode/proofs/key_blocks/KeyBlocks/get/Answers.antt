@@ -1,6 +1,6 @@
 use Rattle.std.proofs.Common.{Some, ◌<◌, ◌%◌, ◌∙◌, List, get_or, ap, sym, subst, arith, length}
 use Rattle.std.specs.Prelude.{slice_get}
-use Rattle.object.specs.declared.content.Key.{Key}
+use Rattle.key_state.specs.declared.content.Key.{Key}
 use Rattle.vnode.specs.Names.{Named, keys_in}
 use Rattle.vnode.proofs.Blocks.{get_in_block, get_in_last, within_last}
 use Rattle.vnode.proofs.key_blocks.KeyBlocks.get.Goals as goal

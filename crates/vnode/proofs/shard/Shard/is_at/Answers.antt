@@ -1,5 +1,5 @@
 use Rattle.std.proofs.Common.{◌≡◌, ◌∙◌, true, get_or, subst, sym, arith}
-use Rattle.object.specs.State.{State}
+use Rattle.key_state.specs.State.{State}
 use Rattle.vnode.specs.Shards.{IsEntry, Shard, key_eq}
 use Rattle.vnode.proofs.Entries.{found_entry}
 use Rattle.vnode.proofs.shard.Shard.is_at.Goals as goal

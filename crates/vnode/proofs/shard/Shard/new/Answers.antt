@@ -1,6 +1,6 @@
 use Rattle.std.proofs.Common.{◌∙◌, ap, sym, subst, length}
 use Rattle.std.specs.List.{IsDistinct}
-use Rattle.slots.specs.Slots.{Indexed}
+use Rattle.vnode_index.specs.Slots.{Indexed}
 use Rattle.vnode.specs.Shards.{key_eq}
 use Rattle.vnode.proofs.Keyed.{none_distinct}
 use Rattle.vnode.proofs.Rings.{none_of}

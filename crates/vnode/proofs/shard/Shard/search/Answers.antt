@@ -1,6 +1,6 @@
 use Rattle.std.proofs.Common.{◌≡◌, true, false, Option, Some, None, IfNone, get_or, subst, of_calls}
 use Rattle.std.proofs.lemmas.Option.{IfSome_then}
-use Rattle.object.specs.State.{State}
+use Rattle.key_state.specs.State.{State}
 use Rattle.vnode.specs.Shards.{IsEntry, LacksHashed, Shard, key_eq}
 use Rattle.vnode.proofs.Entries.{absent_entry, found_entry}
 use Rattle.vnode.proofs.shard.Shard.search.Goals as goal

@@ -3,8 +3,8 @@ use Rattle.std.specs.Vec.{with_item}
 use Rattle.std.specs.List.{All}
 use Rattle.std.specs.Prelude.{slice_set}
 use Rattle.std.proofs.lemmas.Result.{on_ok_weaker, on_err_weaker}
-use Rattle.object.specs.State.{empty}
-use Rattle.slots.specs.Slots.{folded}
+use Rattle.key_state.specs.State.{empty}
+use Rattle.vnode_index.specs.Slots.{folded}
 use Rattle.vnode.specs.Shards.{IsHashed, Shard, short_of}
 use Rattle.vnode.specs.States.{place}
 use Rattle.vnode.specs.declared.spot.Spot.{Spot}

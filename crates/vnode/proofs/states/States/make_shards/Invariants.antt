@@ -1,5 +1,5 @@
 use Rattle.std.proofs.Common.{◌≡◌, length}
-use Rattle.object.specs.declared.content.Key.{Key}
+use Rattle.key_state.specs.declared.content.Key.{Key}
 use Rattle.vnode.specs.States.{AreInPlace, found_at}
 use Rattle.vnode.proofs.states.States.make_shards.Given as goal
 

@@ -1,5 +1,5 @@
 use Rattle.std.proofs.Common.{subst}
-use Rattle.object.specs.State.{State}
+use Rattle.key_state.specs.State.{State}
 use Rattle.journal.proofs.Unique.{one_replay}
 use Rattle.journal.specs.Logs.{Log}
 use Rattle.journal.specs.Replay.{IsReplay}

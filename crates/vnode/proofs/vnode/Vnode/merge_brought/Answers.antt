@@ -1,5 +1,5 @@
 use Rattle.std.proofs.Common.{◌∙◌, ap, subst, sym}
-use Rattle.object.specs.State.{State}
+use Rattle.key_state.specs.State.{State}
 use Rattle.journal.specs.declared.entry.Merged.{Merged}
 use Rattle.journal.specs.Entry.{Merge}
 use Rattle.journal.specs.Answers.{TellsChange}

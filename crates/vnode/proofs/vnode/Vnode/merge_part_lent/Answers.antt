@@ -1,6 +1,6 @@
 use Rattle.std.proofs.Common.{ℕ, IfOk, Result, Err, sym, ap, subst}
-use Rattle.object.specs.declared.content.Key.{Key}
-use Rattle.object.specs.Parts.{Partial, whole_of}
+use Rattle.key_state.specs.declared.content.Key.{Key}
+use Rattle.key_state.specs.Parts.{Partial, whole_of}
 use Rattle.journal.specs.Answers.{TellsChange}
 use Rattle.journal.specs.Entry.{Merge}
 use Rattle.journal.specs.Logs.{Log}

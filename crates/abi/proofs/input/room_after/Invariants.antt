@@ -1,6 +1,0 @@
-use Rattle.std.proofs.Common.{◌≡◌, ◌+◌, length, drop}
-use Rattle.abi.specs.Input.{values}
-use Rattle.abi.proofs.input.room_after.Given as goal
-
-abbrev pub invariant-loop-sibling : goal.invariant-loop-sibling
-invariant-loop-sibling l = l.left + length (values l.siblings) ≡ l.room + length (values (drop l.sibling-index l.siblings))

@@ -1,7 +1,0 @@
-//! Whether the journals of some vnodes are one run of the world, in the order of their stamps.
-#![tactic(auto)]
-
-mod auditing;
-
-pub use auditing::audit;
-pub use rerun::{AuditCode, AuditFault};

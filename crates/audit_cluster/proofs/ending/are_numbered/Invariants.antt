@@ -1,0 +1,7 @@
+use Rattle.std.specs.Prelude.{◌≡◌, ◌<◌, ◌+◌, ℕ}
+use Rattle.world.specs.Represents.{log_at}
+use Rattle.audit_cluster.proofs.ending.are_numbered.Given as goal
+
+-- so many have their numbers
+abbrev pub invariant-loop-index : goal.invariant-loop-index
+invariant-loop-index l = (index : ℕ) → index < l.index → (log_at l.vnodes index).vnode ≡ l.first + index

@@ -1,0 +1,13 @@
+//! How a cluster ends: its passes are gathered, and what a follower has not followed yet while it served is followed. Journals that are
+//! whole may be audited.
+#![tactic(auto)]
+
+mod closing;
+mod copying;
+mod ending;
+mod watch;
+
+pub use audit_faults::{Followed, WatchFault};
+pub use closing::{Audited, CloseFault, audit_vnodes};
+pub use ending::{Closed, close_keeping, close_watched};
+pub use watch::{Alarm, Notice, RECENT, Spot, Watch};

@@ -1,0 +1,501 @@
+//! A follower beside a cluster that serves.
+
+ghost use Rattle.std.specs.Prelude.{◌≡◌, ◌+◌, ◌<◌, ◌≤◌, ◌^◌, ◌↔◌, ℕ, [], None, All, IfOk, IfSome, IsTrue, MatchBool, OnOk, length, vec_len};
+ghost use Rattle.cluster_vnode.specs.Calls.{pass_view};
+ghost use Rattle.journal.specs.Blocks.{all_of};
+ghost use Rattle.audit_follower.specs.Waiting.{bytes_waiting, count_waiting, waiting_at};
+ghost use Rattle.world.specs.Represents.{log_at};
+ghost use Rattle.audit_cluster.specs.Following.{AreRestarts, IsTakenMore, IsToldMore, Rouses, WaitsLittle};
+
+use audit_faults::{TakeFault, WatchFault};
+use audit_follower::{Follower, Recent};
+use calls::Request;
+use cluster::{Cluster, Open, Pass, Room};
+use journal::{BLOCK, Entry, Handout};
+use std::alloc::{AllocError, Global};
+use std::marker::{Brand, Model};
+use std::sync::Wait;
+use thiserror::Error;
+use vnode::Seed;
+
+/// Of which of the last entries of each vnode the answers are kept: a merge may name any of these.
+pub const RECENT: Recent = Recent {
+    always: 256,
+    entries: 16_384,
+    bytes: 33_554_432,
+};
+
+/// So many entries may wait behind a vnode at which nothing happens.
+const MOST_BEHIND: usize = 8_192;
+
+/// So many bytes of contents may.
+const MOST_BYTES_BEHIND: u64 = 33_554_432;
+
+/// So many blocks of keys of a vnode are shared in a turn: more than are filled between two turns, and so few that none
+/// takes long.
+const SHARED_AT_ONCE: usize = 4;
+
+/// Nine tenths of the entries that a vnode can have.
+const NEARLY_FULL: usize = 3_865_470_566;
+
+/// Says from which identifier on the vnodes of a cluster are numbered. Each call of a program that opens a cluster picks it.
+pub trait Spot {
+    ghost first: { ℕ };
+}
+
+impl Spot for Brand {
+    ghost first = { 0 };
+}
+
+/// What is told at once while a cluster serves.
+#[derive(Clone, Copy, Debug, PartialEq, Eq, Drop, Error)]
+pub enum Notice {
+    /// The journals aren't found to be one run. Nothing is followed any more.
+    #[error("followed {0}")]
+    Stopped(WatchFault),
+    /// A vnode has so many entries: nine tenths of those that it can have, or more.
+    #[error("vnode {vnode} has {entries} of 4294967296 entries")]
+    NearlyFull { vnode: u32, entries: usize },
+}
+
+/// Is told what can't wait.
+pub trait Alarm {
+    /// Tells it.
+    fn raise(&self, notice: Notice);
+}
+
+/// What was handed out by one vnode.
+#[derive(Clone, Copy, Drop)]
+struct Seen {
+    id: u32,
+    /// The number after the last stamp that was handed out: what is still to come has no lower one.
+    below: u64,
+    /// Whether it was told that it is nearly full.
+    warned: bool,
+}
+
+impl Seen {
+    // So many entries were taken in all, the last of them with the stamp before this number.
+    fn note<A: Alarm>(&mut self, entries: usize, below: u64, alarm: &A) {
+        self.below = below;
+        if entries >= NEARLY_FULL && !self.warned {
+            self.warned = true;
+            alarm.raise(Notice::NearlyFull {
+                vnode: self.id,
+                entries,
+            });
+        }
+    }
+}
+
+/// A follower beside a cluster that serves: it has the vnodes hand out their full blocks, which its pass is told, and follows them.
+///
+/// An entry is followed once all that comes before it was handed out, so a vnode at which nothing happens would hold the others up: where
+/// much waits, it is started again until it hands out, too.
+#[derive(Drop)]
+pub struct Watch<B: Room + Spot> {
+    pub(crate) pass: Pass<B>,
+    /// The identifier from which on the vnodes are numbered, and how many are followed.
+    pub(crate) first: u32,
+    pub(crate) vnodes: usize,
+    pub(crate) follower: Follower,
+    seen: Vec<Seen>,
+    /// An empty block for the next entries of a vnode that has none.
+    next: Vec<Entry>,
+    /// The number below which all was followed.
+    reached: u64,
+    /// Why a block wasn't taken.
+    pub(crate) lost: Option<TakeFault>,
+    /// Whether it was told that nothing is followed any more.
+    told: bool,
+}
+
+impl<B: Room + Spot> Model for Watch<B> {
+    ghost use Rattle.std.specs.Prelude.{◌≡◌, None};
+    ghost use Rattle.audit_cluster.specs.Following.{Watched, Watches, answers_kept};
+
+    ghost Value = { Watched };
+
+    ghost view = { λ w. record { told = w.pass.told; taken = w.follower } };
+
+    ghost invariant = { λ w. (w.first ≡ B.first) × (w.follower.recent ≡ answers_kept) × (w.lost ≡ None → Watches B.first w.vnodes w.pass.told w.follower) };
+}
+
+// The number after the stamp of the last entry that was handed out.
+fn end_of(handout: &Handout) -> u64 {
+    match handout.blocks.last() {
+        Some(block) => match block.last() {
+            Some(entry) => entry.stamp().saturating_add(1),
+            None => 0,
+        },
+        None => 0,
+    }
+}
+
+// Takes what the vnode with an index handed out. Answers how many entries it has handed out in all.
+fn take_blocks(
+    alloc: Global,
+    follower: &mut Follower,
+    index: usize,
+    handout: Handout,
+) -> Result<usize, TakeFault>
+    ensures taken { OnOk result (IsTakenMore follower.old follower.new index handout.first (all_of handout.blocks.items)) }
+    ensures fault { follower.new.fault ≡ follower.old.fault }
+    ensures recent { follower.new.recent ≡ follower.old.recent }
+    ensures fronts { follower.new.fronts ≡ follower.old.fronts }
+{
+    if index >= follower.count() {
+        return Err(TakeFault::Unknown);
+    }
+    let Handout { first, blocks } = handout;
+    // The place is tested, even if there were no block.
+    follower.take_at(index, first, Vec::new(alloc))?;
+    let mut next = first;
+    for block in blocks {
+        let count = block.len();
+        follower.take_at(index, next, block)?;
+        next = next.saturating_add(count);
+    }
+    Ok(next)
+}
+
+// Starts the vnode with an index again, under its lock, until it has more than a block of entries behind so many: so a block of them is
+// full. At most so often that it has them, whatever it had.
+fn fill_block<B: Room + Spot, R: Wait>(
+    rt: &R,
+    cluster: &Cluster<B>,
+    pass: &mut Pass<B>,
+    index: usize,
+    entries: usize,
+)
+    requires inside { index < cluster.now.vnodes }
+    ensures { AreRestarts (cluster.now.first + index) 1025 pass.old.told pass.new.told }
+{
+    for _ in 0..BLOCK + 1 {
+        match cluster.call(rt, pass, index, &Request::Restart, &Open) {
+            Ok((_, receipt)) => {
+                if receipt.place as usize >= entries.saturating_add(BLOCK) {
+                    break;
+                }
+            }
+            Err(_) => break,
+        }
+    }
+}
+
+// Has the follower's vnode with an index take the memory of full blocks of keys from the one that it follows, at most four of
+// them, after that one took it from the first vnode: so vnodes that heard of the same keys in the same order hold these once.
+fn share_keys_of<B: Room, R: Wait>(
+    rt: &R,
+    cluster: &Cluster<B>,
+    follower: &mut Follower,
+    index: usize,
+)
+    requires cluster { index < cluster.now.vnodes }
+    requires follower { index < length follower.old.followed }
+    ensures { follower.new ≡ follower.old }
+{
+    for _ in 0..SHARED_AT_ONCE {
+        let Some(at) = follower.uncompared(index) else {
+            break;
+        };
+        cluster.share_keys(rt, index, at);
+        let Some(block) = cluster.key_block(rt, index, at) else {
+            break;
+        };
+        follower.share_keys(index, at, block);
+    }
+}
+
+impl<B: Room + Spot> Watch<B> {
+    /// A follower of so many vnodes, numbered from the first identifier on, of which nothing was handed out. The last of the passes, which
+    /// were told nothing, is told what they hand out.
+    pub fn new(
+        alloc: Global,
+        passes: &mut Vec<Pass<B>>,
+        first: u32,
+        vnodes: usize,
+    ) -> Result<Watch<B>, AllocError>
+        requires first { first ≡ B.first }
+        requires few { first + vnodes ≤ 2 ^ 32 }
+        requires some { 0 < vec_len passes.old }
+        requires fresh { All (λ p. p ≡ pass_view 0 []) passes.old.items }
+        ensures passes { vec_len passes.new + 1 ≡ vec_len passes.old }
+        ensures told { IfOk result (λ watch. watch.told ≡ []) }
+        ensures vnodes { IfOk result (λ watch. length watch.taken.followed ≡ vnodes) }
+        ensures fronts { IfOk result (λ watch. watch.taken.fronts ≡ []) }
+    {
+        Watch::new_seeded(alloc, Seed::fixed(), passes, first, vnodes, Vec::new(alloc))
+    }
+
+    /// The same of vnodes of which so many of the first entries of each, by index, are there before anything else happens, as a store that
+    /// begins with what it kept makes them: its front. What comes behind the fronts is followed as a run from there on.
+    pub fn new_from(
+        alloc: Global,
+        passes: &mut Vec<Pass<B>>,
+        first: u32,
+        vnodes: usize,
+        fronts: Vec<usize>,
+    ) -> Result<Watch<B>, AllocError>
+        requires first { first ≡ B.first }
+        requires few { first + vnodes ≤ 2 ^ 32 }
+        requires some { 0 < vec_len passes.old }
+        requires fresh { All (λ p. p ≡ pass_view 0 []) passes.old.items }
+        ensures passes { vec_len passes.new + 1 ≡ vec_len passes.old }
+        ensures told { IfOk result (λ watch. watch.told ≡ []) }
+        ensures vnodes { IfOk result (λ watch. length watch.taken.followed ≡ vnodes) }
+        ensures fronts { IfOk result (λ watch. watch.taken.fronts ≡ fronts.items) }
+    {
+        Watch::new_seeded(alloc, Seed::fixed(), passes, first, vnodes, fronts)
+    }
+
+    /// The same, by vnodes of its own that are made by a seed.
+    pub fn new_seeded(
+        alloc: Global,
+        seed: Seed,
+        passes: &mut Vec<Pass<B>>,
+        first: u32,
+        vnodes: usize,
+        fronts: Vec<usize>,
+    ) -> Result<Watch<B>, AllocError>
+        requires first { first ≡ B.first }
+        requires few { first + vnodes ≤ 2 ^ 32 }
+        requires some { 0 < vec_len passes.old }
+        requires fresh { All (λ p. p ≡ pass_view 0 []) passes.old.items }
+        ensures passes { vec_len passes.new + 1 ≡ vec_len passes.old }
+        ensures told { IfOk result (λ watch. watch.told ≡ []) }
+        ensures vnodes { IfOk result (λ watch. length watch.taken.followed ≡ vnodes) }
+        ensures fronts { IfOk result (λ watch. watch.taken.fronts ≡ fronts.items) }
+    {
+        let Some(pass) = passes.pop() else {
+            unreachable!();
+        };
+        let mut ids = Vec::new(alloc);
+        let mut seen = Vec::new(alloc);
+        for index in 0..vnodes {
+            let id = first + index as u32;
+            ids.push(id)?;
+            seen.push(Seen {
+                id,
+                below: 0,
+                warned: false,
+            })?;
+        }
+        Ok(Watch {
+            pass,
+            first,
+            vnodes,
+            follower: Follower::new_seeded(alloc, seed, &ids, fronts, RECENT)?,
+            seen,
+            next: Vec::new(alloc),
+            reached: 0,
+            lost: None,
+            told: false,
+        })
+    }
+
+    // Why nothing is followed any more.
+    fn stopped(&self) -> Option<WatchFault> {
+        if let Some(fault) = self.follower.fault() {
+            return Some(WatchFault::Found(fault));
+        }
+        match self.lost {
+            Some(why) => Some(WatchFault::from(why)),
+            None => None,
+        }
+    }
+
+    /// Has the vnode with an index hand out its full blocks, under its lock, and takes them. Where nothing is followed any more they are
+    /// let go. That a vnode is nearly full is told, once.
+    pub fn hear<R: Wait, A: Alarm>(
+        &mut self,
+        alloc: Global,
+        rt: &R,
+        cluster: &Cluster<B>,
+        index: usize,
+        alarm: &A,
+    )
+        requires first { cluster.now.first ≡ B.first }
+        requires inside { index < cluster.now.vnodes }
+        ensures told { IsToldMore self.old.told self.new.told }
+    {
+        // It is empty as it is. Where there is no memory the vnode asks for it itself, once it needs it.
+        self.next.clear();
+        let _ = self.next.reserve_exact(BLOCK);
+        let Some(handout) = cluster.hand_out(rt, &mut self.pass, index, &mut self.next) else {
+            return;
+        };
+        if self.lost.is_some() || self.follower.fault().is_some() {
+            return;
+        }
+        let below = end_of(&handout);
+        match take_blocks(alloc, &mut self.follower, index, handout) {
+            Ok(entries) => {
+                if let Some(seen) = self.seen.get_mut(index) {
+                    seen.note(entries, below, alarm);
+                }
+            }
+            Err(why) => self.lost = Some(why),
+        }
+    }
+
+    // The number below which all stamps were handed out.
+    fn below(&self) -> u64 {
+        let mut below = u64::MAX;
+        for seen in &self.seen {
+            below = below.min(seen.below);
+        }
+        below
+    }
+
+    /// Follows what was taken, as far as all that comes before it was handed out, too, but no more than so many stamps further than
+    /// before. Whether there is more to follow. That nothing is followed any more is told, once.
+    pub fn follow_some<A: Alarm>(&mut self, stamps: u64, alarm: &A) -> bool
+        ensures told { self.new.told ≡ self.old.told }
+    {
+        if self.told {
+            return false;
+        }
+        let below = self.below();
+        let bound = below.min(self.reached.saturating_add(stamps));
+        if self.lost.is_none() {
+            // What it answers is its fault, which it keeps.
+            let _ = self.follower.follow(bound);
+        }
+        if let Some(fault) = self.stopped() {
+            self.told = true;
+            alarm.raise(Notice::Stopped(fault));
+            return false;
+        }
+        self.reached = bound;
+        bound < below
+    }
+
+    // Whether so much waits that vnodes at which nothing happens are not to hold it up.
+    fn is_held_up(&self) -> bool
+        ensures { IsTrue result → WaitsLittle self.now.taken → ⊥ }
+    {
+        !(self.can_go_on(MOST_BEHIND) && self.holds_less(MOST_BYTES_BEHIND))
+    }
+
+    /// Where 8,192 entries wait to be followed, or 32 MiB of contents, has each vnode of a cluster of which none waits fill its block: it
+    /// is started again, at most 1,025 times, each an event of its journal. What it hands out then lets the others be followed.
+    ///
+    /// Where nothing is followed any more, it does nothing.
+    pub fn rouse<R: Wait>(&mut self, rt: &R, cluster: &Cluster<B>)
+        requires first { cluster.now.first ≡ B.first }
+        ensures told { Rouses B.first self.old.taken self.old.told self.new.told }
+        ensures little { WaitsLittle self.old.taken → self.new.told ≡ self.old.told }
+        ensures taken { self.new.taken ≡ self.old.taken }
+    {
+        if self.stopped().is_some() || !self.is_held_up() {
+            return;
+        }
+        for index in 0..cluster.count().min(self.follower.count()) {
+            if self.follower.waiting(index) == 0 {
+                let entries = self.follower.followed(index);
+                fill_block(rt, cluster, &mut self.pass, index, entries);
+            }
+        }
+    }
+
+    // Has each of the follower's vnodes take the memory of full blocks of keys from the one that it follows, at most four of them.
+    fn share_keys<R: Wait>(&mut self, rt: &R, cluster: &Cluster<B>)
+        ensures { self.new ≡ self.old }
+    {
+        for index in 0..cluster.count().min(self.follower.count()) {
+            share_keys_of(rt, cluster, &mut self.follower, index);
+        }
+    }
+
+    /// Has each vnode of a cluster hand out its full blocks: [`Watch::hear`] of each.
+    pub fn hear_each<R: Wait, A: Alarm>(
+        &mut self,
+        alloc: Global,
+        rt: &R,
+        cluster: &Cluster<B>,
+        alarm: &A,
+    )
+        requires first { cluster.now.first ≡ B.first }
+        ensures told { IsToldMore self.old.told self.new.told }
+    {
+        for index in 0..cluster.count() {
+            self.hear(alloc, rt, cluster, index, alarm);
+        }
+    }
+
+    /// Has each vnode of a cluster hand out its full blocks: [`Watch::hear_each`], and then [`Watch::rouse`]. Of the
+    /// keys that were followed full blocks are then held once, by the vnode and the follower's.
+    pub fn hear_all<R: Wait, A: Alarm>(
+        &mut self,
+        alloc: Global,
+        rt: &R,
+        cluster: &Cluster<B>,
+        alarm: &A,
+    )
+        requires first { cluster.now.first ≡ B.first }
+        ensures told { IsToldMore self.old.told self.new.told }
+    {
+        self.hear_each(alloc, rt, cluster, alarm);
+        self.rouse(rt, cluster);
+        self.share_keys(rt, cluster);
+    }
+
+    /// How many entries of the vnode with an index were followed. None where no such vnode is.
+    pub fn followed(&self, index: usize) -> Option<usize>
+        ensures some { IfSome result (λ count. (index < length self.now.taken.followed) × (count ≡ length (log_at self.now.taken.followed index).entries)) }
+        ensures none { result ≡ None ↔ (length self.now.taken.followed ≤ index) }
+    {
+        if index < self.follower.count() {
+            Some(self.follower.followed(index))
+        } else {
+            None
+        }
+    }
+
+    /// Whether fewer than so many entries wait to be followed, of all vnodes together.
+    pub fn can_go_on(&self, many: usize) -> bool
+        ensures { MatchBool result (count_waiting self.now.taken.waiting < many) (many ≤ count_waiting self.now.taken.waiting) }
+    {
+        let mut left = many;
+        for index in 0..self.follower.count() {
+            let waiting = self.follower.waiting(index);
+            if waiting > left {
+                return false;
+            }
+            left -= waiting;
+        }
+        left > 0
+    }
+
+    /// Whether the contents of the entries that wait to be followed, of all vnodes together, have fewer than so many bytes: those of what
+    /// puts write and of the states that are merged, each as often as it stands there.
+    pub fn holds_less(&self, bytes: u64) -> bool
+        ensures { MatchBool result (bytes_waiting self.now.taken.waiting < bytes) (bytes ≤ bytes_waiting self.now.taken.waiting) }
+    {
+        let mut left = u128::from(bytes);
+        for index in 0..self.follower.count() {
+            let waiting = self.follower.waiting_bytes(index);
+            if waiting > left {
+                return false;
+            }
+            left -= waiting;
+        }
+        left > 0
+    }
+
+    /// Has each vnode of a cluster hand out its full blocks, and follows all of them: [`Watch::hear_all`] and [`Watch::follow_some`].
+    pub fn turn<R: Wait, A: Alarm>(
+        &mut self,
+        alloc: Global,
+        rt: &R,
+        cluster: &Cluster<B>,
+        alarm: &A,
+    )
+        requires first { cluster.now.first ≡ B.first }
+        ensures told { IsToldMore self.old.told self.new.told }
+    {
+        self.hear_all(alloc, rt, cluster, alarm);
+        self.follow_some(u64::MAX, alarm);
+    }
+}

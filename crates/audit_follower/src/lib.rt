@@ -1,0 +1,10 @@
+//! An auditor that goes along: journals are handed over in blocks, and happen again in the order of their stamps.
+#![tactic(auto)]
+
+mod follower;
+mod queue;
+mod run;
+
+pub use audit_faults::{FollowCode, FollowFault, TakeFault};
+pub use audit_replay::Recent;
+pub use follower::Follower;

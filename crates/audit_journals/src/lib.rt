@@ -1,0 +1,7 @@
+//! Whether the journals of some vnodes are one run of the world, in the order of their stamps.
+#![tactic(auto)]
+
+mod auditing;
+
+pub use audit_replay::{AuditCode, AuditFault};
+pub use auditing::audit;

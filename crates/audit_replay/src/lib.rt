@@ -1,0 +1,22 @@
+//! Entries of several vnodes happen again: one after another as they come, or all of some journals in the order of their stamps, with the
+//! tests that an audit is made of.
+#![tactic(auto)]
+
+mod again;
+mod audit_fault;
+mod followed;
+mod heads;
+mod kept;
+mod rerun;
+mod sizes;
+mod sources;
+mod stamps;
+mod turns;
+
+pub use audit_fault::{AuditCode, AuditFault};
+pub use audit_faults::{FollowCode, FollowFault};
+pub use kept::Recent;
+pub use rerun::Rerun;
+pub use sizes::bytes_of_entry;
+pub use sources::check_sources;
+pub use stamps::{check_rising, check_single};

@@ -1,0 +1,17 @@
+use Rattle.std.proofs.Common.{sym, ap, ◌∙◌, arith}
+use Rattle.std.proofs.lemmas.Option.{slice_get_read}
+use Rattle.bpf_copies.specs.Names.{by_jump}
+use Rattle.bpf_copies.specs.Courses.{held_at}
+use Rattle.bpf_copies.proofs.Held.{joined_in}
+use Rattle.bpf_copies.proofs.course.join_target.Goals as goal
+
+pub returns-in_ok-join_into-clause-names : goal.returns-in_ok-join_into-clause-names
+returns-in_ok-join_into-clause-names c = λ k lt.
+    let items = c.args.waiting.now.items in
+    let place = c.in-Some.place in
+    let names = c.args.names.now in
+    let within = c.in-Some.ensures.within in
+    joined_in items place k c.index_mut.result.now c.join_into.new.kept names
+    (slice_get_read items c.args.waiting.now.len place c.index_mut.result.now c.args.waiting.now.ok.0 (omega (arith, within, c.len.ensures)) c.index_mut.ensures.value)
+    (omega (arith, within, c.args.waiting.now.ok.0, c.len.ensures)) c.in_ok-join_into.ensures
+    ∙ ap (λ t. by_jump k t names (held_at items k)) (sym c.in-Some.ensures.some)

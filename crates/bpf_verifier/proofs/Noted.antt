@@ -1,0 +1,57 @@
+-- What is known at a slot, from slot to slot: the sum and the pairs.
+use Rattle.std.proofs.Common.{◌≡◌, ℕ, suc, ◌+◌, ◌<◌, Bool, ◌||◌, cond, List, Option, Some, None, sym, ap, ◌∙◌, subst, ⊎_elim, arith}
+use Rattle.std.specs.Prelude.{Result, Ok, Err, IfOk, IfSome, slice_get}
+use Rattle.std.proofs.lemmas.Bool.{cases_eq}
+use Rattle.bpf_insn.specs.declared.Insn.{Insn}
+use Rattle.bpf_image.specs.Form.{target_of}
+use Rattle.bpf_copies.specs.Led.{is_slot, target_at, leads_before}
+use Rattle.bpf_verifier.specs.Sums.{sum_after, sum_next, sum_at}
+use Rattle.bpf_semantics.specs.declared.profile.Profile.{Profile}
+use Rattle.bpf_verifier.specs.Program.{Program}
+use Rattle.bpf_verifier.specs.Table.{AreKinds}
+use Rattle.bpf_verifier.specs.Rows.{HasKinds}
+use Rattle.bpf_verifier.specs.Registers.{Row}
+use Rattle.bpf_verifier.specs.Pairs.{no_pairs}
+use Rattle.bpf_verifier.specs.PairSteps.{pairs_next, pairs_at}
+use Rattle.bpf_verifier.specs.declared.sum.Sum.{Sum}
+use Rattle.bpf_verifier.specs.declared.pair.Pairs.{Pairs}
+
+-- the slots to which jumps lead from one slot more
+pub led_on : (code : List Insn) (i k : ℕ) (x : Insn) → slice_get code i ≡ Some x → (is_slot k (target_of i x) || leads_before code i k) ≡ leads_before code (i + 1) k
+led_on code i k x at =
+    let one : suc i ≡ i + 1 = omega arith in
+    ap (λ o. is_slot k (target_at i o) || leads_before code i k) (sym at) ∙ ap (λ n. leads_before code n k) one
+
+next_is : (code : List Insn) (i : ℕ) (x : Insn) (b : Bool) → slice_get code i ≡ Some x → b ≡ leads_before code (suc i) (suc i) → cond b None (sum_after x (sum_at code i)) ≡ sum_at code (suc i)
+next_is code i x b at led = ap (λ c. cond c None (sum_after x (sum_at code i))) led ∙ ap (λ o. cond (leads_before code (suc i) (suc i)) None (sum_next o (sum_at code i))) (sym at)
+
+-- the sum that is known at the next slot
+pub sum_on : (code : List Insn) (i : ℕ) (x : Insn) (b : Bool) (sum : Option Sum) → slice_get code i ≡ Some x → b ≡ leads_before code (i + 1) (i + 1) → sum ≡ sum_at code i → cond b None (sum_after x sum) ≡ sum_at code (i + 1)
+sum_on code i x b sum at led is =
+    let one : i + 1 ≡ suc i = omega arith in
+    ap (λ s. cond b None (sum_after x s)) is ∙ next_is code i x b at (led ∙ ap (λ n. leads_before code n n) one) ∙ ap (sum_at code) (sym one)
+
+-- the pairs that are known at the next slot
+pub pairs_on : (p : Program) (rows : List (Option Row)) (i : ℕ) (b : Bool) (sum : Option Sum) (pairs next now : Pairs) → b ≡ leads_before p.code (i + 1) (i + 1) → sum ≡ sum_at p.code i → pairs ≡ pairs_at p rows i → next ≡ pairs_next p (slice_get p.code i) sum (slice_get rows i) pairs → now ≡ cond b no_pairs next → now ≡ pairs_at p rows (i + 1)
+pairs_on p rows i b sum pairs next now led summed paired is here =
+    let one : i + 1 ≡ suc i = omega arith in
+    here
+    ∙ ap (λ n. cond b no_pairs n) is
+    ∙ ap (λ s. cond b no_pairs (pairs_next p (slice_get p.code i) s (slice_get rows i) pairs)) summed
+    ∙ ap (λ q. cond b no_pairs (pairs_next p (slice_get p.code i) (sum_at p.code i) (slice_get rows i) q)) paired
+    ∙ ap (λ c. cond c no_pairs (pairs_next p (slice_get p.code i) (sum_at p.code i) (slice_get rows i) (pairs_at p rows i))) (led ∙ ap (λ n. leads_before p.code n n) one)
+    ∙ ap (pairs_at p rows) (sym one)
+
+-- what follows of an answer that is one
+pub if_ok : {T E : Type 0} (P Q : T → Type 0) (r : Result T E) → ((x : T) → P x → Q x) → IfOk r P → IfOk r Q
+if_ok P Q (Ok x) f h = f x h
+if_ok P Q (Err e) f h = tt
+
+-- the kinds of a row, if there is one
+pub known_kinds : (profile : Profile) (low : ℕ) (o : Option Row) → HasKinds profile low o → IfSome o AreKinds
+known_kinds profile low None h = tt
+known_kinds profile low (Some row) h = h.kinds
+
+-- what holds of each slot before one, and of that one
+pub one_more : (P : ℕ → Type 0) (i : ℕ) → ((k : ℕ) → k < i → P k) → P i → (k : ℕ) → k < i + 1 → P k
+one_more P i before here k lt = ⊎_elim (λ same. subst P (sym same) here) (λ other. before k (omega (arith, lt, other))) (cases_eq k i)

@@ -1,0 +1,72 @@
+use Rattle.std.proofs.Common.{rules, ◌≡◌, ◌+◌, ◌<◌, ◌≤◌, length, Some, None, refl, ap, sym, ◌∙◌, subst, arith}
+use Rattle.std.specs.Prelude.{slice_get}
+use Rattle.bpf_verifier.specs.Candidates.{program_in}
+use Rattle.bpf_copies.specs.Led.{leads_before}
+use Rattle.bpf_verifier.specs.Table.{table, broken_at}
+use Rattle.bpf_verifier.specs.Rows.{StartsZero, IsKnown, AreRowKinds, IsPass}
+use Rattle.bpf_verifier.specs.Waiting.{waiting}
+use Rattle.bpf_verifier.specs.Known.{AreSums}
+use Rattle.bpf_verifier.proofs.Tables.{pass_first, none_kinds, known_here}
+use Rattle.bpf_verifier.proofs.Visits.{bounded_here}
+use Rattle.bpf_verifier.proofs.Noted.{pairs_on, known_kinds, one_more}
+use Rattle.bpf_verifier.proofs.verifying.known_before.Goals as goal
+
+pub loop-at-init : goal.loop-at-init
+loop-at-init g c =
+    let p = program_in c.args.program.now in
+    let rows = waiting c.in-Ok.rows in
+    let empty = c.in-Ok.ensures.rows in
+    let low = c.in-Ok.ensures.low in
+    let code = c.args.program.now.image.code in
+    record {
+      pass = subst (λ r. IsPass p rows (Some r) 0) (sym c.entry-first.ensures.table) (pass_first p rows (c.len-slots.result + 1) (omega (arith, c.len-slots.ensures, code.ok.0)) empty);
+      pool = record {
+        kinds = subst (AreRowKinds p.profile c.in-Ok.rows.low) (sym empty) (none_kinds p.profile c.in-Ok.rows.low (c.len-slots.result + 1));
+        owned = c.in-Ok.ensures.owned;
+        zeros = c.in-Ok.ensures.zeros p.profile;
+        registers = subst (λ l. 11 ≤ l) (sym low) c.requires.some;
+        short = omega (arith, low);
+      };
+      sums = subst (λ n. AreSums p n 0 c.in-Ok-new.sums) (omega (arith, c.len-slots.ensures, code.ok.0)) (c.in-Ok-new.ensures p refl);
+      pairs = c.no_pairs-pairs.ensures;
+      here = subst (λ l. IsKnown p.profile l c.entry-first.result) (sym low) c.entry-first.ensures.known;
+      taken = subst (λ l. StartsZero p.profile l c.entry-first.result) (sym low) c.entry-first.ensures.known.zeros;
+      unbroken = λ k lt. absurd (omega arith);
+    }
+
+pub bounds_here-known-requires : goal.bounds_here-known-requires
+bounds_here-known-requires g c =
+    let p = program_in c.args.program.now in
+    let within : c.loop-at.at < length p.code = omega (arith, c.loop-at-test.true, c.requires.within) in (
+      search rules,
+      (within, known_kinds p.profile c.loop-at.rows.low c.loop-at.here c.loop-at.invariant.here),
+    )
+
+pub advance-requires : goal.advance-requires
+advance-requires g c =
+    let p = program_in c.args.program.now in
+    let within : c.loop-at.at < length p.code = omega (arith, c.loop-at-test.true, c.requires.within) in
+    record {
+      within = within;
+      old = c.loop-at.invariant.sums;
+      known = λ _. bounded_here p (waiting c.loop-at.rows) c.loop-at.at within c.loop-at.here c.bounds_here-known.result c.loop-at.invariant.pass c.bounds_here-known.ensures;
+    }
+
+pub loop-at-preserved : goal.loop-at-preserved
+loop-at-preserved g c = record {
+  pass = c.in_ok-visit.ensures.pass;
+  pool = c.in_ok-visit.ensures.pool;
+  sums = c.in-Ok-advance.ensures;
+  pairs =
+      let p = program_in c.args.program.now in
+      let next = c.loop-at.at + 1 in
+      let led = c.in-Ok-advance.ensures.led next (omega (arith, c.loop-at-test.true, c.len-slots.ensures, c.args.program.now.image.code.ok.0)) in
+      pairs_on p (table p) c.loop-at.at (leads_before p.code next next) c.loop-at.sums.sum c.loop-at.pairs _ _ refl c.loop-at.invariant.sums.sum c.loop-at.invariant.pairs c.in_ok-visit.ensures.pairs (c.pairs_here-pairs.ensures (leads_before p.code next next) (ap (λ xs. slice_get xs next) c.deref.ensures.value ∙ led));
+  here = c.in_ok-visit.ensures.here;
+  taken = c.in_ok-visit.ensures.taken;
+  unbroken = one_more (λ k. broken_at (program_in c.args.program.now) k ≡ None) c.loop-at.at c.loop-at.invariant.unbroken c.in_ok-visit.ensures.unbroken;
+}
+
+pub returns-clause-row : goal.returns-clause-row
+returns-clause-row g c =
+    known_here (program_in c.args.program.now) (waiting c.loop-at.rows) c.loop-at.here c.loop-at.at c.args.slot c.loop-at.invariant.pass (omega (arith, c.loop-at-test.false, c.loop-at.auto.at-end)) c.requires.within

@@ -1,0 +1,360 @@
+//! Which pairs of registers are known at a slot, and what they tell.
+
+ghost use Rattle.std.specs.Prelude.{◌≡◌, ◌<◌, ℕ, Bool, true, Some, List, length, slice_get, if◌then◌else◌};
+ghost use Rattle.bpf_semantics.specs.declared.profile.Profile.TheVariants.{Second};
+ghost use Rattle.bpf_verifier.specs.Table.{AreKinds};
+ghost use Rattle.bpf_verifier.specs.Pairs.{no_pairs, is_in, are_of, most_in, most_together, argument_ends};
+ghost use Rattle.bpf_verifier.specs.PairSteps.{pair_without, pairs_without, before, with_pair, partner, carried, carried_into, carried_from, pairs_of_sum, pairs_of_op, pair_over_call, pairs_over_call, pairs_over, pair_of, pair_told, pairs_told};
+
+use crate::kinds::{kind_of, kind_of_operand};
+use crate::pair::{Pair, Pairs};
+use crate::sum::Sum;
+use crate::sums::{is_operand, most};
+use bpf_alu::{Op, Width};
+use bpf_insn::{Insn, Operand, Register};
+use bpf_ranges::{Kind, Profile};
+
+/// Whether a register is one of a pair.
+fn is_in(register: Register, pair: Pair) -> bool
+    ensures { result ≡ is_in register pair }
+{
+    pair.left.number() == register.number() || pair.right.number() == register.number()
+}
+
+/// Whether two registers are those of a pair.
+fn are_of(a: Register, b: Register, pair: Pair) -> bool
+    ensures { result ≡ are_of a b pair }
+{
+    let (left, right) = (pair.left.number(), pair.right.number());
+    (left == a.number() && right == b.number()) || (left == b.number() && right == a.number())
+}
+
+/// The greatest sum of two registers by a pair, if it is theirs, or else by others.
+fn most_in(a: Register, b: Register, pair: Option<Pair>, other: Option<u64>) -> Option<u64>
+    ensures { result ≡ most_in a b pair other }
+{
+    match pair {
+        Some(pair) => {
+            if are_of(a, b, pair) {
+                Some(pair.most)
+            } else {
+                other
+            }
+        }
+        None => other,
+    }
+}
+
+/// The greatest sum of two registers, if it is known.
+pub fn most_together(pairs: Pairs, a: Register, b: Register) -> Option<u64>
+    ensures { result ≡ most_together pairs a b }
+{
+    let by_fourth = most_in(a, b, pairs.fourth, None);
+    let by_third = most_in(a, b, pairs.third, by_fourth);
+    let by_second = most_in(a, b, pairs.second, by_third);
+    most_in(a, b, pairs.first, by_second)
+}
+
+/// The greatest sum of each argument's register and the next one's.
+pub fn argument_ends(pairs: Pairs) -> [Option<u64>; 4]
+    ensures { result ≡ argument_ends pairs }
+{
+    [
+        most_together(pairs, Register::R1, Register::R2),
+        most_together(pairs, Register::R2, Register::R3),
+        most_together(pairs, Register::R3, Register::R4),
+        most_together(pairs, Register::R4, Register::R5),
+    ]
+}
+
+/// No pair.
+pub fn no_pairs() -> Pairs
+    ensures { result ≡ no_pairs }
+{
+    Pairs {
+        first: None,
+        second: None,
+        third: None,
+        fourth: None,
+    }
+}
+
+/// A pair that does not have a register that is written.
+fn pair_without(register: Register, pair: Option<Pair>) -> Option<Pair>
+    ensures { result ≡ pair_without register pair }
+{
+    match pair {
+        Some(pair) => {
+            if is_in(register, pair) {
+                None
+            } else {
+                Some(pair)
+            }
+        }
+        None => None,
+    }
+}
+
+/// The pairs that do not have a register that is written.
+fn pairs_without(register: Register, pairs: Pairs) -> Pairs
+    ensures { result ≡ pairs_without register pairs }
+{
+    Pairs {
+        first: pair_without(register, pairs.first),
+        second: pair_without(register, pairs.second),
+        third: pair_without(register, pairs.third),
+        fourth: pair_without(register, pairs.fourth),
+    }
+}
+
+/// One pair more, before the others, of which the last gives way where there are four.
+fn before(pair: Pair, pairs: Pairs) -> Pairs
+    ensures { result ≡ before pair pairs.first pairs.second pairs.third pairs.fourth }
+{
+    let first = Some(pair);
+    match (pairs.first, pairs.second, pairs.third) {
+        (None, _, _) => Pairs { first, ..pairs },
+        (second, None, _) => Pairs {
+            first,
+            second,
+            ..pairs
+        },
+        (second, third, None) => Pairs {
+            first,
+            second,
+            third,
+            ..pairs
+        },
+        (second, third, fourth) => Pairs {
+            first,
+            second,
+            third,
+            fourth,
+        },
+    }
+}
+
+/// One pair more, if there is one.
+#[inline(always)]
+fn with_pair(pair: Option<Pair>, pairs: Pairs) -> Pairs
+    ensures { result ≡ with_pair pair pairs }
+{
+    match pair {
+        Some(pair) => before(pair, pairs),
+        None => pairs,
+    }
+}
+
+/// The other register of a pair.
+fn partner(register: Register, pair: Pair) -> Register
+    ensures { result ≡ partner register pair }
+{
+    if pair.left.number() == register.number() {
+        pair.right
+    } else {
+        pair.left
+    }
+}
+
+/// Of a register that is written, and holds at most `n` more than another one: that one's pair, with the written register in its place.
+fn carried(src: Register, dst: Register, n: u64, pair: Option<Pair>) -> Option<Pair>
+    ensures { result ≡ carried src dst n pair }
+{
+    let pair = pair?;
+    let partner = partner(src, pair);
+    if is_in(src, pair) && partner.number() != dst.number() && pair.most <= u64::MAX - n {
+        Some(Pair {
+            left: dst,
+            right: partner,
+            most: pair.most + n,
+        })
+    } else {
+        None
+    }
+}
+
+/// Each pair that is had so, before others.
+fn carried_into(src: Register, dst: Register, n: u64, old: Pairs, new: Pairs) -> Pairs
+    ensures { result ≡ carried_into src dst n old new }
+{
+    let new = with_pair(carried(src, dst, n, old.fourth), new);
+    let new = with_pair(carried(src, dst, n, old.third), new);
+    let new = with_pair(carried(src, dst, n, old.second), new);
+    with_pair(carried(src, dst, n, old.first), new)
+}
+
+/// The same, of an operand.
+fn carried_from(src: Operand, dst: Register, n: u64, old: Pairs, new: Pairs) -> Pairs
+    ensures { result ≡ carried_from src dst n old new }
+{
+    match src {
+        Operand::Register(src) => carried_into(src, dst, n, old, new),
+        Operand::Immediate(_) => new,
+    }
+}
+
+/// The pairs after a sum. Where it can't pass 2^64, it has the pairs of the operand, and the register's most more; and those of the
+/// register, and the operand's.
+fn pairs_of_sum(dst: Register, src: Operand, row: &[Kind], pairs: Pairs) -> Pairs
+    requires { AreKinds row.now }
+    ensures { result ≡ pairs_of_sum dst src row.now pairs }
+{
+    let left = most(kind_of(row, dst));
+    let right = most(kind_of_operand(Profile::Second, row, src));
+    let others = pairs_without(dst, pairs);
+    if left <= u64::MAX - right {
+        let own = carried_into(dst, dst, right, pairs, others);
+        carried_from(src, dst, left, pairs, own)
+    } else {
+        others
+    }
+}
+
+/// The pairs after an operation.
+fn pairs_of_op(
+    op: Op,
+    width: Width,
+    dst: Register,
+    src: Operand,
+    row: &[Kind],
+    pairs: Pairs,
+) -> Pairs
+    requires { AreKinds row.now }
+    ensures { result ≡ pairs_of_op op width dst src row.now pairs }
+{
+    match (op, width) {
+        (Op::Mov, Width::W64) => carried_from(src, dst, 0, pairs, pairs_without(dst, pairs)),
+        (Op::Add, Width::W64) => pairs_of_sum(dst, src, row, pairs),
+        _ => pairs_without(dst, pairs),
+    }
+}
+
+/// A pair of registers that a call does not write.
+fn pair_over_call(pair: Option<Pair>) -> Option<Pair>
+    ensures { result ≡ pair_over_call pair }
+{
+    match pair {
+        Some(pair) => {
+            if 6 <= pair.left.number() && 6 <= pair.right.number() {
+                Some(pair)
+            } else {
+                None
+            }
+        }
+        None => None,
+    }
+}
+
+/// The pairs after a call.
+fn pairs_over_call(pairs: Pairs) -> Pairs
+    ensures { result ≡ pairs_over_call pairs }
+{
+    Pairs {
+        first: pair_over_call(pairs.first),
+        second: pair_over_call(pairs.second),
+        third: pair_over_call(pairs.third),
+        fourth: pair_over_call(pairs.fourth),
+    }
+}
+
+/// Whether no pair is known.
+fn are_none(pairs: Pairs) -> bool
+    ensures { result ≡ true → pairs ≡ no_pairs }
+{
+    pairs.first.is_none()
+        && pairs.second.is_none()
+        && pairs.third.is_none()
+        && pairs.fourth.is_none()
+}
+
+/// The pairs after what an instruction writes, by the row before it.
+fn pairs_across(insn: Insn, row: &[Kind], pairs: Pairs) -> Pairs
+    requires { AreKinds row.now }
+    ensures { result ≡ pairs_over insn row.now pairs }
+{
+    match insn {
+        Insn::Alu {
+            op,
+            width,
+            dst,
+            src,
+        } => pairs_of_op(op, width, dst, src, row, pairs),
+        Insn::Load { dst, .. } => pairs_without(dst, pairs),
+        Insn::Store { .. } | Insn::JumpIf { .. } => pairs,
+        Insn::Call { .. } => pairs_over_call(pairs),
+        _ => no_pairs(),
+    }
+}
+
+/// The same. Where none is known before it, as mostly, none is after it, and the row isn't looked at.
+#[inline(always)]
+pub fn pairs_over(insn: Insn, row: &[Kind], pairs: Pairs) -> Pairs
+    requires { AreKinds row.now }
+    ensures { result ≡ pairs_over insn row.now pairs }
+{
+    if are_none(pairs) {
+        no_pairs()
+    } else {
+        pairs_across(insn, row, pairs)
+    }
+}
+
+/// The two registers of a sum that can't pass 2^64.
+fn pair_of(left: Register, right: Register, most_whole: u64, row: &[Kind]) -> Option<Pair>
+    requires { AreKinds row.now }
+    ensures { result ≡ pair_of left right most_whole row.now }
+{
+    if most(kind_of(row, left)) <= u64::MAX - most(kind_of(row, right)) {
+        Some(Pair {
+            left,
+            right,
+            most: most_whole,
+        })
+    } else {
+        None
+    }
+}
+
+/// The pair that a sum tells.
+fn pair_told(sum: Sum, right: Operand, row: &[Kind]) -> Option<Pair>
+    requires { AreKinds row.now }
+    ensures { result ≡ pair_told sum right row.now }
+{
+    match right {
+        Operand::Register(right) => pair_of(sum.left, right, most(kind_of(row, sum.of)), row),
+        Operand::Immediate(_) => None,
+    }
+}
+
+/// The pairs that are known where a condition was tested, by the second profile, and the row on to the next slot.
+#[inline(always)]
+pub fn pairs_told(
+    insn: Insn,
+    profile: Profile,
+    sum: Option<Sum>,
+    row: &[Kind],
+    pairs: Pairs,
+) -> Pairs
+    requires { AreKinds row.now }
+    ensures { result ≡ pairs_told insn profile sum row.now pairs }
+{
+    match (insn, profile, sum) {
+        (Insn::JumpIf { left, right, .. }, Profile::Second, Some(sum)) => {
+            if left.number() == sum.of.number() || is_operand(sum.of, right) {
+                with_pair(pair_told(sum, sum.right, row), pairs)
+            } else {
+                pairs
+            }
+        }
+        _ => pairs,
+    }
+}
+
+/// The pairs that are known at a slot: none where a jump leads there. The flags say to which slots jumps lead.
+#[inline(always)]
+pub fn pairs_here(led: &[bool], at: usize, pairs: Pairs) -> Pairs
+    requires { at < length led.now }
+    ensures { (here : Bool) → slice_get led.now at ≡ Some here → result ≡ (if here then no_pairs else pairs) }
+{
+    if led[at] { no_pairs() } else { pairs }
+}

@@ -1,5 +1,0 @@
-use Rattle.bpfimage.proofs.Reach.{walked_none}
-use Rattle.bpfimage.proofs.form.walk.Goals as goal
-
-pub loop-at-init : goal.loop-at-init
-loop-at-init c = walked_none c.args.code.now c.args.reached.now c.requires.some c.requires.clear

@@ -1,5 +1,0 @@
-use Rattle.bpfimage.specs.Form.{IsWalked}
-use Rattle.bpfimage.proofs.form.walk.Given as goal
-
-abbrev pub invariant-loop-at : goal.invariant-loop-at
-invariant-loop-at l = IsWalked l.code l.at l.reached

@@ -1,7 +1,0 @@
-use Rattle.std.proofs.Common.{◌≡◌, ◌+◌, take}
-use Rattle.follow.specs.Waiting.{bytes_waiting}
-use Rattle.closing.proofs.watch.Watch.holds_less.Given as goal
-
--- so many, but for those of the vnodes so far, are left
-abbrev pub invariant-loop-index : goal.invariant-loop-index
-invariant-loop-index g l = bytes_waiting (take l.index l.self.taken.waiting) + l.left ≡ l.bytes

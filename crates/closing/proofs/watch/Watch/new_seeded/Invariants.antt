@@ -1,7 +1,0 @@
-use Rattle.std.proofs.Common.{◌≡◌, vec_len}
-use Rattle.closing.proofs.Taken.{AreNumbered}
-use Rattle.closing.proofs.watch.Watch.new_seeded.Given as goal
-
--- so many identifiers, numbered from the first on
-abbrev pub invariant-loop-index : goal.invariant-loop-index
-invariant-loop-index g l = record { long : vec_len l.ids ≡ l.index; numbered : AreNumbered l.first l.ids.items }

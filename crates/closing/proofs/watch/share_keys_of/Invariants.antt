@@ -1,6 +1,0 @@
-use Rattle.std.proofs.Common.{◌≡◌}
-use Rattle.closing.proofs.watch.share_keys_of.Given as goal
-
--- nothing that is seen of the follower has changed
-abbrev pub invariant-loop : goal.invariant-loop
-invariant-loop g l = l.follower ≡ l.fn.follower

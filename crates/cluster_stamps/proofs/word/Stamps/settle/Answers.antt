@@ -1,0 +1,7 @@
+use Rattle.cluster_stamps.proofs.Plays.{settle_allowed}
+use Rattle.std.proofs.Common.{arith}
+use Rattle.cluster_stamps.proofs.word.Stamps.settle.Goals as goal
+
+pub load-requires : goal.load-requires
+load-requires c =
+    (c.requires, omega arith, settle_allowed c.args.self.now.table.shared.key c.args.self.now.table.shared.table_id.slots c.args.card.now.id c.args.card.now.me)

@@ -1,0 +1,5 @@
+use Rattle.calls.specs.Answered.{asked}
+use Rattle.cluster_vnode.proofs.locked.Locked.make.Given as goal
+
+abbrev pub ghosts-ask : goal.ghosts-ask
+ghosts-ask g a = record { request = asked a.prepared }

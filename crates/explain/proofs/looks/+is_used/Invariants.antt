@@ -1,5 +1,0 @@
-use Rattle.std.proofs.Common.{length}
-use Rattle.explain.proofs.looks.+is_used.Given as goal
-
-abbrev pub decreases-is_used : goal.decreases-is_used
-decreases-is_used l = length l.rules.now

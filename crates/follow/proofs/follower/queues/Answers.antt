@@ -1,6 +1,0 @@
-use Rattle.journal.specs.Entry.{Entry}
-use Rattle.rerun.proofs.Opening.{empties_more}
-use Rattle.follow.proofs.follower.queues.Goals as goal
-
-pub loop-index-preserved : goal.loop-index-preserved
-loop-index-preserved c = empties_more {X = Entry} c.loop-index.index c.loop-index.queues.items c.push.new.self.items c.new.result c.loop-index.invariant c.new.ensures c.in_ok-push.ensures.items

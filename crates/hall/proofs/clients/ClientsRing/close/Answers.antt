@@ -1,6 +1,0 @@
-use Rattle.std.proofs.Common.{refl}
-use Rattle.hall.proofs.ClientLemmas.{shows_altered}
-use Rattle.hall.proofs.clients.ClientsRing.close.Goals as goal
-
-pub returns : goal.returns
-returns c = λ old shown. shows_altered c.args.number _ c.args.self.now.clients.items c.close_at.new.clients.items old c.close_at.ensures (λ none t. refl) shown

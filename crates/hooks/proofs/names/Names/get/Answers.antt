@@ -1,8 +1,0 @@
-use Rattle.std.proofs.Common.{◌∙◌, ap, List, ℕ}
-use Rattle.std.specs.Map.{lookup}
-use Rattle.hooks.specs.Changes.{is_name}
-use Rattle.hooks.proofs.Named.{found_in}
-use Rattle.hooks.proofs.names.Names.get.Goals as goal
-
-pub returns : goal.returns
-returns g c = c.get.ensures.value ∙ found_in _ c.args.name.now ∙ ap (λ (held : List (List ℕ × g.row.V.Denot)). lookup (is_name c.args.name.now) held) c.self.view_is

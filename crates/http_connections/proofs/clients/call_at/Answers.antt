@@ -1,0 +1,10 @@
+use Rattle.std.proofs.Common.{Ok}
+use Rattle.http_connections.specs.Sockets.{after_call}
+use Rattle.http_connections.proofs.ClientLemmas.{alters_set, alters_none, there_is, none_is}
+use Rattle.http_connections.proofs.clients.call_at.Goals as goal
+
+pub returns-in-Some : goal.returns-in-Some
+returns-in-Some c = alters_set c.args.i (after_call (Ok tt)) c.args.clients.now.items c.in-Some.client.now c.call.new.self (there_is c.args.clients.now.items c.args.i c.in-Some.client.now c.in-Some.ensures.item.3.0 c.in-Some.ensures.item.1) c.call.ensures
+
+pub returns-in_default : goal.returns-in_default
+returns-in_default c = alters_none c.args.i _ c.args.clients.now.items (none_is c.args.clients.now.items c.args.i c.in_default.ensures.item.3)

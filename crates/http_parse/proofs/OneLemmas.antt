@@ -1,0 +1,67 @@
+-- On two answers about the same bytes.
+use Rattle.std.proofs.Common.{◌≡◌, ℕ, Bool, List, [], ◌++◌, length, take, drop, refl, sym, ap, subst, ◌∙◌, Some, None}
+use Rattle.std.specs.Prelude.{if◌then◌else◌, unwrap_or}
+use Rattle.std.proofs.Math.Seq.{take-append_seam, drop-append_seam}
+use Rattle.httparse.specs.Grammar.{RequestHead}
+use Rattle.httparse.proofs.GrammarLemmas.{request_unique}
+use Rattle.http_request.specs.Head.{BeginsHead, IsOriginTarget}
+use Rattle.http_request.specs.Fields.{fields_fault, body_length, is_last}
+use Rattle.http_request.specs.Ask.{Asks, bad_head, bad_target, bad_fields, whole, asked_by}
+use Rattle.http_request.specs.declared.ask.Ask.{Ask}
+use Rattle.http_request.specs.declared.ask.Ask.TheVariants.{Refused}
+use Rattle.http_request.specs.declared.ask.Refusal.{Refusal}
+
+-- the head is one
+one_head : (bytes : List ℕ) (h k : RequestHead) (a b : List ℕ) → BeginsHead bytes h a → BeginsHead bytes k b → (h ≡ k) × (a ≡ b)
+one_head bytes h k a b x y = request_unique bytes h k a b x.reads y.reads
+
+-- so is the target's form
+one_target : (h k : RequestHead) → h ≡ k → (IsOriginTarget h.target → ⊥) → IsOriginTarget k.target → ⊥
+one_target h k e bad origin = bad (subst (λ x. IsOriginTarget x.target) (sym e) origin)
+
+-- and the fault of its fields
+one_fault : (h k : RequestHead) (f g : Refusal) → h ≡ k → fields_fault h ≡ Some f → fields_fault k ≡ Some g → f ≡ g
+one_fault h k f g e x y = ap (λ o. unwrap_or o f) (sym x ∙ (ap fields_fault e ∙ y))
+
+no_fault : (h k : RequestHead) (f : Refusal) → h ≡ k → fields_fault h ≡ Some f → fields_fault k ≡ None → ⊥
+no_fault h k f e x y = some_none (sym x ∙ (ap fields_fault e ∙ y))
+  where
+    some_none : Some f ≡ None → ⊥
+    some_none z = cc
+
+-- a body of the same length is one
+one_body : (b c r s : List ℕ) → length b ≡ length c → b ++ r ≡ c ++ s → (b ≡ c) × (r ≡ s)
+one_body b c r s n e = (
+  sym (take-append_seam b r) ∙ (ap (take (length b)) e ∙ (ap (λ m. take m (c ++ s)) n ∙ take-append_seam c s)),
+  sym (drop-append_seam b r) ∙ (ap (drop (length b)) e ∙ (ap (λ m. drop m (c ++ s)) n ∙ drop-append_seam c s)),
+)
+
+-- and what a whole request asks for
+one_whole : (n : ℕ) (h k : RequestHead) (b c r s : List ℕ) → h ≡ k → (b ≡ c) × (r ≡ s)
+    → (asked_by n h b ≡ asked_by n k c) × (is_last h ≡ is_last k) × ((if is_last h then [] else r) ≡ (if is_last k then [] else s))
+one_whole n h k b c r s e p = (
+  ap (λ x. asked_by n x b) e ∙ ap (asked_by n k) p.0,
+  ap is_last e,
+  ap (λ z. if z then [] else r) (ap is_last e) ∙ ap (λ l. if is_last k then [] else l) p.1,
+)
+
+pub asks_one : (n : ℕ) (bytes : List ℕ) (ask other : Ask) (ends stops : Bool) (next after : List ℕ)
+    → Asks n bytes ask ends next → Asks n bytes other stops after → (ask ≡ other) × (ends ≡ stops) × (next ≡ after)
+asks_one n bytes _ _ _ _ _ _ (bad_head x) (bad_head y) = (refl, refl, refl)
+asks_one n bytes _ _ _ _ _ _ (bad_head x) (bad_target k b y q) = (refl, refl, refl)
+asks_one n bytes _ _ _ _ _ _ (bad_head x) (bad_fields k b g y q v) = absurd (x.0 k b y)
+asks_one n bytes _ _ _ _ _ _ (bad_head x) (whole k c s y q v m) = absurd (x.0 k (c ++ s) y)
+asks_one n bytes _ _ _ _ _ _ (bad_target h a x p) (bad_head y) = (refl, refl, refl)
+asks_one n bytes _ _ _ _ _ _ (bad_target h a x p) (bad_target k b y q) = (refl, refl, refl)
+asks_one n bytes _ _ _ _ _ _ (bad_target h a x p) (bad_fields k b g y q v) = absurd (one_target h k (one_head bytes h k a b x y).0 p q)
+asks_one n bytes _ _ _ _ _ _ (bad_target h a x p) (whole k c s y q v m) = absurd (one_target h k (one_head bytes h k a (c ++ s) x y).0 p q)
+asks_one n bytes _ _ _ _ _ _ (bad_fields h a f x p u) (bad_head y) = absurd (y.0 h a x)
+asks_one n bytes _ _ _ _ _ _ (bad_fields h a f x p u) (bad_target k b y q) = absurd (one_target k h (one_head bytes k h b a y x).0 q p)
+asks_one n bytes _ _ _ _ _ _ (bad_fields h a f x p u) (bad_fields k b g y q v) = (ap Refused (one_fault h k f g (one_head bytes h k a b x y).0 u v), refl, refl)
+asks_one n bytes _ _ _ _ _ _ (bad_fields h a f x p u) (whole k c s y q v m) = absurd (no_fault h k f (one_head bytes h k a (c ++ s) x y).0 u v)
+asks_one n bytes _ _ _ _ _ _ (whole h b r x p u l) (bad_head y) = absurd (y.0 h (b ++ r) x)
+asks_one n bytes _ _ _ _ _ _ (whole h b r x p u l) (bad_target k c y q) = absurd (one_target k h (one_head bytes k h c (b ++ r) y x).0 q p)
+asks_one n bytes _ _ _ _ _ _ (whole h b r x p u l) (bad_fields k c g y q v) = absurd (no_fault k h g (one_head bytes k h c (b ++ r) y x).0 v u)
+asks_one n bytes _ _ _ _ _ _ (whole h b r x p u l) (whole k c s y q v m) =
+    let heads = one_head bytes h k (b ++ r) (c ++ s) x y in
+    one_whole n h k b c r s heads.0 (one_body b c r s (l ∙ (ap body_length heads.0 ∙ sym m)) heads.1)

@@ -1,0 +1,27 @@
+-- What contracts see of what is known of a head.
+use Rattle.std.specs.Prelude.{◌≡◌, ℕ, List, Option, Some, None, IfSome}
+use Rattle.httparse.specs.declared.spans.RequestSpans.{RequestSpans}
+use Rattle.http_parse.specs.Heads.{StandsAt}
+use Rattle.http_parse.specs.declared.known.KnownHead.{KnownHead}
+use Rattle.http_parse.specs.declared.request.Asking.{Asking}
+use Rattle.http_parse.specs.declared.request.Asking.TheVariants.{Head, Body, First}
+
+-- the head that is known, if one is, stands at the front of the bytes
+abbrev pub IsKnownOf : KnownHead → List ℕ → Type 0
+IsKnownOf known bytes = IfSome known.spans (StandsAt bytes known.lines)
+
+-- no head is known, so it is right of any bytes
+abbrev pub KnowsNothing : KnownHead → Type 0
+KnowsNothing known = (bytes : List ℕ) → IsKnownOf known bytes
+
+-- the head that an answer about a whole head leaves known: it is kept while its body is missing
+abbrev pub kept_of : Asking → RequestSpans → Option RequestSpans
+kept_of Head spans = None
+kept_of (Body needs) spans = Some spans
+kept_of (First ask ends len) spans = None
+
+-- what is known beside an answer: the head of the bytes while its body is missing, and else nothing
+abbrev pub Leaves : Asking → List ℕ → KnownHead → Type 0
+Leaves Head bytes known = KnowsNothing known
+Leaves (Body needs) bytes known = (spans : RequestSpans) × (known.spans ≡ Some spans) × StandsAt bytes known.lines spans
+Leaves (First ask ends len) bytes known = KnowsNothing known

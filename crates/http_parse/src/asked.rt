@@ -1,0 +1,286 @@
+//! What a whole request asks for.
+
+ghost use Rattle.std.specs.Prelude.{◌≡◌, ◌≤◌, ◌||◌, IfOk, Some, Ok, ℕ, codes};
+ghost use Rattle.std.specs.Option.{option_copied};
+ghost use Rattle.http_request.specs.declared.route.Route.TheVariants as route;
+ghost use Rattle.http_request.specs.Target as target;
+ghost use Rattle.http_request.specs.Fields as fields;
+ghost use Rattle.http_request.specs.Target.{texts_of};
+ghost use Rattle.http_request.specs.Ask as spec;
+ghost use Rattle.http_request.specs.Ask.{asked_of, asked_at, asked_named, asked_props, is_method, context_of};
+ghost use Rattle.http_request.specs.Props as props;
+ghost use Rattle.http_request.specs.declared.ask.Ask.TheVariants as asks;
+ghost use Rattle.http_request.specs.declared.ask.Call.TheVariants as calls;
+ghost use Rattle.http_request.specs.declared.ask.Form.TheVariants.{Text};
+ghost use Rattle.http_parse.specs.Views.{request, quorums, FitsAsked, key_at, content_of, asked_put};
+ghost use Rattle.http_request.specs.Fits.{FitsAsk};
+ghost use Rattle.key_state.specs.Limits.{IsKey};
+ghost use Rattle.context_token.specs.Token.{Gives};
+
+use crate::fields::has_element;
+use crate::names::{decoded_at, has_names, is_hook_name, is_name, name_at};
+use crate::query::{Asked, quorums_of, text_of, words_of};
+use crate::routes::Routes;
+use crate::whole::Request;
+use context_token::TokenFault;
+use dvv::Clock;
+use http_request::{Ask, Call, Form, Refusal, Route};
+use httpprops::changes_in;
+use key_state::{Bytes, Content, Key, MAX_BUCKET, MAX_MEDIA};
+use std::alloc::{AllocError, Global};
+
+impl Request<'_> {
+    /// What the request asks for, where each key has so many copies.
+    pub(crate) fn ask(self, alloc: Global, routes: &Routes, copies: u32) -> Result<Ask, AllocError>
+        requires some { 1 ≤ copies }
+        requires few { copies ≤ 3 }
+        ensures asked { IfOk result (λ ask. ask ≡ asked_of copies (request self.entry)) }
+        ensures fits { IfOk result (FitsAsk copies) }
+    {
+        match routes.route_of(self.path) {
+            None => Ok(Ask::Refused(Refusal::NoRoute)),
+            Some(Route::Ping) => Ok(self.ask_of_ping()),
+            Some(Route::Key) => self.ask_of_key(alloc, copies),
+            Some(Route::Hook) => self.ask_of_hook(alloc),
+            Some(Route::Props) => self.ask_of_bucket(alloc),
+        }
+    }
+
+    // Whether its method is this one.
+    fn is(self, method: &[u8]) -> bool
+        ensures { result ≡ is_method (request self.entry) method.now }
+    {
+        self.method == method
+    }
+
+    fn ask_of_ping(self) -> Ask
+        ensures asked { (copies : ℕ) → result ≡ asked_at copies (Some route.Ping) (request self.entry) }
+        ensures fits { (copies : ℕ) → FitsAsk copies result }
+    {
+        if self.is(b"GET") {
+            Ask::Ping
+        } else {
+            Ask::Refused(Refusal::Method)
+        }
+    }
+
+    fn ask_of_key(self, alloc: Global, copies: u32) -> Result<Ask, AllocError>
+        requires some { 1 ≤ copies }
+        requires few { copies ≤ 3 }
+        ensures asked { IfOk result (λ ask. ask ≡ asked_at copies (Some route.Key) (request self.entry)) }
+        ensures fits { IfOk result (FitsAsk copies) }
+    {
+        if self.is_of_key() {
+            self.ask_of_query(alloc, copies)
+        } else {
+            Ok(Ask::Refused(Refusal::Method))
+        }
+    }
+
+    // Whether its method is one of a key.
+    fn is_of_key(self) -> bool
+        ensures { result ≡ (is_method (request self.entry) (codes "GET") || is_method (request self.entry) (codes "PUT")
+            || is_method (request self.entry) (codes "POST") || is_method (request self.entry) (codes "DELETE")) }
+    {
+        self.is(b"GET") || self.is(b"PUT") || self.is(b"POST") || self.is(b"DELETE")
+    }
+
+    // What is asked of a key by one of its methods.
+    fn ask_of_query(self, alloc: Global, copies: u32) -> Result<Ask, AllocError>
+        requires some { 1 ≤ copies }
+        requires few { copies ≤ 3 }
+        ensures asked { IfOk result (λ ask. ask ≡ asked_named (target.quorums_of copies (texts_of self.entry.query.now)) (key_at self.entry.path.now) (request self.entry)) }
+        ensures fits { IfOk result (FitsAsk copies) }
+    {
+        let words = words_of(alloc, self.query.as_bytes())?;
+        match quorums_of(&words, copies) {
+            Some(asked) => self.ask_of_names(alloc, asked, text_of(&words.vtag)),
+            None => Ok(Ask::Refused(Refusal::Query)),
+        }
+    }
+
+    // What is asked of the key that the path names, where the query is in order.
+    fn ask_of_names(self, alloc: Global, asked: Asked, tag: Option<&str>) -> Result<Ask, AllocError>
+        requires { option_copied tag ≡ target.asked_for (codes "vtag") (texts_of self.query.now) }
+        ensures asked { IfOk result (λ ask. ask ≡ asked_named (Some (quorums asked)) (key_at self.entry.path.now) (request self.entry)) }
+        ensures fits { (copies : ℕ) → FitsAsked copies asked → IfOk result (FitsAsk copies) }
+    {
+        let key = self.key(alloc)?;
+        if !has_names(&key) {
+            return Ok(Ask::Refused(Refusal::BadName));
+        }
+        if self.is(b"GET") {
+            self.get_of_key(alloc, key, asked, tag)
+        } else {
+            self.put_of_key(alloc, key, asked)
+        }
+    }
+
+    // The key that the path names.
+    fn key(self, alloc: Global) -> Result<Key, AllocError>
+        ensures { IfOk result (λ key. key ≡ key_at self.entry.path.now) }
+    {
+        let bucket = decoded_at(alloc, self.path, 2)?;
+        let key = decoded_at(alloc, self.path, 4)?;
+        Key::new(alloc, bucket.as_slice(), key.as_slice())
+    }
+
+    // A read of the key.
+    fn get_of_key(
+        self,
+        alloc: Global,
+        key: Key,
+        asked: Asked,
+        tag: Option<&str>,
+    ) -> Result<Ask, AllocError>
+        ensures asked { IfOk result (λ ask. ask ≡ asks.Call (calls.Get key asked.read asked.at)
+            (spec.form_of (option_copied tag.entry) (fields.has_element (codes "accept") (codes "multipart/mixed") (request self.entry).pairs))) }
+        ensures fits { (copies : ℕ) → IsKey key → FitsAsked copies asked → IfOk result (FitsAsk copies) }
+    {
+        let form = self.form(alloc, tag)?;
+        let call = Call::Get {
+            key,
+            r: asked.read,
+            at: asked.at,
+        };
+        Ok(Ask::Call(call, form))
+    }
+
+    // A write of the key, as one who had seen what the context says.
+    fn put_of_key(self, alloc: Global, key: Key, asked: Asked) -> Result<Ask, AllocError>
+        ensures asked { IfOk result (λ ask. ask ≡ asked_put key (quorums asked) (request self.entry) (context_of (request self.entry).pairs)) }
+        ensures fits { (copies : ℕ) → IsKey key → FitsAsked copies asked → IfOk result (FitsAsk copies) }
+    {
+        match self.context(alloc) {
+            Ok(seen) => self.put_seen(alloc, key, asked, seen),
+            Err(TokenFault::NoMemory) => Err(AllocError),
+            Err(fault) => Ok(Ask::Refused(Refusal::Token(fault))),
+        }
+    }
+
+    // A write of the key, as one who had seen what the clock counts.
+    fn put_seen(self, alloc: Global, key: Key, asked: Asked, seen: Clock) -> Result<Ask, AllocError>
+        ensures asked { IfOk result (λ ask. ask ≡ asked_put key (quorums asked) (request self.entry) (Ok seen)) }
+        ensures fits { (copies : ℕ) → IsKey key → FitsAsked copies asked → IfOk result (FitsAsk copies) }
+    {
+        match self.content(alloc)? {
+            Some(content) => {
+                let call = Call::Put {
+                    key,
+                    seen,
+                    content,
+                    w: asked.write,
+                    at: asked.at,
+                };
+                Ok(Ask::Call(call, Form::Text))
+            }
+            None => Ok(Ask::Refused(Refusal::BadType)),
+        }
+    }
+
+    // How a read is shown.
+    fn form(self, alloc: Global, tag: Option<&str>) -> Result<Form, AllocError>
+        ensures { IfOk result (λ form. form ≡ spec.form_of (option_copied tag.entry) (fields.has_element (codes "accept") (codes "multipart/mixed") (request self.entry).pairs)) }
+    {
+        if let Some(tag) = tag {
+            return Ok(Form::One(Bytes::from_slice(alloc, tag.as_bytes())?));
+        }
+        if has_element(self.fields.accept, b"multipart/mixed") {
+            Ok(Form::Parts)
+        } else {
+            Ok(Form::Text)
+        }
+    }
+
+    // What the writer had seen.
+    fn context(self, alloc: Global) -> Result<Clock, TokenFault>
+        ensures { Gives result (context_of (request self.entry).pairs) }
+    {
+        match self.fields.context {
+            Some(text) => context_token::read_bytes(alloc, text),
+            None => Ok(Clock::new(alloc)),
+        }
+    }
+
+    // What is written; nothing where its media type is empty or too long.
+    fn content(self, alloc: Global) -> Result<Option<Content>, AllocError>
+        ensures { IfOk result (λ content. content ≡ content_of (request self.entry)) }
+    {
+        if self.is(b"DELETE") {
+            return Ok(Some(Content::Tombstone));
+        }
+        let media = self
+            .fields
+            .content_type
+            .unwrap_or(b"application/octet-stream");
+        if !is_name(MAX_MEDIA, media) {
+            return Ok(None);
+        }
+        let media = self.types.bytes_of(alloc, media)?;
+        let bytes = Bytes::from_slice(alloc, self.body)?;
+        Ok(Some(Content::Value { media, bytes }))
+    }
+
+    fn ask_of_hook(self, alloc: Global) -> Result<Ask, AllocError>
+        ensures asked { (copies : ℕ) → IfOk result (λ ask. ask ≡ asked_at copies (Some route.Hook) (request self.entry)) }
+        ensures fits { (copies : ℕ) → IfOk result (FitsAsk copies) }
+    {
+        let put = self.is(b"PUT");
+        if !(put || self.is(b"DELETE")) {
+            return Ok(Ask::Refused(Refusal::Method));
+        }
+        let name = name_at(alloc, self.path, 2)?;
+        if !is_hook_name(name.as_slice()) {
+            return Ok(Ask::Refused(Refusal::BadName));
+        }
+        if put {
+            self.install(alloc, name)
+        } else {
+            Ok(Ask::Call(Call::Remove { name }, Form::Text))
+        }
+    }
+
+    // What installs the body under a name.
+    fn install(self, alloc: Global, name: Bytes) -> Result<Ask, AllocError>
+        ensures { IfOk result (λ ask. ask ≡ asks.Call (calls.Install name self.entry.body.now) Text) }
+    {
+        let image = Bytes::from_slice(alloc, self.body)?;
+        Ok(Ask::Call(Call::Install { name, image }, Form::Text))
+    }
+
+    fn ask_of_bucket(self, alloc: Global) -> Result<Ask, AllocError>
+        ensures asked { (copies : ℕ) → IfOk result (λ ask. ask ≡ asked_at copies (Some route.Props) (request self.entry)) }
+        ensures fits { (copies : ℕ) → IfOk result (FitsAsk copies) }
+    {
+        let get = self.is(b"GET");
+        if !(get || self.is(b"PUT")) {
+            return Ok(Ask::Refused(Refusal::Method));
+        }
+        let bucket = name_at(alloc, self.path, 2)?;
+        if !is_name(MAX_BUCKET, bucket.as_slice()) {
+            return Ok(Ask::Refused(Refusal::BadName));
+        }
+        if get {
+            Ok(Ask::Call(Call::ReadProps { bucket }, Form::Text))
+        } else {
+            self.set_props(alloc, bucket)
+        }
+    }
+
+    // What sets the properties of a bucket.
+    fn set_props(self, alloc: Global, bucket: Bytes) -> Result<Ask, AllocError>
+        ensures { IfOk result (λ ask. ask ≡ asked_props bucket (props.changes_in self.entry.body.now)) }
+    {
+        match changes_in(alloc, self.body)? {
+            Some((precommit, resolver)) => {
+                let call = Call::SetProps {
+                    bucket,
+                    precommit,
+                    resolver,
+                };
+                Ok(Ask::Call(call, Form::Text))
+            }
+            None => Ok(Ask::Refused(Refusal::BadProps)),
+        }
+    }
+}

@@ -1,0 +1,189 @@
+//! What the fields of a head say.
+
+ghost use Rattle.std.specs.Prelude.{◌≡◌, ◌==◌, ℕ, ◌+◌, ◌<◌, ◌≤◌, ◌^◌, List, length, map, drop, take, All, IsTrue, ◌&&◌, ◌||◌, codes, bytes_eq, reverse, [], ◌∷◌, IfSome, IfNone, Option, Some, None, IfOk, IfErr, OnOk};
+ghost use Rattle.std.specs.Str.Parse.{digits_value};
+ghost use Rattle.std.specs.Option.{option_copied};
+ghost use Rattle.std.specs.List.{list_all, list_any, before_first, slice_split};
+ghost use Rattle.std.specs.Str.{str_to_ascii_lowercase};
+ghost use Rattle.httparse.specs.Grammar.{trim_ows, skip_ows};
+ghost use Rattle.std.specs.Char.{is_ascii_digit};
+ghost use Rattle.httparse.specs.Spans.{header_bytes, IsHeaderWithin};
+ghost use Rattle.http_request.specs.Fields as spec;
+ghost use Rattle.http_request.specs.Limits.{longest_body};
+ghost use Rattle.http_parse.specs.Firsts.{AreFirst, says};
+
+use crate::firsts::Fields;
+use crate::number::{is_number, small_number};
+use http_request::Refusal;
+use httparse::spans::HeaderSpan;
+use memchr::memchr;
+
+/// Whether the field has this name, whose case does not matter.
+pub(crate) fn is_named(bytes: &[u8], line: HeaderSpan, name: &[u8]) -> bool
+    requires within { IsHeaderWithin (length bytes.now) line }
+    requires lower { str_to_ascii_lowercase name.now ≡ name.now }
+    ensures { result ≡ spec.is_named name.now (header_bytes bytes.now line) }
+{
+    line.name.of(bytes).eq_ignore_ascii_case(name)
+}
+
+// The digits of a number, without the zeros in front.
+fn without_zeros(text: &[u8]) -> &[u8]
+    ensures { result.now ≡ spec.without_zeros text.now }
+{
+    let mut rest = text;
+    while let [b'0', tail @ ..] = rest {
+        rest = tail;
+    }
+    rest
+}
+
+// Whether each field of this name has a number equal to this one.
+fn all_equal(bytes: &[u8], lines: &[HeaderSpan], name: &[u8], number: &[u8]) -> bool
+    requires within { All (IsHeaderWithin (length bytes.now)) lines.now }
+    requires lower { str_to_ascii_lowercase name.now ≡ name.now }
+    ensures { result ≡ list_all (λ u. spec.is_number u && bytes_eq (spec.without_zeros u) (spec.without_zeros number.now))
+        (spec.values_of name.now (map (header_bytes bytes.now) lines.now)) }
+{
+    for line in lines {
+        if is_named(bytes, *line, name) {
+            let value = line.value.of(bytes);
+            if !is_number(value) || without_zeros(value) != without_zeros(number) {
+                return false;
+            }
+        }
+    }
+    true
+}
+
+/// Whether the value of a field, where it stands, has this element, in lower case.
+pub(crate) fn has_element(value: Option<&[u8]>, element: &[u8]) -> bool
+    requires { str_to_ascii_lowercase element.now ≡ element.now }
+    ensures { result ≡ says element.now (option_copied value.entry) }
+{
+    match value {
+        None => false,
+        Some(value) => any_element(value, element),
+    }
+}
+
+// Whether some element of a list is this one.
+fn any_element(value: &[u8], element: &[u8]) -> bool
+    requires { str_to_ascii_lowercase element.now ≡ element.now }
+    ensures { result ≡ list_any (bytes_eq element.now) (spec.elements_of value.now) }
+{
+    let mut rest = value;
+    while let Some(at) = comma_in(rest) {
+        if is_element(&rest[..at], element) {
+            return true;
+        }
+        rest = &rest[at + 1..];
+    }
+    is_element(rest, element)
+}
+
+// Where the first comma stands.
+fn comma_in(text: &[u8]) -> Option<usize>
+    ensures found { IfSome result (λ at. (at < length text.now) × (slice_split (λ b. b == 44) text.now
+        ≡ take at text.now ∷ slice_split (λ b. b == 44) (drop (at + 1) text.now))) }
+    ensures none { IfNone result (slice_split (λ b. b == 44) text.now ≡ text.now ∷ []) }
+    ensures fits { length text.now < 2 ^ 64 }
+{
+    memchr(b',', text)
+}
+
+// Whether an element of a list, without its parameters and the space around it, is this one.
+fn is_element(part: &[u8], element: &[u8]) -> bool
+    requires { str_to_ascii_lowercase element.now ≡ element.now }
+    ensures { result ≡ bytes_eq element.now (str_to_ascii_lowercase (trim_ows (before_first (λ b. b == 59) part.now))) }
+{
+    let front = before_semicolon(part);
+    trimmed(front).eq_ignore_ascii_case(element)
+}
+
+// The bytes before the first semicolon, or all of them.
+fn before_semicolon(part: &[u8]) -> &[u8]
+    ensures { result.now ≡ before_first (λ b. b == 59) part.now }
+{
+    match memchr(b';', part) {
+        Some(at) => &part[..at],
+        None => part,
+    }
+}
+
+// The bytes without the spaces and tabs at both ends.
+fn trimmed(text: &[u8]) -> &[u8]
+    ensures { result.now ≡ trim_ows text.now }
+{
+    without_space_behind(without_space_before(text))
+}
+
+fn without_space_before(text: &[u8]) -> &[u8]
+    ensures { result.now ≡ skip_ows text.now }
+{
+    let mut rest = text;
+    while let [b' ' | b'\t', tail @ ..] = rest {
+        rest = tail;
+    }
+    rest
+}
+
+fn without_space_behind(text: &[u8]) -> &[u8]
+    ensures { result.now ≡ reverse (skip_ows (reverse text.now)) }
+{
+    let mut rest = text;
+    while let [front @ .., b' ' | b'\t'] = rest {
+        rest = front;
+    }
+    rest
+}
+
+/// How many bytes of body follow the head, or what is wrong with its fields.
+pub(crate) fn body_length(
+    bytes: &[u8],
+    lines: &[HeaderSpan],
+    fields: &Fields<'_>,
+    method: &[u8],
+) -> Result<usize, Refusal>
+    requires within { All (IsHeaderWithin (length bytes.now)) lines.now }
+    requires first { AreFirst fields.now (map (header_bytes bytes.now) lines.now) }
+    ensures fault { IfErr result (λ refusal. spec.fault_among method.now (map (header_bytes bytes.now) lines.now) ≡ Some refusal) }
+    ensures ok { OnOk result (spec.fault_among method.now (map (header_bytes bytes.now) lines.now) ≡ None) }
+    ensures length { IfOk result (λ len. len ≡ spec.length_among (map (header_bytes bytes.now) lines.now)) }
+    ensures small { IfOk result (λ len. len ≤ longest_body) }
+{
+    if fields.transfer_encoding.is_some() {
+        return Err(Refusal::Coding);
+    }
+    let Some(said) = fields.content_length else {
+        return if needs_length(method) {
+            Err(Refusal::NoLength)
+        } else {
+            Ok(0)
+        };
+    };
+    if !is_number(said) {
+        return Err(Refusal::BadLength);
+    }
+    if !all_equal(bytes, lines, b"content-length", said) {
+        return Err(Refusal::BadLength);
+    }
+    match small_number(said) {
+        Some(len) => Ok(len),
+        None => Err(Refusal::Large),
+    }
+}
+
+// Whether the method needs a body.
+fn needs_length(method: &[u8]) -> bool
+    ensures { result ≡ spec.needs_length method.now }
+{
+    method == b"PUT".as_slice() || method == b"POST".as_slice()
+}
+
+/// Whether the connection ends after the answer: HTTP/1.0, or a `close` element.
+pub(crate) fn closes(version: u8, connection: Option<&[u8]>) -> bool
+    ensures { result ≡ (version == 0) || says (codes "close") (option_copied connection.entry) }
+{
+    version == 0 || has_element(connection, b"close")
+}

@@ -1,0 +1,74 @@
+//! The fields that the store reads, found in one pass over the lines.
+
+ghost use Rattle.std.specs.Prelude.{◌≡◌, ℕ, ◌∷◌, List, length, map, All, Option, Some, if◌then◌else◌};
+ghost use Rattle.std.specs.Option.{option_copied};
+ghost use Rattle.std.specs.Str.{str_to_ascii_lowercase};
+ghost use Rattle.httparse.specs.Spans.{header_bytes, IsHeaderWithin};
+ghost use Rattle.http_request.specs.Fields.{Pair, is_named};
+ghost use Rattle.http_parse.specs.Firsts.{AreFirst, LeadTo, or_else};
+
+use crate::fields::is_named;
+use httparse::spans::HeaderSpan;
+
+/// The value of the first line of each name that the store reads.
+#[derive(Clone, Copy)]
+pub(crate) struct Fields<'b> {
+    pub(crate) transfer_encoding: Option<&'b [u8]>,
+    pub(crate) content_length: Option<&'b [u8]>,
+    pub(crate) connection: Option<&'b [u8]>,
+    pub(crate) accept: Option<&'b [u8]>,
+    pub(crate) content_type: Option<&'b [u8]>,
+    pub(crate) context: Option<&'b [u8]>,
+}
+
+/// The fields of the lines.
+pub(crate) fn fields_of<'b>(bytes: &'b [u8], lines: &[HeaderSpan]) -> Fields<'b>
+    requires { All (IsHeaderWithin (length bytes.now)) lines.now }
+    ensures { AreFirst result (map (header_bytes bytes.now) lines.now) }
+{
+    let mut fields = Fields {
+        transfer_encoding: None,
+        content_length: None,
+        connection: None,
+        accept: None,
+        content_type: None,
+        context: None,
+    };
+    for line in lines {
+        fields = with_line(fields, bytes, *line);
+    }
+    fields
+}
+
+// The fields with those of one line more.
+fn with_line<'b>(fields: Fields<'b>, bytes: &'b [u8], line: HeaderSpan) -> Fields<'b>
+    requires { IsHeaderWithin (length bytes.now) line }
+    ensures { (rest pairs : List Pair) → LeadTo fields.entry (header_bytes bytes.now line ∷ rest) pairs → LeadTo result rest pairs }
+{
+    Fields {
+        transfer_encoding: first(fields.transfer_encoding, bytes, line, b"transfer-encoding"),
+        content_length: first(fields.content_length, bytes, line, b"content-length"),
+        connection: first(fields.connection, bytes, line, b"connection"),
+        accept: first(fields.accept, bytes, line, b"accept"),
+        content_type: first(fields.content_type, bytes, line, b"content-type"),
+        context: first(fields.context, bytes, line, b"x-riak-vclock"),
+    }
+}
+
+// The value that is kept, or else the line's, where it has this name.
+fn first<'b>(
+    kept: Option<&'b [u8]>,
+    bytes: &'b [u8],
+    line: HeaderSpan,
+    name: &[u8],
+) -> Option<&'b [u8]>
+    requires within { IsHeaderWithin (length bytes.now) line }
+    requires lower { str_to_ascii_lowercase name.now ≡ name.now }
+    ensures { (rest : Option (List ℕ)) → or_else (option_copied result) rest
+        ≡ or_else (option_copied kept.entry) (if is_named name.now (header_bytes bytes.now line) then Some (header_bytes bytes.now line).1 else rest) }
+{
+    if kept.is_none() && is_named(bytes, line, name) {
+        return Some(line.value.of(bytes));
+    }
+    kept
+}

@@ -1,0 +1,34 @@
+//! What is known of the head at the front of some bytes.
+
+ghost use Rattle.http_parse.specs.Known.{KnowsNothing};
+
+use http_request::MAX_LINES;
+use httparse::spans::{EMPTY_HEADER_SPAN, HeaderSpan, RequestSpans};
+
+/// What is known of the head at the front of some bytes: nothing, or that it is whole, and where its parts lie. It is kept
+/// from one look at the bytes to the next, so that no whole head is parsed twice. Places are counted from the first of the
+/// bytes, so these may be moved, and others may come behind them.
+#[derive(Drop)]
+pub struct KnownHead {
+    pub(crate) spans: Option<RequestSpans>,
+    pub(crate) lines: [HeaderSpan; MAX_LINES],
+}
+
+impl KnownHead {
+    /// Nothing is known.
+    pub fn new() -> KnownHead
+        ensures { KnowsNothing result }
+    {
+        KnownHead {
+            spans: None,
+            lines: [EMPTY_HEADER_SPAN; MAX_LINES],
+        }
+    }
+
+    /// Forgets what is known.
+    pub fn clear(&mut self)
+        ensures { KnowsNothing self.new }
+    {
+        self.spans = None;
+    }
+}

@@ -1,0 +1,165 @@
+//! The first request of the bytes at hand.
+
+ghost use Rattle.std.specs.Prelude.{◌≡◌, ◌≤◌, true, IfOk};
+ghost use Rattle.httparse.specs.Spans.{span_bytes};
+ghost use Rattle.http_request.specs.declared.ask.Ask.TheVariants.{Refused};
+ghost use Rattle.http_parse.specs.Finds.{Finds};
+ghost use Rattle.http_parse.specs.Heads.{StandsAt};
+ghost use Rattle.http_parse.specs.Known.{IsKnownOf, Leaves, kept_of};
+ghost use Rattle.http_parse.specs.Targets.{IsTargetOf};
+ghost use Rattle.http_parse.specs.declared.request.Asking.TheVariants.{First};
+
+use crate::fields::{body_length, closes};
+use crate::firsts::fields_of;
+use crate::head::{HeadAt, read_head};
+use crate::known::KnownHead;
+use crate::tables::Tables;
+use crate::target::{Target, target_of};
+use crate::whole::Request;
+use http_request::{Ask, Refusal};
+use httparse::spans::{HeaderSpan, RequestSpans};
+use std::alloc::{AllocError, Global};
+
+/// What the bytes at hand come to.
+#[derive(Drop)]
+pub enum Asking {
+    /// No whole head is there yet. A head ends with a line feed, so the bytes are worth another look after a new one, or with
+    /// more than [`MAX_HEAD`](http_request::MAX_HEAD) bytes, which are too many.
+    Head,
+    /// The head is whole, and its body isn't. So many bytes from the first on are the whole request, and with fewer there is
+    /// none yet.
+    Body { needs: usize },
+    /// The first request: what it asks for, whether the connection ends after the answer, and how many of the bytes are
+    /// its own. Where the connection ends nothing behind them is read.
+    First { ask: Ask, ends: bool, len: usize },
+}
+
+/// What the bytes at hand come to, where each key has so many copies, 1 to 3. The bytes may be cut anywhere: what is told of
+/// them holds whatever follows. What is known of their head isn't found again. The error is want of memory.
+pub fn first_request(
+    alloc: Global,
+    tables: &Tables,
+    copies: u32,
+    known: &mut KnownHead,
+    bytes: &[u8],
+) -> Result<Asking, AllocError>
+    requires some { 1 ≤ copies }
+    requires few { copies ≤ 3 }
+    requires known { IsKnownOf known.old bytes.now }
+    ensures finds { IfOk result (Finds copies bytes.now) }
+    ensures known { IsKnownOf known.new bytes.now }
+    ensures leaves { IfOk result (λ asking. Leaves asking bytes.now known.new) }
+{
+    if let Some(spans) = known.spans {
+        return request_with(alloc, tables, copies, known, bytes, spans);
+    }
+    match read_head(bytes, &mut known.lines) {
+        HeadAt::Unfinished => Ok(Asking::Head),
+        HeadAt::Bad => Ok(broken(Refusal::BadHead, bytes.len())),
+        HeadAt::Whole(spans) => request_with(alloc, tables, copies, known, bytes, spans),
+    }
+}
+
+// What a request with a whole head comes to. The head is kept while its body is missing.
+fn request_with(
+    alloc: Global,
+    tables: &Tables,
+    copies: u32,
+    known: &mut KnownHead,
+    bytes: &[u8],
+    spans: RequestSpans,
+) -> Result<Asking, AllocError>
+    requires some { 1 ≤ copies }
+    requires few { copies ≤ 3 }
+    requires known { IsKnownOf known.old bytes.now }
+    requires head { StandsAt bytes.now known.old.lines spans }
+    ensures finds { IfOk result (Finds copies bytes.now) }
+    ensures known { IsKnownOf known.new bytes.now }
+    ensures leaves { IfOk result (λ asking. Leaves asking bytes.now known.new) }
+{
+    let asking = request_at(alloc, tables, copies, bytes, spans, &known.lines)?;
+    known.spans = kept(&asking, spans);
+    Ok(asking)
+}
+
+// The head that an answer leaves known.
+fn kept(asking: &Asking, spans: RequestSpans) -> Option<RequestSpans>
+    ensures { result ≡ kept_of asking.now spans }
+{
+    match asking {
+        Asking::Body { .. } => Some(spans),
+        Asking::Head | Asking::First { .. } => None,
+    }
+}
+
+// What a request with a whole head comes to.
+fn request_at(
+    alloc: Global,
+    tables: &Tables,
+    copies: u32,
+    bytes: &[u8],
+    spans: RequestSpans,
+    lines: &[HeaderSpan],
+) -> Result<Asking, AllocError>
+    requires some { 1 ≤ copies }
+    requires few { copies ≤ 3 }
+    requires head { StandsAt bytes.now lines.now spans }
+    ensures { IfOk result (Finds copies bytes.now) }
+{
+    match target_of(spans.path.of(bytes)) {
+        Some(target) => request_to(alloc, tables, copies, bytes, spans, lines, target),
+        None => Ok(broken(Refusal::BadHead, spans.len)),
+    }
+}
+
+// The first request, where it is refused and the connection ends.
+fn broken(refusal: Refusal, len: usize) -> Asking
+    ensures { result ≡ First (Refused refusal) true len }
+{
+    Asking::First {
+        ask: Ask::Refused(refusal),
+        ends: true,
+        len,
+    }
+}
+
+// What a request with a whole head comes to, where these are the parts of its target.
+fn request_to(
+    alloc: Global,
+    tables: &Tables,
+    copies: u32,
+    bytes: &[u8],
+    spans: RequestSpans,
+    lines: &[HeaderSpan],
+    target: Target<'_>,
+) -> Result<Asking, AllocError>
+    requires some { 1 ≤ copies }
+    requires few { copies ≤ 3 }
+    requires head { StandsAt bytes.now lines.now spans }
+    requires target { IsTargetOf (span_bytes bytes.now spans.path) target.path.now target.query.now }
+    ensures { IfOk result (Finds copies bytes.now) }
+{
+    let lines = &lines[..spans.headers];
+    let method = spans.method.of(bytes);
+    let fields = fields_of(bytes, lines);
+    let len = match body_length(bytes, lines, &fields, method) {
+        Err(refusal) => return Ok(broken(refusal, spans.len)),
+        Ok(body) => spans.len + body,
+    };
+    if bytes.len() < len {
+        return Ok(Asking::Body { needs: len });
+    }
+    let request = Request {
+        method,
+        path: target.path,
+        query: target.query,
+        bytes,
+        lines,
+        fields: &fields,
+        body: &bytes[spans.len..len],
+        types: &tables.types,
+    };
+    let ask = request.ask(alloc, &tables.routes, copies)?;
+    let ends = closes(spans.version, fields.connection);
+    Ok(Asking::First { ask, ends, len })
+}

@@ -1,0 +1,108 @@
+-- The worked requests, computed by the definitions.
+use Rattle.std.proofs.Common.{◌≡◌, ℕ, List, [], ◌∷◌, Some, None, refl, true, false}
+use Rattle.std.specs.Prelude.{codes}
+use Rattle.httparse.specs.Grammar.{RequestHead, Field, crlf, trim_ows}
+use Rattle.matchit.specs.Seek.{seek, param_step}
+use Rattle.matchit.specs.Route.{scan}
+use Rattle.serde_json.proofs.OnLiterals.{serde_json_on_literals}
+use Rattle.http_request.specs.declared.ask.Refusal.TheVariants.{Coding, BadLength, NoLength, Large, Query, BadName, BadType}
+use Rattle.http_request.specs.declared.route.Route.TheVariants as route
+use Rattle.http_request.specs.Table.{routes, route_of}
+use Rattle.http_request.specs.Fields.{fields_fault, fault_among, body_length, is_last, has_element}
+use Rattle.key_state.specs.declared.content.Content.TheVariants.{Value}
+use Rattle.http_request.specs.declared.ask.Change.TheVariants.{Kept, Bound}
+use Rattle.http_request.specs.declared.ask.Form.TheVariants.{Text, Parts}
+use Rattle.http_request.specs.declared.ask.Call.TheVariants.{Put}
+use Rattle.http_request.specs.declared.ask.Ask.TheVariants.{Call, Refused}
+use Rattle.http_request.specs.Ask.{asked_named, form_of, request}
+use Rattle.http_request.specs.Target.{quorums_of}
+use Rattle.http_request.specs.Props.{changes_of}
+use Rattle.serde_json.specs.Find.{get}
+use Rattle.serde_json.specs.Read.{read as read_json}
+use Rattle.std.specs.Prelude.{option_and_then}
+
+field : List ℕ → List ℕ → Field
+field name raw = record { name = name; raw = raw; end = crlf }
+
+head : List ℕ → List ℕ → List Field → RequestHead
+head method target fields = record { blank = []; method = method; target = target; minor = 1; line_end = crlf; fields = fields; last = crlf }
+
+-- paths and their routes
+ping_route : route_of (codes "/ping") ≡ Some route.Ping
+unfolding routes seek param_step scan
+ping_route = refl
+
+key_route : route_of (codes "/buckets/b/keys/k%2f") ≡ Some route.Key
+unfolding routes seek param_step scan
+key_route = refl
+
+no_route : route_of (codes "/buckets//keys/k") ≡ None
+unfolding routes seek param_step scan
+no_route = refl
+
+-- lengths
+http_siblings_length : body_length (head (codes "PUT") (codes "/x") (field (codes "content-LENGTH") (codes " 1 ") ∷ [])) ≡ 1
+unfolding trim_ows field head
+http_siblings_length = refl
+
+two_lengths : fields_fault (head (codes "GET") (codes "/x") (field (codes "Content-Length") (codes " 1") ∷ field (codes "Content-Length") (codes " 2") ∷ [])) ≡ Some BadLength
+unfolding trim_ows field head
+two_lengths = refl
+
+plus_length : fields_fault (head (codes "GET") (codes "/x") (field (codes "Content-Length") (codes "+1") ∷ [])) ≡ Some BadLength
+unfolding trim_ows field head
+plus_length = refl
+
+-- the faults of the fields, in their order, where two or more stand
+fields_in_order :
+    (fault_among (codes "PUT") ((codes "Transfer-Encoding", codes "chunked") ∷ (codes "Content-Length", codes "x") ∷ []) ≡ Some Coding)
+    × (fault_among (codes "PUT") ((codes "Content-Length", codes "99999999") ∷ (codes "Content-Length", codes "x") ∷ []) ≡ Some BadLength)
+    × (fault_among (codes "PUT") ((codes "Content-Length", codes "") ∷ []) ≡ Some BadLength)
+    × (fault_among (codes "POST") [] ≡ Some NoLength)
+    × (fault_among (codes "GET") [] ≡ None)
+    × (fault_among (codes "GET") ((codes "Content-Length", codes "65537") ∷ []) ≡ Some Large)
+    × (fault_among (codes "PUT") ((codes "Content-Length", codes "65536") ∷ (codes "Content-Length", codes "0065536") ∷ []) ≡ None)
+fields_in_order = (refl, refl, refl, refl, refl, refl, refl)
+
+-- connections that end after the answer, and one that does not
+closes : is_last (head (codes "GET") (codes "/") (field (codes "Connection") (codes "keep-alive, CLOSE") ∷ [])) ≡ true
+unfolding trim_ows field head
+closes = refl
+
+stays : is_last (head (codes "GET") (codes "/") (field (codes "Connection") (codes "keep-alive") ∷ field (codes "Connection") (codes "close") ∷ [])) ≡ false
+unfolding trim_ows field head
+stays = refl
+
+-- properties
+props_members : option_and_then changes_of (option_and_then (get (codes "props")) (read_json (codes "{\"props\":{\"precommit\":\"no\"}}")))
+    ≡ Some (Bound (codes "no"), Kept)
+unfolding serde_json_on_literals
+props_members = refl
+
+props_mult : option_and_then changes_of (option_and_then (get (codes "props")) (read_json (codes "{\"props\":{\"allow_mult\":false}}"))) ≡ None
+unfolding serde_json_on_literals
+props_mult = refl
+
+-- a query's words
+bad_numbers : (quorums_of 3 ((codes "r", codes "04") ∷ []) ≡ None) × (quorums_of 3 ((codes "w", codes "4") ∷ []) ≡ None) × (quorums_of 3 ((codes "at", codes "3") ∷ []) ≡ None)
+bad_numbers = (refl, refl, refl)
+
+good_numbers : quorums_of 3 ((codes "r", codes "all") ∷ (codes "at", codes "0") ∷ (codes "r", codes "one") ∷ []) ≡ Some (record { read = 3; write = 2; at = 0 })
+good_numbers = refl
+
+http_siblings_put : asked_named (quorums_of 3 ((codes "at", codes "0") ∷ [])) (record { bucket = codes "b"; key = codes "k" })
+    (request (codes "PUT") (codes "/buckets/b/keys/k?at=0") ((codes "Host", codes "h") ∷ (codes "Content-Type", codes "text/plain") ∷ (codes "Content-Length", codes "1") ∷ []) (codes "a"))
+    ≡ Call (Put (record { bucket = codes "b"; key = codes "k" }) [] (Value (codes "text/plain") (codes "a")) 2 0) Text
+unfolding trim_ows field head
+http_siblings_put = refl
+
+-- the faults of a request for a key, in their order: the query, the names, the media type
+key_in_order :
+    (asked_named None (record { bucket = []; key = [] }) (request (codes "GET") (codes "/buckets/b/keys/k") [] []) ≡ Refused Query)
+    × (asked_named (quorums_of 3 []) (record { bucket = []; key = codes "k" }) (request (codes "PUT") (codes "/buckets/b/keys/k") ((codes "Content-Type", []) ∷ []) []) ≡ Refused BadName)
+    × (asked_named (quorums_of 3 []) (record { bucket = codes "b"; key = codes "k" }) (request (codes "PUT") (codes "/buckets/b/keys/k") ((codes "Content-Type", []) ∷ []) []) ≡ Refused BadType)
+key_in_order = (refl, refl, refl)
+
+in_parts : form_of None (has_element (codes "accept") (codes "multipart/mixed") ((codes "ACCEPT", codes "text/plain, Multipart/Mixed;q=1") ∷ [])) ≡ Parts
+unfolding trim_ows
+in_parts = refl

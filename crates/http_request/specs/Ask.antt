@@ -1,0 +1,143 @@
+-- What the first request of some bytes asks for (this store's profile of HTTP/1.1 and of Riak KV's HTTP API).
+use Rattle.std.specs.Prelude.{◌≡◌, ℕ, ◌<◌, Bool, true, false, ◌&&◌, ◌||◌, if◌then◌else◌, bytes_eq, List, [], ◌++◌, length, codes, Option, Some, None, unwrap_or, Result, Ok, Err}
+use Rattle.httparse.specs.Grammar.{RequestHead}
+use Rattle.dvv.specs.declared.Dot.{Dot}
+use Rattle.key_state.specs.declared.content.Content.TheVariants.{Value, Tombstone}
+use Rattle.key_state.specs.declared.content.Key.{Key}
+use Rattle.context_token.specs.declared.fault.TokenFault.{TokenFault}
+use Rattle.context_token.specs.Token.{read_text}
+use Rattle.key_state.specs.Limits.{longest_bucket, longest_key, longest_media}
+use Rattle.http_request.specs.Head.{BeginsHead, IsBadHead, IsHeadUnfinished, IsOriginTarget}
+use Rattle.http_request.specs.Fields.{Pair, pairs_of, value_of, has_element, is_last, fields_fault, body_length}
+use Rattle.http_request.specs.Table.{route_of}
+use Rattle.http_request.specs.Target.{path_at, query_at, texts_of, name_at, is_name, is_hook_name, asked_for, Quorums, quorums_of}
+use Rattle.http_request.specs.Props.{changes_in}
+use Rattle.http_request.specs.declared.ask.Change.{Change}
+use Rattle.http_request.specs.declared.ask.Form.{Form}
+use Rattle.http_request.specs.declared.ask.Form.TheVariants.{Text, Parts, One}
+use Rattle.http_request.specs.declared.ask.Call.TheVariants.{Get, Put, Install, Remove, ReadProps, SetProps}
+use Rattle.http_request.specs.declared.ask.Ask.{Ask}
+use Rattle.http_request.specs.declared.ask.Ask.TheVariants.{Ping, Call, Refused}
+use Rattle.http_request.specs.declared.route.Route.{Route}
+use Rattle.http_request.specs.declared.route.Route.TheVariants as route
+use Rattle.http_request.specs.declared.ask.Refusal.{Refusal}
+use Rattle.http_request.specs.declared.ask.Refusal.TheVariants.{BadHead, NoRoute, Method, Query, BadName, Token, BadType, BadProps}
+
+-- what a request asks with: its method, the path and the query of its target, its fields and its body
+pub record Request : Type 0 where
+  pub method : List ℕ
+  pub path : List ℕ
+  pub query : List ℕ
+  pub pairs : List Pair
+  pub body : List ℕ
+
+-- the request of a method, a target, fields and a body
+abbrev pub request : List ℕ → List ℕ → List Pair → List ℕ → Request
+request method target pairs body = record { method = method; path = path_at target; query = query_at target; pairs = pairs; body = body }
+
+-- the method is this one
+abbrev pub is_method : Request → List ℕ → Bool
+is_method q name = bytes_eq q.method name
+
+-- how a read is shown: by a tag where the query has one, else in parts where `Accept` has `multipart/mixed`
+abbrev pub form_of : Option (List ℕ) → Bool → Form
+form_of (Some tag) mixed = One tag
+form_of None true = Parts
+form_of None false = Text
+
+-- the media type of a value
+abbrev pub media_of : List Pair → List ℕ
+media_of pairs = unwrap_or (value_of (codes "content-type") pairs) (codes "application/octet-stream")
+
+-- the changes, where the body has some
+abbrev pub asked_props : List ℕ → Option (Change × Change) → Ask
+asked_props bucket None = Refused BadProps
+asked_props bucket (Some (p, r)) = Call (SetProps bucket p r) Text
+
+-- the clock of a token, and the empty clock where there is none
+abbrev pub context_from : Option (List ℕ) → Result (List Dot) TokenFault
+context_from None = Ok []
+context_from (Some token) = read_text token
+
+-- the context of a request: the empty clock where it names none
+abbrev pub context_of : List Pair → Result (List Dot) TokenFault
+context_of pairs = context_from (value_of (codes "x-riak-vclock") pairs)
+
+-- a write of the body, where its context reads well and its media type is within the limits
+abbrev pub asked_write : Key → Quorums → Request → Result (List Dot) TokenFault → Ask
+asked_write key n q (Err fault) = Refused (Token fault)
+asked_write key n q (Ok seen) =
+    if is_name longest_media (media_of q.pairs) then Call (Put key seen (Value (media_of q.pairs) q.body) n.write n.at) Text else Refused BadType
+
+-- a delete, where its context reads well
+abbrev pub asked_delete : Key → Quorums → Result (List Dot) TokenFault → Ask
+asked_delete key n (Err fault) = Refused (Token fault)
+asked_delete key n (Ok seen) = Call (Put key seen Tombstone n.write n.at) Text
+
+-- what is asked of a key, where the query and the names are in order
+abbrev pub asked_key : Key → Quorums → Request → Ask
+asked_key key n q =
+    if is_method q (codes "GET")
+    then Call (Get key n.read n.at) (form_of (asked_for (codes "vtag") (texts_of q.query)) (has_element (codes "accept") (codes "multipart/mixed") q.pairs))
+    else (if is_method q (codes "DELETE") then asked_delete key n (context_of q.pairs)
+    else asked_write key n q (context_of q.pairs))
+
+-- the same, first the query and then the names
+abbrev pub asked_named : Option Quorums → Key → Request → Ask
+asked_named None key q = Refused Query
+asked_named (Some n) key q = if is_name longest_bucket key.bucket && is_name longest_key key.key then asked_key key n q else Refused BadName
+
+-- what is asked of a hook's name
+abbrev pub asked_hook : List ℕ → Request → Ask
+asked_hook name q =
+    if is_hook_name name
+    then (if is_method q (codes "PUT") then Call (Install name q.body) Text else Call (Remove name) Text)
+    else Refused BadName
+
+-- what is asked of a bucket
+abbrev pub asked_bucket : List ℕ → Request → Ask
+asked_bucket bucket q =
+    if is_name longest_bucket bucket
+    then (if is_method q (codes "GET") then Call (ReadProps bucket) Text else asked_props bucket (changes_in q.body))
+    else Refused BadName
+
+-- n is the number of copies of a key
+module _ (n : ℕ) where
+  -- what the method asks of the route
+  abbrev pub asked_at : Option Route → Request → Ask
+  asked_at None q = Refused NoRoute
+  asked_at (Some route.Ping) q = if is_method q (codes "GET") then Ping else Refused Method
+  asked_at (Some route.Key) q =
+      if is_method q (codes "GET") || is_method q (codes "PUT") || is_method q (codes "POST") || is_method q (codes "DELETE")
+      then asked_named (quorums_of n (texts_of q.query)) (record { bucket = name_at 2 q.path; key = name_at 4 q.path }) q
+      else Refused Method
+  asked_at (Some route.Hook) q =
+      if is_method q (codes "PUT") || is_method q (codes "DELETE") then asked_hook (name_at 2 q.path) q else Refused Method
+  asked_at (Some route.Props) q =
+      if is_method q (codes "GET") || is_method q (codes "PUT") then asked_bucket (name_at 2 q.path) q else Refused Method
+
+  -- what a request asks for
+  abbrev pub asked_of : Request → Ask
+  asked_of q = asked_at (route_of q.path) q
+
+  -- what a whole request asks for
+  abbrev pub asked_by : RequestHead → List ℕ → Ask
+  asked_by head body = asked_of (request head.method head.target (pairs_of head) body)
+
+  -- rest begins with a request: what it asks for, whether the connection ends after the answer, and what is
+  -- read next (nothing, where it ends)
+  pub data Asks (rest : List ℕ) : Ask → Bool → List ℕ → Type 0 where
+    bad_head : IsBadHead rest → Asks rest (Refused BadHead) true []
+    bad_target : (head : RequestHead) (after : List ℕ) → BeginsHead rest head after
+        → ¬ (IsOriginTarget head.target) → Asks rest (Refused BadHead) true []
+    bad_fields : (head : RequestHead) (after : List ℕ) (fault : Refusal) → BeginsHead rest head after
+        → IsOriginTarget head.target → fields_fault head ≡ Some fault → Asks rest (Refused fault) true []
+    whole : (head : RequestHead) (body after : List ℕ) → BeginsHead rest head (body ++ after)
+        → IsOriginTarget head.target → fields_fault head ≡ None → length body ≡ body_length head
+        → Asks rest (asked_by head body) (is_last head) (if is_last head then [] else after)
+
+-- the input ends inside a request: in its head, or in its body
+pub data IsUnfinished (rest : List ℕ) : Type 0 where
+  in_head : IsHeadUnfinished rest → IsUnfinished rest
+  in_body : (head : RequestHead) (after : List ℕ) → BeginsHead rest head after → IsOriginTarget head.target
+      → fields_fault head ≡ None → length after < body_length head → IsUnfinished rest

@@ -1,0 +1,100 @@
+-- What the fields of a head say (RFC 9110, sections 5 and 8; RFC 9112, sections 6 and 9).
+use Rattle.std.specs.Prelude.{ℕ, Bool, ◌&&◌, ◌||◌, ◌==◌, if◌then◌else◌, nat_lt, nat_le, bytes_eq, List, [], ◌∷◌, length, map, codes, Option, Some, None, option_map, is_some, unwrap_or}
+use Rattle.std.specs.List.{list_all, list_any, before_first, slice_split}
+use Rattle.std.specs.Char.{is_ascii_digit}
+use Rattle.std.specs.Str.{str_to_ascii_lowercase}
+use Rattle.std.specs.Str.Parse.{digits_value}
+use Rattle.httparse.specs.Grammar.{trim_ows, RequestHead}
+use Rattle.httparse.specs.Spans.{name_and_value}
+use Rattle.http_request.specs.Limits.{longest_body}
+use Rattle.http_request.specs.declared.ask.Refusal.{Refusal}
+use Rattle.http_request.specs.declared.ask.Refusal.TheVariants.{Coding, BadLength, NoLength, Large}
+
+-- a field's name and its value, without the white space around it
+abbrev pub Pair : Type 0
+Pair = List ℕ × List ℕ
+
+-- the names and values of a head
+abbrev pub pairs_of : RequestHead → List Pair
+pairs_of head = map name_and_value head.fields
+
+-- the pair has this name, whose case does not matter
+abbrev pub is_named : List ℕ → Pair → Bool
+is_named name pair = bytes_eq (str_to_ascii_lowercase pair.0) name
+
+-- the value of the first pair of this name
+abbrev pub value_of : List ℕ → List Pair → Option (List ℕ)
+value_of name [] = None
+value_of name (pair ∷ pairs) = if is_named name pair then Some pair.1 else value_of name pairs
+
+-- the values of the pairs of this name, in order
+abbrev pub values_of : List ℕ → List Pair → List (List ℕ)
+values_of name [] = []
+values_of name (pair ∷ pairs) = if is_named name pair then pair.1 ∷ values_of name pairs else values_of name pairs
+
+-- the elements of a list in a field, without parameters, in lower case
+abbrev pub elements_of : List ℕ → List (List ℕ)
+elements_of value =
+    map (λ e. str_to_ascii_lowercase (trim_ows (before_first (λ b. b == 59) e))) (slice_split (λ b. b == 44) value)
+
+-- the first field of this name has this element
+abbrev pub has_element : List ℕ → List ℕ → List Pair → Bool
+has_element name element pairs =
+    list_any (bytes_eq element) (unwrap_or (option_map elements_of (value_of name pairs)) [])
+
+-- the connection ends after the answer: HTTP/1.0, or a `close` element
+abbrev pub is_last : RequestHead → Bool
+is_last head = (head.minor == 0) || has_element (codes "connection") (codes "close") (pairs_of head)
+
+-- one or more digits
+abbrev pub is_number : List ℕ → Bool
+is_number text = nat_lt 0 (length text) && list_all is_ascii_digit text
+
+-- a number's digits without the zeros in front: two numbers are equal where these are
+abbrev pub without_zeros : List ℕ → List ℕ
+without_zeros [] = []
+without_zeros (b ∷ bytes) = if b == 48 then without_zeros bytes else b ∷ bytes
+
+-- what the Content-Length fields say: nothing, one number, or no number or several
+pub data Length : Type 0 where
+  absent : Length
+  bad : Length
+  is : ℕ → Length
+
+abbrev pub length_said : List (List ℕ) → Length
+length_said [] = absent
+length_said (v ∷ vs) =
+    if is_number v && list_all (λ u. is_number u && bytes_eq (without_zeros u) (without_zeros v)) (v ∷ vs) then is (digits_value 10 v) else bad
+
+-- the method needs a body
+abbrev pub needs_length : List ℕ → Bool
+needs_length method = bytes_eq method (codes "PUT") || bytes_eq method (codes "POST")
+
+-- what is wrong with a length
+abbrev pub length_fault : List ℕ → Length → Option Refusal
+length_fault method absent = if needs_length method then Some NoLength else None
+length_fault method bad = Some BadLength
+length_fault method (is n) = if nat_le n longest_body then None else Some Large
+
+abbrev pub length_number : Length → ℕ
+length_number absent = 0
+length_number bad = 0
+length_number (is n) = n
+
+-- the first fault among the fields of a request with this method
+abbrev pub fault_among : List ℕ → List Pair → Option Refusal
+fault_among method pairs =
+    if is_some (value_of (codes "transfer-encoding") pairs) then Some Coding
+    else length_fault method (length_said (values_of (codes "content-length") pairs))
+
+-- how many bytes of body the fields announce
+abbrev pub length_among : List Pair → ℕ
+length_among pairs = length_number (length_said (values_of (codes "content-length") pairs))
+
+-- the first fault of the fields, after which the connection ends
+abbrev pub fields_fault : RequestHead → Option Refusal
+fields_fault head = fault_among head.method (pairs_of head)
+
+-- how many bytes of body follow the head
+abbrev pub body_length : RequestHead → ℕ
+body_length head = length_among (pairs_of head)

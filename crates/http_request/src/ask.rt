@@ -1,0 +1,110 @@
+//! What a request asks for.
+
+use context_token::TokenFault;
+use dvv::Clock;
+use key_state::{Bytes, Content, Key};
+
+/// Why a request is answered without the store, in the order in which the faults are told: the first that stands is told,
+/// and no other. After each of the first five the connection ends.
+#[derive(Clone, Copy, PartialEq, Eq)]
+pub enum Refusal {
+    /// No head of at most [`MAX_HEAD`](crate::MAX_HEAD) bytes and [`MAX_LINES`](crate::MAX_LINES) field lines can come of
+    /// the bytes, or its target is no path with a query that begins with `/`.
+    BadHead,
+    /// There is a `Transfer-Encoding`.
+    Coding,
+    /// A `Content-Length` is not one or more digits, or two of them are different numbers.
+    BadLength,
+    /// A `PUT` or `POST` has no `Content-Length`.
+    NoLength,
+    /// The body has more than [`MAX_BODY`](crate::MAX_BODY) bytes.
+    Large,
+    /// The path is that of no [`Route`](crate::Route).
+    NoRoute,
+    /// The route has no such method.
+    Method,
+    /// The query's `r` or `w` is no number of copies from 1 to all, nor `one`, `quorum`, `all` or `default`; or its `at` is
+    /// no index of a preference list.
+    Query,
+    /// A bucket, a key in it or a hook's name is not within its limits.
+    BadName,
+    /// The context is no token.
+    Token(TokenFault),
+    /// The media type of a value is empty or longer than [`MAX_MEDIA`](key_state::MAX_MEDIA) bytes.
+    BadType,
+    /// The body is no JSON that sets properties.
+    BadProps,
+}
+
+/// What becomes of one property of a bucket.
+#[derive(Drop)]
+pub enum Change {
+    /// It stays as it is.
+    Kept,
+    /// Nothing is bound any more.
+    Unbound,
+    /// The hook of this name is bound; the name may be any text.
+    Bound(Bytes),
+}
+
+/// How the answer to a read is shown.
+#[derive(Drop)]
+pub enum Form {
+    /// One value as it is, several as a list of their tags.
+    Text,
+    /// One value as it is, several as the parts of one body.
+    Parts,
+    /// The sibling of this tag alone; the tag may be any text.
+    One(Bytes),
+}
+
+/// A call of the store. Its words are within their limits (`Fits` of `specs/Fits.antt`).
+#[derive(Drop)]
+pub enum Call {
+    /// Reads a key: `r` copies have to answer, 1 to all, and the coordinator is the vnode at the index `at` of the preference
+    /// list, from 0.
+    Get {
+        key: Key,
+        r: u32,
+        at: u32,
+    },
+    /// Writes a content, as one who had seen the events that `seen` counts: `w` copies have to be stored, 1 to all, and the
+    /// coordinator is the vnode at the index `at` of the preference list, from 0.
+    Put {
+        key: Key,
+        seen: Clock,
+        content: Content,
+        w: u32,
+        at: u32,
+    },
+    /// Installs the hook of an image under a name of 1 to 64 letters, digits, `_` and `-`.
+    Install {
+        name: Bytes,
+        image: Bytes,
+    },
+    /// Takes the hook of a name away.
+    Remove {
+        name: Bytes,
+    },
+    /// Reads which hooks are bound to a bucket.
+    ReadProps {
+        bucket: Bytes,
+    },
+    /// Changes which hooks are bound to a bucket, both or none.
+    SetProps {
+        bucket: Bytes,
+        precommit: Change,
+        resolver: Change,
+    },
+}
+
+/// What a request asks for.
+#[derive(Drop)]
+pub enum Ask {
+    /// Whether anyone is there.
+    Ping,
+    /// A call of the store, and how its answer is shown (only that of a [`Call::Get`] depends on it).
+    Call(Call, Form),
+    /// Nothing: it is refused.
+    Refused(Refusal),
+}

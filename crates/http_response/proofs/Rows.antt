@@ -1,0 +1,69 @@
+-- The worked answers, computed by the definitions.
+use Rattle.std.proofs.Common.{◌≡◌, List, [], ◌∷◌, ◌++◌, None, Ok, Err, refl, false, length}
+use Rattle.std.specs.Prelude.{codes}
+use Rattle.std.specs.Fmt.{digits}
+use Rattle.key_state.specs.declared.content.Content.TheVariants.{Value, Tombstone}
+use Rattle.key_state.specs.declared.content.Key.{Key}
+use Rattle.key_state.specs.declared.content.Sibling.{Sibling}
+use Rattle.quorum.specs.declared.fault.QuorumFault.TheVariants.{Rejected}
+use Rattle.http_request.specs.declared.ask.Ask.TheVariants.{Call}
+use Rattle.http_request.specs.declared.ask.Call.TheVariants.{Get, Put}
+use Rattle.http_request.specs.declared.ask.Form.TheVariants.{Text}
+use Rattle.http_response.specs.declared.reply.Reply.TheVariants.{Got, Stored}
+use Rattle.http_response.specs.Parts.{line, parts_body, boundary_of}
+use Rattle.http_response.specs.Answer.{answer, props_text, tags_text}
+
+key : Key
+key = record { bucket = codes "b"; key = codes "k" }
+
+two : List Sibling
+two =
+    record { dot = record { vnode = 0; n = 1 }; content = Value (codes "text/plain") (codes "a") }
+    ∷ record { dot = record { vnode = 1; n = 1 }; content = Value (codes "text/plain") (codes "b") } ∷ []
+
+third : List Sibling
+third =
+    record { dot = record { vnode = 0; n = 2 }; content = Tombstone }
+    ∷ record { dot = record { vnode = 1; n = 1 }; content = Value (codes "text/plain") (codes "b") } ∷ []
+
+barred : List Sibling
+barred =
+    record { dot = record { vnode = 0; n = 1 }; content = Value (codes "text/plain") (codes "a") }
+    ∷ record { dot = record { vnode = 1; n = 1 }; content = Value (codes "text/plain") (codes "x--s0") } ∷ []
+
+http_put : answer 3 (Call (Put key [] (Value (codes "text/plain") (codes "a")) 2 0) Text) (Stored (Ok (record { vnode = 0; n = 1 }))) false
+    ≡ line (codes "HTTP/1.1 204 No Content") ++ line (codes "X-Riak-Tag: 0-1") ++ line []
+unfolding digits key two
+http_put = refl
+
+unknown_key : answer 3 (Call (Get key 2 0) Text) (Got (Ok (record { siblings = []; clock = [] }))) false
+    ≡ line (codes "HTTP/1.1 404 Not Found") ++ line (codes "Content-Type: text/plain") ++ line (codes "Content-Length: 10") ++ line []
+    ++ codes "not found" ++ 10 ∷ []
+unfolding digits key two
+unknown_key = refl
+
+multipart_length : (boundary_of two ≡ 0) × (length (parts_body 0 two) ≡ 118)
+unfolding digits two
+multipart_length = (refl, refl)
+
+multipart_tombstone : (boundary_of third ≡ 0) × (length (parts_body 0 third) ≡ 113)
+unfolding digits third
+multipart_tombstone = (refl, refl)
+
+multipart_barred : (boundary_of barred ≡ 1) × (length (parts_body 1 barred) ≡ 122)
+unfolding digits barred
+multipart_barred = (refl, refl)
+
+tombstone_list : tags_text third ≡ codes "Siblings:" ++ 10 ∷ codes "0-2" ++ 10 ∷ codes "1-1" ++ 10 ∷ []
+unfolding digits third
+tombstone_list = refl
+
+rejected : answer 3 (Call (Put key [] Tombstone 2 0) Text) (Stored (Err (Rejected 1))) false
+    ≡ line (codes "HTTP/1.1 403 Forbidden") ++ line (codes "Content-Type: text/plain") ++ line (codes "Content-Length: 5") ++ line []
+    ++ codes "X3 1" ++ 10 ∷ []
+unfolding digits key
+rejected = refl
+
+props_length : length (props_text 3 (record { precommit = None; resolver = None })) ≡ 72
+unfolding digits
+props_length = refl

@@ -1,0 +1,242 @@
+-- The answer to each request, and its bytes (RFC 9112, sections 4 to 6; Riak KV documentation, HTTP API; this store's profile).
+use Rattle.std.specs.Prelude.{ℕ, Bool, if◌then◌else◌, bytes_eq, List, [], ◌∷◌, ◌++◌, length, codes, Option, Some, None, Result, Ok, Err, decimal}
+use Rattle.std.specs.List.{flat_map, find}
+use Rattle.dvv.specs.declared.Dot.{Dot}
+use Rattle.key_state.specs.declared.content.Content.{Content}
+use Rattle.key_state.specs.declared.content.Content.TheVariants.{Value, Tombstone}
+use Rattle.key_state.specs.declared.content.Sibling.{Sibling}
+use Rattle.key_state.specs.State.{State}
+use Rattle.context_token.specs.Token.{token}
+use Rattle.context_token.specs.declared.fault.TokenFault.{TokenFault}
+use Rattle.context_token.specs.declared.fault.TokenFault.TheVariants as token_fault
+use Rattle.vnode.specs.declared.fault.VnodeFault.{VnodeFault}
+use Rattle.vnode.specs.declared.fault.VnodeFault.TheVariants as vnode_fault
+use Rattle.hook_registry.specs.declared.fault.HookFault.{HookFault}
+use Rattle.hook_registry.specs.declared.fault.HookFault.TheVariants as hook_fault
+use Rattle.hook_registry.specs.declared.fault.NameFault.{NameFault}
+use Rattle.hook_registry.specs.declared.fault.NameFault.TheVariants as name_fault
+use Rattle.quorum.specs.declared.fault.QuorumFault.{QuorumFault}
+use Rattle.quorum.specs.declared.fault.QuorumFault.TheVariants as quorum_fault
+use Rattle.bpf_admission.specs.declared.refusal.Refusal.{Refusal as Unfit}
+use Rattle.bpf_admission.specs.declared.refusal.Refusal.TheVariants as unfit
+use Rattle.bpf_admission.specs.Admissions.{refusal_text}
+use Rattle.http_request.specs.declared.ask.Ask.{Ask}
+use Rattle.http_request.specs.declared.ask.Ask.TheVariants.{Ping, Call, Refused}
+use Rattle.http_request.specs.declared.ask.Form.{Form}
+use Rattle.http_request.specs.declared.ask.Form.TheVariants.{Text, Parts, One}
+use Rattle.http_request.specs.declared.ask.Refusal.{Refusal}
+use Rattle.http_request.specs.declared.ask.Refusal.TheVariants.{BadHead, Coding, BadLength, NoLength, Large, NoRoute, Method, Query, BadName, Token, BadType, BadProps}
+use Rattle.http_response.specs.declared.reply.Reply.{Reply}
+use Rattle.http_response.specs.declared.reply.Reply.TheVariants.{Nothing, Got, Stored, Installed, Removed, Props, Set}
+use Rattle.http_response.specs.declared.reply.Bound.{Bound}
+use Rattle.http_response.specs.Parts.{line, field_line, tag_of, boundary_of, parts_body}
+
+-- an answer: its status, its fields, and its body (none has neither type nor length)
+pub record Answer : Type 0 where
+  pub status : List ℕ
+  pub media : Option (List ℕ)
+  pub vclock : Option (List ℕ)
+  pub tag : Option (List ℕ)
+  pub body : Option (List ℕ)
+
+abbrev pub length_of : Option (List ℕ) → Option (List ℕ)
+length_of None = None
+length_of (Some body) = Some (decimal (length body))
+
+abbrev pub or_nothing : Option (List ℕ) → List ℕ
+or_nothing None = []
+or_nothing (Some body) = body
+
+-- `close`, where the connection ends
+abbrev pub closing : Bool → Option (List ℕ)
+closing ends = if ends then Some (codes "close") else None
+
+-- the bytes of an answer
+abbrev pub print_answer : Answer → Bool → List ℕ
+print_answer a ends =
+    line (codes "HTTP/1.1 " ++ a.status)
+    ++ field_line (codes "Content-Type") a.media ++ field_line (codes "X-Riak-Vclock") a.vclock
+    ++ field_line (codes "X-Riak-Tag") a.tag ++ field_line (codes "Connection") (closing ends)
+    ++ field_line (codes "Content-Length") (length_of a.body) ++ line [] ++ or_nothing a.body
+
+-- a status and a text
+abbrev pub told : List ℕ → List ℕ → Answer
+told status words = record { status = status; media = Some (codes "text/plain"); vclock = None; tag = None; body = Some words }
+
+-- a status and one line of text
+abbrev pub line_told : List ℕ → List ℕ → Answer
+line_told status words = told status (words ++ 10 ∷ [])
+
+abbrev pub empty_answer : Answer
+empty_answer = record { status = codes "204 No Content"; media = None; vclock = None; tag = None; body = None }
+
+abbrev pub bad_request : List ℕ
+bad_request = codes "400 Bad Request"
+
+abbrev pub unprocessable : List ℕ
+unprocessable = codes "422 Unprocessable Entity"
+
+abbrev pub unavailable : List ℕ
+unavailable = codes "503 Service Unavailable"
+
+abbrev pub broken : List ℕ
+broken = codes "500 Internal Server Error"
+
+-- want of memory
+abbrev pub no_memory : Answer
+no_memory = line_told broken (codes "E1")
+
+-- a text is no token
+abbrev pub token_answer : TokenFault → Answer
+token_answer token_fault.NotBase64 = line_told bad_request (codes "K1")
+token_answer token_fault.Version = line_told bad_request (codes "K2")
+token_answer token_fault.NotRising = line_told bad_request (codes "K3")
+token_answer token_fault.Cut = line_told bad_request (codes "K4")
+token_answer token_fault.PastLimit = line_told bad_request (codes "K5")
+token_answer token_fault.NoMemory = no_memory
+
+abbrev pub refusal_answer : Refusal → Answer
+refusal_answer BadHead = line_told bad_request (codes "bad head")
+refusal_answer Coding = line_told (codes "501 Not Implemented") (codes "coding")
+refusal_answer BadLength = line_told bad_request (codes "bad length")
+refusal_answer NoLength = line_told (codes "411 Length Required") (codes "length")
+refusal_answer Large = line_told (codes "413 Payload Too Large") (codes "large")
+refusal_answer NoRoute = line_told (codes "404 Not Found") (codes "no route")
+refusal_answer Method = line_told (codes "405 Method Not Allowed") (codes "method")
+refusal_answer Query = line_told bad_request (codes "bad query")
+refusal_answer BadName = line_told bad_request (codes "bad name")
+refusal_answer (Token fault) = token_answer fault
+refusal_answer BadType = line_told bad_request (codes "bad type")
+refusal_answer BadProps = line_told bad_request (codes "bad props")
+
+-- a refusal of a vnode
+abbrev pub vnode_answer : VnodeFault → Answer
+vnode_answer vnode_fault.ContextAhead = line_told (codes "412 Precondition Failed") (codes "P1")
+vnode_answer vnode_fault.TooManySiblings = line_told (codes "409 Conflict") (codes "P2")
+vnode_answer vnode_fault.ClockFull = line_told unavailable (codes "P3")
+vnode_answer vnode_fault.MergedClockFull = line_told unavailable (codes "M1")
+vnode_answer vnode_fault.JournalFull = line_told unavailable (codes "J1")
+vnode_answer vnode_fault.NoMemory = no_memory
+
+-- a fault of the registry; an unknown name is told by the status of the request that names it
+abbrev pub hook_answer : List ℕ → HookFault → Answer
+hook_answer unknown hook_fault.NameUnknown = line_told unknown (codes "G1")
+hook_answer unknown hook_fault.KindDiffers = line_told unprocessable (codes "G2")
+hook_answer unknown hook_fault.NoMemory = no_memory
+
+-- why a bound name isn't told
+abbrev pub name_answer : NameFault → Answer
+name_answer name_fault.NotSeen = line_told broken (codes "G3")
+name_answer name_fault.NoMemory = no_memory
+
+-- a fault of a get or a put
+abbrev pub quorum_answer : QuorumFault → Answer
+quorum_answer quorum_fault.TooFew = line_told unavailable (codes "Q1")
+quorum_answer (quorum_fault.Refused fault) = vnode_answer fault
+quorum_answer quorum_fault.Unseen = line_told broken (codes "G3")
+quorum_answer quorum_fault.Disagrees = line_told broken (codes "X4")
+quorum_answer quorum_fault.TooLarge = line_told (codes "413 Payload Too Large") (codes "X1")
+quorum_answer (quorum_fault.BadVerdict bad) = line_told broken (codes "X2")
+quorum_answer (quorum_fault.Rejected code) = line_told (codes "403 Forbidden") (codes "X3 " ++ decimal code)
+
+-- an image that is not let in: the refusal as it is shown, but for want of memory
+abbrev pub unfit_answer : Unfit → Answer
+unfit_answer unfit.NoMemory = no_memory
+unfit_answer other = line_told unprocessable (refusal_text other)
+
+-- a name as JSON
+abbrev pub json_name : Option (List ℕ) → List ℕ
+json_name None = codes "null"
+json_name (Some name) = 34 ∷ name ++ 34 ∷ []
+
+-- the properties as JSON
+abbrev pub props_text : ℕ → Bound → List ℕ
+props_text copies bound =
+    codes "{\"props\":{\"allow_mult\":true,\"n_val\":" ++ decimal copies ++ codes ",\"precommit\":" ++ json_name bound.precommit
+    ++ codes ",\"resolver\":" ++ json_name bound.resolver ++ codes "}}"
+
+abbrev pub not_found : Answer
+not_found = line_told (codes "404 Not Found") (codes "not found")
+
+-- one content as the answer
+abbrev pub content_answer : Content → Answer
+content_answer (Value media bytes) = record { status = codes "200 OK"; media = Some media; vclock = None; tag = None; body = Some bytes }
+content_answer Tombstone = not_found
+
+abbrev pub sibling_answer : Option Sibling → Answer
+sibling_answer None = not_found
+sibling_answer (Some s) = content_answer s.content
+
+abbrev pub choices : List ℕ
+choices = codes "300 Multiple Choices"
+
+-- the tags of the siblings, a line each
+abbrev pub tags_text : List Sibling → List ℕ
+tags_text siblings = codes "Siblings:" ++ 10 ∷ flat_map (λ s. tag_of s.dot ++ 10 ∷ []) siblings
+
+-- the media type of a body in parts
+abbrev pub mixed_type : ℕ → List ℕ
+mixed_type boundary = codes "multipart/mixed; boundary=s" ++ decimal boundary
+
+-- several siblings: their tags, or all of them in parts
+abbrev pub several_answer : Form → List Sibling → Answer
+several_answer Parts siblings = record {
+  status = choices;
+  media = Some (mixed_type (boundary_of siblings));
+  vclock = None;
+  tag = None;
+  body = Some (parts_body (boundary_of siblings) siblings);
+}
+several_answer Text siblings = told choices (tags_text siblings)
+several_answer (One tag) siblings = told choices (tags_text siblings)
+
+-- what a read shows
+abbrev pub shown : Form → List Sibling → Answer
+shown (One tag) siblings = sibling_answer (find (λ s. bytes_eq (tag_of s.dot) tag) siblings)
+shown Text [] = not_found
+shown Text (s ∷ []) = content_answer s.content
+shown Text (s ∷ t ∷ siblings) = several_answer Text (s ∷ t ∷ siblings)
+shown Parts [] = not_found
+shown Parts (s ∷ []) = content_answer s.content
+shown Parts (s ∷ t ∷ siblings) = several_answer Parts (s ∷ t ∷ siblings)
+
+-- the context of a read, unless its clock is empty
+abbrev pub vclock_of : List Dot → Option (List ℕ)
+vclock_of [] = None
+vclock_of (e ∷ es) = Some (token (e ∷ es))
+
+abbrev pub got_answer : Form → Result State QuorumFault → Answer
+got_answer form (Ok state) = record (shown form state.siblings) { vclock = vclock_of state.clock }
+got_answer form (Err fault) = quorum_answer fault
+
+abbrev pub stored_answer : Result Dot QuorumFault → Answer
+stored_answer (Ok dot) = record empty_answer { tag = Some (tag_of dot) }
+stored_answer (Err fault) = quorum_answer fault
+
+abbrev pub props_answer : ℕ → Result Bound NameFault → Answer
+props_answer copies (Ok bound) = record (told (codes "200 OK") (props_text copies bound)) { media = Some (codes "application/json") }
+props_answer copies (Err fault) = name_answer fault
+
+module _ (copies : ℕ) where
+  -- the answer to a call
+  abbrev pub call_answer : Form → Reply → Answer
+  call_answer form Nothing = empty_answer
+  call_answer form (Got result) = got_answer form result
+  call_answer form (Stored result) = stored_answer result
+  call_answer form (Installed (Ok done)) = empty_answer
+  call_answer form (Installed (Err refusal)) = unfit_answer refusal
+  call_answer form (Removed (Ok done)) = empty_answer
+  call_answer form (Removed (Err fault)) = hook_answer (codes "404 Not Found") fault
+  call_answer form (Props result) = props_answer copies result
+  call_answer form (Set (Ok done)) = empty_answer
+  call_answer form (Set (Err fault)) = hook_answer unprocessable fault
+
+  -- the answer to a request
+  abbrev pub answer_to : Ask → Reply → Answer
+  answer_to Ping reply = told (codes "200 OK") (codes "OK")
+  answer_to (Call c form) reply = call_answer form reply
+  answer_to (Refused refusal) reply = refusal_answer refusal
+
+  -- and its bytes
+  abbrev pub answer : Ask → Reply → Bool → List ℕ
+  answer asked reply ends = print_answer (answer_to asked reply) ends

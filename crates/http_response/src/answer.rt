@@ -1,0 +1,489 @@
+//! The answer to a request.
+
+ghost use Rattle.std.specs.Prelude.{◌≡◌, ◌++◌, OnOk, IfOk, Ok, Some, [], ◌∷◌, length, bytes_eq};
+ghost use Rattle.std.specs.List.{find};
+ghost use Rattle.std.specs.Option.{option_copied};
+ghost use Rattle.bpf_admission.specs.Admissions.{rule_text};
+ghost use Rattle.bpf_verifier.specs.Numbers.{rule_number};
+ghost use Rattle.bpf_image.specs.Image.{text_of};
+ghost use Rattle.http_request.specs.declared.ask.Form.TheVariants.{Parts};
+ghost use Rattle.quorum.specs.declared.fault.QuorumFault.TheVariants.{Rejected};
+ghost use Rattle.http_response.specs.Answer as spec;
+ghost use Rattle.http_response.specs.Answer.{print_answer, answer};
+ghost use Rattle.http_response.specs.Parts.{tag_of};
+ghost use Rattle.http_response.specs.View.{line_of, with_clock};
+
+use crate::boundary::boundary_of;
+use crate::field::{Answer, push_number, push_parts, push_tag};
+use crate::parts::push_parts_body;
+use crate::reply::{Bound, Reply};
+use crate::words::{
+    BAD_VERDICT, DISAGREES, Line, NO_MEMORY, NOT_FOUND, OTHER_KIND, TOO_FEW, TOO_LARGE,
+    UNPROCESSABLE, UNSEEN, of_code, of_hook, of_name, of_refusal, of_vnode,
+};
+use bpf_admission::Refusal as Unfit;
+use bpf_image::ImageFault;
+use bpf_insn::DecodeFault;
+use bpf_verifier::Refused;
+use dvv::{Clock, Dot};
+use http_request::{Ask, Form};
+use key_state::{Bytes, Content, KeyState, Sibling};
+use quorum::QuorumFault;
+use std::alloc::AllocError;
+
+/// Adds the answer to a request, after the reply to its call. The text is a buffer for bodies that are made up.
+pub fn push_answer(
+    out: &mut Vec<u8>,
+    text: &mut Vec<u8>,
+    copies: u32,
+    ask: &Ask,
+    reply: &Reply,
+    ends: bool,
+) -> Result<(), AllocError>
+    ensures { OnOk result (out.new.items ≡ out.old.items ++ answer copies ask.now reply.now ends) }
+{
+    match ask {
+        Ask::Ping => push_line(
+            out,
+            Line {
+                status: b"200 OK",
+                text: b"OK",
+            },
+            ends,
+        ),
+        Ask::Refused(refusal) => push_line(out, of_refusal(*refusal), ends),
+        Ask::Call(_, form) => push_reply(out, text, copies, form, reply, ends),
+    }
+}
+
+// Adds a status and a line of text.
+fn push_line(out: &mut Vec<u8>, line: Line, ends: bool) -> Result<(), AllocError>
+    ensures { OnOk result (out.new.items ≡ out.old.items ++ print_answer (line_of line.entry) ends) }
+{
+    push_told(out, line.status, b"text/plain", line.text, ends)
+}
+
+// Adds a status and a body.
+fn push_told<'a>(
+    out: &mut Vec<u8>,
+    status: &'a [u8],
+    media: &'a [u8],
+    body: &'a [u8],
+    ends: bool,
+) -> Result<(), AllocError>
+    ensures { OnOk result (out.new.items ≡ out.old.items ++ print_answer (record (spec.told status.now body.now) { media = Some media.now }) ends) }
+{
+    let answer = Answer {
+        status,
+        media: Some(media),
+        context: None,
+        tag: None,
+        body: Some(body),
+    };
+    push_parts(out, &answer, ends)
+}
+
+// Adds a status alone.
+fn push_empty(out: &mut Vec<u8>, tag: Option<&[u8]>, ends: bool) -> Result<(), AllocError>
+    ensures { OnOk result (out.new.items ≡ out.old.items ++ print_answer (record spec.empty_answer { tag = option_copied tag.entry }) ends) }
+{
+    let answer = Answer {
+        status: b"204 No Content",
+        media: None,
+        context: None,
+        tag,
+        body: None,
+    };
+    push_parts(out, &answer, ends)
+}
+
+// Adds the answer to a call.
+fn push_reply(
+    out: &mut Vec<u8>,
+    text: &mut Vec<u8>,
+    copies: u32,
+    form: &Form,
+    reply: &Reply,
+    ends: bool,
+) -> Result<(), AllocError>
+    ensures { OnOk result (out.new.items ≡ out.old.items ++ print_answer (spec.call_answer copies form.now reply.now) ends) }
+{
+    text.clear();
+    match reply {
+        Reply::Nothing | Reply::Installed(Ok(_)) | Reply::Removed(Ok(_)) | Reply::Set(Ok(_)) =>
+            push_empty(out, None, ends),
+        Reply::Got(Ok(state)) => push_state(out, text, form, state, ends),
+        Reply::Got(Err(fault)) | Reply::Stored(Err(fault)) => push_quorum_fault(
+            out, text, *fault, ends,
+        ),
+        Reply::Stored(Ok(dot)) => push_stored(out, text, *dot, ends),
+        Reply::Installed(Err(refusal)) => push_unfit(out, text, *refusal, ends),
+        Reply::Removed(Err(fault)) => push_line(out, of_hook(NOT_FOUND, *fault), ends),
+        Reply::Props(Ok(bound)) => push_bound(out, text, copies, bound, ends),
+        Reply::Props(Err(fault)) => push_line(out, of_name(*fault), ends),
+        Reply::Set(Err(fault)) => push_line(out, of_hook(UNPROCESSABLE, *fault), ends),
+    }
+}
+
+// Adds which event a content is stored under.
+fn push_stored(
+    out: &mut Vec<u8>,
+    text: &mut Vec<u8>,
+    dot: Dot,
+    ends: bool,
+) -> Result<(), AllocError>
+    requires { text.old.items ≡ [] }
+    ensures { OnOk result (out.new.items ≡ out.old.items ++ print_answer (spec.stored_answer (Ok dot)) ends) }
+{
+    push_tag(text, dot)?;
+    push_empty(out, Some(text.as_slice()), ends)
+}
+
+// Adds what is bound to a bucket.
+fn push_bound(
+    out: &mut Vec<u8>,
+    text: &mut Vec<u8>,
+    copies: u32,
+    bound: &Bound,
+    ends: bool,
+) -> Result<(), AllocError>
+    requires { text.old.items ≡ [] }
+    ensures { OnOk result (out.new.items ≡ out.old.items ++ print_answer (spec.props_answer copies (Ok bound.now)) ends) }
+{
+    push_props(text, copies, bound)?;
+    push_told(out, b"200 OK", b"application/json", text.as_slice(), ends)
+}
+
+// Adds why a get or a put has no answer.
+fn push_quorum_fault(
+    out: &mut Vec<u8>,
+    text: &mut Vec<u8>,
+    fault: QuorumFault,
+    ends: bool,
+) -> Result<(), AllocError>
+    requires { text.old.items ≡ [] }
+    ensures { OnOk result (out.new.items ≡ out.old.items ++ print_answer (spec.quorum_answer fault) ends) }
+{
+    match fault {
+        QuorumFault::Rejected(code) => push_rejected(out, text, code, ends),
+        QuorumFault::TooFew => push_line(out, TOO_FEW, ends),
+        QuorumFault::Refused(fault) => push_line(out, of_vnode(fault), ends),
+        QuorumFault::Unseen => push_line(out, UNSEEN, ends),
+        QuorumFault::Disagrees => push_line(out, DISAGREES, ends),
+        QuorumFault::TooLarge => push_line(out, TOO_LARGE, ends),
+        QuorumFault::BadVerdict(_) => push_line(out, BAD_VERDICT, ends),
+    }
+}
+
+// Adds that a hook let a content not in, and its number.
+fn push_rejected(
+    out: &mut Vec<u8>,
+    text: &mut Vec<u8>,
+    code: u8,
+    ends: bool,
+) -> Result<(), AllocError>
+    requires { text.old.items ≡ [] }
+    ensures { OnOk result (out.new.items ≡ out.old.items ++ print_answer (spec.quorum_answer (Rejected code)) ends) }
+{
+    text.extend_from_slice(b"X3 ")?;
+    push_number(text, code as u64)?;
+    text.extend_from_slice(b"\n")?;
+    let line = Line {
+        status: b"403 Forbidden",
+        text: text.as_slice(),
+    };
+    push_line(out, line, ends)
+}
+
+// Adds why an image is not let in, by a buffer for the text.
+fn push_unfit(
+    out: &mut Vec<u8>,
+    text: &mut Vec<u8>,
+    refusal: Unfit,
+    ends: bool,
+) -> Result<(), AllocError>
+    requires { text.old.items ≡ [] }
+    ensures { OnOk result (out.new.items ≡ out.old.items ++ print_answer (spec.unfit_answer refusal) ends) }
+{
+    match refusal {
+        Unfit::Image(fault) => {
+            push_image_fault(text, fault)?;
+            push_unprocessable(out, text, ends)
+        }
+        Unfit::Rule(refused) => {
+            push_broken_rule(text, refused)?;
+            push_unprocessable(out, text, ends)
+        }
+        Unfit::OtherKind => push_line(out, OTHER_KIND, ends),
+        Unfit::NoMemory => push_line(out, NO_MEMORY, ends),
+    }
+}
+
+// Adds why an image is not let in, where the text shows it.
+fn push_unprocessable(out: &mut Vec<u8>, text: &mut Vec<u8>, ends: bool) -> Result<(), AllocError>
+    ensures { OnOk result (out.new.items ≡ out.old.items ++ print_answer (spec.line_told spec.unprocessable text.old.items) ends) }
+{
+    text.extend_from_slice(b"\n")?;
+    push_line(
+        out,
+        Line {
+            status: UNPROCESSABLE,
+            text: text.as_slice(),
+        },
+        ends,
+    )
+}
+
+// Adds a fault of an image as it is shown.
+fn push_image_fault(text: &mut Vec<u8>, fault: ImageFault) -> Result<(), AllocError>
+    ensures { OnOk result (text.new.items ≡ text.old.items ++ text_of fault) }
+{
+    match fault {
+        ImageFault::Short => text.extend_from_slice(b"I1"),
+        ImageFault::Mark => text.extend_from_slice(b"I2"),
+        ImageFault::Version => text.extend_from_slice(b"I3"),
+        ImageFault::Kind => text.extend_from_slice(b"I4"),
+        ImageFault::Window => text.extend_from_slice(b"I5"),
+        ImageFault::Code(DecodeFault { slot, why }) => {
+            text.extend_from_slice(of_code(why))?;
+            text.extend_from_slice(b" ")?;
+            push_number(text, slot as u64)
+        }
+        ImageFault::NoMemory => text.extend_from_slice(b"E1 0"),
+    }
+}
+
+// Adds a rule that is broken, and where, as it is shown.
+fn push_broken_rule(text: &mut Vec<u8>, refused: Refused) -> Result<(), AllocError>
+    ensures { OnOk result (text.new.items ≡ text.old.items ++ rule_text (rule_number refused.rule) refused.slot) }
+{
+    match refused.rule.number() {
+        Some(number) => {
+            text.extend_from_slice(b"V")?;
+            push_number(text, number as u64)?;
+            text.extend_from_slice(b" ")?;
+            push_number(text, refused.slot as u64)
+        }
+        None => text.extend_from_slice(b"E1 0"),
+    }
+}
+
+// Adds the properties of a bucket as JSON.
+fn push_props(text: &mut Vec<u8>, copies: u32, bound: &Bound) -> Result<(), AllocError>
+    ensures { OnOk result (text.new.items ≡ text.old.items ++ spec.props_text copies bound.now) }
+{
+    text.extend_from_slice(b"{\"props\":{\"allow_mult\":true,\"n_val\":")?;
+    push_number(text, copies as u64)?;
+    text.extend_from_slice(b",\"precommit\":")?;
+    push_json_name(text, &bound.precommit)?;
+    text.extend_from_slice(b",\"resolver\":")?;
+    push_json_name(text, &bound.resolver)?;
+    text.extend_from_slice(b"}}")
+}
+
+// Adds a name as JSON: names have no character that JSON escapes.
+fn push_json_name(text: &mut Vec<u8>, name: &Option<Bytes>) -> Result<(), AllocError>
+    ensures { OnOk result (text.new.items ≡ text.old.items ++ spec.json_name name.now) }
+{
+    match name {
+        None => text.extend_from_slice(b"null"),
+        Some(name) => {
+            text.extend_from_slice(b"\"")?;
+            text.extend_from_slice(name.as_slice())?;
+            text.extend_from_slice(b"\"")
+        }
+    }
+}
+
+// Adds what a read shows, with its context unless nothing was ever written.
+fn push_state(
+    out: &mut Vec<u8>,
+    text: &mut Vec<u8>,
+    form: &Form,
+    state: &KeyState,
+    ends: bool,
+) -> Result<(), AllocError>
+    requires { text.old.items ≡ [] }
+    ensures { OnOk result (out.new.items ≡ out.old.items ++ print_answer (spec.got_answer form.now (Ok state.now)) ends) }
+{
+    push_shown(out, text, form, state.siblings(), state.clock(), ends)
+}
+
+// Adds the siblings of a key as they are asked for.
+fn push_shown(
+    out: &mut Vec<u8>,
+    text: &mut Vec<u8>,
+    form: &Form,
+    siblings: &[Sibling],
+    context: &Clock,
+    ends: bool,
+) -> Result<(), AllocError>
+    requires { text.old.items ≡ [] }
+    ensures { OnOk result (out.new.items ≡ out.old.items ++ print_answer (with_clock context.now (spec.shown form.now siblings.now)) ends) }
+{
+    match (form, siblings) {
+        (Form::One(tag), _) => push_tagged(out, text, siblings, tag.as_slice(), context, ends),
+        (_, []) => push_missing(out, context, ends),
+        (_, [sibling]) => push_content(out, &sibling.content, context, ends),
+        (Form::Parts, _) => push_mixed(out, text, siblings, context, ends),
+        (Form::Text, _) => push_listed(out, text, siblings, context, ends),
+    }
+}
+
+// Adds the sibling of a tag.
+fn push_tagged(
+    out: &mut Vec<u8>,
+    text: &mut Vec<u8>,
+    siblings: &[Sibling],
+    tag: &[u8],
+    context: &Clock,
+    ends: bool,
+) -> Result<(), AllocError>
+    ensures { OnOk result (out.new.items ≡ out.old.items ++ print_answer (with_clock context.now (spec.sibling_answer (find (λ s. bytes_eq (tag_of s.dot) tag.now) siblings.now))) ends) }
+{
+    let found = find_tag(text, siblings, tag)?;
+    match found {
+        Some(sibling) => push_content(out, &sibling.content, context, ends),
+        None => push_missing(out, context, ends),
+    }
+}
+
+// Adds the tags of all siblings.
+fn push_listed(
+    out: &mut Vec<u8>,
+    text: &mut Vec<u8>,
+    siblings: &[Sibling],
+    context: &Clock,
+    ends: bool,
+) -> Result<(), AllocError>
+    requires { text.old.items ≡ [] }
+    ensures { OnOk result (out.new.items ≡ out.old.items ++ print_answer (with_clock context.now (spec.told spec.choices (spec.tags_text siblings.now))) ends) }
+{
+    push_tags(text, siblings)?;
+    push_choices(out, b"text/plain", text.as_slice(), context, ends)
+}
+
+// Adds that there is nothing.
+fn push_missing(out: &mut Vec<u8>, context: &Clock, ends: bool) -> Result<(), AllocError>
+    ensures { OnOk result (out.new.items ≡ out.old.items ++ print_answer (with_clock context.now spec.not_found) ends) }
+{
+    let answer = Answer {
+        status: NOT_FOUND,
+        media: Some(b"text/plain"),
+        context: Some(context),
+        tag: None,
+        body: Some(b"not found\n"),
+    };
+    push_parts(out, &answer, ends)
+}
+
+// Adds a content by itself.
+fn push_content<'a, 'v>(
+    out: &mut Vec<u8>,
+    content: &'a Content,
+    context: &'v Clock,
+    ends: bool,
+) -> Result<(), AllocError>
+    ensures { OnOk result (out.new.items ≡ out.old.items ++ print_answer (with_clock context.now (spec.content_answer content.now)) ends) }
+{
+    match content {
+        Content::Tombstone => push_missing(out, context, ends),
+        Content::Value { media, bytes } => {
+            let answer = Answer {
+                status: b"200 OK",
+                media: Some(media.as_slice()),
+                context: Some(context),
+                tag: None,
+                body: Some(bytes.as_slice()),
+            };
+            push_parts(out, &answer, ends)
+        }
+    }
+}
+
+// Adds a body that shows several siblings.
+fn push_choices<'a, 'v>(
+    out: &mut Vec<u8>,
+    media: &'a [u8],
+    body: &'a [u8],
+    context: &'v Clock,
+    ends: bool,
+) -> Result<(), AllocError>
+    ensures { OnOk result (out.new.items ≡ out.old.items ++ print_answer (with_clock context.now (record (spec.told spec.choices body.now) { media = Some media.now })) ends) }
+{
+    let answer = Answer {
+        status: b"300 Multiple Choices",
+        media: Some(media),
+        context: Some(context),
+        tag: None,
+        body: Some(body),
+    };
+    push_parts(out, &answer, ends)
+}
+
+// Adds all siblings as the parts of one body.
+fn push_mixed(
+    out: &mut Vec<u8>,
+    text: &mut Vec<u8>,
+    siblings: &[Sibling],
+    context: &Clock,
+    ends: bool,
+) -> Result<(), AllocError>
+    requires { text.old.items ≡ [] }
+    ensures { OnOk result (out.new.items ≡ out.old.items ++ print_answer (with_clock context.now (spec.several_answer Parts siblings.now)) ends) }
+{
+    let boundary = boundary_of(text, siblings)?;
+    text.clear();
+    let media_len = push_mixed_type(text, boundary)?;
+    push_parts_body(text, boundary, siblings)?;
+    let (media, body) = text.split_at(media_len);
+    push_choices(out, media, body, context, ends)
+}
+
+// Adds the media type of a body in parts, and tells how many bytes the text has then.
+fn push_mixed_type(text: &mut Vec<u8>, boundary: u64) -> Result<usize, AllocError>
+    requires { text.old.items ≡ [] }
+    ensures text { OnOk result (text.new.items ≡ spec.mixed_type boundary) }
+    ensures length { IfOk result (λ n. n ≡ length text.new.items) }
+{
+    text.extend_from_slice(b"multipart/mixed; boundary=s")?;
+    push_number(text, boundary)?;
+    Ok(text.len())
+}
+
+// Adds the tags of the siblings, a line each.
+fn push_tags(text: &mut Vec<u8>, siblings: &[Sibling]) -> Result<(), AllocError>
+    ensures { OnOk result (text.new.items ≡ text.old.items ++ spec.tags_text siblings.now) }
+{
+    text.extend_from_slice(b"Siblings:\n")?;
+    for sibling in siblings {
+        push_tag_line(text, sibling)?;
+    }
+    Ok(())
+}
+
+// Adds a tag as a line.
+fn push_tag_line(text: &mut Vec<u8>, sibling: &Sibling) -> Result<(), AllocError>
+    ensures { OnOk result (text.new.items ≡ text.old.items ++ (tag_of sibling.now.dot ++ 10 ∷ [])) }
+{
+    push_tag(text, sibling.dot)?;
+    text.extend_from_slice(b"\n")
+}
+
+// The sibling of a tag.
+fn find_tag<'s>(
+    text: &mut Vec<u8>,
+    siblings: &'s [Sibling],
+    tag: &[u8],
+) -> Result<Option<&'s Sibling>, AllocError>
+    ensures { IfOk result (λ o. option_copied o ≡ find (λ s. bytes_eq (tag_of s.dot) tag.now) siblings.now) }
+{
+    for sibling in siblings {
+        text.clear();
+        push_tag(text, sibling.dot)?;
+        if text.as_slice() == tag {
+            return Ok(Some(sibling));
+        }
+    }
+    Ok(None)
+}

@@ -1,0 +1,164 @@
+//! Statuses and words of refusals.
+
+ghost use Rattle.std.specs.Prelude.{◌≡◌};
+ghost use Rattle.bpf_insn.specs.Refusal.{name_of};
+ghost use Rattle.http_response.specs.Answer as spec;
+ghost use Rattle.http_response.specs.Answer.{refusal_answer, token_answer, vnode_answer, hook_answer, name_answer};
+ghost use Rattle.http_response.specs.View.{line_of};
+
+use bpf_insn::Refusal as CodeRefusal;
+use context_token::TokenFault;
+use hook_registry::{HookFault, NameFault};
+use http_request::Refusal;
+use vnode::VnodeFault;
+
+/// A status, and a line of text.
+#[derive(Clone, Copy)]
+pub(crate) struct Line<'a> {
+    pub(crate) status: &'a [u8],
+    pub(crate) text: &'a [u8],
+}
+
+pub(crate) const BAD_REQUEST: &[u8] = b"400 Bad Request";
+
+pub(crate) const NOT_FOUND: &[u8] = b"404 Not Found";
+
+pub(crate) const UNPROCESSABLE: &[u8] = b"422 Unprocessable Entity";
+
+pub(crate) const BROKEN: &[u8] = b"500 Internal Server Error";
+
+pub(crate) const UNAVAILABLE: &[u8] = b"503 Service Unavailable";
+
+/// What want of memory is told as.
+pub(crate) const NO_MEMORY: Line<'static> = Line {
+    status: BROKEN,
+    text: b"E1\n",
+};
+
+/// What is told of an image of another kind than is asked for.
+pub(crate) const OTHER_KIND: Line<'static> = Line {
+    status: UNPROCESSABLE,
+    text: b"G2\n",
+};
+
+/// What is told where too few copies answered.
+pub(crate) const TOO_FEW: Line<'static> = Line {
+    status: UNAVAILABLE,
+    text: b"Q1\n",
+};
+
+/// What is told where a bound hook is not seen.
+pub(crate) const UNSEEN: Line<'static> = Line {
+    status: BROKEN,
+    text: b"G3\n",
+};
+
+/// What is told where copies disagree.
+pub(crate) const DISAGREES: Line<'static> = Line {
+    status: BROKEN,
+    text: b"X4\n",
+};
+
+/// What is told where a content is too large for a hook.
+pub(crate) const TOO_LARGE: Line<'static> = Line {
+    status: b"413 Payload Too Large",
+    text: b"X1\n",
+};
+
+/// What is told where a hook's verdict is none.
+pub(crate) const BAD_VERDICT: Line<'static> = Line {
+    status: BROKEN,
+    text: b"X2\n",
+};
+
+fn told(status: &'static [u8], text: &'static [u8]) -> Line<'static>
+    ensures { line_of result ≡ spec.told status.now text.now }
+{
+    Line { status, text }
+}
+
+/// What a refused request is told.
+pub(crate) fn of_refusal(refusal: Refusal) -> Line<'static>
+    ensures { line_of result ≡ refusal_answer refusal }
+{
+    match refusal {
+        Refusal::BadHead => told(BAD_REQUEST, b"bad head\n"),
+        Refusal::Coding => told(b"501 Not Implemented", b"coding\n"),
+        Refusal::BadLength => told(BAD_REQUEST, b"bad length\n"),
+        Refusal::NoLength => told(b"411 Length Required", b"length\n"),
+        Refusal::Large => told(b"413 Payload Too Large", b"large\n"),
+        Refusal::NoRoute => told(NOT_FOUND, b"no route\n"),
+        Refusal::Method => told(b"405 Method Not Allowed", b"method\n"),
+        Refusal::Query => told(BAD_REQUEST, b"bad query\n"),
+        Refusal::BadName => told(BAD_REQUEST, b"bad name\n"),
+        Refusal::Token(fault) => of_token(fault),
+        Refusal::BadType => told(BAD_REQUEST, b"bad type\n"),
+        Refusal::BadProps => told(BAD_REQUEST, b"bad props\n"),
+    }
+}
+
+fn of_token(fault: TokenFault) -> Line<'static>
+    ensures { line_of result ≡ token_answer fault }
+{
+    match fault {
+        TokenFault::NotBase64 => told(BAD_REQUEST, b"K1\n"),
+        TokenFault::Version => told(BAD_REQUEST, b"K2\n"),
+        TokenFault::NotRising => told(BAD_REQUEST, b"K3\n"),
+        TokenFault::Cut => told(BAD_REQUEST, b"K4\n"),
+        TokenFault::PastLimit => told(BAD_REQUEST, b"K5\n"),
+        TokenFault::NoMemory => told(BROKEN, b"E1\n"),
+    }
+}
+
+/// What a refusal of a vnode is told as.
+pub(crate) fn of_vnode(fault: VnodeFault) -> Line<'static>
+    ensures { line_of result ≡ vnode_answer fault }
+{
+    match fault {
+        VnodeFault::ContextAhead => told(b"412 Precondition Failed", b"P1\n"),
+        VnodeFault::TooManySiblings => told(b"409 Conflict", b"P2\n"),
+        VnodeFault::ClockFull => told(UNAVAILABLE, b"P3\n"),
+        VnodeFault::MergedClockFull => told(UNAVAILABLE, b"M1\n"),
+        VnodeFault::JournalFull => told(UNAVAILABLE, b"J1\n"),
+        VnodeFault::NoMemory => told(BROKEN, b"E1\n"),
+    }
+}
+
+/// What a fault of the registry is told as; an unknown name by the status of the request that names it.
+pub(crate) fn of_hook(unknown: &'static [u8], fault: HookFault) -> Line<'static>
+    ensures { line_of result ≡ hook_answer unknown.now fault }
+{
+    match fault {
+        HookFault::NameUnknown => told(unknown, b"G1\n"),
+        HookFault::KindDiffers => told(UNPROCESSABLE, b"G2\n"),
+        HookFault::NoMemory => told(BROKEN, b"E1\n"),
+    }
+}
+
+/// What a fault of a look-up of bound names is told as.
+pub(crate) fn of_name(fault: NameFault) -> Line<'static>
+    ensures { line_of result ≡ name_answer fault }
+{
+    match fault {
+        NameFault::NotSeen => told(BROKEN, b"G3\n"),
+        NameFault::NoMemory => told(BROKEN, b"E1\n"),
+    }
+}
+
+/// The number of a refusal of code.
+pub(crate) fn of_code(refusal: CodeRefusal) -> &'static [u8]
+    ensures { result.now ≡ name_of refusal }
+{
+    match refusal {
+        CodeRefusal::UnevenLength => b"D1",
+        CodeRefusal::Empty => b"D2",
+        CodeRefusal::TooLong => b"D3",
+        CodeRefusal::UnknownOpcode => b"D4",
+        CodeRefusal::UnusedField => b"D5",
+        CodeRefusal::BadRegister => b"D6",
+        CodeRefusal::CutWide => b"D7",
+        CodeRefusal::LeftOut => b"D8",
+        CodeRefusal::BadSwapWidth => b"D9",
+        CodeRefusal::Memory => b"E1",
+    }
+}

@@ -1,7 +1,0 @@
-use Rattle.std.proofs.Common.{map, drop}
-use Rattle.httparse.specs.Spans.{header_bytes}
-use Rattle.httpread.specs.Firsts.{LeadTo}
-use Rattle.httpread.proofs.firsts.fields_of.Given as goal
-
-abbrev pub invariant-loop-line : goal.invariant-loop-line
-invariant-loop-line l = LeadTo l.fields (map (header_bytes l.bytes) (drop l.line-index l.lines)) (map (header_bytes l.bytes) l.lines)

@@ -1,5 +1,0 @@
-use Rattle.httpread.proofs.OneLemmas.{asks_one}
-use Rattle.httpread.proofs.laws.asks_one.Goals as goal
-
-pub returns : goal.returns
-returns c = λ copies bytes ask other ends stops next after x y. asks_one copies bytes ask other ends stops next after x y

@@ -1,5 +1,0 @@
-use Rattle.insn.proofs.Unbroken.{whole_unbroken}
-use Rattle.insn.proofs.laws.instructions_break_no_rule.Goals as goal
-
-pub returns : goal.returns
-returns c = whole_unbroken

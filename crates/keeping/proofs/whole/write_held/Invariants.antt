@@ -1,6 +1,0 @@
-use Rattle.keeping.proofs.Held.{AreWriting}
-use Rattle.keeping.proofs.whole.write_held.Given as goal
-
--- those before were written
-abbrev pub invariant-loop-place : goal.invariant-loop-place
-invariant-loop-place g l = AreWriting l.id l.first l.held l.place (g.W.Write.contents l.fn.out) (g.W.Write.contents l.out)

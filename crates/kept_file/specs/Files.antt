@@ -1,0 +1,36 @@
+-- The file of a vnode's records that a folder keeps: the records of a dump, and one more that ends it (this store's profile).
+use Rattle.std.specs.Prelude.{◌≡◌, ℕ, ◌%◌, ◌==◌, if◌then◌else◌, List, [], ◌∷◌, ◌++◌, length}
+use Rattle.key_state.specs.declared.content.Key.{Key}
+use Rattle.key_state.specs.State.{empty}
+use Rattle.record_codec.specs.declared.record.Record.{Record}
+use Rattle.kept_file.specs.Records.{AreSpelledBy, FaultAt}
+use Rattle.kept_file.specs.declared.file.KeptFile.{KeptFile}
+use Rattle.kept_file.specs.declared.file.Unkept.{Unkept}
+use Rattle.kept_file.specs.declared.file.Unkept.TheVariants as unkept
+
+-- the key of the record that ends a file: bucket `end`, key `end`
+abbrev pub end_key : Key
+end_key = record { bucket = 101 ∷ 110 ∷ 100 ∷ []; key = 101 ∷ 110 ∷ 100 ∷ [] }
+
+-- the record that ends a file: its state is empty, as no other's is, and its place tells how many stand before it
+abbrev pub end_of : ℕ → ℕ → Record
+end_of from count = record { key = end_key; from = from; at = count; state = empty }
+
+-- the bytes are the whole file of these records of the vnode with this identifier
+abbrev pub IsFileOf : ℕ → List Record → List ℕ → Type 0
+IsFileOf from records bytes = AreSpelledBy (records ++ end_of from (length records) ∷ []) bytes
+
+-- records of which the last doesn't end a file
+abbrev pub HaveNoEnd : List Record → Type 0
+HaveNoEnd records = (front : List Record) (from : ℕ) → records ≡ front ++ end_of from (length front) ∷ [] → ⊥
+
+-- why bytes are no file
+abbrev pub IsUnkept : List ℕ → Unkept → Type 0
+IsUnkept bytes (unkept.Faulty place fault) = FaultAt bytes place fault
+IsUnkept bytes unkept.NoEnd = (records : List Record) × AreSpelledBy records bytes × HaveNoEnd records
+IsUnkept bytes unkept.NoMemory = Unit {0}
+
+-- the records of the vnode with an index: those of the first file whose vnode has that index; none where there is no such file
+abbrev pub records_at : List KeptFile → ℕ → List Record
+records_at [] index = []
+records_at (file ∷ files) index = if (file.from % 65536) == index then file.records.items else records_at files index

@@ -1,0 +1,141 @@
+//! Records, one after another.
+
+ghost use Rattle.std.specs.Prelude.{◌≡◌, ◌++◌, ◌∷◌, [], IfErr, IfOk, IsTrue, OnOk};
+ghost use Rattle.key_state.specs.Limits.{IsContent, IsKey};
+ghost use Rattle.record_codec.specs.Records.{AreContents};
+ghost use Rattle.kept_file.specs.declared.records.Unread.TheVariants as unread;
+ghost use Rattle.kept_file.specs.Records.{AreSpelledBy, IsUnread, record_of};
+
+use crate::sharing::{from_key, share, share_media};
+use key_state::{Content, Key, KeyState, MAX_BUCKET, MAX_KEY, MAX_MEDIA, MAX_VALUE, Sibling};
+use record_codec::{Record, WireFault, has_record, read_record, write_record};
+use std::alloc::{AllocError, Global};
+
+/// Why bytes are not read as records.
+#[derive(Clone, Copy)]
+pub(crate) enum Unread {
+    /// The record at this place, counted from 0, has a fault.
+    Faulty { place: usize, fault: WireFault },
+    /// Memory ran out for the list of records.
+    NoMemory,
+}
+
+/// Why a state has no record.
+#[derive(Clone, Copy)]
+pub(crate) enum Unspelled {
+    /// A key, a content or a body is past its limit.
+    PastLimit,
+    /// Memory ran out.
+    NoMemory,
+}
+
+impl From<AllocError> for Unspelled {
+    ghost use Rattle.kept_file.specs.declared.records.Unspelled.TheVariants.{NoMemory};
+
+    ghost from_gives = { λ _ why. why ≡ NoMemory };
+
+    fn from(_: AllocError) -> Unspelled {
+        Unspelled::NoMemory
+    }
+}
+
+/// The record of a key's state, which the read at a place of a vnode's journal answered.
+pub(crate) fn spelled(
+    alloc: Global,
+    key: &Key,
+    from: u32,
+    at: u32,
+    state: &KeyState,
+) -> Result<Vec<u8>, Unspelled>
+    ensures { IfOk result (λ bytes. AreSpelledBy (record_of key.now from at state.now ∷ []) bytes.items) }
+{
+    if !is_key(key) || !are_contents(state.siblings()) || !has_record(key, state) {
+        return Err(Unspelled::PastLimit);
+    }
+    Ok(write_record(alloc, key, from, at, state)?)
+}
+
+/// Whether a key is within its limits.
+fn is_key(key: &Key) -> bool
+    ensures { IsTrue result → IsKey key.now }
+{
+    let bucket = key.bucket().len();
+    let name = key.key().len();
+    1 <= bucket && bucket <= MAX_BUCKET && 1 <= name && name <= MAX_KEY
+}
+
+/// Whether the contents of siblings are within their limits.
+fn are_contents(siblings: &[Sibling]) -> bool
+    ensures { IsTrue result → AreContents siblings.now }
+{
+    for sibling in siblings {
+        if !is_content(&sibling.content) {
+            return false;
+        }
+    }
+    true
+}
+
+/// Whether a content is within its limits.
+fn is_content(content: &Content) -> bool
+    ensures { IsTrue result → IsContent content.now }
+{
+    match content {
+        Content::Value { media, bytes } => {
+            let media = media.as_slice().len();
+            1 <= media && media <= MAX_MEDIA && bytes.as_slice().len() <= MAX_VALUE
+        }
+        Content::Tombstone => true,
+    }
+}
+
+/// The records that bytes are, one after another, or the first that has a fault. Those that are among others take their memory: both stand
+/// in the order of keys, and where they don't, less is shared.
+pub(crate) fn records_in(
+    alloc: Global,
+    bytes: &[u8],
+    others: &[Record],
+) -> Result<Vec<Record>, Unread>
+    ensures records { IfOk result (λ records. AreSpelledBy records.items bytes.now) }
+    ensures unread { IfErr result (IsUnread bytes.now) }
+{
+    let mut records = Vec::new(alloc);
+    let mut left = bytes;
+    let mut rest = others;
+    while !left.is_empty() {
+        match read_record(alloc, left) {
+            Ok((one, len)) => {
+                rest = from_key(rest, &one.key);
+                keep(alloc, &mut records, rest.first(), one)?;
+                left = &left[len..];
+            }
+            Err(fault) => {
+                let place = records.len();
+                return Err(Unread::Faulty { place, fault });
+            }
+        }
+    }
+    Ok(records)
+}
+
+/// Appends a record to a list. It takes the memory of another one, where it is the same, and else its media type's bytes are those of the
+/// last one's, where these are the same.
+fn keep(
+    alloc: Global,
+    records: &mut Vec<Record>,
+    other: Option<&Record>,
+    mut one: Record,
+) -> Result<(), Unread>
+    ensures kept { OnOk result (records.new.items ≡ records.old.items ++ one ∷ []) }
+    ensures short { IfErr result (λ why. why ≡ unread.NoMemory) }
+{
+    match (other, records.last()) {
+        (Some(other), _) => share(&mut one, other),
+        (None, Some(last)) => share_media(alloc, &mut one.state, &last.state),
+        (None, None) => {}
+    }
+    match records.push(one) {
+        Ok(()) => Ok(()),
+        Err(_) => Err(Unread::NoMemory),
+    }
+}

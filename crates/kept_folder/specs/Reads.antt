@@ -1,0 +1,34 @@
+-- What a start reads of a folder (this store's profile).
+use Rattle.std.specs.Prelude.{◌≡◌, ◌⊎◌, ◌%◌, ⊤, ℕ, zero, suc, List, [], codes, Option, None, Some}
+use Rattle.std.specs.Global.{Vec}
+use Rattle.kept_file.specs.Files.{IsFileOf, records_at}
+use Rattle.kept_file.specs.declared.file.KeptFile.{KeptFile}
+
+-- the bytes of a file, where there is one
+abbrev pub bytes_in : Option (Vec ℕ) → Option (List ℕ)
+bytes_in None = None
+bytes_in (Some bytes) = Some bytes.items
+
+-- the file of the records of the vnode with an index
+abbrev pub name_of : ℕ → List ℕ
+name_of zero = codes "vnode-0.records"
+name_of (suc zero) = codes "vnode-1.records"
+name_of (suc (suc index)) = codes "vnode-2.records"
+
+-- bytes, where there are some, are the whole file of the records of the vnode with an index
+abbrev pub IsFileIn : Option (List ℕ) → ℕ → Option KeptFile → Type 0
+IsFileIn None index None = ⊤
+IsFileIn (Some bytes) index (Some file) = IsFileOf file.from file.records.items bytes × (file.from % 65536 ≡ index)
+IsFileIn None index (Some file) = ⊥
+IsFileIn (Some bytes) index None = ⊥
+
+module _ (finds : List ℕ → Option (List ℕ) → Type 0) where
+  -- this was read of the vnode with an index: what its file holds, or that there is no such file
+  abbrev pub IsFoundAt : ℕ → Option KeptFile → Type 0
+  IsFoundAt index file = (bytes : Option (List ℕ)) × finds (name_of index) bytes × IsFileIn bytes index file
+
+  -- the records of the vnode with an index are those of its file, and none where there is no such file
+  abbrev pub IsReadAt : List KeptFile → ℕ → Type 0
+  IsReadAt files index =
+      (finds (name_of index) None × (records_at files index ≡ []))
+      ⊎ ((bytes : List ℕ) × (from : ℕ) × finds (name_of index) (Some bytes) × IsFileOf from (records_at files index) bytes × (from % 65536 ≡ index))

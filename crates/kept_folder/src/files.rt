@@ -1,0 +1,58 @@
+//! The files of a folder.
+
+ghost use Rattle.std.specs.Prelude.{ℕ, List, Option, IfOk, OnOk};
+ghost use Rattle.kept_folder.specs.Reads.{bytes_in};
+ghost use Rattle.kept_folder.specs.Steps.{Begun, Forced, NamesForced, Renamed, Step};
+
+use std::alloc::{AllocError, Global};
+use std::io::Write;
+use thiserror::Error;
+
+/// Why an operation on a file wasn't done.
+#[derive(Clone, Copy, Debug, PartialEq, Eq, Error)]
+pub enum FileFault {
+    /// The system refused it.
+    #[error("refused by the system")]
+    Refused,
+    /// Memory ran out.
+    #[error("E1")]
+    NoMemory,
+}
+
+impl From<AllocError> for FileFault {
+    fn from(_: AllocError) -> FileFault {
+        FileFault::NoMemory
+    }
+}
+
+/// The files of a folder, by their names in it.
+pub trait Folder {
+    /// A file that is written.
+    type File: Write + Drop + Send;
+
+    // Under a name these bytes may be found, or none where there is no file.
+    ghost finds: { Self → List ℕ → Option (List ℕ) → Type 0 };
+
+    // A step was done, and the folder is another.
+    ghost does: { Self → Step → Self → Type 0 };
+
+    /// The bytes of a file. There may be no file of the name.
+    fn read(&self, alloc: Global, name: &str) -> Result<Option<Vec<u8>>, FileFault>
+        ensures { IfOk result (λ found. finds self.now name.now (bytes_in found)) };
+
+    /// Begins a file anew: what stood under the name is gone.
+    fn create(&mut self, name: &str) -> Result<Self::File, FileFault>
+        ensures { IfOk result (λ file. does self.old (Begun name.now (Self.File.contents file)) self.new) };
+
+    /// Forces what was written to a file to the device.
+    fn force(&mut self, file: Self::File) -> Result<(), FileFault>
+        ensures { OnOk result (does self.old (Forced (Self.File.contents file)) self.new) };
+
+    /// Gives a file another name, at once: what stood under that is gone.
+    fn rename(&mut self, from: &str, to: &str) -> Result<(), FileFault>
+        ensures { OnOk result (does self.old (Renamed from.now to.now) self.new) };
+
+    /// Forces the names of the folder's files to the device.
+    fn force_names(&mut self) -> Result<(), FileFault>
+        ensures { OnOk result (does self.old NamesForced self.new) };
+}

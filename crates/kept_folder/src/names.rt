@@ -1,0 +1,27 @@
+//! What the files of a folder are called.
+
+ghost use Rattle.std.specs.Prelude.{◌≡◌};
+ghost use Rattle.kept_folder.specs.Reads.{name_of};
+
+/// How many vnodes there are.
+pub(crate) const VNODES: usize = 3;
+
+/// The number of the last start, as a decimal.
+pub(crate) const INCARNATION: &str = "incarnation";
+
+/// The requests that install and bind hooks.
+pub const HOOKS: &str = "hooks.requests";
+
+/// What who runs the store has set.
+pub(crate) const SETTINGS: &str = "settings";
+
+/// The file of the records of the vnode with an index.
+pub(crate) fn name_of(index: usize) -> &'static str
+    ensures { result.now ≡ name_of index }
+{
+    match index {
+        0 => "vnode-0.records",
+        1 => "vnode-1.records",
+        _ => "vnode-2.records",
+    }
+}

@@ -1,7 +1,0 @@
-use Rattle.std.proofs.Common.{◌≡◌}
-use Rattle.loading.specs.Beginnings.{fronts_to}
-use Rattle.loading.proofs.beginning.fronts_of.Given as goal
-
--- those before were counted
-abbrev pub invariant-loop-index : goal.invariant-loop-index
-invariant-loop-index l = l.fronts.items ≡ fronts_to l.files l.index

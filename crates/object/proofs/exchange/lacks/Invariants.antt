@@ -1,7 +1,0 @@
-use Rattle.std.proofs.Common.{◌≡◌, false, take}
-use Rattle.object.specs.Parts.{lacks_content}
-use Rattle.object.proofs.exchange.lacks.Given as goal
-
--- none so far lacks its content
-abbrev pub invariant-loop-sent : goal.invariant-loop-sent
-invariant-loop-sent l = lacks_content l.own (take l.sent-index l.sent-items) ≡ false

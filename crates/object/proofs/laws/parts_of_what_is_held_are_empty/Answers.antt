@@ -1,5 +1,0 @@
-use Rattle.object.proofs.Exchanged.{none_sent}
-use Rattle.object.proofs.laws.parts_of_what_is_held_are_empty.Goals as goal
-
-pub returns : goal.returns
-returns c = none_sent

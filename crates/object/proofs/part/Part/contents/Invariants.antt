@@ -1,7 +1,0 @@
-use Rattle.std.proofs.Common.{◌≡◌, filter, is_some, length, take}
-use Rattle.object.specs.declared.part.PartSibling.{PartSibling}
-use Rattle.object.proofs.part.Part.contents.Given as goal
-
--- so many of those so far have their content
-abbrev pub invariant-loop-sibling : goal.invariant-loop-sibling
-invariant-loop-sibling l = l.count ≡ length (filter (λ (s : PartSibling). is_some s.content) (take l.sibling-index l.sibling-items))

@@ -1,7 +1,0 @@
-use Rattle.std.proofs.Common.{sym, subst, ◌∙◌}
-use Rattle.dvv.specs.Clock.{IsClock}
-use Rattle.object.proofs.Same.{within_told, within_clocks}
-use Rattle.object.proofs.state.KeyState.knows_all_of.Goals as goal
-
-pub returns : goal.returns
-returns c = within_told c.clock.result.now c.clock-2.result.now c.le.result (subst IsClock (sym c.clock.ensures) c.siblings-siblings.ensures.state.clock) c.le.ensures ∙ within_clocks c.clock.ensures c.clock-2.ensures

@@ -1,5 +1,0 @@
-use Rattle.rerun.proofs.Going.{interleaved}
-use Rattle.rerun.proofs.rerun.Rerun.new_seeded.Goals as goal
-
-pub returns-clause-run : goal.returns-clause-run
-returns-clause-run c = let new = c.in_ok-open.field-0 in interleaved new.fronts.items new.vnodes.items new.last new.recent new.answers.items c.in_ok-open.ensures.run

@@ -1,5 +1,0 @@
-use Rattle.rerun.specs.Turns.{AreHeadsBelow}
-use Rattle.rerun.proofs.turns.heads_of.Given as goal
-
-abbrev pub invariant-loop-index : goal.invariant-loop-index
-invariant-loop-index l = AreHeadsBelow l.journals l.counts l.index l.heads

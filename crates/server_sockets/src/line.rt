@@ -1,0 +1,219 @@
+//! One connection's socket.
+
+ghost use Rattle.std.specs.Prelude.{◌<◌, length, IfOk};
+ghost use Rattle.http_connections.specs.Spoken.{FitsHeard, FitsTold};
+
+use crate::limits::Watch;
+use http_connection::Failed;
+use http_connections::{Heard, Standing, Told};
+use mio::net::TcpStream;
+use mio::{Interest, Registry, Token};
+use std::io::{ErrorKind, Read as _, Write as _};
+use std::mem;
+use std::net::Shutdown;
+
+/// At most so many bytes are read and dropped after the last answer.
+const MOST_DROPPED: usize = 262_144;
+
+/// So many reads of a connection that closes are made at once.
+const MOST_READS: u32 = 64;
+
+/// One of which so many bytes were read and written when it was attended takes its turn behind others, when it is reported next.
+const MUCH: usize = 65_536;
+
+/// What is done with a connection.
+#[derive(Clone, Copy, Debug, PartialEq, Eq)]
+pub(crate) enum Course {
+    /// It is served.
+    Served,
+    /// All was written. What the client still sends is dropped, so many bytes at most.
+    Drains(usize),
+}
+
+/// Whether a connection is over.
+#[derive(Clone, Copy, Debug, PartialEq, Eq)]
+pub(crate) enum Drained {
+    /// More may come.
+    NotYet,
+    /// More may be there.
+    Again,
+    /// It is over.
+    Over,
+}
+
+/// What the next read of a connection may find.
+#[derive(Clone, Copy, Debug, PartialEq, Eq)]
+enum Inflow {
+    /// Bytes may be there.
+    Ready,
+    /// The last read found no more than was there: nothing is, until the socket is reported once more.
+    Dry,
+    /// Its client sends nothing more, or it failed, which is reported once: what is left is read to its end.
+    Closing,
+}
+
+/// One connection's socket.
+#[derive(Drop)]
+pub(crate) struct Line {
+    stream: TcpStream,
+    inflow: Inflow,
+    pub(crate) course: Course,
+    /// For how long its client has kept it waiting.
+    pub(crate) watch: Watch,
+    /// Whether some bytes of its answers were taken since the watch was looked at.
+    pub(crate) has_taken: bool,
+    /// Whether it was not read from, since nothing is read now.
+    pub(crate) is_held: bool,
+    /// Whether it stands among those that are called again.
+    pub(crate) is_called: bool,
+    /// So many bytes were read and written since it was last noted how it stands.
+    moved: usize,
+    /// Whether that was much, when it was noted last.
+    pub(crate) moves_much: bool,
+}
+
+impl Line {
+    pub(crate) fn new(stream: TcpStream, now: u64) -> Line {
+        // Where the system knows none of this, answers are slower.
+        let _ = stream.set_nodelay(true);
+        Line {
+            stream,
+            inflow: Inflow::Ready,
+            course: Course::Served,
+            watch: Watch::new(now),
+            has_taken: false,
+            is_held: false,
+            is_called: false,
+            moved: 0,
+            moves_much: false,
+        }
+    }
+
+    /// Has it reported under a number.
+    pub(crate) fn register(&mut self, registry: &Registry, number: u64) -> Result<(), Failed> {
+        let both = Interest::READABLE | Interest::WRITABLE;
+        let token = Token(number as usize);
+        if registry.register(&mut self.stream, token, both).is_err() {
+            return Err(Failed);
+        }
+        Ok(())
+    }
+
+    /// Has it reported once more, if it is ready.
+    pub(crate) fn register_again(
+        &mut self,
+        registry: &Registry,
+        number: u64,
+    ) -> Result<(), Failed> {
+        let both = Interest::READABLE | Interest::WRITABLE;
+        let token = Token(number as usize);
+        if registry.reregister(&mut self.stream, token, both).is_err() {
+            return Err(Failed);
+        }
+        Ok(())
+    }
+
+    /// It was reported, and whether its client sends nothing more, or it failed.
+    pub(crate) fn report(&mut self, closes: bool) {
+        if closes {
+            self.inflow = Inflow::Closing;
+        } else if self.inflow == Inflow::Dry {
+            self.inflow = Inflow::Ready;
+        }
+    }
+
+    /// Reads some bytes. One that was interrupted is reported once more.
+    pub(crate) fn read(
+        &mut self,
+        registry: &Registry,
+        number: u64,
+        buf: &mut [u8],
+    ) -> Result<Heard, Failed>
+        requires { 0 < length buf.old }
+        ensures fits { IfOk result (FitsHeard (length buf.new)) }
+    {
+        if self.inflow == Inflow::Dry {
+            return Ok(Heard::NotNow);
+        }
+        match self.stream.read(buf) {
+            Ok(0) => Ok(Heard::End),
+            Ok(n) => {
+                if n < buf.len() && self.inflow == Inflow::Ready {
+                    self.inflow = Inflow::Dry;
+                }
+                self.moved = self.moved.saturating_add(n);
+                Ok(Heard::Bytes(n))
+            }
+            Err(error) if error.kind() == ErrorKind::WouldBlock => Ok(Heard::NotNow),
+            Err(error) if error.kind() == ErrorKind::Interrupted => {
+                self.register_again(registry, number)?;
+                Ok(Heard::NotNow)
+            }
+            Err(_) => Err(Failed),
+        }
+    }
+
+    /// Writes some bytes. One that was interrupted is reported once more.
+    pub(crate) fn write(
+        &mut self,
+        registry: &Registry,
+        number: u64,
+        bytes: &[u8],
+    ) -> Result<Told, Failed>
+        requires { 0 < length bytes.now }
+        ensures fits { IfOk result (FitsTold (length bytes.now)) }
+    {
+        match self.stream.write(bytes) {
+            Ok(0) => Err(Failed),
+            Ok(n) => {
+                self.has_taken = true;
+                self.moved = self.moved.saturating_add(n);
+                Ok(Told::Bytes(n))
+            }
+            Err(error) if error.kind() == ErrorKind::WouldBlock => Ok(Told::NotNow),
+            Err(error) if error.kind() == ErrorKind::Interrupted => {
+                self.register_again(registry, number)?;
+                Ok(Told::NotNow)
+            }
+            Err(_) => Err(Failed),
+        }
+    }
+
+    /// It stands so in the hall now, and is read from or not. For the time for which it wasn't its client is not to blame. Answers how many
+    /// bytes were read and written since this was noted last.
+    pub(crate) fn note(&mut self, standing: Standing, reads: bool, now: u64) -> usize {
+        self.watch = self.watch.after(standing, self.has_taken, now);
+        self.has_taken = false;
+        if self.is_held && reads {
+            self.is_held = false;
+            self.watch.since = now;
+        }
+        let moved = mem::replace(&mut self.moved, 0);
+        self.moves_much = moved >= MUCH;
+        moved
+    }
+
+    /// Tells the client that no more comes. Whether what it still sends is to be dropped.
+    pub(crate) fn hang_up(&mut self) -> bool {
+        self.course = Course::Drains(MOST_DROPPED);
+        self.stream.shutdown(Shutdown::Write).is_ok()
+    }
+
+    /// Reads and drops what the client sends.
+    pub(crate) fn drain(&mut self, room: &mut [u8]) -> Drained {
+        for _ in 0..MOST_READS {
+            let Course::Drains(left) = self.course else {
+                return Drained::NotYet;
+            };
+            let most = left.min(room.len());
+            match self.stream.read(&mut room[..most]) {
+                Ok(n) if 0 < n && n < left => self.course = Course::Drains(left - n),
+                Ok(_) => return Drained::Over,
+                Err(error) if error.kind() == ErrorKind::WouldBlock => return Drained::NotYet,
+                Err(error) if error.kind() == ErrorKind::Interrupted => {}
+                Err(_) => return Drained::Over,
+            }
+        }
+        Drained::Again
+    }
+}

@@ -1,0 +1,300 @@
+//! One worker with many connections.
+
+ghost use Rattle.std.specs.Prelude.{◌≡◌, ℕ, None, IfOk};
+ghost use Rattle.http_connections.specs.Sockets.{Sockets as History, unborn};
+ghost use Rattle.server_sockets.specs.Work.{Stays, Works, seats_of, shows};
+
+use crate::inlet::Inlet;
+use crate::orders::{Orders, Stance, Turned};
+use crate::sockets::{Reading, Sockets};
+use http_connection::Backend;
+use http_connections::Hall;
+use mio::{Events, Poll, Token, Waker};
+use std::alloc::Global;
+use std::net::{Net, TcpListener, TcpStream};
+use std::sync::Wait;
+use std::thread::Parker;
+use std::time::Duration;
+use std::{io, mem};
+
+/// At most so many connections are reported for one turn.
+const MOST_EVENTS: usize = 256;
+
+/// Connections that are called again are attended at most so many times in one turn.
+const MOST_CALLED: u32 = 64;
+
+/// They are until so many bytes were read and written.
+const MOST_MOVED: usize = 1_048_576;
+
+/// At most so many connections are seated in one turn.
+const MOST_SEATED: u32 = 256;
+
+/// What is reported where the worker is woken.
+const WAKER: Token = Token(usize::MAX);
+
+/// Clients that are too slow are looked for each so many milliseconds.
+const SWEEP: u64 = 1_000;
+
+/// So many milliseconds a worker rests after its wait failed.
+const REST: u64 = 10;
+
+/// A worker: a hall, its sockets, and the room for what is reported.
+#[derive(Drop)]
+pub struct Worker {
+    alloc: Global,
+    hall: Hall,
+    sockets: Sockets,
+    events: Events,
+    /// The numbers of the connections that were reported.
+    reported: Vec<u64>,
+    /// When clients that are too slow were last looked for.
+    swept: u64,
+    /// Whether each connection was told that it is to end.
+    is_stopping: bool,
+    rest: Parker,
+}
+
+/// A worker without connections, and its inlet. The worker then needs `Wait` alone. The error is the system's, or want of memory.
+pub fn open<R: Net<Listener = TcpListener, Stream = TcpStream>>(
+    alloc: Global,
+    rt: &R,
+) -> io::Result<(Worker, Inlet)>
+    ensures seats { IfOk result (λ made. (n : ℕ) → seats_of made.0 n ≡ None) }
+    ensures shows { IfOk result (λ made. (history : History) → ((n : ℕ) → history n ≡ unborn) → shows made.0 history) }
+{
+    let poll = Poll::new(rt)?;
+    let waker = Waker::new(poll.registry(), WAKER)?;
+    let mut reported = Vec::new(alloc);
+    reported.reserve(MOST_EVENTS)?;
+    let worker = Worker {
+        alloc,
+        hall: Hall::new(alloc)?,
+        sockets: Sockets::new(alloc, poll)?,
+        events: Events::with_capacity(alloc, MOST_EVENTS)?,
+        reported,
+        swept: 0,
+        is_stopping: false,
+        rest: Parker::new(),
+    };
+    Ok((worker, Inlet::new(alloc, waker)))
+}
+
+impl Worker {
+    /// One turn: it waits at most `most` for something to do, seats what was offered, attends the connections that were reported, then some
+    /// of those that had their share before and are called again, and gives up those whose clients are too slow. Each connection has a
+    /// bounded share of it, so that who asks for little waits for nobody who asks for much.
+    pub fn turn<R: Wait, B: Backend>(
+        &mut self,
+        rt: &R,
+        inlet: &Inlet,
+        backend: &mut B,
+        orders: &Orders,
+        most: Duration,
+    ) -> Turned
+        ensures { Works B.gives B.copies self.old self.new backend.old backend.new }
+    {
+        self.sockets.obey(reading(orders), latest(orders.now, most));
+        self.wait(rt, most);
+        self.seat(rt, inlet, orders.stance);
+        self.attend_reported(backend);
+        self.attend_held(backend);
+        self.attend_called(backend);
+        self.stop(orders.stance, backend);
+        self.sockets.end_draining(orders.now);
+        self.give_up_overdue(orders.now);
+        Turned {
+            open: self.sockets.len(),
+            lacks: self.sockets.take_lacks(),
+        }
+    }
+
+    /// Closes the connection that has been idle longest, and tells whether there was one.
+    pub fn shed(&mut self) -> bool
+        ensures { Stays self.old self.new }
+    {
+        match self.sockets.longest_idle() {
+            Some(number) => {
+                self.hall.give_up(number, &mut self.sockets);
+                true
+            }
+            None => false,
+        }
+    }
+
+    // Waits until something is to be done. Where that fails, nothing is reported, and the worker rests.
+    fn wait<R: Wait>(&mut self, rt: &R, most: Duration)
+        ensures { Stays self.old self.new }
+    {
+        if self.sockets.wait(&mut self.events, most).is_err() {
+            self.rest.park_timeout(rt, Duration::from_millis(REST));
+        }
+        note_reported(&self.events, &mut self.sockets, &mut self.reported);
+    }
+
+    // Seats the connections that were offered. Where more were than one turn takes, the next one doesn't wait.
+    fn seat<R: Wait>(&mut self, rt: &R, inlet: &Inlet, stance: Stance)
+        ensures { Stays self.old self.new }
+    {
+        for _ in 0..MOST_SEATED {
+            let Some(stream) = inlet.take(rt) else {
+                return;
+            };
+            if stance != Stance::Stopping {
+                self.sockets.offer(stream);
+                // One that fails ends alone.
+                let _ = self.hall.admit(&mut self.sockets);
+            }
+        }
+        inlet.wake();
+    }
+
+    // Attends the connections that were reported.
+    fn attend_reported<B: Backend>(&mut self, backend: &mut B)
+        ensures { Works B.gives B.copies self.old self.new backend.old backend.new }
+    {
+        let reported = mem::replace(&mut self.reported, Vec::new(self.alloc));
+        self.attend_all(&reported, backend);
+        self.reported = reported;
+    }
+
+    // Attends the connections that were held and are not any more.
+    fn attend_held<B: Backend>(&mut self, backend: &mut B)
+        ensures { Works B.gives B.copies self.old self.new backend.old backend.new }
+    {
+        let held = self.sockets.take_held();
+        self.attend_all(&held, backend);
+    }
+
+    // Attends some connections.
+    fn attend_all<B: Backend>(&mut self, numbers: &[u64], backend: &mut B)
+        ensures { Works B.gives B.copies self.old self.new backend.old backend.new }
+    {
+        for number in numbers {
+            self.attend(*number, backend);
+        }
+    }
+
+    // Attends connections that are called again, in turn: so many times in all, or until much was read and written.
+    fn attend_called<B: Backend>(&mut self, backend: &mut B)
+        ensures { Works B.gives B.copies self.old self.new backend.old backend.new }
+    {
+        let mut moved = 0usize;
+        for _ in 0..MOST_CALLED {
+            if moved >= MOST_MOVED {
+                return;
+            }
+            match self.attend_next(backend) {
+                Some(more) => moved = moved.saturating_add(more),
+                None => return,
+            }
+        }
+    }
+
+    // Attends the connection that is called again and whose turn it is. Answers how many bytes of it were read and written.
+    fn attend_next<B: Backend>(&mut self, backend: &mut B) -> Option<usize>
+        ensures { Works B.gives B.copies self.old self.new backend.old backend.new }
+    {
+        match self.sockets.next_called() {
+            Some(number) => Some(self.attend(number, backend)),
+            None => None,
+        }
+    }
+
+    // Attends a connection. Answers how many bytes of it were read and written.
+    fn attend<B: Backend>(&mut self, number: u64, backend: &mut B) -> usize
+        ensures { Works B.gives B.copies self.old self.new backend.old backend.new }
+    {
+        self.hall.attend(number, &mut self.sockets, backend);
+        match self.hall.standing(number) {
+            Some(standing) => self.sockets.note(number, standing),
+            None => {
+                self.sockets.drain(number);
+                0
+            }
+        }
+    }
+
+    // Attends all connections, where the worker stops and that was not done since, so that each closes as soon as its answers are written.
+    fn stop<B: Backend>(&mut self, stance: Stance, backend: &mut B)
+        ensures { Works B.gives B.copies self.old self.new backend.old backend.new }
+    {
+        if self.is_stopping || stance != Stance::Stopping {
+            return;
+        }
+        self.is_stopping = true;
+        self.attend_each(backend);
+    }
+
+    // Attends all connections, once.
+    fn attend_each<B: Backend>(&mut self, backend: &mut B)
+        ensures { Works B.gives B.copies self.old self.new backend.old backend.new }
+    {
+        let mut from = 0;
+        for _ in 0..self.sockets.len() {
+            let Some(number) = self.sockets.first_from(from) else {
+                return;
+            };
+            self.attend(number, backend);
+            from = number.saturating_add(1);
+        }
+    }
+
+    // Gives up the connections whose clients are too slow, where they were not looked for lately.
+    fn give_up_overdue(&mut self, now: u64)
+        ensures { Stays self.old self.new }
+    {
+        if now.saturating_sub(self.swept) < SWEEP {
+            return;
+        }
+        self.swept = now;
+        self.sweep(now);
+    }
+
+    // Gives up the connections whose clients are too slow.
+    fn sweep(&mut self, now: u64)
+        ensures { Stays self.old self.new }
+    {
+        let mut from = 0;
+        for _ in 0..self.sockets.len() {
+            let Some(number) = self.sockets.first_overdue(from, now) else {
+                return;
+            };
+            self.hall.give_up(number, &mut self.sockets);
+            from = number.saturating_add(1);
+        }
+    }
+}
+
+// Keeps the numbers of the connections that were reported and are attended at once, and what was reported of each.
+fn note_reported(events: &Events, sockets: &mut Sockets, reported: &mut Vec<u64>)
+    ensures next { sockets.new.next ≡ sockets.old.next }
+{
+    reported.clear();
+    for event in events {
+        let Token(number) = event.token();
+        let closes = event.is_read_closed() || event.is_error();
+        if sockets.report(number as u64, closes) {
+            // There is room for each: so many are reported at the most.
+            let _ = reported.push(number as u64);
+        }
+    }
+}
+
+// Whether connections are read from.
+fn reading(orders: &Orders) -> Reading {
+    match orders.stance {
+        Stance::Stopping => Reading::Over,
+        Stance::Serving | Stance::Finishing => {
+            if orders.may_read {
+                Reading::Allowed
+            } else {
+                Reading::Held
+            }
+        }
+    }
+}
+
+// The time at which a wait of at most so long has ended.
+fn latest(now: u64, most: Duration) -> u64 {
+    now.saturating_add(u64::try_from(most.as_millis()).unwrap_or(u64::MAX))
+}

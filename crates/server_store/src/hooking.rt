@@ -1,0 +1,105 @@
+//! The calls on the store's hooks.
+
+ghost use Rattle.std.specs.Prelude.{◌≡◌, ◌++◌, IfOk, OnOk};
+ghost use Rattle.server_store.specs.Changes.{Installs, Removes, Names, Binds, bindings_of, binding_of};
+ghost use Rattle.server_store.specs.View.{shown};
+
+use crate::store::Store;
+use bpf_admission::{Refusal, admit_image};
+use bpf_image::ImageKind;
+use hook_registry::{HookChanges, HookFault, Hooks, NameFault};
+use http_request::Change;
+use key_state::Bytes;
+use std::alloc::{AllocError, Global};
+use std::sync::Arc;
+
+impl<P, H: HookChanges> Store<P, H> {
+    /// Installs the hook of an image under a name, in place of the one that had it.
+    ///
+    /// Refused as [`admit_image`] refuses the image, `NoMemory` too where memory lacks here.
+    pub fn install(&mut self, name: &Bytes, image: &[u8]) -> Result<(), Refusal>
+        ensures { Installs H.takes (shown self.old.peers self.old.hooking.hooks self.old.hooking.table.listed self.old.placement self.old.noted.kinds) name.now image.now result (shown self.new.peers self.new.hooking.hooks self.new.hooking.table.listed self.new.placement self.new.noted.kinds) }
+    {
+        let verified = match admit_image(self.alloc, image, &self.hooking.table.listed) {
+            Ok(verified) => verified,
+            Err(refusal) => return Err(refusal),
+        };
+        let Ok(program) = Arc::new(self.alloc, verified) else {
+            return Err(Refusal::NoMemory);
+        };
+        let Ok(name) = name.copy() else {
+            return Err(Refusal::NoMemory);
+        };
+        match self.hooking.hooks.install(name, program) {
+            Ok(()) => Ok(()),
+            Err(_) => Err(Refusal::NoMemory),
+        }
+    }
+
+    /// Takes a name from its hook. What is bound to the name stays bound to it.
+    ///
+    /// `NameUnknown` where no hook has the name.
+    pub fn remove(&mut self, name: &Bytes) -> Result<(), HookFault>
+        ensures { Removes H.takes (shown self.old.peers self.old.hooking.hooks self.old.hooking.table.listed self.old.placement self.old.noted.kinds) name.now result (shown self.new.peers self.new.hooking.hooks self.new.hooking.table.listed self.new.placement self.new.noted.kinds) }
+    {
+        self.hooking.hooks.remove(name)
+    }
+
+    /// Changes which hooks are bound to a bucket, both or none.
+    ///
+    /// `NameUnknown` where a name has no hook; `KindDiffers` where each has one, and one of them is of another kind.
+    pub fn bind(
+        &mut self,
+        bucket: &Bytes,
+        precommit: &Change,
+        resolver: &Change,
+    ) -> Result<(), HookFault>
+        ensures { Binds H.takes (shown self.old.peers self.old.hooking.hooks self.old.hooking.table.listed self.old.placement self.old.noted.kinds) bucket.now precommit.now resolver.now result (shown self.new.peers self.new.hooking.hooks self.new.hooking.table.listed self.new.placement self.new.noted.kinds) }
+    {
+        match bindings_of(self.alloc, precommit, resolver) {
+            Ok(bindings) => self.hooking.hooks.bind(bucket, &bindings),
+            Err(_) => Err(HookFault::NoMemory),
+        }
+    }
+}
+
+impl<P, H: Hooks> Store<P, H> {
+    /// The name of the hook that is bound to a bucket and a kind.
+    pub fn bound(&mut self, bucket: &Bytes, kind: ImageKind) -> Result<Option<Bytes>, NameFault>
+        ensures { Names H.names (shown self.old.peers self.old.hooking.hooks self.old.hooking.table.listed self.old.placement self.old.noted.kinds) bucket.now kind result (shown self.new.peers self.new.hooking.hooks self.new.hooking.table.listed self.new.placement self.new.noted.kinds) }
+    {
+        self.hooking.hooks.bound(bucket, kind)
+    }
+}
+
+// The bindings that changes of both kinds make.
+fn bindings_of(
+    alloc: Global,
+    precommit: &Change,
+    resolver: &Change,
+) -> Result<Vec<(ImageKind, Option<Bytes>)>, AllocError>
+    ensures { IfOk result (λ bindings. bindings.items ≡ bindings_of precommit.now resolver.now) }
+{
+    let mut bindings = Vec::new(alloc);
+    push_binding(&mut bindings, ImageKind::PreCommit, precommit)?;
+    push_binding(&mut bindings, ImageKind::Resolver, resolver)?;
+    Ok(bindings)
+}
+
+// Adds the binding that a change of one kind makes, if any.
+fn push_binding(
+    bindings: &mut Vec<(ImageKind, Option<Bytes>)>,
+    kind: ImageKind,
+    change: &Change,
+) -> Result<(), AllocError>
+    ensures { OnOk result (bindings.new.items ≡ bindings.old.items ++ binding_of kind change.now) }
+{
+    match change {
+        Change::Kept => Ok(()),
+        Change::Unbound => Ok(bindings.push((kind, None))?),
+        Change::Bound(name) => {
+            let name = name.copy()?;
+            Ok(bindings.push((kind, Some(name)))?)
+        }
+    }
+}

@@ -1,6 +1,0 @@
-use Rattle.shared_hooks.specs.Lists.{list_of}
-use Rattle.shared_hook_trials.proofs.tests.sharing.installer_and_workers.Given as goal
-
--- the list's own name
-abbrev pub ghosts-under_a_name : goal.ghosts-under_a_name
-ghosts-under_a_name g a = record { book = list_of a.opening }

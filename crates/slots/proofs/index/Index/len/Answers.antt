@@ -1,7 +1,0 @@
-use Rattle.std.proofs.Common.{ap, length, sym, ◌∙◌}
-use Rattle.slots.specs.Slots.{Indexed}
-use Rattle.slots.proofs.Hashes.{length_hashes}
-use Rattle.slots.proofs.index.Index.len.Goals as goal
-
-pub returns : goal.returns
-returns c = sym (length_hashes c.self.inside.slots.items c.self.inside.len) ∙ ap (λ (seen : Indexed). length seen.hashes) c.self.view_is

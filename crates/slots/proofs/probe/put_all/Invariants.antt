@@ -1,6 +1,0 @@
-use Rattle.std.proofs.Common.{◌≡◌, take}
-use Rattle.slots.specs.Slots.{taken, Rehashes}
-use Rattle.slots.proofs.probe.put_all.Given as goal
-
-abbrev pub invariant-loop-slot : goal.invariant-loop-slot
-invariant-loop-slot l = record { all : Rehashes l.from l.to l.slot-index; taken : taken l.to ≡ taken (take l.slot-index l.from) }

@@ -1,6 +1,0 @@
-use Rattle.std.proofs.Common.{◌≡◌}
-use Rattle.sockets.proofs.sockets.Sockets.look.Given as goal
-
--- no number is given
-abbrev pub invariant-loop : goal.invariant-loop
-invariant-loop l = l.self.next ≡ l.initial.self.next

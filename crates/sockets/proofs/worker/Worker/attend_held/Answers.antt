@@ -1,6 +1,0 @@
-use Rattle.std.proofs.Common.{ℕ, sym, subst}
-use Rattle.sockets.specs.Shows.{Shows}
-use Rattle.sockets.proofs.worker.Worker.attend_held.Goals as goal
-
-pub returns : goal.returns
-returns g c = (c.attend_all.ensures.0, λ log s shown all. c.attend_all.ensures.1 log s (subst (λ (k : ℕ). Shows k s) (sym c.take_held-held.ensures.next) shown) all)

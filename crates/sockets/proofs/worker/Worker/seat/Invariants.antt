@@ -1,6 +1,0 @@
-use Rattle.sockets.specs.Work.{Stays}
-use Rattle.sockets.proofs.worker.Worker.seat.Given as goal
-
--- those before have their seats
-abbrev pub invariant-loop : goal.invariant-loop
-invariant-loop g l = Stays l.initial.self l.self

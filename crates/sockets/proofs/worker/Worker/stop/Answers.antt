@@ -1,5 +1,0 @@
-use Rattle.sockets.proofs.WorkLemmas.{works_same}
-use Rattle.sockets.proofs.worker.Worker.stop.Goals as goal
-
-pub returns-then-self : goal.returns-then-self
-returns-then-self g c = works_same g.B.Backend.gives g.B.Backend.copies c.args.self.now c.args.backend.now

@@ -1,6 +1,0 @@
-use Rattle.std.specs.Prelude.{◌≡◌}
-use Rattle.sockets.proofs.worker.note_reported.Given as goal
-
--- no connection came
-abbrev pub invariant-loop-event : goal.invariant-loop-event
-invariant-loop-event l = l.sockets.next ≡ l.initial.sockets.next

@@ -1,5 +1,0 @@
-use Rattle.store.specs.Gives.{gets}
-use Rattle.store.proofs.backend.StoreBackend.get.Goals as goal
-
-pub returns : goal.returns
-returns g c = gets _ _ _ _ c.get.ensures

@@ -1,5 +1,0 @@
-use Rattle.store.specs.Gives.{puts}
-use Rattle.store.proofs.backend.StoreBackend.put.Goals as goal
-
-pub returns : goal.returns
-returns g c = puts _ _ _ _ _ _ c.put.ensures

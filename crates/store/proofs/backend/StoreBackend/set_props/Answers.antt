@@ -1,5 +1,0 @@
-use Rattle.store.specs.Gives.{binds}
-use Rattle.store.proofs.backend.StoreBackend.set_props.Goals as goal
-
-pub returns : goal.returns
-returns g c = binds _ _ _ _ c.bind.ensures

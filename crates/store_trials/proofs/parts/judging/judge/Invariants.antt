@@ -1,8 +1,0 @@
-use Rattle.world.specs.Represents.{AreDistinct}
-use Rattle.rerun.specs.Interleaved.{ids_of}
-use Rattle.rerun.specs.Rerun.{AreJournals}
-use Rattle.store_trials.proofs.parts.judging.judge.Given as goal
-
--- the journals so far are those of vnodes with different identifiers
-abbrev pub invariant-loop-vnode : goal.invariant-loop-vnode
-invariant-loop-vnode l = record { distinct : AreDistinct (ids_of l.journals.items); legal : AreJournals l.journals.items }

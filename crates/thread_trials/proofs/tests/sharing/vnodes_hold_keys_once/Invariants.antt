@@ -1,5 +1,0 @@
-use Rattle.thread_trials.proofs.tests.sharing.vnodes_hold_keys_once.Given as goal
-
--- the word's own table
-abbrev pub ghosts-by_one_pass : goal.ghosts-by_one_pass
-ghosts-by_one_pass g a = record { table = a.stamps.table.shared.table_id }

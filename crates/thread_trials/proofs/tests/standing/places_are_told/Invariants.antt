@@ -1,5 +1,0 @@
-use Rattle.thread_trials.proofs.tests.standing.places_are_told.Given as goal
-
--- the word's own table
-abbrev pub ghosts-by_one_pass : goal.ghosts-by_one_pass
-ghosts-by_one_pass g a = record { table = a.stamps.table.shared.table_id }

@@ -1,5 +1,0 @@
-use Rattle.std.proofs.Common.{length}
-use Rattle.verifier.proofs.cells.+reads_numbers.Given as goal
-
-abbrev pub decreases-reads_numbers : goal.decreases-reads_numbers
-decreases-reads_numbers l = length l.rules.now

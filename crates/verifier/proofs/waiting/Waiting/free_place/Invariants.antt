@@ -1,5 +1,0 @@
-use Rattle.verifier.specs.Waiting.{AreOwned}
-use Rattle.verifier.proofs.waiting.Waiting.free_place.Given as goal
-
-abbrev pub invariant-loop-place : goal.invariant-loop-place
-invariant-loop-place g l = AreOwned l.self.held.items l.place

@@ -1,6 +1,0 @@
--- The program of an image and the Sigs that are kept beside it.
-use Rattle.verifier.specs.Program.{Program, program_of}
-use Rattle.verifier.specs.declared.candidate.Candidate.{Candidate}
-
-abbrev pub program_in : Candidate → Program
-program_in candidate = program_of candidate.image candidate.sigs

@@ -1,5 +1,0 @@
-use Rattle.calls.specs.Answered.{asked}
-use Rattle.vnode_locks.proofs.locked.Locked.make.Given as goal
-
-abbrev pub ghosts-ask : goal.ghosts-ask
-ghosts-ask g a = record { request = asked a.prepared }

@@ -1,5 +1,0 @@
-use Rattle.wire.proofs.Frames.{one_spelling}
-use Rattle.wire.proofs.laws.no_spelling_begins_another.Goals as goal
-
-pub returns : goal.returns
-returns c = one_spelling

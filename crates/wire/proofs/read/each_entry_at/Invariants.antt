@@ -1,7 +1,0 @@
-use Rattle.std.proofs.Common.{◌≡◌, ◌-◌}
-use Rattle.wire.specs.Reading.{chain_at, dot_at, next_entry}
-use Rattle.wire.proofs.Chains.{with_front}
-use Rattle.wire.proofs.read.each_entry_at.Given as goal
-
-abbrev pub invariant-loop : goal.invariant-loop
-invariant-loop l = with_front l.entries.items (chain_at dot_at next_entry (l.count - l.counter) l.bound l.rest) ≡ chain_at dot_at next_entry l.count 0 l.bytes

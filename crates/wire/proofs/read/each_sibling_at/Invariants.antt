@@ -1,7 +1,0 @@
-use Rattle.std.proofs.Common.{◌≡◌, ◌-◌}
-use Rattle.wire.specs.Reading.{chain_at, next_sibling, no_dot, sibling_at}
-use Rattle.wire.proofs.Chains.{with_front}
-use Rattle.wire.proofs.read.each_sibling_at.Given as goal
-
-abbrev pub invariant-loop : goal.invariant-loop
-invariant-loop l = with_front l.siblings.items (chain_at sibling_at (next_sibling l.clock) (l.count - l.counter) l.last l.rest) ≡ chain_at sibling_at (next_sibling l.clock) l.count no_dot l.bytes

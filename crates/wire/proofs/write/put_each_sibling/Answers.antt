@@ -1,6 +1,0 @@
-use Rattle.wire.specs.Records.{sibling}
-use Rattle.wire.proofs.Sizes.{adds_one}
-use Rattle.wire.proofs.write.put_each_sibling.Goals as goal
-
-pub loop-one-preserved : goal.loop-one-preserved
-loop-one-preserved c = adds_one sibling c.args.out.now.items c.loop-one.out.items _ c.args.all.now c.loop-one.one-index c.one-item.result c.loop-one-test.true c.one-item.is c.loop-one.invariant c.in_ok-put_sibling.ensures
