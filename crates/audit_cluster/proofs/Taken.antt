@@ -11,9 +11,9 @@ use Rattle.std.proofs.lemmas.List.Elements.{filter-append, All-append, All-cons,
 use Rattle.journal.specs.Blocks.{all_of}
 use Rattle.journal.specs.Entry.{Entry}
 use Rattle.journal.specs.Logs.{Log}
-use Rattle.calls.specs.declared.request.Reply.{Reply}
-use Rattle.calls.specs.declared.request.Request.{Request}
-use Rattle.calls.specs.declared.request.Request.TheVariants as request
+use Rattle.cluster_stamps.specs.declared.request.Reply.{Reply}
+use Rattle.cluster_stamps.specs.declared.request.Request.{Request}
+use Rattle.cluster_stamps.specs.declared.request.Request.TheVariants as request
 use Rattle.cluster_stamps.specs.Rule.{call_of, hand_out_of}
 use Rattle.cluster_stamps.specs.declared.view.News.{News}
 use Rattle.cluster_stamps.specs.declared.view.News.TheVariants as news

@@ -1,6 +1,6 @@
 -- What is said of the journals of a gathered cluster that was followed while it served (this store's profile).
 use Rattle.std.specs.Prelude.{◌≡◌, ◌<◌, ◌≤◌, ◌+◌, ◌*◌, ◌⊎◌, ◌&&◌, ◌==◌, ℕ, Bool, true, false, IsTrue, List, [], ◌∷◌, ◌++◌, All, drop, filter, length, Some, None, Result, Ok, Err}
-use Rattle.calls.specs.declared.request.Request.TheVariants as request
+use Rattle.cluster_stamps.specs.declared.request.Request.TheVariants as request
 use Rattle.journal.specs.Entry.{Entry}
 use Rattle.journal.specs.Logs.{Log}
 use Rattle.cluster_stamps.specs.declared.view.News.{News}

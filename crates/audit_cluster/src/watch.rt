@@ -9,8 +9,8 @@ ghost use Rattle.audit_cluster.specs.Following.{AreRestarts, IsTakenMore, IsTold
 
 use audit_faults::{TakeFault, WatchFault};
 use audit_follower::{Follower, Recent};
-use calls::Request;
 use cluster::{Cluster, Open, Pass, Room};
+use cluster_stamps::Request;
 use journal::{BLOCK, Entry, Handout};
 use std::alloc::{AllocError, Global};
 use std::marker::{Brand, Model};

@@ -2,15 +2,14 @@
 ghost use Rattle.std.specs.Prelude.{◌≡◌, ℕ, ◌+◌, ◌<◌, ◌≤◌, ◌^◌, [], map, IfOk, IfErr, IfSome, IfNone, OnOk, vec_len};
 ghost use Rattle.std.specs.List.{flat_map, All, Contains};
 ghost use Rattle.ring.specs.Places.{ring_place};
-ghost use Rattle.calls.specs.Answered.{asked};
+ghost use Rattle.cluster_stamps.specs.Answered.{asked};
 ghost use Rattle.cluster_stamps.specs.declared.view.Told.{Told};
 ghost use Rattle.cluster_stamps.specs.Rule.{newcomer, times, call_of};
 ghost use Rattle.cluster_vnode.specs.Gathers.{IsGathered, AreCounted, Stands, Differ, journal_stamps};
 ghost use Rattle.cluster_vnode.specs.GatherFaults.{IsGatherFault};
 ghost use Rattle.cluster_vnode.specs.Calls.{pass_view, IsNews, IsFault, IsHandedOut, AreKeysOf, AreUnsortedOf, outcome_ok};
 
-use calls::{Prepared, Reply, Request};
-use cluster_stamps::{Card, STAMPS_EACH, Stamps};
+use cluster_stamps::{Card, Prepared, Reply, Request, STAMPS_EACH, Stamps};
 use cluster_vnode::{
     CallFault, GatherFault, Locked, Pass, Receipt, Room, deal_passes, deal_vnodes, gathered,
 };

@@ -1,8 +1,8 @@
 -- What a part came to at the vnodes of a cluster.
 use Rattle.std.proofs.Common.{◌≡◌, ◌<◌, ◌+◌, ℕ, Bool, Result, Ok, Err, sym, subst, inr}
 use Rattle.key_state.specs.State.{State}
-use Rattle.calls.specs.declared.request.Reply.TheVariants.{Built}
-use Rattle.calls.specs.declared.request.Request.{Request}
+use Rattle.cluster_stamps.specs.declared.request.Reply.TheVariants.{Built}
+use Rattle.cluster_stamps.specs.declared.request.Request.{Request}
 use Rattle.peers.specs.declared.fault.PeerFault.{PeerFault}
 use Rattle.peers.specs.declared.fault.PeerFault.TheVariants.{Lost, Refused}
 use Rattle.peers.specs.declared.peers.PartAnswer.{PartAnswer}

@@ -6,10 +6,10 @@ use Rattle.key_state.specs.declared.content.Key.{Key}
 use Rattle.key_state.specs.State.{State}
 use Rattle.vnode.specs.declared.fault.VnodeFault.{VnodeFault}
 use Rattle.vnode.specs.declared.fault.VnodeFault.TheVariants.{NoMemory}
-use Rattle.calls.specs.declared.request.Reply.{Reply}
-use Rattle.calls.specs.declared.request.Reply.TheVariants as reply
-use Rattle.calls.specs.declared.request.Request.{Request}
-use Rattle.calls.specs.declared.request.Request.TheVariants as request
+use Rattle.cluster_stamps.specs.declared.request.Reply.{Reply}
+use Rattle.cluster_stamps.specs.declared.request.Reply.TheVariants as reply
+use Rattle.cluster_stamps.specs.declared.request.Request.{Request}
+use Rattle.cluster_stamps.specs.declared.request.Request.TheVariants as request
 use Rattle.peers.specs.declared.peers.Answer.{Answer}
 use Rattle.peers.specs.declared.peers.SummaryAnswer.{SummaryAnswer}
 use Rattle.peers.specs.declared.peers.PartAnswer.{PartAnswer}

@@ -1,15 +1,15 @@
 //! The vnodes of a cluster as peers, by one pass.
 
 ghost use Rattle.std.specs.Prelude.{◌≡◌, ◌≢◌, IfSome, Ok, Err, ◌^◌, ◌-◌, ◌+◌, min, if◌then◌else◌};
-ghost use Rattle.calls.specs.declared.request.Request.TheVariants as request;
+ghost use Rattle.cluster_stamps.specs.declared.request.Request.TheVariants as request;
 ghost use Rattle.ring.specs.Places.{ring_place};
 ghost use Rattle.peers.specs.declared.fault.PeerFault.TheVariants.{Lost, Refused};
 ghost use Rattle.peers.specs.declared.peers.PartAnswer.TheVariants.{Missing};
 ghost use Rattle.cluster_vnode.specs.declared.fault.CallFault.{CallFault};
 ghost use Rattle.cluster_peers.specs.Peering.{IsPut, IsMerge, IsRead, IsSummary, IsPart, IsKeys, MatchCall};
 
-use calls::{Prepared, Reply};
 use cluster::{CallFault, Cluster, Gate, Pass, Room};
+use cluster_stamps::{Prepared, Reply};
 use dvv::{Clock, Dot};
 use key_state::{Content, Key, KeyState, Part};
 use peers::{Answer, PartAnswer, PeerFault, Peers, SummaryAnswer};

@@ -6,10 +6,10 @@ use mathlib.Core.Option.{some}
 use lib.ListN.{get_elem?}
 use Rattle.atomic_table.specs.Table.{State}
 use Rattle.vnode.specs.declared.fault.PartFault.{PartFault}
-use Rattle.calls.specs.declared.request.Request.{Request}
-use Rattle.calls.specs.declared.request.Request.TheVariants as request
-use Rattle.calls.specs.declared.request.Reply.{Reply}
-use Rattle.calls.specs.declared.request.Reply.TheVariants as reply
+use Rattle.cluster_stamps.specs.declared.request.Request.{Request}
+use Rattle.cluster_stamps.specs.declared.request.Request.TheVariants as request
+use Rattle.cluster_stamps.specs.declared.request.Reply.{Reply}
+use Rattle.cluster_stamps.specs.declared.request.Reply.TheVariants as reply
 use Rattle.journal.specs.Entry.{Entry}
 use Rattle.cluster_stamps.specs.declared.view.News.{News}
 use Rattle.cluster_stamps.specs.declared.view.News.TheVariants as news

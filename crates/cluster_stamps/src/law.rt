@@ -36,7 +36,7 @@ impl Play<(), View> for Forget {
 
 /// Names one request. Each call that has a request told picks it, so that no value of it has to be at hand.
 pub trait Asking {
-    ghost use Rattle.calls.specs.declared.request.Request.{Request};
+    ghost use Rattle.cluster_stamps.specs.declared.request.Request.{Request};
 
     ghost request: { Request };
 }

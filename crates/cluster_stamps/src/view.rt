@@ -1,6 +1,6 @@
 //! What a seat of the stamp word knows. No value of these types is made, but Size.
 
-use calls::{Reply, Request};
+use crate::{Reply, Request};
 use journal::Entry;
 use std::collections::LinkedList;
 use vnode::PartFault;

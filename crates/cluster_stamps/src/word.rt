@@ -5,13 +5,13 @@ ghost use Rattle.cluster_stamps.specs.declared.view.History.{History};
 ghost use Rattle.cluster_stamps.specs.Rule.{newcomer, drew, dropped, learned, IsWithin, IsWhole, TellsOf, AppendsOf, Settles, Looks, nothing, together, without_pass, pass_of, less_one, one_part, less_history, first_history, stamps_each, entries, IsSound, call_of, hand_out_of};
 ghost use Rattle.journal.specs.Blocks.{all_of};
 
+use crate::Reply;
 use crate::law::{
     All, Append, Asking, Blank, Both, Draw, FirstHistory, Forget, Law, Look, Naming, Note, OnePart,
     PassOff, Settle,
 };
 use crate::view::{Size, View};
 use atomic_table::{Seat, Table};
-use calls::Reply;
 use journal::Handout;
 use std::alloc::{AllocError, Global};
 use std::marker::Brand;

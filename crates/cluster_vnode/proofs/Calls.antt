@@ -8,9 +8,9 @@ use Rattle.std.specs.Prelude.{IfOk}
 use Rattle.vnode.specs.Keys.{AreUnsorted}
 use Rattle.vnode.specs.Names.{Listed}
 use Rattle.vnode.specs.declared.fault.PartFault.{PartFault}
-use Rattle.calls.specs.declared.request.Reply.{Reply}
-use Rattle.calls.specs.declared.request.Request.{Request}
-use Rattle.calls.specs.Answered.{made, with_made}
+use Rattle.cluster_stamps.specs.declared.request.Reply.{Reply}
+use Rattle.cluster_stamps.specs.declared.request.Request.{Request}
+use Rattle.cluster_stamps.specs.Answered.{made, with_made}
 use Rattle.cluster_stamps.specs.declared.view.News.{News}
 use Rattle.cluster_stamps.specs.declared.view.News.TheVariants as news
 use Rattle.cluster_stamps.specs.declared.view.Told.{Told}

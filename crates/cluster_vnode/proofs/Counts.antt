@@ -17,10 +17,10 @@ use Rattle.cluster_stamps.proofs.Known.{ordered_at}
 use Rattle.cluster_stamps.proofs.Orders.{map_append}
 use Rattle.journal.specs.Entry.{Entry}
 use Rattle.journal.specs.Logs.{Log}
-use Rattle.calls.specs.declared.request.Reply.{Reply}
-use Rattle.calls.specs.declared.request.Request.{Request}
-use Rattle.calls.specs.declared.request.Request.TheVariants as request
-use Rattle.calls.specs.Answered.{entry_of}
+use Rattle.cluster_stamps.specs.declared.request.Reply.{Reply}
+use Rattle.cluster_stamps.specs.declared.request.Request.{Request}
+use Rattle.cluster_stamps.specs.declared.request.Request.TheVariants as request
+use Rattle.cluster_stamps.specs.Answered.{entry_of}
 use Rattle.cluster_vnode.specs.Answers.{entries_of, entries_made}
 use Rattle.journal.specs.Stamps.{stamp_of}
 use Rattle.cluster_vnode.specs.Gathers.{AreVnodes, receipts_of, AreCounted, journal_stamps}

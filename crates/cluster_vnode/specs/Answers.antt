@@ -6,8 +6,8 @@ use Rattle.vnode.specs.declared.fault.PartFault.{PartFault}
 use Rattle.vnode.specs.declared.fault.PartFault.TheVariants.{Missing, Refused}
 use Rattle.vnode.specs.declared.fault.VnodeFault.{VnodeFault}
 use Rattle.vnode.specs.declared.fault.VnodeFault.TheVariants.{ContextAhead, TooManySiblings, ClockFull, MergedClockFull, JournalFull, NoMemory}
-use Rattle.calls.specs.declared.request.Reply.{Reply}
-use Rattle.calls.specs.Answered.{IsOutcome, made}
+use Rattle.cluster_stamps.specs.declared.request.Reply.{Reply}
+use Rattle.cluster_stamps.specs.Answered.{IsOutcome, made}
 use Rattle.cluster_stamps.specs.declared.view.News.{News}
 use Rattle.cluster_stamps.specs.declared.view.News.TheVariants as news
 use Rattle.cluster_stamps.specs.declared.view.Told.{Told}

@@ -9,8 +9,8 @@ use Rattle.key_state.specs.declared.content.Key.{Key}
 use Rattle.vnode.specs.Keys.{AreKeys, AreUnsorted}
 use Rattle.vnode.specs.declared.fault.PartFault.{PartFault}
 use Rattle.vnode.specs.declared.fault.PartFault.TheVariants as part
-use Rattle.calls.specs.declared.request.Reply.{Reply}
-use Rattle.calls.specs.declared.request.Request.{Request}
+use Rattle.cluster_stamps.specs.declared.request.Reply.{Reply}
+use Rattle.cluster_stamps.specs.declared.request.Request.{Request}
 use Rattle.cluster_stamps.specs.Rule.{IsWithin, stamps_each, hand_out_of}
 use Rattle.cluster_stamps.specs.declared.view.News.TheVariants as news
 use Rattle.cluster_stamps.specs.declared.view.Size.{Size}

@@ -8,14 +8,13 @@ ghost use Rattle.journal.specs.Entry.{Entry as Entered};
 ghost use Rattle.journal.specs.Journals.{IsJournal};
 ghost use Rattle.vnode.specs.Keys.{AreUnsorted};
 ghost use Rattle.ring.specs.Places.{ring_place};
-ghost use Rattle.calls.specs.Answered.{asked};
+ghost use Rattle.cluster_stamps.specs.Answered.{asked};
 ghost use Rattle.cluster_vnode.specs.Answers.{IsVnodes, wants_memory, lacks_memory, log_of};
 ghost use Rattle.cluster_vnode.specs.Calls.{pass_view, told_then, IsTold, IsNews, IsFault, IsHandedOut, outcome_ok};
 
 use crate::fault::{CallFault, Receipt};
 use crate::pass::{Pass, Room};
-use calls::{Prepared, Reply, answer};
-use cluster_stamps::{Asking, Card, Stamps};
+use cluster_stamps::{Asking, Card, Prepared, Reply, Stamps, answer};
 use journal::{Entry, Handout};
 use key_state::Key;
 use std::alloc::AllocError;

@@ -1,7 +1,7 @@
 -- What a pass is told while a vnode takes records over.
 use Rattle.std.specs.Prelude.{◌≡◌, ℕ, ◌+◌, Bool, List, [], ◌∷◌, ◌++◌, length}
-use Rattle.calls.specs.declared.request.Request.TheVariants as request
-use Rattle.calls.specs.declared.request.Reply.TheVariants as reply
+use Rattle.cluster_stamps.specs.declared.request.Request.TheVariants as request
+use Rattle.cluster_stamps.specs.declared.request.Reply.TheVariants as reply
 use Rattle.cluster_stamps.specs.Rule.{call_of}
 use Rattle.cluster_stamps.specs.declared.view.Told.{Told}
 use Rattle.cluster_stamps.specs.declared.view.View.{View}

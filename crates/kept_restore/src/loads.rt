@@ -4,8 +4,8 @@ ghost use Rattle.std.specs.Prelude.{◌+◌, ◌<◌, IfOk, OnOk};
 ghost use Rattle.kept_restore.specs.Loads.{HasLoaded, IsMerged};
 
 use crate::fault::LoadFault;
-use calls::{Prepared, Reply};
 use cluster::{CallFault, Cluster, Open, Pass, Room};
+use cluster_stamps::{Prepared, Reply};
 use record_codec::Record;
 use std::alloc::Global;
 use std::sync::Wait;

@@ -21,7 +21,7 @@ use Rattle.peers.specs.declared.fault.PeerFault.TheVariants.{Lost, Refused}
 use Rattle.peers.specs.declared.peers.Answer.{Answer}
 use Rattle.peers.specs.declared.peers.PartAnswer.TheVariants.{Merged, Missing}
 use Rattle.quorum.specs.declared.fault.QuorumFault.{QuorumFault}
-use Rattle.calls.specs.declared.request.Request.{Request}
+use Rattle.cluster_stamps.specs.declared.request.Request.{Request}
 use Rattle.vnode.specs.declared.fault.PartFault.{PartFault}
 use Rattle.cluster_stamps.specs.declared.view.Size.{Size}
 use Rattle.cluster_stamps.specs.declared.view.Told.{Told}

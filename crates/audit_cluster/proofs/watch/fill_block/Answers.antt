@@ -1,5 +1,5 @@
 use Rattle.std.proofs.Common.{◌+◌, refl, arith}
-use Rattle.calls.specs.declared.request.Request.TheVariants.{Restart}
+use Rattle.cluster_stamps.specs.declared.request.Request.TheVariants.{Restart}
 use Rattle.audit_cluster.proofs.Taken.{made_restart, most_restarts, no_restart, no_restarts}
 use Rattle.audit_cluster.proofs.watch.fill_block.Goals as goal
 

@@ -3,7 +3,7 @@ use Rattle.journal.specs.Logs.{Log}
 use Rattle.cluster_stamps.specs.declared.view.Told.{Told}
 use Rattle.cluster_stamps.specs.declared.view.View.{View}
 use Rattle.cluster_stamps.specs.Rule.{drew, pass_of, entries, IsWithin, call_of}
-use Rattle.calls.specs.Answered.{IsOutcome, with_made}
+use Rattle.cluster_stamps.specs.Answered.{IsOutcome, with_made}
 use Rattle.cluster_vnode.specs.Answers.{IsVnodes, IsAnswered}
 use Rattle.cluster_vnode.specs.Calls.{pass_view, told_then}
 use Rattle.cluster_vnode.proofs.Calls.{lent, back, length_entries, lent_is, back_is, within_is, vnodes_more, told_more}

@@ -4,9 +4,8 @@ ghost use Rattle.std.specs.Prelude.{◌≡◌, []};
 ghost use Rattle.cluster_stamps.specs.Rule.{newcomer};
 
 use crate::tests::refusals::refusing::{End, Trial, begin, end_of, in_turn, was_met};
-use calls::Request;
 use cluster::{CallFault, Cluster, Open, Pass, Room};
-use cluster_stamps::{Card, Size, Stamps};
+use cluster_stamps::{Card, Request, Size, Stamps};
 use dvv::Clock;
 use key_state::{Content, Key};
 use std::alloc::Global;

@@ -1,4 +1,4 @@
-use Rattle.calls.specs.Answered.{asked}
+use Rattle.cluster_stamps.specs.Answered.{asked}
 use Rattle.cluster_vnode.proofs.locked.Locked.make.Given as goal
 
 abbrev pub ghosts-ask : goal.ghosts-ask

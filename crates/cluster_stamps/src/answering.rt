@@ -3,7 +3,7 @@
 ghost use Rattle.std.specs.Prelude.{◌≡◌, ◌≢◌, ◌<◌, ◌^◌, OnOk, Err, length};
 ghost use Rattle.vnode.specs.declared.fault.PartFault.{PartFault};
 ghost use Rattle.vnode.specs.declared.fault.VnodeFault.{VnodeFault};
-ghost use Rattle.calls.specs.Answered.{IsOutcome, Refuses, with_made, asked};
+ghost use Rattle.cluster_stamps.specs.Answered.{IsOutcome, Refuses, with_made, asked};
 
 use crate::request::{Prepared, Reply};
 use crate::whole::Whole;

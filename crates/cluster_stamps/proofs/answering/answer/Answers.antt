@@ -1,10 +1,10 @@
 use Rattle.std.proofs.Common.{◌≡◌, Ok, Err, sym, ap, subst}
 use Rattle.vnode.specs.Refusals.{RefusesPut, RefusesMerge}
-use Rattle.calls.specs.declared.request.Prepared.{Prepared}
-use Rattle.calls.specs.declared.request.Reply.TheVariants.{Built}
-use Rattle.calls.specs.Answered.{IsReply, Refuses, asked, with_made}
-use Rattle.calls.proofs.Told.{told_exactly, none_told, part_made, part_replied}
-use Rattle.calls.proofs.answering.answer.Goals as goal
+use Rattle.cluster_stamps.specs.declared.request.Prepared.{Prepared}
+use Rattle.cluster_stamps.specs.declared.request.Reply.TheVariants.{Built}
+use Rattle.cluster_stamps.specs.Answered.{IsReply, Refuses, asked, with_made}
+use Rattle.cluster_stamps.proofs.Told.{told_exactly, none_told, part_made, part_replied}
+use Rattle.cluster_stamps.proofs.answering.answer.Goals as goal
 
 pub returns-in-Ok-clause-exact : goal.returns-in-Ok-clause-exact
 returns-in-Ok-clause-exact c = λ fault other refuses.

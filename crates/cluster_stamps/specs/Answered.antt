@@ -15,12 +15,12 @@ use Rattle.vnode.specs.Refusals.{RefusesPut, RefusesMerge, RefusesEntry}
 use Rattle.vnode.specs.declared.fault.PartFault.{PartFault}
 use Rattle.vnode.specs.declared.fault.PartFault.TheVariants.{Missing, Refused}
 use Rattle.vnode.specs.declared.fault.VnodeFault.{VnodeFault}
-use Rattle.calls.specs.declared.request.Request.{Request}
-use Rattle.calls.specs.declared.request.Request.TheVariants as request
-use Rattle.calls.specs.declared.request.Prepared.{Prepared}
-use Rattle.calls.specs.declared.request.Prepared.TheVariants as prepared
-use Rattle.calls.specs.declared.request.Reply.{Reply}
-use Rattle.calls.specs.declared.request.Reply.TheVariants as reply
+use Rattle.cluster_stamps.specs.declared.request.Request.{Request}
+use Rattle.cluster_stamps.specs.declared.request.Request.TheVariants as request
+use Rattle.cluster_stamps.specs.declared.request.Prepared.{Prepared}
+use Rattle.cluster_stamps.specs.declared.request.Prepared.TheVariants as prepared
+use Rattle.cluster_stamps.specs.declared.request.Reply.{Reply}
+use Rattle.cluster_stamps.specs.declared.request.Reply.TheVariants as reply
 
 -- the request that was prepared
 abbrev pub asked : Prepared → Request

@@ -13,10 +13,10 @@ use Rattle.vnode.specs.declared.fault.PartFault.TheVariants.{Missing, Refused}
 use Rattle.vnode.specs.declared.fault.VnodeFault.{VnodeFault}
 use Rattle.vnode.specs.declared.fault.VnodeFault.TheVariants.{NoMemory}
 use Rattle.vnode.proofs.Refused.{at_hand}
-use Rattle.calls.specs.declared.request.Reply.TheVariants.{Built}
-use Rattle.calls.specs.declared.request.Request.TheVariants.{Part}
-use Rattle.calls.specs.Answered.{IsReply, RefusesWhole, with_made}
-use Rattle.calls.specs.Wholes.{merged_by, last_merged}
+use Rattle.cluster_stamps.specs.declared.request.Reply.TheVariants.{Built}
+use Rattle.cluster_stamps.specs.declared.request.Request.TheVariants.{Part}
+use Rattle.cluster_stamps.specs.Answered.{IsReply, RefusesWhole, with_made}
+use Rattle.cluster_stamps.specs.Wholes.{merged_by, last_merged}
 
 -- a refusal of what is no part is told exactly
 pub told_exactly : {A : Type 0} (Why : VnodeFault → Type 0) (told : VnodeFault) (result : Result A VnodeFault) → result ≡ Err told → ((f : VnodeFault) → f ≢ NoMemory → Why f → result ≡ Err f)

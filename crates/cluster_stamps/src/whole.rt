@@ -1,7 +1,7 @@
 //! The whole state that was built of a part.
 
 ghost use Rattle.std.specs.Prelude.{◌≡◌};
-ghost use Rattle.calls.specs.Wholes.{last_merged};
+ghost use Rattle.cluster_stamps.specs.Wholes.{last_merged};
 
 use std::marker::Model;
 use std::snapshot::Snapshot;
@@ -17,7 +17,7 @@ pub struct Whole {
 
 impl Model for Whole {
     ghost use Rattle.key_state.specs.State.{State};
-    ghost use Rattle.calls.specs.Wholes.{last_merged};
+    ghost use Rattle.cluster_stamps.specs.Wholes.{last_merged};
 
     ghost Value = { State };
 
