@@ -19,13 +19,13 @@ ghost use Rattle.context_token.specs.Token.{Gives};
 
 use crate::fields::has_element;
 use crate::names::{decoded_at, has_names, is_hook_name, is_name, name_at};
+use crate::props::changes_in;
 use crate::query::{Asked, quorums_of, text_of, words_of};
 use crate::routes::Routes;
 use crate::whole::Request;
 use context_token::TokenFault;
 use dvv::Clock;
 use http_request::{Ask, Call, Form, Refusal, Route};
-use httpprops::changes_in;
 use key_state::{Bytes, Content, Key, MAX_BUCKET, MAX_MEDIA};
 use std::alloc::{AllocError, Global};
 

@@ -15,6 +15,7 @@ pub mod laws;
 mod media;
 mod names;
 mod number;
+mod props;
 mod query;
 mod request;
 mod routes;

@@ -3,7 +3,7 @@
 //!
 //! `Asks` of `specs/Ask.antt` says what the first request of some bytes asks for, whether the connection ends after the
 //! answer, and what is read next; `IsUnfinished` says that the bytes end inside a request. The bodies that find it out stand
-//! in `http_parse`, and in `httpprops` for the properties in a body.
+//! in `http_parse`, and in its module `props` for the properties in a body.
 #![tactic(auto)]
 
 mod ask;

@@ -2,7 +2,6 @@
 //!
 //! The body is an object with an object `props`. Of its members `precommit` and `resolver` are a hook's name or null, and
 //! keep what is bound where they are absent; `allow_mult` is true or absent; all others are passed over.
-#![tactic(auto)]
 
 ghost use Rattle.std.specs.Prelude.{◌≡◌, ℕ, List, option_map, Option, Some, None, IfOk};
 ghost use Rattle.serde_json.specs.View.{view};
@@ -15,7 +14,7 @@ use std::alloc::{AllocError, Global};
 
 /// The changes that a body asks for, the pre-commit hook's and then the resolver's; nothing where it is no such object. The
 /// error is want of memory.
-pub fn changes_in(alloc: Global, body: &[u8]) -> Result<Option<(Change, Change)>, AllocError>
+pub(crate) fn changes_in(alloc: Global, body: &[u8]) -> Result<Option<(Change, Change)>, AllocError>
     ensures { IfOk result (λ o. o ≡ spec.changes_in body.now) }
 {
     match Value::from_slice(alloc, body) {
