@@ -15,7 +15,7 @@ use audit_faults::Followed;
 use bpf_helpers::Table;
 use cluster::{Cluster, Pass, Room};
 use cluster_stamps::{Card, Size, Stamps};
-use fronts::Naming;
+use hook_readers::Naming;
 use hook_registry::{HookChanges, Hooks};
 use hook_sharing::{Ground, HookReader, Installer, Opening, Rack};
 use kept_file::KeptFile;

@@ -2,7 +2,7 @@
 use Rattle.std.proofs.Common.{◌≡◌, ◌⊎◌, ◌≤◌, List, length, sym, ap, ◌∙◌, subst, ⊎_elim}
 use mathlib.Core.List.{IsPrefix}
 use Rattle.std.proofs.lemmas.List.{map-append}
-use Rattle.fronts.proofs.Fronts.{prefix_whole}
+use Rattle.hook_readers.proofs.FrontLemmas.{prefix_whole}
 use Rattle.hook_readers.specs.declared.edit.Edit.{Edit}
 use Rattle.hook_readers.specs.Edits.{change_of, changes_of}
 

@@ -6,7 +6,7 @@ ghost use Rattle.hook_readers.specs.Edits.{changes_of};
 ghost use Rattle.hook_readers.specs.declared.edit.Edit.{Edit as Made};
 
 use crate::edit::Edit;
-use fronts::{Front, Naming};
+use crate::{Front, Naming};
 use hook_registry::Registry;
 use left_right::Absorb;
 use std::marker::Model;

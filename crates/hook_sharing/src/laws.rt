@@ -5,8 +5,7 @@ ghost use Rattle.std.specs.Prelude.{◌⊎◌};
 ghost use mathlib.Core.List.{IsPrefix};
 
 use crate::installer::Installer;
-use fronts::Naming;
-use hook_readers::{HookReader, Rack};
+use hook_readers::{HookReader, Naming, Rack};
 use std::sync::Wait;
 
 /// Of what two readers know, one begins the other.

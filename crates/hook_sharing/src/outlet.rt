@@ -9,8 +9,7 @@ ghost use Rattle.hook_readers.specs.Edits.{changes_of};
 ghost use Rattle.hook_sharing.specs.Lists.{last_of};
 
 use crate::opening::Ground;
-use fronts::{Book, Front, Naming};
-use hook_readers::{Edit, Op, Rack};
+use hook_readers::{Book, Edit, Front, Naming, Op, Rack};
 use left_right::{ReadHandle, WriteHandle};
 use std::alloc::{AllocError, Global};
 use std::collections::VecDeque;

@@ -4,7 +4,7 @@ ghost use Rattle.std.specs.Prelude.{◌⊎◌};
 ghost use mathlib.Core.List.{IsPrefix};
 
 use crate::worker::ReadHooks;
-use fronts::Naming;
+use hook_readers::Naming;
 use hook_sharing::{Rack, readers_agree};
 
 /// Of what two workers know, one begins the other.

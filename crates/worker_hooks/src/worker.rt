@@ -7,7 +7,7 @@ ghost use Rattle.worker_hooks.specs.Taking.{Takes};
 use crate::making;
 use bpf_image::ImageKind;
 use bpf_verifier::Verified;
-use fronts::Naming;
+use hook_readers::Naming;
 use hook_registry::{HookChanges, HookFault, Hooks, NameFault, NotSeen};
 use hook_sharing::{HookReader, Installer, Rack};
 use key_state::Bytes;

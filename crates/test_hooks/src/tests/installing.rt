@@ -1,7 +1,7 @@
 //! Changes of an installer, and what two readers see of them.
 
 use crate::tests::parts::{BEFORE, Change, RESOLVER, Row, bound, is_bound, kind_of, make_changes};
-use fronts::Naming;
+use hook_readers::Naming;
 use hook_registry::{HookFault, NameFault};
 use hook_sharing::{HookReader, Installer, Rack};
 use std::alloc::Global;

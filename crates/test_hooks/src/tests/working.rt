@@ -2,7 +2,7 @@
 
 use crate::tests::parts::{BEFORE, Change, RESOLVER, Row, is_bound, kind_of, make_changes};
 use bpf_image::ImageKind;
-use fronts::Naming;
+use hook_readers::Naming;
 use hook_registry::{HookChanges, HookFault, Hooks};
 use hook_sharing::{HookReader, Installer, Rack};
 use std::alloc::{AllocError, Global};

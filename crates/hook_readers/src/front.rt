@@ -1,6 +1,6 @@
 ghost use Rattle.std.specs.Prelude.{◌≡◌, ◌+◌, ◌==◌, ◌<◌, ◌≤◌, ◌^◌, ◌++◌, ◌∷◌, ◌⊎◌, [], length, MatchBool};
 ghost use mathlib.Core.List.{IsPrefix};
-ghost use Rattle.fronts.specs.Rules.{head_of, IsLonger};
+ghost use Rattle.hook_readers.specs.Rules.{head_of, IsLonger};
 
 use logbook::{Gain, Offer, Plain, Play, Rule, Seen, Start, Word};
 use std::marker::{Brand, Model, PhantomData};
@@ -11,7 +11,7 @@ pub struct Law;
 impl<C> Rule<C, u64> for Law {
     ghost use Rattle.std.specs.Prelude.{[]};
     ghost use base.Fml.{ftrue};
-    ghost use Rattle.fronts.specs.Rules.{IsKept};
+    ghost use Rattle.hook_readers.specs.Rules.{IsKept};
 
     ghost holds = { λ cells log. IsKept cells log };
 
@@ -39,7 +39,7 @@ impl<C> Gain<C, u64> for Nothing {
 pub struct Add;
 
 impl<C> Play<C, u64> for Add {
-    ghost use Rattle.fronts.specs.Rules.{Adds};
+    ghost use Rattle.hook_readers.specs.Rules.{Adds};
 
     ghost then = { Adds };
 }
