@@ -17,7 +17,7 @@ use cluster::{Cluster, Pass, Room};
 use cluster_stamps::{Card, Size, Stamps};
 use hook_readers::Naming;
 use hook_registry::{HookChanges, Hooks};
-use hook_sharing::{Ground, HookReader, Installer, Opening, Rack};
+use hook_sharing::{Ground, HookReader, Installer, Opening, Rack, WorkerHooks, open};
 use kept_file::KeptFile;
 use kept_folder::Folder;
 use kept_hooks::Requests;
@@ -33,7 +33,6 @@ use std::net::{Net, TcpListener, TcpStream};
 use std::sync::{Mutex, Wait};
 use std::thread::Threads;
 use vnode::Seed;
-use worker_hooks::{WorkerHooks, open};
 
 /// How many vnodes there are.
 const VNODES: u32 = 3;

@@ -8,14 +8,13 @@ use crate::tests::installing::{
 };
 use crate::tests::working::{WORKERS, four_workers};
 use hook_readers::Naming;
-use hook_sharing::{Ground, HookReader, Installer, Opening, Rack};
+use hook_sharing::{Ground, HookReader, Installer, Opening, Rack, open};
 use std::alloc::Global;
 use std::marker::Brand;
 use std::sync::{Mutex, Wait};
 use std::test::Fail;
 use std::thread::Threads;
 use test_support::expect;
-use worker_hooks::open;
 
 /// What one thread does with an installer and two readers, for which there is all the room for readers.
 fn by_one_thread<J: Naming, T: Rack<J> + Drop, W: Wait + Drop>(

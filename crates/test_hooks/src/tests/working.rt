@@ -4,14 +4,13 @@ use crate::tests::parts::{BEFORE, Change, RESOLVER, Row, is_bound, kind_of, make
 use bpf_image::ImageKind;
 use hook_readers::Naming;
 use hook_registry::{HookChanges, HookFault, Hooks};
-use hook_sharing::{HookReader, Installer, Rack};
+use hook_sharing::{HookReader, Installer, Rack, WorkerHooks};
 use std::alloc::{AllocError, Global};
 use std::sync::{Mutex, Wait};
 use std::test::Fail;
 use std::thread;
 use std::thread::Threads;
 use test_support::expect;
-use worker_hooks::WorkerHooks;
 
 /// How many workers there are.
 pub(super) const WORKERS: usize = 4;

@@ -1,7 +1,7 @@
 use Rattle.std.proofs.Common.{◌≡◌, ◌≤◌, List, vec_len, vec_capacity}
 use Rattle.std.specs.List.{All}
 use Rattle.hook_registry.specs.Changes.{Change}
-use Rattle.worker_hooks.proofs.opening.readers_of.Given as goal
+use Rattle.hook_sharing.proofs.worker_opening.readers_of.Given as goal
 
 abbrev pub invariant-loop : goal.invariant-loop
 invariant-loop g l = record {

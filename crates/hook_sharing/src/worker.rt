@@ -2,14 +2,13 @@
 
 ghost use Rattle.std.specs.Prelude.{◌≡◌};
 ghost use Rattle.hook_readers.specs.Edits.{Finds, Names};
-ghost use Rattle.worker_hooks.specs.Taking.{Takes};
+ghost use Rattle.hook_sharing.specs.Taking.{Takes};
 
-use crate::making;
+use crate::{HookReader, Installer, Rack, making};
 use bpf_image::ImageKind;
 use bpf_verifier::Verified;
 use hook_readers::Naming;
 use hook_registry::{HookChanges, HookFault, Hooks, NameFault, NotSeen};
-use hook_sharing::{HookReader, Installer, Rack};
 use key_state::Bytes;
 use std::marker::Model;
 use std::sync::{Arc, Mutex, Wait};

@@ -1,6 +1,6 @@
 use Rattle.std.proofs.Common.{ap}
-use Rattle.worker_hooks.proofs.Learning.{begins_later}
-use Rattle.worker_hooks.proofs.making.remove.Goals as goal
+use Rattle.hook_sharing.proofs.Learning.{begins_later}
+use Rattle.hook_sharing.proofs.making.remove.Goals as goal
 
 pub publish_to-requires : goal.publish_to-requires
 publish_to-requires g c =

@@ -3,8 +3,8 @@
 ghost use Rattle.std.specs.Prelude.{◌≡◌, ◌<◌, ◌^◌, [], IfOk, vec_len};
 ghost use Rattle.std.specs.List.{All};
 
+use crate::{Ground, HookReader, Installer, NoReader, Rack};
 use hook_readers::Naming;
-use hook_sharing::{Ground, HookReader, Installer, NoReader, Rack};
 use std::alloc::{AllocError, Global};
 use std::sync::{Mutex, Wait};
 use thiserror::Error;

@@ -4,8 +4,8 @@ ghost use Rattle.std.specs.Prelude.{◌⊎◌};
 ghost use mathlib.Core.List.{IsPrefix};
 
 use crate::worker::ReadHooks;
+use crate::{Rack, readers_agree};
 use hook_readers::Naming;
-use hook_sharing::{Rack, readers_agree};
 
 /// Of what two workers know, one begins the other.
 pub fn workers_agree<J: Naming, T: Rack<J> + Drop, M: Drop>(

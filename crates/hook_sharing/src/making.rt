@@ -6,13 +6,13 @@ ghost use Rattle.std.specs.Arc.{arc_value};
 ghost use mathlib.Core.List.{IsPrefix};
 ghost use Rattle.hook_registry.specs.declared.fault.HookFault.{HookFault as Fault};
 ghost use Rattle.hook_registry.specs.Changes.{Bind, Install, Remove};
-ghost use Rattle.worker_hooks.specs.Taking.{Takes, Judged};
+ghost use Rattle.hook_sharing.specs.Taking.{Takes, Judged};
 
+use crate::{HookReader, Installer, Rack};
 use bpf_image::ImageKind;
 use bpf_verifier::Verified;
 use hook_readers::Naming;
 use hook_registry::{HookChanges, HookFault};
-use hook_sharing::{HookReader, Installer, Rack};
 use key_state::Bytes;
 use std::sync::{Arc, Mutex, MutexGuard, Wait};
 

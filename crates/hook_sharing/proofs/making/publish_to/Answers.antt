@@ -1,7 +1,7 @@
 use Rattle.std.proofs.Common.{◌∙◌, sym, subst}
 use mathlib.Core.List.{IsPrefix}
-use Rattle.worker_hooks.proofs.Learning.{learned}
-use Rattle.worker_hooks.proofs.making.publish_to.Goals as goal
+use Rattle.hook_sharing.proofs.Learning.{learned}
+use Rattle.hook_sharing.proofs.making.publish_to.Goals as goal
 
 pub returns-clause-ok : goal.returns-clause-ok
 returns-clause-ok g c =
