@@ -2,7 +2,7 @@
 use Rattle.std.proofs.Common.{◌≡◌, ℕ, suc, ◌+◌, List, [], ◌∷◌, ◌++◌, length, length-append, drop, refl, sym, ap, ◌∙◌, arith, append_assoc}
 use Rattle.std.specs.Prelude.{Contains}
 use Rattle.std.proofs.lemmas.List.{drop_at}
-use Rattle.carrying.specs.Records.{AreMergesOf, nothing, one_more}
+use Rattle.world.specs.Records.{AreMergesOf, nothing, one_more}
 use Rattle.journal.specs.Entry.{Entry, Merge}
 use Rattle.cluster_stamps.specs.declared.view.Told.{Told}
 use Rattle.cluster_vnode.specs.Gathers.{FitsIn}

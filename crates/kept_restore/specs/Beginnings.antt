@@ -1,6 +1,6 @@
 -- What the vnodes of a cluster begin with that take over what files hold (this store's profile).
 use Rattle.std.specs.Prelude.{◌≡◌, ◌≢◌, ◌<◌, ℕ, zero, suc, ◌+◌, List, [], ◌∷◌, ◌++◌, length, Contains}
-use Rattle.carrying.specs.Records.{AreMergesOf}
+use Rattle.world.specs.Records.{AreMergesOf}
 use Rattle.journal.specs.Entry.{Entry}
 use Rattle.journal.specs.Logs.{Log}
 use Rattle.kept_file.specs.Files.{records_at}

@@ -1,7 +1,7 @@
 //! What holds of records that were loaded. The function does nothing: its contract is the law.
 
 ghost use Rattle.std.specs.Prelude.{◌≡◌, ◌++◌, ℕ, true, List, Contains, length};
-ghost use Rattle.carrying.specs.Records.{AreMergesOf, AreOfAll};
+ghost use Rattle.world.specs.Records.{AreMergesOf, AreOfAll};
 ghost use Rattle.dvv.specs.declared.Dot.{Dot};
 ghost use Rattle.journal.specs.Entry.{Entry, Put};
 ghost use Rattle.journal.specs.Journals.{IsJournal};
@@ -17,7 +17,7 @@ ghost use Rattle.record_codec.specs.declared.record.Record.{Record as OneRecord}
 ghost use Rattle.kept_restore.specs.Beginnings.{BeginsWith};
 ghost use Rattle.kept_restore.specs.Loads.{HasLoaded, Mark, merges_told};
 
-use carrying::laws::records_carry_all;
+use world::laws::records_carry_all;
 
 /// Where all that a pass was told while a vnode took records over stands in the vnode's journal, the journal begins with the merges of
 /// these records, each once and in order.

@@ -5,7 +5,7 @@ use Rattle.script_lines.specs.Lines.{lines_in}
 use Rattle.script_replies.specs.Texts.{line}
 use Rattle.record_codec.specs.declared.record.Record.{Record}
 use Rattle.world.specs.Beginning.{BeginsWith}
-use Rattle.carrying.specs.Dumps.{GoesOnFrom, IsDumpIn}
+use Rattle.world.specs.Dumps.{GoesOnFrom, IsDumpIn}
 use Rattle.journal.specs.Logs.{Log}
 use Rattle.world.specs.Knowledge.{Knowledge}
 use Rattle.world.specs.Running.{Ran, IsWorldFrom}

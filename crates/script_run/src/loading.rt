@@ -8,12 +8,12 @@ ghost use Rattle.world.specs.Knowledge.{id_under};
 
 use crate::printing::print_answers;
 use bpf_helpers::Table;
-use carrying::laws::dumps_begin;
 use record_codec::Record;
 use script_events::{BadAt, Images, Script, parse_from};
 use script_lines::BadLine;
 use std::alloc::Global;
 use std::fmt::Write as _;
+use world::laws::dumps_begin;
 use world::{BeginFault, World};
 
 /// Runs a script over vnodes that begin under an incarnation, the first of which has merged the records. Gives what the lines print, as

@@ -16,3 +16,5 @@ pub mod Renamed
 pub mod Sources
 pub mod Whole
 pub mod Beginnings
+mod Merges
+mod Dumping

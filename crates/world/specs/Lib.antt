@@ -9,3 +9,5 @@ pub mod Appending
 pub mod Running
 pub mod Sources
 pub mod Beginning
+pub mod Records
+pub mod Dumps

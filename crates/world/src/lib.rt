@@ -5,6 +5,7 @@ mod beginning;
 mod event;
 mod hook;
 pub mod laws;
+pub mod record_laws;
 mod world;
 
 pub use beginning::BeginFault;

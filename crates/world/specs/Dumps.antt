@@ -8,7 +8,7 @@ use Rattle.world.specs.Happening.{IsNewId}
 use Rattle.world.specs.Knowledge.{Knowledge, id_under, known_at}
 use Rattle.world.specs.Represents.{Represents, log_at}
 use Rattle.world.specs.Running.{AreNewFrom}
-use Rattle.carrying.specs.Records.{AreOfAll}
+use Rattle.world.specs.Records.{AreOfAll}
 
 -- in a world with these journals, records are a dump of the vnode at an index: of each of its keys, with what it knows; no vnode there has an identifier of so
 -- many vnodes of an incarnation, nor one that an event loads, and none of its puts was numbered under one

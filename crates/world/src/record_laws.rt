@@ -13,8 +13,8 @@ ghost use Rattle.world.specs.declared.event.Event.{Event};
 ghost use Rattle.world.specs.Beginning.{BeginsWith, merges_of};
 ghost use Rattle.world.specs.Knowledge.{Knowledge};
 ghost use Rattle.world.specs.Running.{AreRunnableFrom, max_vnodes};
-ghost use Rattle.carrying.specs.Dumps.{GoesOnFrom, IsDumpIn};
-ghost use Rattle.carrying.specs.Records.{AreMergesOf, AreOfAll, AreRising, keys_in};
+ghost use Rattle.world.specs.Dumps.{GoesOnFrom, IsDumpIn};
+ghost use Rattle.world.specs.Records.{AreMergesOf, AreOfAll, AreRising, keys_in};
 
 /// Merges of records of rising keys leave each record's state at its key, and nothing at any other key.
 pub fn merges_leave_records()

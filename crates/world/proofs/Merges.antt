@@ -27,7 +27,7 @@ use Rattle.journal.proofs.Replayed.{silent_replayed, merge_silent, held_known, d
 use Rattle.record_codec.specs.declared.record.Record.{Record}
 use Rattle.world.specs.Beginning.{merges_of}
 use Rattle.world.proofs.Lists.{Contains-later, Contains-first, Contains-cases, Contains-nil}
-use Rattle.carrying.specs.Records.{AreMergesOf, AreOfAll, AreRising, keys_in, nothing, one_more}
+use Rattle.world.specs.Records.{AreMergesOf, AreOfAll, AreRising, keys_in, nothing, one_more}
 
 -- the key of a record stands among the keys
 pub key_among : (records : List Record) (r : Record) → Contains records r → Contains (keys_in records) r.key

@@ -39,9 +39,9 @@ use Rattle.world.proofs.Numbers.{known_unique, none_itself}
 use Rattle.world.proofs.Renamed.{below_at, below_len}
 use Rattle.world.proofs.Shown.{shows_known}
 use Rattle.world.proofs.Steps.{opened_represents, shown, state_shown}
-use Rattle.carrying.specs.Records.{AreMergesOf, AreOfAll, keys_in, nothing, one_more}
-use Rattle.carrying.specs.Dumps.{GoesOnFrom, IsDumpIn}
-use Rattle.carrying.proofs.Merges.{all_rising, begun_so, cases_among, head_other, merged_journal, others_of, record_among, turned}
+use Rattle.world.specs.Records.{AreMergesOf, AreOfAll, keys_in, nothing, one_more}
+use Rattle.world.specs.Dumps.{GoesOnFrom, IsDumpIn}
+use Rattle.world.proofs.Merges.{all_rising, begun_so, cases_among, head_other, merged_journal, others_of, record_among, turned}
 
 -- ---- what merges of records bring
 

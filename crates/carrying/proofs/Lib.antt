@@ -1,2 +1,0 @@
-mod Merges
-mod Dumping
