@@ -7,13 +7,12 @@ mod stride;
 
 use crate::crew::Signs;
 use crate::saver::stride::{Stride, is_serving};
-use abreast::join_three;
 use cluster::{Cluster, Open, Pass, Room};
 use cluster_peers::PassPeers;
 use cluster_peers::laws::calls_only_add;
 use kept_file::{SnapshotFault, Subject};
 use kept_folder::{Folder, Unreplaced, WriteFault, keep_requests, keep_served};
-use kept_restore::Passes;
+use kept_restore::{Passes, join_three};
 use server_accept::Timer;
 use std::alloc::Global;
 use std::io::{Eprint, Stderr};

@@ -6,8 +6,8 @@ ghost use Rattle.kept_restore.specs.Beginnings.{HaveLoaded, fronts_to};
 ghost use Rattle.kept_restore.specs.Loads.{HasLoaded};
 
 use crate::fault::LoadFault;
+use crate::join_three;
 use crate::loads::{Throttle, load};
-use abreast::join_three;
 use cluster::{Cluster, Pass, Room};
 use kept_file::KeptFile;
 use record_codec::Record;

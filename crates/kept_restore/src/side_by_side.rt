@@ -1,5 +1,4 @@
 //! Calls side by side.
-#![tactic(auto)]
 
 use std::thread;
 use std::thread::Threads;
