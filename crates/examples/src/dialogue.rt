@@ -12,7 +12,7 @@ use commands::files::Files;
 use commands::server::{Ended, Server, Site, Unserved};
 use hook_registry::Registry;
 use http_connection::Backend;
-use local::Local;
+use peers::Local;
 use server_one_thread::{answers_to, one_thread};
 use server_store::Store;
 use std::alloc::{AllocError, Global};

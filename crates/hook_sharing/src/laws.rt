@@ -1,10 +1,11 @@
-//! What holds of readers of one registry and its installer, whatever they do. Each of these functions does nothing: its contract is the
+//! What holds of readers and workers of one registry and its installer, whatever they do. Each of these functions does nothing: its contract is the
 //! law.
 
 ghost use Rattle.std.specs.Prelude.{◌⊎◌};
 ghost use mathlib.Core.List.{IsPrefix};
 
 use crate::installer::Installer;
+use crate::worker::ReadHooks;
 use hook_readers::{HookReader, Naming, Rack};
 use std::sync::Wait;
 
@@ -23,4 +24,14 @@ pub fn published_agrees<J: Naming, T: Rack<J> + Drop, R: Wait + Drop>(
     ensures { IsPrefix reader.now installer.now.published ⊎ IsPrefix installer.now.published reader.now }
 {
     let _longer = installer.note().front().longer(reader.known());
+}
+
+/// Of what two workers know, one begins the other.
+pub fn workers_agree<J: Naming, T: Rack<J> + Drop, M: Drop>(
+    one: &ReadHooks<J, T, M>,
+    other: &ReadHooks<J, T, M>,
+)
+    ensures { IsPrefix one.now other.now ⊎ IsPrefix other.now one.now }
+{
+    readers_agree(one.reader(), other.reader());
 }

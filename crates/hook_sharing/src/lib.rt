@@ -9,14 +9,12 @@ mod opening;
 mod outlet;
 mod published;
 mod worker;
-mod worker_laws;
-mod worker_opening;
+mod workers;
 
 pub use hook_readers::{HookReader, Note, Rack};
 pub use installer::Installer;
-pub use laws::{published_agrees, readers_agree};
+pub use laws::{published_agrees, readers_agree, workers_agree};
 pub use opening::{Ground, NoReader, Opening};
 pub use published::Published;
 pub use worker::{Maker, ReadHooks, WorkerHooks};
-pub use worker_laws::workers_agree;
-pub use worker_opening::{OpenFault, open};
+pub use workers::{OpenFault, open};

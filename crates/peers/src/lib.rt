@@ -3,7 +3,10 @@
 #![tactic(auto)]
 
 mod fault;
+pub mod laws;
+mod local;
 mod peers;
 
 pub use fault::PeerFault;
+pub use local::Local;
 pub use peers::{Answer, PartAnswer, Peers, SummaryAnswer};

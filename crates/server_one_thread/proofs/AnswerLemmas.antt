@@ -25,7 +25,7 @@ use Rattle.journal.specs.Replay.{sibling_in, known_in, IsMergeOf}
 use Rattle.peers.specs.declared.peers.Answer.{Answer}
 use Rattle.peers.specs.Calls as peer
 use Rattle.peers.specs.Calls.{Made}
-use Rattle.local.specs.Locals.{LocalView, LocalStep}
+use Rattle.peers.specs.Locals.{LocalView, LocalStep}
 use Rattle.quorum.specs.declared.fault.QuorumFault.{QuorumFault}
 use Rattle.quorum.specs.declared.fault.ResolveFault.{ResolveFault}
 use Rattle.quorum.specs.declared.fault.Unfit.{Unfit}

@@ -16,7 +16,7 @@ use Rattle.peers.specs.declared.peers.Answer.{Answer}
 use Rattle.peers.specs.declared.fault.PeerFault.{PeerFault}
 use Rattle.peers.specs.declared.fault.PeerFault.TheVariants.{Lost, Refused}
 use Rattle.peers.specs.Calls.{Call, PutAt, MergeAt, StateOf, SummaryAt, MergePartAt, KeysOf, Made}
-use Rattle.local.specs.Locals.{ReadsIn, AtVnode, unanswered, is_next, IsUnmade, IsMade, IsUnheard, LocalView, LocalStep}
+use Rattle.peers.specs.Locals.{ReadsIn, AtVnode, unanswered, is_next, IsUnmade, IsMade, IsUnheard, LocalView, LocalStep}
 use Rattle.quorum.specs.Gets.{reads, answers, states_of}
 use Rattle.server_one_thread.specs.Journals.{AreJournals}
 use Rattle.server_one_thread.specs.Reads.{OfSome, all_asked, answered, silent, ShowsCurrent}

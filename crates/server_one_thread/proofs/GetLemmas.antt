@@ -17,7 +17,7 @@ use Rattle.journal.specs.Replay.{IsReplay}
 use Rattle.peers.specs.declared.peers.Answer.{Answer}
 use Rattle.peers.specs.declared.fault.PeerFault.{PeerFault}
 use Rattle.peers.specs.Calls.{Call, PutAt, StateOf, Made}
-use Rattle.local.specs.Locals.{LocalView, LocalStep}
+use Rattle.peers.specs.Locals.{LocalView, LocalStep}
 use Rattle.quorum.specs.declared.fault.ResolveFault.{ResolveFault}
 use Rattle.quorum.specs.Resolves.{EndsAt, AfterCommit, AfterChoice, AfterLookUp, Commits, IsResolve, brings, others_of, state_told}
 use Rattle.server_store.specs.Calls.{coordinator}

@@ -15,7 +15,7 @@ use Rattle.peers.specs.declared.peers.SummaryAnswer.{SummaryAnswer}
 use Rattle.peers.specs.declared.fault.PeerFault.{PeerFault}
 use Rattle.peers.specs.declared.fault.PeerFault.TheVariants.{Lost, Refused}
 use Rattle.peers.specs.Calls.{Call, PutAt, MergeAt, StateOf, SummaryAt, MergePartAt, KeysOf, Made}
-use Rattle.local.specs.Locals.{fresh_from, PutsIn, MergesIn, ReadsIn, SummarizesIn, MergesPartIn, AtVnode, Does, IsLost, unanswered, is_next, IsUnmade, IsMade, IsUnheard, LocalView, LocalStep}
+use Rattle.peers.specs.Locals.{fresh_from, PutsIn, MergesIn, ReadsIn, SummarizesIn, MergesPartIn, AtVnode, Does, IsLost, unanswered, is_next, IsUnmade, IsMade, IsUnheard, LocalView, LocalStep}
 use Rattle.server_one_thread.specs.Journals.{AreJournals, GoesOn, GoOn}
 use Rattle.server_one_thread.proofs.Zips.{one_is, set_there, zip_same, zip_far, zip_set}
 

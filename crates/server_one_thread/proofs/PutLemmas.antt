@@ -19,7 +19,7 @@ use Rattle.journal.proofs.Keyed.{same_itself}
 use Rattle.peers.specs.declared.peers.Answer.{Answer}
 use Rattle.peers.specs.declared.fault.PeerFault.{PeerFault}
 use Rattle.peers.specs.Calls.{Call, PutAt, MergeAt, StateOf, Made}
-use Rattle.local.specs.Locals.{PutsIn, MergesIn, LocalView, LocalStep}
+use Rattle.peers.specs.Locals.{PutsIn, MergesIn, LocalView, LocalStep}
 use Rattle.quorum.specs.Puts.{merges, StoresCopies}
 use Rattle.server_one_thread.specs.Journals.{AreJournals, GoesOn, GoOn}
 use Rattle.server_one_thread.specs.Writes.{IsPutAt, knows}

@@ -7,7 +7,7 @@ use Rattle.http_request.specs.declared.ask.Call.TheVariants as ask
 use Rattle.http_response.specs.declared.reply.Reply.{Reply}
 use Rattle.http_response.specs.declared.reply.Reply.TheVariants.{Got, Stored}
 use Rattle.http_connection.specs.Dialogue.{Completes, BreaksOff}
-use Rattle.local.specs.Locals.{LocalStep}
+use Rattle.peers.specs.Locals.{LocalStep}
 use Rattle.ring.specs.Places.{copies_of}
 use Rattle.server_store.specs.Gives.{Gives}
 use Rattle.server_one_thread.specs.Hooks.{FindsAt, NamesAt, TakesAt}

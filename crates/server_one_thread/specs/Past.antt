@@ -2,7 +2,7 @@
 use Rattle.std.specs.Prelude.{List}
 use Rattle.hook_registry.specs.Changes.{Change}
 use Rattle.hook_registry.specs.Tables.{Shown}
-use Rattle.local.specs.Locals.{LocalView}
+use Rattle.peers.specs.Locals.{LocalView}
 use Rattle.server_store.specs.View.{StoreView, shown}
 
 -- the store as it is, with its registry

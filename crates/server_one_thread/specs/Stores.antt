@@ -8,7 +8,7 @@ use Rattle.hook_registry.specs.declared.fault.NameFault.TheVariants as name_faul
 use Rattle.hook_registry.specs.Tables.{Shown, Takes, bound_in, hook_in}
 use Rattle.http_request.specs.declared.ask.Call.{Call}
 use Rattle.http_response.specs.declared.reply.Reply.{Reply}
-use Rattle.local.specs.Locals.{LocalStep}
+use Rattle.peers.specs.Locals.{LocalStep}
 use Rattle.ring.specs.Places.{copies_of}
 use Rattle.server_store.specs.Gives.{Gives}
 use Rattle.server_one_thread.specs.Past.{Now}

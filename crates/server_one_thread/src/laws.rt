@@ -1,14 +1,14 @@
 //! What holds of the vnodes of one thread. Each of these functions does nothing: its contract is the law.
 
 ghost use Rattle.std.specs.Prelude.{ℕ};
-ghost use Rattle.local.specs.Locals.{fresh};
+ghost use Rattle.peers.specs.Locals.{fresh};
 ghost use Rattle.server_one_thread.specs.Journals.{AreJournals};
 ghost use Rattle.server_one_thread.specs.Stores.{IsOfOneThread};
 ghost use Rattle.server_store.specs.View.{shown};
 
 use hook_registry::Registry;
 use http_connection::Backend;
-use local::Local;
+use peers::Local;
 use server_store::Store;
 
 /// Vnodes with nothing written have journals, so a connection may begin with them.

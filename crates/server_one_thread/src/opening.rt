@@ -6,7 +6,7 @@ ghost use Rattle.server_log.specs.Notes.{no_notes};
 
 use bpf_helpers::Table;
 use hook_registry::Registry;
-use local::Local;
+use peers::Local;
 use quorum::Hooking;
 use server_store::Store;
 use std::alloc::Global;

@@ -4,7 +4,7 @@ use crate::tests::opening::open;
 use hook_registry::Registry;
 use http_connection::FrontFault;
 use http_connections::{Clients, Closing, Hall, Stage};
-use local::Local;
+use peers::Local;
 use server_one_thread::answers_to;
 use server_store::Store;
 use std::alloc::{AllocError, Global};

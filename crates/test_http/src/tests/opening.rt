@@ -2,7 +2,7 @@
 
 use bpf_helpers::Table;
 use hook_registry::Registry;
-use local::Local;
+use peers::Local;
 use server_one_thread::one_thread;
 use server_store::Store;
 use std::alloc::{AllocError, Global};

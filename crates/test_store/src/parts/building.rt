@@ -5,7 +5,7 @@ ghost use Rattle.std.specs.Prelude.{◌≤◌};
 use crate::parts::calling::put_value;
 use dvv::{Clock, ClockFault, Dot};
 use key_state::{Bytes, Content, Key, KeyState};
-use local::Local;
+use peers::Local;
 use std::alloc::{AllocError, Global};
 use std::test::Fail;
 

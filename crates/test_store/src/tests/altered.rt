@@ -11,7 +11,7 @@ use audit_journals::AuditCode;
 use bpf_helpers::Table;
 use bpf_image::ImageKind;
 use bpf_verifier::Verified;
-use local::Local;
+use peers::Local;
 use script_events::{Images, NoHook, parse};
 use std::alloc::Global;
 use std::test::Fail;

@@ -2,8 +2,7 @@
 
 use crate::parts::building::{key_of, lengths, put_alone, vnodes_of};
 use crate::tests::watched::Watched;
-use local::Local;
-use peers::Peers;
+use peers::{Local, Peers};
 use repair::exchange;
 use std::alloc::Global;
 use std::test::Fail;

@@ -3,8 +3,7 @@
 use crate::parts::altering::{Alteration, Altered, alter, repeat};
 use journal::{Entry, Journal, Said};
 use key_state::KeyState;
-use local::Local;
-use peers::Peers;
+use peers::{Local, Peers};
 use std::alloc::Global;
 use std::test::Fail;
 use vnode::Vnode;

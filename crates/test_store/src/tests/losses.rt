@@ -5,7 +5,7 @@ use crate::parts::judging::{Told, judge};
 use crate::tests::late::deliver_late;
 use crate::tests::operations::{Operation, operate_losing};
 use crate::tests::shown::all_are_kept;
-use local::Local;
+use peers::Local;
 use quorum::QuorumFault;
 use std::alloc::Global;
 use std::test::Fail;

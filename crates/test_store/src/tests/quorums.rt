@@ -7,8 +7,7 @@ use crate::parts::building::{clock_of, key_of, lengths, shows, three_losing, vno
 use crate::parts::calling::{get, put_value};
 use dvv::Dot;
 use key_state::Key;
-use local::Local;
-use peers::Peers;
+use peers::{Local, Peers};
 use quorum::QuorumFault;
 use std::alloc::Global;
 use std::test::Fail;

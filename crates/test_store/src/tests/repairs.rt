@@ -5,7 +5,7 @@ use crate::parts::calling::put_value;
 use crate::tests::operations::get_and_repair;
 use dvv::{Clock, Dot};
 use key_state::Key;
-use local::Local;
+use peers::Local;
 use quorum::QuorumFault;
 use std::alloc::Global;
 use std::test::Fail;

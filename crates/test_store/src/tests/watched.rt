@@ -2,8 +2,7 @@
 
 use dvv::{Clock, Dot};
 use key_state::{Content, Key, KeyState, Part};
-use local::Local;
-use peers::{Answer, PartAnswer, PeerFault, Peers, SummaryAnswer};
+use peers::{Answer, Local, PartAnswer, PeerFault, Peers, SummaryAnswer};
 
 /// Vnodes, and what was sent to them: parts, contents in parts, and whole states.
 #[derive(Drop)]
@@ -24,7 +23,7 @@ impl Watched {
 
 impl Peers for Watched {
     ghost use Rattle.std.specs.Prelude.{refl};
-    ghost use Rattle.local.specs.Locals.{LocalStep};
+    ghost use Rattle.peers.specs.Locals.{LocalStep};
 
     ghost happens = { λ old call new. LocalStep old.local call new.local };
 

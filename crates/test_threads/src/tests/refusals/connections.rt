@@ -5,7 +5,7 @@ use crate::tests::refusals::refusing::{End, Trial, begin, end_beside, in_turn, w
 use bpf_helpers::Table;
 use hook_registry::Registry;
 use http_connection::{FailSink, FailSource, Front, FrontFault};
-use local::Local;
+use peers::Local;
 use server_one_thread::{one_thread, serve};
 use server_store::Store;
 use std::alloc::Global;
