@@ -9,12 +9,11 @@ use crate::tests::verdicts::Told::{self, Accepted, Refused};
 use crate::tests::verdicts::is_told;
 use bpf_helpers::{ArgRule, Body, Helper, HelperFault, Sig, Sigs, Table};
 use bpf_semantics::Fault;
-use helper_parts::{ANY, ONE_NUMBER, UNUSED, modulo_8, octal};
 use std::alloc::Global;
 use std::cell::Cell;
 use std::test::Fail;
 use test_support::Slot::{Added, Call, Copied, Exit, Put, Raised, StoreByte};
-use test_support::{Slot, expect};
+use test_support::{ANY, ONE_NUMBER, Slot, UNUSED, expect, modulo_8, octal};
 
 /// Adds the remainder by 8 as 64. Answers why it is handed back, if it is.
 fn add_modulo(alloc: Global, table: &mut Table) -> Result<Option<HelperFault>, Fail> {

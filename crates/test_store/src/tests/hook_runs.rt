@@ -7,13 +7,12 @@ use crate::parts::programs::{CALLS_64, PRE_COMMIT, RESOLVER, answer, hook};
 use bpf_helpers::{ArgRule, Body, Helper, Sig, Table};
 use bpf_image::ImageKind;
 use dvv::{Clock, Dot};
-use helper_parts::first_sibling;
 use hook_registry::Registry;
 use quorum::{Hooking, QuorumFault, ResolveFault, Resolved};
 use std::alloc::{AllocError, Global};
 use std::sync::Arc;
 use std::test::Fail;
-use test_support::expect;
+use test_support::{expect, first_sibling};
 
 /// A table with the helper 64, which answers 256: the refusal 0 of a pre-commit hook.
 fn table_of_64(alloc: Global) -> Result<Table, Fail> {

@@ -1,6 +1,5 @@
 //! Helpers for tables of tests: the rules of their arguments, and what they answer. The answers are plain functions, which a test
 //! boxes by itself: no library hands out what it boxed.
-#![tactic(auto)]
 
 ghost use Rattle.std.specs.Prelude.{◌≡◌, ◌≤◌, length, max};
 ghost use Rattle.bpf_helpers.specs.Answers.{IsCallableOn, AnswersOn};
