@@ -17,7 +17,7 @@ ghost use Rattle.record_codec.specs.declared.record.Record.{Record as OneRecord}
 ghost use Rattle.kept_restore.specs.Beginnings.{BeginsWith};
 ghost use Rattle.kept_restore.specs.Loads.{HasLoaded, Mark, merges_told};
 
-use world::laws::records_carry_all;
+use world::record_laws::records_carry_all;
 
 /// Where all that a pass was told while a vnode took records over stands in the vnode's journal, the journal begins with the merges of
 /// these records, each once and in order.

@@ -13,7 +13,7 @@ use script_events::{BadAt, Images, Script, parse_from};
 use script_lines::BadLine;
 use std::alloc::Global;
 use std::fmt::Write as _;
-use world::laws::dumps_begin;
+use world::record_laws::dumps_begin;
 use world::{BeginFault, World};
 
 /// Runs a script over vnodes that begin under an incarnation, the first of which has merged the records. Gives what the lines print, as
