@@ -7,11 +7,12 @@ use Rattle.record_codec.specs.declared.fault.WireFault.{WireFault}
 use Rattle.record_codec.specs.declared.record.Record.{Record}
 use Rattle.script_run.specs.Loading.{PrintsAllFrom, PrintsUpToFrom}
 use Rattle.commands.specs.declared.failure.Failure.{Failure}
-use Rattle.commands.specs.declared.records.Unread.{Unread}
-use Rattle.commands.specs.declared.records.Unread.TheVariants as unread
+use Rattle.record_codec.specs.declared.lists.Unread.{Unread}
+use Rattle.record_codec.specs.declared.lists.Unread.TheVariants as unread
 use Rattle.commands.specs.Dumped.{Loads, LoadedFile, whole, up_to, faulty}
 use Rattle.commands.specs.Outcome.{line}
-use Rattle.commands.specs.Records.{AreSpelledBy, FaultAt, IsUnread, fault_text}
+use Rattle.record_codec.specs.Lists.{AreSpelledBy, FaultAt, IsUnread}
+use Rattle.commands.specs.Records.{fault_text}
 
 -- every line was read
 pub all_loaded : {X : Type 0} (sigs listed : List Entry) (incarnation : ℕ) (records : List Record) (bytes script text : List ℕ) (why : Option X) (Q : X → Type 0) (before after : Option (List ℕ))

@@ -5,15 +5,10 @@ use Rattle.std.proofs.lemmas.List.{append-nil, length-drop, length-take-le, take
 use Rattle.std.proofs.lemmas.Grind.{flat_map-append}
 use Rattle.vnode.specs.declared.steps.Copied.{Copied}
 use Rattle.record_codec.specs.declared.record.Record.{Record}
-use Rattle.record_codec.specs.Records.{Begins, IsRecord, spelling}
-use Rattle.commands.specs.Records.{AreSpelledBy, record_of, records_from}
-
-all_append : (xs ys : List Record) → AllByRecursion IsRecord xs → AllByRecursion IsRecord ys → AllByRecursion IsRecord (xs ++ ys)
-all_append [] ys a b = b
-all_append (x ∷ xs) ys a b = (a.0, all_append xs ys a.1 b)
-
-spelled_append : (records : List Record) (r : Record) → flat_map spelling (records ++ r ∷ []) ≡ flat_map spelling records ++ spelling r
-spelled_append records r = flat_map-append spelling records (r ∷ []) ∙ ap (λ (bs : List ℕ). flat_map spelling records ++ bs) (append-nil (spelling r))
+use Rattle.record_codec.specs.Records.{IsRecord, spelling}
+use Rattle.record_codec.specs.Lists.{AreSpelledBy}
+use Rattle.record_codec.proofs.Spelled.{all_append, spelled_append}
+use Rattle.commands.specs.Records.{record_of, records_from}
 
 records_append : (from at : ℕ) (held : List Copied) (one : Copied) → records_from from at (held ++ one ∷ []) ≡ records_from from at held ++ record_of from (at + length held) one ∷ []
 records_append from at [] one = ap (λ (n : ℕ). record_of from n one ∷ []) (omega arith)
@@ -38,25 +33,3 @@ copy_spelled from first i at place items held one bytes more new same in_items a
       bytes_are = longer ∙ ap (λ (bs : List ℕ). bs ++ more) so_far.bytes_are ∙ ap (λ (bs : List ℕ). flat_map spelling (records_from from first (take i held)) ++ bs) spelled
           ∙ sym (spelled_append (records_from from first (take i held)) (record_of from at one));
     })
-
--- ---- read
-
--- the bytes before those that are left are records
-pub record IsReadSoFar (bytes left : List ℕ) (records : List Record) : Type 0 where
-  pub each : AllByRecursion IsRecord records
-  pub bytes_are : bytes ≡ flat_map spelling records ++ left
-
-cut : (left : List ℕ) (r : Record) (len : ℕ) → Begins left r len → left ≡ spelling r ++ drop len left
-cut left r len first = sym (take-append-drop len left) ∙ ap (λ (bs : List ℕ). bs ++ drop len left) first.front
-
-pub goes_on : (bytes left rest : List ℕ) (records new : List Record) (r : Record) (len : ℕ) → IsReadSoFar bytes left records → Begins left r len → rest ≡ drop len left → new ≡ records ++ r ∷ [] → IsReadSoFar bytes rest new
-goes_on bytes left rest records new r len so_far first rest_is more = subst (λ (rs : List Record). IsReadSoFar bytes rest rs) (sym more) (subst (λ (bs : List ℕ). IsReadSoFar bytes bs (records ++ r ∷ [])) (sym rest_is) (record {
-  each = all_append records (r ∷ []) so_far.each (first.is_record, tt);
-  bytes_are = so_far.bytes_are ∙ ap (λ (bs : List ℕ). flat_map spelling records ++ bs) (cut left r len first) ∙ sym (append_assoc (flat_map spelling records) (spelling r) (drop len left))
-      ∙ ap (λ (bs : List ℕ). bs ++ drop len left) (sym (spelled_append records r));
-}))
-
--- the same of a slice from a place on
-pub goes_on_sliced : (bytes left : List ℕ) (records new : List Record) (r : Record) (len : ℕ) → IsReadSoFar bytes left records → Begins left r len → new ≡ records ++ r ∷ [] → IsReadSoFar bytes (take (length left - len) (drop len left)) new
-goes_on_sliced bytes left records new r len so_far first more =
-    goes_on bytes left (take (length left - len) (drop len left)) records new r len so_far first (take_all (length left - len) (drop len left) (omega (arith, length-drop len left))) more

@@ -17,7 +17,8 @@ use Rattle.script_run.specs.Dumping.{PrintsAndDumps}
 use Rattle.script_run.specs.Loading.{PrintsAllFrom, PrintsUpToFrom}
 use Rattle.script_run.specs.Printing.{PrintsUpTo}
 use Rattle.commands.specs.Outcome.{line}
-use Rattle.commands.specs.Records.{records_of, AreSpelledBy, FaultAt, fault_text}
+use Rattle.record_codec.specs.Lists.{AreSpelledBy, FaultAt}
+use Rattle.commands.specs.Records.{records_of, fault_text}
 
 -- replies end with this one
 abbrev pub EndsWith : List Reply → Reply → Type 0

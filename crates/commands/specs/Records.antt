@@ -1,14 +1,11 @@
 -- The records of a dump in a file, one after another (this store's profile).
-use Rattle.std.specs.Prelude.{◌≡◌, ◌≢◌, ℕ, ◌+◌, ◌/◌, ◌==◌, ◌||◌, Bool, List, [], ◌∷◌, ◌++◌, length, codes}
-use Rattle.std.specs.List.{AllByRecursion, flat_map, list_any}
+use Rattle.std.specs.Prelude.{ℕ, ◌+◌, ◌/◌, ◌==◌, ◌||◌, Bool, List, [], ◌∷◌, codes}
+use Rattle.std.specs.List.{list_any}
 use Rattle.vnode.specs.declared.steps.Copied.{Copied}
 use Rattle.record_codec.specs.declared.fault.WireFault.{WireFault}
 use Rattle.record_codec.specs.declared.fault.WireFault.TheVariants.{Cut, Mark, Digest, NotCanonical, NoMemory}
 use Rattle.record_codec.specs.declared.record.Record.{Record}
-use Rattle.record_codec.specs.Records.{IsRecord, HasFault, spelling}
 use Rattle.world.specs.declared.event.Copies.{Copies}
-use Rattle.commands.specs.declared.records.Unread.{Unread}
-use Rattle.commands.specs.declared.records.Unread.TheVariants as unread
 
 -- the records of copies: of the key and state of each, the vnode's identifier, and the place of the copy's entry
 abbrev pub record_of : ℕ → ℕ → Copied → Record
@@ -20,26 +17,6 @@ records_from from at (one ∷ held) = record_of from at one ∷ records_from fro
 
 abbrev pub records_of : Copies → List Record
 records_of copies = records_from copies.from copies.first copies.held.items
-
--- bytes are those of records, one after another
-pub record AreSpelledBy (records : List Record) (bytes : List ℕ) : Type 0 where
-  pub each : AllByRecursion IsRecord records
-  pub bytes_are : bytes ≡ flat_map spelling records
-
--- bytes begin with so many records, and then have a fault
-pub record FaultAt (bytes : List ℕ) (place : ℕ) (fault : WireFault) : Type 0 where
-  pub front : List Record
-  pub rest : List ℕ
-  pub count : length front ≡ place
-  pub each : AllByRecursion IsRecord front
-  pub bytes_are : bytes ≡ flat_map spelling front ++ rest
-  pub more : rest ≢ []
-  pub has : HasFault rest fault
-
--- why bytes are not read as records
-abbrev pub IsUnread : List ℕ → Unread → Type 0
-IsUnread bytes (unread.Faulty place fault) = FaultAt bytes place fault
-IsUnread bytes unread.NoMemory = Unit {0}
 
 -- the numbers of the faults
 abbrev pub fault_text : WireFault → List ℕ

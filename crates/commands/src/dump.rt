@@ -6,9 +6,10 @@ ghost use Rattle.commands.specs.Dumped.{Dumps, DumpedFile, EndsWith, Wrote, Wrot
 
 use crate::failure::Failure;
 use crate::files::Files;
-use crate::records::{Unspelled, spelled};
+use crate::records::spelled;
 use crate::simulate::FileImages;
 use bpf_helpers::Table;
+use record_codec::Unspelled;
 use script_replies::refusal_number;
 use script_run::{Dumping, run_and_dump};
 use std::alloc::Global;

@@ -1,14 +1,14 @@
 //! The command `load FILE INCARNATION SCRIPT`.
 ghost use Rattle.std.specs.Prelude.{◌≡◌, ◌≤◌, List, ℕ, IfOk};
 ghost use Rattle.commands.specs.Dumped.{Loads, LoadedFile};
-ghost use Rattle.commands.specs.Records.{AreSpelledBy};
+ghost use Rattle.record_codec.specs.Lists.{AreSpelledBy};
 
 use crate::failure::Failure;
 use crate::files::Files;
-use crate::records::{Unread, fault_number, name_incarnation, records_in};
+use crate::records::{fault_number, name_incarnation};
 use crate::simulate::FileImages;
 use bpf_helpers::Table;
-use record_codec::Record;
+use record_codec::{Record, Unread, records_in};
 use script_events::Images;
 use script_replies::refusal_number;
 use script_run::run_from;
@@ -39,7 +39,7 @@ pub fn load<F: Files, O: Write, E: Write>(
         files,
         sigs: &table.listed,
     };
-    match records_in(alloc, &bytes) {
+    match records_in(alloc, &bytes, &[]) {
         Ok(records) => run_loaded(
             alloc,
             table,

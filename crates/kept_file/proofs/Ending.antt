@@ -6,7 +6,7 @@ use Rattle.key_state.specs.declared.content.Key.{Key}
 use Rattle.key_state.specs.State.{State, empty}
 use Rattle.record_codec.specs.declared.record.Record.{Record}
 use Rattle.kept_file.specs.Files.{end_key, end_of}
-use Rattle.kept_file.specs.Records.{AreSpelledBy, record_of}
+use Rattle.record_codec.specs.Lists.{AreSpelledBy, record_of}
 
 pub end_is : (r : Record) (count : ℕ) → r.at ≡ count → r.key ≡ end_key → r.state ≡ empty → r ≡ end_of r.from count
 end_is r count at key state =

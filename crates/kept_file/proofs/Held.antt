@@ -6,10 +6,10 @@ use Rattle.std.proofs.lemmas.List.{length-take-le}
 use Rattle.vnode.specs.declared.steps.Copied.{Copied}
 use Rattle.record_codec.specs.declared.record.Record.{Record}
 use Rattle.kept_file.specs.Files.{IsFileOf, end_of}
-use Rattle.kept_file.specs.Records.{AreSpelledBy, record_of}
+use Rattle.record_codec.specs.Lists.{AreSpelledBy, record_of}
 use Rattle.kept_file.specs.Snapshots.{records_held}
 use Rattle.kept_file.proofs.Made.{appends_none, appends_then}
-use Rattle.kept_file.proofs.Spelled.{both_spelled, none_spelled}
+use Rattle.record_codec.proofs.Spelled.{both_spelled, none_spelled}
 
 -- so many copies were written
 pub record AreWriting (from at : ℕ) (held : List Copied) (count : ℕ) (before after : Option (List ℕ)) : Type 0 where

@@ -1,4 +1,3 @@
-mod Spelled
 mod Above
 mod Made
 mod Ending

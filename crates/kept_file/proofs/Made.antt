@@ -10,8 +10,8 @@ use Rattle.peers.specs.Calls.{Call, StateOf, KeysOf, Made}
 use Rattle.peers.proofs.CallLemmas.{made_end}
 use Rattle.kept_file.specs.Files.{IsFileOf, end_of}
 use Rattle.kept_file.specs.Snapshots.{reads_at, record_read, records_read, snapshot_calls}
-use Rattle.kept_file.specs.Records.{AreSpelledBy}
-use Rattle.kept_file.proofs.Spelled.{both_spelled, none_spelled}
+use Rattle.record_codec.specs.Lists.{AreSpelledBy}
+use Rattle.record_codec.proofs.Spelled.{both_spelled, none_spelled}
 
 reads_end : (i : ℕ) (keys : List Key) (answers : List Answer) (a : Answer) (k : Key) → length answers < length keys → k ≡ get_or keys (length answers) k
     → reads_at i keys (answers ++ a ∷ []) ≡ reads_at i keys answers ++ StateOf i k (Ok a) ∷ []

@@ -3,7 +3,7 @@ use Rattle.std.specs.Prelude.{◌≡◌, ℕ, ◌%◌, ◌==◌, if◌then◌els
 use Rattle.key_state.specs.declared.content.Key.{Key}
 use Rattle.key_state.specs.State.{empty}
 use Rattle.record_codec.specs.declared.record.Record.{Record}
-use Rattle.kept_file.specs.Records.{AreSpelledBy, FaultAt}
+use Rattle.record_codec.specs.Lists.{AreSpelledBy, FaultAt}
 use Rattle.kept_file.specs.declared.file.KeptFile.{KeptFile}
 use Rattle.kept_file.specs.declared.file.Unkept.{Unkept}
 use Rattle.kept_file.specs.declared.file.Unkept.TheVariants as unkept

@@ -1,4 +1,3 @@
-pub mod Records
 pub mod Files
 pub mod Numbers
 pub mod Snapshots

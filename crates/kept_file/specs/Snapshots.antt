@@ -6,7 +6,7 @@ use Rattle.record_codec.specs.declared.record.Record.{Record}
 use Rattle.peers.specs.declared.peers.Answer.{Answer}
 use Rattle.peers.specs.Calls.{Call, PutAt, MergeAt, StateOf, SummaryAt, MergePartAt, KeysOf}
 use Rattle.vnode.specs.declared.steps.Copied.{Copied}
-use Rattle.kept_file.specs.Records.{record_of}
+use Rattle.record_codec.specs.Lists.{record_of}
 
 -- a read of each key at a vnode, in order, and what each answered
 abbrev pub reads_at : ℕ → List Key → List Answer → List Call

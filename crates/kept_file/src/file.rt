@@ -4,9 +4,8 @@ ghost use Rattle.std.specs.Prelude.{◌≡◌, ◌↔◌, IfErr, IfOk, IsTrue};
 ghost use Rattle.kept_file.specs.Files.{IsFileOf, IsUnkept, end_key, end_of};
 
 use crate::halves::records_beside;
-use crate::records::Unread;
 use key_state::{Key, KeyState};
-use record_codec::{Record, WireFault};
+use record_codec::{Record, Unread, WireFault};
 use std::alloc::Global;
 use std::thread::Threads;
 use thiserror::Error;

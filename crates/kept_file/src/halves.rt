@@ -1,10 +1,9 @@
 //! Records, one after another, of which two halves are taken apart side by side.
 
 ghost use Rattle.std.specs.Prelude.{◌++◌, ◌≤◌, ◌<◌, length, IfErr, IfOk, IfSome};
-ghost use Rattle.kept_file.specs.Records.{AreSpelledBy, IsUnread};
+ghost use Rattle.record_codec.specs.Lists.{AreSpelledBy, IsUnread};
 
-use crate::records::{Unread, records_in};
-use record_codec::{Record, record_length};
+use record_codec::{Record, Unread, record_length, records_in};
 use std::alloc::Global;
 use std::thread;
 use std::thread::Threads;

@@ -5,8 +5,6 @@
 mod file;
 mod halves;
 mod number;
-mod records;
-mod sharing;
 mod snapshot;
 mod whole;
 

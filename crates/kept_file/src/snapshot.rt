@@ -7,14 +7,14 @@ ghost use Rattle.std.specs.List.{AllByRecursion};
 ghost use Rattle.key_state.specs.declared.content.Key.{Key as OneKey};
 ghost use Rattle.peers.specs.declared.peers.Answer.{Answer as OneAnswer};
 ghost use Rattle.peers.specs.Calls.{Call, Made, StateOf};
-ghost use Rattle.kept_file.specs.Records.{AreSpelledBy, record_of};
+ghost use Rattle.record_codec.specs.Lists.{AreSpelledBy, record_of};
 ghost use Rattle.kept_file.specs.Files.{IsFileOf, end_of};
 ghost use Rattle.kept_file.specs.Snapshots.{IsReadAt, record_read, records_read, reads_at, snapshot_calls};
 
 use crate::file::END;
-use crate::records::{Unspelled, spelled};
 use key_state::{Key, KeyState};
 use peers::{PeerFault, Peers};
+use record_codec::{Unspelled, record_bytes};
 use std::alloc::{AllocError, Global};
 use std::io::Write;
 use thiserror::Error;
@@ -165,7 +165,7 @@ pub(crate) fn write_record<W: Write>(
 ) -> Result<(), SnapshotFault>
     ensures { OnOk result ((bytes : List ℕ) × AreSpelledBy (record_of key.now from at state.now ∷ []) bytes × Appends (W.contents out.old) (W.contents out.new) bytes) }
 {
-    let bytes = spelled(alloc, key, from, at, state)?;
+    let bytes = record_bytes(alloc, key, from, at, state)?;
     match out.write_all(&bytes) {
         Ok(()) => Ok(()),
         Err(_) => Err(SnapshotFault::Unwritten),

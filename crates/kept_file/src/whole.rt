@@ -7,7 +7,7 @@ ghost use Rattle.vnode.specs.Keys.{AreKeys};
 ghost use Rattle.vnode.specs.States.{keys_of};
 ghost use Rattle.vnode.specs.declared.steps.Copied.{Copied as OneCopy};
 ghost use Rattle.kept_file.specs.Files.{IsFileOf};
-ghost use Rattle.kept_file.specs.Records.{AreSpelledBy};
+ghost use Rattle.record_codec.specs.Lists.{AreSpelledBy};
 ghost use Rattle.kept_file.specs.Snapshots.{records_held};
 
 use crate::snapshot::{SnapshotFault, write_end, write_record};

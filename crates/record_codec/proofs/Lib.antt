@@ -4,3 +4,4 @@ pub mod Fields
 pub mod Formats
 pub mod Frames
 pub mod Sizes
+pub mod Spelled

@@ -7,11 +7,14 @@
 
 mod fault;
 pub mod laws;
+mod lists;
 mod read;
 mod record;
+mod sharing;
 mod write;
 
 pub use fault::WireFault;
+pub use lists::{Unread, Unspelled, record_bytes, records_in};
 pub use read::{read_record, record_length};
 pub use record::Record;
 pub use write::{has_record, write_record};

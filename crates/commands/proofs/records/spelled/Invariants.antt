@@ -1,5 +1,6 @@
 use Rattle.std.proofs.Common.{◌≡◌, ◌+◌, take}
-use Rattle.commands.specs.Records.{AreSpelledBy, records_from}
+use Rattle.record_codec.specs.Lists.{AreSpelledBy}
+use Rattle.commands.specs.Records.{records_from}
 use Rattle.commands.proofs.records.spelled.Given as goal
 
 -- the copies so far are spelled

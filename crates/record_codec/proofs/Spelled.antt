@@ -5,13 +5,13 @@ use Rattle.std.proofs.lemmas.List.{append-nil, length-drop, take-append-drop, ta
 use Rattle.std.proofs.lemmas.Grind.{flat_map-append}
 use Rattle.record_codec.specs.declared.record.Record.{Record}
 use Rattle.record_codec.specs.Records.{Begins, IsRecord, spelling}
-use Rattle.kept_file.specs.Records.{AreSpelledBy}
+use Rattle.record_codec.specs.Lists.{AreSpelledBy}
 
-all_append : (xs ys : List Record) → AllByRecursion IsRecord xs → AllByRecursion IsRecord ys → AllByRecursion IsRecord (xs ++ ys)
+pub all_append : (xs ys : List Record) → AllByRecursion IsRecord xs → AllByRecursion IsRecord ys → AllByRecursion IsRecord (xs ++ ys)
 all_append [] ys a b = b
 all_append (x ∷ xs) ys a b = (a.0, all_append xs ys a.1 b)
 
-spelled_append : (records : List Record) (r : Record) → flat_map spelling (records ++ r ∷ []) ≡ flat_map spelling records ++ spelling r
+pub spelled_append : (records : List Record) (r : Record) → flat_map spelling (records ++ r ∷ []) ≡ flat_map spelling records ++ spelling r
 spelled_append records r = flat_map-append spelling records (r ∷ []) ∙ ap (λ (bs : List ℕ). flat_map spelling records ++ bs) (append-nil (spelling r))
 
 -- records behind others

@@ -1,19 +1,22 @@
-//! Records, one after another.
+//! Records, one after another, and a record of what may be past its limits.
 
 ghost use Rattle.std.specs.Prelude.{◌≡◌, ◌++◌, ◌∷◌, [], IfErr, IfOk, IsTrue, OnOk};
 ghost use Rattle.key_state.specs.Limits.{IsContent, IsKey};
-ghost use Rattle.record_codec.specs.Records.{AreContents};
-ghost use Rattle.kept_file.specs.declared.records.Unread.TheVariants as unread;
-ghost use Rattle.kept_file.specs.Records.{AreSpelledBy, IsUnread, record_of};
+ghost use Rattle.record_codec.specs.Records.{AreContents, IsRecord, spelling};
+ghost use Rattle.record_codec.specs.declared.lists.Unread.TheVariants as unread;
+ghost use Rattle.record_codec.specs.Lists.{AreSpelledBy, IsUnread, record_of};
 
+use crate::fault::WireFault;
+use crate::read::read_record;
+use crate::record::Record;
 use crate::sharing::{from_key, share, share_media};
+use crate::write::{has_record, write_record};
 use key_state::{Content, Key, KeyState, MAX_BUCKET, MAX_KEY, MAX_MEDIA, MAX_VALUE, Sibling};
-use record_codec::{Record, WireFault, has_record, read_record, write_record};
 use std::alloc::{AllocError, Global};
 
 /// Why bytes are not read as records.
 #[derive(Clone, Copy)]
-pub(crate) enum Unread {
+pub enum Unread {
     /// The record at this place, counted from 0, has a fault.
     Faulty { place: usize, fault: WireFault },
     /// Memory ran out for the list of records.
@@ -22,7 +25,7 @@ pub(crate) enum Unread {
 
 /// Why a state has no record.
 #[derive(Clone, Copy)]
-pub(crate) enum Unspelled {
+pub enum Unspelled {
     /// A key, a content or a body is past its limit.
     PastLimit,
     /// Memory ran out.
@@ -30,7 +33,7 @@ pub(crate) enum Unspelled {
 }
 
 impl From<AllocError> for Unspelled {
-    ghost use Rattle.kept_file.specs.declared.records.Unspelled.TheVariants.{NoMemory};
+    ghost use Rattle.record_codec.specs.declared.lists.Unspelled.TheVariants.{NoMemory};
 
     ghost from_gives = { λ _ why. why ≡ NoMemory };
 
@@ -39,15 +42,17 @@ impl From<AllocError> for Unspelled {
     }
 }
 
-/// The record of a key's state, which the read at a place of a vnode's journal answered.
-pub(crate) fn spelled(
+/// The bytes of the record of a key's state, which the entry at a place of a vnode's journal answered. `PastLimit` where it has none,
+/// `NoMemory` where a growth was refused.
+pub fn record_bytes(
     alloc: Global,
     key: &Key,
     from: u32,
     at: u32,
     state: &KeyState,
 ) -> Result<Vec<u8>, Unspelled>
-    ensures { IfOk result (λ bytes. AreSpelledBy (record_of key.now from at state.now ∷ []) bytes.items) }
+    ensures is_record { IfOk result (λ bytes. IsRecord (record_of key.now from at state.now) × (bytes.items ≡ spelling (record_of key.now from at state.now))) }
+    ensures listed { IfOk result (λ bytes. AreSpelledBy (record_of key.now from at state.now ∷ []) bytes.items) }
 {
     if !is_key(key) || !are_contents(state.siblings()) || !has_record(key, state) {
         return Err(Unspelled::PastLimit);
@@ -91,11 +96,7 @@ fn is_content(content: &Content) -> bool
 
 /// The records that bytes are, one after another, or the first that has a fault. Those that are among others take their memory: both stand
 /// in the order of keys, and where they don't, less is shared.
-pub(crate) fn records_in(
-    alloc: Global,
-    bytes: &[u8],
-    others: &[Record],
-) -> Result<Vec<Record>, Unread>
+pub fn records_in(alloc: Global, bytes: &[u8], others: &[Record]) -> Result<Vec<Record>, Unread>
     ensures records { IfOk result (λ records. AreSpelledBy records.items bytes.now) }
     ensures unread { IfErr result (IsUnread bytes.now) }
 {

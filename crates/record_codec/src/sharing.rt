@@ -2,8 +2,8 @@
 
 ghost use Rattle.std.specs.Prelude.{◌≡◌, IfSome};
 
+use crate::record::Record;
 use key_state::{Content, Key, KeyState, Sibling};
-use record_codec::Record;
 use std::alloc::Global;
 
 /// Those of records in the order of keys that don't come before a key.

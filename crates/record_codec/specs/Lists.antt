@@ -6,8 +6,8 @@ use Rattle.key_state.specs.State.{State}
 use Rattle.record_codec.specs.declared.fault.WireFault.{WireFault}
 use Rattle.record_codec.specs.declared.record.Record.{Record}
 use Rattle.record_codec.specs.Records.{IsRecord, HasFault, spelling}
-use Rattle.kept_file.specs.declared.records.Unread.{Unread}
-use Rattle.kept_file.specs.declared.records.Unread.TheVariants as unread
+use Rattle.record_codec.specs.declared.lists.Unread.{Unread}
+use Rattle.record_codec.specs.declared.lists.Unread.TheVariants as unread
 
 -- the record of a key's state, which the read at a place of a vnode's journal answered
 abbrev pub record_of : Key → ℕ → ℕ → State → Record

@@ -1,6 +1,6 @@
 use Rattle.std.proofs.Common.{length}
-use Rattle.commands.proofs.Spelled.{IsReadSoFar}
-use Rattle.commands.proofs.records.records_in.Given as goal
+use Rattle.record_codec.proofs.Spelled.{IsReadSoFar}
+use Rattle.record_codec.proofs.lists.records_in.Given as goal
 
 -- the bytes before those that are left are records
 abbrev pub invariant-loop-left : goal.invariant-loop-left
