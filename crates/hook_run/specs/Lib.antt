@@ -1,5 +1,4 @@
 pub mod Decisions
-pub mod Images
 pub mod Lending
 pub mod Newest
 pub mod Resolving
