@@ -2,8 +2,8 @@
 use Rattle.std.proofs.Common.{Result, Ok, Err, ◌≡◌, ◌≢◌, ℕ, Bool, cond, ◌⊎◌, inl, inr, List, refl, sym, ap, subst, ◌∙◌, Some, None, slice_get, slice_set, zero, suc, [], ◌∷◌, ◌<◌, ◌≤◌, length, get_or, arith}
 use Rattle.std.proofs.lemmas.Bool.{cases_eq, eq-eqb}
 use Rattle.http_connection.specs.declared.device.Failed.{Failed}
-use Rattle.http_connections.specs.declared.ring.Told.{Told}
-use Rattle.http_connections.specs.declared.ring.Told.TheVariants as told
+use Rattle.http_connections.specs.declared.socket_ring.Told.{Told}
+use Rattle.http_connections.specs.declared.socket_ring.Told.TheVariants as told
 use Rattle.http_connections.specs.Sockets.{Socket, Sockets, Changes, changed_at, after_call, after_write}
 use Rattle.http_connections.specs.Clients.{Shows, Alters, socket_of}
 use Rattle.http_connections.specs.declared.clients.Client.{Client}

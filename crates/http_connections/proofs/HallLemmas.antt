@@ -9,8 +9,8 @@ use Rattle.http_connection.specs.Dialogue.{Exchange}
 use Rattle.http_connections.specs.Sockets.{State, not_yet, here, gone, Socket, Sockets, OnlyAt, Changes, unborn, after_accept, after_close}
 use Rattle.http_connections.specs.Spoken.{Speaks, Serves, Rests, IsAnswered, Ends, BreaksOff, Attended, Attends}
 use Rattle.http_connections.specs.Halls.{AllRestBut, AllStand, Goes, HallStands, IsOfOne, Log, OnlySeat, RestsAt, Stands, part}
-use Rattle.http_connections.specs.declared.ring.Closing.{Closing}
-use Rattle.http_connections.specs.declared.ring.Closing.TheVariants.{InOrder, Broken, GivenUp}
+use Rattle.http_connections.specs.declared.socket_ring.Closing.{Closing}
+use Rattle.http_connections.specs.declared.socket_ring.Closing.TheVariants.{InOrder, Broken, GivenUp}
 use Rattle.http_connections.specs.declared.seat.Phase.{Phase}
 use Rattle.http_connections.specs.declared.seat.Seat.{Seat}
 use Rattle.http_connections.proofs.MoveLemmas.{only_then}

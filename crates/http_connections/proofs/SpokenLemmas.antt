@@ -11,8 +11,8 @@ use Rattle.http_connection.specs.Dialogue.{Exchange, Talks, answer_of, answers_o
 use Rattle.http_connection.specs.Turns.{Makes}
 use Rattle.http_connections.specs.Sockets.{Socket, after_read, after_write}
 use Rattle.http_connections.specs.Spoken.{IsOverAt, Reads, Speaks, Completes, BreaksOff, Blames, IsGivenUp}
-use Rattle.http_connections.specs.declared.ring.Heard.TheVariants as heard
-use Rattle.http_connections.specs.declared.ring.Told.TheVariants as told
+use Rattle.http_connections.specs.declared.socket_ring.Heard.TheVariants as heard
+use Rattle.http_connections.specs.declared.socket_ring.Told.TheVariants as told
 use Rattle.http_connections.specs.declared.seat.Phase.{Phase}
 use Rattle.http_connections.specs.declared.seat.Phase.TheVariants as phase
 use Rattle.http_connections.proofs.TalkLemmas.{Talks-snoc, answers-snoc}

@@ -9,7 +9,7 @@ use Rattle.http_connection.specs.declared.device.Failed.{Failed}
 use Rattle.http_connection.specs.declared.fault.FrontFault.TheVariants as fault
 use Rattle.http_connections.specs.Sockets.{State, not_yet, here, gone, Socket, Sockets, OnlyAt, IsReported, unborn, after_accept, after_close}
 use Rattle.http_connections.specs.Spoken.{Serves, Ends, Rests}
-use Rattle.http_connections.specs.declared.ring.Closing.TheVariants.{Broken}
+use Rattle.http_connections.specs.declared.socket_ring.Closing.TheVariants.{Broken}
 use Rattle.http_connections.specs.declared.seat.Seat.{Seat}
 use Rattle.http_connections.specs.declared.hall.Hall.{Hall}
 

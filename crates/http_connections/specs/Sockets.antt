@@ -1,11 +1,11 @@
 -- The sockets of one worker: what reads gave and writes took so far, connection by connection.
 use Rattle.std.specs.Prelude.{◌≡◌, ◌≢◌, ℕ, ◌==◌, cond, Bool, true, false, List, [], ◌++◌, take, Option, Some, None, Result, Ok, Err}
 use Rattle.http_connection.specs.declared.device.Failed.{Failed}
-use Rattle.http_connections.specs.declared.ring.Closing.{Closing}
-use Rattle.http_connections.specs.declared.ring.Heard.{Heard}
-use Rattle.http_connections.specs.declared.ring.Heard.TheVariants as heard
-use Rattle.http_connections.specs.declared.ring.Told.{Told}
-use Rattle.http_connections.specs.declared.ring.Told.TheVariants as told
+use Rattle.http_connections.specs.declared.socket_ring.Closing.{Closing}
+use Rattle.http_connections.specs.declared.socket_ring.Heard.{Heard}
+use Rattle.http_connections.specs.declared.socket_ring.Heard.TheVariants as heard
+use Rattle.http_connections.specs.declared.socket_ring.Told.{Told}
+use Rattle.http_connections.specs.declared.socket_ring.Told.TheVariants as told
 
 -- where a connection stands: it did not come yet, it is here, or it was closed so
 pub data State : Type 0 where

@@ -8,12 +8,12 @@ use Rattle.http_connection.specs.declared.fault.FrontFault.TheVariants as fault
 use Rattle.http_connection.specs.Dialogue.{Exchange, Talks, Runs, answers_of}
 use Rattle.http_connection.specs.Pending.{IsPending}
 use Rattle.http_connections.specs.Sockets.{Socket, Sockets, OnlyAt}
-use Rattle.http_connections.specs.declared.ring.Closing.{Closing}
-use Rattle.http_connections.specs.declared.ring.Closing.TheVariants.{InOrder, Broken, GivenUp}
-use Rattle.http_connections.specs.declared.ring.Heard.{Heard}
-use Rattle.http_connections.specs.declared.ring.Heard.TheVariants as heard
-use Rattle.http_connections.specs.declared.ring.Told.{Told}
-use Rattle.http_connections.specs.declared.ring.Told.TheVariants as told
+use Rattle.http_connections.specs.declared.socket_ring.Closing.{Closing}
+use Rattle.http_connections.specs.declared.socket_ring.Closing.TheVariants.{InOrder, Broken, GivenUp}
+use Rattle.http_connections.specs.declared.socket_ring.Heard.{Heard}
+use Rattle.http_connections.specs.declared.socket_ring.Heard.TheVariants as heard
+use Rattle.http_connections.specs.declared.socket_ring.Told.{Told}
+use Rattle.http_connections.specs.declared.socket_ring.Told.TheVariants as told
 use Rattle.http_connections.specs.declared.seat.Phase.{Phase}
 use Rattle.http_connections.specs.declared.seat.Phase.TheVariants as phase
 use Rattle.http_connections.specs.declared.seat.Round.{Round}

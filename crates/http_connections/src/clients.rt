@@ -6,7 +6,7 @@ ghost use Rattle.http_connections.specs.Spoken.{FitsHeard, FitsTold};
 ghost use Rattle.http_connections.specs.Clients.{Alters, socket_of};
 ghost use Rattle.http_connections.specs.declared.clients.Client.{Client as Given};
 
-use crate::ring::{Closing, Heard, Ring, Told};
+use crate::socket_ring::{Closing, Heard, Ring, Told};
 use http_connection::Failed;
 use std::alloc::{AllocError, Global};
 

@@ -9,8 +9,8 @@ ghost use Rattle.http_connections.specs.Halls.{Log, AllStand, AllRestBut, Goes, 
 ghost use Rattle.http_connections.specs.declared.seat.Seat.{Seat as Place};
 
 use crate::buffer::Buffer;
-use crate::ring::{Closing, Ring};
 use crate::seat::{Seat, Standing};
+use crate::socket_ring::{Closing, Ring};
 use http_connection::{Backend, Desk, Failed, FrontFault};
 use std::alloc::{AllocError, Global};
 use std::collections::BTreeMap;

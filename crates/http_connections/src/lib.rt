@@ -7,10 +7,10 @@ mod buffer;
 mod clients;
 mod hall;
 pub mod laws;
-mod ring;
 mod seat;
+mod socket_ring;
 
 pub use clients::{Client, Clients, Stage};
 pub use hall::Hall;
-pub use ring::{Closing, Heard, Ring, Told};
 pub use seat::Standing;
+pub use socket_ring::{Closing, Heard, Ring, Told};

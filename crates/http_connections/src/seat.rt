@@ -7,7 +7,7 @@ ghost use Rattle.http_connections.specs.Sockets.{Socket, Sockets};
 ghost use Rattle.http_connections.specs.Spoken.{Serves, Left, Attended, Moves, Attends, standing_of};
 
 use crate::buffer::Buffer;
-use crate::ring::{Closing, Heard, Ring, Told};
+use crate::socket_ring::{Closing, Heard, Ring, Told};
 use http_connection::{Backend, Desk, Failed, FrontFault, Step, Talk};
 use std::alloc::Global;
 

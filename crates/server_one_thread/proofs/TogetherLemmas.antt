@@ -21,7 +21,7 @@ use Rattle.http_connection.specs.Dialogue.{Exchange, Talks}
 use Rattle.http_connections.specs.declared.clients.Client.{Client}
 use Rattle.http_connections.specs.declared.clients.Stage.{Stage}
 use Rattle.http_connections.specs.declared.clients.Stage.TheVariants.{NotYet, Here, Gone}
-use Rattle.http_connections.specs.declared.ring.Closing.TheVariants.{InOrder, Broken, GivenUp}
+use Rattle.http_connections.specs.declared.socket_ring.Closing.TheVariants.{InOrder, Broken, GivenUp}
 use Rattle.http_connections.specs.declared.seat.Phase.{Phase}
 use Rattle.http_connections.specs.declared.seat.Phase.TheVariants.{Open, Ended, Closing as Ending}
 use Rattle.http_connections.specs.declared.seat.Seat.{Seat}

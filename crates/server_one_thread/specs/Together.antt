@@ -12,7 +12,7 @@ use Rattle.http_connections.specs.declared.clients.Client.{Client}
 use Rattle.http_connections.specs.declared.clients.Stage.{Stage}
 use Rattle.http_connections.specs.declared.clients.Stage.TheVariants.{NotYet, Here, Gone}
 use Rattle.http_connections.specs.declared.hall.Hall.{Hall}
-use Rattle.http_connections.specs.declared.ring.Closing.TheVariants.{InOrder, Broken, GivenUp}
+use Rattle.http_connections.specs.declared.socket_ring.Closing.TheVariants.{InOrder, Broken, GivenUp}
 use Rattle.http_connections.specs.Clients.{Shows}
 use Rattle.http_connections.specs.Halls.{HallStands, Log, all_parts, part, seat_at}
 use Rattle.http_connections.specs.Sockets.{Sockets}

@@ -2,7 +2,7 @@ use Rattle.std.proofs.Common.{inl, inr, ap, ◌∙◌}
 use Rattle.http_connection.specs.declared.fault.FrontFault.TheVariants as fault
 use Rattle.http_connections.specs.Sockets.{after_accept, after_close}
 use Rattle.http_connections.specs.Halls.{seat_at}
-use Rattle.http_connections.specs.declared.ring.Closing.TheVariants.{Broken}
+use Rattle.http_connections.specs.declared.socket_ring.Closing.TheVariants.{Broken}
 use Rattle.http_connections.proofs.HallLemmas.{admitted, turned_away}
 use Rattle.http_connections.proofs.MoveLemmas.{only_then}
 use Rattle.http_connections.proofs.hall.Hall.greet.Goals as goal

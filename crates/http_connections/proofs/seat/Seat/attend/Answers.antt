@@ -2,7 +2,7 @@ use Rattle.std.proofs.Common.{List, subst, ◌∙◌, Some, None}
 use Rattle.http_connection.specs.Dialogue.{Exchange}
 use Rattle.http_connections.specs.Sockets.{Sockets}
 use Rattle.http_connections.specs.Spoken.{Serves, Attends, Attended}
-use Rattle.http_connections.specs.declared.ring.Closing.TheVariants.{InOrder, Broken}
+use Rattle.http_connections.specs.declared.socket_ring.Closing.TheVariants.{InOrder, Broken}
 use Rattle.http_connections.proofs.MoveLemmas.{attends_then}
 use Rattle.http_connections.proofs.seat.Seat.attend.Goals as goal
 

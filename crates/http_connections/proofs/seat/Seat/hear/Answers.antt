@@ -3,7 +3,7 @@ use Rattle.http_connection.specs.declared.fault.FrontFault.{FrontFault}
 use Rattle.http_connection.specs.declared.fault.FrontFault.TheVariants as fault
 use Rattle.http_connections.specs.Sockets.{after_read}
 use Rattle.http_connections.specs.Spoken.{BreaksOff, Speaks, Serves, Rests, IsAnswered, Moves, Left}
-use Rattle.http_connections.specs.declared.ring.Heard.TheVariants as heard
+use Rattle.http_connections.specs.declared.socket_ring.Heard.TheVariants as heard
 use Rattle.http_connections.specs.declared.seat.Phase.{Phase}
 use Rattle.http_connections.specs.declared.seat.Round.{Round}
 use Rattle.http_connections.specs.declared.seat.Seat.{Seat}
