@@ -15,11 +15,11 @@ use std::rt::Clock;
 use std::time::Instant;
 
 /// At least how many slots are verified, and how many instructions run, between two looks at the clock.
-const BATCH: u32 = 65_536;
+const BATCH_STEPS: u32 = 65_536;
 
 /// How often work on so many instructions is done between two looks at the clock.
 fn batch_of(instructions: u32) -> u32 {
-    (BATCH / instructions.max(1)).saturating_add(1)
+    (BATCH_STEPS / instructions.max(1)).saturating_add(1)
 }
 
 /// How many instructions some work is for, and the least nanoseconds that a batch of it took.

@@ -5,6 +5,9 @@ ghost use Rattle.kept_restore.specs.Beginnings.{HaveLoaded};
 
 use crate::crew::Lookout;
 use crate::crew::reporter::Aloud;
+use crate::limits::{
+    LOAD_AHEAD_ENTRIES, LOAD_LOOK_RECORDS, LOAD_NAP_MS, LOAD_PIECE_STAMPS, LOAD_REST_MS,
+};
 use audit_cluster::Spot;
 use cluster::{Cluster, Room};
 use kept_file::KeptFile;
@@ -16,22 +19,6 @@ use std::sync::atomic::Ordering::SeqCst;
 use std::thread;
 use std::thread::{Parker, Threads};
 use std::time::Duration;
-
-/// Behind so many records who takes them over looks whether it is to wait: as many as a block of a vnode's journal has entries.
-const STRETCH: usize = 1_024;
-
-/// So many entries may wait to be followed before it is: some 64 MB, and half a second's work of who follows. With fewer a start would take
-/// as long as that work does.
-const MOST_BEHIND: usize = 524_288;
-
-/// How long it waits then, in milliseconds.
-const REST: u64 = 2;
-
-/// So many stamps are followed in one turn.
-const PIECE: u64 = 4_096;
-
-/// How long who follows waits where there is nothing to follow, in milliseconds.
-const NAP: u64 = 1;
 
 /// What those who take records over and who follows them tell each other.
 #[derive(Drop)]
@@ -58,11 +45,11 @@ impl<'a, R: Wait> Load<'a, R> {
 
 impl<R: Wait> Throttle for Load<'_, R> {
     fn before(&self, vnode: usize, place: usize) {
-        if place % STRETCH != 0 || !self.is_behind.load(SeqCst) {
+        if place % LOAD_LOOK_RECORDS != 0 || !self.is_behind.load(SeqCst) {
             return;
         }
         if let Some(bed) = self.beds.get(vnode) {
-            bed.park_timeout(self.rt, Duration::from_millis(REST));
+            bed.park_timeout(self.rt, Duration::from_millis(LOAD_REST_MS));
         }
     }
 }
@@ -118,10 +105,11 @@ fn follow_load<B: Room + Spot, R: Wait>(
             break;
         }
         watch.hear_each(alloc, load.rt, cluster, &alarm);
-        let is_more = watch.follow_some(PIECE, &alarm);
-        load.is_behind.store(!watch.can_go_on(MOST_BEHIND), SeqCst);
+        let is_more = watch.follow_some(LOAD_PIECE_STAMPS, &alarm);
+        load.is_behind
+            .store(!watch.can_go_on(LOAD_AHEAD_ENTRIES), SeqCst);
         if !is_more {
-            nap.park_timeout(load.rt, Duration::from_millis(NAP));
+            nap.park_timeout(load.rt, Duration::from_millis(LOAD_NAP_MS));
         }
     }
 }

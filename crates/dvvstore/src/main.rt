@@ -5,6 +5,7 @@ mod beginning;
 mod crew;
 mod disk;
 mod keeper;
+mod limits;
 mod network;
 mod nowhere;
 mod reasons;

@@ -7,6 +7,7 @@ ghost use Rattle.dvvstore.specs.Keeping.{HasEnded};
 
 use crate::crew::Served;
 use crate::keeper::{Door, Keeper, Unbegun};
+use crate::limits::IDENTIFIERS_PER_START;
 use crate::nowhere::Nowhere;
 use crate::reasons::listen;
 use crate::session;
@@ -33,9 +34,6 @@ use vnode::Seed;
 
 /// What is said where memory is refused for the store.
 const NO_MEMORY: Followed = Err(WatchFault::NoMemory);
-
-/// How many identifiers of vnodes a start has.
-const IDENTIFIERS: u32 = 65_536;
 
 /// The network and the files of the system, and the streams on which who runs a server says and is told things.
 #[derive(Drop)]
@@ -113,7 +111,7 @@ impl<
             Err(_) => return Err(Unserved::Unreadable),
         };
         let making = Making {
-            first: u32::from(self.begin()) * IDENTIFIERS,
+            first: u32::from(self.begin()) * IDENTIFIERS_PER_START,
             seed,
         };
         let tenant: Tenant<'_, R, Nowhere> = Tenant::Guest(&lobby);
@@ -155,7 +153,7 @@ impl<
         };
         let Opened { number, held } = opened;
         let making = Making {
-            first: u32::from(number) * IDENTIFIERS,
+            first: u32::from(number) * IDENTIFIERS_PER_START,
             seed,
         };
         let keeper = Keeper {

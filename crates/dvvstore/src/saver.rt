@@ -6,6 +6,7 @@ ghost use Rattle.dvvstore.specs.Asides.{AllGrow, Grows};
 mod stride;
 
 use crate::crew::Signs;
+use crate::limits::{SNAPSHOT_SIDES, SNAPSHOT_TICK_MS};
 use crate::saver::stride::{Stride, is_serving};
 use cluster::{Cluster, Open, Pass, Room};
 use cluster_peers::PassPeers;
@@ -19,12 +20,6 @@ use std::io::{Eprint, Stderr};
 use std::sync::Wait;
 use std::thread::Threads;
 use std::time::Duration;
-
-/// How long it waits before it looks again whether a snapshot is due or asked for, in milliseconds.
-const TICK: u64 = 100;
-
-/// So many vnodes are read side by side.
-const SIDES: usize = 3;
 
 /// When a snapshot is made.
 #[derive(Clone, Copy, Debug)]
@@ -84,7 +79,7 @@ impl<F: Folder + Copy + Send> Saver<F> {
             least: 0,
         };
         for _ in rt.forever() {
-            signs.wait(rt, Duration::from_millis(TICK));
+            signs.wait(rt, Duration::from_millis(SNAPSHOT_TICK_MS));
             if !is_serving(signs) {
                 break;
             }
@@ -275,7 +270,7 @@ impl<B: Room, F: Folder + Copy> Side<B, F> {
             from,
         } = self;
         let mut came = Ok(0usize);
-        for index in (from..cluster.count()).step_by(SIDES) {
+        for index in (from..cluster.count()).step_by(SNAPSHOT_SIDES) {
             if came.is_ok() {
                 let more = shelf.write_vnode(rt, cluster, &mut pass, signs, index);
                 came = all_keys(came, more);

@@ -9,6 +9,7 @@ ghost use Rattle.dvvstore.specs.Keeping.{HasBegunRight, HasBegunWith, Leaves, Te
 
 use crate::crew::{Lookout, Seat, Served};
 use crate::keeper::{Begun, Keeper, Unbegun};
+use crate::limits::VNODES;
 use crate::{beginning, crew, keeper};
 use audit_cluster::{Spot, Watch};
 use audit_faults::Followed;
@@ -33,9 +34,6 @@ use std::net::{Net, TcpListener, TcpStream};
 use std::sync::{Mutex, Wait};
 use std::thread::Threads;
 use vnode::Seed;
-
-/// How many vnodes there are.
-const VNODES: u32 = 3;
 
 /// How the vnodes of a start are made.
 #[derive(Clone, Copy)]

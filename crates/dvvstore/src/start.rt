@@ -2,8 +2,7 @@
 
 ghost use Rattle.std.specs.Prelude.{◌≡◌, ◌≢◌, ◌<◌, ◌+◌, ◌%◌, ℕ};
 
-/// How many numbers there are: one for each second, and then again from the first.
-const NUMBERS: u64 = 65_536;
+use crate::limits::START_NUMBERS;
 
 /// A start of the server.
 #[derive(Clone, Copy)]
@@ -23,7 +22,7 @@ pub fn start_at(seconds: u64, millis: u32) -> Start
     ensures other { (second : ℕ) → second ≢ seconds → second < seconds + 65536 → seconds < second + 65536 → second % 65536 ≢ result.number }
 {
     Start {
-        number: (seconds % NUMBERS) as u16,
+        number: (seconds % START_NUMBERS) as u16,
         left: 1_000 - u64::from(millis),
     }
 }

@@ -11,7 +11,7 @@ use std::io;
 use std::io::Write;
 
 /// At most so many bytes of a name or a value are told.
-const SHOWN: usize = 16;
+const SHOWN_BYTES: usize = 16;
 
 /// Tells the record with which bytes begin, how many these are, and whether it is written as they stand; or why there is none.
 pub fn tell_record(alloc: Global, bytes: &[u8], told: &mut Vec<u8>) -> io::Result<()> {
@@ -56,7 +56,7 @@ fn tell_key(key: &Key, told: &mut Vec<u8>) -> io::Result<()> {
 /// Tells bytes as they stand, or how many they are where they are too many.
 fn tell_short(bytes: &[u8], told: &mut Vec<u8>) -> io::Result<()> {
     let len = bytes.len();
-    if len > SHOWN {
+    if len > SHOWN_BYTES {
         write!(told, "{len} bytes")
     } else {
         told.write_all(bytes)

@@ -5,17 +5,12 @@ ghost use Rattle.http_parse.specs.Finds.{Finds};
 ghost use Rattle.http_parse.specs.Known.{IsKnownOf};
 ghost use Rattle.http_response.specs.Answer.{answer};
 
+use crate::limits::{KEPT_TEXT_BYTES, LOOKS_PER_RENEWAL};
 use crate::spare::Spare;
 use http_parse::{Asking, KnownHead, Tables, first_request};
 use http_request::Ask;
 use http_response::{Reply, push_answer};
 use std::alloc::{AllocError, Global};
-
-/// The most room for made-up bodies that is kept from one answer to the next.
-const MOST_TEXT: usize = 65_536;
-
-/// After so many looks the media types are made anew.
-const LOOKS: u32 = 64;
 
 /// What all connections of a worker share: the tables that requests are read by, the room for a body that is made up, the room for what is
 /// known of a head, and a buffer each for the bytes that come and for the answers.
@@ -67,7 +62,7 @@ impl Desk {
     // Counts a look, and makes the media types anew at times.
     fn count_look(&mut self) {
         self.looks = self.looks.wrapping_add(1);
-        if self.looks % LOOKS == 0 {
+        if self.looks % LOOKS_PER_RENEWAL == 0 {
             self.tables.renew(self.alloc);
         }
     }
@@ -112,7 +107,7 @@ impl Desk {
         ensures { OnOk result (out.new.items ≡ out.old.items ++ answer copies ask.now reply.now ends) }
     {
         let pushed = push_answer(out, &mut self.text, copies, ask, reply, ends);
-        if self.text.capacity() > MOST_TEXT {
+        if self.text.capacity() > KEPT_TEXT_BYTES {
             self.text = Vec::new(self.alloc);
         }
         pushed

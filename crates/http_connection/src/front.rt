@@ -12,15 +12,10 @@ use crate::backend::Backend;
 use crate::desk::Desk;
 use crate::device::{Failed, Sink, Source, send};
 use crate::fault::FrontFault;
+use crate::limits::{FLUSH_BYTES, MAX_UNREAD_BYTES};
 use crate::talk::Talk;
 use crate::turn::{Step, Turn};
 use std::alloc::{AllocError, Global};
-
-/// The most bytes that wait to be read: the longest request has less.
-const ROOM: usize = 131_072;
-
-/// With so many bytes the answers wait no longer for others.
-const MANY: usize = 65_536;
 
 /// What a worker keeps from one connection to the next: its desk, and the room for a read.
 #[derive(Drop)]
@@ -37,7 +32,7 @@ impl Front {
         Ok(Front {
             alloc,
             desk: Desk::new(alloc)?,
-            chunk: vec![in alloc; 0; ROOM]?,
+            chunk: vec![in alloc; 0; MAX_UNREAD_BYTES]?,
         })
     }
 
@@ -193,7 +188,7 @@ impl Front {
         ensures read_fails { IfErr result (λ fault. fault ≡ FrontFault.Read → (mid : S) × S.fails mid source.new) }
         ensures no_write { IfErr result (λ fault. ¬ (fault ≡ FrontFault.Write)) }
     {
-        let most = ROOM - talk.waiting();
+        let most = MAX_UNREAD_BYTES - talk.waiting();
         match read_front(source, &mut self.chunk, most) {
             Ok(n) => {
                 talk.hear(&mut self.desk, &self.chunk[..n])?;
@@ -250,7 +245,7 @@ fn flush_many<W: Sink>(talk: &mut Talk, desk: &mut Desk, sink: &mut W) -> Result
     ensures failed { OnErr result (Rises (W.failures sink.old) (W.failures sink.new)) }
     ensures fails { OnErr result ((mid : W) × W.fails mid sink.new) }
 {
-    if talk.unsent().len() < MANY {
+    if talk.unsent().len() < FLUSH_BYTES {
         return Ok(());
     }
     flush(talk, desk, sink)

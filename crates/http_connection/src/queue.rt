@@ -6,14 +6,12 @@ ghost use Rattle.http_response.specs.Answer.{answer};
 ghost use Rattle.http_connection.specs.Room.{kept};
 
 use crate::desk::Desk;
+use crate::limits::USUAL_ANSWER_BYTES;
 use crate::spare::Spare;
 use http_request::Ask;
 use http_response::Reply;
 use std::alloc::{AllocError, Global};
 use std::mem;
-
-/// Room for a usual answer, made at once.
-const ANSWER: usize = 512;
 
 /// Bytes that wait, in order. Their buffer grows as it must; the first of them take it from a spare one, and the last of them hand it back.
 #[derive(Drop)]
@@ -101,7 +99,7 @@ impl Queue {
             self.bytes = desk.outgoing.take();
             self.start = 0;
         }
-        let pushed = match self.bytes.reserve(ANSWER) {
+        let pushed = match self.bytes.reserve(USUAL_ANSWER_BYTES) {
             Ok(()) => desk.push_answer(&mut self.bytes, copies, ask, reply, ends),
             Err(error) => Err(error),
         };

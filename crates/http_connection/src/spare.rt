@@ -2,11 +2,9 @@
 
 ghost use Rattle.std.specs.Prelude.{◌≡◌, []};
 
+use crate::limits::KEPT_BUFFER_BYTES;
 use std::alloc::Global;
 use std::mem;
-
-/// The most room that is kept: a larger buffer is given back to the system.
-const MOST: usize = 65_536;
 
 /// A buffer without bytes, which goes from connection to connection: one that has bytes to keep takes it, and hands it back once none are
 /// left. So a connection that waits for its client has none, and the next one need not ask the system for any.
@@ -36,7 +34,7 @@ impl Spare {
     /// Hands a buffer back, whose bytes are wanted no more. The one with more room is kept, if that isn't too much.
     pub(crate) fn put_back(&mut self, mut buffer: Vec<u8>) {
         let room = buffer.capacity();
-        if self.buffer.capacity() < room && room <= MOST {
+        if self.buffer.capacity() < room && room <= KEPT_BUFFER_BYTES {
             buffer.clear();
             self.buffer = buffer;
         }

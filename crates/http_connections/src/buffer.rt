@@ -2,10 +2,8 @@
 
 ghost use Rattle.std.specs.Prelude.{◌≡◌, ◌<◌, ℕ, length};
 
+use http_connection::READ_PIECE_BYTES;
 use std::alloc::{AllocError, Global};
-
-/// So many bytes are read at once, at most.
-const ROOM: usize = 65_536;
 
 /// Room for what is read at once. It is not empty.
 #[derive(Drop)]
@@ -17,7 +15,7 @@ pub(crate) struct Buffer {
 impl Buffer {
     /// A buffer. The error is want of memory.
     pub(crate) fn new(alloc: Global) -> Result<Buffer, AllocError> {
-        let bytes = vec![in alloc; 0; ROOM]?;
+        let bytes = vec![in alloc; 0; READ_PIECE_BYTES]?;
         Ok(Buffer { bytes })
     }
 }

@@ -8,14 +8,10 @@ ghost use Rattle.http_connections.specs.Spoken.{Serves, Left, Attended, Moves, A
 
 use crate::buffer::Buffer;
 use crate::socket_ring::{Closing, Heard, Ring, Told};
-use http_connection::{Backend, Desk, Failed, FrontFault, Step, Talk};
+use http_connection::{
+    Backend, Desk, FLUSH_BYTES, Failed, FrontFault, ROUNDS_PER_TURN, Step, Talk,
+};
 use std::alloc::Global;
-
-/// With so many bytes the answers wait no longer for others.
-const MANY: usize = 65_536;
-
-/// So many rounds a connection has before others have their turn: enough for a request or a few, and at most some tenth of a millisecond.
-const MOST_ROUNDS: u32 = 8;
 
 /// Whether requests are still taken.
 #[derive(Clone, Copy, Debug, PartialEq, Eq)]
@@ -114,7 +110,7 @@ impl Seat {
             → Attends B.gives (R.shows ring.new) number old backend.old backend.new xs (Attended (B.copies backend.old) result self.new) }
         ensures stays { B.copies backend.new ≡ B.copies backend.old }
     {
-        for _ in 0..MOST_ROUNDS {
+        for _ in 0..ROUNDS_PER_TURN {
             match self.round(number, desk, buffer, ring, backend) {
                 Ok(Round::Again) => {}
                 Ok(Round::Rests) => return None,
@@ -151,7 +147,7 @@ impl Seat {
     {
         match self.phase {
             Phase::Closing => self.finish(number, desk, ring),
-            Phase::Open if self.talk.unsent().len() >= MANY => self.tell(number, desk, ring),
+            Phase::Open if self.talk.unsent().len() >= FLUSH_BYTES => self.tell(number, desk, ring),
             Phase::Open if !self.talk.is_due() => self.exchange(number, desk, buffer, ring),
             Phase::Open => match self.talk.step(desk, backend)? {
                 Step::Answered => Ok(Round::Again),

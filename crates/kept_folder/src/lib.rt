@@ -7,6 +7,7 @@
 #![tactic(auto)]
 
 mod files;
+mod limits;
 mod names;
 mod opening;
 mod sealing;

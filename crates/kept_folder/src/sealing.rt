@@ -7,7 +7,7 @@ use sha1::Sha1;
 use std::alloc::{AllocError, Global};
 
 /// So many bytes a seal has: two digits for each byte of a SHA-1, and the end of the line.
-const SEAL_LEN: usize = 41;
+const SEAL_BYTES: usize = 41;
 
 /// Bytes and their seal: a line with their SHA-1 in hexadecimal digits.
 pub fn seal(alloc: Global, held: &[u8]) -> Result<Vec<u8>, AllocError>
@@ -26,7 +26,7 @@ pub fn unseal(alloc: Global, file: &[u8]) -> Result<Option<&[u8]>, AllocError>
     ensures some { IfOk result (λ found. IfSome found (λ requests. file.now ≡ sealed requests.now)) }
     ensures none { IfOk result (λ found. IfNone found ((requests : List ℕ) → file.now ≡ sealed requests → ⊥)) }
 {
-    let Some(len) = file.len().checked_sub(SEAL_LEN) else {
+    let Some(len) = file.len().checked_sub(SEAL_BYTES) else {
         return Ok(None);
     };
     let (requests, _) = file.split_at(len);

@@ -3,6 +3,7 @@
 ghost use Rattle.std.specs.Prelude.{◌≡◌, IfOk, IfSome};
 ghost use Rattle.kept_folder.specs.Settings.{settings_text};
 
+use crate::limits::SNAPSHOT_INTERVAL_S;
 use std::alloc::{AllocError, Global};
 
 /// What is set of a store that is kept.
@@ -13,7 +14,9 @@ pub struct Settings {
 }
 
 /// What is set where nothing is written.
-pub(crate) const USUAL: Settings = Settings { every: 60 };
+pub(crate) const USUAL: Settings = Settings {
+    every: SNAPSHOT_INTERVAL_S,
+};
 
 /// What stands before the number of seconds.
 const FRONT: &[u8] = b"snapshot ";

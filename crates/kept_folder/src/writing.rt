@@ -16,6 +16,7 @@ ghost use Rattle.kept_folder.specs.Seals.{sealed};
 ghost use Rattle.kept_folder.specs.Steps.{ArePut, AreFilesOf, Begun, IsFileOfAll, IsNamed, IsPut, Put, part_name};
 
 use crate::files::{FileFault, Folder};
+use crate::limits::WRITE_PIECE_BYTES;
 use crate::names::{HOOKS, name_of};
 use crate::sealing::seal;
 use kept_file::{Pace, SnapshotFault, Subject, write_snapshot, write_whole};
@@ -24,9 +25,6 @@ use std::alloc::{AllocError, Global};
 use std::io::{BufWriter, Write};
 use thiserror::Error;
 use vnode::Vnode;
-
-/// So many bytes of records are written at a time.
-const BLOCK: usize = 65_536;
 
 /// Why a file isn't replaced. What stood there before still stands.
 #[derive(Clone, Copy, Debug, PartialEq, Eq, Error)]
@@ -280,7 +278,7 @@ fn begin<F: Folder>(
     ensures { IfOk result (λ out. (first : Option (List ℕ)) × F.does folder.old (Begun name.now first) folder.new × Keeps first (writer_contents F.File.contents out)) }
 {
     let file = folder.create(name)?;
-    match BufWriter::with_capacity(alloc, BLOCK, file) {
+    match BufWriter::with_capacity(alloc, WRITE_PIECE_BYTES, file) {
         Ok(out) => Ok(out),
         Err(_) => Err(WriteFault::File(FileFault::NoMemory)),
     }

@@ -9,6 +9,9 @@ use libc::EMFILE;
 use mio::net::{TcpListener, TcpStream};
 use mio::{Events, Interest, Poll, Token, Waker};
 use server_sockets::Stance;
+use server_sockets::limits::{
+    ACCEPT_REPORT_MS, ACCEPT_REST_MS, ACCEPTED_PER_TURN, OFFER_AGAIN_MS, SHED_GRACE_MS,
+};
 use std::alloc::Global;
 use std::io;
 use std::io::{Eprint, ErrorKind, Stderr, Stdin};
@@ -25,23 +28,8 @@ const INPUT: Token = Token(1);
 /// That someone woke it.
 const WAKER: Token = Token(2);
 
-/// At most so many connections are taken in one turn.
-const MOST_AT_ONCE: u32 = 256;
-
-/// How long it rests at the most after it could take no connection, in milliseconds.
-const LONGEST_REST: u64 = 1_000;
-
-/// So many milliseconds at least are between two times that it tells that it can take none.
-const APART: u64 = 1_000;
-
 /// The system's number for a system that may have no more open.
 const ENFILE: i32 = 23;
-
-/// How long it waits before it offers a connection again that no worker took, in milliseconds.
-const NAP: u64 = 2;
-
-/// So many milliseconds after one came no idle connection is let go: it may be that one, not read yet.
-const GRACE: u64 = 100;
 
 /// What a try to take a connection came to.
 enum Came {
@@ -95,7 +83,7 @@ impl Patience {
 
     fn is_due(&mut self, now: u64) -> bool {
         let is_due = match self.told {
-            Some(told) => now.saturating_sub(told) >= APART,
+            Some(told) => now.saturating_sub(told) >= ACCEPT_REPORT_MS,
             None => true,
         };
         if is_due {
@@ -109,7 +97,7 @@ impl Patience {
 fn next_rest(millis: u64) -> u64
     ensures { result ≡ min (max (2 * millis) 1) 1000 }
 {
-    millis.saturating_mul(2).max(1).min(LONGEST_REST)
+    millis.saturating_mul(2).max(1).min(ACCEPT_REST_MS)
 }
 
 /// What an acceptor begins with.
@@ -209,7 +197,7 @@ impl Acceptor {
             return most;
         }
         let millis = if self.held.is_some() {
-            NAP
+            OFFER_AGAIN_MS
         } else {
             self.patience.until.saturating_sub(self.timer.last)
         };
@@ -258,7 +246,7 @@ impl Acceptor {
 
     // Hands out the connections that wait, so many at the most. After the last that may come it tells the workers.
     fn hand_out<R: Wait>(&mut self, rt: &R, roster: &Roster, now: u64) {
-        for _ in 0..MOST_AT_ONCE {
+        for _ in 0..ACCEPTED_PER_TURN {
             if !self.hand_held(rt, roster) {
                 return;
             }
@@ -317,7 +305,7 @@ impl Acceptor {
 
     // None could be taken now. Where descriptors run out, and none came lately, a worker lets its longest idle connection go.
     fn bear(&mut self, error: &io::Error, roster: &Roster, now: u64) {
-        if is_want_of_descriptors(error) && now.saturating_sub(self.came) >= GRACE {
+        if is_want_of_descriptors(error) && now.saturating_sub(self.came) >= SHED_GRACE_MS {
             roster.shed(&mut self.turn);
         }
         if self.patience.bear(now) {

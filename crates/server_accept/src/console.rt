@@ -4,6 +4,7 @@ ghost use Rattle.std.specs.Prelude.{◌≡◌, ◌≤◌};
 
 use mio::unix::SourceFd;
 use mio::{Interest, Registry, Token};
+use server_sockets::limits::CONSOLE_PIECE_BYTES;
 use std::io::{ErrorKind, Read as _, Stdin};
 use std::os::fd::AsRawFd as _;
 
@@ -15,9 +16,6 @@ const SNAPSHOT: &[u8] = b"snapshot";
 
 /// No line that says something is longer.
 const LONGEST: usize = SNAPSHOT.len();
-
-/// So many bytes are read at a time.
-const ROOM: usize = 256;
 
 /// What lines said: how many were `stop`, `snapshot`, and something else.
 #[derive(Clone, Copy, Debug, PartialEq, Eq)]
@@ -109,7 +107,7 @@ impl Console {
 
     /// Reads once what came, and is reported again where there is more. What the lines said that ended.
     pub(crate) fn hear(&mut self, registry: &Registry, token: Token) -> Said {
-        let mut bytes = [0u8; ROOM];
+        let mut bytes = [0u8; CONSOLE_PIECE_BYTES];
         let fd = self.input.as_raw_fd();
         let mut source = SourceFd(&fd);
         let read = match self.input.read(&mut bytes) {

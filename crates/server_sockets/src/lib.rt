@@ -10,14 +10,15 @@
 #![tactic(auto)]
 
 mod inlet;
-mod limits;
+pub mod limits;
 mod line;
 mod looks;
 mod orders;
 mod sockets;
+mod watch;
 mod worker;
 
 pub use inlet::Inlet;
-pub use limits::Watch;
 pub use orders::{Orders, Stance, Turned};
+pub use watch::Watch;
 pub use worker::{Worker, open};

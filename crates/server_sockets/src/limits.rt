@@ -1,61 +1,72 @@
-//! How long clients may take.
+//! The limits of sockets, of those who accept connections among them: how long, how much and how often.
 
-ghost use Rattle.std.specs.Prelude.{◌≡◌, ◌≢◌, ◌-◌, nat_lt, true, false};
-ghost use Rattle.server_sockets.specs.Limits.{most_of};
+// ---- clients
 
-use http_connections::Standing;
+/// For so long a connection may be idle between two requests, in milliseconds: ten minutes.
+pub(crate) const IDLE_LIMIT_MS: u64 = 600_000;
 
-/// For so many milliseconds a connection may be idle between two requests.
-const IDLE: u64 = 600_000;
+/// For so long a request may be coming, and a client may take nothing of its answers, in milliseconds: a minute.
+pub(crate) const STALL_LIMIT_MS: u64 = 60_000;
 
-/// For so many milliseconds a request may be coming, and a client may take nothing of its answers.
-const PATIENCE: u64 = 60_000;
+/// Clients that are too slow are looked for so often, in milliseconds: their limits are late by no more.
+pub(crate) const SWEEP_MS: u64 = 1_000;
 
-/// How a connection stands, and since when, in milliseconds: how long it is idle, or its next request is coming, or its client takes
-/// nothing of its answers.
-#[derive(Clone, Copy, Debug, PartialEq, Eq)]
-pub struct Watch {
-    /// How it stands.
-    pub standing: Standing,
-    /// Since when.
-    pub since: u64,
-}
+/// For so long what a client still sends after its last answer is dropped, in milliseconds, so that it can read that answer.
+pub(crate) const LINGER_MS: u64 = 250;
 
-impl Watch {
-    /// A connection that came now.
-    pub fn new(now: u64) -> Watch
-        ensures standing { result.standing ≡ Standing.Idle }
-        ensures since { result.since ≡ now }
-    {
-        Watch {
-            standing: Standing::Idle,
-            since: now,
-        }
-    }
+/// At most so many bytes are dropped then.
+pub(crate) const DROPPED_BYTES: usize = 262_144;
 
-    /// The connection stands so now, and some bytes of its answers were taken meanwhile or not. Where it stands as before, and none were,
-    /// it does so since then, and else since now.
-    pub fn after(self, standing: Standing, has_taken: bool, now: u64) -> Watch
-        ensures standing { result.standing ≡ standing }
-        ensures goes_on { standing ≡ self.standing → has_taken ≡ false → result.since ≡ self.since }
-        ensures other { standing ≢ self.standing → result.since ≡ now }
-        ensures taken { has_taken ≡ true → result.since ≡ now }
-    {
-        let goes_on = standing == self.standing && !has_taken;
-        Watch {
-            standing,
-            since: if goes_on { self.since } else { now },
-        }
-    }
+/// So many bytes are dropped at a time.
+pub(crate) const DROPPED_PIECE_BYTES: usize = 16_384;
 
-    /// Whether it has stood so for longer than it may.
-    pub fn is_overdue(self, now: u64) -> bool
-        ensures { result ≡ nat_lt (most_of self.standing) (now - self.since) }
-    {
-        let limit = match self.standing {
-            Standing::Idle => IDLE,
-            Standing::Asking | Standing::Telling => PATIENCE,
-        };
-        now.saturating_sub(self.since) > limit
-    }
-}
+/// So many reads that drop bytes are made at once: others wait for them.
+pub(crate) const DROPPING_READS: u32 = 64;
+
+// ---- a worker's turn
+
+/// At most so many connections are reported for one turn.
+pub(crate) const REPORTED_PER_TURN: usize = 256;
+
+/// At most so many connections are seated in one turn.
+pub(crate) const SEATED_PER_TURN: u32 = 256;
+
+/// Connections that are called again are attended at most so many times in one turn.
+pub(crate) const CALLED_PER_TURN: u32 = 64;
+
+/// They are until so many bytes were read and written.
+pub(crate) const CALLED_BYTES_PER_TURN: usize = 1_048_576;
+
+/// One of which so many bytes were read and written when it was attended takes its turn behind others, when it is reported next.
+pub(crate) const BUSY_BYTES: usize = 65_536;
+
+/// A worker rests so long after its wait failed, in milliseconds.
+pub(crate) const WAIT_FAILED_REST_MS: u64 = 10;
+
+/// A worker looks at most so many times for something to do before it sleeps: for one or two tenths of a millisecond. A client that reads
+/// many answers at once sends its next requests about so much later, and where processors are virtual a thread that sleeps is often woken
+/// no sooner.
+pub(crate) const MAX_LOOKS: u32 = 256;
+
+/// Where looking found nothing, it is tried again before each so many-th sleep.
+pub(crate) const SLEEPS_PER_LOOK: u32 = 64;
+
+// ---- the thread that accepts
+
+/// At most so many connections are taken in one turn.
+pub const ACCEPTED_PER_TURN: u32 = 256;
+
+/// Who accepts rests at the most so long after no connection could be taken, in milliseconds.
+pub const ACCEPT_REST_MS: u64 = 1_000;
+
+/// So long at least is between two times that it tells that none can be taken, in milliseconds.
+pub const ACCEPT_REPORT_MS: u64 = 1_000;
+
+/// It waits so long before it offers a connection again that no worker took, in milliseconds.
+pub const OFFER_AGAIN_MS: u64 = 2;
+
+/// For so long after a connection came no idle one is let go, in milliseconds: it may be that one, not read yet.
+pub const SHED_GRACE_MS: u64 = 100;
+
+/// So many bytes of standard input are read at a time: some lines.
+pub const CONSOLE_PIECE_BYTES: usize = 256;

@@ -3,7 +3,8 @@
 ghost use Rattle.std.specs.Prelude.{◌<◌, length, IfOk};
 ghost use Rattle.http_connections.specs.Spoken.{FitsHeard, FitsTold};
 
-use crate::limits::Watch;
+use crate::limits::{BUSY_BYTES, DROPPED_BYTES, DROPPING_READS};
+use crate::watch::Watch;
 use http_connection::Failed;
 use http_connections::{Heard, Standing, Told};
 use mio::net::TcpStream;
@@ -11,15 +12,6 @@ use mio::{Interest, Registry, Token};
 use std::io::{ErrorKind, Read as _, Write as _};
 use std::mem;
 use std::net::Shutdown;
-
-/// At most so many bytes are read and dropped after the last answer.
-const MOST_DROPPED: usize = 262_144;
-
-/// So many reads of a connection that closes are made at once.
-const MOST_READS: u32 = 64;
-
-/// One of which so many bytes were read and written when it was attended takes its turn behind others, when it is reported next.
-const MUCH: usize = 65_536;
 
 /// What is done with a connection.
 #[derive(Clone, Copy, Debug, PartialEq, Eq)]
@@ -189,19 +181,19 @@ impl Line {
             self.watch.since = now;
         }
         let moved = mem::replace(&mut self.moved, 0);
-        self.moves_much = moved >= MUCH;
+        self.moves_much = moved >= BUSY_BYTES;
         moved
     }
 
     /// Tells the client that no more comes. Whether what it still sends is to be dropped.
     pub(crate) fn hang_up(&mut self) -> bool {
-        self.course = Course::Drains(MOST_DROPPED);
+        self.course = Course::Drains(DROPPED_BYTES);
         self.stream.shutdown(Shutdown::Write).is_ok()
     }
 
     /// Reads and drops what the client sends.
     pub(crate) fn drain(&mut self, room: &mut [u8]) -> Drained {
-        for _ in 0..MOST_READS {
+        for _ in 0..DROPPING_READS {
             let Course::Drains(left) = self.course else {
                 return Drained::NotYet;
             };

@@ -1,11 +1,6 @@
 //! How often a worker looks for something to do before it sleeps.
 
-/// At most so many times: for one or two tenths of a millisecond. A client that reads many answers at once sends its next requests about so
-/// much later, and where processors are virtual a thread that sleeps is often woken no sooner.
-const MOST: u32 = 256;
-
-/// Where looking found nothing, it is tried again before each so many-th sleep.
-const AGAIN: u32 = 64;
+use crate::limits::{MAX_LOOKS, SLEEPS_PER_LOOK};
 
 /// How often a worker looks whether something is to be done before it sleeps until something is.
 ///
@@ -24,14 +19,14 @@ impl Looks {
     /// It looks as often as it may.
     pub(crate) fn new() -> Looks {
         Looks {
-            count: MOST,
+            count: MAX_LOOKS,
             unlooked: 0,
         }
     }
 
     /// What follows where something was found by a look, or nothing was and it slept.
     pub(crate) fn after(self, found: bool) -> Looks {
-        if found || self.unlooked >= AGAIN {
+        if found || self.unlooked >= SLEEPS_PER_LOOK {
             return Looks::new();
         }
         let unlooked = if self.count == 0 {

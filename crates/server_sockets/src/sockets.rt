@@ -2,6 +2,7 @@
 
 ghost use Rattle.std.specs.Prelude.{◌≡◌, ◌<◌, ◌≤◌, ◌+◌, ◌-◌, ◌^◌, ℕ, max, min, IfOk, OnErr};
 
+use crate::limits::{DROPPED_PIECE_BYTES, LINGER_MS};
 use crate::line::{Course, Drained, Line};
 use crate::looks::Looks;
 use http_connection::{Failed, FrontFault};
@@ -13,12 +14,6 @@ use std::collections::{BTreeMap, VecDeque};
 use std::thread::yield_now;
 use std::time::Duration;
 use std::{io, mem};
-
-/// So many milliseconds what a client still sends after its last answer is dropped.
-pub(crate) const LINGER: u64 = 250;
-
-/// So many bytes are dropped at a time.
-const ROOM: usize = 16_384;
 
 /// Whether connections are read from.
 #[derive(Clone, Copy, Debug, PartialEq, Eq)]
@@ -73,7 +68,7 @@ impl Sockets {
             held: Vec::new(alloc),
             called: VecDeque::new(alloc),
             draining: VecDeque::new(alloc),
-            room: vec![in alloc; 0; ROOM]?,
+            room: vec![in alloc; 0; DROPPED_PIECE_BYTES]?,
             now: 0,
             lacks: 0,
         })
@@ -143,7 +138,7 @@ impl Sockets {
         } else if self.draining.is_empty() {
             most
         } else {
-            most.min(Duration::from_millis(LINGER))
+            most.min(Duration::from_millis(LINGER_MS))
         }
     }
 
@@ -322,7 +317,7 @@ impl Sockets {
     fn close_in_order(&mut self, number: u64)
         ensures next { self.new.next ≡ self.old.next }
     {
-        let until = self.now.saturating_add(LINGER);
+        let until = self.now.saturating_add(LINGER_MS);
         let drains = match self.lines.get_mut(&number) {
             Some(line) => line.hang_up() && self.draining.push_back((number, until)).is_ok(),
             None => false,

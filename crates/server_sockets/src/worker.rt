@@ -5,6 +5,10 @@ ghost use Rattle.http_connections.specs.Sockets.{Sockets as History, unborn};
 ghost use Rattle.server_sockets.specs.Work.{Stays, Works, seats_of, shows};
 
 use crate::inlet::Inlet;
+use crate::limits::{
+    CALLED_BYTES_PER_TURN, CALLED_PER_TURN, REPORTED_PER_TURN, SEATED_PER_TURN, SWEEP_MS,
+    WAIT_FAILED_REST_MS,
+};
 use crate::orders::{Orders, Stance, Turned};
 use crate::sockets::{Reading, Sockets};
 use http_connection::Backend;
@@ -17,26 +21,8 @@ use std::thread::Parker;
 use std::time::Duration;
 use std::{io, mem};
 
-/// At most so many connections are reported for one turn.
-const MOST_EVENTS: usize = 256;
-
-/// Connections that are called again are attended at most so many times in one turn.
-const MOST_CALLED: u32 = 64;
-
-/// They are until so many bytes were read and written.
-const MOST_MOVED: usize = 1_048_576;
-
-/// At most so many connections are seated in one turn.
-const MOST_SEATED: u32 = 256;
-
 /// What is reported where the worker is woken.
 const WAKER: Token = Token(usize::MAX);
-
-/// Clients that are too slow are looked for each so many milliseconds.
-const SWEEP: u64 = 1_000;
-
-/// So many milliseconds a worker rests after its wait failed.
-const REST: u64 = 10;
 
 /// A worker: a hall, its sockets, and the room for what is reported.
 #[derive(Drop)]
@@ -65,12 +51,12 @@ pub fn open<R: Net<Listener = TcpListener, Stream = TcpStream>>(
     let poll = Poll::new(rt)?;
     let waker = Waker::new(poll.registry(), WAKER)?;
     let mut reported = Vec::new(alloc);
-    reported.reserve(MOST_EVENTS)?;
+    reported.reserve(REPORTED_PER_TURN)?;
     let worker = Worker {
         alloc,
         hall: Hall::new(alloc)?,
         sockets: Sockets::new(alloc, poll)?,
-        events: Events::with_capacity(alloc, MOST_EVENTS)?,
+        events: Events::with_capacity(alloc, REPORTED_PER_TURN)?,
         reported,
         swept: 0,
         is_stopping: false,
@@ -126,7 +112,8 @@ impl Worker {
         ensures { Stays self.old self.new }
     {
         if self.sockets.wait(&mut self.events, most).is_err() {
-            self.rest.park_timeout(rt, Duration::from_millis(REST));
+            self.rest
+                .park_timeout(rt, Duration::from_millis(WAIT_FAILED_REST_MS));
         }
         note_reported(&self.events, &mut self.sockets, &mut self.reported);
     }
@@ -135,7 +122,7 @@ impl Worker {
     fn seat<R: Wait>(&mut self, rt: &R, inlet: &Inlet, stance: Stance)
         ensures { Stays self.old self.new }
     {
-        for _ in 0..MOST_SEATED {
+        for _ in 0..SEATED_PER_TURN {
             let Some(stream) = inlet.take(rt) else {
                 return;
             };
@@ -179,8 +166,8 @@ impl Worker {
         ensures { Works B.gives B.copies self.old self.new backend.old backend.new }
     {
         let mut moved = 0usize;
-        for _ in 0..MOST_CALLED {
-            if moved >= MOST_MOVED {
+        for _ in 0..CALLED_PER_TURN {
+            if moved >= CALLED_BYTES_PER_TURN {
                 return;
             }
             match self.attend_next(backend) {
@@ -243,7 +230,7 @@ impl Worker {
     fn give_up_overdue(&mut self, now: u64)
         ensures { Stays self.old self.new }
     {
-        if now.saturating_sub(self.swept) < SWEEP {
+        if now.saturating_sub(self.swept) < SWEEP_MS {
             return;
         }
         self.swept = now;

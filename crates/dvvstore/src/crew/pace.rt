@@ -2,30 +2,13 @@
 
 ghost use Rattle.std.specs.Prelude.{◌≡◌, true};
 
+use crate::limits::{
+    CONTENT_BYTES_PER_ENTRY, FEW_ENTRIES, FOLLOW_BREATH_MS, FOLLOW_TICK_MS, PAUSE_ENTRIES,
+    RESUME_ENTRIES, SNAPSHOTS_PAUSE_ENTRIES,
+};
 use audit_cluster::{Spot, Watch};
 use cluster::Room;
 use std::time::Duration;
-
-/// Workers rest where so many entries wait to be followed, or more, or the contents of as many.
-const MOST_WAITING: usize = 100_000;
-
-/// They rest until fewer than so many do: for some ten milliseconds at a time, so that no client waits longer than that for its turn.
-const LEAST_WAITING: usize = 98_000;
-
-/// Snapshots wait where so many entries wait to be followed: well before workers have to.
-const MOST_BEFORE_SNAPSHOTS: usize = 20_000;
-
-/// For each entry that may wait, so many bytes of contents may: 64 MiB for 100,000.
-const BYTES_EACH: u64 = 671;
-
-/// Where fewer entries wait to be followed, who follows leaves the processor to others between its turns.
-const FEW_WAITING: usize = 4_096;
-
-/// How long the thread that follows waits for a connection before its next turn where nothing is to be followed, in milliseconds.
-const TICK: u64 = 20;
-
-/// How long it does where little is.
-const BREATH: u64 = 1;
 
 /// When the next turn is of the thread that follows.
 #[derive(Clone, Copy, Debug)]
@@ -43,7 +26,7 @@ impl Next {
     pub(crate) fn after<B: Room + Spot>(watch: &Watch<B>, is_more: bool) -> Next {
         if !is_more {
             Next::Later
-        } else if is_below(watch, FEW_WAITING) {
+        } else if is_below(watch, FEW_ENTRIES) {
             Next::Soon
         } else {
             Next::Now
@@ -54,8 +37,8 @@ impl Next {
     pub(crate) fn pause(self) -> Duration {
         let millis = match self {
             Next::Now => 0,
-            Next::Soon => BREATH,
-            Next::Later => TICK,
+            Next::Soon => FOLLOW_BREATH_MS,
+            Next::Later => FOLLOW_TICK_MS,
         };
         Duration::from_millis(millis)
     }
@@ -80,9 +63,9 @@ impl Pace {
         ensures { result ≡ true → is_more ≡ true }
     {
         let most = if self.rests {
-            LEAST_WAITING
+            RESUME_ENTRIES
         } else {
-            MOST_WAITING
+            PAUSE_ENTRIES
         };
         self.rests = is_more && !is_below(watch, most);
         self.rests
@@ -91,10 +74,10 @@ impl Pace {
 
 /// Whether snapshots wait until more is followed. They do so only where there is something to follow.
 pub(crate) fn keeps_snapshots_waiting<B: Room + Spot>(watch: &Watch<B>, is_more: bool) -> bool {
-    is_more && !is_below(watch, MOST_BEFORE_SNAPSHOTS)
+    is_more && !is_below(watch, SNAPSHOTS_PAUSE_ENTRIES)
 }
 
 /// Whether fewer than so many entries wait, with less than their bytes of contents.
 fn is_below<B: Room + Spot>(watch: &Watch<B>, many: usize) -> bool {
-    watch.can_go_on(many) && watch.holds_less((many as u64).saturating_mul(BYTES_EACH))
+    watch.can_go_on(many) && watch.holds_less((many as u64).saturating_mul(CONTENT_BYTES_PER_ENTRY))
 }

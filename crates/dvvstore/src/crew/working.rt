@@ -12,6 +12,7 @@ use crate::crew::held::HeldPeers;
 use crate::crew::pace::{Next, Pace, keeps_snapshots_waiting};
 use crate::crew::reporter::{Aloud, Reporter};
 use crate::crew::signs::Signs;
+use crate::limits::{FOLLOWED_PIECE_STAMPS, WORKER_NAP_MS, WORKER_WAIT_MS};
 use audit_cluster::{Spot, Watch};
 use cluster::{Cluster, Pass, Room};
 use hook_registry::{HookChanges, Hooks};
@@ -33,16 +34,6 @@ use std::sync::{Mutex, Wait};
 use std::thread;
 use std::thread::{Parker, Threads};
 use std::time::Duration;
-
-/// So many stamps are followed in one turn, in some two tenths of a millisecond. Connections that come meanwhile wait, and so may a thread
-/// that shares the processor.
-const PIECE: u64 = 256;
-
-/// How long a worker waits at the most for something to do, in milliseconds.
-const LONGEST_WAIT: u64 = 500;
-
-/// How long it does where it also accepts and follows, or reads nothing, in milliseconds.
-const NAP: u64 = 5;
 
 /// What one worker has.
 #[derive(Drop)]
@@ -171,7 +162,7 @@ fn attend<B: Room + Spot, R: Wait>(rt: &R, floor: &Floor<'_, B>) {
             break;
         }
         floor.lobby.accept(rt, next.pause());
-        next = follow(rt, floor, &mut pace, PIECE);
+        next = follow(rt, floor, &mut pace, FOLLOWED_PIECE_STAMPS);
     }
 }
 
@@ -250,9 +241,9 @@ fn longest_wait(orders: &Orders, is_alone: bool, is_last: bool) -> Duration {
     let millis = if is_last {
         0
     } else if is_alone || !orders.may_read {
-        NAP
+        WORKER_NAP_MS
     } else {
-        LONGEST_WAIT
+        WORKER_WAIT_MS
     };
     Duration::from_millis(millis)
 }

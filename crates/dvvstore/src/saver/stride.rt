@@ -1,34 +1,16 @@
 //! How fast a snapshot of a vnode goes on.
 
 use crate::crew::Signs;
+use crate::limits::{
+    CLOCK_LOOK_READS, MAX_REST_US, REST_PER_SPELL, REST_PER_WAIT, SPELL_KEYS, SPELL_US,
+    TURN_WAIT_MS,
+};
 use kept_file::Pace;
 use server_accept::{Post, Stint, Timer};
 use server_sockets::Stance;
 use std::sync::Wait;
 use std::thread::Parker;
 use std::time::Duration;
-
-/// At most so many keys of a vnode are read in a spell: half of the entries of which the follower keeps what they answered. So what a
-/// client's call answered is kept for longer than a spell lasts.
-const SPELL: u32 = 8_192;
-
-/// A spell lasts so many microseconds at the most.
-const SPELL_MICROS: u64 = 5_000;
-
-/// The clock is looked at behind so many reads.
-const LOOK: u32 = 64;
-
-/// Workers are waited for at most so many milliseconds behind a spell.
-const LONGEST_WAIT: u64 = 100;
-
-/// A rest is so many times as long as the spell before it lasted: so a thread has a seventh of a processor.
-const REST: u64 = 6;
-
-/// It is so many times as long as the thread waited for a processor in that spell, where that is longer.
-const REST_OF_WAITS: u64 = 16;
-
-/// It is at most so many microseconds long.
-const LONGEST_REST: u64 = 100_000;
 
 /// Whether the server goes on: neither have all workers ended, nor was it told to stop.
 pub(crate) fn is_serving(signs: &Signs<'_>) -> bool {
@@ -37,9 +19,9 @@ pub(crate) fn is_serving(signs: &Signs<'_>) -> bool {
 
 /// How many microseconds are rested behind a spell.
 fn rest_behind(spell: &Stint) -> u64 {
-    let by_time = spell.lasted().saturating_mul(REST);
-    let by_waits = spell.waited().saturating_mul(REST_OF_WAITS);
-    by_time.max(by_waits).min(LONGEST_REST)
+    let by_time = spell.lasted().saturating_mul(REST_PER_SPELL);
+    let by_waits = spell.waited().saturating_mul(REST_PER_WAIT);
+    by_time.max(by_waits).min(MAX_REST_US)
 }
 
 /// How fast a snapshot of a vnode goes on, and how long: as long as the server does. It reads spell by spell. Behind one in which somebody
@@ -71,7 +53,7 @@ impl<'a, R: Wait> Stride<'a, R> {
             signs,
             idle: Parker::new(),
             stint: Stint::begin(),
-            left: SPELL,
+            left: SPELL_KEYS,
             last: None,
             is_shared: true,
         }
@@ -87,7 +69,7 @@ impl<'a, R: Wait> Stride<'a, R> {
 
     /// Whether the spell is over.
     fn is_over(&self) -> bool {
-        self.left == 0 || self.left % LOOK == 0 && self.stint.lasted() >= SPELL_MICROS
+        self.left == 0 || self.left % CLOCK_LOOK_READS == 0 && self.stint.lasted() >= SPELL_US
     }
 
     /// The spell ends, and another begins.
@@ -99,14 +81,14 @@ impl<'a, R: Wait> Stride<'a, R> {
         }
         self.wait_for_follower();
         self.stint = Stint::begin();
-        self.left = SPELL;
+        self.left = SPELL_KEYS;
         self.is_shared = false;
     }
 
     /// Waits until each worker has ended the turn that it is in.
     fn wait_for_workers(&self) {
         let mut timer = Timer::new();
-        let until = timer.now().saturating_add(LONGEST_WAIT);
+        let until = timer.now().saturating_add(TURN_WAIT_MS);
         for post in &self.signs.lobby.roster.posts {
             self.wait_for(post, &mut timer, until);
         }

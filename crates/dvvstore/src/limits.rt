@@ -1,0 +1,93 @@
+//! The limits of the server: how much may wait, how often is looked, and how long is rested.
+
+/// How many vnodes there are.
+pub(crate) const VNODES: u32 = 3;
+
+/// How many numbers of starts there are: one for each second, and then again from the first.
+pub(crate) const START_NUMBERS: u64 = 65_536;
+
+/// How many identifiers of vnodes a start has.
+pub(crate) const IDENTIFIERS_PER_START: u32 = 65_536;
+
+// ---- following
+
+/// So many stamps are followed in one turn, in some two tenths of a millisecond. Connections that come meanwhile wait, and so may a thread
+/// that shares the processor.
+pub(crate) const FOLLOWED_PIECE_STAMPS: u64 = 256;
+
+/// Workers rest where so many entries wait to be followed, or more, or the contents of as many.
+pub(crate) const PAUSE_ENTRIES: usize = 100_000;
+
+/// They rest until fewer than so many do: for some ten milliseconds at a time, so that no client waits longer than that for its turn.
+pub(crate) const RESUME_ENTRIES: usize = 98_000;
+
+/// Snapshots wait where so many entries wait to be followed: well before workers have to.
+pub(crate) const SNAPSHOTS_PAUSE_ENTRIES: usize = 20_000;
+
+/// For each entry that may wait, so many bytes of contents may: 64 MiB for 100,000.
+pub(crate) const CONTENT_BYTES_PER_ENTRY: u64 = 671;
+
+/// Where fewer entries wait to be followed, who follows leaves the processor to others between its turns.
+pub(crate) const FEW_ENTRIES: usize = 4_096;
+
+/// How long who follows waits for a connection before its next turn where nothing is to be followed, in milliseconds.
+pub(crate) const FOLLOW_TICK_MS: u64 = 20;
+
+/// How long it does where little is, in milliseconds.
+pub(crate) const FOLLOW_BREATH_MS: u64 = 1;
+
+// ---- workers
+
+/// How long a worker waits at the most for something to do, in milliseconds.
+pub(crate) const WORKER_WAIT_MS: u64 = 500;
+
+/// How long it does where it also accepts and follows, or reads nothing, in milliseconds.
+pub(crate) const WORKER_NAP_MS: u64 = 5;
+
+// ---- a beginning
+
+/// Behind so many records who takes them over looks whether it is to wait: as many as a block of a vnode's journal has entries.
+pub(crate) const LOAD_LOOK_RECORDS: usize = 1_024;
+
+/// So many entries may wait to be followed before it is: some 64 MB, and half a second's work of who follows. With fewer a start would take
+/// as long as that work does.
+pub(crate) const LOAD_AHEAD_ENTRIES: usize = 524_288;
+
+/// How long it waits then, in milliseconds.
+pub(crate) const LOAD_REST_MS: u64 = 2;
+
+/// So many stamps of a beginning are followed in one turn: no client waits yet.
+pub(crate) const LOAD_PIECE_STAMPS: u64 = 4_096;
+
+/// How long who follows a beginning waits where there is nothing to follow, in milliseconds.
+pub(crate) const LOAD_NAP_MS: u64 = 1;
+
+// ---- snapshots
+
+/// How long is waited before it is looked again whether a snapshot is due or asked for, in milliseconds.
+pub(crate) const SNAPSHOT_TICK_MS: u64 = 100;
+
+/// So many vnodes are read side by side.
+pub(crate) const SNAPSHOT_SIDES: usize = 3;
+
+/// At most so many keys of a vnode are read in a spell: half of the entries of which the follower keeps what they answered. So what a
+/// client's call answered is kept for longer than a spell lasts.
+pub(crate) const SPELL_KEYS: u32 = 8_192;
+
+/// A spell lasts so long at the most, in microseconds.
+pub(crate) const SPELL_US: u64 = 5_000;
+
+/// The clock is looked at behind so many reads.
+pub(crate) const CLOCK_LOOK_READS: u32 = 64;
+
+/// Workers are waited for at most so long behind a spell, in milliseconds.
+pub(crate) const TURN_WAIT_MS: u64 = 100;
+
+/// A rest is so many times as long as the spell before it lasted: so a thread has a seventh of a processor.
+pub(crate) const REST_PER_SPELL: u64 = 6;
+
+/// It is so many times as long as the thread waited for a processor in that spell, where that is longer.
+pub(crate) const REST_PER_WAIT: u64 = 16;
+
+/// It is at most so long, in microseconds.
+pub(crate) const MAX_REST_US: u64 = 100_000;

@@ -1,0 +1,7 @@
+//! The limits of a folder's files.
+
+/// So many bytes of records are written at a time: a call of the system for many.
+pub(crate) const WRITE_PIECE_BYTES: usize = 65_536;
+
+/// So many seconds after a snapshot the next one begins where nothing is set: a crash loses about a minute of writes.
+pub(crate) const SNAPSHOT_INTERVAL_S: u32 = 60;

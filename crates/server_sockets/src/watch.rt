@@ -1,0 +1,56 @@
+//! How long clients may take.
+
+ghost use Rattle.std.specs.Prelude.{◌≡◌, ◌≢◌, ◌-◌, nat_lt, true, false};
+ghost use Rattle.server_sockets.specs.Limits.{most_of};
+
+use crate::limits::{IDLE_LIMIT_MS, STALL_LIMIT_MS};
+use http_connections::Standing;
+
+/// How a connection stands, and since when, in milliseconds: how long it is idle, or its next request is coming, or its client takes
+/// nothing of its answers.
+#[derive(Clone, Copy, Debug, PartialEq, Eq)]
+pub struct Watch {
+    /// How it stands.
+    pub standing: Standing,
+    /// Since when.
+    pub since: u64,
+}
+
+impl Watch {
+    /// A connection that came now.
+    pub fn new(now: u64) -> Watch
+        ensures standing { result.standing ≡ Standing.Idle }
+        ensures since { result.since ≡ now }
+    {
+        Watch {
+            standing: Standing::Idle,
+            since: now,
+        }
+    }
+
+    /// The connection stands so now, and some bytes of its answers were taken meanwhile or not. Where it stands as before, and none were,
+    /// it does so since then, and else since now.
+    pub fn after(self, standing: Standing, has_taken: bool, now: u64) -> Watch
+        ensures standing { result.standing ≡ standing }
+        ensures goes_on { standing ≡ self.standing → has_taken ≡ false → result.since ≡ self.since }
+        ensures other { standing ≢ self.standing → result.since ≡ now }
+        ensures taken { has_taken ≡ true → result.since ≡ now }
+    {
+        let goes_on = standing == self.standing && !has_taken;
+        Watch {
+            standing,
+            since: if goes_on { self.since } else { now },
+        }
+    }
+
+    /// Whether it has stood so for longer than it may.
+    pub fn is_overdue(self, now: u64) -> bool
+        ensures { result ≡ nat_lt (most_of self.standing) (now - self.since) }
+    {
+        let limit = match self.standing {
+            Standing::Idle => IDLE_LIMIT_MS,
+            Standing::Asking | Standing::Telling => STALL_LIMIT_MS,
+        };
+        now.saturating_sub(self.since) > limit
+    }
+}
