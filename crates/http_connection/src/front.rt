@@ -1,4 +1,5 @@
-//! All requests of a connection.
+//! All requests of one connection over a source and a sink: those that are at hand in memory. Connections of a server have a seat in a hall
+//! each, which goes the same steps of a `Talk` without waiting.
 
 ghost use Rattle.std.specs.Prelude.{◌≡◌, ◌<◌, ◌≤◌, ◌++◌, ℕ, List, length, take, Some, [], IfOk, IfErr, OnOk, OnErr};
 ghost use Rattle.std.specs.Io.KnownBytes.{Consumes, IsAtEnd, Keeps};

@@ -1,4 +1,4 @@
-//! Readers and writers of std's, whose calls contracts see.
+//! Readers and writers of std's, whose calls contracts see. Only tests reach them: the sockets of a server are those of a ring.
 
 ghost use Rattle.std.specs.Prelude.{◌≡◌, ℕ, List, Option};
 ghost use Rattle.std.specs.Io.{ReadsAtMost, WritesAtMost};

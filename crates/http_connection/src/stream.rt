@@ -1,4 +1,4 @@
-//! A source and a sink over any reader and writer, as a socket.
+//! A source and a sink over any reader and writer of std's. Only tests reach them: the sockets of a server are those of a ring.
 
 ghost use Rattle.std.specs.Prelude.{◌≡◌, ◌<◌, ◌⊎◌, ℕ, List, length, Option};
 ghost use Rattle.http_connection.specs.Device.{Rises};

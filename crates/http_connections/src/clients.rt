@@ -1,4 +1,4 @@
-//! Clients in memory, for tests: what comes from each, and what each takes, is said step by step.
+//! Clients in memory: what comes from each, and what each takes, is said step by step. No server has any: tests and examples do.
 
 ghost use Rattle.std.specs.Prelude.{◌≡◌, ◌<◌, ◌≤◌, ℕ, ◌+◌, ◌++◌, [], true, false, length, take, slice_get, Some, None, Ok, IfOk, OnOk, OnErr};
 ghost use Rattle.http_connections.specs.Sockets.{Socket, unborn, after_accept, after_read, after_write, after_call, after_close};

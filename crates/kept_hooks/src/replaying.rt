@@ -4,7 +4,7 @@ ghost use Rattle.std.specs.Prelude.{◌≡◌, ◌++◌, ℕ, List, [], Some, If
 ghost use Rattle.http_connection.specs.Dialogue.{Completes};
 ghost use Rattle.kept_hooks.specs.Replays.{no_contents};
 
-use http_connection::{Backend, FailSink, FailSource, Front, FrontFault};
+use http_connection::{Backend, Front, FrontFault, MemorySink, MemorySource};
 use std::alloc::{AllocError, Global};
 use thiserror::Error;
 
@@ -40,8 +40,8 @@ pub fn replay<B: Backend>(alloc: Global, requests: &[u8], store: &mut B) -> Resu
     ensures done { IfOk result (λ count. Completes B.gives (B.copies store.old) requests.now store.old store.new [] (Some (no_contents count)) count) }
 {
     let mut front = Front::new(alloc)?;
-    let mut source = FailSource::new(requests, usize::MAX, None);
-    let mut sink = FailSink::new(alloc, usize::MAX, None);
+    let mut source = MemorySource::new(requests);
+    let mut sink = MemorySink::new(alloc);
     let count = front.serve(&mut source, &mut sink, store)?;
     see_done(&sink.bytes, count)?;
     Ok(count)

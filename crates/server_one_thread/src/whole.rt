@@ -9,7 +9,7 @@ ghost use Rattle.server_one_thread.specs.Past.{Now};
 ghost use Rattle.server_one_thread.specs.Stores.{IsOfOneThread};
 
 use crate::serving::serve;
-use http_connection::{Backend, FailSink, FailSource, Front, FrontFault};
+use http_connection::{Backend, Front, FrontFault, MemorySink, MemorySource};
 use std::alloc::Global;
 
 /// The answers to all the requests of a connection whose bytes are these, on a store of one thread: what [`serve`](crate::serve) writes.
@@ -24,8 +24,8 @@ pub fn answers_to<B: Backend>(
         → (count : ℕ) × Serves bytes.now (now store.old) (now store.new) changes [] (Some out.items) count) }
 {
     let mut front = Front::new(alloc)?;
-    let mut source = FailSource::new(bytes, usize::MAX, None);
-    let mut sink = FailSink::new(alloc, usize::MAX, None);
+    let mut source = MemorySource::new(bytes);
+    let mut sink = MemorySink::new(alloc);
     serve(&mut front, &mut source, &mut sink, store)?;
     Ok(sink.bytes)
 }

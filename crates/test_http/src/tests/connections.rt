@@ -2,7 +2,7 @@
 
 use crate::tests::opening::open;
 use crate::tests::rows::{HOOKS, HTTP_SIBLINGS, RESOLVERS, Row};
-use http_connection::{FailSink, FailSource, Front, FrontFault};
+use http_connection::{Front, FrontFault, MemorySink, MemorySource};
 use std::alloc::{AllocError, Global};
 use std::test::Fail;
 use test_support::expect;
@@ -22,8 +22,8 @@ pub(crate) fn bytes_of(alloc: Global, rows: &[Row]) -> Result<(Vec<u8>, Vec<u8>)
 fn connect(
     alloc: Global,
     front: &mut Front,
-    source: &mut FailSource<'_>,
-    sink: &mut FailSink,
+    source: &mut MemorySource<'_>,
+    sink: &mut MemorySink,
 ) -> Result<Result<u64, FrontFault>, AllocError> {
     let mut store = open(alloc, 0)?;
     Ok(server_one_thread::serve(front, source, sink, &mut store))
@@ -38,8 +38,8 @@ fn writes_of(
     requests: usize,
     step: usize,
 ) -> Result<u64, Fail> {
-    let mut source = FailSource::new(asked, step, None);
-    let mut sink = FailSink::new(alloc, step, None);
+    let mut source = MemorySource::in_pieces(asked, step, None);
+    let mut sink = MemorySink::in_pieces(alloc, step, None);
     let count = connect(alloc, front, &mut source, &mut sink)??;
     expect(
         count == requests as u64 && sink.bytes.as_slice() == told,
@@ -145,8 +145,8 @@ fn has_ended(
         Device::Source => (Some(call), None, (Err(FrontFault::Read), 1, 0)),
         Device::Sink => (None, Some(call), (Err(FrontFault::Write), 0, 1)),
     };
-    let mut source = FailSource::new(asked, 7, read);
-    let mut sink = FailSink::new(alloc, 7, write);
+    let mut source = MemorySource::in_pieces(asked, 7, read);
+    let mut sink = MemorySink::in_pieces(alloc, 7, write);
     let back = connect(alloc, front, &mut source, &mut sink)?;
     let end = (back, source.failures, sink.failures);
     let has_failed = end == failed && told.starts_with(&sink.bytes);

@@ -4,7 +4,7 @@
 use crate::tests::refusals::refusing::{End, Trial, begin, end_beside, in_turn, was_met};
 use bpf_helpers::Table;
 use hook_registry::Registry;
-use http_connection::{FailSink, FailSource, Front, FrontFault};
+use http_connection::{Front, FrontFault, MemorySink, MemorySource};
 use peers::Local;
 use server_one_thread::{one_thread, serve};
 use server_store::Store;
@@ -63,8 +63,8 @@ fn is_answered(
     told: &[u8],
 ) -> Result<bool, Fail> {
     let mut front = Front::new(alloc)?;
-    let mut source = FailSource::new(request, usize::MAX, None);
-    let mut sink = FailSink::new(alloc, usize::MAX, None);
+    let mut source = MemorySource::new(request);
+    let mut sink = MemorySink::new(alloc);
     let count = serve(&mut front, &mut source, &mut sink, store)?;
     Ok(count == 1 && sink.bytes.as_slice() == told)
 }
@@ -131,8 +131,8 @@ impl Serve {
     ) -> Result<(bool, End), Fail> {
         answer_all(alloc, store, self.before)?;
         let mut front = Front::new(alloc)?;
-        let mut source = FailSource::new(self.exchange.0, usize::MAX, None);
-        let mut sink = FailSink::new(alloc, usize::MAX, None);
+        let mut source = MemorySource::new(self.exchange.0);
+        let mut sink = MemorySink::new(alloc);
         sink.bytes.reserve(256)?;
         begin(rt);
         let back = serve(&mut front, &mut source, &mut sink, store);

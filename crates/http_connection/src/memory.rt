@@ -1,4 +1,4 @@
-//! A source and a sink in memory, which give and take a few bytes at a time and may fail at a chosen call.
+//! A source and a sink in memory. Tests have them give and take a few bytes at a time, and fail at a chosen call.
 
 ghost use Rattle.std.specs.Prelude.{◌≡◌, ◌<◌, ◌+◌, ◌⊎◌, ℕ, List, [], length, max, vec_len, Option, Some, None};
 ghost use Rattle.std.specs.Vec.{vec_capacity};
@@ -6,9 +6,9 @@ ghost use Rattle.std.specs.Vec.{vec_capacity};
 use crate::device::{Failed, Sink, Source};
 use std::alloc::Global;
 
-/// Bytes that come at most `step` at a time. The read of the number `fail_at`, counted from 0, fails.
+/// Bytes in memory, which come at most `step` at a time. The read of the number `fail_at`, counted from 0, fails.
 #[derive(Clone, Copy)]
-pub struct FailSource<'a> {
+pub struct MemorySource<'a> {
     /// The bytes that reads will give.
     pub bytes: &'a [u8],
     /// The most bytes that a read gives; 0 counts as 1.
@@ -21,12 +21,19 @@ pub struct FailSource<'a> {
     pub failures: u64,
 }
 
-impl<'a> FailSource<'a> {
-    /// Bytes of which no read was made yet.
-    pub fn new(bytes: &'a [u8], step: usize, fail_at: Option<u64>) -> Self
+impl<'a> MemorySource<'a> {
+    /// Bytes that come at once, where the reader has room. No read of them fails.
+    pub fn new(bytes: &'a [u8]) -> Self
         ensures { result.bytes.now ≡ bytes.now }
     {
-        FailSource {
+        MemorySource::in_pieces(bytes, usize::MAX, None)
+    }
+
+    /// Bytes that come in pieces, `step` at most in one, and of which one read may fail.
+    pub fn in_pieces(bytes: &'a [u8], step: usize, fail_at: Option<u64>) -> Self
+        ensures { result.bytes.now ≡ bytes.now }
+    {
+        MemorySource {
             bytes,
             step,
             fail_at,
@@ -36,7 +43,7 @@ impl<'a> FailSource<'a> {
     }
 }
 
-impl Source for FailSource<'_> {
+impl Source for MemorySource<'_> {
     ghost remaining = { λ s. Some s.bytes.now };
 
     ghost failures = { λ s. s.failures };
@@ -60,10 +67,10 @@ impl Source for FailSource<'_> {
     }
 }
 
-/// A buffer that takes at most `step` bytes at a time. The write of the number `fail_at`, counted from 0, fails, and one for
+/// A buffer in memory that takes at most `step` bytes at a time. The write of the number `fail_at`, counted from 0, fails, and one for
 /// which there is no memory.
 #[derive(Drop)]
-pub struct FailSink {
+pub struct MemorySink {
     /// The bytes that were written.
     pub bytes: Vec<u8>,
     /// The most bytes that a write takes; 0 counts as 1.
@@ -76,12 +83,19 @@ pub struct FailSink {
     pub failures: u64,
 }
 
-impl FailSink {
-    /// An empty buffer.
-    pub fn new(alloc: Global, step: usize, fail_at: Option<u64>) -> Self
+impl MemorySink {
+    /// An empty buffer that takes all that is written at once. No write fails but for want of memory.
+    pub fn new(alloc: Global) -> Self
         ensures { result.bytes.items ≡ [] }
     {
-        FailSink {
+        MemorySink::in_pieces(alloc, usize::MAX, None)
+    }
+
+    /// An empty buffer that takes `step` bytes of a write at most, and of which one write may fail.
+    pub fn in_pieces(alloc: Global, step: usize, fail_at: Option<u64>) -> Self
+        ensures { result.bytes.items ≡ [] }
+    {
+        MemorySink {
             bytes: Vec::new(alloc),
             step,
             fail_at,
@@ -91,7 +105,7 @@ impl FailSink {
     }
 }
 
-impl Sink for FailSink {
+impl Sink for MemorySink {
     ghost contents = { λ s. Some s.bytes.items };
 
     ghost failures = { λ s. s.failures };
