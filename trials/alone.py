@@ -1,65 +1,66 @@
-#!/usr/bin/env python3
-"""A server that can have no thread, over loopback: all that it does it does on the one that it begins with.
+"""A server that may have no thread: all that it does it does on the one that it begins with.
 
-    alone.py DVVSTORE
-
-As root it starts `DVVSTORE serve` as nobody, who may have one process or thread (by prlimit), with three workers: with COUNT, and without. Clients
-write and read; with COUNT they leave then, and without it the server is told to stop. Each has to be answered, and the server to end
-with status 0 and `audit ok`. The status is 0 where all that held.
+As root the server is started by a user that may have one process or thread, with three workers: with a count of connections, and
+without. Clients write and read; with the count they leave then, and without it the server is told to stop. Each has to be answered,
+and the server to end with status 0 and `audit ok`.
 """
+from __future__ import annotations
+
 import os
+import random
 import resource
-import subprocess
-import sys
+import shutil
+import tempfile
+from pathlib import Path
 
-import stop
+from server import End, Server, request
+from trial import Findings, Result, Skipped, Whole
 
+NAME = "alone"
+PROMISES = "A server that may have no thread answers all its clients on one, and ends in order."
+QUICK = True
+FULL = SHORT = Whole()
+
+WORKERS = 3
 CLIENTS = 3
-PUT = b"PUT /buckets/b/keys/k HTTP/1.1\r\nHost: h\r\nContent-Length: 1\r\n\r\na"
-NOBODY = 65_534
+MOST_BYTES = 2_000
+FIRST_FREE_USER = 2_000_000_000
+END_SECONDS = 60
 
 
-def have_no_thread():
-    os.setgid(NOBODY)
-    os.setuid(NOBODY)
+def have_no_thread() -> None:
+    """Makes the process that of a user who has no other, and may have none."""
+    user = FIRST_FREE_USER + os.getpid()
+    os.setgid(user)
+    os.setuid(user)
     resource.setrlimit(resource.RLIMIT_NPROC, (1, 1))
 
 
-class Alone(stop.Server):
-    """A server that can have no thread."""
-
-    def __init__(self, program, *count):
-        words = [program, "serve", "127.0.0.1:0", "3", *count]
-        pipe = subprocess.PIPE
-        self.process = subprocess.Popen(words, stdin=pipe, stdout=pipe, stderr=pipe, text=True, preexec_fn=have_no_thread)
-        host, _, port = self.process.stdout.readline().removeprefix("listening ").strip().rpartition(":")
-        self.address = host, int(port)
-
-
-def is_right(program, *count):
-    server = Alone(program, *count)
-    clients = [server.connect(PUT) for _ in range(CLIENTS)]
-    written = all(client.recv(4096).startswith(b"HTTP/1.1 204 ") for client in clients)
-    threads = len(os.listdir(f"/proc/{server.process.pid}/task"))
-    for client in clients:
-        client.sendall(stop.PING)
-    answered = all(client.recv(4096) == stop.PONG for client in clients)
-    if count:
-        for client in clients:
-            client.close()
-    else:
-        server.say("stop")
-    ended = server.end(20)
-    print(f"{' '.join(('serve 127.0.0.1:0 3', *count))}: {threads} thread, written {written}, answered {answered}, ended {ended}")
-    return threads == 1 and written and answered and ended == (0, "audit ok\n", "")
+def try_count(found: Findings, program: Path, chance: random.Random, count: int | None) -> None:
+    """Tries a server that ends by itself after so many connections, or by being told."""
+    what = "without a count" if count is None else f"with a count of {count}"
+    with Server.serve(program, WORKERS, count, before=have_no_thread) as server:
+        write = request("PUT", "/buckets/b/keys/k", chance.randbytes(chance.randint(1, MOST_BYTES)))
+        clients = [server.client(write) for _ in range(CLIENTS)]
+        found.hold(all(client.hear().status == 204 for client in clients), f"{what}: each write is answered")
+        found.hold(len(server.threads()) == 1, f"{what}: one thread, and not {len(server.threads())}")
+        found.hold(all(client.ping() for client in clients), f"{what}: each ping is answered")
+        if count is None:
+            server.say("stop")
+        else:
+            for client in clients:
+                client.close()
+        end = server.end(END_SECONDS)
+        found.hold(end == End(0, ["audit ok"], []), f"{what}: it ends in order: {end}")
 
 
-def main(program):
-    goes = [is_right(os.path.abspath(program), *count) for count in ((), (str(CLIENTS),))]
-    return 0 if all(goes) else 1
-
-
-if __name__ == "__main__":
-    if len(sys.argv) != 2:
-        sys.exit(__doc__)
-    sys.exit(main(sys.argv[1]))
+def run(program: Path, seed: int, size: Whole) -> Result:
+    if os.geteuid():
+        raise Skipped("not root")
+    found, chance = Findings(), random.Random(seed)
+    with tempfile.TemporaryDirectory() as folder:
+        os.chmod(folder, 0o755)
+        readable = shutil.copy(program, folder)
+        for count in (None, CLIENTS):
+            try_count(found, readable, chance, count)
+    return found.result(f"{2 * CLIENTS} clients of 2 servers of one thread")

@@ -1,96 +1,144 @@
-#!/usr/bin/env python3
 """Keys that strangers chose so that they collide are found as fast as others.
 
-    colliding.py DVVSTORE [KEYS]
-
-Each key is twenty pairs of letters, `Aa` or `BB`: all 1,048,576 of them have one value under the hash that multiplies by 31 and adds a byte, at any number of bits, so that a
-table by it becomes a list. So many of them (1,000,000) are written and then read, one at a time, at a server with one worker, and as many keys of the same length that
-don't collide at another; so three times, by servers of their own. Told are the microseconds of the middle answer, of 999 of 1,000, of all but ten, and of the slowest,
-and last of the slowest key: the quickest of its three answers, since who comes late by the machine's work comes late by chance, and who does so by a key or a growth
-does so each time. One key is written before, untimed: a server answers from the end of the second in which it starts. The status is 0 where keys that collide took no
-more than twice the middle time of other keys, and the slowest of them no more than ten times their middle time.
+Each key is twenty pairs of letters, `Aa` or `BB`: all 1,048,576 of them have one value under the hash that multiplies by 31 and
+adds a byte, at any number of bits, so that a table by it becomes a list. A million of them are written and then read, one at a
+time, at a server with one worker, and as many keys of the same length that don't collide at another; so three times, by servers of
+their own. Told are the microseconds of the middle answer, of 999 of 1,000, of all but ten, and of the slowest, and last of the
+slowest key: the quickest of its three answers, since who comes late by the machine's work comes late by chance, and who does so by
+a key or a growth does so each time. One key is written before, untimed: a server answers from the end of the second in which it
+starts. Keys that collide may take no more than twice the middle time of other keys, and the slowest of them no more than ten times
+their middle time, which the short form tells and doesn't judge.
 """
-import itertools
-import socket
-import sys
-import time
+from __future__ import annotations
 
-from strangers import Server
+import itertools
+import random
+import time
+from collections.abc import Callable
+from dataclasses import dataclass
+from pathlib import Path
+
+from server import HEAD_END, Client, Server, request
+from trial import Findings, Result
+
+NAME = "colliding"
+PROMISES = "Keys chosen to collide are served as fast as others, and none takes ten times as long."
+QUICK = False
+
+
+@dataclass(frozen=True)
+class Size:
+    """How many keys there are of each kind, by how many servers they are served in turn, and whether the slowest key is judged."""
+
+    keys: int
+    rounds: int
+    is_slowest_judged: bool
+
+
+FULL = Size(keys=1_000_000, rounds=3, is_slowest_judged=True)
+SHORT = Size(keys=5_000, rounds=3, is_slowest_judged=False)
 
 PAIRS = 20
-ROUNDS = 3
-SLACK, SLOWEST = 2.0, 10.0
-PUT = b"PUT /buckets/b/keys/%s HTTP/1.1\r\nHost: h\r\nContent-Length: 1\r\n\r\nv"
-GET = b"GET /buckets/b/keys/%s HTTP/1.1\r\nHost: h\r\n\r\n"
-DONE = {PUT: b"HTTP/1.1 204 ", GET: b"HTTP/1.1 200 "}
-ENDS = {PUT: b"\r\n\r\n", GET: b"\r\n\r\nv"}
+MOST_OF_MIDDLE = 2.0
+MOST_OF_SLOWEST_KEY = 10.0
+VALUE = b"v"
 
 
-def colliding(number):
-    return b"".join(b"BB" if number >> place & 1 else b"Aa" for place in range(PAIRS))
+@dataclass(frozen=True)
+class Method:
+    """How a key is asked for, and how the answer begins and ends."""
+
+    name: str
+    body: bytes | None
+    begin: bytes
+    end: bytes
+
+    def request(self, key: str) -> bytes:
+        return request(self.name, f"/buckets/b/keys/{key}", self.body)
 
 
-def others(number):
-    return b"%0*d" % (2 * PAIRS, number)
+METHODS = (Method("PUT", VALUE, b"HTTP/1.1 204 ", HEAD_END), Method("GET", None, b"HTTP/1.1 200 ", HEAD_END + VALUE))
 
 
-def hash_31(key):
+def colliding(number: int) -> str:
+    return "".join("BB" if number >> place & 1 else "Aa" for place in range(PAIRS))
+
+
+def other(number: int) -> str:
+    return f"{number:0{2 * PAIRS}}"
+
+
+KINDS: dict[str, Callable[[int], str]] = {"colliding": colliding, "others": other}
+
+
+def hash_31(key: str) -> int:
     value = 0
-    for byte in key:
+    for byte in key.encode():
         value = value * 31 + byte
     return value
 
 
-def asked(client, method, key):
-    """How many microseconds an answer took."""
-    start = time.perf_counter()
-    client.sendall(method % key)
-    found = client.recv(4096)
-    while not found.endswith(ENDS[method]):
-        more = client.recv(4096)
-        if not more:
-            sys.exit(f"{key!r}: {found!r}")
-        found += more
-    if not found.startswith(DONE[method]):
-        sys.exit(f"{key!r}: {found!r}")
-    return (time.perf_counter() - start) * 1e6
+def microseconds(client: Client, method: Method, key: str) -> float:
+    """How long an answer took."""
+    asked = method.request(key)
+    begun = time.perf_counter()
+    client.send(asked)
+    answer = client.until(method.end)
+    took = time.perf_counter() - begun
+    if not answer.startswith(method.begin):
+        raise ValueError(f"{method.name} {key}: {answer!r}")
+    return took * 1e6
 
 
-def measured(program, key_of, count):
+def measured(program: Path, key_of: Callable[[int], str], numbers: list[int]) -> list[list[float]]:
     """The times of all writes and of all reads, in the order of the keys."""
-    with Server(program, 1) as server:
-        with server.connect() as client:
-            client.setsockopt(socket.IPPROTO_TCP, socket.TCP_NODELAY, 1)
-            asked(client, PUT, b"first")
-            times = [[asked(client, method, key_of(number)) for number in range(count)] for method in (PUT, GET)]
-        server.stop(300)
+    with Server.serve(program, 1) as server:
+        with server.client() as client:
+            microseconds(client, METHODS[0], "first")
+            times = [[microseconds(client, method, key_of(number)) for number in numbers] for method in METHODS]
+        server.stop_in_order()
     return times
 
 
-def of_method(rounds, method):
-    """The times of all rounds in order, and of each key the quickest, in order."""
+@dataclass(frozen=True)
+class Times:
+    """What came of all rounds of a method, in microseconds, in order, and of each key the quickest, in order."""
+
+    all: list[float]
+    keys: list[float]
+
+    @property
+    def middle(self) -> float:
+        return self.all[len(self.all) // 2]
+
+    @property
+    def slowest_key(self) -> float:
+        return self.keys[-1]
+
+    def told(self) -> str:
+        behind = (len(self.all) // 1_000, min(10, len(self.all) - 1), 0)
+        late = " ".join(f"{self.all[-1 - place]:8.0f}" for place in behind)
+        return f"{self.middle:7.0f} {late} {self.slowest_key:8.0f}"
+
+
+def times_of(rounds: list[list[list[float]]], method: int) -> Times:
     times = [each[method] for each in rounds]
-    return sorted(itertools.chain(*times)), sorted(map(min, zip(*times)))
+    return Times(sorted(itertools.chain(*times)), sorted(map(min, zip(*times))))
 
 
-def main(program, count="1000000"):
-    count = int(count)
-    if len({hash_31(colliding(number)) for number in range(0, count, 1 + count // 1000)}) != 1:
-        sys.exit("the keys don't collide")
-    rounds = {name: [measured(program, key_of, count) for _ in range(ROUNDS)] for name, key_of in (("colliding", colliding), ("others", others))}
-    goes = True
-    for place, method in enumerate(("PUT", "GET")):
-        middles = {}
-        for name, each in rounds.items():
-            times, keys = of_method(each, place)
-            middles[name] = times[len(times) // 2]
-            print(f"{method} {name:9}: {middles[name]:7.0f} {times[-1 - len(times) // 1000]:7.0f} {times[max(0, len(times) - 11)]:7.0f} {times[-1]:9.0f} {keys[-1]:9.0f}", flush=True)
-            goes = goes and keys[-1] <= SLOWEST * middles[name]
-        goes = goes and middles["colliding"] <= SLACK * middles["others"]
-    return 0 if goes else 1
-
-
-if __name__ == "__main__":
-    if len(sys.argv) not in (2, 3):
-        sys.exit(__doc__)
-    sys.exit(main(*sys.argv[1:]))
+def run(program: Path, seed: int, size: Size) -> Result:
+    found = Findings()
+    numbers = random.Random(seed).sample(range(2**PAIRS), size.keys)
+    if len({hash_31(colliding(number)) for number in numbers[: 1 + size.keys // 1_000]}) != 1:
+        raise ValueError("the keys don't collide")
+    rounds = {name: [measured(program, key_of, numbers) for _ in range(size.rounds)] for name, key_of in KINDS.items()}
+    ratios = []
+    for place, method in enumerate(METHODS):
+        ours, others = (times_of(rounds[name], place) for name in KINDS)
+        for name, times in (("colliding", ours), ("others", others)):
+            found.say(f"{method.name} {name:9}: {times.told()}")
+        is_near = not size.is_slowest_judged or ours.slowest_key <= MOST_OF_SLOWEST_KEY * ours.middle
+        found.hold(is_near, f"{method.name}: the slowest key takes {ours.slowest_key:.0f} us, the middle answer {ours.middle:.0f}")
+        ratios.append(ours.middle / others.middle)
+        found.hold(ratios[-1] <= MOST_OF_MIDDLE, f"{method.name}: keys that collide take {ratios[-1]:.2f} times as long")
+    return found.result(f"{size.keys} keys: writes {ratios[0]:.2f}, reads {ratios[1]:.2f} times as long")

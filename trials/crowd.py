@@ -1,223 +1,269 @@
-#!/usr/bin/env python3
-"""A crowd on two workers, over loopback: many connections that are idle, busy ones that don't notice, and strangers who do ill.
+"""A crowd on two workers: many connections that are idle, busy ones that don't notice, and strangers who do ill.
 
-    crowd.py DVVSTORE [IDLE [BUSY [STRANGERS]]]
+Ten thousand connections ask once and then stay, and the resident bytes that each takes are told. A hundred others write and read
+without end. A process of its own asks for `/ping` every 10 milliseconds, in turn on a connection that it keeps and on a new one,
+and tells its slowest answer. Then strangers come, 300 of each kind: heads that come by the byte, halves of bodies, connections that
+are reset, and clients that ask for much, many requests at a time, and read nothing; they leave and come once more.
 
-It starts `DVVSTORE serve` with two workers. So many connections (10,000) ask once and then stay, and the resident bytes that each takes are told. So
-many others (100) write and read without end. A process of its own asks for `/ping` every 10 milliseconds, in turn on a connection that it keeps
-and on a new one, and tells its slowest answer. Then strangers come, so many (300) of each kind: heads that come by the byte, halves of
-bodies, connections that are reset, and clients that ask for much, many requests at a time, and read nothing; they leave and come
-once more. The status is 0 where every answer was right, no `/ping` took more than 100 milliseconds, nobody who was idle was let
-go, each idle connection took at most 2,048 resident bytes, all of the system's and the program's that are counted as the process's, no open file was left, and the second coming of the strangers took less than 4 MB.
+Every answer has to be right, no ping slower than is said, nobody who is idle let go; each idle connection takes at most 2,048
+resident bytes, all of the system's and the program's that are counted as the process's; no open file is left, and the second coming
+of the strangers takes less than 4 MB.
 
 It needs as many open files as it has connections, and raises its own limit and the server's where it may.
 """
+from __future__ import annotations
+
+import dataclasses
 import multiprocessing
+import random
 import resource
 import selectors
-import socket
-import struct
-import sys
 import threading
 import time
+from collections.abc import Callable
+from dataclasses import dataclass
+from pathlib import Path
 
-from strangers import BIG, Server, reads_nothing
+from server import PING, Answer, Client, Server, request
+from strangers import BIG, put_big, reads_nothing
+from trial import Findings, Result, Skipped
 
-PING = b"GET /ping HTTP/1.1\r\nHost: h\r\n\r\n"
-PONG = b"HTTP/1.1 200 OK\r\nContent-Type: text/plain\r\nContent-Length: 2\r\n\r\nOK"
+NAME = "crowd"
+PROMISES = "Pings are answered soon beside many idle clients, busy ones and strangers who do ill."
+QUICK = True
+
+WORKERS = 2
+VALUE = b"v" * 100
 HEAD = b"PUT /buckets/b/keys/slow HTTP/1.1\r\nHost: h\r\nX-Slow: " + b"x" * 200
-BODY = b"PUT /buckets/b/keys/half HTTP/1.1\r\nHost: h\r\nContent-Length: 60000\r\n\r\n" + bytes(30_000)
-LONGEST = 0.1
-SECONDS = 5
+HALF_A_BODY = request("PUT", "/buckets/b/keys/half", bytes(60_000))[:-30_000]
+MUCH = BIG * 256 + PING * 10_000
+RESET_BEHIND = (b"", HEAD[:50], PING)
+RESETS_TOGETHER = 10
+PING_EVERY_SECONDS = 0.01
+SETTLE_SECONDS = 2.0
+PATIENCE_SECONDS = 60
+SPARE_FILES = 200
+GREETED_TOGETHER = 100
+
+MOST_IDLE_BYTES = 2_048
+MOST_LOST_BYTES = 4_000_000
+STORED_BYTES_AN_ANSWER = 700
 
 
-def received(client, count):
-    found = b""
-    while len(found) < count:
-        more = client.recv(count - len(found))
-        if not more:
-            break
-        found += more
-    return found
+@dataclass(frozen=True)
+class Size:
+    """How many come, how long each spell takes, and how slow a ping may be. Of few connections none is weighed."""
+
+    idle: int
+    busy: int
+    strangers: int
+    spell_seconds: float
+    slowest_ping_seconds: float
+    is_weighed: bool = True
+
+    def open_files(self) -> int:
+        return self.idle + self.busy + 5 * self.strangers + SPARE_FILES
+
+
+FULL = Size(idle=10_000, busy=100, strangers=300, spell_seconds=5.0, slowest_ping_seconds=0.1)
+# Where the machine has much else to do, a ping waits for a processor.
+SHORT = Size(idle=500, busy=20, strangers=30, spell_seconds=1.5, slowest_ping_seconds=1.0, is_weighed=False)
 
 
 class Prober:
-    """Asks for `/ping` every 10 milliseconds, by a process of its own."""
+    """Asks for pings at a steady pace, by a process of its own."""
 
-    def __init__(self, address):
-        self.slowest = multiprocessing.Value("d", 0.0)
-        self.wrong = multiprocessing.Value("i", 0)
-        self.count = multiprocessing.Value("i", 0)
-        self.process = multiprocessing.Process(target=self.run, args=(address,), daemon=True)
+    def __init__(self, server: Server):
+        forking = multiprocessing.get_context("fork")
+        self.slowest, self.wrong, self.count = forking.Value("d", 0.0), forking.Value("i", 0), forking.Value("i", 0)
+        self.process = forking.Process(target=self.run, args=(server.address,), daemon=True)
         self.process.start()
 
-    def run(self, address):
-        kept = socket.create_connection(address, timeout=30)
-        for number in range(1_000_000_000):
-            start = time.monotonic()
-            client = kept if number % 2 == 0 else socket.create_connection(address, timeout=30)
-            client.sendall(PING)
-            if received(client, len(PONG)) != PONG:
-                self.wrong.value += 1
-            self.slowest.value = max(self.slowest.value, time.monotonic() - start)
+    def run(self, address: tuple[str, int]) -> None:
+        kept, is_new = Client(address), False
+        while True:
+            begun = time.monotonic()
+            client = Client(address) if is_new else kept
+            self.wrong.value += not client.ping()
+            self.slowest.value = max(self.slowest.value, time.monotonic() - begun)
             self.count.value += 1
-            if client is not kept:
+            if is_new:
                 client.close()
-            time.sleep(0.01)
+            is_new = not is_new
+            time.sleep(PING_EVERY_SECONDS)
 
-    def take(self):
+    def take(self) -> tuple[float, int]:
         """The slowest answer since it was last asked, in seconds, and how many there were."""
         told = self.slowest.value, self.count.value
         self.slowest.value, self.count.value = 0.0, 0
         return told
 
+    def end(self) -> None:
+        self.process.terminate()
+        self.process.join()
+
+
+@dataclass
+class BusyClient:
+    """A client that writes a key and reads it, and then the next one."""
+
+    client: Client
+    number: int
+    turn: int = 0
+
+    def ask(self) -> None:
+        key = f"/buckets/busy/keys/k{self.number}-{self.turn // 2}"
+        self.client.send(request("PUT", key, VALUE) if self.turn % 2 == 0 else request("GET", key))
+
+    def is_right(self, answer: Answer) -> bool:
+        return (answer.status, answer.body) == ((204, b"") if self.turn % 2 == 0 else (200, VALUE))
+
 
 class Busy(threading.Thread):
-    """Clients that each write and read a key of their own in turn, until told to end. What they are answered is counted, and what is wrong."""
+    """Clients that each write and read keys of their own in turn, until told to end. Answers are counted, and those that are wrong."""
 
-    def __init__(self, server, count):
+    def __init__(self, server: Server, count: int):
         super().__init__(daemon=True)
-        self.over = False
-        self.answers = 0
-        self.wrong = 0
-        self.choices = selectors.EpollSelector()
-        for number in range(count):
-            client = server.connect()
-            client.setblocking(False)
-            self.choices.register(client, selectors.EVENT_READ, [number, 0, b""])
-            self.ask(client, number, 0)
+        self.is_over, self.answers, self.wrong = False, 0, 0
+        self.choices = selectors.DefaultSelector()
+        self.clients = [BusyClient(server.client(), number) for number in range(count)]
+        for busy in self.clients:
+            self.choices.register(busy.client.socket, selectors.EVENT_READ, busy)
+            busy.ask()
 
-    @staticmethod
-    def ask(client, number, turn):
-        key = f"/buckets/busy/keys/k{number}-{turn // 2}"
-        value = b"v" * 100
-        if turn % 2 == 0:
-            client.send(b"PUT %s HTTP/1.1\r\nHost: h\r\nContent-Length: 100\r\n\r\n%s" % (key.encode(), value))
-        else:
-            client.send(b"GET %s HTTP/1.1\r\nHost: h\r\n\r\n" % key.encode())
-
-    @staticmethod
-    def is_whole(turn, found):
-        return found.endswith(b"\r\n\r\n") if turn % 2 == 0 else found.endswith(b"\r\n\r\n" + b"v" * 100)
-
-    def run(self):
-        while not self.over:
+    def run(self) -> None:
+        while not self.is_over:
             for key, _ in self.choices.select(0.1):
-                number, turn, found = key.data
-                found += key.fileobj.recv(4096)
-                if self.is_whole(turn, found):
-                    wanted = b"HTTP/1.1 204 " if turn % 2 == 0 else b"HTTP/1.1 200 "
-                    self.wrong += not found.startswith(wanted)
-                    self.answers += 1
-                    turn, found = turn + 1, b""
-                    self.ask(key.fileobj, number, turn)
-                key.data[:] = [number, turn, found]
+                try:
+                    self.hear(key.data)
+                except (OSError, ValueError):
+                    self.wrong += 1
+                    self.choices.unregister(key.fileobj)
+
+    def hear(self, busy: BusyClient) -> None:
+        busy.client.receive()
+        answer = busy.client.whole_answer()
+        if answer is not None:
+            self.wrong += not busy.is_right(answer)
+            self.answers += 1
+            busy.turn += 1
+            busy.ask()
+
+    def end(self) -> None:
+        self.is_over = True
+        self.join()
+        self.choices.close()
 
 
-def asks_for_much(server):
-    """A client that asks for 16 MB, many requests at a time, and reads none of it."""
-    return reads_nothing(server, BIG * 256 + PING * 10_000)
-
-
-def strangers(server, count):
-    """So many of each kind come, stay for some seconds, and leave."""
-    slow = [server.connect() for _ in range(count)]
-    half = [server.connect(BODY) for _ in range(count)]
-    deaf = [asks_for_much(server) for _ in range(count)]
-    begun = time.monotonic()
+def come_and_go(server: Server, size: Size, chance: random.Random) -> None:
+    """So many strangers of each kind come, stay for some seconds, and leave."""
+    slow = [server.client() for _ in range(size.strangers)]
+    half = [server.client(HALF_A_BODY) for _ in range(size.strangers)]
+    deaf = [reads_nothing(server, MUCH) for _ in range(size.strangers)]
+    until = time.monotonic() + size.spell_seconds
     for place in range(len(HEAD)):
         for client in slow:
-            client.sendall(HEAD[place : place + 1])
-        for _ in range(10):
-            client = server.connect((b"", HEAD[:50], PING)[place % 3])
-            client.setsockopt(socket.SOL_SOCKET, socket.SO_LINGER, struct.pack("ii", 1, 0))
-            client.close()
-        if time.monotonic() - begun > SECONDS:
+            client.send(HEAD[place : place + 1])
+        for _ in range(RESETS_TOGETHER):
+            server.client(chance.choice(RESET_BEHIND)).reset()
+        if time.monotonic() > until:
             break
-    time.sleep(max(0.0, SECONDS - (time.monotonic() - begun)))
+    time.sleep(max(0.0, until - time.monotonic()))
     for client in slow + half + deaf:
         client.close()
 
 
-def held(what, name):
-    print(f"{'holds' if what else 'FAILS'}: {name}", flush=True)
-    return bool(what)
+@dataclass
+class Crowd:
+    """A server, who is at it, and what is found."""
 
+    found: Findings
+    server: Server
+    size: Size
+    idle: list[Client] = dataclasses.field(default_factory=list)
+    slowest: float = 0.0
 
-def beside(name, prober, busy, work):
-    """Whether nobody noticed what was done meanwhile."""
-    before = busy.answers
-    start = time.monotonic()
-    work()
-    took = time.monotonic() - start
-    slowest, count = prober.take()
-    print(f"{name}: {count} pings, the slowest took {slowest * 1000:.1f} ms; the busy ones had {(busy.answers - before) / took:.0f} answers a second", flush=True)
-    return held(slowest <= LONGEST and count > 0, f"no ping took more than {LONGEST * 1000:.0f} ms ({name})")
+    def greet(self) -> None:
+        """Has the idle ones connect and ask once, and weighs them."""
+        before = self.server.memory_bytes()
+        while len(self.idle) < self.size.idle:
+            group = [self.server.client(PING) for _ in range(GREETED_TOGETHER)]
+            self.found.hold(all(client.hear().is_pong for client in group), "each connection is answered")
+            self.idle += group
+        each = (self.server.memory_bytes() - before) / len(self.idle)
+        self.found.say(f"an idle connection takes {each:.0f} resident bytes")
+        if self.size.is_weighed:
+            self.found.hold(each <= MOST_IDLE_BYTES, f"an idle connection is small, and not {each:.0f} bytes")
 
+    def beside(self, name: str, prober: Prober, busy: Busy, work: Callable[[], None]) -> None:
+        """Whether nobody noticed what was done meanwhile."""
+        answers, begun = busy.answers, time.monotonic()
+        work()
+        rate = (busy.answers - answers) / (time.monotonic() - begun)
+        slowest, count = prober.take()
+        self.slowest = max(self.slowest, slowest)
+        self.found.say(f"{name}: {count} pings, the slowest took {slowest * 1000:.1f} ms; the busy ones had {rate:.0f} answers a second")
+        most = self.size.slowest_ping_seconds
+        is_soon = count > 0 and slowest <= most
+        self.found.hold(is_soon, f"no ping took more than {most * 1000:.0f} ms beside {name}, and not {slowest * 1000:.0f}")
 
-def main(program, idle="10000", busy="100", count="300"):
-    idle, count = int(idle), int(count)
-    soft, hard = resource.getrlimit(resource.RLIMIT_NOFILE)
-    wanted = idle + int(busy) + 5 * count + 200
-    if soft < wanted:
-        resource.setrlimit(resource.RLIMIT_NOFILE, (min(max(wanted, soft), hard), hard))
-    server = Server(program, workers=2, patience=30)
-    try:
-        big = server.connect(b"PUT /buckets/b/keys/big HTTP/1.1\r\nHost: h\r\nContent-Length: 65536\r\n\r\n" + bytes(65_536))
-        received(big, 20)
-        big.close()
-        for client in [server.connect(PING) for _ in range(50)]:
-            received(client, len(PONG))
-            client.close()
-        time.sleep(2)
-        files = server.files()
-        before = server.memory()
-        crowd = []
-        for number in range(idle):
-            crowd.append(server.connect(PING))
-            if number % 100 == 99:
-                goes = all(received(client, len(PONG)) == PONG for client in crowd[-100:])
-        bytes_each = (server.memory() - before) / idle
-        goes = held(goes, f"{idle} connections were answered")
-        print(f"an idle connection takes {bytes_each:.0f} resident bytes", flush=True)
-        goes = held(bytes_each <= 2_048, "an idle connection is small") and goes
-        many = Busy(server, int(busy))
-        many.start()
-        prober = Prober(server.address)
+    def spells(self, chance: random.Random) -> Busy:
+        """The spells of idle ones, and of strangers twice."""
+        busy, prober = Busy(self.server, self.size.busy), Prober(self.server)
+        busy.start()
         time.sleep(1)
         prober.take()
-        goes = beside("idle ones", prober, many, lambda: time.sleep(SECONDS)) and goes
-        goes = beside("strangers", prober, many, lambda: strangers(server, count)) and goes
-        time.sleep(2)
+        self.beside("idle ones", prober, busy, lambda: time.sleep(self.size.spell_seconds))
+        self.beside("strangers", prober, busy, lambda: come_and_go(self.server, self.size, chance))
+        time.sleep(SETTLE_SECONDS)
         prober.take()
-        once = server.memory()
-        begun = many.answers
-        goes = beside("strangers once more", prober, many, lambda: strangers(server, count)) and goes
-        time.sleep(2)
-        grown = server.memory() - once
-        kept = (many.answers - begun) * 700
-        print(f"the second coming took {grown / 1e6:.1f} MB, at most {kept / 1e6:.1f} of them what the busy ones stored", flush=True)
-        goes = held(grown - kept < 4_000_000, "no memory is lost") and goes
-        prober.process.terminate()
-        prober.process.join()
-        many.over = True
-        many.join()
-        goes = held(many.wrong == 0 and prober.wrong.value == 0, "every answer was right") and goes
-        for client in crowd:
-            client.sendall(PING)
-        goes = held(all(received(client, len(PONG)) == PONG for client in crowd), "the idle ones are answered still") and goes
-        for client in crowd + [key.fileobj for key in list(many.choices.get_map().values())]:
+        once, answers = self.server.memory_bytes(), busy.answers
+        self.beside("strangers once more", prober, busy, lambda: come_and_go(self.server, self.size, chance))
+        time.sleep(SETTLE_SECONDS)
+        grown, stored = self.server.memory_bytes() - once, (busy.answers - answers) * STORED_BYTES_AN_ANSWER
+        self.found.say(f"the second coming took {grown / 1e6:.1f} MB, at most {stored / 1e6:.1f} of them what the busy ones stored")
+        self.found.hold(grown - stored < MOST_LOST_BYTES, f"no memory is lost: {grown / 1e6:.1f} MB")
+        prober.end()
+        busy.end()
+        self.found.hold(busy.wrong == 0 and prober.wrong.value == 0, "every answer was right")
+        return busy
+
+
+def raise_limit(wanted: int) -> None:
+    """Lets this process, and those that it starts, have so many open files."""
+    soft, hard = resource.getrlimit(resource.RLIMIT_NOFILE)
+    if soft >= wanted:
+        return
+    if hard < wanted:
+        raise Skipped(f"no right to {wanted} open files")
+    resource.setrlimit(resource.RLIMIT_NOFILE, (wanted, hard))
+
+
+def warm_up(server: Server) -> int:
+    """Has the server do each kind of thing once. Gives how many files it has open then."""
+    put_big(server)
+    for client in [server.client(PING) for _ in range(50)]:
+        client.hear()
+        client.close()
+    time.sleep(SETTLE_SECONDS)
+    return server.open_files()
+
+
+def run(program: Path, seed: int, size: Size) -> Result:
+    found = Findings()
+    raise_limit(size.open_files())
+    with Server.serve(program, WORKERS) as server:
+        files = warm_up(server)
+        crowd = Crowd(found, server, size)
+        crowd.greet()
+        busy = crowd.spells(random.Random(seed))
+        for client in crowd.idle:
+            client.send(PING)
+        found.hold(all(client.hear().is_pong for client in crowd.idle), "the idle ones are answered still")
+        for client in crowd.idle + [one.client for one in busy.clients]:
             client.close()
         after = server.settled_files(files)
-        goes = held(after == files, f"open files: {files} and {after}") and goes
-        said = server.process.communicate("stop\n", timeout=60)[0]
-        goes = held((server.process.returncode, said) == (0, "audit ok\n"), f"it stops in order: {said!r}") and goes
-    finally:
-        server.process.kill()
-    return 0 if goes else 1
-
-
-if __name__ == "__main__":
-    if len(sys.argv) > 5 or len(sys.argv) < 2:
-        sys.exit(__doc__)
-    sys.exit(main(*sys.argv[1:]))
+        found.hold(after == files, f"open files: {files} and {after}")
+        end = server.stop(PATIENCE_SECONDS)
+        found.hold(end is not None and end.is_in_order, f"it stops in order: {end}")
+    return found.result(f"{size.idle} idle, slowest ping {crowd.slowest * 1000:.1f} ms")

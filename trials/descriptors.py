@@ -1,63 +1,71 @@
-#!/usr/bin/env python3
-"""Takes descriptors away from a server and gives them back, over loopback: every client is answered in the end, and the server goes on.
+"""Takes descriptors away from a server and gives them back: every client is answered in the end, and the server goes on.
 
-    descriptors.py DVVSTORE
-
-It starts `DVVSTORE serve` with two workers, lowers what files it may have open to what it has (by prlimit), lets clients connect for three seconds,
-and gives the files back. Each client that waited has to be answered within three seconds then, and so has each later one. The first failure of a
-row is told on standard error by each worker, and no more. The status is 0 where all that held.
+What files it may have open is lowered to what it has, clients connect for some seconds, and the files are given back. Each client
+that waited has to be answered within three seconds then, and so has each later one. The first failure of a row is told on standard
+error, and at most one line for each worker.
 """
-import os
+from __future__ import annotations
+
+import random
 import resource
-import socket
-import subprocess
-import sys
 import time
+from dataclasses import dataclass
+from pathlib import Path
 
-PING = b"GET /ping HTTP/1.1\r\nHost: h\r\nConnection: close\r\n\r\n"
-CLIENTS = 8
+from server import LAST_PING, Client, Server
+from trial import Findings, Result
+
+NAME = "descriptors"
+PROMISES = "Without descriptors a server goes on, and once they are back all are answered within 3 s."
+QUICK = True
+
+
+@dataclass(frozen=True)
+class Size:
+    """How soon each client has to be answered once files are back."""
+
+    answer_seconds: float
+
+
+# The short form allows for a machine that has much else to do.
+FULL, SHORT = Size(answer_seconds=3.0), Size(answer_seconds=10.0)
+
 WORKERS = 2
+MOST_CLIENTS = 12
+WITHOUT_FILES_SECONDS = 3
 
 
-def answered(client, seconds):
+def is_answered(client: Client, seconds: float) -> bool:
     """Whether a client gets its answer in time."""
-    client.settimeout(seconds)
+    client.socket.settimeout(seconds)
     try:
-        return client.recv(4096).startswith(b"HTTP/1.1 200 ")
-    except (socket.timeout, ConnectionError):
+        return client.hear().is_pong
+    except (TimeoutError, ConnectionError):
         return False
     finally:
         client.close()
 
 
-def main(program):
-    words = [program, "serve", "127.0.0.1:0", str(WORKERS)]
-    server = subprocess.Popen(words, stdout=subprocess.PIPE, stderr=subprocess.PIPE, text=True)
-    host, _, port = server.stdout.readline().removeprefix("listening ").strip().rpartition(":")
-    address = host, int(port)
-
-    def ask():
-        client = socket.create_connection(address)
-        client.sendall(PING)
-        return client
-
-    first = answered(ask(), 5)
-    limits = resource.prlimit(server.pid, resource.RLIMIT_NOFILE)
-    opened = len(os.listdir(f"/proc/{server.pid}/fd"))
-    resource.prlimit(server.pid, resource.RLIMIT_NOFILE, (opened, limits[1]))
-    waiting = [ask() for _ in range(CLIENTS)]
-    time.sleep(3)
-    lives = server.poll() is None
-    if not lives:
-        sys.exit(f"the server ended: {server.communicate()[0]!r}")
-    resource.prlimit(server.pid, resource.RLIMIT_NOFILE, limits)
-    later = sum(answered(it, 3) for it in waiting)
-    again = sum(answered(ask(), 3) for _ in range(CLIENTS))
-    server.kill()
-    told = server.communicate()[1].splitlines()
-    print(f"before: {first}; it went on: {lives}; answered once files were back: {later} of {CLIENTS}; later ones: {again} of {CLIENTS}")
-    print(f"told on standard error: {len(told)} lines: {told[:1]}")
-    sys.exit(0 if first and lives and later == again == CLIENTS and 1 <= len(told) <= WORKERS else 1)
+def asking(server: Server, count: int) -> list[Client]:
+    return [server.client(LAST_PING) for _ in range(count)]
 
 
-main(*sys.argv[1:])
+def run(program: Path, seed: int, size: Size) -> Result:
+    found, count = Findings(), random.Random(seed).randint(WORKERS + 1, MOST_CLIENTS)
+    with Server.serve(program, WORKERS) as server:
+        server.wait_until_it_answers()
+        _, most = limits = resource.prlimit(server.pid, resource.RLIMIT_NOFILE)
+        resource.prlimit(server.pid, resource.RLIMIT_NOFILE, (server.open_files(), most))
+        waiting = asking(server, count)
+        time.sleep(WITHOUT_FILES_SECONDS)
+        if not found.hold(server.is_running, "the server goes on without files"):
+            return found.result("the server ended")
+        resource.prlimit(server.pid, resource.RLIMIT_NOFILE, limits)
+        answered = sum(is_answered(client, size.answer_seconds) for client in waiting)
+        later = sum(is_answered(client, size.answer_seconds) for client in asking(server, count))
+        found.hold(answered == count, f"{answered} of {count} clients that waited are answered")
+        found.hold(later == count, f"{later} of {count} later clients are answered")
+        server.kill()
+        told = server.told.texts()
+        found.hold(1 <= len(told) <= WORKERS, f"what is told on standard error: {told}")
+    return found.result(f"{count} clients that waited, {count} later ones, {len(told)} lines told")

@@ -1,151 +1,163 @@
-#!/usr/bin/env python3
 """Whether a server's memory stays flat while clients do the same for minutes.
 
-    flat.py DVVSTORE [MINUTES [A_SECOND [LOADS..]]]
-
-Each of three loads, or of those that are said, has a server of its own, with two workers; all go on at the same time, for so many minutes (20),
-A_SECOND (1,000) rounds a second at the most. `rejected`: writes to one key that its bucket's hook rejects. `large`: a key of 65,536 bytes that is
-read and written again in the context of that read. `deletes`: fresh keys, each written, read and deleted. Memory is what the system says that a
-process holds. It is told every half minute, and of deletes how many bytes each deleted key has taken since half of the time: until then what is kept
-of the last answers, and for what waits, fills up. At the end each server is stopped in order and has to print "audit ok". The status is 0 where,
-after that half, no server held more than 5 % above what it held then, less 250 bytes for each key that was deleted since.
+Each of three loads has a server of its own, with two workers; all go on at the same time. `rejected`: writes to one key that its
+bucket's hook rejects. `large`: a key of 65,536 bytes that is read and written again in the context of that read. `deletes`: fresh
+keys, each written, read and deleted. Memory is what the system says that a process holds, told from time to time, and of deletes
+how many bytes each deleted key has taken since half of the time: until then what is kept of the last answers, and for what waits,
+fills up. After that half no server may hold more than 5 % above what it held then, less 250 bytes for each key that was deleted
+since. The short form, which is over before all is filled up, judges the answers alone.
 """
-import http.client
-import sys
+from __future__ import annotations
+
+import random
 import threading
 import time
+from dataclasses import dataclass
+from pathlib import Path
 
-from strangers import Server
-from troubles import image
+from server import MIB, Client, Server
+from trial import Findings, Result
+from troubles import PRE_COMMIT, image
 
-BIG, DELETED, SPARE = 65_536, 250, 0.05
-EVERY = 30
+NAME = "flat"
+PROMISES = "A server that is asked the same for minutes holds no more memory after half of the time."
+QUICK = False
+
+
+@dataclass(frozen=True)
+class Size:
+    """For how long, how fast each client goes at the most, and whether growth is judged."""
+
+    minutes: float
+    rounds_a_second: float
+    is_judged: bool
+
+
+FULL = Size(minutes=20.0, rounds_a_second=1_000.0, is_judged=True)
+SHORT = Size(minutes=0.25, rounds_a_second=1_000.0, is_judged=False)
+
+LOOKS = 40
+WORKERS = 2
+LARGE_BYTES = 65_536
+SMALL_BYTES = 100
+DELETED_KEY_BYTES = 250
+SPARE_PART = 0.05
+KEY = "/buckets/b/keys/k"
 
 
 class Load(threading.Thread):
     """A client that does rounds of the same at a server of its own until it is told to end."""
 
-    deletes = False
+    is_of_deletes = False
 
-    def __init__(self, program, pace):
+    def __init__(self, program: Path, rounds_a_second: float, chance: random.Random):
         super().__init__(daemon=True)
-        self.server = Server(program, 2)
-        self.client = http.client.HTTPConnection(*self.server.address, timeout=60)
-        self.rounds, self.pace, self.over, self.wrong = 0, pace, False, None
-        self.begin()
+        self.server, self.chance, self.rounds_a_second = Server.serve(program, WORKERS), chance, rounds_a_second
+        self.client = self.server.client()
+        self.rounds, self.is_over, self.fault = 0, False, ""
+        self.begin(self.client)
 
-    def begin(self):
-        pass
+    def begin(self, client: Client) -> None:
+        """What is done once."""
 
-    def ask(self, wanted, method, path, body=None, headers={}):
-        self.client.request(method, path, body, headers)
-        answer = self.client.getresponse()
-        answer.read()
-        if answer.status != wanted:
-            raise ValueError(f"{method} {path}: {answer.status}")
-        return answer.getheader("X-Riak-Vclock")
+    def round(self, client: Client) -> None:
+        raise NotImplementedError
 
-    def run(self):
+    def run(self) -> None:
         begun = time.monotonic()
         try:
-            while not self.over:
-                self.round(self.rounds)
+            while not self.is_over:
+                self.round(self.client)
                 self.rounds += 1
-                time.sleep(max(0.0, begun + self.rounds / self.pace - time.monotonic()))
-        except (OSError, ValueError, http.client.HTTPException) as error:
-            self.wrong = error
+                time.sleep(max(0.0, begun + self.rounds / self.rounds_a_second - time.monotonic()))
+        except (OSError, ValueError) as error:
+            self.fault = f"{type(error).__name__}: {error}"
 
-    def stop(self):
+    def end(self) -> None:
         """Ends, and stops the server in order."""
-        self.over = True
+        self.is_over = True
         self.join(60)
         self.client.close()
-        self.server.stop()
+        self.server.stop_in_order()
 
 
 class Rejected(Load):
     """Writes to one key that the bucket's hook rejects."""
 
-    def begin(self):
-        self.ask(204, "PUT", "/hooks/no", image(1, 256, 256 + 1))
-        self.ask(204, "PUT", "/buckets/b/props", '{"props":{"precommit":"no"}}')
+    def begin(self, client: Client) -> None:
+        client.must(204, "PUT", "/hooks/no", image(PRE_COMMIT, 256, 256 + 1))
+        client.must(204, "PUT", "/buckets/b/props", b'{"props":{"precommit":"no"}}')
 
-    def round(self, number):
-        self.ask(403, "PUT", "/buckets/b/keys/k", b"v" * 100)
+    def round(self, client: Client) -> None:
+        client.must(403, "PUT", KEY, self.chance.randbytes(SMALL_BYTES))
 
 
 class Large(Load):
     """One key of a large value, read and written again."""
 
-    value = b"v" * BIG
+    def begin(self, client: Client) -> None:
+        self.value = self.chance.randbytes(LARGE_BYTES)
+        client.must(204, "PUT", KEY, self.value)
 
-    def begin(self):
-        self.ask(204, "PUT", "/buckets/b/keys/k", self.value)
-
-    def round(self, number):
-        context = self.ask(200, "GET", "/buckets/b/keys/k")
-        self.ask(204, "PUT", "/buckets/b/keys/k", self.value, {"X-Riak-Vclock": context})
+    def round(self, client: Client) -> None:
+        client.must(204, "PUT", KEY, self.value, client.must(200, "GET", KEY).context)
 
 
 class Deletes(Load):
     """Fresh keys that are written, read and deleted."""
 
-    deletes = True
+    is_of_deletes = True
 
-    def round(self, number):
-        path = f"/buckets/b/keys/key{number}"
-        self.ask(204, "PUT", path, b"v" * 100)
-        self.ask(204, "DELETE", path, headers={"X-Riak-Vclock": self.ask(200, "GET", path)})
-
-
-def watched(loads, minutes):
-    """What each server held, and how many rounds its client had done, from time to time."""
-    begun, told = time.monotonic(), [[] for _ in loads]
-    for step in range(1, int(minutes * 60) // EVERY + 1):
-        time.sleep(max(0.0, begun + step * EVERY - time.monotonic()))
-        for load, its in zip(loads, told):
-            its.append((load.server.memory(), load.rounds))
-        words = (f"{type(load).__name__} {its[-1][0] / 2**20:7.1f} MB {its[-1][1]:8}" for load, its in zip(loads, told))
-        print(f"{step * EVERY:5} s  " + "   ".join(words), flush=True)
-    return told
+    def round(self, client: Client) -> None:
+        path = f"/buckets/b/keys/key{self.rounds}"
+        client.must(204, "PUT", path, self.chance.randbytes(SMALL_BYTES))
+        client.must(204, "DELETE", path, context=client.must(200, "GET", path).context)
 
 
-def is_flat(load, told):
-    """Whether the server held no more later than it did after half of the time."""
-    name = type(load).__name__
-    if load.wrong:
-        print(f"{name}: {load.wrong}")
-        return False
-    held, rounds = told[max(0, len(told) // 2 - 1)]
-    last, most = told[-1], 0
-    for now, done in told:
-        if done > rounds:
-            most = max(most, now - (DELETED * (done - rounds) if load.deletes else 0))
-    if load.deletes:
-        print(f"{name}: {(last[0] - held) / max(1, last[1] - rounds):.0f} bytes a deleted key")
-    print(f"{name}: {held / 2**20:.1f} MB after half of the time, then at the most {most / held - 1:+.1%}")
-    return most <= held * (1 + SPARE)
+@dataclass(frozen=True)
+class Look:
+    """What a server held, and how many rounds its client had done."""
+
+    memory_bytes: int
+    rounds: int
 
 
-LOADS = {"rejected": Rejected, "large": Large, "deletes": Deletes}
+def watched(found: Findings, loads: list[Load], minutes: float) -> list[list[Look]]:
+    """What each server held from time to time."""
+    begun, looks = time.monotonic(), [[] for _ in loads]
+    every_seconds = minutes * 60 / LOOKS
+    for step in range(1, LOOKS + 1):
+        time.sleep(max(0.0, begun + step * every_seconds - time.monotonic()))
+        for load, its in zip(loads, looks):
+            its.append(Look(load.server.memory_bytes(), load.rounds))
+        parts = (f"{type(load).__name__} {its[-1].memory_bytes / MIB:7.1f} MB {its[-1].rounds:8}" for load, its in zip(loads, looks))
+        found.say(f"{step * every_seconds:5.0f} s  " + "   ".join(parts))
+    return looks
 
 
-def main(program, minutes="20", pace="1000", *names):
-    loads = [LOADS[name](program, float(pace)) for name in names or LOADS]
-    try:
-        for load in loads:
-            load.start()
-        told = watched(loads, float(minutes))
-        flat = [is_flat(load, its) for load, its in zip(loads, told)]
-        for load in loads:
-            load.stop()
-    finally:
-        for load in loads:
-            load.server.process.kill()
-    return 0 if all(flat) else 1
+def growth_of(found: Findings, load: Load, looks: list[Look]) -> float:
+    """By what part the most that a server held after half of the time is above what it held then, less what is kept of deleted keys."""
+    half, last, name = looks[len(looks) // 2 - 1], looks[-1], type(load).__name__
+    a_round = DELETED_KEY_BYTES if load.is_of_deletes else 0
+    most = max(look.memory_bytes - a_round * (look.rounds - half.rounds) for look in looks[len(looks) // 2 :])
+    growth = most / half.memory_bytes - 1
+    if load.is_of_deletes:
+        each = (last.memory_bytes - half.memory_bytes) / max(1, last.rounds - half.rounds)
+        found.say(f"{name}: {each:.0f} bytes a deleted key")
+    found.say(f"{name}: {half.memory_bytes / MIB:.1f} MB after half of the time, then at the most {growth:+.1%}")
+    return growth
 
 
-if __name__ == "__main__":
-    if len(sys.argv) < 2 or not LOADS.keys() >= set(sys.argv[4:]):
-        sys.exit(__doc__)
-    sys.exit(main(*sys.argv[1:]))
+def run(program: Path, seed: int, size: Size) -> Result:
+    found, chance = Findings(), random.Random(seed)
+    loads = [kind(program, size.rounds_a_second, random.Random(chance.random())) for kind in (Rejected, Large, Deletes)]
+    for load in loads:
+        load.start()
+    looks = watched(found, loads, size.minutes)
+    growths = [growth_of(found, load, its) for load, its in zip(loads, looks)]
+    for load, growth in zip(loads, growths):
+        load.end()
+        found.hold(not load.fault, f"{type(load).__name__}: {load.fault}")
+        found.hold(not size.is_judged or growth <= SPARE_PART, f"{type(load).__name__} is flat, and does not grow by {growth:.1%}")
+    shown = f"growth {max(growths):+.1%} at the most"
+    return found.result(shown if size.is_judged else f"{shown}, not judged")

@@ -1,173 +1,160 @@
-#!/usr/bin/env python3
-"""Measures snapshots of a store that is kept, beside clients that read.
+"""Measures snapshots of a kept store, beside clients that read.
 
-    snapshots.py DVVSTORE [KEYS [SECONDS [WORKERS]]]
+Puts many keys of 100 bytes, asks for a snapshot, and tells how long it took, keys and MB a second, and how much memory the server
+had before it and at the most during it. Then three spells of reads of those keys by four connections, sixteen requests together:
+without a snapshot, beside snapshots one after another, and without again; in each the requests a second, and the slowest of the
+answers to a connection of its own that asks one request after another. Then three such spells of reads by one connection, one after
+another. Then the server is stopped, and started from what it wrote: how long the stop and the start took, and keys a second.
 
-Puts KEYS keys (400,000) of 100 bytes, asks for a snapshot, and tells how long it took, keys and MB a second, and how much memory the server had at the
-most before and during it. Then three spells of SECONDS (6) each of reads of those keys by 4 connections: without a snapshot, beside snapshots one after
-another, and without again; in each the requests a second, and the slowest of the answers to a connection of its own that asks one request after another,
-in milliseconds. Then three such spells of reads by one connection, one after another. Then the server is stopped, and started from what it wrote: how long the stop and the start took, and keys a second.
-
-Requests are sent by asker.c, which cc compiles. The status is 0 where all answers were right, each snapshot was told whole, and the journals are one run.
-The lines are measurements, and none of them is judged.
+All answers have to be right, each snapshot told whole, the next start has to have what the stop wrote, and what was done has to be
+one run. The figures are measurements, and none of them is judged.
 """
-import http.client
-import os
+from __future__ import annotations
+
 import statistics
-import subprocess
-import sys
-import tempfile
 import threading
 import time
+from dataclasses import dataclass, field
 from pathlib import Path
 
-import keeps
+import kept
+from load import Asker
+from server import MIB, Server
+from trial import Findings, Result
 
-CONNECTIONS = 4
-
-# So many requests of a connection are sent together.
-TOGETHER = 16
-
-
-class Server(keeps.Server):
-    """The store's server on a folder, with how many seconds its start took."""
-
-    def __init__(self, program, folder, workers):
-        begin = time.monotonic()
-        super().__init__(program, folder, workers=workers)
-        self.seconds = time.monotonic() - begin
-
-    def snapshot(self):
-        """The line that tells of a snapshot that is asked for now."""
-        before = len(self.told)
-        self.say("snapshot")
-        while len(self.told) == before:
-            if self.process.poll() is not None:
-                sys.exit("the server ended")
-            time.sleep(0.005)
-        line = self.told[before]
-        if not line.startswith("snapshot ") or not line.endswith(" ms"):
-            sys.exit(f"no snapshot: {line}")
-        return line
-
-    def memory(self, name):
-        """So many MB of memory, as the system counts them under a name."""
-        with open(f"/proc/{self.process.pid}/status", encoding="utf-8") as lines:
-            for line in lines:
-                if line.startswith(name + ":"):
-                    return int(line.split()[1]) / 1024
-        return 0.0
-
-    def forget_peak(self):
-        """Has the system count the most memory anew."""
-        with open(f"/proc/{self.process.pid}/clear_refs", "w", encoding="utf-8") as file:
-            file.write("5")
-
-    def stop(self):
-        """The seconds that a stop in order took, and what was printed."""
-        begin = time.monotonic()
-        self.say("stop")
-        out = self.process.stdout.read()
-        if self.process.wait(timeout=600) != 0 or not out.endswith("audit ok\n"):
-            sys.exit(f"the end: {out} {self.told}")
-        return time.monotonic() - begin, out.splitlines()
+NAME = "snapshots"
+PROMISES = "Snapshots beside readers are whole, and the next start has all that was kept; measured."
+QUICK = False
 
 
-def ask(folder, method, port, seconds, keys, connections=CONNECTIONS, together=TOGETHER):
-    """Requests a second by the compiled client."""
-    words = [f"{folder}/asker", "store", method, str(port), str(connections), str(seconds), str(min(connections, 2)), "0", str(together), str(keys)]
-    asked = subprocess.run(words, stdout=subprocess.PIPE, stderr=subprocess.PIPE, text=True, timeout=seconds + 60)
-    if asked.returncode:
-        sys.exit(f"{method}: {asked.stderr}")
-    return float(asked.stdout.split()[0])
+@dataclass(frozen=True)
+class Size:
+    """How many keys are kept, how long each spell of reads takes, and by how many workers the store is served."""
+
+    keys: int
+    spell_seconds: float
+    workers: int
+
+
+FULL = Size(keys=400_000, spell_seconds=6.0, workers=2)
+SHORT = Size(keys=20_000, spell_seconds=1.0, workers=2)
+
+LONGEST_SECONDS = 600
+
+
+@dataclass(frozen=True)
+class Reads:
+    """How clients read: so many connections, and requests of each together."""
+
+    connections: int
+    together: int
+
+
+LOADS = (Reads(4, 16), Reads(1, 1))
+SPELLS = {"without": False, "beside snapshots": True, "without again": False}
 
 
 class Watcher(threading.Thread):
-    """One client that asks one request after another, and knows how long each answer took."""
+    """A client that asks one request after another, and knows how long each answer took."""
 
-    def __init__(self, server):
+    def __init__(self, server: Server):
         super().__init__()
         self.server, self.millis, self.is_over = server, [], False
 
-    def run(self):
-        link = http.client.HTTPConnection(self.server.host, self.server.port, timeout=60)
-        while not self.is_over:
-            begin = time.monotonic()
-            link.request("GET", "/buckets/watched/keys/k")
-            link.getresponse().read()
-            self.millis.append((time.monotonic() - begin) * 1000)
-        link.close()
+    def run(self) -> None:
+        with self.server.client() as client:
+            while not self.is_over:
+                begun = time.monotonic()
+                client.ask("GET", "/buckets/watched/keys/k")
+                self.millis.append((time.monotonic() - begun) * 1000)
 
 
 class Snapshooter(threading.Thread):
     """Asks for snapshots, one after another."""
 
-    def __init__(self, server):
+    def __init__(self, server: Server):
         super().__init__()
         self.server, self.told, self.is_over = server, [], False
 
-    def run(self):
-        while not self.is_over:
-            self.told.append(self.server.snapshot())
+    def run(self) -> None:
+        while not self.is_over and self.server.is_running:
+            self.told.append(self.server.snapshot(LONGEST_SECONDS))
 
 
-def spell(folder, server, seconds, keys, snapshoots, load):
-    """Requests a second of a spell of reads, by so many connections that send so many together, the milliseconds of one client's answers, and what was
-    told of snapshots beside them."""
-    watcher, snapshooter = Watcher(server), Snapshooter(server)
-    watcher.start()
-    if snapshoots:
-        snapshooter.start()
-    rate = ask(folder, "GET", server.port, seconds, keys, *load)
-    snapshooter.is_over = watcher.is_over = True
-    watcher.join()
-    if snapshoots:
-        snapshooter.join()
-    return rate, sorted(watcher.millis), snapshooter.told
+@dataclass
+class Measuring:
+    """A kept store, and who measures it."""
+
+    found: Findings
+    folder: Path
+    server: Server
+    asker: Asker
+    size: Size
+    rates: dict[str, float] = field(default_factory=dict)
+
+    def ask(self, method: str, seconds: float, reads: Reads) -> float:
+        how = {"connections": reads.connections, "together": reads.together, "keys": self.size.keys}
+        return self.asker.ask("store", self.server.port, method, seconds, **how).a_second
+
+    def first_snapshot(self) -> int:
+        """Tells of a snapshot alone, and gives how many records it has."""
+        self.server.forget_peak_memory()
+        before, busy = self.server.memory_bytes(), self.server.processor_seconds()
+        line = self.server.snapshot(LONGEST_SECONDS)
+        busy = self.server.processor_seconds() - busy
+        if not self.found.hold(kept.is_whole_snapshot(line), f"a snapshot: {line}"):
+            return -1
+        count, seconds = int(line.split()[1]), max(1, int(line.split()[3])) / 1000
+        megabytes = sum(path.stat().st_size for path in self.folder.glob("*.records")) / 1e6
+        a_second = f"{count / seconds:.0f} keys and {megabytes / seconds:.1f} MB a second"
+        self.found.say(f"a snapshot of {count} records, {megabytes:.1f} MB: {seconds:.3f} s, {busy:.2f} of processors, {a_second}")
+        peak = self.server.peak_memory_bytes()
+        self.found.say(f"memory: {before / MIB:.1f} MB before it, {peak / MIB:.1f} MB at the most during it")
+        return count
+
+    def spell(self, name: str, is_beside_snapshots: bool, reads: Reads) -> None:
+        watcher, snapshooter = Watcher(self.server), Snapshooter(self.server)
+        watcher.start()
+        if is_beside_snapshots:
+            snapshooter.start()
+        try:
+            rate = self.ask("GET", self.size.spell_seconds, reads)
+        finally:
+            snapshooter.is_over = watcher.is_over = True
+            watcher.join()
+            if is_beside_snapshots:
+                snapshooter.join()
+        self.found.hold(all(map(kept.is_whole_snapshot, snapshooter.told)), f"snapshots beside reads: {snapshooter.told}")
+        slow = f"slowest answer {max(watcher.millis):.1f} ms, middle {statistics.median(watcher.millis):.2f}"
+        last = f"; {len(snapshooter.told)} snapshots, the last: {snapshooter.told[-1]}" if snapshooter.told else ""
+        self.found.say(f"reads by {reads.connections} connections, {reads.together} together, {name}: {rate:.0f} a second; {slow}{last}")
+        if reads == LOADS[0]:
+            self.rates[name] = rate
+
+    def stop(self) -> None:
+        begun = time.monotonic()
+        end = self.server.stop(LONGEST_SECONDS)
+        self.found.hold(end is not None and end.is_in_order, f"the end: {end}")
+        self.found.say(f"a stop: {time.monotonic() - begun:.2f} s, {end.printed[0] if end else ''}")
 
 
-def spells(folder, server, seconds, keys, load):
-    """Tells of three spells, the second beside snapshots."""
-    for name, snapshoots in (("without", False), ("beside snapshots", True), ("without", False)):
-        rate, answers, told = spell(folder, server, seconds, keys, snapshoots, load)
-        slow = f"slowest answer {answers[-1]:.1f} ms, middle {statistics.median(answers):.2f}"
-        last = f"; {len(told)} snapshots, the last: {told[-1]}" if told else ""
-        print(f"reads by {load[0]} connections, {load[1]} together, {name}: {rate:.0f} a second; {slow}{last}", flush=True)
-
-
-def size_of(folder):
-    """So many MB are in a folder's files of records."""
-    return sum(path.stat().st_size for path in Path(folder).glob("*.records")) / 1e6
-
-
-def main(program, keys="400000", seconds="6", workers="2"):
-    keys, seconds = int(keys), int(seconds)
-    with tempfile.TemporaryDirectory() as folder:
-        subprocess.run(["cc", "-O2", "-pthread", "-o", f"{folder}/asker", Path(__file__).with_name("asker.c")], check=True)
-        kept = f"{folder}/store"
-        os.mkdir(kept)
-        Path(kept, "settings").write_text("snapshot 0\n", encoding="utf-8")
-        server = Server(program, kept, workers)
-        print(f"{server.loaded}; puts a second: {ask(folder, 'PUT', server.port, 600, keys):.0f}")
-        server.forget_peak()
-        before = server.memory("VmRSS")
-        words = server.snapshot().split()
-        count, millis = int(words[1]), max(1, int(words[3]))
-        peak, size = server.memory("VmHWM"), size_of(kept)
-        print(f"a snapshot of {count} records, {size:.1f} MB: {millis} ms, {count * 1000 / millis:.0f} keys and {size * 1000 / millis:.1f} MB a second")
-        print(f"memory: {before:.1f} MB before it, {peak:.1f} MB at the most during it")
-        spells(folder, server, seconds, keys, (CONNECTIONS, TOGETHER))
-        spells(folder, server, seconds, keys, (1, 1))
-        took, lines = server.stop()
-        print(f"a stop: {took:.2f} s, {lines[0]}")
-        again = Server(program, kept, workers)
-        loaded = int(again.loaded.split()[1])
-        print(f"a start: {again.seconds:.2f} s, {again.loaded}, {loaded / again.seconds:.0f} keys a second")
-        again.stop()
-        if loaded != count:
-            print(f"{loaded} records in place of {count}")
-            return 1
-    return 0
-
-
-sys.exit(main(*sys.argv[1:]))
+def run(program: Path, seed: int, size: Size) -> Result:
+    found = Findings()
+    with kept.folders(settings=kept.NO_SNAPSHOTS_BY_ITSELF) as folder:
+        asker = Asker(folder.parent, seed)
+        with Server.keep(program, folder, size.workers) as server:
+            server.wait_until_it_answers()
+            measuring = Measuring(found, folder, server, asker, size)
+            found.say(f"puts a second: {measuring.ask('PUT', LONGEST_SECONDS, LOADS[0]):.0f}")
+            count = measuring.first_snapshot()
+            for reads in LOADS:
+                for name, is_beside_snapshots in SPELLS.items():
+                    measuring.spell(name, is_beside_snapshots, reads)
+            measuring.stop()
+        with Server.keep(program, folder, size.workers) as again:
+            loaded = again.loaded or 0
+            found.say(f"a start: {again.start_seconds:.2f} s, {loaded} records, {loaded / again.start_seconds:.0f} a second")
+            found.hold(loaded == count, f"{loaded} records in place of {count}")
+            again.stop_in_order()
+    ratio = measuring.rates["beside snapshots"] / measuring.rates["without"]
+    return found.result(f"{size.keys} keys: beside snapshots {ratio:.2f} of the reads without")

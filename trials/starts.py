@@ -1,92 +1,83 @@
-#!/usr/bin/env python3
-"""Starts that follow one another quickly, over loopback: no tag comes twice, and no context from before replaces a write that it had not seen.
+"""Starts that follow one another quickly: no tag comes twice, and no context from before replaces a write that it had not seen.
 
-    starts.py DVVSTORE
-
-First it kills and starts `DVVSTORE serve` fifty times, ten times a second, and asks each start to write for as long as it lives: what was
-answered has its tag noted. Then it kills a server that has answered and starts it at once, ten times: a client writes a key and keeps its
-context, the server is killed, another client writes the key over the next start without a context, and the first writes with the old one. It
-has to be refused, or both values have to be there. The status is 0 where no tag came twice and no value was lost.
+First a server is killed and started ten times a second, and each start is asked to write for as long as it lives: what was answered
+has its tag noted. Then a server that has answered is killed and started at once: a client writes a key and keeps its context, the
+server is killed, another client writes the key over the next start without a context, and the first writes with the old one. It has
+to be refused, or both values have to be there.
 """
-import http.client
+from __future__ import annotations
+
+import random
 import re
-import socket
-import subprocess
-import sys
 import time
+from dataclasses import dataclass
+from pathlib import Path
+
+from server import Answer, Server
+from trial import Findings, Result
+
+NAME = "starts"
+PROMISES = "Quick starts give no tag twice, and no old context replaces a write that it hadn't seen."
+QUICK = True
+
+
+@dataclass(frozen=True)
+class Size:
+    """How many starts are hurried, and how many old contexts are tried."""
+
+    hurried_starts: int
+    old_contexts: int
+
+
+FULL = Size(hurried_starts=50, old_contexts=10)
+SHORT = Size(hurried_starts=20, old_contexts=3)
 
 KEY = "/buckets/b/keys/k"
-STARTS = 50
-ROUNDS = 10
+LEAST_LIFE_SECONDS, MOST_LIFE_SECONDS = 0.05, 0.15
+LEAST_PATIENCE_SECONDS = 0.01
 
 
-class Server:
-    """The store's server, on a port that the system chose."""
-
-    def __init__(self, program):
-        words = [program, "serve", "127.0.0.1:0", "2"]
-        self.process = subprocess.Popen(words, stdout=subprocess.PIPE, text=True)
-        host, _, port = self.process.stdout.readline().removeprefix("listening ").strip().rpartition(":")
-        self.address = host, int(port)
-
-    def ask(self, method, body=None, context=None, seconds=10.0):
-        """The status, the tag, the context and the body of an answer, or None where none came in time."""
-        client = http.client.HTTPConnection(*self.address, timeout=seconds)
-        try:
-            client.request(method, KEY, body, {"X-Riak-Vclock": context} if context else {})
-            answer = client.getresponse()
-            return answer.status, answer.getheader("X-Riak-Tag"), answer.getheader("X-Riak-Vclock"), answer.read().decode()
-        except (socket.timeout, ConnectionError):
-            return None
-        finally:
-            client.close()
-
-    def kill(self):
-        self.process.kill()
-        self.process.wait()
-        self.process.stdout.close()
+def ask(server: Server, method: str, body: str | None = None, context: str | None = None, seconds: float = 30.0) -> Answer | None:
+    """What is answered in time to one request of a connection of its own."""
+    try:
+        with server.client(seconds=seconds) as client:
+            return client.ask(method, KEY, None if body is None else body.encode(), context)
+    except (TimeoutError, ConnectionError):
+        return None
 
 
-def hurried(program):
-    """The tags that were answered by starts that live for a tenth of a second each."""
+def hurried_tags(program: Path, starts: int, chance: random.Random) -> list[str]:
+    """The tags that were answered by starts that live for a tenth of a second or so each."""
     tags = []
-    for _ in range(STARTS):
-        begun = time.monotonic()
-        server = Server(program)
-        answer = server.ask("PUT", "v", seconds=max(0.01, 0.1 - (time.monotonic() - begun)))
-        server.kill()
-        if answer and answer[1]:
-            tags.append(answer[1])
+    for _ in range(starts):
+        until = time.monotonic() + chance.uniform(LEAST_LIFE_SECONDS, MOST_LIFE_SECONDS)
+        with Server.serve(program) as server:
+            answer = ask(server, "PUT", "v", seconds=max(LEAST_PATIENCE_SECONDS, until - time.monotonic()))
+        if answer is not None and answer.tag:
+            tags.append(answer.tag)
     return tags
 
 
-def replaced(program):
-    """How often an old context replaced a write that it had not seen, and the tags that were answered."""
-    lost, tags = 0, []
-    server = Server(program)
-    for number in range(ROUNDS):
-        tags.append(server.ask("PUT", f"old{number}")[1])
-        context = server.ask("GET")[2]
-        server.kill()
-        server = Server(program)
-        tags.append(server.ask("PUT", f"new{number}")[1])
-        server.ask("PUT", f"late{number}", context)
-        status, _, _, body = server.ask("GET")
-        if f"new{number}" not in body and not (status == 300 and len(re.findall(r"\d+-\d+", body)) > 1):
-            lost += 1
-        server.kill()
-        server = Server(program)
-    server.kill()
-    return lost, tags
+def try_old_context(found: Findings, program: Path, number: int) -> list[str]:
+    """Has a context of one start meet a write of the next. Gives the tags that were answered."""
+    with Server.serve(program) as first:
+        old = ask(first, "PUT", f"old{number}")
+        context = ask(first, "GET").context
+    with Server.serve(program) as second:
+        new = ask(second, "PUT", f"new{number}")
+        late = ask(second, "PUT", f"late{number}", context)
+        read = ask(second, "GET")
+    stands = f"new{number}".encode() in read.body or read.status == 300 and len(re.findall(rb"\d+-\d+", read.body)) > 1
+    found.hold(stands, f"the write new{number} stands, where an old context was answered {late.status}: {read.status} {read.body!r}")
+    return [old.tag, new.tag]
 
 
-def main(program):
-    tags = hurried(program)
-    lost, more = replaced(program)
-    twice = {tag for tag in tags + more if (tags + more).count(tag) > 1}
-    print(f"{STARTS} hurried starts, {len(tags)} of which answered; {2 * ROUNDS} others")
-    print(f"tags that came twice: {len(twice)}; writes replaced unseen: {lost}")
-    sys.exit(1 if twice or lost else 0)
-
-
-main(*sys.argv[1:])
+def run(program: Path, seed: int, size: Size) -> Result:
+    found = Findings()
+    tags = hurried_tags(program, size.hurried_starts, random.Random(seed))
+    answered = len(tags)
+    for number in range(size.old_contexts):
+        tags += try_old_context(found, program, number)
+    twice = {tag for tag in tags if tags.count(tag) > 1}
+    found.hold(not twice, f"tags that came twice: {sorted(twice)}")
+    return found.result(f"{size.hurried_starts} hurried starts, {answered} answered; {2 * size.old_contexts} others")

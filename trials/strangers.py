@@ -1,208 +1,146 @@
-#!/usr/bin/env python3
-"""Clients that are stuck, and connections that are left, against a server over loopback: nobody else waits for them, and nothing of them stays.
+"""Clients that are stuck, and connections that are left: nobody else waits for them, and nothing of them stays.
 
-    strangers.py DVVSTORE [CONNECTIONS]
-
-It starts `DVVSTORE serve` with four workers. Three clients are stuck at a time: each sends nothing, half a head or half a
-body, or reads nothing of its answers. Meanwhile another client writes and reads, and its slowest answer is told. The stuck ones leave, and so
-many connections (10,000) are opened and left in five ways, twice: what the server then has in open files and in memory (resident, in MB) is told
-before, between and behind. At last one client of each kind that sends half of something stays until the server gives it up, which takes 60 to 65 seconds.
-The status is 0 where each answer was right and came within a second, no open file was left, and the second round took less than 1 MB.
+Three clients of four workers are stuck at a time: each sends nothing, half a head or half a body, or reads nothing of its answers.
+Meanwhile another client writes and reads, and its slowest answer is told. The stuck ones leave, and many connections are opened and
+left in five ways, twice: what the server then has in open files and in memory is told before, between and behind. At last one
+client of each kind that sends half of something stays until the server gives it up, which takes 60 to 65 seconds; the short form
+leaves that out.
 """
-import http.client
-import os
-import socket
-import struct
-import subprocess
-import sys
+from __future__ import annotations
+
+import random
 import time
+from collections.abc import Callable
+from dataclasses import dataclass
+from pathlib import Path
+
+from server import LAST_PING, MIB, Client, Server, request
+from trial import Findings, Result
+
+NAME = "strangers"
+PROMISES = "Beside stuck clients answers come within a second; of left connections nothing stays."
+QUICK = True
+
+
+@dataclass(frozen=True)
+class Size:
+    """How many connections are left, twice, and whether half requests are waited for until they are given up."""
+
+    connections: int
+    waits_for_end: bool
+
+
+FULL, SHORT = Size(connections=10_000, waits_for_end=True), Size(connections=1_000, waits_for_end=False)
 
 WORKERS = 4
 ROUNDS = 100
-HEAD = b"PUT /buckets/b/keys/k HTTP/1.1\r\nHost: h\r\n"
-BODY = HEAD + b"Content-Length: 1000\r\n\r\n" + bytes(500)
-PING = b"GET /ping HTTP/1.1\r\nHost: h\r\nConnection: close\r\n\r\n"
-BIG = b"GET /buckets/b/keys/big HTTP/1.1\r\nHost: h\r\n\r\n"
+BIG_BYTES = 65_536
+BIG_READS = 1_024
+HALF_A_HEAD = b"PUT /buckets/b/keys/k HTTP/1.1\r\nHost: h\r\n"
+HALF_A_BODY = request("PUT", "/buckets/b/keys/k", bytes(1_000))[:-500]
+BIG = request("GET", "/buckets/b/keys/big")
+SETTLE_SECONDS = 2.0
+SLOWEST_SECONDS = 1.0
+MOST_GROWTH_BYTES = MIB
+LEAST_GIVEN_UP_SECONDS, MOST_GIVEN_UP_SECONDS = 60, 65
 
 
-def resident(pid):
-    """The resident bytes of a process."""
-    with open(f"/proc/{pid}/status", encoding="ascii") as status:
-        return next(int(line.split()[1]) for line in status if line.startswith("VmRSS:")) * 1024
-
-
-class Server:
-    """The store's server, on a port that the system chose."""
-
-    def __init__(self, program, workers=WORKERS, patience=100):
-        words = [program, "serve", "127.0.0.1:0", str(workers)]
-        self.process = subprocess.Popen(words, stdin=subprocess.PIPE, stdout=subprocess.PIPE, text=True)
-        host, _, port = self.process.stdout.readline().removeprefix("listening ").strip().rpartition(":")
-        self.address = host, int(port)
-        self.patience = patience
-
-    def connect(self, sent=b""):
-        client = socket.create_connection(self.address, timeout=self.patience)
-        client.sendall(sent)
-        return client
-
-    def files(self):
-        return len(os.listdir(f"/proc/{self.process.pid}/fd"))
-
-    def settled_files(self, wanted, seconds=30):
-        """The number of open files, once it is as wanted or the time is over."""
-        for _ in range(seconds * 10):
-            if self.files() == wanted:
-                break
-            time.sleep(0.1)
-        return self.files()
-
-    def memory(self):
-        return resident(self.process.pid)
-
-    def answer(self):
-        """Waits until it answers, which it does from the end of the second in which it starts."""
-        client = http.client.HTTPConnection(*self.address, timeout=self.patience)
-        ask(client, "GET", "/ping", None, (200,))
-        client.close()
-
-    def stop(self, seconds=120):
-        """Stops it in order: its journals are run, and it has to say that they are right."""
-        said = self.process.communicate("stop\n", timeout=seconds)[0]
-        if not said.endswith("audit ok\n"):
-            sys.exit(f"the server said {said!r}")
-
-    def __enter__(self):
-        return self
-
-    def __exit__(self, *_):
-        self.process.kill()
-
-
-def reads_nothing(server, questions=BIG * 1024):
-    """A client that asks for much, 64 MB where nothing else is said, and reads none of it. It doesn't wait for its questions to be taken either."""
-    client = server.connect()
-    client.setblocking(False)
-    questions = memoryview(questions)
-    try:
-        while questions:
-            questions = questions[client.send(questions) :]
-    except BlockingIOError:
-        pass
+def reads_nothing(server: Server, questions: bytes = BIG * BIG_READS) -> Client:
+    """A client that asks for much, 64 MB where nothing else is said, and reads none of it. Nor does it wait until that is taken."""
+    client = server.client()
+    client.send_without_waiting(questions)
     return client
 
 
-STUCK = {
-    "sends nothing": lambda server: server.connect(),
-    "sends half a head": lambda server: server.connect(HEAD),
-    "sends half a body": lambda server: server.connect(BODY),
+STUCK: dict[str, Callable[[Server], Client]] = {
+    "sends nothing": lambda server: server.client(),
+    "sends half a head": lambda server: server.client(HALF_A_HEAD),
+    "sends half a body": lambda server: server.client(HALF_A_BODY),
     "reads nothing": reads_nothing,
 }
 
 
-def ask(client, method, path, body, statuses):
-    client.request(method, path, body)
-    answer = client.getresponse()
-    answer.read()
-    if answer.status not in statuses:
-        sys.exit(f"{method} {path}: {answer.status}")
+def put_big(server: Server) -> None:
+    """A key whose value is as large as one may be."""
+    with server.client() as client:
+        client.must(204, "PUT", "/buckets/b/keys/big", bytes(BIG_BYTES))
 
 
-def slowest(server, rounds):
-    """The slowest of so many writes and reads, in seconds."""
-    client = http.client.HTTPConnection(*server.address, timeout=100)
+def slowest_seconds(server: Server, rounds: int = ROUNDS) -> float:
+    """The slowest of so many writes and reads."""
     worst = 0.0
-    for number in range(rounds):
-        for method, body, statuses in (("PUT", b"v", (204,)), ("GET", None, (200, 300))):
-            start = time.monotonic()
-            ask(client, method, f"/buckets/b/keys/k{number}", body, statuses)
-            worst = max(worst, time.monotonic() - start)
-    client.close()
+    with server.client() as client:
+        for number in range(rounds):
+            for method, body, statuses in (("PUT", b"v", (204,)), ("GET", None, (200, 300))):
+                begun = time.monotonic()
+                answer = client.ask(method, f"/buckets/b/keys/k{number}", body)
+                worst = max(worst, time.monotonic() - begun)
+                if answer.status not in statuses:
+                    raise ValueError(f"{method} of key k{number}: {answer.status}")
     return worst
 
 
-def put_big(server):
-    client = http.client.HTTPConnection(*server.address, timeout=100)
-    ask(client, "PUT", "/buckets/b/keys/big", bytes(65_536), (204,))
-    client.close()
-
-
-def read_out(client):
-    """Reads until the server ends the connection."""
-    try:
-        while client.recv(4096):
-            pass
-    except ConnectionResetError:
-        pass
-
-
-def leave(server, number):
-    """Opens a connection and leaves it: at once, by a reset, in a head, in a body, or after an answer."""
-    way = number % 5
-    client = server.connect((b"", b"", HEAD, BODY, PING)[way])
-    if way == 1:
-        client.setsockopt(socket.SOL_SOCKET, socket.SO_LINGER, struct.pack("ii", 1, 0))
-    if way == 4:
-        read_out(client)
-    client.close()
-
-
-def beside_stuck(server):
-    """Whether another client is answered within a second beside three clients of each kind."""
-    goes = True
+def try_beside_stuck(found: Findings, server: Server) -> float:
+    """Tries each kind of stuck client, and gives the slowest answer."""
+    worst = 0.0
     for name, stuck in STUCK.items():
         clients = [stuck(server) for _ in range(WORKERS - 1)]
         time.sleep(0.3)
-        worst = slowest(server, ROUNDS)
-        print(f"three clients of which each {name}: the slowest of {2 * ROUNDS} answers to another took {worst * 1000:.1f} ms", flush=True)
+        slowest = slowest_seconds(server)
+        found.say(f"three clients of which each {name}: the slowest of {2 * ROUNDS} answers to another took {slowest * 1000:.1f} ms")
+        found.hold(slowest < SLOWEST_SECONDS, f"an answer within a second beside one that {name}")
+        worst = max(worst, slowest)
         for client in clients:
             client.close()
-        goes = goes and worst < 1
-    return goes
+    return worst
 
 
-def left_behind(server, files, connections):
-    """Whether connections that are left leave no open file and, the second time, less than 1 MB."""
-    memories = [server.memory() / 2**20]
+def leave(server: Server, way: int) -> None:
+    """Opens a connection and leaves it: at once, by a reset, in a head, in a body, or after an answer."""
+    client = server.client((b"", b"", HALF_A_HEAD, HALF_A_BODY, LAST_PING)[way])
+    if way == 1:
+        client.reset()
+    if way == 4:
+        client.read_to_end()
+    client.close()
+
+
+def try_left(found: Findings, server: Server, files: int, connections: int, chance: random.Random) -> None:
+    """Leaves connections, twice."""
+    memories = [server.memory_bytes()]
     for _ in range(2):
-        for number in range(connections):
-            leave(server, number)
+        for _ in range(connections):
+            leave(server, chance.randrange(5))
         after = server.settled_files(files)
-        memories.append(server.memory() / 2**20)
-        print(f"{connections} connections left: open files {files} and {after}, memory {memories[-2]:.1f} and {memories[-1]:.1f} MB", flush=True)
-        if after != files:
-            return False
-    return memories[2] - memories[1] < 1
+        memories.append(server.memory_bytes())
+        before, now = (memory / MIB for memory in memories[-2:])
+        found.say(f"{connections} connections left: open files {files} and {after}, memory {before:.1f} and {now:.1f} MB")
+        found.hold(after == files, f"open files: {files} and then {after}")
+    growth = memories[2] - memories[1]
+    found.hold(growth < MOST_GROWTH_BYTES, f"the second time took {growth / MIB:.1f} MB")
 
 
-def given_up(server):
-    """Whether clients that send half of something are given up after 60 to 65 seconds."""
-    start = time.monotonic()
+def try_given_up(found: Findings, server: Server) -> None:
+    begun = time.monotonic()
     clients = [stuck(server) for name, stuck in STUCK.items() if name.startswith("sends half")]
     for client in clients:
-        read_out(client)
+        client.read_to_end()
         client.close()
-    took = time.monotonic() - start
-    print(f"{len(clients)} clients that send half of something were given up after {took:.0f} seconds")
-    return 60 <= took < 65
+    took = time.monotonic() - begun
+    what = f"{len(clients)} clients that send half of something were given up after {took:.0f} s"
+    found.say(what)
+    found.hold(LEAST_GIVEN_UP_SECONDS <= took < MOST_GIVEN_UP_SECONDS, what)
 
 
-def main(program, connections="10000"):
-    server = Server(program)
-    try:
+def run(program: Path, seed: int, size: Size) -> Result:
+    found = Findings()
+    with Server.serve(program, WORKERS) as server:
         put_big(server)
-        slowest(server, ROUNDS)
-        time.sleep(2)
-        files = server.files()
-        goes = beside_stuck(server)
-        goes = left_behind(server, files, int(connections)) and goes
-        goes = given_up(server) and goes
-    finally:
-        server.process.kill()
-    return 0 if goes else 1
-
-
-if __name__ == "__main__":
-    if len(sys.argv) not in (2, 3):
-        sys.exit(__doc__)
-    sys.exit(main(*sys.argv[1:]))
+        slowest_seconds(server)
+        time.sleep(SETTLE_SECONDS)
+        files = server.open_files()
+        worst = try_beside_stuck(found, server)
+        try_left(found, server, files, size.connections, random.Random(seed))
+        if size.waits_for_end:
+            try_given_up(found, server)
+    return found.result(f"slowest answer {worst * 1000:.1f} ms, {2 * size.connections} connections left")

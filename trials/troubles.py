@@ -1,120 +1,117 @@
-#!/usr/bin/env python3
-"""Hooks that fail, over loopback: who runs a server is told on standard error, at most once a second and kind.
+"""Hooks that fail: who runs a server is told on standard error, at most once a second and kind.
 
-    troubles.py DVVSTORE
-
-It starts `DVVSTORE serve` with two workers. A pre-commit hook whose window is too short for any content is bound to one bucket, one whose answer
-has no meaning to another, and a resolver whose answer has none to a third; a fourth has a hook that rejects what it sees, which is told nobody but the
-client. Two clients write to each, 200 times in a row. Of each of the first three the first failure is told at once, and no more within a second; one
-that comes later is told with how many were left out. The status is 0 where all that held.
+A pre-commit hook whose window is too short for any content is bound to one bucket, one whose answer has no meaning to another, and
+a resolver whose answer has none to a third; a fourth has a hook that rejects what it sees, which is told nobody but the client. Two
+clients write to each, 200 times in a row. Of each of the first three the first failure is told at once, and no more within a
+second; one that comes later is told with how many were left out.
 """
-import http.client
-import queue
-import subprocess
-import sys
-import threading
+from __future__ import annotations
+
+import random
+import struct
 import time
+from dataclasses import dataclass
+from pathlib import Path
+
+from server import Client, Server
+from trial import Findings, Result, Whole
+
+NAME = "troubles"
+PROMISES = "Of each kind of failing hook the first failure is told at once, then at most one a second."
+QUICK = True
+FULL = SHORT = Whole()
 
 WRITES = 200
-
-EXIT = b"\x95\0\0\0\0\0\0\0"
-
-
-def image(kind, window, answer):
-    """A hook of a kind (1 pre-commit, 2 resolver) with an input window of so many bytes that answers this."""
-    head = b"RBPF\x01" + bytes([kind]) + b"\0\0" + window.to_bytes(4, "little") + bytes(4)
-    return head + b"\xb7\0\0\0" + answer.to_bytes(4, "little") + EXIT
-
-
-class Client:
-    """A connection that is kept."""
-
-    def __init__(self, address):
-        self.connection = http.client.HTTPConnection(*address, timeout=10)
-
-    def ask(self, method, path, body=None):
-        self.connection.request(method, path, body)
-        answer = self.connection.getresponse()
-        return answer.status, answer.read().decode()
+CLIENTS = 2
+PRE_COMMIT, RESOLVER = 1, 2
+PROPERTIES = {PRE_COMMIT: "precommit", RESOLVER: "resolver"}
+EXIT = b"\x95" + bytes(7)
+QUIET_SECONDS = 0.2
+LINE_SECONDS = 10.0
+LEAST_APART_SECONDS = 0.7  # a line that is read late seems nearer to the next
+LEFT_OUT = " of its kind left out before"
 
 
-def followed(stream):
-    """The lines of a stream, each with when it came."""
-    lines = queue.Queue()
-
-    def follow():
-        for line in stream:
-            lines.put((time.monotonic(), line.rstrip("\n")))
-
-    threading.Thread(target=follow, daemon=True).start()
-    return lines
+def image(kind: int, window: int, answer: int) -> bytes:
+    """A hook with an input window of so many bytes, which answers this."""
+    head = b"RBPF\x01" + bytes([kind, 0, 0]) + struct.pack("<II", window, 0)
+    return head + b"\xb7\0\0\0" + struct.pack("<I", answer) + EXIT
 
 
-def drained(lines, seconds):
-    """What comes in so many seconds."""
-    time.sleep(seconds)
-    found = []
-    while not lines.empty():
-        found.append(lines.get())
-    return found
+@dataclass(frozen=True)
+class Trouble:
+    """A bucket, the hook that is bound to it, what a client is answered that writes, and the line that is told, if any."""
+
+    bucket: str
+    kind: int
+    window: int
+    answer: int
+    status: int
+    line: str | None
+
+    @property
+    def hook(self) -> bytes:
+        return image(self.kind, self.window, self.answer)
+
+    def path(self, number: int) -> str:
+        return f"/buckets/{self.bucket}/keys/k{number // 2}"
+
+    def write(self, client: Client, number: int) -> int:
+        """The status of a write at one of two vnodes, and behind the second, where siblings stand, a read if a resolver is bound."""
+        status = client.ask("PUT", f"{self.path(number)}?at={number % 2}", b"v").status
+        if self.kind == RESOLVER and number % 2 == 1:
+            client.ask("GET", self.path(number))
+        return status
 
 
-# The bucket, its hook's kind, the property that binds it, its window, what it answers, and the line that is told, if any.
-BUCKETS = [
-    ("short", 1, "precommit", 40, 0, "pre-commit hook failed: X1, what it is to see doesn't fit its input window (bucket short)"),
-    ("bad", 1, "precommit", 256, 3, "pre-commit hook failed: X2, its answer has no meaning (bucket bad)"),
-    ("take%20nine", 2, "resolver", 256, 256 + 9, "resolver failed: X2, its answer has no meaning (bucket take%20nine)"),
-    ("no", 1, "precommit", 256, 256 + 1, None),
-]
-
-# What a client is answered that writes.
-STATUS = {"short": 413, "bad": 500, "take%20nine": 204, "no": 403}
+TROUBLES = (
+    Trouble("short", PRE_COMMIT, 40, 0, 413, "pre-commit hook failed: X1, what it is to see doesn't fit its input window (bucket short)"),
+    Trouble("bad", PRE_COMMIT, 256, 3, 500, "pre-commit hook failed: X2, its answer has no meaning (bucket bad)"),
+    Trouble("take%20nine", RESOLVER, 256, 256 + 9, 204, "resolver failed: X2, its answer has no meaning (bucket take%20nine)"),
+    Trouble("no", PRE_COMMIT, 256, 256 + 1, 403, None),
+)
 
 
-def main(program):
-    words = [program, "serve", "127.0.0.1:0", "2"]
-    server = subprocess.Popen(words, stdout=subprocess.PIPE, stderr=subprocess.PIPE, text=True)
-    host, _, port = server.stdout.readline().removeprefix("listening ").strip().rpartition(":")
-    lines = followed(server.stderr)
-    clients = [Client((host, int(port))) for _ in range(2)]
-    held = []
-
-    def hold(what, where):
-        held.append(bool(what))
-        if not what:
-            print(f"not so: {where}")
-
-    for number, (bucket, kind, prop, window, answer, _) in enumerate(BUCKETS):
-        name = f"h{number}"
-        clients[0].ask("PUT", f"/hooks/{name}", image(kind, window, answer))
-        status, _ = clients[0].ask("PUT", f"/buckets/{bucket}/props", f'{{"props":{{"{prop}":"{name}"}}}}')
-        hold(status == 204, f"{bucket} is bound: {status}")
-    for bucket, kind, _, _, _, line in BUCKETS:
-        begun = time.monotonic()
-        for number in range(WRITES):
-            client = clients[number % 2]
-            status, told = client.ask("PUT", f"/buckets/{bucket}/keys/k{number // 2}?at={number % 2}", "v")
-            hold(status == STATUS[bucket], f"a write to {bucket}: {status} {told!r}")
-            if kind == 2 and number % 2 == 1:
-                client.ask("GET", f"/buckets/{bucket}/keys/k{number // 2}")
-        took = time.monotonic() - begun
-        came = drained(lines, 0.2)
-        texts = [text for _, text in came]
-        if line is None:
-            hold(texts == [], f"nothing is told of {bucket}: {texts}")
-            continue
-        hold(texts[:1] == [line], f"the first of {bucket}: {texts[:1]}")
-        hold(len(texts) <= took + 1, f"at most one a second of {bucket}: {len(texts)} in {took:.2f} s")
-        hold(all(later - sooner >= 0.95 for (sooner, _), (later, _) in zip(came, came[1:])), f"a second apart: {came}")
-        time.sleep(1)
-        clients[0].ask("PUT", f"/buckets/{bucket}/keys/k0?at=0", "v")
-        clients[0].ask("GET", f"/buckets/{bucket}/keys/k0")
-        last = [text for _, text in drained(lines, 0.2)]
-        hold(len(last) == 1 and last[0].startswith(line) and last[0].endswith(" of its kind left out before"), f"then of {bucket}: {last}")
-        print(f"{bucket}: {WRITES} writes in {took:.2f} s, {len(texts)} lines, then: {last}")
-    server.kill()
-    sys.exit(0 if all(held) else 1)
+def try_trouble(found: Findings, server: Server, clients: list[Client], trouble: Trouble) -> None:
+    bucket, first = trouble.bucket, len(server.told)
+    begun = time.monotonic()
+    for number in range(WRITES):
+        status = trouble.write(clients[number % CLIENTS], number)
+        found.hold(status == trouble.status, f"a write to {bucket}: {status}")
+    took = time.monotonic() - begun
+    if trouble.line is not None:
+        server.told.at(first, LINE_SECONDS)
+    time.sleep(QUIET_SECONDS)
+    lines = server.told.lines[first:]
+    texts = [line.text for line in lines]
+    if trouble.line is None:
+        found.hold(not texts, f"nothing is told of {bucket}: {texts}")
+        return
+    apart = [later.moment - sooner.moment for sooner, later in zip(lines, lines[1:])]
+    found.hold(texts[:1] == [trouble.line], f"the first of {bucket}: {texts[:1]}")
+    found.hold(len(texts) <= took + 1, f"at most one a second of {bucket}: {len(texts)} in {took:.2f} s")
+    found.hold(all(seconds >= LEAST_APART_SECONDS for seconds in apart), f"a second apart of {bucket}: {apart}")
+    time.sleep(1)
+    behind = len(server.told)
+    clients[0].ask("PUT", f"{trouble.path(0)}?at=0", b"v")
+    clients[0].ask("GET", trouble.path(0))
+    server.told.at(behind, LINE_SECONDS)
+    last = server.told.texts(behind)
+    is_counted = len(last) == 1 and last[0].startswith(trouble.line) and last[0].endswith(LEFT_OUT)
+    found.hold(is_counted, f"then of {bucket}: {last}")
+    found.say(f"{bucket}: {WRITES} writes in {took:.2f} s, {len(texts)} lines, then: {last}")
 
 
-if __name__ == "__main__":
-    main(*sys.argv[1:])
+def run(program: Path, seed: int, size: Whole) -> Result:
+    found = Findings()
+    troubles = random.Random(seed).sample(TROUBLES, len(TROUBLES))
+    with Server.serve(program) as server:
+        clients = [server.client() for _ in range(CLIENTS)]
+        for number, trouble in enumerate(troubles):
+            clients[0].must(204, "PUT", f"/hooks/h{number}", trouble.hook)
+            binding = f'{{"props":{{"{PROPERTIES[trouble.kind]}":"h{number}"}}}}'.encode()
+            clients[0].must(204, "PUT", f"/buckets/{trouble.bucket}/props", binding)
+        for trouble in troubles:
+            try_trouble(found, server, clients, trouble)
+        told = len(server.told)
+    return found.result(f"{told} lines of {WRITES * len(troubles)} failures")

@@ -1,14 +1,16 @@
 // Asks this store, etcd (its v2 interface) or redis, and prints requests a second:
 //
-//     asker store|etcd|redis PUT|GET|REWRITE PORT CONNECTIONS SECONDS [THREADS [FIRST [TOGETHER [REQUESTS]]]]
+//     asker store|etcd|redis PUT|GET|REWRITE PORT CONNECTIONS SECONDS [THREADS [FIRST [TOGETHER [REQUESTS [STRIDE]]]]]
 //
-// Values of 100 bytes under 1,000 keys, over loopback. One request at a time on each connection, or so many TOGETHER: the next are sent once the
-// answers to the last ones have come. The connections are shared out among the threads, which wait for answers by epoll: one thread, where nothing is said.
-// A write without a context is a sibling of what stands there, so this store's writes go to a further bucket after each 1,000, the first of them
-// the bucket with the number FIRST, which is read. Where REQUESTS are said, no more writes are sent than that (and those that are sent together), each of
-// a key of its own, in a scattered order, and reads go over the keys of such writes again and again until the time is over. REWRITE is for this store alone: each connection reads in turn 50 keys of its own, and writes each
-// again in the context that it was told, so that what is stored doesn't grow. A line is printed: requests a second, and the microseconds in which half of the answers, and
-// 99 of 100 of them, came. An answer that isn't that of a write or a read that succeeded ends it with status 1.
+// Values of 100 bytes under 1,000 keys, over loopback. One request at a time on each connection, or so many TOGETHER: the next are sent
+// once the answers to the last ones have come. The connections are shared out among the threads, which wait for answers by epoll: one
+// thread, where nothing is said. A write without a context is a sibling of what stands there, so this store's writes go to a further
+// bucket after each 1,000, the first of them the bucket with the number FIRST, which is read. Where REQUESTS are said, no more writes are
+// sent than that (and those that are sent together), each of a key of its own, in an order that is scattered by STRIDE, a prime (7919),
+// and reads go over the keys of such writes again and again until the time is over. REWRITE is for this store alone: each connection
+// reads in turn 50 keys of its own, and writes each again in the context that it was told, so that what is stored doesn't grow. A line is
+// printed: requests a second, and the microseconds in which half of the answers, and 99 of 100 of them, came. An answer that isn't that
+// of a write or a read that succeeded ends it with status 1.
 //
 //     cc -O2 -pthread -o asker asker.c
 #define _GNU_SOURCE
@@ -25,7 +27,8 @@
 #include <time.h>
 #include <unistd.h>
 
-enum { STRIDE = 7919, KEYS = 1000, OWN = 50, VALUE = 100, ROOM = 32768, CONTEXT = 600, REQUEST = 2048, SLOWEST = 100000, MOST = 4096, EVENTS = 256, MOST_TOGETHER = 64 };
+enum { KEYS = 1000, OWN = 50, VALUE = 100, ROOM = 32768, CONTEXT = 600, REQUEST = 2048, SLOWEST = 100000 };
+enum { MOST = 4096, EVENTS = 256, MOST_TOGETHER = 64 };
 
 enum server { STORE, ETCD, REDIS };
 enum method { PUT, GET, REWRITE };
@@ -37,11 +40,12 @@ static double seconds;
 static unsigned long first;
 static int together = 1;
 static unsigned long requests;
+static unsigned long stride = 7919;
 static char value[VALUE + 1];
 static atomic_ulong asked;
 
-// A connection, what it asks for and how often it asked, how many answers it waits for, the context that it was told last, what came of its answers, and
-// when its requests were sent.
+// A connection, what it asks for and how often it asked, how many answers it waits for, the context that it was told last, what came of its
+// answers, and when its requests were sent.
 struct connection {
     int socket;
     int number;
@@ -82,11 +86,17 @@ static int request(char *to, enum method method, unsigned long turn, unsigned lo
     case STORE:
         if (method == GET)
             return sprintf(to, "GET /buckets/load%lu/keys/%lu HTTP/1.1\r\nHost: load\r\n\r\n", first + (requests ? turn : 0), key);
-        return sprintf(to, "PUT /buckets/load%lu/keys/%lu HTTP/1.1\r\nHost: load\r\nContent-Type: text/plain\r\nContent-Length: %d\r\n\r\n%s", first + turn, key, VALUE, value);
+        return sprintf(to,
+                       "PUT /buckets/load%lu/keys/%lu HTTP/1.1\r\nHost: load\r\nContent-Type: text/plain\r\n"
+                       "Content-Length: %d\r\n\r\n%s",
+                       first + turn, key, VALUE, value);
     case ETCD:
         if (method == GET)
             return sprintf(to, "GET /v2/keys/load/%lu HTTP/1.1\r\nHost: load\r\n\r\n", key);
-        return sprintf(to, "PUT /v2/keys/load/%lu HTTP/1.1\r\nHost: load\r\nContent-Type: application/x-www-form-urlencoded\r\nContent-Length: %d\r\n\r\nvalue=%s", key, VALUE + 6, value);
+        return sprintf(to,
+                       "PUT /v2/keys/load/%lu HTTP/1.1\r\nHost: load\r\nContent-Type: application/x-www-form-urlencoded\r\n"
+                       "Content-Length: %d\r\n\r\nvalue=%s",
+                       key, VALUE + 6, value);
     default:
         if (requests)
             key += turn * KEYS;
@@ -103,7 +113,10 @@ static int rewrite(struct connection *c, char *to) {
     c->asked++;
     if (c->method == GET)
         return sprintf(to, "GET /buckets/own%d/keys/%lu HTTP/1.1\r\nHost: load\r\n\r\n", c->number, key);
-    return sprintf(to, "PUT /buckets/own%d/keys/%lu HTTP/1.1\r\nHost: load\r\nContent-Type: text/plain\r\n%sContent-Length: %d\r\n\r\n%s", c->number, key, c->context, VALUE, value);
+    return sprintf(to,
+                   "PUT /buckets/own%d/keys/%lu HTTP/1.1\r\nHost: load\r\nContent-Type: text/plain\r\n%s"
+                   "Content-Length: %d\r\n\r\n%s",
+                   c->number, key, c->context, VALUE, value);
 }
 
 // The next request of a connection.
@@ -113,7 +126,7 @@ static int next_request(struct connection *c, char *to) {
     unsigned long number = atomic_fetch_add(&asked, 1);
     c->method = method;
     if (requests && (method == GET || number < requests))
-        number = number % requests * STRIDE % requests;
+        number = number % requests * stride % requests;
     return request(to, method, number / KEYS, number % KEYS);
 }
 
@@ -258,7 +271,7 @@ static unsigned within(struct asker *askers, int threads, unsigned long told, do
 
 int main(int count, char **words) {
     if (count < 6)
-        fail("asker store|etcd|redis PUT|GET|REWRITE PORT CONNECTIONS SECONDS [THREADS [FIRST [TOGETHER [REQUESTS]]]]");
+        fail("asker store|etcd|redis PUT|GET|REWRITE PORT CONNECTIONS SECONDS [THREADS [FIRST [TOGETHER [REQUESTS [STRIDE]]]]]");
     server = words[1][0] == 's' ? STORE : words[1][0] == 'e' ? ETCD : REDIS;
     method = words[2][0] == 'P' ? PUT : words[2][0] == 'G' ? GET : REWRITE;
     port = atoi(words[3]);
@@ -266,11 +279,12 @@ int main(int count, char **words) {
     first = count > 7 ? strtoul(words[7], NULL, 10) : 0;
     together = count > 8 ? atoi(words[8]) : 1;
     requests = count > 9 ? strtoul(words[9], NULL, 10) : 0;
+    stride = count > 10 ? strtoul(words[10], NULL, 10) : stride;
     int connections = atoi(words[4]), threads = count > 6 ? atoi(words[6]) : 1;
     if (server != STORE && method == REWRITE)
         fail("only this store has contexts");
-    if (requests && requests % STRIDE == 0)
-        fail("no multiple of %d requests", STRIDE);
+    if (requests && (!stride || requests % stride == 0))
+        fail("no multiple of %lu requests", stride);
     if (together < 1 || together > MOST_TOGETHER || (method == REWRITE && (together > 1 || requests)))
         fail("1 to %d requests together, and one where contexts are told", MOST_TOGETHER);
     if (threads < 1 || connections < threads || connections > MOST)

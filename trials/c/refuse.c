@@ -1,9 +1,9 @@
 /* A library to be loaded before the system's, which refuses allocations of a program one by one.
 
-   Between getenv("REFUSAL_BEGIN") and getenv("REFUSAL_MET") allocations count, and one is refused: the first in the first such stretch, and in
-   each further stretch the next. REFUSAL_MET has a value where one was refused. Where none was, the next stretch begins anew with the first
-   allocation, and how many stretches were refused is written to standard error. A block that shrinks is never refused.
-   The program has one thread. trials.py compiles this. */
+   Between getenv("REFUSAL_BEGIN") and getenv("REFUSAL_MET") allocations count, and one is refused: the first in the first such stretch,
+   and in each further stretch the next. REFUSAL_MET has a value where one was refused. Where none was, the next stretch begins anew
+   with the first allocation, and how many stretches were refused is written to standard error. A block that shrinks is never refused.
+   The program has one thread. refused_calls.py compiles this. */
 #include "refusing.h"
 #include <stdio.h>
 #include <string.h>

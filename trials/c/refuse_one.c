@@ -1,10 +1,11 @@
 /* A library to be loaded before the system's, which refuses one allocation of a thread that writes a store's records.
 
-   A thread is one that writes them from when it first opens a file whose name ends in ".records.part" on, and it is that vnode's whose number
-   stands before this end. What is asked of the library stands in the file that REFUSALS names, three numbers of the machine's: of which
-   vnode's thread an allocation is refused, or one below 0 for any; which of them is, counted from 0 from when that was written, or one below 0
-   for none; and, from the library, how many there were. A block that shrinks is never refused. keeps.py compiles this. */
-#include "../../thread_trials/data/refusing.h"
+   A thread is one that writes them from when it first opens a file whose name ends in ".records.part" on, and it is that vnode's whose
+   number stands before this end. What is asked of the library stands in the file that REFUSALS names, three numbers of the machine's:
+   of which vnode's thread an allocation is refused, or one below 0 for any; which of them is, counted from 0 from when that was
+   written, or one below 0 for none; and, from the library, how many there were. A block that shrinks is never refused.
+   refused_snapshots.py compiles this. */
+#include "refusing.h"
 #include <fcntl.h>
 #include <stdarg.h>
 #include <string.h>

@@ -1,6 +1,6 @@
-/* What is common to libraries that are loaded before the system's and refuse some of a program's allocations: malloc and realloc. Whoever includes
-   this has is_refused, whether the allocation at hand is refused, and find_more, which is called once, before all others. A block that shrinks is
-   never refused. */
+/* What is common to libraries that are loaded before the system's and refuse some of a program's allocations: malloc and realloc. Whoever
+   includes this has is_refused, whether the allocation at hand is refused, and find_more, which is called once, before all others. A
+   block that shrinks is never refused. */
 #define _GNU_SOURCE
 #include <dlfcn.h>
 #include <errno.h>

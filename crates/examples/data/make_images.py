@@ -1,8 +1,11 @@
 #!/usr/bin/env python3
 """Writes the images that the program `bench` times: straight.img, branchy.img, memory.img and calls.img, each of some thousand instructions in rounds of
 a few, and mixed.img and accesses.img, of a thousand in no order."""
+import argparse
 import struct
 from pathlib import Path
+
+HERE = Path(__file__).resolve().parent
 
 EXIT = (0x95, 0, 0, 0, 0)
 
@@ -149,7 +152,13 @@ MAKERS = {
     "accesses": accesses,
 }
 
-if __name__ == "__main__":
-    here = Path(__file__).parent
+
+def main(folder):
     for name, make in MAKERS.items():
-        (here / f"{name}.img").write_bytes(make())
+        (folder / f"{name}.img").write_bytes(make())
+
+
+if __name__ == "__main__":
+    parser = argparse.ArgumentParser(description=__doc__, formatter_class=argparse.RawDescriptionHelpFormatter)
+    parser.add_argument("--into", type=Path, default=HERE, metavar="FOLDER", help="the folder to write into, in place of this one")
+    main(parser.parse_args().into)

@@ -5,6 +5,7 @@
 
 The code is for machines without jumps on 32 bits (-mcpu=v2), so that interpreters that have none run it too.
 """
+import argparse
 import ctypes
 import struct
 import subprocess
@@ -40,16 +41,18 @@ def answer_of(source, window):
         return function(ctypes.create_string_buffer(window, WINDOW))
 
 
-def main():
+def main(folder):
     make_hooks.CPUS = ("v2",)
     fine = True
     for name, given in INPUTS.items():
         source = HERE / f"{name}.c"
-        fine &= make_hooks.tell(source, "plain", WINDOW, 0)
-        source.with_suffix(".input").write_bytes(given)
-        source.with_suffix(".answer").write_text(f"answer {answer_of(source, given)}\n")
+        fine &= make_hooks.tell(source, ("plain", WINDOW, 0), folder / f"{name}.img")
+        (folder / f"{name}.input").write_bytes(given)
+        (folder / f"{name}.answer").write_text(f"answer {answer_of(source, given)}\n")
     return fine
 
 
 if __name__ == "__main__":
-    sys.exit(0 if main() else 1)
+    parser = argparse.ArgumentParser(description=__doc__, formatter_class=argparse.RawDescriptionHelpFormatter)
+    parser.add_argument("--into", type=Path, default=HERE, metavar="FOLDER", help="the folder to write into, in place of this one")
+    sys.exit(0 if main(parser.parse_args().into) else 1)

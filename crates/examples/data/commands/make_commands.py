@@ -6,6 +6,7 @@
 The other files NAME.trials and NAME.script are written by hand. dvvstore isn't asked what comes of a trial: records are built by the format of
 records alone (docs/FORMATS.md), as is the file that a dump makes, whose digest stands in keys.trials.
 """
+import argparse
 import hashlib
 import struct
 import sys
@@ -147,11 +148,17 @@ KEYS = (
 )
 
 
-if __name__ == "__main__":
+def main(folder):
     for name, data in IMAGES.items():
-        (HERE / f"{name}.img").write_bytes(data)
-    (HERE / "exit.bin").write_bytes(EXIT)
-    (HERE / "empty.bin").write_bytes(b"")
+        (folder / f"{name}.img").write_bytes(data)
+    (folder / "exit.bin").write_bytes(EXIT)
+    (folder / "empty.bin").write_bytes(b"")
     for name, clocks in KNOWN.items():
-        (HERE / f"{name}.records").write_bytes(TWO_KEYS + b"".join(known(*clock) for clock in clocks))
-    (HERE / "keys.trials").write_text(KEYS)
+        (folder / f"{name}.records").write_bytes(TWO_KEYS + b"".join(known(*clock) for clock in clocks))
+    (folder / "keys.trials").write_text(KEYS)
+
+
+if __name__ == "__main__":
+    parser = argparse.ArgumentParser(description=__doc__, formatter_class=argparse.RawDescriptionHelpFormatter)
+    parser.add_argument("--into", type=Path, default=HERE, metavar="FOLDER", help="the folder to write into, in place of this one")
+    main(parser.parse_args().into)

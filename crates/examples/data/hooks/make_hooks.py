@@ -296,14 +296,14 @@ def lines_in(source):
     return next((lines for code, lines in built if code == made), built[0][1])
 
 
-def tell(source, hook, dvvstore):
+def tell(source, hook, image, dvvstore=None):
     """Makes an image, and tells how that went. Gives whether it was made and, where there is a dvvstore, accepted."""
     try:
-        said = make(source, *hook, source.with_suffix(".img"), dvvstore)
+        said = make(source, *hook, image, dvvstore)
     except Refused as why:
         print(f"{source.name}: no image: {why}", file=sys.stderr)
         return False
-    print(f"{source.with_suffix('.img').name}: {said or 'made; not verified, since dvvstore is not built'}")
+    print(f"{image.name}: {said or 'made; not verified, since dvvstore is not built'}")
     return not said.startswith("refused")
 
 
@@ -333,6 +333,7 @@ def words():
     parser.add_argument("in_len", type=window, nargs="?", help="bytes of the input window")
     parser.add_argument("out_len", type=window, nargs="?", help="bytes of the output window")
     parser.add_argument("--dvvstore", type=Path, metavar="PATH", help="the program that verifies")
+    parser.add_argument("--into", type=Path, default=HERE, metavar="FOLDER", help="where all images of this folder go, in place of it")
     parser.add_argument("--line", nargs=2, metavar=("SOURCE", "SLOT"), help="tell the line of a slot")
     given = parser.parse_args()
     if given.source and given.out_len is None:
@@ -346,8 +347,8 @@ def main():
         source, slot = given.line
         return line_at(Path(source), int(slot))
     if given.source:
-        return tell(given.source, (given.kind, given.in_len, given.out_len), given.dvvstore)
-    return all([tell(HERE / f"{name}.c", hook, given.dvvstore) for name, hook in HOOKS.items()])
+        return tell(given.source, (given.kind, given.in_len, given.out_len), given.source.with_suffix(".img"), given.dvvstore)
+    return all([tell(HERE / f"{name}.c", hook, given.into / f"{name}.img", given.dvvstore) for name, hook in HOOKS.items()])
 
 
 if __name__ == "__main__":

@@ -7,6 +7,7 @@ A dialogue is a function that gives exchanges: a request, and beside it the answ
 store that is meant has three vnodes of the first start, numbered 0, 1 and 2, all within reach, and nothing is written in it. Between
 two connections, each of which has a store of its own, stands the separator of records, on both sides.
 """
+import argparse
 import base64
 import hashlib
 import itertools
@@ -1037,13 +1038,15 @@ DIALOGUES = {
 }
 
 
-def main():
+def main(folder):
     for name, dialogue in DIALOGUES.items():
         requests, answers = zip(*dialogue())
         assert all(text == SEPARATOR or SEPARATOR not in text for text in requests + answers), name
-        (HERE / f"{name}.requests").write_bytes(b"".join(requests))
-        (HERE / f"{name}.answers").write_bytes(b"".join(answers))
+        (folder / f"{name}.requests").write_bytes(b"".join(requests))
+        (folder / f"{name}.answers").write_bytes(b"".join(answers))
 
 
 if __name__ == "__main__":
-    main()
+    parser = argparse.ArgumentParser(description=__doc__, formatter_class=argparse.RawDescriptionHelpFormatter)
+    parser.add_argument("--into", type=Path, default=HERE, metavar="FOLDER", help="the folder to write into, in place of this one")
+    main(parser.parse_args().into)

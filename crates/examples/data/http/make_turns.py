@@ -6,6 +6,7 @@
 A play is a function that gives steps: a client's number, a piece of its bytes or how its connection ends, and what the rules ask to be
 answered to it by then. No store is asked: what is meant is the one of make_dialogues.py, and each play has one of its own.
 """
+import argparse
 from enum import Enum
 from pathlib import Path
 
@@ -244,7 +245,7 @@ def spelled(client, piece):
     return str(client).encode() + (piece.value if isinstance(piece, Ending) else b"<" + piece)
 
 
-def main():
+def main(folder):
     for name, plays in TURNS.items():
         turns, answers = [], []
         for play in plays:
@@ -255,9 +256,11 @@ def main():
             assert not any(mark in text for text in pieces + told_to for mark in (PLAYS, PIECES)), play
             turns.append(PIECES.join(pieces))
             answers.append(PIECES.join(told_to))
-        (HERE / f"{name}.turns").write_bytes(PLAYS.join(turns))
-        (HERE / f"{name}.told").write_bytes(PLAYS.join(answers))
+        (folder / f"{name}.turns").write_bytes(PLAYS.join(turns))
+        (folder / f"{name}.told").write_bytes(PLAYS.join(answers))
 
 
 if __name__ == "__main__":
-    main()
+    parser = argparse.ArgumentParser(description=__doc__, formatter_class=argparse.RawDescriptionHelpFormatter)
+    parser.add_argument("--into", type=Path, default=HERE, metavar="FOLDER", help="the folder to write into, in place of this one")
+    main(parser.parse_args().into)

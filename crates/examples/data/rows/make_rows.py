@@ -7,6 +7,7 @@ A row has a name, a program and its input in hexadecimal, and the program's slot
 the row's name and behind it what `dvvstore verify`, or `dvvstore run`, tells of the program, and its status. Neither is asked: what is told comes from
 the instruction table of RFC 9669, sections 4 and 5, and from the rules of the decoder and of the verifier.
 """
+import argparse
 import struct
 from pathlib import Path
 
@@ -1959,13 +1960,15 @@ RUNS = {
 }
 
 
-def main():
+def main(folder):
     for name, rows in {**VERDICTS, **RUNS}.items():
         lines, told = zip(*rows())
         names = [line.partition("|")[0] for line in lines]
-        (HERE / f"{name}.rows").write_text("".join(f"{line}\n" for line in lines))
-        (HERE / f"{name}.told").write_text("".join(f"{name}\n{text}" for name, text in zip(names, told)))
+        (folder / f"{name}.rows").write_text("".join(f"{line}\n" for line in lines))
+        (folder / f"{name}.told").write_text("".join(f"{name}\n{text}" for name, text in zip(names, told)))
 
 
 if __name__ == "__main__":
-    main()
+    parser = argparse.ArgumentParser(description=__doc__, formatter_class=argparse.RawDescriptionHelpFormatter)
+    parser.add_argument("--into", type=Path, default=HERE, metavar="FOLDER", help="the folder to write into, in place of this one")
+    main(parser.parse_args().into)

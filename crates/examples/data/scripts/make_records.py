@@ -1,6 +1,7 @@
 #!/usr/bin/env python3
 """Writes before.records, which `dvvstore dump before.records before.script 0` writes too: by the format of records alone."""
 
+import argparse
 import hashlib
 import struct
 from pathlib import Path
@@ -33,5 +34,12 @@ RECORDS = [
     record(b"note", 0, 8, [(0, 2)], [((0, 2), None)]),
 ]
 
+
+def main(folder):
+    (folder / "before.records").write_bytes(b"".join(RECORDS))
+
+
 if __name__ == "__main__":
-    (HERE / "before.records").write_bytes(b"".join(RECORDS))
+    parser = argparse.ArgumentParser(description=__doc__, formatter_class=argparse.RawDescriptionHelpFormatter)
+    parser.add_argument("--into", type=Path, default=HERE, metavar="FOLDER", help="the folder to write into, in place of this one")
+    main(parser.parse_args().into)

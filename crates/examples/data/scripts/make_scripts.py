@@ -10,6 +10,7 @@
 Nothing of this is asked of the program: beside each line stands what it prints by the rules of siblings, and the tokens and records are
 built by their formats."""
 
+import argparse
 import base64
 import struct
 from pathlib import Path
@@ -161,9 +162,16 @@ RECORDS = {
     "too_long": [record(b"k", 0, 1, [(0, 1)], [((0, 1), b"v" * 65537)])],
 }
 
-if __name__ == "__main__":
+
+def main(folder):
     for name, lines in SCRIPTS.items():
-        (HERE / f"{name}.script").write_text("".join(f"{line}\n" for line, _ in lines))
-        (HERE / f"{name}.stdout").write_text("".join(f"{told}\n" for _, told in lines if told is not None))
+        (folder / f"{name}.script").write_text("".join(f"{line}\n" for line, _ in lines))
+        (folder / f"{name}.stdout").write_text("".join(f"{told}\n" for _, told in lines if told is not None))
     for name, records in RECORDS.items():
-        (HERE / f"{name}.records").write_bytes(b"".join(records))
+        (folder / f"{name}.records").write_bytes(b"".join(records))
+
+
+if __name__ == "__main__":
+    parser = argparse.ArgumentParser(description=__doc__, formatter_class=argparse.RawDescriptionHelpFormatter)
+    parser.add_argument("--into", type=Path, default=HERE, metavar="FOLDER", help="the folder to write into, in place of this one")
+    main(parser.parse_args().into)

@@ -7,6 +7,7 @@ A row has a name, text, and digits in hexadecimal: its bytes are those of the te
 begin with # are comments. The program `examples` isn't asked what it tells of a row: that comes from the parts that the row is built
 from, and of a damaged one the fault is written beside it here. docs/FORMATS.md has the formats, and the numbers of the faults.
 """
+import argparse
 import base64
 import hashlib
 import struct
@@ -526,7 +527,7 @@ CONTEXTS = {
 }
 
 
-def write(name, groups):
+def write(folder, name, groups):
     """Writes the rows of groups to a file, each group behind a comment, and what is told of them, a line each, beside it."""
     lines = []
     told = []
@@ -535,10 +536,16 @@ def write(name, groups):
         for line, what in rows():
             lines.append(line)
             told.append(what)
-    (HERE / f"{name}.rows").write_text("".join(f"{line}\n" for line in lines))
-    (HERE / f"{name}.told").write_text("".join(f"{line}\n" for line in told))
+    (folder / f"{name}.rows").write_text("".join(f"{line}\n" for line in lines))
+    (folder / f"{name}.told").write_text("".join(f"{line}\n" for line in told))
+
+
+def main(folder):
+    write(folder, "records", RECORDS)
+    write(folder, "contexts", CONTEXTS)
 
 
 if __name__ == "__main__":
-    write("records", RECORDS)
-    write("contexts", CONTEXTS)
+    parser = argparse.ArgumentParser(description=__doc__, formatter_class=argparse.RawDescriptionHelpFormatter)
+    parser.add_argument("--into", type=Path, default=HERE, metavar="FOLDER", help="the folder to write into, in place of this one")
+    main(parser.parse_args().into)

@@ -4,6 +4,7 @@ choices.script run them; what a hook reads and what its answers mean is in docs/
 
     make_answers.py
 """
+import argparse
 import struct
 from pathlib import Path
 
@@ -100,6 +101,12 @@ def image(kind, in_len, out_len, code):
     return b"RBPF" + bytes([1, kind, 0, 0]) + struct.pack("<II", in_len, out_len) + code
 
 
-if __name__ == "__main__":
+def main(folder):
     for name, row in IMAGES.items():
-        (HERE / f"{name}.img").write_bytes(image(*row))
+        (folder / f"{name}.img").write_bytes(image(*row))
+
+
+if __name__ == "__main__":
+    parser = argparse.ArgumentParser(description=__doc__, formatter_class=argparse.RawDescriptionHelpFormatter)
+    parser.add_argument("--into", type=Path, default=HERE, metavar="FOLDER", help="the folder to write into, in place of this one")
+    main(parser.parse_args().into)
