@@ -3,10 +3,6 @@
 #![tactic(auto)]
 
 mod code;
-mod helpers;
+pub mod helpers;
 
 pub use code::{Slot, code_of, expect, hook_image_of, image_of};
-pub use helpers::{
-    ANY, ONE_NUMBER, UNUSED, decimal_told, first_sibling, modulo_8, modulo_9, newest_told, octal,
-    one, order_told, place_told, two, zero,
-};

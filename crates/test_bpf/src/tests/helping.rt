@@ -13,7 +13,8 @@ use std::alloc::Global;
 use std::cell::Cell;
 use std::test::Fail;
 use test_support::Slot::{Added, Call, Copied, Exit, Put, Raised, StoreByte};
-use test_support::{ANY, ONE_NUMBER, Slot, UNUSED, expect, modulo_8, octal};
+use test_support::helpers::{ANY, ONE_NUMBER, UNUSED, modulo_8, octal};
+use test_support::{Slot, expect};
 
 /// Adds the remainder by 8 as 64. Answers why it is handed back, if it is.
 fn add_modulo(alloc: Global, table: &mut Table) -> Result<Option<HelperFault>, Fail> {

@@ -12,7 +12,8 @@ use quorum::{Hooking, QuorumFault, ResolveFault, Resolved};
 use std::alloc::{AllocError, Global};
 use std::sync::Arc;
 use std::test::Fail;
-use test_support::{expect, first_sibling};
+use test_support::expect;
+use test_support::helpers::first_sibling;
 
 /// A table with the helper 64, which answers 256: the refusal 0 of a pre-commit hook.
 fn table_of_64(alloc: Global) -> Result<Table, Fail> {
