@@ -3,7 +3,7 @@ use Rattle.vnode.specs.Refusals.{RefusesPut, RefusesMerge}
 use Rattle.cluster_stamps.specs.declared.request.Prepared.{Prepared}
 use Rattle.cluster_stamps.specs.declared.request.Reply.TheVariants.{Built}
 use Rattle.cluster_stamps.specs.Answered.{IsReply, Refuses, asked, with_made}
-use Rattle.cluster_stamps.proofs.Answering.{told_exactly, none_told, part_made, part_replied}
+use Rattle.cluster_stamps.proofs.PartLemmas.{told_exactly, none_told, part_made, part_replied}
 use Rattle.cluster_stamps.proofs.answering.answer.Goals as goal
 
 pub returns-in-Ok-clause-exact : goal.returns-in-Ok-clause-exact
