@@ -9,7 +9,7 @@ ghost use Rattle.audit_cluster.specs.Following.{AreRestarts, IsTakenMore, IsTold
 
 use audit_faults::{TakeFault, WatchFault};
 use audit_follower::{Follower, Recent};
-use cluster::{Cluster, Open, Pass, Room};
+use cluster::{Cluster, Pass, Room};
 use cluster_stamps::Request;
 use journal::{BLOCK, Entry, Handout};
 use std::alloc::{AllocError, Global};
@@ -172,7 +172,7 @@ fn fill_block<B: Room + Spot, R: Wait>(
     ensures { AreRestarts (cluster.now.first + index) 1025 pass.old.told pass.new.told }
 {
     for _ in 0..BLOCK + 1 {
-        match cluster.call(rt, pass, index, &Request::Restart, &Open) {
+        match cluster.call(rt, pass, index, &Request::Restart) {
             Ok((_, receipt)) => {
                 if receipt.place as usize >= entries.saturating_add(BLOCK) {
                     break;

@@ -9,7 +9,8 @@ ghost use Rattle.cluster_vnode.specs.Gathers.{IsGathered, AreCounted, Stands, Di
 ghost use Rattle.cluster_vnode.specs.GatherFaults.{IsGatherFault};
 ghost use Rattle.cluster_vnode.specs.Calls.{pass_view, IsNews, IsFault, IsHandedOut, AreKeysOf, AreUnsortedOf, outcome_ok};
 
-use cluster_stamps::{Card, Prepared, Reply, Request, STAMPS_EACH, Stamps};
+use crate::guard::VnodeGuard;
+use cluster_stamps::{Card, Prepared, Reply, Request, STAMPS_EACH, Size, Stamps};
 use cluster_vnode::{
     CallFault, GatherFault, Locked, Pass, Receipt, Room, deal_passes, deal_vnodes, gathered,
 };
@@ -24,20 +25,6 @@ use vnode::{BlockSpot, Hint, KeyBlock, Names, Seed, Vnode, VnodeFault, in_order}
 /// How often a vnode's lock is tried before the thread sleeps until it is free. The processor is told each time that the thread waits, and
 /// lets it pause: so all take 12 microseconds, and 60 or more on a processor that pauses longer.
 const TRIES: u32 = 1_000;
-
-/// Is told of each call.
-pub trait Gate {
-    /// A call on the vnode of this index is about to be made. Its lock is held.
-    fn told(&self, vnode: usize);
-}
-
-/// A gate that lets every call through.
-#[derive(Clone, Copy, Debug)]
-pub struct Open;
-
-impl Gate for Open {
-    fn told(&self, _vnode: usize) {}
-}
 
 /// Vnodes under a lock each. Contracts see the identifier of the first, and how many vnodes and passes there are.
 #[derive(Drop)]
@@ -86,16 +73,28 @@ impl<B: Room> Cluster<B> {
         vnode.lock(rt)
     }
 
+    /// The vnode of an index under its lock, which is held until the guard is let go. Several calls can be made on it meanwhile. Who holds
+    /// it and asks for the same vnode again waits forever.
+    pub fn lock<'a, R: Wait>(&'a self, rt: &R, vnode: usize) -> VnodeGuard<'a, B>
+        requires { vnode < self.now.vnodes }
+        ensures { result ≡ self.now.first + vnode }
+    {
+        VnodeGuard::new(
+            self.locked(rt, vnode),
+            &self.stamps,
+            self.first + vnode as u32,
+        )
+    }
+
     /// Makes a call on the vnode of an index, under its lock. The answer is that of one thread at the receipt's place, which is above all
     /// that the pass was told of there. Refused where the pass has drawn all its stamps; else where there is no memory for copies of the
     /// request's parts, which are made before the lock is asked for, and no stamp is drawn; else as the vnode refuses it.
-    pub fn call<R: Wait, G: Gate>(
+    pub fn call<R: Wait>(
         &self,
         rt: &R,
         pass: &mut Pass<B>,
         vnode: usize,
         request: &Request,
-        gate: &G,
     ) -> Result<(Reply, Receipt), CallFault>
         requires { vnode < self.now.vnodes }
         ensures ok { IfOk result (λ r. (r.1.vnode ≡ self.now.first + vnode) × IsNews pass.old pass.new (call_of (self.now.first + vnode) r.1.place r.1.stamp request.now (outcome_ok r.0))) }
@@ -106,32 +105,26 @@ impl<B: Room> Cluster<B> {
             return Err(CallFault::PassSpent);
         }
         match Prepared::new(self.alloc, request) {
-            Ok(prepared) => self.call_prepared(rt, pass, vnode, prepared, gate),
+            Ok(prepared) => self.call_prepared(rt, pass, vnode, prepared),
             Err(_) => Err(CallFault::Refused(VnodeFault::NoMemory)),
         }
     }
 
     /// As [`call`](Cluster::call), of a request whose parts the vnode may keep: nothing is copied. Refused where the pass has drawn all its
     /// stamps, and else as the vnode refuses it.
-    pub fn call_prepared<R: Wait, G: Gate>(
+    pub fn call_prepared<R: Wait>(
         &self,
         rt: &R,
         pass: &mut Pass<B>,
         vnode: usize,
         prepared: Prepared<'_>,
-        gate: &G,
     ) -> Result<(Reply, Receipt), CallFault>
         requires { vnode < self.now.vnodes }
         ensures ok { IfOk result (λ r. (r.1.vnode ≡ self.now.first + vnode) × IsNews pass.old pass.new (call_of (self.now.first + vnode) r.1.place r.1.stamp (asked prepared.entry) (outcome_ok r.0))) }
         ensures err { IfErr result (IsFault pass.old pass.new (self.now.first + vnode) (asked prepared.entry)) }
         ensures drawn { pass.new.drawn ≤ pass.old.drawn + 1 }
     {
-        if pass.drawn() >= STAMPS_EACH {
-            return Err(CallFault::PassSpent);
-        }
-        let mut guard = self.locked(rt, vnode);
-        gate.told(vnode);
-        guard.make(&self.stamps, pass, self.first + vnode as u32, prepared)
+        self.lock(rt, vnode).call(pass, prepared)
     }
 }
 
@@ -278,56 +271,34 @@ impl<B: Room> Cluster<B> {
 }
 
 impl<B: Room> Cluster<B> {
-    /// So many vnodes with nothing written, numbered from the first identifier on, and so many passes, over a word that nobody has drawn
-    /// from.
+    /// Vnodes and passes of this size, over a word that nobody has drawn from. The vnodes have nothing written, and are made by a seed.
+    /// There may be no memory for them.
     pub fn open(
-        alloc: Global,
-        stamps: Stamps,
-        card: Card,
-        first: u32,
-        vnodes: usize,
-        passes: usize,
-    ) -> Result<(Cluster<B>, Vec<Pass<B>>), AllocError>
-        requires table { (stamps.table.shared.table_id ≡ B.table) × (card.table_id ≡ B.table) }
-        requires size { stamps.table.shared.key ≡ record { first = first; vnodes = vnodes; passes = passes } }
-        requires few { first + vnodes ≤ 2 ^ 32 }
-        requires card { card.me ≡ (newcomer stamps.table.shared.key, []) }
-        ensures { IfOk result (λ r. (r.0 ≡ record { first = first; vnodes = vnodes; passes = passes }) × (vec_len r.1 ≡ passes) × All (λ p. p ≡ pass_view 0 []) r.1.items) }
-    {
-        Cluster::open_seeded(alloc, Seed::fixed(), stamps, card, first, vnodes, passes)
-    }
-
-    /// The same of vnodes that are made by a seed.
-    pub fn open_seeded(
         alloc: Global,
         seed: Seed,
         stamps: Stamps,
         mut card: Card,
-        first: u32,
-        vnodes: usize,
-        passes: usize,
+        size: &Size,
     ) -> Result<(Cluster<B>, Vec<Pass<B>>), AllocError>
         requires table { (stamps.table.shared.table_id ≡ B.table) × (card.table_id ≡ B.table) }
-        requires size { stamps.table.shared.key ≡ record { first = first; vnodes = vnodes; passes = passes } }
-        requires few { first + vnodes ≤ 2 ^ 32 }
+        requires size { stamps.table.shared.key ≡ size.now }
+        requires few { size.now.first + size.now.vnodes ≤ 2 ^ 32 }
         requires card { card.me ≡ (newcomer stamps.table.shared.key, []) }
-        ensures { IfOk result (λ r. (r.0 ≡ record { first = first; vnodes = vnodes; passes = passes }) × (vec_len r.1 ≡ passes) × All (λ p. p ≡ pass_view 0 []) r.1.items) }
+        ensures { IfOk result (λ r. (r.0 ≡ size.now) × (vec_len r.1 ≡ size.now.passes) × All (λ p. p ≡ pass_view 0 []) r.1.items) }
     {
-        let mut locks = Vec::with_capacity(alloc, vnodes)?;
-        let mut dealt = Vec::with_capacity(alloc, passes)?;
-        deal_passes(&stamps, &mut card, &mut dealt, passes);
-        deal_vnodes(alloc, seed, &stamps, card, &mut locks, first, vnodes);
-        Ok((
-            Cluster {
-                alloc,
-                stamps,
-                vnodes: locks,
-                first,
-                passes,
-                seed,
-                room: PhantomData,
-            },
-            dealt,
-        ))
+        let mut vnodes = Vec::with_capacity(alloc, size.vnodes)?;
+        let mut passes = Vec::with_capacity(alloc, size.passes)?;
+        deal_passes(&stamps, &mut card, &mut passes, size.passes);
+        deal_vnodes(seed, &stamps, card, &mut vnodes, size);
+        let cluster = Cluster {
+            alloc,
+            stamps,
+            vnodes,
+            first: size.first,
+            passes: size.passes,
+            seed,
+            room: PhantomData,
+        };
+        Ok((cluster, passes))
     }
 }

@@ -2,6 +2,8 @@
 #![tactic(auto)]
 
 mod cluster;
+mod guard;
 
-pub use cluster::{Cluster, Gate, Open};
+pub use cluster::Cluster;
 pub use cluster_vnode::{CallFault, GatherFault, Pass, Receipt, Room, hand_outs_are_a_front};
+pub use guard::VnodeGuard;

@@ -25,6 +25,12 @@ use Rattle.cluster_vnode.specs.Calls.{IsNews, IsFault, AreKeysOf, outcome_ok}
 use Rattle.cluster_vnode.specs.declared.fault.CallFault.{CallFault}
 use Rattle.cluster_vnode.specs.declared.fault.CallFault.TheVariants as fault
 
+-- what contracts see of the vnodes that a pass reaches: how many there are, what the pass knows, and how many calls failed
+pub record Reach : Type 0 where
+  pub size : Size
+  pub pass : View
+  pub failures : ℕ
+
 -- a call that was lost: there is no such vnode, or the pass has drawn all its stamps
 abbrev pub IsLostAt : Size → View → View → ℕ → Type 0
 IsLostAt size old new i = (new.told ≡ old.told) × ((size.vnodes ≤ i) ⊎ (old.drawn ≡ stamps_each))

@@ -1,9 +1,7 @@
-//! Workers over a cluster: each reaches the vnodes by a pass of its own, through the calls that quorums make.
+//! The vnodes of a cluster as peers: each call that a quorum or an exchange makes is one call of the cluster, by one pass.
 #![tactic(auto)]
 
+mod calling;
 pub mod laws;
-mod passing;
-mod working;
 
-pub use passing::PassPeers;
-pub use working::{Worker, serve_all};
+pub use calling::ClusterPeers;

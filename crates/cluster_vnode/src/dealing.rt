@@ -7,8 +7,7 @@ ghost use Rattle.cluster_vnode.specs.Calls.{pass_view, undealt};
 
 use crate::locked::Locked;
 use crate::pass::{Pass, Room};
-use cluster_stamps::{Card, Stamps};
-use std::alloc::Global;
+use cluster_stamps::{Card, Size, Stamps};
 use std::marker::PhantomData;
 use std::sync::Mutex;
 use vnode::{Hint, Seed, Vnode};
@@ -38,25 +37,24 @@ pub fn deal_passes<B: Room>(
     }
 }
 
-/// Puts a new vnode under a lock for each history of the card.
+/// Puts a new vnode under a lock for each history of the card: as many as the size says, numbered from its first identifier on.
 pub fn deal_vnodes<B: Room>(
-    alloc: Global,
     seed: Seed,
     stamps: &Stamps,
     mut card: Card,
     locks: &mut Vec<Mutex<Locked<B>>>,
-    first: u32,
-    count: usize,
+    size: &Size,
 )
     requires table { (stamps.now.table.shared.table_id ≡ B.table) × (card.table_id ≡ B.table) }
-    requires card { card.me ≡ (undealt 0 (fresh first count), []) }
-    requires few { first + count ≤ 2 ^ 32 }
-    requires room { (count ≤ vec_capacity locks.old) × (vec_len locks.old ≡ 0) }
-    ensures { vec_len locks.new ≡ count }
+    requires card { card.me ≡ (undealt 0 (fresh size.now.first size.now.vnodes), []) }
+    requires few { size.now.first + size.now.vnodes ≤ 2 ^ 32 }
+    requires room { (size.now.vnodes ≤ vec_capacity locks.old) × (vec_len locks.old ≡ 0) }
+    ensures { vec_len locks.new ≡ size.now.vnodes }
 {
-    for number in 0..count {
+    let alloc = *locks.allocator();
+    for number in 0..size.vnodes {
         let rest = stamps.take_rest(&mut card);
-        let vnode = Vnode::seeded(alloc, first + number as u32, seed);
+        let vnode = Vnode::seeded(alloc, size.first + number as u32, seed);
         locks.push_reserved(Mutex::new(Locked::new(vnode, card)));
         card = rest;
     }

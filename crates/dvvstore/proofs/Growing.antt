@@ -1,5 +1,5 @@
 -- What a pass was told only grows, call by call.
-use Rattle.std.proofs.Common.{◌≡◌, ◌∙◌, ℕ, List, [], ◌∷◌, ◌++◌, Option, None, Some, ap, append_assoc, refl, sym}
+use Rattle.std.proofs.Common.{◌≡◌, ◌∙◌, List, [], ◌∷◌, ◌++◌, Option, None, Some, ap, append_assoc, refl, sym}
 use Rattle.std.proofs.lemmas.List.{append-nil}
 use Rattle.dvvstore.specs.Asides.{GoOn, Grows}
 use Rattle.kept_restore.specs.declared.beginning.Passes.{Passes}
@@ -23,9 +23,3 @@ pub grows_by_calls : {S : Type 0} (happens : S → Call → S → Type 0) (pass 
     → (old new : S) (calls : List Call) → Made happens old calls new → Grows (pass old) (pass new)
 grows_by_calls happens pass each old new [] made = nothing_more (pass old) (pass new) (ap pass made)
 grows_by_calls happens pass each old new (call ∷ calls) (mid, first, rest) = grows_then (pass old) (pass mid) (pass new) (each old mid call first) (grows_by_calls happens pass each mid new calls rest)
-
--- where each call leaves a name as it is, calls do
-pub same_by_calls : {S : Type 0} (happens : S → Call → S → Type 0) (name : S → ℕ) → ((old new : S) (call : Call) → happens old call new → name new ≡ name old)
-    → (old new : S) (calls : List Call) → Made happens old calls new → name new ≡ name old
-same_by_calls happens name each old new [] made = ap name made
-same_by_calls happens name each old new (call ∷ calls) (mid, first, rest) = same_by_calls happens name each mid new calls rest ∙ each old mid call first

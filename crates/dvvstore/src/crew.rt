@@ -1,6 +1,5 @@
 //! A crew: workers on threads, a thread that hands them connections and follows what they do, and one that makes snapshots beside them.
 
-mod held;
 mod pace;
 pub mod reporter;
 mod running;

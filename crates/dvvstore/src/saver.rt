@@ -8,8 +8,8 @@ mod stride;
 use crate::crew::Signs;
 use crate::limits::{SNAPSHOT_SIDES, SNAPSHOT_TICK_MS};
 use crate::saver::stride::{Stride, is_serving};
-use cluster::{Cluster, Open, Pass, Room};
-use cluster_peers::PassPeers;
+use cluster::{Cluster, Pass, Room};
+use cluster_peers::ClusterPeers;
 use cluster_peers::laws::calls_only_add;
 use kept_file::{SnapshotFault, Subject};
 use kept_folder::{Folder, Unreplaced, WriteFault, keep_requests, keep_served};
@@ -228,12 +228,11 @@ impl<F: Folder> Shelf<F> {
     fn write_vnode<B: Room, R: Wait>(
         &mut self,
         rt: &R,
-        cluster: &Cluster<B>,
-        pass: &mut Pass<B>,
+        peers: &mut ClusterPeers<'_, B, R>,
         signs: &Signs<'_>,
         index: usize,
     ) -> Result<usize, Unreplaced>
-        ensures grows { Grows pass.old pass.new }
+        ensures grows { Grows peers.old.pass peers.new.pass }
     {
         calls_only_add();
         let subject = Subject {
@@ -242,9 +241,8 @@ impl<F: Folder> Shelf<F> {
                 .first
                 .saturating_add(u32::try_from(index).unwrap_or(u32::MAX)),
         };
-        let mut peers = PassPeers::new(self.alloc, rt, cluster, pass, &Open);
         let mut pace = Stride::new(rt, *signs);
-        keep_served(self.alloc, &mut self.folder, &mut peers, subject, &mut pace)
+        keep_served(self.alloc, &mut self.folder, peers, subject, &mut pace)
     }
 }
 
@@ -266,17 +264,21 @@ impl<B: Room, F: Folder + Copy> Side<B, F> {
     {
         let Side {
             mut shelf,
-            mut pass,
+            pass,
             from,
         } = self;
+        let mut peers = ClusterPeers::new(shelf.alloc, rt, cluster, pass);
         let mut came = Ok(0usize);
         for index in (from..cluster.count()).step_by(SNAPSHOT_SIDES) {
             if came.is_ok() {
-                let more = shelf.write_vnode(rt, cluster, &mut pass, signs, index);
+                let more = shelf.write_vnode(rt, &mut peers, signs, index);
                 came = all_keys(came, more);
             }
         }
-        Saved { pass, came }
+        Saved {
+            pass: peers.into_pass(),
+            came,
+        }
     }
 }
 

@@ -152,11 +152,12 @@ fn over_stamps<
     ensures kept { Leaves making.first (files_for tenant.entry) result }
 {
     let Making { first, seed } = making;
-    let vnodes = VNODES as usize;
-    let passes = tables.len() + tenant.passes();
-    let (cluster, mut passes) = Cluster::<B>::open_seeded(
-        alloc, seed, stamps, card, first, vnodes, passes,
-    )?;
+    let size = Size {
+        first,
+        vnodes: VNODES as usize,
+        passes: tables.len() + tenant.passes(),
+    };
+    let (cluster, mut passes) = Cluster::<B>::open(alloc, seed, stamps, card, &size)?;
     let (stay, lookout) = begin(alloc, rt, &cluster, making, &mut passes, tenant, err)?;
     over_cluster::<B, Brand, R, N, F, O>(
         alloc,

@@ -4,7 +4,7 @@ ghost use Rattle.std.specs.Prelude.{◌+◌, ◌<◌, IfOk, OnOk};
 ghost use Rattle.kept_restore.specs.Loads.{HasLoaded, IsMerged};
 
 use crate::fault::LoadFault;
-use cluster::{CallFault, Cluster, Open, Pass, Room};
+use cluster::{CallFault, Cluster, Pass, Room};
 use cluster_stamps::{Prepared, Reply};
 use record_codec::Record;
 use std::alloc::Global;
@@ -57,7 +57,7 @@ fn merge<B: Room, R: Wait>(
     let Ok(merge) = Prepared::merge(alloc, &one.key, one.from, one.at, &one.state) else {
         return Err(CallFault::Refused(VnodeFault::NoMemory));
     };
-    match cluster.call_prepared(rt, pass, index, merge, &Open) {
+    match cluster.call_prepared(rt, pass, index, merge) {
         Ok((Reply::Changed(_), receipt)) => Ok(receipt.place as usize),
         Ok(_) => unreachable!(),
         Err(fault) => Err(fault),

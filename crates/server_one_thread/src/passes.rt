@@ -8,8 +8,8 @@ ghost use Rattle.cluster_stamps.specs.declared.view.Told.{Told};
 ghost use Rattle.server_store.specs.View.{StoreView, shown};
 ghost use Rattle.server_one_thread.specs.Passes.{AreCallsOf, GivesUnnoted, IsOfOnePass, PassCalls, Passing, all_calls, by_pass, told_by, told_to};
 
-use cluster::{Gate, Room};
-use cluster_peers::PassPeers;
+use cluster::Room;
+use cluster_peers::ClusterPeers;
 use hook_registry::{HookChanges, Hooks};
 use http_connection::Backend;
 use peers::Peers;
@@ -17,12 +17,12 @@ use server_store::Store;
 use std::sync::Wait;
 
 /// A store on the vnodes that one pass reaches is one of that pass, whatever its hooks are.
-pub fn stores_are_of_one_pass<'a, B: Room, R: Wait, G: Gate, H: Hooks + HookChanges>(
-    _store: &Store<PassPeers<'a, B, R, G>, H>,
+pub fn stores_are_of_one_pass<'a, B: Room, R: Wait, H: Hooks + HookChanges>(
+    _store: &Store<ClusterPeers<'a, B, R>, H>,
 )
-    ensures { IsOfOnePass ⟦<Store<PassPeers<'a, B, R, G>, H> as Backend>⟧.gives ⟦<PassPeers<'a, B, R, G> as Peers>⟧.happens H.finds H.names H.takes
+    ensures { IsOfOnePass ⟦<Store<ClusterPeers<'a, B, R>, H> as Backend>⟧.gives ⟦<ClusterPeers<'a, B, R> as Peers>⟧.happens H.finds H.names H.takes
         (λ s. shown s.peers s.hooking.hooks s.hooking.table.listed s.placement s.noted.kinds)
-        (λ p. record { size = p.reach.cluster.now; pass = p.pass.now; failures = p.failures; origin = p.pass.ghost_name }) }
+        (λ p. record { size = p.size; pass = p.pass; failures = p.failures; origin = 0 }) }
 {}
 
 /// Where exchanges lead a store of one pass on, as those do that a worker's turn adds to the log of its connections, what the pass was told

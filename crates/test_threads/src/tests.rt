@@ -16,3 +16,4 @@ mod running;
 mod sharing;
 mod standing;
 mod watching;
+mod working;

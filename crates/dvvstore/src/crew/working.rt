@@ -8,13 +8,13 @@ ghost use Rattle.server_sockets.specs.Work.{Stays, Works};
 ghost use Rattle.server_store.specs.View.{StoreView};
 ghost use Rattle.dvvstore.specs.Visits.{HasLed, HasVisited, HaveVisited, Leads, begun};
 
-use crate::crew::held::HeldPeers;
 use crate::crew::pace::{Next, Pace, keeps_snapshots_waiting};
 use crate::crew::reporter::{Aloud, Reporter};
 use crate::crew::signs::Signs;
 use crate::limits::{FOLLOWED_PIECE_STAMPS, WORKER_NAP_MS, WORKER_WAIT_MS};
 use audit_cluster::{Spot, Watch};
 use cluster::{Cluster, Pass, Room};
+use cluster_peers::ClusterPeers;
 use hook_registry::{HookChanges, Hooks};
 use http_connection::Backend;
 use kept_hooks::{Recorder, Requests};
@@ -332,16 +332,15 @@ fn visit<B: Room + Spot, H: Hooks + HookChanges + Drop, R: Wait>(
 ) -> Pass<B>
     ensures visited { HasHadNone worker → HasVisited H.finds H.names H.takes (begun floor.now.cluster.now pass hooking.hooks hooking.table.listed placement) result }
 {
-    exchanges_are_by_a_pass::<HeldPeers<'_, B, R>, H>();
-    let peers = HeldPeers::new(floor.alloc, rt, floor.cluster, pass);
+    exchanges_are_by_a_pass::<ClusterPeers<'_, B, R>, H>();
+    let peers = ClusterPeers::new(floor.alloc, rt, floor.cluster, pass);
     let store = Store::new(floor.alloc, peers, hooking, placement);
     let recorder = Recorder::new(store, &floor.shared.requests, rt);
     let mut recorder = recorder.noting(&floor.shared.written);
-    stay::<B, HeldPeers<'_, B, R>, H, _, R>(rt, floor, post, worker, &mut recorder);
+    stay::<B, ClusterPeers<'_, B, R>, H, _, R>(rt, floor, post, worker, &mut recorder);
     let Recorder { store, .. } = recorder;
     let Store { peers, .. } = store;
-    let HeldPeers { pass, .. } = peers;
-    pass
+    peers.into_pass()
 }
 
 /// Has the worker at the seat's place answer its connections until it ends, over the vnodes of the floor, which are called by the seat's

@@ -1,198 +1,155 @@
 //! Which calls are made at the same time: calls at two vnodes are, and two calls at one vnode are not.
 
-use crate::tests::building::key_of;
-use crate::tests::running::{Answered, Staff, served};
-use cluster::Gate;
-use cluster_peers::Worker;
-use cluster_stamps::Size;
-use dvv::Clock;
-use key_state::{Content, Key};
-use peers::Peers;
-use std::alloc::{AllocError, Global};
+ghost use Rattle.std.specs.Prelude.{◌≡◌, ◌<◌, []};
+ghost use Rattle.cluster_stamps.specs.Rule.{newcomer};
+
+use crate::tests::building::TWO_BY_ONE;
+use cluster::{Cluster, Pass, Room};
+use cluster_stamps::{Card, Prepared, Stamps};
+use std::alloc::Global;
+use std::marker::Brand;
+use std::sync::Wait;
+use std::sync::atomic::AtomicBool;
 use std::sync::atomic::Ordering::SeqCst;
-use std::sync::atomic::{AtomicBool, AtomicU64, AtomicUsize};
 use std::test::Fail;
+use std::thread;
+use std::thread::Threads;
 use test_support::expect;
+use vnode::Seed;
 
-/// How often a gate looks before it gives up.
-const TURNS: u64 = 1 << 32;
+/// How often a sign is looked for before who looks gives up.
+const LOOKS: u64 = 1 << 32;
 
-/// How often a gate looks for a call that mustn't be made.
-const WATCHED: u64 = 1 << 20;
+/// How often a sign is looked for that mustn't be given.
+const LOOKS_IN_VAIN: u64 = 1 << 20;
 
-/// The vnode of the first call, before there was one.
-const NO_VNODE: usize = usize::MAX;
-
-/// Holds the first call of all until two calls at another vnode were told, so that the first of these was answered there.
+/// What who holds a vnode and who calls one tell each other.
 #[derive(Drop)]
-struct TwoVnodes {
-    first: AtomicUsize,
-    elsewhere: AtomicU64,
-    met: AtomicBool,
+struct Signs {
+    /// The vnode is held.
+    held: AtomicBool,
+    /// The call is about to be made.
+    begun: AtomicBool,
+    /// The call was answered.
+    answered: AtomicBool,
 }
 
-impl TwoVnodes {
-    /// No call was told yet.
-    fn new() -> TwoVnodes {
-        TwoVnodes {
-            first: AtomicUsize::new(NO_VNODE),
-            elsewhere: AtomicU64::new(0),
-            met: AtomicBool::new(false),
-        }
-    }
-
-    /// Holds the first call.
-    fn hold(&self) {
-        for _ in 0..TURNS {
-            if self.elsewhere.load(SeqCst) >= 2 {
-                self.met.store(true, SeqCst);
-                return;
-            }
+impl Signs {
+    /// None was given.
+    fn new() -> Signs {
+        Signs {
+            held: AtomicBool::new(false),
+            begun: AtomicBool::new(false),
+            answered: AtomicBool::new(false),
         }
     }
 }
 
-impl Gate for TwoVnodes {
-    fn told(&self, vnode: usize) {
-        match self.first.compare_exchange(NO_VNODE, vnode, SeqCst, SeqCst) {
-            Ok(_) => self.hold(),
-            Err(first) => {
-                if first != vnode {
-                    self.elsewhere.fetch_add(1, SeqCst);
-                }
-            }
+/// Whether a sign is given before so many looks are over.
+fn is_given(sign: &AtomicBool, looks: u64) -> bool {
+    for _ in 0..looks {
+        if sign.load(SeqCst) {
+            return true;
         }
+    }
+    false
+}
+
+/// Holds vnode 0 until the call is answered, which must be meanwhile. Where that is of the same vnode it mustn't be: then the vnode is held
+/// for some looks behind the call's begin. Whether it was as it must be.
+fn hold<B: Room, R: Wait>(rt: &R, cluster: &Cluster<B>, signs: &Signs, is_same: bool) -> bool
+    requires { 0 < cluster.now.vnodes }
+{
+    let _guard = cluster.lock(rt, 0);
+    signs.held.store(true, SeqCst);
+    if is_same {
+        is_given(&signs.begun, LOOKS) && !is_given(&signs.answered, LOOKS_IN_VAIN)
+    } else {
+        is_given(&signs.answered, LOOKS)
     }
 }
 
-/// Holds the first call until both workers have begun, and some turns more. It fails where a call was told meanwhile.
-#[derive(Drop)]
-struct SameVnode {
-    begun: AtomicU64,
-    told: AtomicU64,
-    met: AtomicBool,
-}
-
-impl SameVnode {
-    /// No worker has begun.
-    fn new() -> SameVnode {
-        SameVnode {
-            begun: AtomicU64::new(0),
-            told: AtomicU64::new(0),
-            met: AtomicBool::new(false),
-        }
-    }
-
-    /// Whether both workers begin before the turns are over.
-    fn have_begun(&self) -> bool {
-        for _ in 0..TURNS {
-            if self.begun.load(SeqCst) == 2 {
-                return true;
-            }
-        }
-        false
-    }
-
-    /// Whether no further call is told for some turns.
-    fn is_alone(&self) -> bool {
-        for _ in 0..WATCHED {
-            if self.told.load(SeqCst) != 1 {
-                return false;
-            }
-        }
-        true
-    }
-}
-
-impl Gate for SameVnode {
-    fn told(&self, _vnode: usize) {
-        if self.told.fetch_add(1, SeqCst) == 0 {
-            let met = self.have_begun() && self.is_alone();
-            self.met.store(met, SeqCst);
-        }
-    }
-}
-
-/// Puts at a vnode and reads there, as a put does that copies what it wrote.
-#[derive(Drop)]
-struct PutAndRead<'a> {
-    begun: &'a AtomicU64,
+/// Makes two calls at a vnode under one guard, once vnode 0 is held. Whether both were answered.
+fn call<B: Room, R: Wait>(
+    rt: &R,
+    cluster: &Cluster<B>,
+    pass: &mut Pass<B>,
+    signs: &Signs,
     vnode: usize,
-    key: Key,
-    seen: Clock,
-    answered: bool,
-}
-
-impl<'a> PutAndRead<'a> {
-    /// A worker that counts itself once it begins.
-    fn new(alloc: Global, begun: &'a AtomicU64, vnode: usize) -> Result<Self, AllocError> {
-        Ok(PutAndRead {
-            begun,
-            vnode,
-            key: key_of(alloc, b"k")?,
-            seen: Clock::new(alloc),
-            answered: false,
-        })
+) -> bool
+    requires { vnode < cluster.now.vnodes }
+{
+    if !is_given(&signs.held, LOOKS) {
+        return false;
     }
+    signs.begun.store(true, SeqCst);
+    let mut guard = cluster.lock(rt, vnode);
+    let first = guard.call(pass, Prepared::Restart).is_ok();
+    let second = guard.call(pass, Prepared::Restart).is_ok();
+    signs.answered.store(true, SeqCst);
+    first && second
 }
 
-impl<'a> Worker for PutAndRead<'a> {
-    fn run<P: Peers>(&mut self, peers: &mut P) {
-        self.begun.fetch_add(1, SeqCst);
-        let put = peers.put_at(self.vnode, &self.key, &self.seen, &Content::Tombstone);
-        let read = peers.state_of(self.vnode, &self.key);
-        self.answered = put.is_ok() && read.is_ok();
-    }
+/// Calls a vnode while a thread holds vnode 0. Whether the call was answered, and only when it must be.
+fn held_and_called<B: Room + Send + Sync, R: Threads + Wait + Sync>(
+    rt: &R,
+    cluster: &Cluster<B>,
+    pass: &mut Pass<B>,
+    vnode: usize,
+) -> bool
+    requires { (vnode < cluster.now.vnodes) × (0 < cluster.now.vnodes) }
+{
+    let signs = Signs::new();
+    let signs = &signs;
+    let is_same = vnode == 0;
+    let (held, called) = thread::join(
+        rt,
+        || -> bool
+            requires { 0 < cluster.now.vnodes }
+        { hold(rt, cluster, signs, is_same) },
+        || -> bool
+            requires { vnode < cluster.now.vnodes }
+        { call(rt, cluster, pass, signs, vnode) },
+    );
+    held && called
 }
 
-impl<'a> Answered for PutAndRead<'a> {
-    fn is_answered(&self) -> bool {
-        self.answered
-    }
+/// The same by the pass of a new cluster.
+fn by_one_pass<B: Room + Send + Sync, R: Threads + Wait + Sync>(
+    rt: &R,
+    alloc: Global,
+    stamps: Stamps,
+    card: Card,
+    vnode: usize,
+) -> Result<(), Fail>
+    requires table { (stamps.table.shared.table_id ≡ B.table) × (card.table_id ≡ B.table) }
+    requires size { stamps.table.shared.key ≡ record { first = 0; vnodes = 2; passes = 1 } }
+    requires card { card.me ≡ (newcomer stamps.table.shared.key, []) }
+    requires vnode { vnode < 2 }
+{
+    let (cluster, mut passes) = Cluster::<B>::open(
+        alloc,
+        Seed::fixed(),
+        stamps,
+        card,
+        &TWO_BY_ONE,
+    )?;
+    let Some(pass) = passes.first_mut() else {
+        return Err(Fail::new("no pass"));
+    };
+    expect(held_and_called(rt, &cluster, pass, vnode), &vnode)
 }
 
-/// Two workers who put and read, at these vnodes.
-#[derive(Drop)]
-struct Two<'a> {
-    begun: &'a AtomicU64,
-    vnodes: [usize; 2],
-}
-
-impl<'a> Staff for Two<'a> {
-    type Work = PutAndRead<'a>;
-
-    fn work(&self, alloc: Global, number: usize) -> Result<PutAndRead<'a>, AllocError> {
-        PutAndRead::new(alloc, self.begun, self.vnodes[number % 2])
-    }
-}
-
-/// Two vnodes and two passes.
-const TWO_BY_TWO: Size = Size {
-    first: 0,
-    vnodes: 2,
-    passes: 2,
-};
-
-/// Two calls at different vnodes are in flight at the same time.
+/// A call at a vnode is answered while another vnode is held.
 #[test]
 fn gate_two_vnodes(rt: HostRuntime) -> Result<(), Fail> {
-    let gate = TwoVnodes::new();
-    let two = Two {
-        begun: &AtomicU64::new(0),
-        vnodes: [0, 1],
-    };
-    served(&rt, rt.alloc(), &TWO_BY_TWO, &two, &gate)?;
-    expect(gate.met.load(SeqCst), &two.vnodes)
+    let (stamps, card) = Stamps::new(rt.alloc(), &TWO_BY_ONE)?;
+    by_one_pass::<Brand, _>(&rt, rt.alloc(), stamps, card, 1)
 }
 
-/// Two calls at the same vnode are not.
+/// A call at a vnode that is held is answered once it is held no more.
 #[test]
 fn gate_same_vnode(rt: HostRuntime) -> Result<(), Fail> {
-    let gate = SameVnode::new();
-    let two = Two {
-        begun: &gate.begun,
-        vnodes: [1, 1],
-    };
-    served(&rt, rt.alloc(), &TWO_BY_TWO, &two, &gate)?;
-    expect(gate.met.load(SeqCst), &two.vnodes)
+    let (stamps, card) = Stamps::new(rt.alloc(), &TWO_BY_ONE)?;
+    by_one_pass::<Brand, _>(&rt, rt.alloc(), stamps, card, 0)
 }

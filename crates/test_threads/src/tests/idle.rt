@@ -3,16 +3,18 @@
 ghost use Rattle.std.specs.Prelude.{◌≡◌, []};
 ghost use Rattle.cluster_stamps.specs.Rule.{newcomer};
 
-use crate::tests::building::key_of;
+use crate::tests::building::{THREE_BY_TWO, key_of};
 use crate::tests::watching::Silent;
 use audit_cluster::{Spot, Watch, close_watched};
-use cluster::{Cluster, Open, Pass, Room};
-use cluster_stamps::{Card, Request, Size, Stamps};
+use cluster::{Cluster, Pass, Room};
+use cluster_stamps::{Card, Request, Stamps};
+use journal::BLOCK;
 use std::alloc::Global;
 use std::marker::Brand;
 use std::sync::Wait;
 use std::test::Fail;
 use test_support::expect;
+use vnode::Seed;
 
 /// How many reads are made between two turns.
 const READS: usize = 1_000;
@@ -21,7 +23,7 @@ const READS: usize = 1_000;
 const TURNS: usize = 200;
 
 /// So many entries may wait: those that may behind vnodes at which nothing happens, and a block at each vnode.
-const MOST: usize = 8_192 + 3 * 1_024;
+const MOST: usize = 8_192 + 3 * BLOCK;
 
 /// Makes so many reads at the first vnode.
 fn read_much<B: Room, R: Wait>(
@@ -34,7 +36,7 @@ fn read_much<B: Room, R: Wait>(
         return Err(Fail::new("no vnode"));
     }
     for _ in 0..READS {
-        if cluster.call(rt, pass, 0, request, &Open).is_err() {
+        if cluster.call(rt, pass, 0, request).is_err() {
             return Err(Fail::new("refused"));
         }
     }
@@ -75,7 +77,13 @@ fn busy_beside_idle<B: Room + Spot, R: Wait>(
     requires card { card.me ≡ (newcomer stamps.table.shared.key, []) }
     requires spot { 0 ≡ B.first }
 {
-    let (cluster, mut passes) = Cluster::<B>::open(alloc, stamps, card, 0, 3, 2)?;
+    let (cluster, mut passes) = Cluster::<B>::open(
+        alloc,
+        Seed::fixed(),
+        stamps,
+        card,
+        &THREE_BY_TWO,
+    )?;
     let mut watch = Watch::new(alloc, &mut passes, 0, 3)?;
     if let Some(pass) = passes.first_mut() {
         keep_busy(rt, alloc, &cluster, pass, &mut watch)?;
@@ -87,11 +95,6 @@ fn busy_beside_idle<B: Room + Spot, R: Wait>(
 /// Vnodes at which nothing happens hold no others up.
 #[test]
 fn idle_vnodes(rt: HostRuntime) -> Result<(), Fail> {
-    let size = Size {
-        first: 0,
-        vnodes: 3,
-        passes: 2,
-    };
-    let (stamps, card) = Stamps::new(rt.alloc(), &size)?;
+    let (stamps, card) = Stamps::new(rt.alloc(), &THREE_BY_TWO)?;
     busy_beside_idle::<Brand, _>(&rt, rt.alloc(), stamps, card)
 }

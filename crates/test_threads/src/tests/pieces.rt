@@ -1,11 +1,9 @@
 //! A million calls of four threads, handed over in pieces of 64 entries.
 
-use crate::tests::building::key_of;
-use crate::tests::putting::THREE_BY_FOUR;
+use crate::tests::building::{THREE_BY_FOUR, key_of};
 use crate::tests::rounds::Rounders;
 use crate::tests::running::served;
 use audit_follower::{Follower, Recent};
-use cluster::Open;
 use journal::Entry;
 use key_state::Key;
 use std::alloc::Global;
@@ -116,7 +114,7 @@ fn follow_all(follower: &mut Follower, alloc: Global, vnodes: &mut [Vnode]) -> R
 #[test]
 fn a_million_calls(rt: HostRuntime) -> Result<(), Fail> {
     let alloc = rt.alloc();
-    let mut vnodes = served(&rt, alloc, &THREE_BY_FOUR, &Rounders(ROUNDS), &Open)?;
+    let mut vnodes = served(&rt, alloc, &THREE_BY_FOUR, &Rounders(ROUNDS))?;
     let mut follower = Follower::new(alloc, &[0, 1, 2], RECENT)?;
     follow_all(&mut follower, alloc, vnodes.as_mut_slice())
 }

@@ -1,10 +1,8 @@
 //! Workers on threads who put, and whose journals are one run.
 
-use crate::tests::building::{key_of, value_of};
+use crate::tests::building::{THREE_BY_FOUR, key_of, value_of};
 use crate::tests::running::{Answered, Staff, are_one_run, served};
-use cluster::Open;
-use cluster_peers::Worker;
-use cluster_stamps::Size;
+use crate::tests::working::Worker;
 use dvv::Clock;
 use key_state::{Content, Key};
 use peers::Peers;
@@ -65,16 +63,9 @@ impl Staff for Putters {
     }
 }
 
-/// Three vnodes and four passes.
-pub(super) const THREE_BY_FOUR: Size = Size {
-    first: 0,
-    vnodes: 3,
-    passes: 4,
-};
-
 /// Each of the forty puts is answered, and stands once in the journals, which are one run.
 #[test]
 fn forty_calls(rt: HostRuntime) -> Result<(), Fail> {
-    let vnodes = served(&rt, rt.alloc(), &THREE_BY_FOUR, &Putters, &Open)?;
+    let vnodes = served(&rt, rt.alloc(), &THREE_BY_FOUR, &Putters)?;
     are_one_run(rt.alloc(), &vnodes, &[(16, 16), (12, 12), (12, 12)])
 }

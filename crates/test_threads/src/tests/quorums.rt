@@ -1,13 +1,9 @@
 //! Two workers who get and put one key by quorums, at the same time.
 
-ghost use Rattle.std.specs.Prelude.{◌≡◌};
-
-use crate::tests::building::key_of;
+use crate::tests::building::{THREE_BY_TWO, key_of};
 use crate::tests::running::{Answered, Staff, are_one_run, served};
+use crate::tests::working::Worker;
 use bpf_helpers::Table;
-use cluster::Open;
-use cluster_peers::Worker;
-use cluster_stamps::Size;
 use dvv::{Clock, Dot};
 use hook_registry::Registry;
 use key_state::{Content, Key};
@@ -36,9 +32,7 @@ fn put<P: Peers>(
     coordinator: Coordinator,
     key: &Key,
     seen: &Clock,
-) -> Result<Dot, QuorumFault>
-    ensures { P.origin peers.new ≡ P.origin peers.old }
-{
+) -> Result<Dot, QuorumFault> {
     let gone = Content::Tombstone;
     match coordinator {
         Coordinator::First => quorum::put(peers, hooking, 0, &[1, 2], key, seen, &gone, QUORUM),
@@ -54,9 +48,7 @@ fn get_and_put<P: Peers>(
     hooking: &mut Hooking<Registry>,
     coordinator: Coordinator,
     key: &Key,
-) -> bool
-    ensures { P.origin peers.new ≡ P.origin peers.old }
-{
+) -> bool {
     match quorum::get(alloc, peers, key, &[0, 1, 2], QUORUM) {
         Ok((state, answers)) => {
             repair::repair(peers, key, &answers);
@@ -118,16 +110,9 @@ impl Staff for Writers {
     }
 }
 
-/// Three vnodes and two passes.
-const THREE_BY_TWO: Size = Size {
-    first: 0,
-    vnodes: 3,
-    passes: 2,
-};
-
 /// Each get and each put by a quorum is answered and reaches all three vnodes, and an audit finds the journals to be one run.
 #[test]
 fn two_quorums_at_once(rt: HostRuntime) -> Result<(), Fail> {
-    let vnodes = served(&rt, rt.alloc(), &THREE_BY_TWO, &Writers, &Open)?;
+    let vnodes = served(&rt, rt.alloc(), &THREE_BY_TWO, &Writers)?;
     are_one_run(rt.alloc(), &vnodes, &[(80, 200); 3])
 }

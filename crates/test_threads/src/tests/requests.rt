@@ -3,13 +3,14 @@
 ghost use Rattle.std.specs.Prelude.{◌≡◌, []};
 ghost use Rattle.cluster_stamps.specs.Rule.{newcomer};
 
-use crate::tests::building::key_of;
+use crate::tests::building::{TWO_BY_ONE, key_of};
 use crate::tests::running::gathered;
 use audit_cluster::{CloseFault, audit_vnodes};
-use cluster::{CallFault, Cluster, Open, Pass, Receipt, Room};
-use cluster_peers::PassPeers;
-use cluster_stamps::{Card, Reply, Request, Size, Stamps};
+use cluster::{CallFault, Cluster, Pass, Receipt, Room};
+use cluster_peers::ClusterPeers;
+use cluster_stamps::{Card, Reply, Request, Stamps};
 use dvv::{Clock, ClockFault, Dot};
+use journal::BLOCK;
 use key_state::{Content, KeyState, Part};
 use repair::exchange;
 use std::alloc::{AllocError, Global};
@@ -17,7 +18,7 @@ use std::marker::Brand;
 use std::sync::Wait;
 use std::test::Fail;
 use test_support::expect;
-use vnode::VnodeFault;
+use vnode::{Seed, VnodeFault};
 
 /// What a call came to, as far as the test compares it.
 #[derive(Clone, Copy, Debug, PartialEq, Eq)]
@@ -157,7 +158,7 @@ fn answer_of<B: Room, R: Wait>(
             place,
             stamp,
         },
-    ) = cluster.call(rt, pass, vnode % 2, request, &Open)?;
+    ) = cluster.call(rt, pass, vnode % 2, request)?;
     Ok((outcome_of(&reply), (vnode, place, stamp)))
 }
 
@@ -225,30 +226,31 @@ const ROWS: &[Row] = &[
 ];
 
 /// The calls, one after the other. Then each vnode takes by an exchange what it lacks: both lack a sibling of the one key, and the first
-/// the other key. A second exchange takes nothing.
+/// the other key. A second exchange takes nothing. The pass comes back.
 fn rows_are<B: Room, R: Wait>(
     rt: &R,
     alloc: Global,
     cluster: &Cluster<B>,
-    pass: &mut Pass<B>,
-) -> Result<(), Fail>
+    mut pass: Pass<B>,
+) -> Result<Pass<B>, Fail>
     requires { cluster.now.vnodes ≡ 2 }
 {
     for row in ROWS {
         let (vnode, name, ask, want) = row;
         let request = request_of(alloc, *name, *ask)?;
-        expect(answer_of(rt, cluster, pass, *vnode, &request) == *want, row)?;
+        expect(
+            answer_of(rt, cluster, &mut pass, *vnode, &request) == *want,
+            row,
+        )?;
     }
-    let mut peers = PassPeers::new(alloc, rt, cluster, pass, &Open);
+    let mut peers = ClusterPeers::new(alloc, rt, cluster, pass);
     let first = exchange(alloc, &mut peers, 0, 1);
     let again = exchange(alloc, &mut peers, 0, 1);
     let taken = (first.taken, again.taken);
     let whole_at_once = (first.whole_at_once, again.whole_at_once);
-    expect(taken == (3, 0) && whole_at_once == (0, 0), &taken)
+    expect(taken == (3, 0) && whole_at_once == (0, 0), &taken)?;
+    Ok(peers.into_pass())
 }
-
-/// How many entries a block has.
-const BLOCK: usize = 1_024;
 
 /// After as many reads as a block has entries, vnode 0 hands out one block, which begins at this place.
 fn block_is_handed_out<B: Room, R: Wait>(
@@ -262,7 +264,7 @@ fn block_is_handed_out<B: Room, R: Wait>(
 {
     let read = request_of(alloc, b'k', Ask::Read)?;
     for _ in 0..BLOCK {
-        let _ = cluster.call(rt, pass, 0, &read, &Open)?;
+        let _ = cluster.call(rt, pass, 0, &read)?;
     }
     let Some(handout) = cluster.hand_out(rt, pass, 0, &mut Vec::new(alloc)) else {
         return Err(Fail::new("nothing is handed out"));
@@ -270,18 +272,19 @@ fn block_is_handed_out<B: Room, R: Wait>(
     expect(handout.first == first && handout.blocks.len() == 1, &first)
 }
 
-/// All of this. What is handed out follows what was handed out before.
+/// All of this. What is handed out follows what was handed out before. The pass comes back.
 fn all_is_answered<B: Room, R: Wait>(
     rt: &R,
     alloc: Global,
     cluster: &Cluster<B>,
-    pass: &mut Pass<B>,
-) -> Result<(), Fail>
+    pass: Pass<B>,
+) -> Result<Pass<B>, Fail>
     requires { cluster.now.vnodes ≡ 2 }
 {
-    rows_are(rt, alloc, cluster, pass)?;
-    block_is_handed_out(rt, alloc, cluster, pass, 0)?;
-    block_is_handed_out(rt, alloc, cluster, pass, BLOCK)
+    let mut pass = rows_are(rt, alloc, cluster, pass)?;
+    block_is_handed_out(rt, alloc, cluster, &mut pass, 0)?;
+    block_is_handed_out(rt, alloc, cluster, &mut pass, BLOCK)?;
+    Ok(pass)
 }
 
 /// The same by the pass of a new cluster. Journals with a part handed out aren't whole.
@@ -295,8 +298,17 @@ fn by_one_pass<B: Room, R: Wait>(
     requires size { stamps.table.shared.key ≡ record { first = 0; vnodes = 2; passes = 1 } }
     requires card { card.me ≡ (newcomer stamps.table.shared.key, []) }
 {
-    let (cluster, mut passes) = Cluster::<B>::open(alloc, stamps, card, 0, 2, 1)?;
-    all_is_answered(rt, alloc, &cluster, &mut passes[0])?;
+    let (cluster, mut passes) = Cluster::<B>::open(
+        alloc,
+        Seed::fixed(),
+        stamps,
+        card,
+        &TWO_BY_ONE,
+    )?;
+    let Some(pass) = passes.pop() else {
+        return Err(Fail::new("no pass"));
+    };
+    passes.push(all_is_answered(rt, alloc, &cluster, pass)?)?;
     let vnodes = gathered(cluster, passes)?;
     let end = audit_vnodes(alloc, &vnodes);
     expect(end == Err(CloseFault::HandedOut), &end)
@@ -305,11 +317,6 @@ fn by_one_pass<B: Room, R: Wait>(
 /// Puts, reads, merges, summaries, parts and a restart: replies and receipts; the calls of an exchange; and blocks that are handed out.
 #[test]
 fn each_request_is_answered(rt: HostRuntime) -> Result<(), Fail> {
-    let size = Size {
-        first: 0,
-        vnodes: 2,
-        passes: 1,
-    };
-    let (stamps, card) = Stamps::new(rt.alloc(), &size)?;
+    let (stamps, card) = Stamps::new(rt.alloc(), &TWO_BY_ONE)?;
     by_one_pass::<Brand, _>(&rt, rt.alloc(), stamps, card)
 }

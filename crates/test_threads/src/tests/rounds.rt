@@ -1,10 +1,8 @@
 //! Workers that read, put and merge.
 
-ghost use Rattle.std.specs.Prelude.{◌≡◌};
-
 use crate::tests::building::{key_of, value_of};
 use crate::tests::running::{Answered, Staff};
-use cluster_peers::Worker;
+use crate::tests::working::Worker;
 use key_state::{Content, Key};
 use peers::Peers;
 use std::alloc::{AllocError, Global};
@@ -20,9 +18,7 @@ pub(super) struct Rounds {
 
 impl Rounds {
     /// One round, from this vnode on. Whether all was answered.
-    fn round<P: Peers>(&self, peers: &mut P, i: usize) -> bool
-        ensures { P.origin peers.new ≡ P.origin peers.old }
-    {
+    fn round<P: Peers>(&self, peers: &mut P, i: usize) -> bool {
         let Ok(answer) = peers.state_of(i % 3, &self.key) else {
             return false;
         };

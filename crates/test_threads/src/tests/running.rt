@@ -4,9 +4,9 @@ ghost use Rattle.std.specs.Prelude.{◌≡◌, ◌+◌, ◌≤◌, ◌^◌, [], 
 ghost use Rattle.cluster_vnode.specs.Gathers.{Differ};
 ghost use Rattle.cluster_stamps.specs.Rule.{newcomer};
 
+use crate::tests::working::{Worker, serve_all};
 use audit_cluster::audit_vnodes;
-use cluster::{Cluster, Gate, Pass, Room};
-use cluster_peers::{Worker, serve_all};
+use cluster::{Cluster, Pass, Room};
 use cluster_stamps::{Card, Size, Stamps};
 use std::alloc::{AllocError, Global};
 use std::marker::Brand;
@@ -14,7 +14,7 @@ use std::sync::Wait;
 use std::test::Fail;
 use std::thread::Threads;
 use test_support::expect;
-use vnode::Vnode;
+use vnode::{Seed, Vnode};
 
 /// The vnodes of a cluster whose passes are back.
 pub(super) fn gathered<B: Room>(
@@ -71,44 +71,41 @@ pub(super) fn passes_of<B: Room, W: Answered + Drop>(
 }
 
 /// Has a worker for each pass work, on a thread of its own.
-fn serve<B: Room + Send + Sync, S: Staff, G: Gate + Sync, R: Threads + Wait + Sync>(
+fn serve<B: Room + Send + Sync, S: Staff, R: Threads + Wait + Sync>(
     rt: &R,
     alloc: Global,
     cluster: &Cluster<B>,
     passes: Vec<Pass<B>>,
     staff: &S,
-    gate: &G,
 ) -> Result<Vec<Pass<B>>, Fail> {
-    let mut workers = workers_of(alloc, passes, staff)?;
-    serve_all(alloc, rt, cluster, workers.as_mut_slice(), gate);
-    passes_of(alloc, workers)
+    let workers = workers_of(alloc, passes, staff)?;
+    let done = serve_all(alloc, rt, cluster, workers)?;
+    passes_of(alloc, done)
 }
 
 /// The vnodes of a new cluster of this size, after each of a staff has worked.
-pub(super) fn served<S: Staff, G: Gate + Sync, R: Threads + Wait + Sync>(
+pub(super) fn served<S: Staff, R: Threads + Wait + Sync>(
     rt: &R,
     alloc: Global,
     size: &Size,
     staff: &S,
-    gate: &G,
 ) -> Result<Vec<Vnode>, Fail>
     requires passes { size.now.passes ≤ 64 }
     requires few { size.now.first + size.now.vnodes ≤ 2 ^ 32 }
     ensures { IfOk result (λ vnodes. Differ vnodes.items) }
 {
     let (stamps, card) = Stamps::new(alloc, size)?;
-    by_staff::<Brand, _, _, _>(rt, alloc, stamps, card, size, staff, gate)
+    by_staff::<Brand, _, _>(rt, alloc, stamps, card, size, staff)
 }
 
 /// The vnodes of a cluster of this size over the word, after each of a staff has worked.
-fn by_staff<B: Room + Send + Sync, S: Staff, G: Gate + Sync, R: Threads + Wait + Sync>(
+fn by_staff<B: Room + Send + Sync, S: Staff, R: Threads + Wait + Sync>(
     rt: &R,
     alloc: Global,
     stamps: Stamps,
     card: Card,
     size: &Size,
     staff: &S,
-    gate: &G,
 ) -> Result<Vec<Vnode>, Fail>
     requires table { (stamps.table.shared.table_id ≡ B.table) × (card.table_id ≡ B.table) }
     requires size { stamps.table.shared.key ≡ size.now }
@@ -116,15 +113,8 @@ fn by_staff<B: Room + Send + Sync, S: Staff, G: Gate + Sync, R: Threads + Wait +
     requires card { card.me ≡ (newcomer stamps.table.shared.key, []) }
     ensures { IfOk result (λ vnodes. Differ vnodes.items) }
 {
-    let (cluster, passes) = Cluster::<B>::open(
-        alloc,
-        stamps,
-        card,
-        size.first,
-        size.vnodes,
-        size.passes,
-    )?;
-    let back = serve(rt, alloc, &cluster, passes, staff, gate)?;
+    let (cluster, passes) = Cluster::<B>::open(alloc, Seed::fixed(), stamps, card, size)?;
+    let back = serve(rt, alloc, &cluster, passes, staff)?;
     gathered(cluster, back)
 }
 

@@ -4,11 +4,11 @@ ghost use Rattle.std.specs.Prelude.{◌≡◌, ◌<◌, []};
 ghost use Rattle.cluster_stamps.specs.Rule.{newcomer};
 
 use crate::tests::blocks::take_all;
-use crate::tests::building::{SIXTEEN, key_of, value_of};
+use crate::tests::building::{SIXTEEN, THREE_BY_ONE, key_of, value_of};
 use audit_follower::Follower;
-use cluster::{Cluster, Open, Pass, Room};
-use cluster_peers::PassPeers;
-use cluster_stamps::{Card, Size, Stamps};
+use cluster::{Cluster, Pass, Room};
+use cluster_peers::ClusterPeers;
+use cluster_stamps::{Card, Stamps};
 use dvv::Clock;
 use peers::Peers;
 use std::alloc::Global;
@@ -16,7 +16,7 @@ use std::marker::Brand;
 use std::sync::Wait;
 use std::test::Fail;
 use test_support::expect;
-use vnode::{BlockSpot, Vnode};
+use vnode::{BlockSpot, Seed, Vnode};
 
 /// How many keys are written: six blocks of a journal, and some 190 in each of the vnode's 32 shards, of which 128 fill a
 /// block.
@@ -73,10 +73,10 @@ fn write_all_there<B: Room, R: Wait>(
     rt: &R,
     alloc: Global,
     cluster: &Cluster<B>,
-    pass: &mut Pass<B>,
+    pass: Pass<B>,
 ) -> Result<(), Fail> {
     let content = value_of(alloc, b"a")?;
-    let mut peers = PassPeers::new(alloc, rt, cluster, pass, &Open);
+    let mut peers = ClusterPeers::new(alloc, rt, cluster, pass);
     for number in 0..KEYS {
         let key = key_of(alloc, &number.to_be_bytes())?;
         let other = key_of(alloc, &(KEYS - 1 - number).to_be_bytes())?;
@@ -139,18 +139,22 @@ fn by_one_pass<B: Room, R: Wait>(
     let Some(at) = vnode.uncompared() else {
         return Err(Fail::new("no block"));
     };
-    let (cluster, mut passes) = Cluster::<B>::open(alloc, stamps, card, 0, 3, 1)?;
-    write_all_there(rt, alloc, &cluster, &mut passes[0])?;
+    let (cluster, mut passes) = Cluster::<B>::open(
+        alloc,
+        Seed::fixed(),
+        stamps,
+        card,
+        &THREE_BY_ONE,
+    )?;
+    let Some(pass) = passes.pop() else {
+        return Err(Fail::new("no pass"));
+    };
+    write_all_there(rt, alloc, &cluster, pass)?;
     second_shares(rt, &cluster, at)
 }
 
 #[test]
 fn vnodes_hold_keys_once(rt: HostRuntime) -> Result<(), Fail> {
-    let size = Size {
-        first: 0,
-        vnodes: 3,
-        passes: 1,
-    };
-    let (stamps, card) = Stamps::new(rt.alloc(), &size)?;
+    let (stamps, card) = Stamps::new(rt.alloc(), &THREE_BY_ONE)?;
     by_one_pass::<Brand, _>(&rt, rt.alloc(), stamps, card)
 }

@@ -3,11 +3,11 @@
 ghost use Rattle.std.specs.Prelude.{◌≡◌, []};
 ghost use Rattle.cluster_stamps.specs.Rule.{newcomer};
 
-use crate::tests::building::key_of;
+use crate::tests::building::{THREE_BY_ONE, key_of};
 use bpf_helpers::Table;
-use cluster::{Cluster, Open, Pass, Room};
-use cluster_peers::PassPeers;
-use cluster_stamps::{Card, Size, Stamps};
+use cluster::{Cluster, Pass, Room};
+use cluster_peers::ClusterPeers;
+use cluster_stamps::{Card, Stamps};
 use dvv::Clock;
 use hook_registry::Registry;
 use key_state::{Content, Key};
@@ -55,15 +55,15 @@ fn place_is_told<B: Room, R: Wait>(
     rt: &R,
     alloc: Global,
     cluster: &Cluster<B>,
-    pass: &mut Pass<B>,
+    pass: Pass<B>,
     standing: Standing,
-) -> Result<(), Fail> {
+) -> Result<Pass<B>, Fail> {
     let (name, place) = standing;
     let key = key_of(alloc, name)?;
     if !key.is_within_limits() {
         return Err(Fail::new("past the limits"));
     }
-    let peers = PassPeers::new(alloc, rt, cluster, pass, &Open);
+    let peers = ClusterPeers::new(alloc, rt, cluster, pass);
     let hooking = Hooking::new(alloc, Registry::new(alloc), Table::new(alloc));
     let mut store = Store::new(alloc, peers, hooking, Placement::by_digest(3));
     let read = store.get(&key, 2, 0);
@@ -72,7 +72,9 @@ fn place_is_told<B: Room, R: Wait>(
     let told = standing_of(rt, alloc, cluster, &key)?;
     let again = store.get(&key, 2, 0);
     expect(read.is_ok() && put.is_ok() && again.is_ok(), &name)?;
-    expect((unheld, told) == (None, Some(place)), &name)
+    expect((unheld, told) == (None, Some(place)), &name)?;
+    let Store { peers, .. } = store;
+    Ok(peers.into_pass())
 }
 
 /// The same of each of these keys.
@@ -80,10 +82,10 @@ fn all_are_told<B: Room, R: Wait>(
     rt: &R,
     alloc: Global,
     cluster: &Cluster<B>,
-    pass: &mut Pass<B>,
+    mut pass: Pass<B>,
 ) -> Result<(), Fail> {
     for standing in PLACES {
-        place_is_told(rt, alloc, cluster, pass, *standing)?;
+        pass = place_is_told(rt, alloc, cluster, pass, *standing)?;
     }
     Ok(())
 }
@@ -99,18 +101,22 @@ fn by_one_pass<B: Room, R: Wait>(
     requires size { stamps.table.shared.key ≡ record { first = 0; vnodes = 3; passes = 1 } }
     requires card { card.me ≡ (newcomer stamps.table.shared.key, []) }
 {
-    let (cluster, mut passes) = Cluster::<B>::open(alloc, stamps, card, 0, 3, 1)?;
-    all_are_told(rt, alloc, &cluster, &mut passes[0])
+    let (cluster, mut passes) = Cluster::<B>::open(
+        alloc,
+        Seed::fixed(),
+        stamps,
+        card,
+        &THREE_BY_ONE,
+    )?;
+    let Some(pass) = passes.pop() else {
+        return Err(Fail::new("no pass"));
+    };
+    all_are_told(rt, alloc, &cluster, pass)
 }
 
 #[test]
 fn places_are_told(rt: HostRuntime) -> Result<(), Fail> {
-    let size = Size {
-        first: 0,
-        vnodes: 3,
-        passes: 1,
-    };
-    let (stamps, card) = Stamps::new(rt.alloc(), &size)?;
+    let (stamps, card) = Stamps::new(rt.alloc(), &THREE_BY_ONE)?;
     by_one_pass::<Brand, _>(&rt, rt.alloc(), stamps, card)
 }
 

@@ -3,12 +3,13 @@
 ghost use Rattle.std.specs.Prelude.{◌≡◌, []};
 ghost use Rattle.cluster_stamps.specs.Rule.{newcomer};
 
+use crate::tests::building::THREE_BY_FIVE;
 use crate::tests::rounds::Rounders;
 use crate::tests::running::{passes_of, workers_of};
+use crate::tests::working::serve_all;
 use audit_cluster::{Alarm, Notice, Spot, Watch, close_watched};
-use cluster::{Cluster, Open, Pass, Room};
-use cluster_peers::serve_all;
-use cluster_stamps::{Card, Size, Stamps};
+use cluster::{Cluster, Pass, Room};
+use cluster_stamps::{Card, Stamps};
 use std::alloc::Global;
 use std::marker::Brand;
 use std::sync::{Mutex, Wait};
@@ -16,6 +17,7 @@ use std::test::Fail;
 use std::thread;
 use std::thread::Threads;
 use test_support::expect;
+use vnode::Seed;
 
 /// How many rounds each worker goes. So each vnode gets fewer entries than answers are kept of, however long a worker is stopped.
 const ROUNDS: usize = 3_000;
@@ -54,16 +56,15 @@ fn work_and_watch<B: Room + Spot + Send + Sync, R: Threads + Wait + Sync>(
 ) -> Result<Vec<Pass<B>>, Fail>
     requires { cluster.now.first ≡ B.first }
 {
-    let mut workers = workers_of(alloc, passes, &Rounders(ROUNDS))?;
-    let work = workers.as_mut_slice();
-    let _ = thread::join(
+    let workers = workers_of(alloc, passes, &Rounders(ROUNDS))?;
+    let (_, done) = thread::join(
         rt,
         ||
             requires { cluster.now.first ≡ B.first }
         { watch_turns(rt, alloc, cluster, watch) },
-        || serve_all(alloc, rt, cluster, work, &Open),
+        || serve_all(alloc, rt, cluster, workers),
     );
-    passes_of(alloc, workers)
+    passes_of(alloc, done?)
 }
 
 /// Three vnodes, of which four workers make 36,000 entries.
@@ -78,7 +79,13 @@ fn watched_meanwhile<B: Room + Spot + Send + Sync, R: Threads + Wait + Sync>(
     requires card { card.me ≡ (newcomer stamps.table.shared.key, []) }
     requires spot { 0 ≡ B.first }
 {
-    let (cluster, mut passes) = Cluster::<B>::open(alloc, stamps, card, 0, 3, 5)?;
+    let (cluster, mut passes) = Cluster::<B>::open(
+        alloc,
+        Seed::fixed(),
+        stamps,
+        card,
+        &THREE_BY_FIVE,
+    )?;
     let watch = Mutex::new(Watch::new(alloc, &mut passes, 0, 3)?);
     let back = work_and_watch(rt, alloc, &cluster, passes, &watch)?;
     if back.len() < 4 {
@@ -91,11 +98,6 @@ fn watched_meanwhile<B: Room + Spot + Send + Sync, R: Threads + Wait + Sync>(
 /// What is followed while threads work is one run, with all that came after.
 #[test]
 fn a_follower_beside_workers(rt: HostRuntime) -> Result<(), Fail> {
-    let size = Size {
-        first: 0,
-        vnodes: 3,
-        passes: 5,
-    };
-    let (stamps, card) = Stamps::new(rt.alloc(), &size)?;
+    let (stamps, card) = Stamps::new(rt.alloc(), &THREE_BY_FIVE)?;
     watched_meanwhile::<Brand, _>(&rt, rt.alloc(), stamps, card)
 }

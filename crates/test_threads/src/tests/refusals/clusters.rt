@@ -4,7 +4,7 @@ ghost use Rattle.std.specs.Prelude.{◌≡◌, []};
 ghost use Rattle.cluster_stamps.specs.Rule.{newcomer};
 
 use crate::tests::refusals::refusing::{End, Trial, begin, end_of, in_turn, was_met};
-use cluster::{CallFault, Cluster, Open, Pass, Room};
+use cluster::{CallFault, Cluster, Pass, Room};
 use cluster_stamps::{Card, Request, Size, Stamps};
 use dvv::Clock;
 use key_state::{Content, Key};
@@ -13,7 +13,7 @@ use std::env::Env;
 use std::marker::Brand;
 use std::sync::Wait;
 use std::test::Fail;
-use vnode::VnodeFault;
+use vnode::{Seed, VnodeFault};
 
 /// One vnode, and one pass.
 const ALONE: Size = Size {
@@ -31,7 +31,7 @@ fn entries_before<B: Room, R: Wait>(
     if cluster.count() != 1 {
         return None;
     }
-    match cluster.call(rt, pass, 0, &Request::Restart, &Open) {
+    match cluster.call(rt, pass, 0, &Request::Restart) {
         Ok((_, receipt)) => Some(receipt.place),
         Err(_) => None,
     }
@@ -48,7 +48,7 @@ fn put<B: Room, R: Env + Wait>(
         return (false, End::Wrong);
     }
     begin(rt);
-    let back = cluster.call(rt, pass, 0, request, &Open);
+    let back = cluster.call(rt, pass, 0, request);
     let met = was_met(rt);
     let entries = entries_before(rt, cluster, pass);
     let end = match back {
@@ -73,7 +73,7 @@ fn put_first<B: Room, R: Env + Wait>(
     requires size { stamps.table.shared.key ≡ record { first = 0; vnodes = 1; passes = 1 } }
     requires card { card.me ≡ (newcomer stamps.table.shared.key, []) }
 {
-    let (cluster, mut passes) = Cluster::<B>::open(alloc, stamps, card, 0, 1, 1)?;
+    let (cluster, mut passes) = Cluster::<B>::open(alloc, Seed::fixed(), stamps, card, &ALONE)?;
     Ok(put(rt, &cluster, &mut passes[0], request))
 }
 

@@ -20,8 +20,8 @@ lock_sync B g h s = search (watch_send, sendable, crosses) depth 40
 captures_send : (ν : Sym) (A B C D : RattleType) → IsSend A → IsSend B → IsSend C → IsSend D → IsSend (TupleAt ν (A ∷ B ∷ C ∷ D ∷ []))
 captures_send ν A B C D a b c d = search (sendable) depth 30
 
-pub join-requires-send-F : goal.join-requires-send-F
-join-requires-send-F g c κs within =
+pub join-done-requires-send-F : goal.join-done-requires-send-F
+join-done-requires-send-F g c κs within =
     let cluster = cluster_sync (param 0 g.row.B) g.B.Room c.type_bounds.send-B c.type_bounds.sync-B in
     let watch = lock_sync (param 0 g.row.B) g.B.Room g.B.Spot c.type_bounds.send-B in
     let captured = captures_send [] _ _ _ _ (shr_send erased _ _ c.type_bounds.sync-R) (shr_send erased [] _ heap.the_sync) (shr_send erased _ _ cluster) (shr_send erased _ _ watch) in

@@ -1,38 +1,39 @@
 //! The vnodes of a cluster as peers, by one pass.
 
-ghost use Rattle.std.specs.Prelude.{◌≡◌, ◌≢◌, IfSome, Ok, Err, ◌^◌, ◌-◌, ◌+◌, min, if◌then◌else◌};
+ghost use Rattle.std.specs.Prelude.{◌≡◌, ◌≢◌, Ok, Err, ◌^◌, ◌-◌, ◌+◌, min, if◌then◌else◌};
 ghost use Rattle.cluster_stamps.specs.declared.request.Request.TheVariants as request;
-ghost use Rattle.ring.specs.Places.{ring_place};
 ghost use Rattle.peers.specs.declared.fault.PeerFault.TheVariants.{Lost, Refused};
 ghost use Rattle.peers.specs.declared.peers.PartAnswer.TheVariants.{Missing};
 ghost use Rattle.cluster_vnode.specs.declared.fault.CallFault.{CallFault};
 ghost use Rattle.cluster_peers.specs.Peering.{IsPut, IsMerge, IsRead, IsSummary, IsPart, IsKeys, MatchCall};
 
-use cluster::{CallFault, Cluster, Gate, Pass, Room};
+use cluster::{CallFault, Cluster, Pass, Room};
 use cluster_stamps::{Prepared, Reply};
 use dvv::{Clock, Dot};
 use key_state::{Content, Key, KeyState, Part};
 use peers::{Answer, PartAnswer, PeerFault, Peers, SummaryAnswer};
 use std::alloc::Global;
+use std::marker::Model;
 use std::sync::Wait;
 use vnode::VnodeFault;
 
-/// How the vnodes of a cluster are reached: what is the same at each call.
+/// The vnodes of a cluster, by a pass of its own. A call on a vnode is one call of the cluster, under that vnode's lock. A call on an index
+/// that has no vnode is lost, and so is one where the pass has drawn all its stamps.
 #[derive(Drop)]
-struct Reach<'a, B: Room, R: Wait, G: Gate> {
+pub struct ClusterPeers<'a, B: Room, R: Wait> {
     alloc: Global,
     rt: &'a R,
     cluster: &'a Cluster<B>,
-    gate: &'a G,
+    pass: Pass<B>,
+    failures: u64,
 }
 
-/// The vnodes of a cluster, by one pass. A call on a vnode is one call of the cluster, under that vnode's lock. A call on an index
-/// that has no vnode is lost, and so is one where the pass has drawn all its stamps.
-#[derive(Drop)]
-pub struct PassPeers<'a, B: Room, R: Wait, G: Gate> {
-    reach: Reach<'a, B, R, G>,
-    pass: &'a mut Pass<B>,
-    failures: u64,
+impl<'a, B: Room, R: Wait> Model for ClusterPeers<'a, B, R> {
+    ghost use Rattle.cluster_peers.specs.Peering.{Reach};
+
+    ghost Value = { Reach };
+
+    ghost view = { λ p. record { size = p.cluster.now; pass = p.pass; failures = p.failures } };
 }
 
 // Why a call that was no part came back without a reply.
@@ -58,17 +59,49 @@ fn part_refused(fault: CallFault) -> Result<PartAnswer, PeerFault>
     }
 }
 
-impl<B: Room, R: Wait, G: Gate> Reach<'_, B, R, G> {
+impl<'a, B: Room, R: Wait> ClusterPeers<'a, B, R> {
+    /// The vnodes of a cluster, by a pass, with no call made yet.
+    pub fn new(alloc: Global, rt: &'a R, cluster: &'a Cluster<B>, pass: Pass<B>) -> Self
+        ensures { result ≡ record { size = cluster.now; pass = pass; failures = 0 } }
+    {
+        ClusterPeers {
+            alloc,
+            rt,
+            cluster,
+            pass,
+            failures: 0,
+        }
+    }
+
+    /// The pass, as the calls have left it.
+    pub fn into_pass(self) -> Pass<B>
+        ensures { result ≡ self.pass }
+    {
+        self.pass
+    }
+
+    // Counts a call that was lost or refused.
+    fn count(&mut self, failed: bool)
+        ensures { self.new ≡ record self.old { failures = if failed then min (self.old.failures + 1) (2 ^ 64 - 1) else self.old.failures } }
+    {
+        if failed {
+            self.failures = self.failures.saturating_add(1);
+        }
+    }
+}
+
+// One call of the cluster each, which isn't counted yet.
+impl<B: Room, R: Wait> ClusterPeers<'_, B, R> {
     // Puts at a vnode.
     fn put(
-        &self,
-        pass: &mut Pass<B>,
+        &mut self,
         i: usize,
         key: &Key,
         seen: &Clock,
         content: &Content,
     ) -> Result<Dot, PeerFault>
-        ensures { IsPut self.now.cluster.now pass.old pass.new i (request.Put key.now seen.now content.now) result }
+        ensures put { IsPut self.old.size self.old.pass self.new.pass i (request.Put key.now seen.now content.now) result }
+        ensures same { (self.new.size ≡ self.old.size) × (self.new.failures ≡ self.old.failures) }
     {
         if i >= self.cluster.count() {
             return Err(PeerFault::Lost);
@@ -76,7 +109,7 @@ impl<B: Room, R: Wait, G: Gate> Reach<'_, B, R, G> {
         let Ok(put) = Prepared::put(self.alloc, key, seen, content) else {
             return Err(PeerFault::Refused(VnodeFault::NoMemory));
         };
-        match self.cluster.call_prepared(self.rt, pass, i, put, self.gate) {
+        match self.cluster.call_prepared(self.rt, &mut self.pass, i, put) {
             Ok((Reply::Dot(dot), _)) => Ok(dot),
             Ok(_) => unreachable!(),
             Err(fault) => Err(no_reply(fault)),
@@ -85,15 +118,15 @@ impl<B: Room, R: Wait, G: Gate> Reach<'_, B, R, G> {
 
     // Merges at a vnode.
     fn merge(
-        &self,
-        pass: &mut Pass<B>,
+        &mut self,
         i: usize,
         key: &Key,
         from: u32,
         at: u32,
         state: &KeyState,
     ) -> Result<bool, PeerFault>
-        ensures { IsMerge self.now.cluster.now pass.old pass.new i (request.Merge key.now from at state.now) result }
+        ensures merge { IsMerge self.old.size self.old.pass self.new.pass i (request.Merge key.now from at state.now) result }
+        ensures same { (self.new.size ≡ self.old.size) × (self.new.failures ≡ self.old.failures) }
     {
         if i >= self.cluster.count() {
             return Err(PeerFault::Lost);
@@ -103,7 +136,7 @@ impl<B: Room, R: Wait, G: Gate> Reach<'_, B, R, G> {
         };
         match self
             .cluster
-            .call_prepared(self.rt, pass, i, merge, self.gate)
+            .call_prepared(self.rt, &mut self.pass, i, merge)
         {
             Ok((Reply::Changed(changed), _)) => Ok(changed),
             Ok(_) => unreachable!(),
@@ -112,15 +145,16 @@ impl<B: Room, R: Wait, G: Gate> Reach<'_, B, R, G> {
     }
 
     // Reads at a vnode.
-    fn read(&self, pass: &mut Pass<B>, i: usize, key: &Key) -> Result<Answer, PeerFault>
-        ensures { IsRead self.now.cluster.now pass.old pass.new i (request.Read key.now) result }
+    fn read(&mut self, i: usize, key: &Key) -> Result<Answer, PeerFault>
+        ensures read { IsRead self.old.size self.old.pass self.new.pass i (request.Read key.now) result }
+        ensures same { (self.new.size ≡ self.old.size) × (self.new.failures ≡ self.old.failures) }
     {
         if i >= self.cluster.count() {
             return Err(PeerFault::Lost);
         }
         match self
             .cluster
-            .call_prepared(self.rt, pass, i, Prepared::Read(key), self.gate)
+            .call_prepared(self.rt, &mut self.pass, i, Prepared::Read(key))
         {
             Ok((reply, receipt)) => match reply {
                 Reply::State(state) => Ok(Answer {
@@ -135,15 +169,16 @@ impl<B: Room, R: Wait, G: Gate> Reach<'_, B, R, G> {
     }
 
     // Reads the summary of what a vnode holds.
-    fn summary(&self, pass: &mut Pass<B>, i: usize, key: &Key) -> Result<SummaryAnswer, PeerFault>
-        ensures { IsSummary self.now.cluster.now pass.old pass.new i (request.Summary key.now) result }
+    fn summary(&mut self, i: usize, key: &Key) -> Result<SummaryAnswer, PeerFault>
+        ensures summary { IsSummary self.old.size self.old.pass self.new.pass i (request.Summary key.now) result }
+        ensures same { (self.new.size ≡ self.old.size) × (self.new.failures ≡ self.old.failures) }
     {
         if i >= self.cluster.count() {
             return Err(PeerFault::Lost);
         }
         match self
             .cluster
-            .call_prepared(self.rt, pass, i, Prepared::Summary(key), self.gate)
+            .call_prepared(self.rt, &mut self.pass, i, Prepared::Summary(key))
         {
             Ok((reply, receipt)) => match reply {
                 Reply::Summary(summary) => Ok(SummaryAnswer {
@@ -159,15 +194,15 @@ impl<B: Room, R: Wait, G: Gate> Reach<'_, B, R, G> {
 
     // Merges a part at a vnode.
     fn merge_part(
-        &self,
-        pass: &mut Pass<B>,
+        &mut self,
         i: usize,
         key: &Key,
         from: u32,
         at: u32,
         part: &Part,
     ) -> Result<PartAnswer, PeerFault>
-        ensures { IsPart self.now.cluster.now pass.old pass.new i (request.Part key.now from at part.now) result }
+        ensures part { IsPart self.old.size self.old.pass self.new.pass i (request.Part key.now from at part.now) result }
+        ensures same { (self.new.size ≡ self.old.size) × (self.new.failures ≡ self.old.failures) }
     {
         if i >= self.cluster.count() {
             return Err(PeerFault::Lost);
@@ -177,7 +212,7 @@ impl<B: Room, R: Wait, G: Gate> Reach<'_, B, R, G> {
         };
         match self
             .cluster
-            .call_prepared(self.rt, pass, i, prepared, self.gate)
+            .call_prepared(self.rt, &mut self.pass, i, prepared)
         {
             Ok((Reply::Built { changed, .. }, _)) => Ok(PartAnswer::Merged(changed)),
             Ok(_) => unreachable!(),
@@ -186,78 +221,33 @@ impl<B: Room, R: Wait, G: Gate> Reach<'_, B, R, G> {
     }
 
     // Names the keys of a vnode.
-    fn keys(&self, pass: &mut Pass<B>, i: usize) -> Result<Vec<Key>, PeerFault>
-        ensures { IsKeys self.now.cluster.now pass.old pass.new i result }
+    fn keys(&mut self, i: usize) -> Result<Vec<Key>, PeerFault>
+        ensures keys { IsKeys self.old.size self.old.pass self.new.pass i result }
+        ensures same { (self.new.size ≡ self.old.size) × (self.new.failures ≡ self.old.failures) }
     {
         if i >= self.cluster.count() {
             return Err(PeerFault::Lost);
         }
-        match self.cluster.keys_of(self.rt, pass, i) {
+        match self.cluster.keys_of(self.rt, &mut self.pass, i) {
             Ok(keys) => Ok(keys),
             Err(_) => Err(PeerFault::Refused(VnodeFault::NoMemory)),
         }
     }
-
-    // The place of a key on a ring of three vnodes, where one of them was told it.
-    fn ring_place(&self, pass: &mut Pass<B>, key: &Key) -> Option<u32>
-        ensures same { pass.new ≡ pass.old }
-        ensures place { IfSome result (λ told. told ≡ ring_place key.now.bucket key.now.key) }
-    {
-        let mut hint = pass.hint().copy();
-        let told = self.cluster.ring_place(self.rt, &mut hint, key);
-        pass.expect(hint);
-        told
-    }
 }
 
-impl<'a, B: Room, R: Wait, G: Gate> PassPeers<'a, B, R, G> {
-    /// The vnodes of a cluster, by a pass, with no call made yet.
-    pub fn new(
-        alloc: Global,
-        rt: &'a R,
-        cluster: &'a Cluster<B>,
-        pass: &'a mut Pass<B>,
-        gate: &'a G,
-    ) -> Self
-        ensures cluster { result.reach.cluster.now ≡ cluster.now }
-        ensures pass { result.pass.now ≡ pass.entry.now }
-        ensures lent { result.pass.ghost_name ≡ pass.entry.ghost_name }
-        ensures none { result.failures ≡ 0 }
-    {
-        PassPeers {
-            reach: Reach {
-                alloc,
-                rt,
-                cluster,
-                gate,
-            },
-            pass,
-            failures: 0,
-        }
-    }
-
-    // Counts a call that was lost or refused.
-    fn count(&mut self, failed: bool)
-        ensures { self.new ≡ record self.old { failures = if failed then min (self.old.failures + 1) (2 ^ 64 - 1) else self.old.failures } }
-    {
-        if failed {
-            self.failures = self.failures.saturating_add(1);
-        }
-    }
-}
-
-impl<'a, B: Room, R: Wait, G: Gate> Peers for PassPeers<'a, B, R, G> {
+impl<B: Room, R: Wait> Peers for ClusterPeers<'_, B, R> {
+    ghost use Rattle.std.specs.Prelude.{refl};
     ghost use Rattle.cluster_peers.specs.Peering.{PassStep};
 
-    ghost happens = { λ old call new. PassStep old.reach.cluster.now old.pass.now old.failures call new.pass.now new.failures old.pass.ghost_name new.pass.ghost_name new.reach.cluster.now };
+    ghost happens = { λ old call new. PassStep old.size old.pass old.failures call new.pass new.failures 0 0 new.size };
 
     ghost failures = { λ p. p.failures };
 
-    ghost origin = { λ p. p.pass.ghost_name };
+    ghost origin = { λ p. 0 };
 
     ghost counted = { λ old new call h. h.count };
 
-    ghost stays = { λ old new call h. h.origin_is };
+    ghost stays = { λ old new call h. refl };
 
     fn put_at(
         &mut self,
@@ -266,7 +256,7 @@ impl<'a, B: Room, R: Wait, G: Gate> Peers for PassPeers<'a, B, R, G> {
         seen: &Clock,
         content: &Content,
     ) -> Result<Dot, PeerFault> {
-        let back = self.reach.put(self.pass, i, key, seen, content);
+        let back = self.put(i, key, seen, content);
         self.count(back.is_err());
         back
     }
@@ -279,19 +269,19 @@ impl<'a, B: Room, R: Wait, G: Gate> Peers for PassPeers<'a, B, R, G> {
         at: u32,
         state: &KeyState,
     ) -> Result<bool, PeerFault> {
-        let back = self.reach.merge(self.pass, i, key, from, at, state);
+        let back = self.merge(i, key, from, at, state);
         self.count(back.is_err());
         back
     }
 
     fn state_of(&mut self, i: usize, key: &Key) -> Result<Answer, PeerFault> {
-        let back = self.reach.read(self.pass, i, key);
+        let back = self.read(i, key);
         self.count(back.is_err());
         back
     }
 
     fn summary_at(&mut self, i: usize, key: &Key) -> Result<SummaryAnswer, PeerFault> {
-        let back = self.reach.summary(self.pass, i, key);
+        let back = self.summary(i, key);
         self.count(back.is_err());
         back
     }
@@ -304,29 +294,31 @@ impl<'a, B: Room, R: Wait, G: Gate> Peers for PassPeers<'a, B, R, G> {
         at: u32,
         part: &Part,
     ) -> Result<PartAnswer, PeerFault> {
-        let back = self.reach.merge_part(self.pass, i, key, from, at, part);
+        let back = self.merge_part(i, key, from, at, part);
         self.count(back.is_err());
         back
     }
 
     fn keys_of(&mut self, i: usize) -> Result<Vec<Key>, PeerFault> {
-        let back = self.reach.keys(self.pass, i);
+        let back = self.keys(i);
         self.count(back.is_err());
         back
     }
 
     fn expect(&mut self, key: &Key) {
-        self.pass.expect(self.reach.cluster.hint(key));
+        self.pass.expect(self.cluster.hint(key));
     }
 
     fn ring_place(&mut self, key: &Key) -> Option<u32> {
-        self.reach.ring_place(self.pass, key)
+        let mut hint = self.pass.hint().copy();
+        let told = self.cluster.ring_place(self.rt, &mut hint, key);
+        self.pass.expect(hint);
+        told
     }
 
     fn learn_ring_place(&self, key: &Key, told: u32) {
-        self.reach
-            .cluster
-            .learn_ring_place(self.reach.rt, self.pass.hint(), key, told);
+        self.cluster
+            .learn_ring_place(self.rt, self.pass.hint(), key, told);
     }
 
     fn failures(&self) -> u64 {
