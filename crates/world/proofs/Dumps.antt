@@ -21,11 +21,11 @@ use Rattle.world.proofs.LoadRuns.{merges_count}
 use Rattle.world.proofs.StampRows.{stamped_row, stamped_loaded, reads_in_row, merges_in_row}
 
 -- what a vnode read is read at its index
-pub copied_all : (logs : List Log) (at stamp : ℕ) (x new : Log) (copies : Copies) → at < length logs → AreKeys (get_or logs at x) (keys_of copies.held.items) → All (λ c. IsReplay (get_or logs at x).entries c.key c.state) copies.held.items
-    → copies.from ≡ (get_or logs at x).vnode → copies.first ≡ length (get_or logs at x).entries → new ≡ with_entries (get_or logs at x) (reads_of stamp (keys_of copies.held.items)) → IsJournal new.vnode new.entries
-    → length (get_or logs at x).entries + length (keys_of copies.held.items) ≤ max_entries → CopiesAll logs (slice_set logs at new) at stamp copies
-copied_all logs at stamp x new copies inside keys states from first entries legal places =
-    let e : get_or logs at x ≡ log_at logs at = get_or_default logs at x (record { vnode = 0; entries = [] }) inside in
+pub copied_all : (logs : List Log) (at stamp : ℕ) (x new : Log) (copies : Copies) → at < length logs → x ≡ get_or logs at x → AreKeys x (keys_of copies.held.items) → All (λ c. IsReplay x.entries c.key c.state) copies.held.items
+    → copies.from ≡ x.vnode → copies.first ≡ length x.entries → new ≡ with_entries x (reads_of stamp (keys_of copies.held.items)) → IsJournal new.vnode new.entries
+    → length x.entries + length (keys_of copies.held.items) ≤ max_entries → CopiesAll logs (slice_set logs at new) at stamp copies
+copied_all logs at stamp x new copies inside there keys states from first entries legal places =
+    let e : x ≡ log_at logs at = there ∙ get_or_default logs at x (record { vnode = 0; entries = [] }) inside in
     let is : new ≡ with_entries (log_at logs at) (reads_of stamp (keys_of copies.held.items)) = entries ∙ ap (λ (l : Log). with_entries l (reads_of stamp (keys_of copies.held.items))) e in
     record {
       keys = subst (λ (l : Log). AreKeys l (keys_of copies.held.items)) e keys;
@@ -48,17 +48,17 @@ copies_are old new at stamp copies all = record {
       omega (arith, first, count, places);
 }
 
-pub copies_stamped : (logs : List Log) (made at n : ℕ) (x new : Log) (keys : List Key) → at < length logs → new ≡ with_entries (get_or logs at x) (reads_of made keys) → n ≡ length keys → AreStamped logs made → AreStamped (slice_set logs at new) (made + n)
-copies_stamped logs made at n x new keys inside is count h =
-    subst (λ (l : Log). AreStamped (slice_set logs at l) (made + n)) (sym (is ∙ ap (λ (l : Log). with_entries l (reads_of made keys)) (get_or_default logs at x (record { vnode = 0; entries = [] }) inside)))
+pub copies_stamped : (logs : List Log) (made at n : ℕ) (x new : Log) (keys : List Key) → at < length logs → x ≡ get_or logs at x → new ≡ with_entries x (reads_of made keys) → n ≡ length keys → AreStamped logs made → AreStamped (slice_set logs at new) (made + n)
+copies_stamped logs made at n x new keys inside there is count h =
+    subst (λ (l : Log). AreStamped (slice_set logs at l) (made + n)) (sym (is ∙ ap (λ (l : Log). with_entries l (reads_of made keys)) (there ∙ get_or_default logs at x (record { vnode = 0; entries = [] }) inside)))
     (subst (λ (k : ℕ). AreStamped (slice_set logs at (with_entries (log_at logs at) (reads_of made keys))) (made + k)) (length-reads made keys ∙ sym count)
     (stamped_row logs made at (reads_of made keys) inside (reads_in_row made keys) h))
 
 -- why reads of all keys are refused
-pub full_at : {X : Type 0} (logs : List Log) (at : ℕ) (x : Log) (r : Result X VnodeFault) (fault : VnodeFault) → at < length logs → r ≡ Err fault → (keys : List Key) × AreKeys (get_or logs at x) keys × (r ≡ Err JournalFull ↔ (max_entries < length (get_or logs at x).entries + length keys))
+pub full_at : {X : Type 0} (logs : List Log) (at : ℕ) (x : Log) (r : Result X VnodeFault) (fault : VnodeFault) → at < length logs → x ≡ get_or logs at x → r ≡ Err fault → (keys : List Key) × AreKeys x keys × (r ≡ Err JournalFull ↔ (max_entries < length x.entries + length keys))
     → (keys : List Key) × AreKeys (log_at logs at) keys × (fault ≡ JournalFull ↔ (max_entries < length (log_at logs at).entries + length keys))
-full_at logs at x r fault inside is full =
-    let e : get_or logs at x ≡ log_at logs at = get_or_default logs at x (record { vnode = 0; entries = [] }) inside in (
+full_at logs at x r fault inside there is full =
+    let e : x ≡ log_at logs at = there ∙ get_or_default logs at x (record { vnode = 0; entries = [] }) inside in (
       full.0,
       subst (λ (l : Log). AreKeys l full.0) e full.1,
       (

@@ -89,26 +89,26 @@ stands_for w v key writes held own part lawful put is (state, told, shows, tells
     unique a b ca cb d = one_of w key (known_at w v key ++ writes) (known_at w v key ++ writes) lawful all all a b ca cb d
 
 -- what a vnode merged of a part is merged at its index
-pub part_merged : (logs : List Log) (at stamp : ℕ) (x new : Log) (message : PartMessage) (changed : Bool) → at < length logs
-    → Leaves (get_or logs at x).entries message.key (λ own. lacks_some own message.part ≡ false)
-    → Leaves (get_or logs at x).entries message.key (λ own. TellsChange (get_or logs at x).entries (Merge stamp message.key message.from message.at (whole_of message.part own)) message.key changed)
-    → Leaves (get_or logs at x).entries message.key (λ own. new ≡ with_entry (get_or logs at x) (Merge stamp message.key message.from message.at (whole_of message.part own)))
-    → Leaves (get_or logs at x).entries message.key (λ own. AcceptsMerge (get_or logs at x).entries message.key (whole_of message.part own))
+pub part_merged : (logs : List Log) (at stamp : ℕ) (x new : Log) (message : PartMessage) (changed : Bool) → at < length logs → x ≡ get_or logs at x
+    → Leaves x.entries message.key (λ own. lacks_some own message.part ≡ false)
+    → Leaves x.entries message.key (λ own. TellsChange x.entries (Merge stamp message.key message.from message.at (whole_of message.part own)) message.key changed)
+    → Leaves x.entries message.key (λ own. new ≡ with_entry x (Merge stamp message.key message.from message.at (whole_of message.part own)))
+    → Leaves x.entries message.key (λ own. AcceptsMerge x.entries message.key (whole_of message.part own))
     → (own : State) × MergesPart logs (slice_set logs at new) at stamp message changed own
-part_merged logs at stamp x new message changed inside (own, replay, none) (a, ra, tells) (b, rb, entry) (c, rc, accepts) = (
+part_merged logs at stamp x new message changed inside there (own, replay, none) (a, ra, tells) (b, rb, entry) (c, rc, accepts) = (
   own,
   record {
     own_is = subst (λ (l : Log). IsReplay l.entries message.key own) e replay;
     held = none;
     entry = record {
-      entries = ap (slice_set logs at) (subst (λ (s : State). new ≡ with_entry (get_or logs at x) (Merge stamp message.key message.from message.at (whole_of message.part s))) (one_replay _ message.key b own rb replay) entry
+      entries = ap (slice_set logs at) (subst (λ (s : State). new ≡ with_entry x (Merge stamp message.key message.from message.at (whole_of message.part s))) (one_replay _ message.key b own rb replay) entry
           ∙ ap (λ (l : Log). with_entry l (Merge stamp message.key message.from message.at (whole_of message.part own))) e);
-      follows = subst (λ (l : Log). AcceptsMerge l.entries message.key (whole_of message.part own)) e (subst (λ (s : State). AcceptsMerge (get_or logs at x).entries message.key (whole_of message.part s)) (one_replay _ message.key c own rc replay) accepts);
+      follows = subst (λ (l : Log). AcceptsMerge l.entries message.key (whole_of message.part own)) e (subst (λ (s : State). AcceptsMerge x.entries message.key (whole_of message.part s)) (one_replay _ message.key c own rc replay) accepts);
     };
     tells = subst (λ (l : Log). TellsChange l.entries (Merge stamp message.key message.from message.at (whole_of message.part own)) message.key changed) e
-        (subst (λ (s : State). TellsChange (get_or logs at x).entries (Merge stamp message.key message.from message.at (whole_of message.part s)) message.key changed) (one_replay _ message.key a own ra replay) tells);
+        (subst (λ (s : State). TellsChange x.entries (Merge stamp message.key message.from message.at (whole_of message.part s)) message.key changed) (one_replay _ message.key a own ra replay) tells);
   },
 )
   where
-    e : get_or logs at x ≡ log_at logs at
-    e = get_or_default logs at x (record { vnode = 0; entries = [] }) inside
+    e : x ≡ log_at logs at
+    e = there ∙ get_or_default logs at x (record { vnode = 0; entries = [] }) inside

@@ -48,9 +48,9 @@ stamped_more logs new made at e inside is stamp h = subst (λ (ls : List Log). A
     stamp_is x last = ap stamp_of (sym last) ∙ stamp
 
 -- the vnode at an index has one entry more
-pub stamped_at : (logs : List Log) (made at : ℕ) (e : Entry) (x new : Log) → at < length logs → new ≡ with_entry (get_or logs at x) e → stamp_of e ≡ made → AreStamped logs made → AreStamped (slice_set logs at new) (made + 1)
-stamped_at logs made at e x new inside is stamp h =
-    stamped_more logs (slice_set logs at new) made at e inside (ap (λ (l : Log). slice_set logs at l) (is ∙ ap (λ (l : Log). with_entry l e) (get_or_default logs at x (record { vnode = 0; entries = [] }) inside))) stamp h
+pub stamped_at : (logs : List Log) (made at : ℕ) (e : Entry) (x new : Log) → at < length logs → x ≡ get_or logs at x → new ≡ with_entry x e → stamp_of e ≡ made → AreStamped logs made → AreStamped (slice_set logs at new) (made + 1)
+stamped_at logs made at e x new inside there is stamp h =
+    stamped_more logs (slice_set logs at new) made at e inside (ap (λ (l : Log). slice_set logs at l) (is ∙ ap (λ (l : Log). with_entry l e) (there ∙ get_or_default logs at x (record { vnode = 0; entries = [] }) inside))) stamp h
 
 no_entries : (ids : List ℕ) (v : ℕ) → (log_at (empty_logs ids) v).entries ≡ []
 no_entries [] v = refl
