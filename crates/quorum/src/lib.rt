@@ -11,5 +11,5 @@ mod resolving;
 pub use fault::{QuorumFault, ResolveFault, Unfit};
 pub use getting::get;
 pub use hooking::Hooking;
-pub use putting::put;
+pub use putting::{PutRequest, put};
 pub use resolving::{Resolved, resolve};

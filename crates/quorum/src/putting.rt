@@ -22,7 +22,24 @@ use key_state::{Content, Key};
 use peers::{Answer, PeerFault, Peers};
 use vnode::VnodeFault;
 
-/// Puts a content at the coordinator, as one who had seen what the clock counts, and brings its state to the other vnodes
+/// What a put is asked to do, and where.
+#[derive(Clone, Copy)]
+pub struct PutRequest<'a> {
+    /// The vnode that stores the write first, and gives it its dot.
+    pub coordinator: usize,
+    /// The other vnodes of the key's list.
+    pub others: &'a [usize],
+    /// The key that is written.
+    pub key: &'a Key,
+    /// What the writer had seen of the key.
+    pub seen: &'a Clock,
+    /// What is stored.
+    pub content: &'a Content,
+    /// How many vnodes must have a copy, the coordinator among them.
+    pub w: usize,
+}
+
+/// Puts a content at the coordinator, as one who had seen what the request's clock counts, and brings its state to the other vnodes
 /// of the list. Where the context is ahead of the coordinator, the others' states are brought to it and the put is tried
 /// once more. An Ok means that at least w vnodes answered that they have a copy, the coordinator among them. The coordinator
 /// and the others are different vnodes.
@@ -38,40 +55,23 @@ use vnode::VnodeFault;
 pub fn put<P: Peers, H: Hooks>(
     peers: &mut P,
     hooking: &mut Hooking<H>,
-    coordinator: usize,
-    others: &[usize],
-    key: &Key,
-    seen: &Clock,
-    content: &Content,
-    w: usize,
+    request: PutRequest<'_>,
 ) -> Result<Dot, QuorumFault>
-    requires few_others { length others.now < 2 ^ 32 }
-    requires different { AreDifferent (coordinator ∷ others.now) }
+    requires few_others { length request.others.now < 2 ^ 32 }
+    requires different { AreDifferent (request.coordinator ∷ request.others.now) }
     // The coordinator stored it, and with it at least w vnodes answered that they have a copy.
-    ensures stored { IfOk result (λ dot. (calls : List Call) × Made P.happens peers.old calls peers.new × StoresCopies coordinator others.now key.now w seen.now dot calls) }
+    ensures stored { IfOk result (λ dot. (calls : List Call) × Made P.happens peers.old calls peers.new × StoresCopies request.entry.coordinator request.entry.others.now request.entry.key.now request.entry.w request.entry.seen.now dot calls) }
     // Too few copies come only of calls that were lost or refused.
-    ensures few { result ≡ Err QuorumFault.TooFew → w ≤ 1 + length others.now → HasRisen (P.failures peers.old) (P.failures peers.new) }
+    ensures few { result ≡ Err QuorumFault.TooFew → request.entry.w ≤ 1 + length request.entry.others.now → HasRisen (P.failures peers.old) (P.failures peers.new) }
     // What the look-up found, which calls are made, and what is answered to what came back.
-    ensures calls { (found : Result (Option Program) LookUpFault) × (calls : List Call) × H.finds hooking.old.hooks key.now.bucket ImageKind.PreCommit found hooking.new.hooks
-        × Made P.happens peers.old calls peers.new × IsJudgedPut hooking.old.table.listed coordinator others.now key.now w seen.now content.now found calls result }
+    ensures calls { (found : Result (Option Program) LookUpFault) × (calls : List Call) × H.finds hooking.old.hooks request.entry.key.now.bucket ImageKind.PreCommit found hooking.new.hooks
+        × Made P.happens peers.old calls peers.new × IsJudgedPut hooking.old.table.listed request.entry.coordinator request.entry.others.now request.entry.key.now request.entry.w request.entry.seen.now request.entry.content.now found calls result }
     ensures table { hooking.new.table ≡ hooking.old.table }
     ensures origin { P.origin peers.new ≡ P.origin peers.old }
 {
-    match hook_of(&mut hooking.hooks, key, ImageKind::PreCommit) {
-        Ok(Some(hook)) => {
-            put_judged(
-                peers,
-                hooking,
-                &hook,
-                coordinator,
-                others,
-                key,
-                seen,
-                content,
-                w,
-            )
-        }
-        Ok(None) => put_content(peers, coordinator, others, key, seen, content, w),
+    match hook_of(&mut hooking.hooks, request.key, ImageKind::PreCommit) {
+        Ok(Some(hook)) => put_judged(peers, hooking, &hook, request),
+        Ok(None) => put_content(peers, request),
         Err(_) => Err(QuorumFault::Unseen),
     }
 }
@@ -81,22 +81,17 @@ fn put_judged<P: Peers, H: Hooks>(
     peers: &mut P,
     hooking: &mut Hooking<H>,
     hook: &Verified,
-    coordinator: usize,
-    others: &[usize],
-    key: &Key,
-    seen: &Clock,
-    content: &Content,
-    w: usize,
+    request: PutRequest<'_>,
 ) -> Result<Dot, QuorumFault>
-    requires { length others.now < 2 ^ 32 }
-    ensures calls { (calls : List Call) × Made P.happens peers.old calls peers.new × IsJudgedPut hooking.old.table.listed coordinator others.now key.now w seen.now content.now (Ok (Some hook.now)) calls result }
+    requires { length request.others.now < 2 ^ 32 }
+    ensures calls { (calls : List Call) × Made P.happens peers.old calls peers.new × IsJudgedPut hooking.old.table.listed request.entry.coordinator request.entry.others.now request.entry.key.now request.entry.w request.entry.seen.now request.entry.content.now (Ok (Some hook.now)) calls result }
     ensures hooks { hooking.new.hooks ≡ hooking.old.hooks }
     ensures table { hooking.new.table ≡ hooking.old.table }
 {
-    match peers.state_of(coordinator, key) {
+    match peers.state_of(request.coordinator, request.key) {
         Ok(answer) => {
-            let judged = hooking.judge(hook, content, answer.state.siblings());
-            put_passed(peers, coordinator, others, key, seen, content, w, judged)
+            let judged = hooking.judge(hook, request.content, answer.state.siblings());
+            put_passed(peers, request, judged)
         }
         Err(fault) => Err(quorum_fault(fault)),
     }
@@ -105,45 +100,46 @@ fn put_judged<P: Peers, H: Hooks>(
 // Puts a content, or what a pre-commit hook changed it to, where the hook let one of these through.
 fn put_passed<P: Peers>(
     peers: &mut P,
-    coordinator: usize,
-    others: &[usize],
-    key: &Key,
-    seen: &Clock,
-    content: &Content,
-    w: usize,
+    request: PutRequest<'_>,
     judged: Result<Option<Content>, QuorumFault>,
 ) -> Result<Dot, QuorumFault>
-    requires { length others.now < 2 ^ 32 }
-    ensures { (listed : List Helper) → (calls : List Call) × Made P.happens peers.old calls peers.new × AfterJudged listed coordinator others.now key.now w seen.now content.now (or_same content.now judged) calls result }
+    requires { length request.others.now < 2 ^ 32 }
+    ensures { (listed : List Helper) → (calls : List Call) × Made P.happens peers.old calls peers.new × AfterJudged listed request.entry.coordinator request.entry.others.now request.entry.key.now request.entry.w request.entry.seen.now request.entry.content.now (or_same request.entry.content.now judged) calls result }
 {
     match judged {
-        Ok(Some(changed)) => put_content(peers, coordinator, others, key, seen, &changed, w),
-        Ok(None) => put_content(peers, coordinator, others, key, seen, content, w),
+        Ok(Some(changed)) => put_content(
+            peers,
+            PutRequest {
+                content: &changed,
+                ..request
+            },
+        ),
+        Ok(None) => put_content(peers, request),
         Err(fault) => Err(fault),
     }
 }
 
 // Puts a content at the coordinator, once more where its context was ahead and the others' states were brought, and brings
 // the coordinator's state to the others.
-fn put_content<P: Peers>(
-    peers: &mut P,
-    coordinator: usize,
-    others: &[usize],
-    key: &Key,
-    seen: &Clock,
-    content: &Content,
-    w: usize,
-) -> Result<Dot, QuorumFault>
-    requires { length others.now < 2 ^ 32 }
-    ensures { (calls : List Call) × Made P.happens peers.old calls peers.new × IsPut coordinator others.now key.now w seen.now content.now calls result }
+fn put_content<P: Peers>(peers: &mut P, request: PutRequest<'_>) -> Result<Dot, QuorumFault>
+    requires { length request.others.now < 2 ^ 32 }
+    ensures { (calls : List Call) × Made P.happens peers.old calls peers.new × IsPut request.entry.coordinator request.entry.others.now request.entry.key.now request.entry.w request.entry.seen.now request.entry.content.now calls result }
 {
+    let PutRequest {
+        coordinator,
+        others,
+        key,
+        seen,
+        content,
+        ..
+    } = request;
     let first = peers.put_at(coordinator, key, seen, content);
     if is_ahead(&first) {
         gather(peers, coordinator, key, others);
         let second = peers.put_at(coordinator, key, seen, content);
-        return finish(peers, coordinator, others, key, w, second);
+        return finish(peers, request, second);
     }
-    finish(peers, coordinator, others, key, w, first)
+    finish(peers, request, first)
 }
 
 // Whether a put was refused since its context is ahead.
@@ -182,19 +178,16 @@ fn spread<P: Peers>(peers: &mut P, key: &Key, answer: &Answer, vnodes: &[usize])
 }
 
 // After the coordinator stored it: its state goes to the others.
-fn replicate<P: Peers>(
-    peers: &mut P,
-    coordinator: usize,
-    others: &[usize],
-    key: &Key,
-    w: usize,
-    dot: Dot,
-) -> Result<Dot, QuorumFault>
-    requires { length others.now < 2 ^ 32 }
-    ensures { (calls : List Call) × Made P.happens peers.old calls peers.new × AfterPut coordinator others.now key.now w (Ok dot) calls result }
+fn replicate<P: Peers>(peers: &mut P, request: PutRequest<'_>, dot: Dot) -> Result<Dot, QuorumFault>
+    requires { length request.others.now < 2 ^ 32 }
+    ensures { (calls : List Call) × Made P.happens peers.old calls peers.new × AfterPut request.entry.coordinator request.entry.others.now request.entry.key.now request.entry.w (Ok dot) calls result }
 {
-    match peers.state_of(coordinator, key) {
-        Ok(answer) => enough(w, spread(peers, key, &answer, others), dot),
+    match peers.state_of(request.coordinator, request.key) {
+        Ok(answer) => enough(
+            request.w,
+            spread(peers, request.key, &answer, request.others),
+            dot,
+        ),
         Err(fault) => Err(quorum_fault(fault)),
     }
 }
@@ -213,17 +206,14 @@ fn enough(w: usize, copies: usize, dot: Dot) -> Result<Dot, QuorumFault>
 // After the coordinator's last put.
 fn finish<P: Peers>(
     peers: &mut P,
-    coordinator: usize,
-    others: &[usize],
-    key: &Key,
-    w: usize,
+    request: PutRequest<'_>,
     back: Result<Dot, PeerFault>,
 ) -> Result<Dot, QuorumFault>
-    requires { length others.now < 2 ^ 32 }
-    ensures { (calls : List Call) × Made P.happens peers.old calls peers.new × AfterPut coordinator others.now key.now w back calls result }
+    requires { length request.others.now < 2 ^ 32 }
+    ensures { (calls : List Call) × Made P.happens peers.old calls peers.new × AfterPut request.entry.coordinator request.entry.others.now request.entry.key.now request.entry.w back calls result }
 {
     match back {
-        Ok(dot) => replicate(peers, coordinator, others, key, w, dot),
+        Ok(dot) => replicate(peers, request, dot),
         Err(fault) => Err(quorum_fault(fault)),
     }
 }

@@ -14,7 +14,7 @@ use dvv::{Clock, Dot};
 use hook_registry::Hooks;
 use key_state::{Content, Key, KeyState};
 use peers::Peers;
-use quorum::{Hooking, QuorumFault, ResolveFault, Unfit};
+use quorum::{Hooking, PutRequest, QuorumFault, ResolveFault, Unfit};
 use ring::{Placement, others, preferred, vnode_at};
 use server_log::{Note, Noted};
 use std::alloc::Global;
@@ -229,16 +229,15 @@ impl<P: Peers, H: Hooks> Store<P, H> {
         let vnodes = self.placement.vnodes();
         let stand = stand_of(&mut self.peers, &self.placement, key);
         let others = others(stand.place, at, vnodes);
-        let back = quorum::put(
-            &mut self.peers,
-            &mut self.hooking,
-            vnode_at(stand.place, at, vnodes),
-            others.as_slice(),
+        let request = PutRequest {
+            coordinator: vnode_at(stand.place, at, vnodes),
+            others: others.as_slice(),
             key,
             seen,
             content,
-            w as usize,
-        );
+            w: w as usize,
+        };
+        let back = quorum::put(&mut self.peers, &mut self.hooking, request);
         self.tell_stand(key, stand);
         self.noted.note(of_put(&back), key.bucket());
         back

@@ -2,10 +2,11 @@
 
 ghost use Rattle.std.specs.Prelude.{◌≤◌};
 
-use crate::parts::calling::put_value;
+use crate::parts::calling::put_unhooked;
 use dvv::{Clock, ClockFault, Dot};
 use key_state::{Bytes, Content, Key, KeyState};
 use peers::Local;
+use quorum::PutRequest;
 use std::alloc::{AllocError, Global};
 use std::test::Fail;
 
@@ -40,7 +41,15 @@ pub(crate) fn put_alone(
     key: &Key,
     value: &[u8],
 ) -> Result<(), Fail> {
-    put_value(alloc, local, vnode, &[], key, &Clock::new(alloc), value, 1)??;
+    let request = PutRequest {
+        coordinator: vnode,
+        others: &[],
+        key,
+        seen: &Clock::new(alloc),
+        content: &content_of(alloc, value)?,
+        w: 1,
+    };
+    put_unhooked(alloc, local, request)?;
     Ok(())
 }
 

@@ -3,17 +3,17 @@
 ghost use Rattle.std.specs.Prelude.{◌∷◌, ◌<◌, ◌≤◌, ◌^◌, length, IfOk};
 ghost use Rattle.ring.specs.Places.{AreDifferent};
 
-use crate::parts::building::{content_of, put_alone, three_losing};
+use crate::parts::building::{put_alone, three_losing};
 use crate::parts::hooking::registry_of;
 use bpf_helpers::Table;
 use bpf_image::ImageKind;
 use bpf_verifier::Verified;
-use dvv::{Clock, Dot};
+use dvv::Dot;
 use hook_registry::{Hooks, Registry};
-use key_state::{Content, Key, KeyState};
+use key_state::{Key, KeyState};
 use peers::{Answer, Local, Peers};
-use quorum::{Hooking, QuorumFault, Resolved};
-use std::alloc::{AllocError, Global};
+use quorum::{Hooking, PutRequest, QuorumFault, Resolved};
+use std::alloc::Global;
 use std::sync::Arc;
 use std::test::Fail;
 
@@ -21,62 +21,25 @@ use std::test::Fail;
 pub(crate) fn put<P: Peers, H: Hooks>(
     peers: &mut P,
     hooking: &mut Hooking<H>,
-    coordinator: usize,
-    others: &[usize],
-    key: &Key,
-    seen: &Clock,
-    content: &Content,
-    w: usize,
+    request: PutRequest<'_>,
 ) -> Result<Dot, QuorumFault>
-    requires few { length others.now < 2 ^ 32 }
-    requires different { AreDifferent (coordinator ∷ others.now) }
+    requires few { length request.others.now < 2 ^ 32 }
+    requires different { AreDifferent (request.coordinator ∷ request.others.now) }
 {
-    quorum::put(peers, hooking, coordinator, others, key, seen, content, w)
-}
-
-/// Puts a value of media type `text/plain`, with no hook at all.
-pub(crate) fn put_value<P: Peers>(
-    alloc: Global,
-    peers: &mut P,
-    coordinator: usize,
-    others: &[usize],
-    key: &Key,
-    seen: &Clock,
-    value: &[u8],
-    w: usize,
-) -> Result<Result<Dot, QuorumFault>, AllocError>
-    requires few { length others.now < 2 ^ 32 }
-    requires different { AreDifferent (coordinator ∷ others.now) }
-{
-    let content = content_of(alloc, value)?;
-    Ok(put_unhooked(alloc, peers, coordinator, others, key, seen, &content, w))
+    quorum::put(peers, hooking, request)
 }
 
 /// Puts a content with no hook at all.
-fn put_unhooked<P: Peers>(
+pub(crate) fn put_unhooked<P: Peers>(
     alloc: Global,
     peers: &mut P,
-    coordinator: usize,
-    others: &[usize],
-    key: &Key,
-    seen: &Clock,
-    content: &Content,
-    w: usize,
+    request: PutRequest<'_>,
 ) -> Result<Dot, QuorumFault>
-    requires few { length others.now < 2 ^ 32 }
-    requires different { AreDifferent (coordinator ∷ others.now) }
+    requires few { length request.others.now < 2 ^ 32 }
+    requires different { AreDifferent (request.coordinator ∷ request.others.now) }
 {
     let mut hooking = Hooking::new(alloc, Registry::new(alloc), Table::new(alloc));
-    put(
-        peers,
-        &mut hooking,
-        coordinator,
-        others,
-        key,
-        seen,
-        content,
-        w,
-    )
+    put(peers, &mut hooking, request)
 }
 
 /// Gets a key, and what each vnode answered, each at most once.

@@ -8,7 +8,7 @@ use bpf_helpers::{ArgRule, Body, Helper, Sig, Table};
 use bpf_image::ImageKind;
 use dvv::{Clock, Dot};
 use hook_registry::Registry;
-use quorum::{Hooking, QuorumFault, ResolveFault, Resolved};
+use quorum::{Hooking, PutRequest, QuorumFault, ResolveFault, Resolved};
 use std::alloc::{AllocError, Global};
 use std::sync::Arc;
 use std::test::Fail;
@@ -43,7 +43,15 @@ fn put_a(alloc: Global, hooking: &mut Hooking<Registry>) -> Result<Put, AllocErr
     let content = content_of(alloc, b"a")?;
     let mut local = three_losing(alloc, &[])?;
     let seen = Clock::new(alloc);
-    let back = put(&mut local, hooking, 0, &[1, 2], &key, &seen, &content, 2);
+    let request = PutRequest {
+        coordinator: 0,
+        others: &[1, 2],
+        key: &key,
+        seen: &seen,
+        content: &content,
+        w: 2,
+    };
+    let back = put(&mut local, hooking, request);
     Ok((back, lengths(&local)))
 }
 

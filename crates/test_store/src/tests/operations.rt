@@ -1,11 +1,11 @@
 //! What the tests lose calls of, over three vnodes, and the puts that come before and are acknowledged.
 
-use crate::parts::building::{clock_of, key_of};
-use crate::parts::calling::{get, put_value};
+use crate::parts::building::{clock_of, content_of, key_of};
+use crate::parts::calling::{get, put_unhooked};
 use dvv::Dot;
 use key_state::{Key, KeyState};
 use peers::{Local, Peers};
-use quorum::QuorumFault;
+use quorum::{PutRequest, QuorumFault};
 use repair::{exchange, repair};
 use std::alloc::{AllocError, Global};
 use std::test::Fail;
@@ -125,12 +125,25 @@ pub(super) fn lose(
 fn put(alloc: Global, local: &mut Local, put: &Stored) -> Result<Result<Dot, QuorumFault>, Fail> {
     let key = key_of(alloc, &[put.key])?;
     let seen = clock_of(alloc, put.seen.0, put.seen.1)?;
-    let value = [put.value];
+    let content = content_of(alloc, &[put.value])?;
+    let request = PutRequest {
+        coordinator: 0,
+        others: &[1, 2],
+        key: &key,
+        seen: &seen,
+        content: &content,
+        w: 2,
+    };
     if put.copies == 1 {
-        let vnode = put.dot.vnode as usize;
-        return Ok(put_value(alloc, local, vnode, &[], &key, &seen, &value, 1)?);
+        let alone = PutRequest {
+            coordinator: put.dot.vnode as usize,
+            others: &[],
+            w: 1,
+            ..request
+        };
+        return Ok(put_unhooked(alloc, local, alone));
     }
-    Ok(put_value(alloc, local, 0, &[1, 2], &key, &seen, &value, 2)?)
+    Ok(put_unhooked(alloc, local, request))
 }
 
 /// Makes puts, each of which is answered by its dot. Of the first the copy for vnode 2 is lost.

@@ -3,12 +3,14 @@
 ghost use Rattle.std.specs.Prelude.{◌∷◌, ◌<◌, ◌^◌, length};
 ghost use Rattle.ring.specs.Places.{AreDifferent};
 
-use crate::parts::building::{clock_of, key_of, lengths, shows, three_losing, vnodes_of};
-use crate::parts::calling::{get, put_value};
+use crate::parts::building::{
+    clock_of, content_of, key_of, lengths, shows, three_losing, vnodes_of,
+};
+use crate::parts::calling::{get, put_unhooked};
 use dvv::Dot;
 use key_state::Key;
 use peers::{Local, Peers};
-use quorum::QuorumFault;
+use quorum::{PutRequest, QuorumFault};
 use std::alloc::Global;
 use std::test::Fail;
 use test_support::expect;
@@ -36,29 +38,45 @@ fn finds(
     Ok(shows(&state, dots) && answers.len() == vnodes.len())
 }
 
-/// What a put answers that has seen so many events of one vnode.
-fn put_seeing(
-    alloc: Global,
-    local: &mut Local,
+/// A put at a vnode: the others that it goes to, the events of one vnode that it has seen, its value, and how many copies it wants.
+#[derive(Clone, Copy)]
+struct Seeing<'a> {
     coordinator: usize,
-    others: &[usize],
-    key: &Key,
+    others: &'a [usize],
     seen: (u32, u64),
-    value: &[u8],
+    value: &'a [u8],
     w: usize,
-) -> Result<Put, Fail>
-    requires few { length others.now < 2 ^ 32 }
-    requires different { AreDifferent (coordinator ∷ others.now) }
+}
+
+/// What such a put answers.
+fn put_seeing(alloc: Global, local: &mut Local, key: &Key, put: Seeing<'_>) -> Result<Put, Fail>
+    requires few { length put.others.now < 2 ^ 32 }
+    requires different { AreDifferent (put.coordinator ∷ put.others.now) }
 {
-    let seen = clock_of(alloc, seen.0, seen.1)?;
-    Ok(put_value(alloc, local, coordinator, others, key, &seen, value, w)?)
+    let request = PutRequest {
+        coordinator: put.coordinator,
+        others: put.others,
+        key,
+        seen: &clock_of(alloc, put.seen.0, put.seen.1)?,
+        content: &content_of(alloc, put.value)?,
+        w: put.w,
+    };
+    Ok(put_unhooked(alloc, local, request))
 }
 
 /// What a put of `c` at vnode 2 answers that has seen what all three vnodes hold, which is siblings of these dots.
 fn put_over(alloc: Global, local: &mut Local, key: &Key, dots: &[(u32, u64)]) -> Result<Put, Fail> {
     let (state, answers) = get(alloc, local, key, &[0, 1, 2], 3)?;
     if answers.len() == 3 && shows(&state, dots) {
-        return Ok(put_value(alloc, local, 2, &[0, 1], key, state.clock(), b"c", 2)?);
+        let request = PutRequest {
+            coordinator: 2,
+            others: &[0, 1],
+            key,
+            seen: state.clock(),
+            content: &content_of(alloc, b"c")?,
+            w: 2,
+        };
+        return Ok(put_unhooked(alloc, local, request));
     }
     Err(Fail::new("other siblings"))
 }
@@ -68,9 +86,31 @@ type Outcome = ([Put; 3], [usize; 3], bool);
 
 /// Two puts that have seen nothing, of `a` at vnode 1, to all three vnodes, and of `b` at vnode 0, and one over both.
 fn put_two_and_one_over(alloc: Global, local: &mut Local, key: &Key) -> Result<Outcome, Fail> {
-    let first = put_seeing(alloc, local, 1, &[2, 0], key, (0, 0), b"a", 3)?;
+    let first = put_seeing(
+        alloc,
+        local,
+        key,
+        Seeing {
+            coordinator: 1,
+            others: &[2, 0],
+            seen: (0, 0),
+            value: b"a",
+            w: 3,
+        },
+    )?;
     let lengths = lengths(local);
-    let second = put_seeing(alloc, local, 0, &[1, 2], key, (0, 0), b"b", 1)?;
+    let second = put_seeing(
+        alloc,
+        local,
+        key,
+        Seeing {
+            coordinator: 0,
+            others: &[1, 2],
+            seen: (0, 0),
+            value: b"b",
+            w: 1,
+        },
+    )?;
     let third = put_over(alloc, local, key, &[(458_752, 1), (458_753, 1)])?;
     let last = finds(alloc, local, key, &[1], 1, &[(458_754, 1)])?;
     Ok((
@@ -83,11 +123,44 @@ fn put_two_and_one_over(alloc: Global, local: &mut Local, key: &Key) -> Result<O
 /// A put at vnode 0 has seen what was put at vnode 1 alone, and both vnodes end with it. One whose context is ahead of what is
 /// stored changes nothing.
 fn put_after_another(alloc: Global, local: &mut Local, key: &Key) -> Result<Outcome, Fail> {
-    let elsewhere = put_seeing(alloc, local, 1, &[], key, (0, 0), b"a", 1)?;
-    let after = put_seeing(alloc, local, 0, &[1], key, (1, 1), b"b", 2)?;
+    let elsewhere = put_seeing(
+        alloc,
+        local,
+        key,
+        Seeing {
+            coordinator: 1,
+            others: &[],
+            seen: (0, 0),
+            value: b"a",
+            w: 1,
+        },
+    )?;
+    let after = put_seeing(
+        alloc,
+        local,
+        key,
+        Seeing {
+            coordinator: 0,
+            others: &[1],
+            seen: (1, 1),
+            value: b"b",
+            w: 2,
+        },
+    )?;
     let lengths = lengths(local);
     let brought = finds(alloc, local, key, &[0], 1, &[(0, 1)])?;
-    let ahead = put_seeing(alloc, local, 0, &[1], key, (0, 1000), b"c", 1)?;
+    let ahead = put_seeing(
+        alloc,
+        local,
+        key,
+        Seeing {
+            coordinator: 0,
+            others: &[1],
+            seen: (0, 1000),
+            value: b"c",
+            w: 1,
+        },
+    )?;
     let still = finds(alloc, local, key, &[0], 1, &[(0, 1)])?;
     Ok(([elsewhere, after, ahead], lengths, brought && still))
 }
@@ -111,7 +184,18 @@ fn puts_and_gets(rt: HostRuntime) -> Result<(), Fail> {
 
 /// What a put of `a` at vnode 0 answers of which one copy is asked for, the journals' lengths after it, and how many calls failed.
 fn put_once(alloc: Global, local: &mut Local, key: &Key) -> Result<(Put, [usize; 3], u64), Fail> {
-    let back = put_seeing(alloc, local, 0, &[1, 2], key, (0, 0), b"a", 1)?;
+    let back = put_seeing(
+        alloc,
+        local,
+        key,
+        Seeing {
+            coordinator: 0,
+            others: &[1, 2],
+            seen: (0, 0),
+            value: b"a",
+            w: 1,
+        },
+    )?;
     Ok((back, lengths(local), local.failures()))
 }
 

@@ -1,12 +1,12 @@
 //! Gets and read repair behind puts of which calls or answers are lost.
 
-use crate::parts::building::{is_value, key_of, lengths, shows, three_losing};
-use crate::parts::calling::put_value;
+use crate::parts::building::{content_of, is_value, key_of, lengths, shows, three_losing};
+use crate::parts::calling::put_unhooked;
 use crate::tests::operations::get_and_repair;
 use dvv::{Clock, Dot};
 use key_state::Key;
 use peers::Local;
-use quorum::QuorumFault;
+use quorum::{PutRequest, QuorumFault};
 use std::alloc::Global;
 use std::test::Fail;
 use test_support::expect;
@@ -100,7 +100,15 @@ fn find(alloc: Global, local: &mut Local, key: &Key) -> Result<(bool, u64), Fail
 
 /// What they come to over these vnodes.
 fn put_and_repair(alloc: Global, local: &mut Local, key: &Key) -> Result<Outcome, Fail> {
-    let back = put_value(alloc, local, 0, &[1, 2], key, &Clock::new(alloc), b"a", 2)?;
+    let request = PutRequest {
+        coordinator: 0,
+        others: &[1, 2],
+        key,
+        seen: &Clock::new(alloc),
+        content: &content_of(alloc, b"a")?,
+        w: 2,
+    };
+    let back = put_unhooked(alloc, local, request);
     let after_put = lengths(local);
     let found = find(alloc, local, key)?;
     Ok((back, found, [after_put, lengths(local)]))

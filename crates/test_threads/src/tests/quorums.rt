@@ -8,7 +8,7 @@ use dvv::{Clock, Dot};
 use hook_registry::Registry;
 use key_state::{Content, Key};
 use peers::Peers;
-use quorum::{Hooking, QuorumFault};
+use quorum::{Hooking, PutRequest, QuorumFault};
 use std::alloc::{AllocError, Global};
 use std::test::Fail;
 
@@ -34,9 +34,24 @@ fn put<P: Peers>(
     seen: &Clock,
 ) -> Result<Dot, QuorumFault> {
     let gone = Content::Tombstone;
+    let first = PutRequest {
+        coordinator: 0,
+        others: &[1, 2],
+        key,
+        seen,
+        content: &gone,
+        w: QUORUM,
+    };
     match coordinator {
-        Coordinator::First => quorum::put(peers, hooking, 0, &[1, 2], key, seen, &gone, QUORUM),
-        Coordinator::Second => quorum::put(peers, hooking, 1, &[0, 2], key, seen, &gone, QUORUM),
+        Coordinator::First => quorum::put(peers, hooking, first),
+        Coordinator::Second => {
+            let second = PutRequest {
+                coordinator: 1,
+                others: &[0, 2],
+                ..first
+            };
+            quorum::put(peers, hooking, second)
+        }
     }
 }
 

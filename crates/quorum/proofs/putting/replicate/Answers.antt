@@ -15,16 +15,16 @@ pub returns-in-Ok : goal.returns-in-Ok
 unfolding told
 returns-in-Ok g c =
     let s = c.spread.ensures in (
-      StateOf c.args.coordinator c.args.key.now (Ok c.in-Ok.answer) ∷ merges c.args.key.now c.in-Ok.answer c.args.others.now s.0,
-      one_first g.P.Peers.happens c.args.peers.now c.state_of.new.self c.spread.new.peers (StateOf c.args.coordinator c.args.key.now (Ok c.in-Ok.answer)) (merges c.args.key.now c.in-Ok.answer c.args.others.now s.0)
-          (subst (λ b. g.P.Peers.happens c.args.peers.now (StateOf c.args.coordinator c.args.key.now b) c.state_of.new.self) c.in-Ok.is c.state_of.ensures) s.1,
-      (Ok c.in-Ok.answer, merges c.args.key.now c.in-Ok.answer c.args.others.now s.0, refl, (s.0, s.2, refl, c.enough.ensures ∙ ap (told c.args.w c.args.dot) s.3)),
+      StateOf c.args.request.coordinator c.args.request.key.now (Ok c.in-Ok.answer) ∷ merges c.args.request.key.now c.in-Ok.answer c.args.request.others.now s.0,
+      one_first g.P.Peers.happens c.args.peers.now c.state_of.new.self c.spread.new.peers (StateOf c.args.request.coordinator c.args.request.key.now (Ok c.in-Ok.answer)) (merges c.args.request.key.now c.in-Ok.answer c.args.request.others.now s.0)
+          (subst (λ b. g.P.Peers.happens c.args.peers.now (StateOf c.args.request.coordinator c.args.request.key.now b) c.state_of.new.self) c.in-Ok.is c.state_of.ensures) s.1,
+      (Ok c.in-Ok.answer, merges c.args.request.key.now c.in-Ok.answer c.args.request.others.now s.0, refl, (s.0, s.2, refl, c.enough.ensures ∙ ap (told c.args.request.w c.args.dot) s.3)),
     )
 
 pub returns-in-Err : goal.returns-in-Err
 returns-in-Err g c = (
-  StateOf c.args.coordinator c.args.key.now (Err c.in-Err.fault) ∷ [],
-  one_first g.P.Peers.happens c.args.peers.now c.state_of.new.self c.state_of.new.self (StateOf c.args.coordinator c.args.key.now (Err c.in-Err.fault)) []
-      (subst (λ b. g.P.Peers.happens c.args.peers.now (StateOf c.args.coordinator c.args.key.now b) c.state_of.new.self) c.in-Err.is c.state_of.ensures) refl,
+  StateOf c.args.request.coordinator c.args.request.key.now (Err c.in-Err.fault) ∷ [],
+  one_first g.P.Peers.happens c.args.peers.now c.state_of.new.self c.state_of.new.self (StateOf c.args.request.coordinator c.args.request.key.now (Err c.in-Err.fault)) []
+      (subst (λ b. g.P.Peers.happens c.args.peers.now (StateOf c.args.request.coordinator c.args.request.key.now b) c.state_of.new.self) c.in-Err.is c.state_of.ensures) refl,
   (Err c.in-Err.fault, [], refl, (refl, ap (λ e. Err e) c.quorum_fault.ensures)),
 )
