@@ -6,8 +6,8 @@ use Rattle.script_events.specs.declared.script.Script.{Script}
 use Rattle.script_events.specs.declared.script.Answered.{Answered}
 use Rattle.script_events.specs.declared.script.Answered.TheVariants as answered
 use Rattle.world.specs.declared.event.Event.{Event}
-use Rattle.script_events.specs.declared.script.Sort.{Sort}
-use Rattle.script_events.specs.declared.script.Sort.TheVariants as sort
+use Rattle.script_events.specs.declared.names.Sort.{Sort}
+use Rattle.script_events.specs.declared.names.Sort.TheVariants as sort
 use Rattle.world.specs.Running.{AreRunnableFrom, IsGetAt, IsSummaryAt, IsMessageAt, IsDumpAt, IsRunAt}
 
 -- a line tells of an event: it prints its reply, or what a hook says beside it

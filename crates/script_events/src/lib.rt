@@ -1,9 +1,15 @@
 //! Scripts: the events over vnodes that their lines ask for.
 #![tactic(auto)]
 
+mod asking;
+mod changing;
 mod check;
+mod hooking;
 mod images;
+mod names;
+mod reading;
 mod script;
+mod spelling;
 
 pub use check::Check;
 pub use images::{Images, NoHook};

@@ -1,7 +1,0 @@
-use Rattle.std.proofs.Common.{refl}
-use Rattle.std.proofs.lemmas.Result.{on_ok_weaker}
-use Rattle.script_events.proofs.Growing.{one_more}
-use Rattle.script_events.proofs.script.push_check.Goals as goal
-
-pub returns-clause-runnable : goal.returns-clause-runnable
-returns-clause-runnable c used listed runnable = on_ok_weaker c.push_answered.result (λ more. one_more _ _ _ _ _ _ runnable c.requires.within more refl) c.push_answered.ensures.more
