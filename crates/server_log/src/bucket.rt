@@ -3,14 +3,13 @@
 ghost use Rattle.std.specs.Prelude.{◌≡◌, ◌≤◌, length, take};
 ghost use Rattle.server_log.specs.Notes.{bucket_of};
 
-/// The most bytes of a bucket's name.
-pub(crate) const LONGEST: usize = 64;
+use crate::limits::BUCKET_BYTES;
 
 /// The name of a bucket, of at most 64 bytes, and zeros behind it.
 #[derive(Clone, Copy, Drop)]
 pub struct Bucket {
     /// The name, and the zeros.
-    pub bytes: [u8; LONGEST],
+    pub bytes: [u8; BUCKET_BYTES],
     /// How many bytes the name has.
     pub len: usize,
 }
@@ -21,7 +20,7 @@ impl Bucket {
         requires { length name.now ≤ 64 }
         ensures { result ≡ bucket_of name.now }
     {
-        let mut bytes = [0; LONGEST];
+        let mut bytes = [0; BUCKET_BYTES];
         bytes[..name.len()].copy_from_slice(name);
         Bucket {
             bytes,
@@ -33,6 +32,6 @@ impl Bucket {
     pub fn name(&self) -> &[u8]
         ensures { result.now ≡ take self.now.len self.now.bytes }
     {
-        &self.bytes[..self.len.min(LONGEST)]
+        &self.bytes[..self.len.min(BUCKET_BYTES)]
     }
 }

@@ -2,6 +2,7 @@
 #![tactic(auto)]
 
 mod bucket;
+mod limits;
 mod line;
 mod noted;
 mod ration;

@@ -5,7 +5,8 @@ ghost use Rattle.std.specs.Slice.Iter.{iter_rest};
 ghost use Rattle.server_log.specs.Notes.{no_notes, noted_of, one_more, unnoted};
 
 use crate::bucket::Bucket;
-use crate::trouble::{HookTrouble, KINDS, Trouble};
+use crate::limits::KINDS;
+use crate::trouble::{HookTrouble, Trouble};
 use std::slice::Iter;
 
 /// What is noted of the troubles of one kind.

@@ -3,10 +3,8 @@
 ghost use Rattle.std.specs.Prelude.{◌≡◌, replicate, slice_set};
 ghost use Rattle.server_log.specs.Rations.{is_due, kept_of, left_by, place_of, told_by, untold};
 
-use crate::trouble::{KINDS, Trouble};
-
-/// So many milliseconds at least are between two that are told of one kind.
-const APART: u64 = 1_000;
+use crate::limits::{APART_MS, KINDS};
+use crate::trouble::Trouble;
 
 /// What is kept of the troubles of one kind.
 #[derive(Clone, Copy, Drop)]
@@ -23,7 +21,7 @@ impl Kept {
         ensures { result ≡ is_due self.now.last now }
     {
         match self.last {
-            Some(last) => now.saturating_sub(last) >= APART,
+            Some(last) => now.saturating_sub(last) >= APART_MS,
             None => true,
         }
     }

@@ -31,9 +31,6 @@ pub enum Trouble {
     Unwritten,
 }
 
-/// How many kinds there are.
-pub(crate) const KINDS: usize = 10;
-
 impl HookTrouble {
     fn place(self) -> usize
         ensures { result ≡ hook_place self }
