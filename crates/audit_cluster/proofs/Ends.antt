@@ -18,7 +18,7 @@ use Rattle.audit_replay.specs.Runs.{IsRunFrom}
 use Rattle.audit_replay.specs.Wrong.{IsToldOf}
 use Rattle.audit_replay.specs.declared.kept.Recent.{Recent}
 use Rattle.audit_replay.proofs.Faultless.{faultless}
-use Rattle.audit_faults.specs.declared.fault.FollowFault.{FollowFault}
+use Rattle.audit_faults.specs.declared.fault.AuditFault.{AuditFault}
 use Rattle.audit_faults.specs.declared.fault.WatchFault.{WatchFault}
 use Rattle.audit_faults.specs.declared.fault.WatchFault.TheVariants.{Found, Lost, NoMemory}
 use Rattle.audit_follower.specs.Stops.{IsStop}
@@ -73,7 +73,7 @@ split_first [] e is = absurd (let none : None ≡ Some e = is in cc)
 split_first (x ∷ queue) e is = ap (λ (y : Entry). y ∷ queue) (same_Some x e is)
 
 -- so much was followed, and what waits stands behind it
-stop_in : (fronts : List ℕ) (followed logs : List Log) (waiting : List (List Entry)) (index : ℕ) (entry : Entry) (fault : FollowFault) → length followed ≡ length logs → ((i : ℕ) → i < length logs → (log_at followed i).vnode ≡ (log_at logs i).vnode)
+stop_in : (fronts : List ℕ) (followed logs : List Log) (waiting : List (List Entry)) (index : ℕ) (entry : Entry) (fault : AuditFault) → length followed ≡ length logs → ((i : ℕ) → i < length logs → (log_at followed i).vnode ≡ (log_at logs i).vnode)
     → ((i : ℕ) → i < length logs → (rest : List Entry) × ((log_at logs i).entries ≡ ((log_at followed i).entries ++ waiting_at waiting i) ++ rest)) → IsRunFrom fronts followed → index < length logs → IsNext waiting index entry → IsToldOf fronts followed answers_kept index entry fault
     → StopsIn fronts logs fault
 stop_in fronts followed logs waiting index entry fault size ids goes run inside next told =
@@ -93,7 +93,7 @@ stop_in fronts followed logs waiting index entry fault size ids goes run inside 
     }
 
 -- the watch noticed it while the cluster served
-pub stopped_in : (first n : ℕ) (told before all : List Told) (fronts : List ℕ) (logs : List Log) (fault : FollowFault) → HasStopped first n told fronts fault → all ≡ before ++ told → Differ logs → ((t : Told) → Contains all t → Stands logs t) → Law → length logs ≡ n
+pub stopped_in : (first n : ℕ) (told before all : List Told) (fronts : List ℕ) (logs : List Log) (fault : AuditFault) → HasStopped first n told fronts fault → all ≡ before ++ told → Differ logs → ((t : Told) → Contains all t → Stands logs t) → Law → length logs ≡ n
     → ((i : ℕ) → i < length logs → (log_at logs i).vnode ≡ first + i) → StopsIn fronts logs fault
 stopped_in first n told before all fronts logs fault was is differ stand law long numbers =
     stop_in fronts taken.followed logs taken.waiting was.index was.entry fault size ids goes was.run (let i = was.inside in omega (arith, i, long)) was.next was.is_wrong
@@ -157,7 +157,7 @@ all_followed old new logs followed waiting fronts taken alike size long =
         ∙ ap (λ (es : List Entry). let l : Log = record { vnode = (log_at logs i).vnode; entries = es } in l) (no_rest (log_at followed i).entries (waiting_at waiting i) (log_at logs i).entries whole.1 (long i inside))
 
 -- or it stopped there
-pub a_stop : (fronts : List ℕ) (old new : Taken) (logs : List Log) (below : ℕ) (recent : Recent) (fault : FollowFault) → AreFronts old logs → IsTakenTo old new logs (length logs) → length old.followed ≡ length logs → recent ≡ answers_kept
+pub a_stop : (fronts : List ℕ) (old new : Taken) (logs : List Log) (below : ℕ) (recent : Recent) (fault : AuditFault) → AreFronts old logs → IsTakenTo old new logs (length logs) → length old.followed ≡ length logs → recent ≡ answers_kept
     → IsStop fronts new.followed new.waiting below recent fault → StopsIn fronts logs fault
 a_stop fronts old new logs below recent fault are taken size kept stop =
     let whole = whole_taken old new logs stop.logs stop.waiting are taken stop.alike in

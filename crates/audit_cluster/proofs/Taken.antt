@@ -27,7 +27,7 @@ use Rattle.cluster_vnode.specs.Answers.{is_want_of_memory}
 use Rattle.cluster_vnode.specs.Calls.{IsFault, IsHandedOut, IsRefusal, outcome_ok, pass_view}
 use Rattle.cluster_vnode.specs.Gathers.{handed, BeginsAt, AreInTurn, all_handed}
 use Rattle.world.specs.Represents.{AreDistinct, log_at, empty_logs}
-use Rattle.audit_faults.specs.declared.fault.FollowFault.{FollowFault}
+use Rattle.audit_faults.specs.declared.fault.AuditFault.{AuditFault}
 use Rattle.audit_replay.specs.declared.kept.Recent.{Recent}
 use Rattle.audit_replay.specs.Wrong.{IsToldOf}
 use Rattle.audit_follower.specs.Stops.{IsStop}
@@ -160,7 +160,7 @@ taken_alike first told old new was alike i inside =
 -- ---- what a watch keeps
 
 -- a fault that was found stays found, whatever is told behind it
-pub stopped_on : (first n : ℕ) (old new more : List Told) (fronts : List ℕ) (fault : FollowFault) → HasStopped first n old fronts fault → new ≡ old ++ more → HasStopped first n new fronts fault
+pub stopped_on : (first n : ℕ) (old new more : List Told) (fronts : List ℕ) (fault : AuditFault) → HasStopped first n old fronts fault → new ≡ old ++ more → HasStopped first n new fronts fault
 stopped_on first n old new more fronts fault was is = record {
   heard = was.heard;
   unheard = was.unheard ++ more;
@@ -210,7 +210,7 @@ watches_more first n old_pass new_pass old taken index id place blocks was same 
 }
 
 -- the follower stopped at what waited
-stopped_at : (first n : ℕ) (told : List Told) (old : Taken) (below : ℕ) (fault : FollowFault) → HasTaken first told old → length old.followed ≡ n → old.recent ≡ answers_kept → IsStop old.fronts old.followed old.waiting below old.recent fault → HasStopped first n told old.fronts fault
+stopped_at : (first n : ℕ) (told : List Told) (old : Taken) (below : ℕ) (fault : AuditFault) → HasTaken first told old → length old.followed ≡ n → old.recent ≡ answers_kept → IsStop old.fronts old.followed old.waiting below old.recent fault → HasStopped first n told old.fronts fault
 stopped_at first n told old below fault has size recent stop =
     let then : Taken = record { fronts = old.fronts; followed = stop.logs; waiting = stop.waiting; fault = None; recent = old.recent } in
     record {
@@ -229,23 +229,23 @@ stopped_at first n told old below fault has size recent stop =
     }
 
 -- so it was followed
-pub watches_followed : (first n : ℕ) (told : List Told) (old new : Taken) (below : ℕ) (r : Result (Unit {0}) FollowFault) → Watches first n told old → old.recent ≡ answers_kept → OnOk r (AreTakenAlike old.followed old.waiting new.followed new.waiting) → OnOk r (new.fault ≡ None)
-    → IfErr r (λ fault. new.fault ≡ Some fault) → (old.fault ≡ None → IfErr r (λ fault. IsStop old.fronts old.followed old.waiting below old.recent fault)) → ((fault : FollowFault) → old.fault ≡ Some fault → (r ≡ Err fault) × (new ≡ old)) → new.fronts ≡ old.fronts → Watches first n told new
+pub watches_followed : (first n : ℕ) (told : List Told) (old new : Taken) (below : ℕ) (r : Result (Unit {0}) AuditFault) → Watches first n told old → old.recent ≡ answers_kept → OnOk r (AreTakenAlike old.followed old.waiting new.followed new.waiting) → OnOk r (new.fault ≡ None)
+    → IfErr r (λ fault. new.fault ≡ Some fault) → (old.fault ≡ None → IfErr r (λ fault. IsStop old.fronts old.followed old.waiting below old.recent fault)) → ((fault : AuditFault) → old.fault ≡ Some fault → (r ≡ Err fault) × (new ≡ old)) → new.fronts ≡ old.fronts → Watches first n told new
 watches_followed first n told old new below r was recent alike none found stop again fronts = by old.fault refl r refl
   where
-    by : (f : Option FollowFault) → old.fault ≡ f → (q : Result (Unit {0}) FollowFault) → r ≡ q → Watches first n told new
+    by : (f : Option AuditFault) → old.fault ≡ f → (q : Result (Unit {0}) AuditFault) → r ≡ q → Watches first n told new
     by (Some why) is q same = subst (λ (t : Taken). Watches first n told t) (sym (again why is).1) was
     by None is (Ok done) same =
-        let ok : AreTakenAlike old.followed old.waiting new.followed new.waiting = subst (λ (x : Result (Unit {0}) FollowFault). OnOk x (AreTakenAlike old.followed old.waiting new.followed new.waiting)) same alike in
-        watches_none first n told new (subst (λ (x : Result (Unit {0}) FollowFault). OnOk x (new.fault ≡ None)) same none) (ok.size ∙ was.size is) (taken_alike first told old new (was.has is) ok)
+        let ok : AreTakenAlike old.followed old.waiting new.followed new.waiting = subst (λ (x : Result (Unit {0}) AuditFault). OnOk x (AreTakenAlike old.followed old.waiting new.followed new.waiting)) same alike in
+        watches_none first n told new (subst (λ (x : Result (Unit {0}) AuditFault). OnOk x (new.fault ≡ None)) same none) (ok.size ∙ was.size is) (taken_alike first told old new (was.has is) ok)
     by None is (Err why) same =
-        let told_fault : new.fault ≡ Some why = subst (λ (x : Result (Unit {0}) FollowFault). IfErr x (λ fault. new.fault ≡ Some fault)) same found in
-        let at : IsStop old.fronts old.followed old.waiting below old.recent why = subst (λ (x : Result (Unit {0}) FollowFault). IfErr x (λ fault. IsStop old.fronts old.followed old.waiting below old.recent fault)) same (stop is) in
+        let told_fault : new.fault ≡ Some why = subst (λ (x : Result (Unit {0}) AuditFault). IfErr x (λ fault. new.fault ≡ Some fault)) same found in
+        let at : IsStop old.fronts old.followed old.waiting below old.recent why = subst (λ (x : Result (Unit {0}) AuditFault). IfErr x (λ fault. IsStop old.fronts old.followed old.waiting below old.recent fault)) same (stop is) in
         record {
           size = λ no. absurd (let clash : Some why ≡ None = sym told_fault ∙ no in cc);
           has = λ no. absurd (let clash : Some why ≡ None = sym told_fault ∙ no in cc);
           stopped = λ fault is_found. subst (λ (ns : List ℕ). HasStopped first n told ns fault) (sym fronts)
-              (subst (λ (f : FollowFault). HasStopped first n told old.fronts f) (same_Some why fault (sym told_fault ∙ is_found)) (stopped_at first n told old below why (was.has is) (was.size is) recent at));
+              (subst (λ (f : AuditFault). HasStopped first n told old.fronts f) (same_Some why fault (sym told_fault ∙ is_found)) (stopped_at first n told old below why (was.has is) (was.size is) recent at));
         }
 
 -- ---- nothing was taken yet

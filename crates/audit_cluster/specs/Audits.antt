@@ -1,7 +1,7 @@
 -- What the audit of gathered vnodes says (this store's profile).
 use Rattle.std.specs.Prelude.{List, Result, Ok, Err}
 use Rattle.journal.specs.Logs.{Log}
-use Rattle.audit_replay.specs.declared.audit_fault.AuditFault.TheVariants.{Found, NoMemory}
+use Rattle.audit_faults.specs.declared.fault.AuditFault.TheVariants.{Found, NoMemory}
 use Rattle.audit_replay.specs.Faulty.{IsFaultAt, IsFaultless}
 use Rattle.audit_replay.specs.Interleaved.{IsInterleaving}
 use Rattle.audit_cluster.specs.declared.closing.CloseFault.{CloseFault}

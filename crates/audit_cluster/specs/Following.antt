@@ -14,7 +14,7 @@ use Rattle.world.specs.Represents.{log_at}
 use Rattle.audit_follower.specs.Waiting.{IsNext, Taken, bytes_waiting, count_waiting, taken_at, waiting_at}
 use Rattle.audit_replay.specs.declared.kept.Recent.{Recent}
 use Rattle.audit_replay.specs.Wrong.{IsToldOf}
-use Rattle.audit_faults.specs.declared.fault.FollowFault.{FollowFault}
+use Rattle.audit_faults.specs.declared.fault.AuditFault.{AuditFault}
 use Rattle.audit_faults.specs.declared.fault.WatchFault.{WatchFault}
 use Rattle.audit_faults.specs.declared.fault.WatchFault.TheVariants.{Found, Lost, NoMemory}
 
@@ -30,7 +30,7 @@ pub record IsFrontOf (followed journal : Log) : Type 0 where
 
 -- So much of these journals, a front of each, is one run of the world from the fronts on that were there before, and the entry that comes next in one of them
 -- is the fault's.
-pub record StopsIn (fronts : List ℕ) (logs : List Log) (fault : FollowFault) : Type 0 where
+pub record StopsIn (fronts : List ℕ) (logs : List Log) (fault : AuditFault) : Type 0 where
   pub followed : List Log
   pub size : length followed ≡ length logs
   pub each : (index : ℕ) → index < length logs → IsFrontOf (log_at followed index) (log_at logs index)
@@ -88,7 +88,7 @@ HasTaken first told taken = (index : ℕ) → index < length taken.followed → 
 
 -- Of what so many vnodes had handed out to begin with, as it was told, all was taken, so much was followed as one run of the world from the fronts on, and the
 -- entry that was next then is the fault's.
-pub record HasStopped (first vnodes : ℕ) (told : List Told) (fronts : List ℕ) (fault : FollowFault) : Type 0 where
+pub record HasStopped (first vnodes : ℕ) (told : List Told) (fronts : List ℕ) (fault : AuditFault) : Type 0 where
   pub heard : List Told
   pub unheard : List Told
   pub all : told ≡ heard ++ unheard
@@ -107,7 +107,7 @@ pub record HasStopped (first vnodes : ℕ) (told : List Told) (fronts : List ℕ
 pub record Watches (first vnodes : ℕ) (told : List Told) (taken : Taken) : Type 0 where
   pub size : taken.fault ≡ None → length taken.followed ≡ vnodes
   pub has : taken.fault ≡ None → HasTaken first told taken
-  pub stopped : (fault : FollowFault) → taken.fault ≡ Some fault → HasStopped first vnodes told taken.fronts fault
+  pub stopped : (fault : AuditFault) → taken.fault ≡ Some fault → HasStopped first vnodes told taken.fronts fault
 
 -- what a watch was told, and what was taken
 pub record Watched : Type 0 where

@@ -35,7 +35,7 @@ impl From<AuditFault> for CloseFault {
 
 impl From<AllocError> for CloseFault {
     ghost use Rattle.std.specs.Prelude.{◌≡◌};
-    ghost use Rattle.audit_replay.specs.declared.audit_fault.AuditFault.TheVariants.{NoMemory};
+    ghost use Rattle.audit_faults.specs.declared.fault.AuditFault.TheVariants.{NoMemory};
     ghost use Rattle.audit_cluster.specs.declared.closing.CloseFault.TheVariants.{Audit};
 
     ghost from_gives = { λ _ fault. fault ≡ Audit NoMemory };

@@ -2,7 +2,7 @@
 
 ghost use Rattle.std.specs.Prelude.{◌≡◌, ◌<◌, ◌≤◌, ◌+◌, ◌++◌, ℕ, length, vec_len, None, Some, OnOk, IfOk, IfErr, IsTrue};
 ghost use Rattle.std.specs.List.{flat_map};
-ghost use Rattle.audit_faults.specs.declared.fault.FollowFault.{FollowFault as Faulted};
+ghost use Rattle.audit_faults.specs.declared.fault.AuditFault.{AuditFault as Faulted};
 ghost use Rattle.audit_faults.specs.Unsaid.{IsNoYes};
 ghost use Rattle.cluster_vnode.specs.Gathers.{IsGathered};
 ghost use Rattle.world.specs.Represents.{log_at};

@@ -1,11 +1,12 @@
-//! Why entries aren't taken, why they stop happening again, and why journals aren't found to be one run.
+//! What is wrong with entries, and why they aren't taken, stop happening again, or aren't found to be one run.
 
 use std::alloc::AllocError;
 use thiserror::Error;
 
-/// What is wrong with an entry. It is shown as its number; the first four are those of an audit.
+/// What is wrong with an entry, shown as its code. An audit of whole journals tells the first four alone: it gives no answer up, takes
+/// the entries in the order of their stamps, and each may follow those before it at its vnode.
 #[derive(Clone, Copy, Debug, PartialEq, Eq, Drop, Error)]
-pub enum FollowCode {
+pub enum EntryFault {
     /// Its stamp stands in two journals.
     #[error("A1")]
     Twice,
@@ -29,13 +30,15 @@ pub enum FollowCode {
     Illegal,
 }
 
-/// Why a follower stops. A fault is shown as its number, the vnode's identifier and the place.
+/// Why entries of vnodes aren't found to be one run of the world: the first fault, or want of memory. A fault is shown as its code, the
+/// vnode's identifier and the place.
 #[derive(Clone, Copy, Debug, PartialEq, Eq, Drop, Error)]
-pub enum FollowFault {
-    /// What is wrong, at the vnode with this identifier and this place of its journal.
+pub enum AuditFault {
+    /// What is wrong with the entry at this place of the journal of the vnode with this identifier. Places are counted from 0, and there
+    /// are at most 2^32.
     #[error("{code} {vnode} {place}")]
     Found {
-        code: FollowCode,
+        code: EntryFault,
         vnode: u32,
         place: usize,
     },
@@ -44,14 +47,14 @@ pub enum FollowFault {
     NoMemory,
 }
 
-impl From<AllocError> for FollowFault {
+impl From<AllocError> for AuditFault {
     ghost use Rattle.std.specs.Prelude.{◌≡◌};
-    ghost use Rattle.audit_faults.specs.declared.fault.FollowFault.TheVariants.{NoMemory};
+    ghost use Rattle.audit_faults.specs.declared.fault.AuditFault.TheVariants.{NoMemory};
 
     ghost from_gives = { λ _ fault. fault ≡ NoMemory };
 
     fn from(_error: AllocError) -> Self {
-        FollowFault::NoMemory
+        AuditFault::NoMemory
     }
 }
 
@@ -85,7 +88,7 @@ impl From<AllocError> for TakeFault {
 pub enum WatchFault {
     /// The follower found it.
     #[error("{0}")]
-    Found(FollowFault),
+    Found(AuditFault),
     /// Entries of a journal were handed out, and not all of them were taken.
     #[error("handed out")]
     Lost,
@@ -105,13 +108,13 @@ impl From<AllocError> for WatchFault {
     }
 }
 
-impl From<FollowFault> for WatchFault {
+impl From<AuditFault> for WatchFault {
     ghost use Rattle.std.specs.Prelude.{◌≡◌};
     ghost use Rattle.audit_faults.specs.declared.fault.WatchFault.TheVariants.{Found};
 
     ghost from_gives = { λ given fault. fault ≡ Found given };
 
-    fn from(fault: FollowFault) -> Self {
+    fn from(fault: AuditFault) -> Self {
         WatchFault::Found(fault)
     }
 }

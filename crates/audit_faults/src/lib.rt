@@ -3,4 +3,4 @@
 
 mod fault;
 
-pub use fault::{FollowCode, FollowFault, Followed, TakeFault, WatchFault};
+pub use fault::{AuditFault, EntryFault, Followed, TakeFault, WatchFault};

@@ -6,11 +6,11 @@ use Rattle.journal.specs.Stamps.{stamp_of}
 use Rattle.audit_replay.specs.declared.kept.Recent.{Recent}
 use Rattle.audit_replay.specs.Runs.{IsRunFrom}
 use Rattle.audit_replay.specs.Wrong.{IsToldOf}
-use Rattle.audit_faults.specs.declared.fault.FollowFault.{FollowFault}
+use Rattle.audit_faults.specs.declared.fault.AuditFault.{AuditFault}
 use Rattle.audit_follower.specs.Waiting.{AreTakenAlike, IsNext}
 
 -- Of what was taken, so much was followed as one run of the world from the fronts on, and the entry that was next then, below the bound, is the fault's.
-pub record IsStop (fronts : List ℕ) (followed : List Log) (waited : List (List Entry)) (below : ℕ) (recent : Recent) (fault : FollowFault) : Type 0 where
+pub record IsStop (fronts : List ℕ) (followed : List Log) (waited : List (List Entry)) (below : ℕ) (recent : Recent) (fault : AuditFault) : Type 0 where
   pub logs : List Log
   pub waiting : List (List Entry)
   pub alike : AreTakenAlike followed waited logs waiting
@@ -23,5 +23,5 @@ pub record IsStop (fronts : List ℕ) (followed : List Log) (waited : List (List
   pub told : IsToldOf fronts logs recent index entry fault
 
 -- a follower stopped so, once
-abbrev pub HasStopped : List ℕ → Recent → FollowFault → Type 0
+abbrev pub HasStopped : List ℕ → Recent → AuditFault → Type 0
 HasStopped fronts recent fault = (followed : List Log) × (waited : List (List Entry)) × (below : ℕ) × IsStop fronts followed waited below recent fault

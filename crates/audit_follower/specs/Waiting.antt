@@ -6,7 +6,7 @@ use Rattle.journal.specs.Stamps.{stamp_of}
 use Rattle.world.specs.Represents.{log_at}
 use Rattle.audit_replay.specs.declared.kept.Recent.{Recent}
 use Rattle.audit_replay.specs.Sizes.{entry_bytes}
-use Rattle.audit_faults.specs.declared.fault.FollowFault.{FollowFault}
+use Rattle.audit_faults.specs.declared.fault.AuditFault.{AuditFault}
 
 -- what waits of the vnode with this index
 abbrev pub waiting_at : List (List Entry) → ℕ → List Entry
@@ -17,7 +17,7 @@ pub record Taken : Type 0 where
   pub fronts : List ℕ
   pub followed : List Log
   pub waiting : List (List Entry)
-  pub fault : Option FollowFault
+  pub fault : Option AuditFault
   pub recent : Recent
 
 -- how many entries were taken of the vnode with this index

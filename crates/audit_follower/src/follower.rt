@@ -2,7 +2,7 @@
 
 ghost use Rattle.std.specs.Prelude.{◌≡◌, ◌≢◌, ◌<◌, ◌+◌, ◌++◌, ℕ, [], IfOk, IfErr, IfSome, OnOk, OnErr, Err, None, Some, length, replicate, slice_set, sum_by};
 ghost use Rattle.world.specs.Represents.{AreDistinct, empty_logs, log_at};
-ghost use Rattle.audit_faults.specs.declared.fault.FollowFault.{FollowFault as Faulted};
+ghost use Rattle.audit_faults.specs.declared.fault.AuditFault.{AuditFault as Faulted};
 ghost use Rattle.audit_replay.specs.Runs.{IsRunFrom};
 ghost use Rattle.audit_replay.specs.Sizes.{entry_bytes};
 ghost use Rattle.audit_follower.specs.Stops.{HasStopped, IsStop};
@@ -10,7 +10,7 @@ ghost use Rattle.audit_follower.specs.Waiting.{AreTakenAlike, NoneBelow, taken_a
 
 use crate::queue::Queue;
 use crate::run::Run;
-use audit_faults::{FollowFault, TakeFault};
+use audit_faults::{AuditFault, TakeFault};
 use audit_replay::{Recent, Rerun};
 use journal::Entry;
 use std::alloc::{AllocError, Global};
@@ -28,7 +28,7 @@ pub struct Follower {
 
 impl Model for Follower {
     ghost use Rattle.std.specs.Prelude.{◌≡◌, Some, length};
-    ghost use Rattle.audit_faults.specs.declared.fault.FollowFault.{FollowFault as Faulted};
+    ghost use Rattle.audit_faults.specs.declared.fault.AuditFault.{AuditFault as Faulted};
     ghost use Rattle.audit_follower.specs.Stops.{HasStopped};
     ghost use Rattle.audit_follower.specs.Waiting.{Taken};
 
@@ -220,7 +220,7 @@ impl Follower {
     /// followed, and it is told again. A merge that names an answer that is no longer kept is told as such, though it may be right. A bound
     /// is to be one below which no stamp is drawn any more: an entry that comes later is told as late, and so is one that is behind its
     /// front before all fronts are whole.
-    pub fn follow(&mut self, below: u64) -> Result<(), FollowFault>
+    pub fn follow(&mut self, below: u64) -> Result<(), AuditFault>
         ensures yes { OnOk result (IsRunFrom self.old.fronts self.new.followed) }
         ensures alike { OnOk result (AreTakenAlike self.old.followed self.old.waiting self.new.followed self.new.waiting) }
         ensures below { OnOk result (NoneBelow self.new.waiting below) }
@@ -238,7 +238,7 @@ impl Follower {
     }
 
     /// The fault that was found, if any. Where there is none, what was followed is one run of the world.
-    pub fn fault(&self) -> Option<FollowFault>
+    pub fn fault(&self) -> Option<AuditFault>
         ensures fault { result ≡ self.now.fault }
         ensures run { result ≡ None → IsRunFrom self.now.fronts self.now.followed }
         ensures stopped { IfSome result (λ fault. HasStopped self.now.fronts self.now.recent fault) }

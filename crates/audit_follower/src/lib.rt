@@ -5,6 +5,6 @@ mod follower;
 mod queue;
 mod run;
 
-pub use audit_faults::{FollowCode, FollowFault, TakeFault};
+pub use audit_faults::{AuditFault, EntryFault, TakeFault};
 pub use audit_replay::Recent;
 pub use follower::Follower;

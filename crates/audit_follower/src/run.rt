@@ -10,7 +10,7 @@ ghost use Rattle.audit_follower.specs.Stops.{IsStop};
 ghost use Rattle.audit_follower.specs.Waiting.{AreTakenAlike, IsNext, NoneBelow, waiting_at};
 
 use crate::queue::Queue;
-use audit_faults::FollowFault;
+use audit_faults::AuditFault;
 use audit_replay::Rerun;
 
 /// The next entry of a vnode.
@@ -94,7 +94,7 @@ impl Run {
     }
 
     // The next entry of a vnode waits no longer, and happens again. Where it is refused nothing is followed any more.
-    fn step(&mut self, index: usize) -> Result<(), FollowFault>
+    fn step(&mut self, index: usize) -> Result<(), AuditFault>
         requires size { length self.old.waiting.items ≡ length self.old.rerun.logs }
         requires going { self.old.rerun.fault ≡ None }
         requires inside { index < length self.old.rerun.logs }
@@ -115,7 +115,7 @@ impl Run {
     }
 
     /// All that waits with stamps below a bound happens again, in the order of stamps.
-    pub(crate) fn follow(&mut self, below: u64) -> Result<(), FollowFault>
+    pub(crate) fn follow(&mut self, below: u64) -> Result<(), AuditFault>
         requires size { length self.old.waiting.items ≡ length self.old.rerun.logs }
         requires going { self.old.rerun.fault ≡ None }
         requires run { IsRunFrom self.old.rerun.fronts self.old.rerun.logs }

@@ -2,11 +2,13 @@
 
 ghost use Rattle.std.specs.Prelude.{IfErr, OnOk};
 ghost use Rattle.world.specs.Represents.{AreDistinct};
+ghost use Rattle.audit_faults.specs.Codes.{IsOneOf, IsOfWhole};
 ghost use Rattle.audit_replay.specs.Faulty.{IsFault, IsFaultless};
 ghost use Rattle.audit_replay.specs.Interleaved.{IsInterleaving, ids_of};
 ghost use Rattle.audit_replay.specs.Rerun.{AreJournals};
 
-use audit_replay::{AuditFault, check_rising, check_single, check_sources};
+use audit_faults::AuditFault;
+use audit_replay::{check_rising, check_single, check_sources};
 use journal::Whole;
 use std::alloc::Global;
 
@@ -24,6 +26,7 @@ pub fn audit(alloc: Global, journals: &[Whole<'_>]) -> Result<(), AuditFault>
     ensures yes { OnOk result (IsInterleaving journals.now) }
     ensures faultless { OnOk result (IsFaultless journals.now) }
     ensures no { IfErr result (IsFault journals.now) }
+    ensures codes { IfErr result (IsOneOf IsOfWhole) }
 {
     check_rising(journals)?;
     check_single(alloc, journals)?;

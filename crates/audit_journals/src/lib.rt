@@ -3,5 +3,5 @@
 
 mod auditing;
 
-pub use audit_replay::{AuditCode, AuditFault};
+pub use audit_faults::{AuditFault, EntryFault};
 pub use auditing::audit;

@@ -18,18 +18,19 @@ use Rattle.journal.specs.Stamps.{stamp_of}
 use Rattle.world.specs.Represents.{AreDistinct, log_at, empty_logs, with_entry_at}
 use Rattle.audit_replay.specs.declared.heads.Head.{Head}
 use Rattle.audit_replay.specs.declared.kept.Recent.{Recent}
-use Rattle.audit_replay.specs.declared.audit_fault.AuditCode.{AuditCode}
-use Rattle.audit_replay.specs.declared.audit_fault.AuditFault.TheVariants.{Found}
-use Rattle.audit_faults.specs.declared.fault.FollowCode.{FollowCode}
-use Rattle.audit_faults.specs.declared.fault.FollowCode.TheVariants.{Twice, Falls, NoSource, OtherState, GivenUp, Late, Illegal}
+use Rattle.audit_faults.specs.Codes.{IsOneOf, IsOfSource}
+use Rattle.audit_faults.specs.declared.fault.AuditFault.{AuditFault}
+use Rattle.audit_faults.specs.declared.fault.AuditFault.TheVariants.{Found, NoMemory}
+use Rattle.audit_faults.specs.declared.fault.EntryFault.{EntryFault}
+use Rattle.audit_faults.specs.declared.fault.EntryFault.TheVariants.{Twice, Falls, NoSource, OtherState, GivenUp, Late, Illegal}
 use Rattle.audit_replay.specs.Interleaved.{IsInterleaving, ids_of}
-use Rattle.audit_replay.specs.Faulty.{EntryAt, NoneFalls, NoneTwice, NoSourceAt, OtherStateAt, HasNoSuchSource, AllHaveSources, IsFault}
+use Rattle.audit_replay.specs.Faulty.{EntryAt, NoneFalls, NoneTwice, NoSourceAt, OtherStateAt, HasNoSuchSource, AllHaveSources, IsFault, IsFaultAt}
 use Rattle.audit_replay.specs.Beginnings.{AreFronts}
-use Rattle.audit_replay.specs.Fronts.{IsReadBefore, AreSound, HasRun, IsCodeOfSource, IsCodeOf}
+use Rattle.audit_replay.specs.Fronts.{IsReadBefore, AreSound, HasRun}
 use Rattle.audit_replay.specs.Rerun.{AreJournals}
 use Rattle.audit_replay.specs.Sorting.{IsSplit}
 use Rattle.audit_replay.specs.Turns.{EntryIn, HasHappened, IsNextBelow, NoneBelow, count_at}
-use Rattle.audit_replay.specs.Wrong.{IsWrong, IsAfterAll, IsFounded, HasReadOf}
+use Rattle.audit_replay.specs.Wrong.{IsWrong, IsAfterAll, IsFounded, IsToldOf, HasReadOf}
 use Rattle.audit_replay.proofs.Rising.{one_entry, rises}
 use Rattle.audit_replay.proofs.Sorting.{with_next, one_index, next_first, is_next, split_more, happened_more, happened_or_not, all_happened}
 
@@ -276,8 +277,8 @@ fewer (suc n) [] = omega arith
 fewer (suc n) (x ∷ xs) = let h = fewer n xs in omega (arith, h)
 
 -- so it is its source
-pub of_source : (logs : List Log) (counts : List ℕ) (now : List Log) (recent : Recent) (i : ℕ) (e : Entry) (code : FollowCode) → AreDistinct (ids_of logs) → NoneFalls logs → NoneTwice logs → AreJournals logs → max_entries ≤ recent.always → HasRun logs counts now → EntryIn logs i (count_at counts i) e
-    → IsWrong [] now recent i e code → IsCodeOfSource code
+pub of_source : (logs : List Log) (counts : List ℕ) (now : List Log) (recent : Recent) (i : ℕ) (e : Entry) (code : EntryFault) → AreDistinct (ids_of logs) → NoneFalls logs → NoneTwice logs → AreJournals logs → max_entries ≤ recent.always → HasRun logs counts now → EntryIn logs i (count_at counts i) e
+    → IsWrong [] now recent i e code → IsOfSource code
 of_source logs counts now recent i e NoSource distinct rising single legal all run there h = tt
 of_source logs counts now recent i e OtherState distinct rising single legal all run there h = tt
 of_source logs counts now recent i e Twice distinct rising single legal all run there (other, place, a, at, differs, same) =
@@ -339,16 +340,30 @@ other_state logs counts now recent head e distinct rising single run next there 
     )
 
 -- which is the first fault of its kind
-pub source_fault : (logs : List Log) (counts : List ℕ) (now : List Log) (recent : Recent) (head : Head) (e : Entry) (code : FollowCode) (told : AuditCode) → AreDistinct (ids_of logs) → NoneFalls logs → NoneTwice logs → HasRun logs counts now → IsNextBelow logs counts (length logs) head
-    → EntryIn logs head.index (count_at counts head.index) e → IsWrong [] now recent head.index e code → IsCodeOf code told → IsFault logs (Found told head.vnode (count_at counts head.index))
-source_fault logs counts now recent head e NoSource told distinct rising single run next there h is =
-    subst (λ (c : AuditCode). IsFault logs (Found c head.vnode (count_at counts head.index))) (sym is)
-    (rising, single, (head.stamp, no_source logs counts now recent head e rising run next there h, none_earlier logs counts head rising run.sound next))
-source_fault logs counts now recent head e OtherState told distinct rising single run next there h is =
-    subst (λ (c : AuditCode). IsFault logs (Found c head.vnode (count_at counts head.index))) (sym is)
+source_fault : (logs : List Log) (counts : List ℕ) (now : List Log) (recent : Recent) (head : Head) (e : Entry) (code : EntryFault) → AreDistinct (ids_of logs) → NoneFalls logs → NoneTwice logs → HasRun logs counts now → IsNextBelow logs counts (length logs) head
+    → EntryIn logs head.index (count_at counts head.index) e → IsOfSource code → IsWrong [] now recent head.index e code → IsFaultAt logs code head.vnode (count_at counts head.index)
+source_fault logs counts now recent head e NoSource distinct rising single run next there is h = (rising, single, (head.stamp, no_source logs counts now recent head e rising run next there h, none_earlier logs counts head rising run.sound next))
+source_fault logs counts now recent head e OtherState distinct rising single run next there is h =
     (rising, single, (head.stamp, other_state logs counts now recent head e distinct rising single run next there h, none_earlier logs counts head rising run.sound next))
-source_fault logs counts now recent head e Twice told distinct rising single run next there h is = absurd is
-source_fault logs counts now recent head e Falls told distinct rising single run next there h is = absurd is
-source_fault logs counts now recent head e GivenUp told distinct rising single run next there h is = absurd is
-source_fault logs counts now recent head e Late told distinct rising single run next there h is = absurd is
-source_fault logs counts now recent head e Illegal told distinct rising single run next there h is = absurd is
+source_fault logs counts now recent head e Twice distinct rising single run next there is h = absurd is
+source_fault logs counts now recent head e Falls distinct rising single run next there is h = absurd is
+source_fault logs counts now recent head e GivenUp distinct rising single run next there is h = absurd is
+source_fault logs counts now recent head e Late distinct rising single run next there is h = absurd is
+source_fault logs counts now recent head e Illegal distinct rising single run next there is h = absurd is
+
+-- so what is told of the next entry is the first fault of the journals
+pub told_fault : (logs : List Log) (counts : List ℕ) (now : List Log) (recent : Recent) (head : Head) (e : Entry) (fault : AuditFault) → AreDistinct (ids_of logs) → NoneFalls logs → NoneTwice logs → AreJournals logs → max_entries ≤ recent.always → HasRun logs counts now
+    → IsNextBelow logs counts (length logs) head → EntryIn logs head.index (count_at counts head.index) e → IsToldOf [] now recent head.index e fault → IsFault logs fault × IsOneOf IsOfSource fault
+told_fault logs counts now recent head e NoMemory distinct rising single legal all run next there told = (rising, tt)
+told_fault logs counts now recent head e (Found code vnode place) distinct rising single legal all run next there (id, end, wrong) =
+    let i = head.index in
+    let is = of_source logs counts now recent i e code distinct rising single legal all run there wrong in
+    let so_far = run.fronts.each i there.0 in
+    let own : head.vnode ≡ vnode = next.1.1 ∙ sym (ap (λ (l : Log). l.vnode) so_far) ∙ id in
+    let size : length (log_at now i).entries ≡ length (take (count_at counts i) (log_at logs i).entries) = ap (λ (l : Log). length l.entries) so_far in
+    let within : count_at counts i < length (log_at logs i).entries = slice_get_within _ _ e there.1 in
+    let taken = length-take-le (count_at counts i) (log_at logs i).entries (omega (arith, within)) in
+    let at : count_at counts i ≡ place = omega (arith, size, taken, end) in (
+      subst (λ (v : ℕ). IsFaultAt logs code v place) own (subst (λ (p : ℕ). IsFaultAt logs code head.vnode p) at (source_fault logs counts now recent head e code distinct rising single run next there is wrong)),
+      is,
+    )

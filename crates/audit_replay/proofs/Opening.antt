@@ -15,7 +15,7 @@ use Rattle.audit_replay.specs.Order.{Step, steps_of}
 use Rattle.audit_replay.specs.Turns.{EntryIn, count_at}
 use Rattle.audit_replay.proofs.Grown.{fronts_are}
 use Rattle.audit_replay.proofs.Steps.{begins}
-use Rattle.audit_faults.specs.declared.fault.FollowFault.{FollowFault}
+use Rattle.audit_faults.specs.declared.fault.AuditFault.{AuditFault}
 use Rattle.audit_replay.specs.declared.kept.Kept.{Kept}
 use Rattle.audit_replay.specs.declared.kept.Recent.{Recent}
 use Rattle.audit_replay.specs.Kept.{IsLeft}
@@ -110,6 +110,6 @@ on_any (Ok x) P h = h
 on_any (Err e) P h = tt
 
 -- a fault that is passed on is the one that was told
-pub passed : {T : Type 0} (r : Result T FollowFault) (fault : FollowFault) (P : FollowFault → Type 0) → IsErrAnd r (λ e. e ≡ fault) → P fault → IfErr r P
+pub passed : {T : Type 0} (r : Result T AuditFault) (fault : AuditFault) (P : AuditFault → Type 0) → IsErrAnd r (λ e. e ≡ fault) → P fault → IfErr r P
 passed (Ok x) fault P was h = tt
 passed (Err e) fault P was h = subst P (sym was) h

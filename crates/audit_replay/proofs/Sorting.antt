@@ -10,8 +10,8 @@ use Rattle.audit_replay.specs.Interleaved.{ids_of}
 use Rattle.audit_replay.specs.declared.heads.Head.{Head}
 use Rattle.audit_replay.specs.Turns.{EntryIn, HasHappened, IsToCome, IsNotAfter, IsNextBelow, IsHead, NoneBelow, count_at}
 use Rattle.audit_replay.specs.Faulty.{NoneFalls, NoneTwice, TwiceAt, IsFault}
-use Rattle.audit_replay.specs.declared.audit_fault.AuditFault.TheVariants.{Found}
-use Rattle.audit_replay.specs.declared.audit_fault.AuditCode.TheVariants.{Twice}
+use Rattle.audit_faults.specs.declared.fault.AuditFault.TheVariants.{Found}
+use Rattle.audit_faults.specs.declared.fault.EntryFault.TheVariants.{Twice}
 use Rattle.audit_replay.specs.Sorting.{left, IsSplit, IsOnce, IsLast}
 use Rattle.audit_replay.proofs.Firsts.{not_after_trans}
 use Rattle.audit_replay.proofs.Rising.{rises, rises_or_same, entry_before, one_entry}

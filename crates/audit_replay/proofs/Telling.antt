@@ -13,10 +13,10 @@ use Rattle.world.specs.Represents.{log_at, with_entry_at}
 use Rattle.audit_replay.specs.Turns.{EntryIn}
 use Rattle.audit_replay.proofs.Next.{at_end}
 use Rattle.audit_replay.proofs.Rising.{one_entry}
-use Rattle.audit_faults.specs.declared.fault.FollowCode.{FollowCode}
-use Rattle.audit_faults.specs.declared.fault.FollowCode.TheVariants.{Twice, Falls, NoSource, OtherState, GivenUp, Late, Illegal}
-use Rattle.audit_faults.specs.declared.fault.FollowFault.{FollowFault}
-use Rattle.audit_faults.specs.declared.fault.FollowFault.TheVariants.{Found, NoMemory}
+use Rattle.audit_faults.specs.declared.fault.EntryFault.{EntryFault}
+use Rattle.audit_faults.specs.declared.fault.EntryFault.TheVariants.{Twice, Falls, NoSource, OtherState, GivenUp, Late, Illegal}
+use Rattle.audit_faults.specs.declared.fault.AuditFault.{AuditFault}
+use Rattle.audit_faults.specs.declared.fault.AuditFault.TheVariants.{Found, NoMemory}
 use Rattle.audit_replay.specs.declared.kept.Kept.{Kept}
 use Rattle.audit_replay.specs.declared.kept.Kept.TheVariants as kept
 use Rattle.audit_replay.specs.declared.kept.Recent.{Recent}
@@ -56,7 +56,7 @@ not_read fronts logs last recent answers run index at stamp key (inr (inr (inr (
     let e : Read h.stamp other ≡ Read stamp key = one_entry logs index at (Read h.stamp other) (Read stamp key) h.there there in
     differs (let k : other ≡ key = cc in k)
 
-merge_wrong : (fronts : List ℕ) (logs : List Log) (last : Option ℕ) (recent : Recent) (answers : List (List Kept)) → HasFollowed fronts logs last recent answers → (i stamp : ℕ) (key : Key) (from at : ℕ) (state : State) (code : FollowCode) → IsBehind fronts i (length (log_at logs i).entries) → IsMergeFault logs answers key from at state code
+merge_wrong : (fronts : List ℕ) (logs : List Log) (last : Option ℕ) (recent : Recent) (answers : List (List Kept)) → HasFollowed fronts logs last recent answers → (i stamp : ℕ) (key : Key) (from at : ℕ) (state : State) (code : EntryFault) → IsBehind fronts i (length (log_at logs i).entries) → IsMergeFault logs answers key from at state code
     → IsWrong fronts logs recent i (Merge stamp key from at state) code
 merge_wrong fronts logs last recent answers run i stamp key from at state NoSource behind (inl none) = (stamp, key, from, at, state, (refl, behind), λ read. none read.0 read.2.1.0 read.1)
 merge_wrong fronts logs last recent answers run i stamp key from at state NoSource behind (inr (index, is, not)) = (
@@ -88,7 +88,7 @@ merge_wrong fronts logs last recent answers run i stamp key from at state Falls 
 merge_wrong fronts logs last recent answers run i stamp key from at state Late behind h = absurd h
 merge_wrong fronts logs last recent answers run i stamp key from at state Illegal behind h = absurd h
 
-source_wrong : (fronts : List ℕ) (logs : List Log) (last : Option ℕ) (recent : Recent) (answers : List (List Kept)) → HasFollowed fronts logs last recent answers → (i : ℕ) (e : Entry) (code : FollowCode) → IsBehind fronts i (length (log_at logs i).entries) → IsSourceFault logs answers e code → IsWrong fronts logs recent i e code
+source_wrong : (fronts : List ℕ) (logs : List Log) (last : Option ℕ) (recent : Recent) (answers : List (List Kept)) → HasFollowed fronts logs last recent answers → (i : ℕ) (e : Entry) (code : EntryFault) → IsBehind fronts i (length (log_at logs i).entries) → IsSourceFault logs answers e code → IsWrong fronts logs recent i e code
 source_wrong fronts logs last recent answers run i (Merge stamp key from at state) code behind h = merge_wrong fronts logs last recent answers run i stamp key from at state code behind h
 source_wrong fronts logs last recent answers run i (Put stamp key seen content dot) code behind h = absurd h
 source_wrong fronts logs last recent answers run i (Read stamp key) code behind h = absurd h
@@ -96,7 +96,7 @@ source_wrong fronts logs last recent answers run i (Restart stamp) code behind h
 
 -- ---- stamps
 
-stamp_wrong : (fronts : List ℕ) (logs : List Log) (recent : Recent) (last : Option ℕ) (newest i : ℕ) (e : Entry) (code : FollowCode) → IsNewest logs last newest → IsStampFault last newest i (stamp_of e) code → IsWrong fronts logs recent i e code
+stamp_wrong : (fronts : List ℕ) (logs : List Log) (recent : Recent) (last : Option ℕ) (newest i : ℕ) (e : Entry) (code : EntryFault) → IsNewest logs last newest → IsStampFault last newest i (stamp_of e) code → IsWrong fronts logs recent i e code
 stamp_wrong fronts logs recent None newest i e code is h = absurd h
 stamp_wrong fronts logs recent (Some s) newest i e Twice (place, a, there, end, same) h = (newest, place, a, there, h.0, same ∙ h.1)
 stamp_wrong fronts logs recent (Some s) newest i e Falls (place, a, there, end, same) h =
@@ -120,18 +120,18 @@ newest_more logs i e inside =
 
 -- ---- what is told
 
-placed_wrong : (fronts : List ℕ) (logs : List Log) (last : Option ℕ) (recent : Recent) (answers : List (List Kept)) → HasFollowed fronts logs last recent answers → (i : ℕ) (e : Entry) (code : FollowCode) → IsPlaceFault fronts logs answers i e code → IsWrong fronts logs recent i e code
-placed_wrong fronts logs last recent answers run i e code (behind, inl (is, lacks)) = subst (λ (c : FollowCode). IsWrong fronts logs recent i e c) (sym is) (inr (behind, lacks))
+placed_wrong : (fronts : List ℕ) (logs : List Log) (last : Option ℕ) (recent : Recent) (answers : List (List Kept)) → HasFollowed fronts logs last recent answers → (i : ℕ) (e : Entry) (code : EntryFault) → IsPlaceFault fronts logs answers i e code → IsWrong fronts logs recent i e code
+placed_wrong fronts logs last recent answers run i e code (behind, inl (is, lacks)) = subst (λ (c : EntryFault). IsWrong fronts logs recent i e c) (sym is) (inr (behind, lacks))
 placed_wrong fronts logs last recent answers run i e code (behind, inr source) = source_wrong fronts logs last recent answers run i e code behind source
 
-pub checked : (fronts : List ℕ) (logs : List Log) (last : Option ℕ) (recent : Recent) (answers : List (List Kept)) (newest i : ℕ) (e : Entry) (code : FollowCode) → HasFollowed fronts logs last recent answers → IsNewest logs last newest → IsFoundWrong fronts logs answers last newest i e code → IsWrong fronts logs recent i e code
+pub checked : (fronts : List ℕ) (logs : List Log) (last : Option ℕ) (recent : Recent) (answers : List (List Kept)) (newest i : ℕ) (e : Entry) (code : EntryFault) → HasFollowed fronts logs last recent answers → IsNewest logs last newest → IsFoundWrong fronts logs answers last newest i e code → IsWrong fronts logs recent i e code
 checked fronts logs last recent answers newest i e code run is (inl stamp) = stamp_wrong fronts logs recent last newest i e code is stamp
 checked fronts logs last recent answers newest i e code run is (inr place) = placed_wrong fronts logs last recent answers run i e code place
 
 -- where it stops at this code
-pub stopped : (r : Result (Unit {0}) FollowFault) (fronts : List ℕ) (logs : List Log) (recent : Recent) (i vnode place : ℕ) (e : Entry) (code : FollowCode) → r ≡ Err (Found code vnode place) → (log_at logs i).vnode ≡ vnode → length (log_at logs i).entries ≡ place → IsWrong fronts logs recent i e code
+pub stopped : (r : Result (Unit {0}) AuditFault) (fronts : List ℕ) (logs : List Log) (recent : Recent) (i vnode place : ℕ) (e : Entry) (code : EntryFault) → r ≡ Err (Found code vnode place) → (log_at logs i).vnode ≡ vnode → length (log_at logs i).entries ≡ place → IsWrong fronts logs recent i e code
     → IfErr r (λ fault. IsToldOf fronts logs recent i e fault)
-stopped r fronts logs recent i vnode place e code is id end wrong = subst (λ (s : Result (Unit {0}) FollowFault). IfErr s (λ fault. IsToldOf fronts logs recent i e fault)) (sym is) (id, end, wrong)
+stopped r fronts logs recent i vnode place e code is id end wrong = subst (λ (s : Result (Unit {0}) AuditFault). IfErr s (λ fault. IsToldOf fronts logs recent i e fault)) (sym is) (id, end, wrong)
 
 pub lacked : (fronts : List ℕ) (logs : List Log) (last : Option ℕ) (recent : Recent) (answers : List (List Kept)) (i : ℕ) (e : Entry) → HasFollowed fronts logs last recent answers → IsAbove last (stamp_of e) → IsExpected fronts logs answers i e → IsToldOf fronts logs recent i e NoMemory
 lacked fronts logs last recent answers i e run above place = (after_all fronts logs last recent answers run e above, founded fronts logs last recent answers i e run place)

@@ -1,4 +1,4 @@
--- Why journals are no run of the world, the first in the order of these codes.
+-- Why whole journals are no run of the world: the first fault.
 use Rattle.std.specs.Prelude.{◌≡◌, ◌<◌, ◌≤◌, ◌+◌, ◌⊎◌, ℕ, List, take, length}
 use Rattle.key_state.specs.declared.content.Key.{Key}
 use Rattle.key_state.specs.State.{State}
@@ -8,10 +8,10 @@ use Rattle.journal.specs.Replay.{IsReplay}
 use Rattle.world.specs.Represents.{log_at}
 use Rattle.journal.specs.Stamps.{stamp_of}
 use Rattle.audit_replay.specs.Turns.{EntryIn}
-use Rattle.audit_replay.specs.declared.audit_fault.AuditCode.{AuditCode}
-use Rattle.audit_replay.specs.declared.audit_fault.AuditCode.TheVariants.{Twice, Falls, NoSource, OtherState}
-use Rattle.audit_replay.specs.declared.audit_fault.AuditFault.{AuditFault}
-use Rattle.audit_replay.specs.declared.audit_fault.AuditFault.TheVariants.{Found, NoMemory}
+use Rattle.audit_faults.specs.declared.fault.EntryFault.{EntryFault}
+use Rattle.audit_faults.specs.declared.fault.EntryFault.TheVariants.{Twice, Falls, NoSource, OtherState, GivenUp, Late, Illegal}
+use Rattle.audit_faults.specs.declared.fault.AuditFault.{AuditFault}
+use Rattle.audit_faults.specs.declared.fault.AuditFault.TheVariants.{Found, NoMemory}
 
 -- an entry of a vnode's journal, by the vnode's identifier
 abbrev pub EntryAt : List Log → ℕ → ℕ → Entry → Type 0
@@ -52,14 +52,18 @@ NoneTwice logs = (vnode place stamp : ℕ) → TwiceAt logs vnode place stamp �
 abbrev pub HasNoSuchSource : List Log → ℕ → ℕ → ℕ → Type 0
 HasNoSuchSource logs vnode place stamp = NoSourceAt logs vnode place stamp ⊎ OtherStateAt logs vnode place stamp
 
--- each code, told at a vnode and a place, where the codes before it stand nowhere, and it stands nowhere earlier
-abbrev pub IsFaultAt : List Log → AuditCode → ℕ → ℕ → Type 0
+-- Each fault, told at a vnode and a place, where the faults before it stand nowhere, and it stands nowhere earlier: a stamp that falls comes first, then one that
+-- stands twice, then a merge's source. The others are told of no whole journals: no answer is given up, no entry comes late, and each journal is legal.
+abbrev pub IsFaultAt : List Log → EntryFault → ℕ → ℕ → Type 0
 IsFaultAt logs Falls vnode place = FallsAt logs vnode place × ((v p : ℕ) → FallsAt logs v p → (vnode < v) ⊎ ((vnode ≡ v) × (place ≤ p)))
 IsFaultAt logs Twice vnode place = NoneFalls logs × ((stamp : ℕ) × TwiceAt logs vnode place stamp × ((v p s : ℕ) → TwiceAt logs v p s → (stamp < s) ⊎ ((stamp ≡ s) × (vnode ≤ v))))
 IsFaultAt logs NoSource vnode place = NoneFalls logs × NoneTwice logs
     × ((stamp : ℕ) × NoSourceAt logs vnode place stamp × ((v p s : ℕ) → HasNoSuchSource logs v p s → stamp ≤ s))
 IsFaultAt logs OtherState vnode place = NoneFalls logs × NoneTwice logs
     × ((stamp : ℕ) × OtherStateAt logs vnode place stamp × ((v p s : ℕ) → HasNoSuchSource logs v p s → stamp ≤ s))
+IsFaultAt logs GivenUp vnode place = ⊥
+IsFaultAt logs Late vnode place = ⊥
+IsFaultAt logs Illegal vnode place = ⊥
 
 -- an audit's fault is one of these, or want of memory, which no stamp that falls is told as
 abbrev pub IsFault : List Log → AuditFault → Type 0

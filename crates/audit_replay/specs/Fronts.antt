@@ -6,10 +6,6 @@ use Rattle.journal.specs.Entry.{Read, Merge}
 use Rattle.journal.specs.Logs.{Log}
 use Rattle.journal.specs.Replay.{IsReplay}
 use Rattle.world.specs.Represents.{log_at}
-use Rattle.audit_replay.specs.declared.audit_fault.AuditCode.{AuditCode}
-use Rattle.audit_replay.specs.declared.audit_fault.AuditCode.TheVariants as own
-use Rattle.audit_faults.specs.declared.fault.FollowCode.{FollowCode}
-use Rattle.audit_faults.specs.declared.fault.FollowCode.TheVariants.{Twice, Falls, NoSource, OtherState, GivenUp, Late, Illegal}
 use Rattle.audit_replay.specs.Interleaved.{IsInterleaving}
 use Rattle.audit_replay.specs.Sorting.{IsSplit}
 use Rattle.audit_replay.specs.Beginnings.{AreFronts}
@@ -30,23 +26,3 @@ pub record HasRun (logs : List Log) (counts : List ℕ) (now : List Log) : Type 
   pub fronts : AreFronts logs counts now
   pub sound : AreSound logs counts
   pub run : IsInterleaving now
-
--- what is wrong is a merge's source
-abbrev pub IsCodeOfSource : FollowCode → Type 0
-IsCodeOfSource NoSource = Unit {0}
-IsCodeOfSource OtherState = Unit {0}
-IsCodeOfSource Twice = ⊥
-IsCodeOfSource Falls = ⊥
-IsCodeOfSource GivenUp = ⊥
-IsCodeOfSource Late = ⊥
-IsCodeOfSource Illegal = ⊥
-
--- an audit tells it so
-abbrev pub IsCodeOf : FollowCode → AuditCode → Type 0
-IsCodeOf NoSource code = code ≡ own.NoSource
-IsCodeOf OtherState code = code ≡ own.OtherState
-IsCodeOf Twice code = ⊥
-IsCodeOf Falls code = ⊥
-IsCodeOf GivenUp code = ⊥
-IsCodeOf Late code = ⊥
-IsCodeOf Illegal code = ⊥

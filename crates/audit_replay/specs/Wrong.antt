@@ -9,10 +9,10 @@ use Rattle.journal.specs.Replay.{IsReplay}
 use Rattle.journal.specs.Stamps.{stamp_of}
 use Rattle.world.specs.Represents.{log_at}
 use Rattle.audit_replay.specs.Turns.{EntryIn}
-use Rattle.audit_faults.specs.declared.fault.FollowCode.{FollowCode}
-use Rattle.audit_faults.specs.declared.fault.FollowCode.TheVariants.{Twice, Falls, NoSource, OtherState, GivenUp, Late, Illegal}
-use Rattle.audit_faults.specs.declared.fault.FollowFault.{FollowFault}
-use Rattle.audit_faults.specs.declared.fault.FollowFault.TheVariants.{Found, NoMemory}
+use Rattle.audit_faults.specs.declared.fault.EntryFault.{EntryFault}
+use Rattle.audit_faults.specs.declared.fault.EntryFault.TheVariants.{Twice, Falls, NoSource, OtherState, GivenUp, Late, Illegal}
+use Rattle.audit_faults.specs.declared.fault.AuditFault.{AuditFault}
+use Rattle.audit_faults.specs.declared.fault.AuditFault.TheVariants.{Found, NoMemory}
 use Rattle.audit_replay.specs.declared.kept.Kept.{Kept}
 use Rattle.audit_replay.specs.declared.kept.Kept.TheVariants as kept
 use Rattle.audit_replay.specs.Beginnings.{AreWhole, IsBehind, IsInFront}
@@ -42,7 +42,7 @@ IsHeldAt fronts logs recent index at = (all : List Kept) × AreAnswers fronts lo
 
 -- What is wrong with an entry that is the next one of the vnode with this index, where these entries were followed, the first ones of each vnode as what was there
 -- before, and of the recent ones of each vnode it was kept what tells what they answered.
-abbrev pub IsWrong : List ℕ → List Log → Recent → ℕ → Entry → FollowCode → Type 0
+abbrev pub IsWrong : List ℕ → List Log → Recent → ℕ → Entry → EntryFault → Type 0
 -- its stamp stands in the journal of another vnode
 IsWrong fronts logs recent index e Twice = (other place : ℕ) × (a : Entry) × EntryIn logs other place a × (other ≢ index) × (stamp_of a ≡ stamp_of e)
 -- its stamp is not above that of the entry before it in its journal
@@ -88,7 +88,7 @@ IsAfterAll logs e = (index place : ℕ) (a : Entry) → EntryIn logs index place
 
 -- what is told of the next entry of the vnode with this index: what is wrong with it, at its identifier and place; or memory was refused, and none of
 -- these faults, but that it may not be legal
-abbrev pub IsToldOf : List ℕ → List Log → Recent → ℕ → Entry → FollowFault → Type 0
+abbrev pub IsToldOf : List ℕ → List Log → Recent → ℕ → Entry → AuditFault → Type 0
 IsToldOf fronts logs recent index e (Found code vnode place) = ((log_at logs index).vnode ≡ vnode) × (length (log_at logs index).entries ≡ place) × IsWrong fronts logs recent index e code
 IsToldOf fronts logs recent index e NoMemory = IsAfterAll logs e × IsFounded fronts logs index e
 
@@ -99,7 +99,7 @@ abbrev pub IsNewest : List Log → Option ℕ → ℕ → Type 0
 IsNewest logs last newest = MatchOption last (Unit {0}) (λ stamp. (place : ℕ) × (a : Entry) × EntryIn logs newest place a × (place + 1 ≡ length (log_at logs newest).entries) × (stamp_of a ≡ stamp))
 
 -- a stamp that isn't above the last one, which was that of the vnode with index newest
-abbrev pub IsStampWrong : ℕ → ℕ → ℕ → ℕ → FollowCode → Type 0
+abbrev pub IsStampWrong : ℕ → ℕ → ℕ → ℕ → EntryFault → Type 0
 IsStampWrong last newest index stamp Falls = (newest ≡ index) × (stamp ≤ last)
 IsStampWrong last newest index stamp Twice = (newest ≢ index) × (last ≡ stamp)
 IsStampWrong last newest index stamp Late = stamp < last
@@ -108,7 +108,7 @@ IsStampWrong last newest index stamp OtherState = ⊥
 IsStampWrong last newest index stamp GivenUp = ⊥
 IsStampWrong last newest index stamp Illegal = ⊥
 
-abbrev pub IsStampFault : Option ℕ → ℕ → ℕ → ℕ → FollowCode → Type 0
+abbrev pub IsStampFault : Option ℕ → ℕ → ℕ → ℕ → EntryFault → Type 0
 IsStampFault last newest index stamp code = MatchOption last ⊥ (λ before. IsStampWrong before newest index stamp code)
 
 -- no read of this key is kept at a place
@@ -121,7 +121,7 @@ abbrev pub IsIndexOf : List Log → ℕ → ℕ → Type 0
 IsIndexOf logs index from = (index < length logs) × ((log_at logs index).vnode ≡ from)
 
 -- what is kept where a merge names an entry
-abbrev pub IsMergeFault : List Log → List (List Kept) → Key → ℕ → ℕ → State → FollowCode → Type 0
+abbrev pub IsMergeFault : List Log → List (List Kept) → Key → ℕ → ℕ → State → EntryFault → Type 0
 IsMergeFault logs answers key from at state NoSource = ((index : ℕ) → index < length logs → (log_at logs index).vnode ≢ from) ⊎ ((index : ℕ) × IsIndexOf logs index from × IsNotKept answers index at key)
 IsMergeFault logs answers key from at state OtherState = (index : ℕ) × IsIndexOf logs index from × (kept_at answers index at ≡ Some (kept.Read key)) × (IsAnswered logs answers index at key state → ⊥)
 IsMergeFault logs answers key from at state GivenUp = (index : ℕ) × IsIndexOf logs index from × (kept_at answers index at ≡ Some kept.GivenUp)
@@ -131,16 +131,16 @@ IsMergeFault logs answers key from at state Late = ⊥
 IsMergeFault logs answers key from at state Illegal = ⊥
 
 -- the same of an entry, which is a merge
-abbrev pub IsSourceFault : List Log → List (List Kept) → Entry → FollowCode → Type 0
+abbrev pub IsSourceFault : List Log → List (List Kept) → Entry → EntryFault → Type 0
 IsSourceFault logs answers (Merge stamp key from at state) code = IsMergeFault logs answers key from at state code
 IsSourceFault logs answers (Put stamp key seen content dot) code = ⊥
 IsSourceFault logs answers (Read stamp key) code = ⊥
 IsSourceFault logs answers (Restart stamp) code = ⊥
 
 -- an entry that is behind the front of the vnode with this index comes before the fronts are whole, or its source is wrong
-abbrev pub IsPlaceFault : List ℕ → List Log → List (List Kept) → ℕ → Entry → FollowCode → Type 0
+abbrev pub IsPlaceFault : List ℕ → List Log → List (List Kept) → ℕ → Entry → EntryFault → Type 0
 IsPlaceFault fronts logs answers index e code = IsBehind fronts index (length (log_at logs index).entries) × (((code ≡ Late) × ((other : ℕ) × (other < length logs) × IsInFront fronts logs other)) ⊎ IsSourceFault logs answers e code)
 
 -- what an entry is found to be
-abbrev pub IsFoundWrong : List ℕ → List Log → List (List Kept) → Option ℕ → ℕ → ℕ → Entry → FollowCode → Type 0
+abbrev pub IsFoundWrong : List ℕ → List Log → List (List Kept) → Option ℕ → ℕ → ℕ → Entry → EntryFault → Type 0
 IsFoundWrong fronts logs answers last newest index e code = IsStampFault last newest index (stamp_of e) code ⊎ IsPlaceFault fronts logs answers index e code

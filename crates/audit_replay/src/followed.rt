@@ -9,7 +9,7 @@ ghost use Rattle.audit_replay.specs.Followed.{HasFollowed, HasSource, IsAbove, I
 
 use crate::again::{Refusal, happen};
 use crate::kept::{Answers, Found, Kept, Recent};
-use audit_faults::{FollowCode, FollowFault};
+use audit_faults::{AuditFault, EntryFault};
 use journal::{Entry, Said};
 use key_state::{Key, KeyState};
 use std::alloc::{AllocError, Global};
@@ -46,23 +46,23 @@ fn check_merge(
     from: u32,
     at: u32,
     state: &KeyState,
-) -> Result<(), FollowCode>
+) -> Result<(), EntryFault>
     requires size { length answers.now ≡ length vnodes.now }
     ensures ok { OnOk result (IsSourceKept vnodes.now answers.now key.now from at state.now) }
     ensures err { IfErr result (λ code. IsMergeFault vnodes.now answers.now key.now from at state.now code) }
 {
     let Some(index) = index_of(vnodes, from) else {
-        return Err(FollowCode::NoSource);
+        return Err(EntryFault::NoSource);
     };
     match answers[index].at(at) {
-        Found::Nothing => Err(FollowCode::NoSource),
-        Found::GivenUp => Err(FollowCode::GivenUp),
+        Found::Nothing => Err(EntryFault::NoSource),
+        Found::GivenUp => Err(EntryFault::GivenUp),
         Found::Read(own) => {
             if own != key {
-                return Err(FollowCode::NoSource);
+                return Err(EntryFault::NoSource);
             }
             if !is_answer(&vnodes[index], &answers[index], at, key, state) {
-                return Err(FollowCode::OtherState);
+                return Err(EntryFault::OtherState);
             }
             Ok(())
         }
@@ -89,7 +89,7 @@ pub(crate) struct Followed {
     /// Of which of the last entries of each vnode it is kept what tells what they answered.
     pub(crate) recent: Recent,
     /// The fault that was found, after which nothing is followed.
-    pub(crate) fault: Option<FollowFault>,
+    pub(crate) fault: Option<AuditFault>,
 }
 
 /// Nothing was followed of vnodes with these identifiers, of whose journals these are the fronts.
@@ -127,7 +127,7 @@ pub(crate) fn open(
 
 impl Followed {
     // Whether an entry's stamp is above the last one.
-    fn check_stamp(&self, index: usize, stamp: u64) -> Result<(), FollowCode>
+    fn check_stamp(&self, index: usize, stamp: u64) -> Result<(), EntryFault>
         ensures ok { OnOk result (IsAbove self.now.last stamp) }
         ensures err { IfErr result (λ code. IsStampFault self.now.last self.now.last_index index stamp code) }
     {
@@ -136,11 +136,11 @@ impl Followed {
                 if last < stamp {
                     Ok(())
                 } else if self.last_index == index {
-                    Err(FollowCode::Falls)
+                    Err(EntryFault::Falls)
                 } else if last == stamp {
-                    Err(FollowCode::Twice)
+                    Err(EntryFault::Twice)
                 } else {
-                    Err(FollowCode::Late)
+                    Err(EntryFault::Late)
                 }
             }
             None => Ok(()),
@@ -148,7 +148,7 @@ impl Followed {
     }
 
     // Whether an entry is no merge, or has its source.
-    fn check_source(&self, entry: &Entry) -> Result<(), FollowCode>
+    fn check_source(&self, entry: &Entry) -> Result<(), EntryFault>
         requires size { length self.now.answers.items ≡ length self.now.vnodes.items }
         ensures ok { OnOk result (HasSource self.now.vnodes.items self.now.answers.items entry.now) }
         ensures err { IfErr result (λ code. IsSourceFault self.now.vnodes.items self.now.answers.items entry.now code) }
@@ -189,7 +189,7 @@ impl Followed {
     }
 
     // Whether an entry is of its vnode's front, or comes once the fronts are whole and has its source.
-    fn check_place(&self, index: usize, entry: &Entry) -> Result<(), FollowCode>
+    fn check_place(&self, index: usize, entry: &Entry) -> Result<(), EntryFault>
         requires size { length self.now.answers.items ≡ length self.now.vnodes.items }
         requires inside { index < length self.now.vnodes.items }
         ensures ok { OnOk result (IsExpected self.now.fronts.items self.now.vnodes.items self.now.answers.items index entry.now) }
@@ -199,13 +199,13 @@ impl Followed {
             return Ok(());
         }
         match self.lacking() {
-            Some(_) => Err(FollowCode::Late),
+            Some(_) => Err(EntryFault::Late),
             None => self.check_source(entry),
         }
     }
 
     /// Whether an entry may be the next one of all, but that it may not follow those at its vnode.
-    pub(crate) fn check(&self, index: usize, entry: &Entry) -> Result<(), FollowCode>
+    pub(crate) fn check(&self, index: usize, entry: &Entry) -> Result<(), EntryFault>
         requires size { length self.now.answers.items ≡ length self.now.vnodes.items }
         requires inside { index < length self.now.vnodes.items }
         ensures above { OnOk result (IsAbove self.now.last (stamp_of entry.now)) }
@@ -219,11 +219,11 @@ impl Followed {
     }
 
     // What is wrong with the next entry of a vnode.
-    fn fault_at(&self, index: usize, code: FollowCode) -> FollowFault
+    fn fault_at(&self, index: usize, code: EntryFault) -> AuditFault
         requires inside { index < length self.now.vnodes.items }
-        ensures { result ≡ FollowFault.Found code (log_at self.now.vnodes.items index).vnode (length (log_at self.now.vnodes.items index).entries) }
+        ensures { result ≡ AuditFault.Found code (log_at self.now.vnodes.items index).vnode (length (log_at self.now.vnodes.items index).entries) }
     {
-        FollowFault::Found {
+        AuditFault::Found {
             code,
             vnode: self.vnodes[index].id(),
             place: self.vnodes[index].journal().len(),
@@ -231,9 +231,9 @@ impl Followed {
     }
 
     /// Stops at what is wrong with the next entry of a vnode.
-    pub(crate) fn stop(&mut self, index: usize, code: FollowCode) -> Result<(), FollowFault>
+    pub(crate) fn stop(&mut self, index: usize, code: EntryFault) -> Result<(), AuditFault>
         requires inside { index < length self.old.vnodes.items }
-        ensures err { result ≡ Err (FollowFault.Found code (log_at self.old.vnodes.items index).vnode (length (log_at self.old.vnodes.items index).entries)) }
+        ensures err { result ≡ Err (AuditFault.Found code (log_at self.old.vnodes.items index).vnode (length (log_at self.old.vnodes.items index).entries)) }
         ensures fault { IfErr result (λ fault. self.new ≡ record self.old { fault = Some fault }) }
     {
         let fault = self.fault_at(index, code);
@@ -242,7 +242,7 @@ impl Followed {
     }
 
     // An entry of a vnode happens again.
-    fn step(&mut self, alloc: Global, index: usize, entry: Entry) -> Result<(), FollowFault>
+    fn step(&mut self, alloc: Global, index: usize, entry: Entry) -> Result<(), AuditFault>
         requires run { HasFollowed self.old.fronts.items self.old.vnodes.items self.old.last self.old.recent self.old.answers.items }
         requires inside { index < length self.old.vnodes.items }
         requires above { IsAbove self.old.last (stamp_of entry) }
@@ -256,13 +256,13 @@ impl Followed {
         ensures fault { self.new.fault ≡ self.old.fault }
         ensures told { IfErr result (λ fault. IsToldOf self.old.fronts.items self.old.vnodes.items self.old.recent index entry fault) }
     {
-        let illegal = self.fault_at(index, FollowCode::Illegal);
+        let illegal = self.fault_at(index, EntryFault::Illegal);
         let is_in_front = self.is_in_front(index);
         let stamp = entry.stamp();
         let kept = match happen(alloc, &mut self.vnodes[index], entry) {
             Ok((_, kept)) => kept_behind(is_in_front, kept),
             Err(Refusal::Illegal) => return Err(illegal),
-            Err(Refusal::NoMemory) => return Err(FollowFault::NoMemory),
+            Err(Refusal::NoMemory) => return Err(AuditFault::NoMemory),
         };
         self.answers[index].keep(kept, self.recent)?;
         self.last = Some(stamp);
@@ -276,7 +276,7 @@ impl Followed {
         alloc: Global,
         index: usize,
         entry: Entry,
-    ) -> Result<(), FollowFault>
+    ) -> Result<(), AuditFault>
         requires run { HasFollowed self.old.fronts.items self.old.vnodes.items self.old.last self.old.recent self.old.answers.items }
         requires inside { index < length self.old.vnodes.items }
         requires above { IsAbove self.old.last (stamp_of entry) }
@@ -306,7 +306,7 @@ impl Followed {
         alloc: Global,
         index: usize,
         entry: &Entry,
-    ) -> Result<(), FollowFault>
+    ) -> Result<(), AuditFault>
         requires run { HasFollowed self.old.fronts.items self.old.vnodes.items self.old.last self.old.recent self.old.answers.items }
         requires inside { index < length self.old.vnodes.items }
         requires above { IsAbove self.old.last (stamp_of entry.now) }
@@ -326,8 +326,8 @@ impl Followed {
         match entry.copy(alloc) {
             Ok(copy) => self.go_on(alloc, index, copy),
             Err(_) => {
-                self.fault = Some(FollowFault::NoMemory);
-                Err(FollowFault::NoMemory)
+                self.fault = Some(AuditFault::NoMemory);
+                Err(AuditFault::NoMemory)
             }
         }
     }

@@ -3,7 +3,6 @@
 #![tactic(auto)]
 
 mod again;
-mod audit_fault;
 mod followed;
 mod heads;
 mod kept;
@@ -13,8 +12,7 @@ mod sources;
 mod stamps;
 mod turns;
 
-pub use audit_fault::{AuditCode, AuditFault};
-pub use audit_faults::{FollowCode, FollowFault};
+pub use audit_faults::{AuditFault, EntryFault};
 pub use kept::Recent;
 pub use rerun::Rerun;
 pub use sizes::bytes_of_entry;

@@ -8,7 +8,7 @@ ghost use Rattle.audit_replay.specs.Wrong.{IsAfterAll, IsFounded, IsHeld, IsTold
 
 use crate::followed::{Followed, index_of, open};
 use crate::kept::Recent;
-use audit_faults::FollowFault;
+use audit_faults::AuditFault;
 use journal::Entry;
 use std::alloc::{AllocError, Global};
 use std::marker::Model;
@@ -143,7 +143,7 @@ impl Rerun {
     }
 
     /// The fault that was found, if any. Where there is none, what has happened is one run of the world.
-    pub fn fault(&self) -> Option<FollowFault>
+    pub fn fault(&self) -> Option<AuditFault>
         ensures fault { result ≡ self.now.fault }
         ensures run { result ≡ None → IsRunFrom self.now.fronts self.now.logs }
     {
@@ -155,7 +155,7 @@ impl Rerun {
     ///
     /// A fault is that of this entry, and the last: from then on nothing happens. A merge that names an answer that is no longer kept is
     /// told as such, and only then, though it may be right.
-    pub fn go_on(&mut self, index: usize, entry: Entry) -> Result<(), FollowFault>
+    pub fn go_on(&mut self, index: usize, entry: Entry) -> Result<(), AuditFault>
         requires going { self.old.fault ≡ None }
         requires inside { index < length self.old.logs }
         ensures run { OnOk result (IsRunFrom self.old.fronts self.new.logs) }
@@ -176,7 +176,7 @@ impl Rerun {
     }
 
     /// The same of an entry that is lent: it is copied. A copy that is refused is want of memory, as any growth is.
-    pub fn go_on_lent(&mut self, index: usize, entry: &Entry) -> Result<(), FollowFault>
+    pub fn go_on_lent(&mut self, index: usize, entry: &Entry) -> Result<(), AuditFault>
         requires going { self.old.fault ≡ None }
         requires inside { index < length self.old.logs }
         ensures run { OnOk result (IsRunFrom self.old.fronts self.new.logs) }

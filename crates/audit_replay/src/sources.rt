@@ -3,18 +3,18 @@
 ghost use Rattle.std.specs.Prelude.{[], ◌≡◌, ◌≤◌, ◌+◌, IfOk, IfErr, OnOk, None, length, slice_set};
 ghost use Rattle.journal.specs.Logs.{max_entries};
 ghost use Rattle.world.specs.Represents.{AreDistinct, empty_logs};
+ghost use Rattle.audit_faults.specs.Codes.{IsOneOf, IsOfSource};
 ghost use Rattle.audit_replay.specs.Faulty.{NoneFalls, NoneTwice, AllHaveSources, IsFault};
-ghost use Rattle.audit_replay.specs.Fronts.{HasRun, IsCodeOfSource, IsCodeOf};
+ghost use Rattle.audit_replay.specs.Fronts.{HasRun};
 ghost use Rattle.audit_replay.specs.Interleaved.{IsInterleaving, ids_of};
 ghost use Rattle.audit_replay.specs.Rerun.{AreJournals};
 ghost use Rattle.audit_replay.specs.Turns.{IsNextBelow, count_at};
 
-use crate::audit_fault::{AuditCode, AuditFault};
 use crate::heads::Head;
 use crate::kept::Recent;
 use crate::rerun::Rerun;
 use crate::turns::{entry_at, heads_of, join, next_of, vnode_at};
-use audit_faults::{FollowCode, FollowFault};
+use audit_faults::AuditFault;
 use journal::Whole;
 use std::alloc::{AllocError, Global};
 
@@ -47,18 +47,6 @@ fn open(alloc: Global, journals: &[Whole<'_>]) -> Result<Rerun, AllocError>
     Rerun::new(alloc, &ids, all)
 }
 
-// The code of an audit for a merge without its source.
-fn code_of(code: FollowCode) -> AuditCode
-    requires { IsCodeOfSource code }
-    ensures { IsCodeOf code result }
-{
-    match code {
-        FollowCode::NoSource => AuditCode::NoSource,
-        FollowCode::OtherState => AuditCode::OtherState,
-        _ => unreachable!(),
-    }
-}
-
 // The next entry happens again. Its stamp is above all before it, it may follow them, and no answer was given up: so all that can be
 // wrong with it is its source.
 fn go_on(
@@ -84,22 +72,14 @@ fn go_on(
     ensures all { rerun.new.recent ≡ rerun.old.recent }
     ensures fronts { rerun.new.fronts ≡ rerun.old.fronts }
     ensures err { IfErr result (IsFault journals.now) }
+    ensures codes { IfErr result (IsOneOf IsOfSource) }
 {
     let Some(entry) = entry_at(journals, head.index, place as usize) else {
         unreachable!()
     };
-    match rerun.go_on_lent(head.index, entry) {
-        Ok(()) => {
-            counts[head.index] = place as usize + 1;
-            Ok(())
-        }
-        Err(FollowFault::NoMemory) => Err(AuditFault::NoMemory),
-        Err(FollowFault::Found { code, .. }) => Err(AuditFault::Found {
-            code: code_of(code),
-            vnode: head.vnode,
-            place,
-        }),
-    }
+    rerun.go_on_lent(head.index, entry)?;
+    counts[head.index] = place as usize + 1;
+    Ok(())
 }
 
 /// Tests that each merge has its state from an earlier read, as the entries happen again in the order of their stamps.
@@ -111,6 +91,7 @@ pub fn check_sources(alloc: Global, journals: &[Whole<'_>]) -> Result<(), AuditF
     ensures ok { OnOk result (IsInterleaving journals.now) }
     ensures sources { OnOk result (AllHaveSources journals.now) }
     ensures err { IfErr result (IsFault journals.now) }
+    ensures codes { IfErr result (IsOneOf IsOfSource) }
 {
     let mut rerun = open(alloc, journals)?;
     let mut counts = vec![in alloc; 0; journals.len()]?;

@@ -8,10 +8,11 @@ ghost use Rattle.audit_replay.specs.Turns.{EntryIn, count_at};
 ghost use Rattle.audit_replay.specs.Faulty.{NoneFalls, NoneTwice, IsFault, IsFaultAt};
 ghost use Rattle.audit_replay.specs.Sorting.{NoneFallsIn, IsFallOf, IsFallNotAfter, NoneFallsBelow, IsFirstFallBelow};
 ghost use Rattle.journal.specs.Entry.{Entry as Entered};
-ghost use Rattle.audit_replay.specs.declared.audit_fault.AuditCode.TheVariants.{Falls};
+ghost use Rattle.audit_faults.specs.declared.fault.EntryFault.TheVariants.{Falls, Twice};
+ghost use Rattle.audit_faults.specs.Codes.{IsOneOf};
 
-use crate::audit_fault::{AuditCode, AuditFault};
 use crate::turns::{entry_at, heads_of, join, len_at, next_of, vnode_at};
+use audit_faults::{AuditFault, EntryFault};
 use journal::Whole;
 use std::alloc::Global;
 
@@ -86,12 +87,13 @@ fn first_fall(journals: &[Whole<'_>]) -> Option<Fall>
 pub fn check_rising(journals: &[Whole<'_>]) -> Result<(), AuditFault>
     ensures ok { OnOk result (NoneFalls journals.now) }
     ensures err { IfErr result (IsFault journals.now) }
+    ensures codes { IfErr result (IsOneOf (λ code. code ≡ Falls)) }
 {
     match first_fall(journals) {
         Some(fall) => Err(AuditFault::Found {
-            code: AuditCode::Falls,
+            code: EntryFault::Falls,
             vnode: fall.vnode,
-            place: fall.place,
+            place: fall.place as usize,
         }),
         None => Ok(()),
     }
@@ -113,6 +115,7 @@ pub fn check_single(alloc: Global, journals: &[Whole<'_>]) -> Result<(), AuditFa
     requires rising { NoneFalls journals.now }
     ensures ok { OnOk result (NoneTwice journals.now) }
     ensures err { IfErr result (IsFault journals.now) }
+    ensures codes { IfErr result (IsOneOf (λ code. code ≡ Twice)) }
 {
     let mut counts = vec![in alloc; 0; journals.len()]?;
     let mut heads = heads_of(alloc, journals, &counts)?;
@@ -120,9 +123,9 @@ pub fn check_single(alloc: Global, journals: &[Whole<'_>]) -> Result<(), AuditFa
     while let Some((head, place)) = next_of(journals, &counts, &mut heads) {
         if is_last(last, head.stamp) {
             return Err(AuditFault::Found {
-                code: AuditCode::Twice,
+                code: EntryFault::Twice,
                 vnode: head.vnode,
-                place,
+                place: place as usize,
             });
         }
         last = Some(head.stamp);

@@ -1,14 +1,14 @@
 -- How what is said of the journals at the end is told (this store's profile).
 use Rattle.std.specs.Prelude.{ℕ, List, ◌++◌, codes, decimal, Result, Ok, Err}
-use Rattle.audit_faults.specs.declared.fault.FollowCode.{FollowCode}
-use Rattle.audit_faults.specs.declared.fault.FollowCode.TheVariants.{Twice, Falls, NoSource, OtherState, GivenUp, Late, Illegal}
-use Rattle.audit_faults.specs.declared.fault.FollowFault.TheVariants as follow
+use Rattle.audit_faults.specs.declared.fault.EntryFault.{EntryFault}
+use Rattle.audit_faults.specs.declared.fault.EntryFault.TheVariants.{Twice, Falls, NoSource, OtherState, GivenUp, Late, Illegal}
+use Rattle.audit_faults.specs.declared.fault.AuditFault.TheVariants as follow
 use Rattle.audit_faults.specs.declared.fault.WatchFault.{WatchFault}
 use Rattle.audit_faults.specs.declared.fault.WatchFault.TheVariants.{Found, Lost, NoMemory}
 use Rattle.commands.specs.Outcome.{line}
 
 -- the names of the faults
-abbrev pub code_text : FollowCode → List ℕ
+abbrev pub code_text : EntryFault → List ℕ
 code_text Twice = codes "A1"
 code_text Falls = codes "A2"
 code_text NoSource = codes "A3"

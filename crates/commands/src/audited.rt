@@ -4,7 +4,7 @@ ghost use Rattle.std.specs.Io.KnownBytes.{Appends};
 ghost use Rattle.commands.specs.Audited.{audit_text, audit_status, code_text};
 
 use crate::failure::Failure;
-use audit_faults::{FollowCode, FollowFault, Followed, WatchFault};
+use audit_faults::{AuditFault, EntryFault, Followed, WatchFault};
 use std::fmt;
 use std::io::Write;
 
@@ -13,17 +13,17 @@ use std::io::Write;
 pub struct AuditLine(pub Followed);
 
 /// The name of a fault.
-fn name_of(code: FollowCode) -> &'static str
+fn name_of(code: EntryFault) -> &'static str
     ensures { result.now ≡ code_text code }
 {
     match code {
-        FollowCode::Twice => "A1",
-        FollowCode::Falls => "A2",
-        FollowCode::NoSource => "A3",
-        FollowCode::OtherState => "A4",
-        FollowCode::GivenUp => "A5",
-        FollowCode::Late => "A6",
-        FollowCode::Illegal => "A7",
+        EntryFault::Twice => "A1",
+        EntryFault::Falls => "A2",
+        EntryFault::NoSource => "A3",
+        EntryFault::OtherState => "A4",
+        EntryFault::GivenUp => "A5",
+        EntryFault::Late => "A6",
+        EntryFault::Illegal => "A7",
     }
 }
 
@@ -37,10 +37,10 @@ impl fmt::Display for AuditLine {
         match self.0 {
             Ok(()) => f.write_str("audit ok\n"),
             Err(WatchFault::Lost) => f.write_str("audit handed out\n"),
-            Err(WatchFault::NoMemory | WatchFault::Found(FollowFault::NoMemory)) => f.write_str(
+            Err(WatchFault::NoMemory | WatchFault::Found(AuditFault::NoMemory)) => f.write_str(
                 "audit E1\n",
             ),
-            Err(WatchFault::Found(FollowFault::Found { code, vnode, place })) => {
+            Err(WatchFault::Found(AuditFault::Found { code, vnode, place })) => {
                 let name = name_of(code);
                 write!(f, "audit {name} {vnode} {place}\n")
             }

@@ -1,6 +1,6 @@
 //! What the command `serve` comes to: a store that there is no memory for, and what is said of the journals at the end.
 
-use audit_faults::{FollowCode, FollowFault, Followed, WatchFault};
+use audit_faults::{AuditFault, EntryFault, Followed, WatchFault};
 use bpf_helpers::Table;
 use commands::files::{Files, Part};
 use commands::own::command_with_helpers;
@@ -114,7 +114,7 @@ const ROWS: &[Row] = &[
     ),
     (
         FOUR,
-        Ok(Err(WatchFault::Found(FollowFault::NoMemory))),
+        Ok(Err(WatchFault::Found(AuditFault::NoMemory))),
         BY_FOUR,
         "listening here\naudit E1\n",
         1,
@@ -128,8 +128,8 @@ const ROWS: &[Row] = &[
     ),
     (
         FOUR,
-        Ok(Err(WatchFault::Found(FollowFault::Found {
-            code: FollowCode::Twice,
+        Ok(Err(WatchFault::Found(AuditFault::Found {
+            code: EntryFault::Twice,
             vnode: 1,
             place: 0,
         }))),
@@ -139,8 +139,8 @@ const ROWS: &[Row] = &[
     ),
     (
         FOUR,
-        Ok(Err(WatchFault::Found(FollowFault::Found {
-            code: FollowCode::Falls,
+        Ok(Err(WatchFault::Found(AuditFault::Found {
+            code: EntryFault::Falls,
             vnode: 0,
             place: 4_294_967_295,
         }))),
@@ -150,8 +150,8 @@ const ROWS: &[Row] = &[
     ),
     (
         FOUR,
-        Ok(Err(WatchFault::Found(FollowFault::Found {
-            code: FollowCode::NoSource,
+        Ok(Err(WatchFault::Found(AuditFault::Found {
+            code: EntryFault::NoSource,
             vnode: 458_752,
             place: 10,
         }))),
@@ -161,8 +161,8 @@ const ROWS: &[Row] = &[
     ),
     (
         FOUR,
-        Ok(Err(WatchFault::Found(FollowFault::Found {
-            code: FollowCode::OtherState,
+        Ok(Err(WatchFault::Found(AuditFault::Found {
+            code: EntryFault::OtherState,
             vnode: 4_294_967_295,
             place: 7,
         }))),
@@ -172,8 +172,8 @@ const ROWS: &[Row] = &[
     ),
     (
         FOUR,
-        Ok(Err(WatchFault::Found(FollowFault::Found {
-            code: FollowCode::GivenUp,
+        Ok(Err(WatchFault::Found(AuditFault::Found {
+            code: EntryFault::GivenUp,
             vnode: 458_752,
             place: 16_384,
         }))),
@@ -183,8 +183,8 @@ const ROWS: &[Row] = &[
     ),
     (
         FOUR,
-        Ok(Err(WatchFault::Found(FollowFault::Found {
-            code: FollowCode::Late,
+        Ok(Err(WatchFault::Found(AuditFault::Found {
+            code: EntryFault::Late,
             vnode: 3,
             place: 4,
         }))),
@@ -194,8 +194,8 @@ const ROWS: &[Row] = &[
     ),
     (
         FOUR,
-        Ok(Err(WatchFault::Found(FollowFault::Found {
-            code: FollowCode::Illegal,
+        Ok(Err(WatchFault::Found(AuditFault::Found {
+            code: EntryFault::Illegal,
             vnode: 1,
             place: 4_294_967_296,
         }))),

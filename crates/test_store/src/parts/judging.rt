@@ -5,14 +5,14 @@ ghost use Rattle.audit_replay.specs.Interleaved.{ids_of};
 ghost use Rattle.audit_replay.specs.Rerun.{AreJournals};
 ghost use Rattle.world.specs.Represents.{AreDistinct, log_at};
 
-use audit_journals::{AuditCode, AuditFault, audit};
+use audit_journals::{AuditFault, EntryFault, audit};
 use journal::Whole;
 use std::alloc::Global;
 use std::test::Fail;
 use vnode::Vnode;
 
 /// What is told of journals: nothing, or a fault at a vnode and a place.
-pub(crate) type Told = Option<(AuditCode, u32, u32)>;
+pub(crate) type Told = Option<(EntryFault, u32, usize)>;
 
 /// Whose journal the one with this index is.
 fn id_at(journals: &[Whole<'_>], index: usize) -> u32

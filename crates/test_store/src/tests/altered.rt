@@ -7,7 +7,7 @@ use crate::parts::building::three_losing;
 use crate::parts::judging::{Told, judge};
 use crate::tests::late::deliver_late;
 use crate::tests::operations::{Operation, operate_losing};
-use audit_journals::AuditCode;
+use audit_journals::EntryFault;
 use bpf_helpers::Table;
 use bpf_image::ImageKind;
 use bpf_verifier::Verified;
@@ -23,9 +23,9 @@ const CONTENT: Alteration = Alteration::OtherContent;
 
 const MISSING: Alteration = Alteration::Missing;
 
-const ANOTHER: AuditCode = AuditCode::OtherState;
+const ANOTHER: EntryFault = EntryFault::OtherState;
 
-const UNREAD: AuditCode = AuditCode::NoSource;
+const UNREAD: EntryFault = EntryFault::NoSource;
 
 /// Fails unless the audit says yes to the journals of vnodes, and tells this of them where something is altered.
 fn expect_told(alloc: Global, vnodes: &[Vnode], altered: &Altered, want: Told) -> Result<(), Fail> {

@@ -4,7 +4,7 @@ use crate::parts::building::key_of;
 use crate::parts::judging::{Told, judge};
 use crate::tests::audits::Step::{Merge, Put, Read, Restart};
 use crate::tests::verdicts::shown_content;
-use audit_journals::AuditCode;
+use audit_journals::EntryFault;
 use journal::{Entry, Journal};
 use key_state::{Key, KeyState};
 use peers::Answer;
@@ -179,13 +179,13 @@ const OTHER: &[At] = &[
     (1, 1, b'k', Read),
 ];
 
-const TWICE: AuditCode = AuditCode::Twice;
+const TWICE: EntryFault = EntryFault::Twice;
 
-const FALLS: AuditCode = AuditCode::Falls;
+const FALLS: EntryFault = EntryFault::Falls;
 
-const UNREAD: AuditCode = AuditCode::NoSource;
+const UNREAD: EntryFault = EntryFault::NoSource;
 
-const ANOTHER: AuditCode = AuditCode::OtherState;
+const ANOTHER: EntryFault = EntryFault::OtherState;
 
 /// Identifiers of vnodes, how many of them aren't judged, steps and further ones, and what is told.
 type Row = (&'static [u32], usize, &'static [At], &'static [At], Told);

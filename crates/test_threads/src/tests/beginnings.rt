@@ -1,7 +1,7 @@
 //! A follower of vnodes that began with what was kept.
 
 use crate::tests::building::{SIXTEEN, key_of, value_of};
-use audit_follower::{FollowCode, FollowFault, Follower};
+use audit_follower::{AuditFault, EntryFault, Follower};
 use journal::{Entry, Merged};
 use key_state::{Key, KeyState};
 use std::alloc::{AllocError, Global};
@@ -62,9 +62,9 @@ fn begun(
 }
 
 /// What a follower finds of an entry that is the next one of a vnode.
-fn found(follower: &mut Follower, code: FollowCode, vnode: u32, place: usize) -> Result<(), Fail> {
+fn found(follower: &mut Follower, code: EntryFault, vnode: u32, place: usize) -> Result<(), Fail> {
     let end = follower.follow(u64::MAX);
-    expect(end == Err(FollowFault::Found { code, vnode, place }), &end)
+    expect(end == Err(AuditFault::Found { code, vnode, place }), &end)
 }
 
 /// A run behind the fronts is one; a merge there that names the vnode that is gone has no source.
@@ -86,7 +86,7 @@ fn a_run_from_fronts(rt: HostRuntime) -> Result<(), Fail> {
         2,
         vec![in alloc; merge_of(alloc, 5, &key, GONE, 2, &state)?]?,
     )?;
-    found(&mut follower, FollowCode::NoSource, 1, 2)
+    found(&mut follower, EntryFault::NoSource, 1, 2)
 }
 
 /// Without fronts the first merge has no source.
@@ -95,7 +95,7 @@ fn a_merge_of_what_is_gone(rt: HostRuntime) -> Result<(), Fail> {
     let alloc = rt.alloc();
     let key = key_of(alloc, b"k")?;
     let mut follower = begun(alloc, Vec::new(alloc), &key, (1, 2))?;
-    found(&mut follower, FollowCode::NoSource, 0, 0)
+    found(&mut follower, EntryFault::NoSource, 0, 0)
 }
 
 /// Stamps of the fronts are compared.
@@ -104,7 +104,7 @@ fn one_stamp_in_two_fronts(rt: HostRuntime) -> Result<(), Fail> {
     let alloc = rt.alloc();
     let key = key_of(alloc, b"k")?;
     let mut follower = begun(alloc, vec![in alloc; 1, 1]?, &key, (1, 1))?;
-    found(&mut follower, FollowCode::Twice, 1, 0)
+    found(&mut follower, EntryFault::Twice, 1, 0)
 }
 
 /// What is behind a front comes once all fronts are whole.
@@ -114,5 +114,5 @@ fn a_step_before_a_front(rt: HostRuntime) -> Result<(), Fail> {
     let key = key_of(alloc, b"k")?;
     let mut follower = begun(alloc, vec![in alloc; 1, 1]?, &key, (1, 3))?;
     follower.take(0, 1, vec![in alloc; Entry::read(2, key.copy()?)]?)?;
-    found(&mut follower, FollowCode::Late, 0, 1)
+    found(&mut follower, EntryFault::Late, 0, 1)
 }

@@ -2,7 +2,7 @@
 
 use crate::tests::beginnings::merge_of;
 use crate::tests::building::{key_of, value_of};
-use audit_follower::{FollowCode, FollowFault, Follower, Recent};
+use audit_follower::{AuditFault, EntryFault, Follower, Recent};
 use journal::Entry;
 use key_state::{Key, KeyState};
 use std::alloc::Global;
@@ -84,8 +84,8 @@ fn two_values_are_kept(rt: HostRuntime) -> Result<(), Fail> {
     let before = waiting(&follower);
     expect(before == Some((200, 100)), &before)?;
     let end = follower.follow(u64::MAX);
-    let given_up = FollowFault::Found {
-        code: FollowCode::GivenUp,
+    let given_up = AuditFault::Found {
+        code: EntryFault::GivenUp,
         vnode: 1,
         place: 1,
     };

@@ -1,7 +1,7 @@
 use Rattle.std.proofs.Common.{ℕ, ◌+◌, ◌<◌, List, length, set, sym, subst, Option, Some}
 use Rattle.std.proofs.lemmas.Option.{slice_get_within}
-use Rattle.audit_replay.specs.declared.audit_fault.AuditCode.TheVariants.{Twice}
-use Rattle.audit_replay.specs.declared.audit_fault.AuditFault.TheVariants.{Found}
+use Rattle.audit_faults.specs.declared.fault.EntryFault.TheVariants.{Twice}
+use Rattle.audit_faults.specs.declared.fault.AuditFault.TheVariants.{Found}
 use Rattle.audit_replay.specs.Faulty.{IsFault}
 use Rattle.audit_replay.specs.Sorting.{left, IsLast, IsOnce, IsSplit}
 use Rattle.audit_replay.specs.Turns.{Joins, NoneBelow}

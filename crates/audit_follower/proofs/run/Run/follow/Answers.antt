@@ -5,7 +5,7 @@ use Rattle.journal.specs.Logs.{Log}
 use Rattle.world.specs.Represents.{with_entry_at}
 use Rattle.audit_follower.specs.Waiting.{AreTakenAlike, count_waiting}
 use Rattle.journal.specs.Stamps.{stamp_of}
-use Rattle.audit_faults.specs.declared.fault.FollowFault.{FollowFault}
+use Rattle.audit_faults.specs.declared.fault.AuditFault.{AuditFault}
 use Rattle.audit_replay.specs.declared.kept.Recent.{Recent}
 use Rattle.audit_replay.specs.Runs.{IsRunFrom}
 use Rattle.audit_replay.specs.Wrong.{IsToldOf}
@@ -46,7 +46,7 @@ returns-in_err-step-clause-stop c =
     let head = c.in-Some.ensures.1 in
     let told = c.in_err-step.ensures.told in
     let same : head.0 ≡ told.0 = same_Some head.0 told.0 (sym head.1 ∙ told.1) in
-    passed c.from_residual.result _ (λ (fault : FollowFault). IsStop own.rerun.fronts own.rerun.logs own.waiting.items c.args.below own.rerun.recent fault) c.from_residual.ensures.1 (record {
+    passed c.from_residual.result _ (λ (fault : AuditFault). IsStop own.rerun.fronts own.rerun.logs own.waiting.items c.args.below own.rerun.recent fault) c.from_residual.ensures.1 (record {
       logs = now.rerun.logs;
       waiting = now.waiting.items;
       alike = c.loop-index.invariant.alike;

@@ -2,7 +2,7 @@ use Rattle.std.proofs.Common.{◌≡◌, ◌<◌, ◌∙◌, ap, sym, arith, Lis
 use Rattle.std.specs.Prelude.{slice_get}
 use Rattle.std.proofs.lemmas.Result.{IfErr-weaker, on_ok_weaker}
 use Rattle.journal.specs.Entry.{Entry}
-use Rattle.audit_faults.specs.declared.fault.FollowFault.{FollowFault}
+use Rattle.audit_faults.specs.declared.fault.AuditFault.{AuditFault}
 use Rattle.audit_follower.specs.Waiting.{IsNext}
 use Rattle.audit_replay.specs.Wrong.{IsToldOf}
 use Rattle.audit_replay.proofs.Sorting.{same_default}
@@ -27,4 +27,4 @@ returns-clause-told c =
     let inside : i < length own.waiting.items = omega (arith, c.requires.size, c.requires.inside) in
     let queue : c.index_mut.result.now ≡ get_or own.waiting.items i [] = c.index_mut.ensures.value ∙ same_default own.waiting.items i c.index_mut.result.now [] inside in
     let next : IsNext own.waiting.items i e = subst (λ (es : List Entry). slice_get es 0 ≡ Some e) queue (sym c.in-Some.ensures.first) in
-    IfErr-weaker c.go_on.result (λ (fault : FollowFault). IsToldOf own.rerun.fronts own.rerun.logs own.rerun.recent i e fault) _ (λ fault told. (e, next, told)) c.go_on.ensures.told
+    IfErr-weaker c.go_on.result (λ (fault : AuditFault). IsToldOf own.rerun.fronts own.rerun.logs own.rerun.recent i e fault) _ (λ fault told. (e, next, told)) c.go_on.ensures.told

@@ -1,6 +1,6 @@
 use Rattle.std.proofs.Common.{subst, IfErr}
 use Rattle.journal.specs.Entry.{Entry}
-use Rattle.audit_faults.specs.declared.fault.FollowFault.{FollowFault}
+use Rattle.audit_faults.specs.declared.fault.AuditFault.{AuditFault}
 use Rattle.audit_replay.specs.Wrong.{IsToldOf}
 use Rattle.audit_replay.proofs.Telling.{lacked}
 use Rattle.audit_replay.proofs.followed.Followed.go_on_lent.Goals as goal
@@ -8,7 +8,7 @@ use Rattle.audit_replay.proofs.followed.Followed.go_on_lent.Goals as goal
 pub returns-in-Ok-clause-told : goal.returns-in-Ok-clause-told
 returns-in-Ok-clause-told c =
     let own = c.args.self.now in
-    subst (λ (e : Entry). IfErr c.go_on.result (λ (fault : FollowFault). IsToldOf own.fronts.items own.vnodes.items own.recent c.args.index e fault)) c.in-Ok.ensures c.go_on.ensures.told
+    subst (λ (e : Entry). IfErr c.go_on.result (λ (fault : AuditFault). IsToldOf own.fronts.items own.vnodes.items own.recent c.args.index e fault)) c.in-Ok.ensures c.go_on.ensures.told
 
 pub returns-in-Err-clause-told : goal.returns-in-Err-clause-told
 returns-in-Err-clause-told c =

@@ -8,8 +8,8 @@ use Rattle.audit_replay.specs.declared.kept.Kept.{Kept}
 use Rattle.audit_replay.specs.Followed.{HasFollowed, IsToKeep}
 use Rattle.audit_replay.specs.Kept.{IsLeft}
 use Rattle.audit_replay.specs.Wrong.{IsNewest, IsToldOf}
-use Rattle.audit_faults.specs.declared.fault.FollowFault.{FollowFault}
-use Rattle.audit_faults.specs.declared.fault.FollowFault.TheVariants.{NoMemory}
+use Rattle.audit_faults.specs.declared.fault.AuditFault.{AuditFault}
+use Rattle.audit_faults.specs.declared.fault.AuditFault.TheVariants.{NoMemory}
 use Rattle.audit_replay.proofs.Going.{followed_more, next_kept}
 use Rattle.audit_replay.proofs.Opening.{passed}
 use Rattle.audit_replay.proofs.Telling.{lacked, newest_more}
@@ -58,5 +58,5 @@ returns-in-Err-NoMemory-clause-told c =
 pub returns-in_err-keep-clause-told : goal.returns-in_err-keep-clause-told
 returns-in_err-keep-clause-told c =
     let own = c.args.self.now in
-    passed c.from_residual.result NoMemory (λ (fault : FollowFault). IsToldOf own.fronts.items own.vnodes.items own.recent c.args.index c.args.entry fault) c.from_residual.ensures.1
+    passed c.from_residual.result NoMemory (λ (fault : AuditFault). IsToldOf own.fronts.items own.vnodes.items own.recent c.args.index c.args.entry fault) c.from_residual.ensures.1
     (lacked own.fronts.items own.vnodes.items own.last own.recent own.answers.items c.args.index c.args.entry c.requires.run c.requires.above c.requires.place)

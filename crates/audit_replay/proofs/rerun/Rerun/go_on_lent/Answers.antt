@@ -1,7 +1,7 @@
 use Rattle.std.proofs.Common.{◌≡◌, ◌∙◌, ap, ℕ, List, length, refl, subst, IfErr, None}
 use Rattle.std.specs.Global.{Vec}
 use Rattle.world.specs.Represents.{log_at}
-use Rattle.audit_faults.specs.declared.fault.FollowFault.{FollowFault}
+use Rattle.audit_faults.specs.declared.fault.AuditFault.{AuditFault}
 use Rattle.audit_replay.specs.Followed.{HasFollowed}
 use Rattle.audit_replay.specs.Reran.{Reran}
 use Rattle.audit_replay.specs.Runs.{IsRunFrom}
@@ -19,7 +19,7 @@ returns-in-Ok-clause-run c =
     (λ h. subst (λ (ns : List ℕ). IsRunFrom ns new.vnodes.items) same (interleaved new.fronts.items new.vnodes.items new.last new.recent new.answers.items h))
 
 pub returns-in-Ok-clause-told : goal.returns-in-Ok-clause-told
-returns-in-Ok-clause-told c = subst (λ (r : Reran). IfErr c.go_on_lent.result (λ (fault : FollowFault). IsToldOf r.fronts r.logs r.recent c.args.index c.args.entry.now fault)) c.self.view_is c.go_on_lent.ensures.told
+returns-in-Ok-clause-told c = subst (λ (r : Reran). IfErr c.go_on_lent.result (λ (fault : AuditFault). IsToldOf r.fronts r.logs r.recent c.args.index c.args.entry.now fault)) c.self.view_is c.go_on_lent.ensures.told
 
 pub returns-in-Err-clause-told : goal.returns-in-Err-clause-told
 returns-in-Err-clause-told c =
@@ -29,6 +29,6 @@ returns-in-Err-clause-told c =
     let code = c.in-Err.code in
     let going : own.fault ≡ None = ap (λ (r : Reran). r.fault) c.self.view_is ∙ c.requires.going in
     let sound = c.self.invariant going in
-    subst (λ (r : Reran). IfErr c.stop.result (λ (fault : FollowFault). IsToldOf r.fronts r.logs r.recent i e fault)) c.self.view_is
+    subst (λ (r : Reran). IfErr c.stop.result (λ (fault : AuditFault). IsToldOf r.fronts r.logs r.recent i e fault)) c.self.view_is
     (stopped c.stop.result own.fronts.items own.vnodes.items own.recent i (log_at own.vnodes.items i).vnode (length (log_at own.vnodes.items i).entries) e code c.stop.ensures.err refl refl
     (checked own.fronts.items own.vnodes.items own.last own.recent own.answers.items own.last_index i e code sound.0 sound.1 c.in-Err.ensures.err))
