@@ -8,6 +8,7 @@ mod ending;
 mod watch;
 
 pub use audit_faults::{Followed, WatchFault};
+pub use audit_follower::Start;
 pub use closing::{Audited, CloseFault, audit_vnodes};
 pub use ending::{Closed, close_keeping, close_watched};
 pub use watch::{Alarm, Notice, RECENT, Spot, Watch};

@@ -8,7 +8,7 @@ ghost use Rattle.world.specs.Represents.{log_at};
 ghost use Rattle.audit_cluster.specs.Following.{AreRestarts, IsTakenMore, IsToldMore, Rouses, WaitsLittle};
 
 use audit_faults::{TakeFault, WatchFault};
-use audit_follower::{Follower, Recent};
+use audit_follower::{Follower, Recent, Start};
 use cluster::{Cluster, Pass, Room};
 use cluster_stamps::Request;
 use journal::{BLOCK, Entry, Handout};
@@ -16,7 +16,6 @@ use std::alloc::{AllocError, Global};
 use std::marker::{Brand, Model};
 use std::sync::Wait;
 use thiserror::Error;
-use vnode::Seed;
 
 /// Of which of the last entries of each vnode the answers are kept: a merge may name any of these.
 pub const RECENT: Recent = Recent {
@@ -210,11 +209,15 @@ fn share_keys_of<B: Room, R: Wait>(
 impl<B: Room + Spot> Watch<B> {
     /// A follower of so many vnodes, numbered from the first identifier on, of which nothing was handed out. The last of the passes, which
     /// were told nothing, is told what they hand out.
+    ///
+    /// The entries of the fronts are there before anything else happens, as a store that begins with what it kept makes them. What comes
+    /// behind them is followed as a run from there on. `AllocError` where a growth was refused: the pass is lost then.
     pub fn new(
         alloc: Global,
         passes: &mut Vec<Pass<B>>,
         first: u32,
         vnodes: usize,
+        start: Start,
     ) -> Result<Watch<B>, AllocError>
         requires first { first ≡ B.first }
         requires few { first + vnodes ≤ 2 ^ 32 }
@@ -223,49 +226,7 @@ impl<B: Room + Spot> Watch<B> {
         ensures passes { vec_len passes.new + 1 ≡ vec_len passes.old }
         ensures told { IfOk result (λ watch. watch.told ≡ []) }
         ensures vnodes { IfOk result (λ watch. length watch.taken.followed ≡ vnodes) }
-        ensures fronts { IfOk result (λ watch. watch.taken.fronts ≡ []) }
-    {
-        Watch::new_seeded(alloc, Seed::fixed(), passes, first, vnodes, Vec::new(alloc))
-    }
-
-    /// The same of vnodes of which so many of the first entries of each, by index, are there before anything else happens, as a store that
-    /// begins with what it kept makes them: its front. What comes behind the fronts is followed as a run from there on.
-    pub fn new_from(
-        alloc: Global,
-        passes: &mut Vec<Pass<B>>,
-        first: u32,
-        vnodes: usize,
-        fronts: Vec<usize>,
-    ) -> Result<Watch<B>, AllocError>
-        requires first { first ≡ B.first }
-        requires few { first + vnodes ≤ 2 ^ 32 }
-        requires some { 0 < vec_len passes.old }
-        requires fresh { All (λ p. p ≡ pass_view 0 []) passes.old.items }
-        ensures passes { vec_len passes.new + 1 ≡ vec_len passes.old }
-        ensures told { IfOk result (λ watch. watch.told ≡ []) }
-        ensures vnodes { IfOk result (λ watch. length watch.taken.followed ≡ vnodes) }
-        ensures fronts { IfOk result (λ watch. watch.taken.fronts ≡ fronts.items) }
-    {
-        Watch::new_seeded(alloc, Seed::fixed(), passes, first, vnodes, fronts)
-    }
-
-    /// The same, by vnodes of its own that are made by a seed.
-    pub fn new_seeded(
-        alloc: Global,
-        seed: Seed,
-        passes: &mut Vec<Pass<B>>,
-        first: u32,
-        vnodes: usize,
-        fronts: Vec<usize>,
-    ) -> Result<Watch<B>, AllocError>
-        requires first { first ≡ B.first }
-        requires few { first + vnodes ≤ 2 ^ 32 }
-        requires some { 0 < vec_len passes.old }
-        requires fresh { All (λ p. p ≡ pass_view 0 []) passes.old.items }
-        ensures passes { vec_len passes.new + 1 ≡ vec_len passes.old }
-        ensures told { IfOk result (λ watch. watch.told ≡ []) }
-        ensures vnodes { IfOk result (λ watch. length watch.taken.followed ≡ vnodes) }
-        ensures fronts { IfOk result (λ watch. watch.taken.fronts ≡ fronts.items) }
+        ensures fronts { IfOk result (λ watch. watch.taken.fronts ≡ start.fronts.items) }
     {
         let Some(pass) = passes.pop() else {
             unreachable!();
@@ -285,7 +246,7 @@ impl<B: Room + Spot> Watch<B> {
             pass,
             first,
             vnodes,
-            follower: Follower::new_seeded(alloc, seed, &ids, fronts, RECENT)?,
+            follower: Follower::new(alloc, &ids, RECENT, start)?,
             seen,
             next: Vec::new(alloc),
             reached: 0,

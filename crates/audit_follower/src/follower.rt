@@ -11,11 +11,11 @@ ghost use Rattle.audit_follower.specs.Waiting.{AreTakenAlike, NoneBelow, taken_a
 use crate::queue::Queue;
 use crate::run::Run;
 use audit_faults::{AuditFault, TakeFault};
-use audit_replay::{Recent, Rerun};
+use audit_replay::{Recent, Rerun, Start};
 use journal::Entry;
 use std::alloc::{AllocError, Global};
 use std::marker::Model;
-use vnode::{BlockSpot, KeyBlock, Seed};
+use vnode::{BlockSpot, KeyBlock};
 
 /// An auditor that goes along with vnodes: their journals are handed over in blocks, and happen again in the order of stamps, at
 /// vnodes of its own that settle. What it has followed of all vnodes is one run of the world, as long as it has found no fault. So many of
@@ -53,56 +53,26 @@ fn queues(alloc: Global, count: usize) -> Result<Vec<Queue>, AllocError>
 impl Follower {
     /// A follower of vnodes with these identifiers, of which nothing was taken. Of each vnode it keeps what the recent entries answered
     /// that it has followed: a merge may name any of these.
-    pub fn new(alloc: Global, ids: &[u32], recent: Recent) -> Result<Follower, AllocError>
-        requires distinct { AreDistinct ids.now }
-        ensures followed { IfOk result (λ follower. follower.followed ≡ empty_logs ids.now) }
-        ensures waiting { IfOk result (λ follower. follower.waiting ≡ replicate (length ids.now) []) }
-        ensures fault { IfOk result (λ follower. follower.fault ≡ None) }
-        ensures recent { IfOk result (λ follower. follower.recent ≡ recent) }
-        ensures fronts { IfOk result (λ follower. follower.fronts ≡ []) }
-    {
-        Follower::new_seeded(alloc, Seed::fixed(), ids, Vec::new(alloc), recent)
-    }
-
-    /// The same of vnodes of which so many of the first entries of each, by index, were there before the run: its front, as a store that
-    /// begins with what it kept makes them, before anything else. Where there is no number for a vnode, it has none. The fronts are taken
-    /// with the others, and come first: their stamps are compared, and none of their sources is asked for. A merge behind them that names
-    /// one of their entries has no source.
-    pub fn new_from(
+    ///
+    /// The fronts, as a store that begins with what it kept makes them, are taken with the other entries, and come first: their stamps are
+    /// compared, and none of their sources is asked for. A merge behind them that names one of their entries has no source.
+    pub fn new(
         alloc: Global,
         ids: &[u32],
-        fronts: Vec<usize>,
         recent: Recent,
+        start: Start,
     ) -> Result<Follower, AllocError>
         requires distinct { AreDistinct ids.now }
         ensures followed { IfOk result (λ follower. follower.followed ≡ empty_logs ids.now) }
         ensures waiting { IfOk result (λ follower. follower.waiting ≡ replicate (length ids.now) []) }
         ensures fault { IfOk result (λ follower. follower.fault ≡ None) }
         ensures recent { IfOk result (λ follower. follower.recent ≡ recent) }
-        ensures fronts { IfOk result (λ follower. follower.fronts ≡ fronts.items) }
-    {
-        Follower::new_seeded(alloc, Seed::fixed(), ids, fronts, recent)
-    }
-
-    /// The same, by vnodes that are made by a seed.
-    pub fn new_seeded(
-        alloc: Global,
-        seed: Seed,
-        ids: &[u32],
-        fronts: Vec<usize>,
-        recent: Recent,
-    ) -> Result<Follower, AllocError>
-        requires distinct { AreDistinct ids.now }
-        ensures followed { IfOk result (λ follower. follower.followed ≡ empty_logs ids.now) }
-        ensures waiting { IfOk result (λ follower. follower.waiting ≡ replicate (length ids.now) []) }
-        ensures fault { IfOk result (λ follower. follower.fault ≡ None) }
-        ensures recent { IfOk result (λ follower. follower.recent ≡ recent) }
-        ensures fronts { IfOk result (λ follower. follower.fronts ≡ fronts.items) }
+        ensures fronts { IfOk result (λ follower. follower.fronts ≡ start.fronts.items) }
     {
         let waiting = queues(alloc, ids.len())?;
         Ok(Follower {
             run: Run {
-                rerun: Rerun::new_seeded(alloc, seed, ids, fronts, recent)?,
+                rerun: Rerun::new(alloc, ids, recent, start)?,
                 waiting,
             },
         })

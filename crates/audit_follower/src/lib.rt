@@ -6,5 +6,5 @@ mod queue;
 mod run;
 
 pub use audit_faults::{AuditFault, EntryFault, TakeFault};
-pub use audit_replay::Recent;
+pub use audit_replay::{Recent, Start};
 pub use follower::Follower;

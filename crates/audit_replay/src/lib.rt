@@ -10,6 +10,7 @@ mod rerun;
 mod sizes;
 mod sources;
 mod stamps;
+mod start;
 mod turns;
 
 pub use audit_faults::{AuditFault, EntryFault};
@@ -18,3 +19,4 @@ pub use rerun::Rerun;
 pub use sizes::bytes_of_entry;
 pub use sources::check_sources;
 pub use stamps::{check_rising, check_single};
+pub use start::Start;

@@ -1,18 +1,18 @@
 //! Entries of several vnodes happen again, one after another.
 
-ghost use Rattle.std.specs.Prelude.{[], ◌≡◌, ◌≢◌, ◌<◌, ◌≤◌, ◌^◌, ℕ, IfOk, IfErr, OnOk, MatchOption, None, Some, length};
+ghost use Rattle.std.specs.Prelude.{◌≡◌, ◌≢◌, ◌<◌, ◌≤◌, ◌^◌, ℕ, IfOk, IfErr, OnOk, MatchOption, None, Some, length};
 ghost use Rattle.world.specs.Represents.{AreDistinct, empty_logs, log_at, with_entry_at};
-ghost use Rattle.audit_replay.specs.Interleaved.{IsInterleaving};
 ghost use Rattle.audit_replay.specs.Runs.{IsRunFrom};
 ghost use Rattle.audit_replay.specs.Wrong.{IsAfterAll, IsFounded, IsHeld, IsToldOf};
 
 use crate::followed::{Followed, index_of, open};
 use crate::kept::Recent;
+use crate::start::Start;
 use audit_faults::AuditFault;
 use journal::Entry;
 use std::alloc::{AllocError, Global};
 use std::marker::Model;
-use vnode::{BlockSpot, KeyBlock, Seed};
+use vnode::{BlockSpot, KeyBlock};
 
 /// Entries of several vnodes that happen again, one after another, at vnodes of its own that settle. As long as it has found no
 /// fault, all that has happened is one run of the world. So many of the first entries of each vnode, its front, may be no part of it: they
@@ -24,7 +24,7 @@ pub struct Rerun {
 }
 
 impl Model for Rerun {
-    ghost use Rattle.std.specs.Prelude.{[], ◌≡◌, None};
+    ghost use Rattle.std.specs.Prelude.{◌≡◌, None};
     ghost use Rattle.audit_replay.specs.Followed.{HasFollowed};
     ghost use Rattle.audit_replay.specs.Wrong.{IsNewest};
     ghost use Rattle.audit_replay.specs.Reran.{Reran};
@@ -39,50 +39,15 @@ impl Model for Rerun {
 impl Rerun {
     /// Nothing has happened at vnodes with these identifiers. Of each vnode it is kept what the recent entries answered: a merge may
     /// name any of these.
-    pub fn new(alloc: Global, ids: &[u32], recent: Recent) -> Result<Rerun, AllocError>
-        requires distinct { AreDistinct ids.now }
-        ensures logs { IfOk result (λ rerun. rerun.logs ≡ empty_logs ids.now) }
-        ensures run { IfOk result (λ rerun. IsInterleaving rerun.logs) }
-        ensures fault { IfOk result (λ rerun. rerun.fault ≡ None) }
-        ensures recent { IfOk result (λ rerun. rerun.recent ≡ recent) }
-        ensures fronts { IfOk result (λ rerun. rerun.fronts ≡ []) }
-    {
-        Rerun::new_seeded(alloc, Seed::fixed(), ids, Vec::new(alloc), recent)
-    }
-
-    /// The same of vnodes of which so many of the first entries of each, by index, were there before the run: its front. Where there is no
-    /// number for a vnode, it has none.
-    pub fn new_from(
-        alloc: Global,
-        ids: &[u32],
-        fronts: Vec<usize>,
-        recent: Recent,
-    ) -> Result<Rerun, AllocError>
+    pub fn new(alloc: Global, ids: &[u32], recent: Recent, start: Start) -> Result<Rerun, AllocError>
         requires distinct { AreDistinct ids.now }
         ensures logs { IfOk result (λ rerun. rerun.logs ≡ empty_logs ids.now) }
         ensures run { IfOk result (λ rerun. IsRunFrom rerun.fronts rerun.logs) }
         ensures fault { IfOk result (λ rerun. rerun.fault ≡ None) }
         ensures recent { IfOk result (λ rerun. rerun.recent ≡ recent) }
-        ensures fronts { IfOk result (λ rerun. rerun.fronts ≡ fronts.items) }
+        ensures fronts { IfOk result (λ rerun. rerun.fronts ≡ start.fronts.items) }
     {
-        Rerun::new_seeded(alloc, Seed::fixed(), ids, fronts, recent)
-    }
-
-    /// The same of vnodes that are made by a seed.
-    pub fn new_seeded(
-        alloc: Global,
-        seed: Seed,
-        ids: &[u32],
-        fronts: Vec<usize>,
-        recent: Recent,
-    ) -> Result<Rerun, AllocError>
-        requires distinct { AreDistinct ids.now }
-        ensures logs { IfOk result (λ rerun. rerun.logs ≡ empty_logs ids.now) }
-        ensures run { IfOk result (λ rerun. IsRunFrom rerun.fronts rerun.logs) }
-        ensures fault { IfOk result (λ rerun. rerun.fault ≡ None) }
-        ensures recent { IfOk result (λ rerun. rerun.recent ≡ recent) }
-        ensures fronts { IfOk result (λ rerun. rerun.fronts ≡ fronts.items) }
-    {
+        let Start { seed, fronts } = start;
         Ok(Rerun {
             alloc,
             followed: open(alloc, seed, ids, fronts, recent)?,

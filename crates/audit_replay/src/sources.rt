@@ -8,11 +8,13 @@ ghost use Rattle.audit_replay.specs.Faulty.{NoneFalls, NoneTwice, AllHaveSources
 ghost use Rattle.audit_replay.specs.Fronts.{HasRun};
 ghost use Rattle.audit_replay.specs.Interleaved.{IsInterleaving, ids_of};
 ghost use Rattle.audit_replay.specs.Rerun.{AreJournals};
+ghost use Rattle.audit_replay.specs.Runs.{IsRunFrom};
 ghost use Rattle.audit_replay.specs.Turns.{IsNextBelow, count_at};
 
 use crate::heads::Head;
 use crate::kept::Recent;
 use crate::rerun::Rerun;
+use crate::start::Start;
 use crate::turns::{entry_at, heads_of, join, next_of, vnode_at};
 use audit_faults::AuditFault;
 use journal::Whole;
@@ -33,7 +35,7 @@ fn identifiers(alloc: Global, journals: &[Whole<'_>]) -> Result<Vec<u32>, AllocE
 fn open(alloc: Global, journals: &[Whole<'_>]) -> Result<Rerun, AllocError>
     requires distinct { AreDistinct (ids_of journals.now) }
     ensures logs { IfOk result (λ rerun. rerun.logs ≡ empty_logs (ids_of journals.now)) }
-    ensures run { IfOk result (λ rerun. IsInterleaving rerun.logs) }
+    ensures run { IfOk result (λ rerun. IsRunFrom rerun.fronts rerun.logs) }
     ensures fault { IfOk result (λ rerun. rerun.fault ≡ None) }
     ensures all { IfOk result (λ rerun. max_entries ≤ rerun.recent.always) }
     ensures fronts { IfOk result (λ rerun. rerun.fronts ≡ []) }
@@ -44,7 +46,7 @@ fn open(alloc: Global, journals: &[Whole<'_>]) -> Result<Rerun, AllocError>
         entries: usize::MAX,
         bytes: u64::MAX,
     };
-    Rerun::new(alloc, &ids, all)
+    Rerun::new(alloc, &ids, all, Start::empty(alloc))
 }
 
 // The next entry happens again. Its stamp is above all before it, it may follow them, and no answer was given up: so all that can be

@@ -11,7 +11,7 @@ use crate::crew::{Lookout, Seat, Served};
 use crate::keeper::{Begun, Keeper, Unbegun};
 use crate::limits::VNODES;
 use crate::{beginning, crew, keeper};
-use audit_cluster::{Spot, Watch};
+use audit_cluster::{Spot, Start, Watch};
 use audit_faults::Followed;
 use bpf_helpers::Table;
 use cluster::{Cluster, Pass, Room};
@@ -264,7 +264,7 @@ fn watched<B: Room + Spot>(
     ensures passes { vec_len passes.new + 1 ≡ vec_len passes.old }
 {
     let Making { first, seed } = making;
-    let watch = Watch::new_seeded(alloc, seed, passes, first, VNODES as usize, fronts)?;
+    let watch = Watch::new(alloc, passes, first, VNODES as usize, Start { seed, fronts })?;
     Ok(Lookout {
         watch,
         requests: Requests::none(alloc),

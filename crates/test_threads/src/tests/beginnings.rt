@@ -1,13 +1,13 @@
 //! A follower of vnodes that began with what was kept.
 
 use crate::tests::building::{SIXTEEN, key_of, value_of};
-use audit_follower::{AuditFault, EntryFault, Follower};
+use audit_follower::{AuditFault, EntryFault, Follower, Start};
 use journal::{Entry, Merged};
 use key_state::{Key, KeyState};
 use std::alloc::{AllocError, Global};
 use std::test::Fail;
 use test_support::expect;
-use vnode::Vnode;
+use vnode::{Seed, Vnode};
 
 /// A vnode that is gone.
 const GONE: u32 = 7;
@@ -47,7 +47,8 @@ fn begun(
     stamps: (u64, u64),
 ) -> Result<Follower, Fail> {
     let state = kept_state(alloc, key)?;
-    let mut follower = Follower::new_from(alloc, &[0, 1], fronts, SIXTEEN)?;
+    let seed = Seed::fixed();
+    let mut follower = Follower::new(alloc, &[0, 1], SIXTEEN, Start { seed, fronts })?;
     follower.take(
         0,
         0,

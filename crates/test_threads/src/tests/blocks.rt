@@ -3,7 +3,7 @@
 ghost use Rattle.std.specs.Prelude.{◌<◌, ◌^◌};
 
 use crate::tests::building::{SIXTEEN, key_of, value_of};
-use audit_follower::Follower;
+use audit_follower::{Follower, Start};
 use journal::{BLOCK, Handout};
 use key_state::{Content, Key};
 use std::alloc::Global;
@@ -101,7 +101,7 @@ fn blocks_are_followed(rt: HostRuntime) -> Result<(), Fail> {
     let mut pair = Pair {
         a: Vnode::new(alloc, 0),
         b: Vnode::new(alloc, 1),
-        follower: Follower::new(alloc, &[0, 1], SIXTEEN)?,
+        follower: Follower::new(alloc, &[0, 1], SIXTEEN, Start::empty(alloc))?,
     };
     pair.rounds(alloc, &key, &content)?;
     expect(pair.has_taken(HANDED_OUT), &HANDED_OUT)

@@ -2,7 +2,7 @@
 
 use crate::tests::beginnings::merge_of;
 use crate::tests::building::{key_of, value_of};
-use audit_follower::{AuditFault, EntryFault, Follower, Recent};
+use audit_follower::{AuditFault, EntryFault, Follower, Recent, Start};
 use journal::Entry;
 use key_state::{Key, KeyState};
 use std::alloc::Global;
@@ -74,7 +74,7 @@ fn two_values_are_kept(rt: HostRuntime) -> Result<(), Fail> {
     let alloc = rt.alloc();
     let key = key_of(alloc, b"k")?;
     let (entries, first, second) = puts_and_reads(alloc, &key)?;
-    let mut follower = Follower::new(alloc, &[0, 1], TWO_VALUES)?;
+    let mut follower = Follower::new(alloc, &[0, 1], TWO_VALUES, Start::empty(alloc))?;
     follower.take(0, 0, entries)?;
     let merges = vec![in alloc;
         merge_of(alloc, 9, &key, 0, 4, &second)?,

@@ -5,7 +5,7 @@ ghost use Rattle.cluster_stamps.specs.Rule.{newcomer};
 
 use crate::tests::building::{THREE_BY_TWO, key_of};
 use crate::tests::watching::Silent;
-use audit_cluster::{Spot, Watch, close_watched};
+use audit_cluster::{Spot, Start, Watch, close_watched};
 use cluster::{Cluster, Pass, Room};
 use cluster_stamps::{Card, Request, Stamps};
 use journal::BLOCK;
@@ -84,7 +84,7 @@ fn busy_beside_idle<B: Room + Spot, R: Wait>(
         card,
         &THREE_BY_TWO,
     )?;
-    let mut watch = Watch::new(alloc, &mut passes, 0, 3)?;
+    let mut watch = Watch::new(alloc, &mut passes, 0, 3, Start::empty(alloc))?;
     if let Some(pass) = passes.first_mut() {
         keep_busy(rt, alloc, &cluster, pass, &mut watch)?;
     }

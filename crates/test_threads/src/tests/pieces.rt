@@ -3,7 +3,7 @@
 use crate::tests::building::{THREE_BY_FOUR, key_of};
 use crate::tests::rounds::Rounders;
 use crate::tests::running::served;
-use audit_follower::{Follower, Recent};
+use audit_follower::{Follower, Recent, Start};
 use journal::Entry;
 use key_state::Key;
 use std::alloc::Global;
@@ -115,6 +115,6 @@ fn follow_all(follower: &mut Follower, alloc: Global, vnodes: &mut [Vnode]) -> R
 fn a_million_calls(rt: HostRuntime) -> Result<(), Fail> {
     let alloc = rt.alloc();
     let mut vnodes = served(&rt, alloc, &THREE_BY_FOUR, &Rounders(ROUNDS))?;
-    let mut follower = Follower::new(alloc, &[0, 1, 2], RECENT)?;
+    let mut follower = Follower::new(alloc, &[0, 1, 2], RECENT, Start::empty(alloc))?;
     follow_all(&mut follower, alloc, vnodes.as_mut_slice())
 }

@@ -5,7 +5,7 @@ ghost use Rattle.cluster_stamps.specs.Rule.{newcomer};
 
 use crate::tests::blocks::take_all;
 use crate::tests::building::{SIXTEEN, THREE_BY_ONE, key_of, value_of};
-use audit_follower::Follower;
+use audit_follower::{Follower, Start};
 use cluster::{Cluster, Pass, Room};
 use cluster_peers::ClusterPeers;
 use cluster_stamps::{Card, Stamps};
@@ -56,7 +56,7 @@ fn share_one(vnode: &Vnode, follower: &mut Follower) -> Result<bool, Fail> {
 fn keys_are_held_once(rt: HostRuntime) -> Result<(), Fail> {
     let alloc = rt.alloc();
     let mut vnode = Vnode::new(alloc, 0);
-    let mut follower = Follower::new(alloc, &[0], SIXTEEN)?;
+    let mut follower = Follower::new(alloc, &[0], SIXTEEN, Start::empty(alloc))?;
     write_all(alloc, &mut vnode)?;
     take_all(&mut follower, 0, vnode.settle(&mut Vec::new(alloc)))?;
     follower.follow(KEYS)?;

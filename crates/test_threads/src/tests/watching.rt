@@ -7,7 +7,7 @@ use crate::tests::building::THREE_BY_FIVE;
 use crate::tests::rounds::Rounders;
 use crate::tests::running::{passes_of, workers_of};
 use crate::tests::working::serve_all;
-use audit_cluster::{Alarm, Notice, Spot, Watch, close_watched};
+use audit_cluster::{Alarm, Notice, Spot, Start, Watch, close_watched};
 use cluster::{Cluster, Pass, Room};
 use cluster_stamps::{Card, Stamps};
 use std::alloc::Global;
@@ -86,7 +86,7 @@ fn watched_meanwhile<B: Room + Spot + Send + Sync, R: Threads + Wait + Sync>(
         card,
         &THREE_BY_FIVE,
     )?;
-    let watch = Mutex::new(Watch::new(alloc, &mut passes, 0, 3)?);
+    let watch = Mutex::new(Watch::new(alloc, &mut passes, 0, 3, Start::empty(alloc))?);
     let back = work_and_watch(rt, alloc, &cluster, passes, &watch)?;
     if back.len() < 4 {
         return Err(Fail::new("a pass is missing"));

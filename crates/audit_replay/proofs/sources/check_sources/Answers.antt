@@ -20,7 +20,7 @@ loop-head-init c =
     let fresh = c.in_ok-rerun.ensures in
     record {
       run = subst (λ (cs : List ℕ). HasRun logs cs c.in_ok-rerun.rerun.logs) (sym counts)
-          (subst (λ (now : List Log). HasRun logs (no_counts logs) now) (sym fresh.logs) (none_ran logs (subst (λ (now : List Log). IsInterleaving now) fresh.logs fresh.run)));
+          (subst (λ (now : List Log). HasRun logs (no_counts logs) now) (sym fresh.logs) (none_ran logs (subst (λ (now : List Log). IsInterleaving now) fresh.logs (fresh.run.whole fresh.fronts))));
       going = fresh.fault;
       all = fresh.all;
       fronts = fresh.fronts;

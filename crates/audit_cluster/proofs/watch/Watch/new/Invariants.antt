@@ -1,6 +1,6 @@
 use Rattle.std.proofs.Common.{◌≡◌, vec_len}
 use Rattle.audit_cluster.proofs.Taken.{AreNumbered}
-use Rattle.audit_cluster.proofs.watch.Watch.new_seeded.Given as goal
+use Rattle.audit_cluster.proofs.watch.Watch.new.Given as goal
 
 -- so many identifiers, numbered from the first on
 abbrev pub invariant-loop-index : goal.invariant-loop-index

@@ -1,7 +1,7 @@
 use Rattle.std.proofs.Common.{◌≡◌, ℕ, List, length, arith, ap, sym, subst, ◌∙◌}
 use Rattle.cluster_stamps.specs.declared.view.View.{View}
 use Rattle.audit_cluster.proofs.Taken.{AreNumbered, followed_long, last_untold, nothing_taken, watches_none}
-use Rattle.audit_cluster.proofs.watch.Watch.new_seeded.Goals as goal
+use Rattle.audit_cluster.proofs.watch.Watch.new.Goals as goal
 
 pub invariant_of-result-2 : goal.invariant_of-result-2
 invariant_of-result-2 g c =
@@ -10,11 +10,11 @@ invariant_of-result-2 g c =
     let are : AreNumbered g.B.Spot.first ids = subst (λ (n : ℕ). AreNumbered n ids) c.requires.first (subst (λ (xs : List ℕ). AreNumbered c.args.first xs) lent c.loop-index.invariant.numbered) in
     let many : length ids ≡ c.args.vnodes = (let same = ap length lent in let long = c.loop-index.invariant.long in omega (arith, same, long, c.loop-index.auto.index-end, c.loop-index-test.false)) in
     let untold = ap (λ (v : View). v.told) c.pass.view_is ∙ last_untold c.args.passes.now.items c.pop.new.self.items c.in-Some.pass c.requires.fresh c.in-Some.ensures.items in
-    let taken = c.in_ok-new_seeded.field-0 in (
+    let taken = c.in_ok-new.field-0 in (
       c.requires.first,
-      c.in_ok-new_seeded.ensures.recent,
-      λ lost. watches_none g.B.Spot.first c.args.vnodes _ taken c.in_ok-new_seeded.ensures.fault (followed_long ids taken c.in_ok-new_seeded.ensures.followed ∙ many)
-          (nothing_taken g.B.Spot.first _ ids taken are untold c.in_ok-new_seeded.ensures.followed c.in_ok-new_seeded.ensures.waiting),
+      c.in_ok-new.ensures.recent,
+      λ lost. watches_none g.B.Spot.first c.args.vnodes _ taken c.in_ok-new.ensures.fault (followed_long ids taken c.in_ok-new.ensures.followed ∙ many)
+          (nothing_taken g.B.Spot.first _ ids taken are untold c.in_ok-new.ensures.followed c.in_ok-new.ensures.waiting),
     )
 
 pub returns-clause-told : goal.returns-clause-told
