@@ -1,7 +1,7 @@
 //! The audit of what gathered vnodes hold.
 
 ghost use Rattle.std.specs.Prelude.{◌≡◌, Err, IfErr, IfOk};
-ghost use Rattle.audit_replay.specs.Rerun.{AreJournals};
+ghost use Rattle.audit_replay.specs.Rerun.{AreLegal};
 ghost use Rattle.audit_cluster.specs.Audits.{IsAuditOf};
 ghost use Rattle.cluster_vnode.specs.Gathers.{Differ};
 
@@ -64,7 +64,7 @@ pub fn audit_vnodes(alloc: Global, vnodes: &[Vnode]) -> Audited
 /// The journals of vnodes.
 fn journals_of<'a>(alloc: Global, vnodes: &'a [Vnode]) -> Result<Vec<Whole<'a>>, CloseFault>
     ensures logs { IfOk result (λ journals. journals.items ≡ vnodes.now) }
-    ensures legal { IfOk result (λ journals. AreJournals journals.items) }
+    ensures legal { IfOk result (λ journals. AreLegal journals.items) }
     ensures unsaid { IfErr result (λ fault. IsAuditOf vnodes.now (Err fault)) }
 {
     let mut journals = Vec::with_capacity(alloc, vnodes.len())?;

@@ -5,7 +5,7 @@ ghost use Rattle.world.specs.Represents.{AreDistinct};
 ghost use Rattle.audit_faults.specs.Codes.{IsOneOf, IsOfWhole};
 ghost use Rattle.audit_replay.specs.Faulty.{IsFault, IsFaultless};
 ghost use Rattle.audit_replay.specs.Interleaved.{IsInterleaving, ids_of};
-ghost use Rattle.audit_replay.specs.Rerun.{AreJournals};
+ghost use Rattle.audit_replay.specs.Rerun.{AreLegal};
 
 use audit_faults::AuditFault;
 use audit_replay::{check_rising, check_single, check_sources};
@@ -22,7 +22,7 @@ use std::alloc::Global;
 /// others, for merges from it have their source there.
 pub fn audit(alloc: Global, journals: &[Whole<'_>]) -> Result<(), AuditFault>
     requires distinct { AreDistinct (ids_of journals.now) }
-    requires legal { AreJournals journals.now }
+    requires legal { AreLegal journals.now }
     ensures yes { OnOk result (IsInterleaving journals.now) }
     ensures faultless { OnOk result (IsFaultless journals.now) }
     ensures no { IfErr result (IsFault journals.now) }

@@ -27,7 +27,7 @@ use Rattle.audit_replay.specs.Interleaved.{IsInterleaving, ids_of}
 use Rattle.audit_replay.specs.Faulty.{EntryAt, NoneFalls, NoneTwice, NoSourceAt, OtherStateAt, HasNoSuchSource, AllHaveSources, IsFault, IsFaultAt}
 use Rattle.audit_replay.specs.Beginnings.{AreFronts}
 use Rattle.audit_replay.specs.Fronts.{IsReadBefore, AreSound, HasRun}
-use Rattle.audit_replay.specs.Rerun.{AreJournals}
+use Rattle.audit_replay.specs.Rerun.{AreLegal}
 use Rattle.audit_replay.specs.Sorting.{IsSplit}
 use Rattle.audit_replay.specs.Turns.{EntryIn, HasHappened, IsNextBelow, NoneBelow, count_at}
 use Rattle.audit_replay.specs.Wrong.{IsWrong, IsAfterAll, IsFounded, IsToldOf, HasReadOf}
@@ -277,7 +277,7 @@ fewer (suc n) [] = omega arith
 fewer (suc n) (x ∷ xs) = let h = fewer n xs in omega (arith, h)
 
 -- so it is its source
-pub of_source : (logs : List Log) (counts : List ℕ) (now : List Log) (recent : Recent) (i : ℕ) (e : Entry) (code : EntryFault) → AreDistinct (ids_of logs) → NoneFalls logs → NoneTwice logs → AreJournals logs → max_entries ≤ recent.always → HasRun logs counts now → EntryIn logs i (count_at counts i) e
+pub of_source : (logs : List Log) (counts : List ℕ) (now : List Log) (recent : Recent) (i : ℕ) (e : Entry) (code : EntryFault) → AreDistinct (ids_of logs) → NoneFalls logs → NoneTwice logs → AreLegal logs → max_entries ≤ recent.always → HasRun logs counts now → EntryIn logs i (count_at counts i) e
     → IsWrong [] now recent i e code → IsOfSource code
 of_source logs counts now recent i e NoSource distinct rising single legal all run there h = tt
 of_source logs counts now recent i e OtherState distinct rising single legal all run there h = tt
@@ -352,7 +352,7 @@ source_fault logs counts now recent head e Late distinct rising single run next 
 source_fault logs counts now recent head e Illegal distinct rising single run next there is h = absurd is
 
 -- so what is told of the next entry is the first fault of the journals
-pub told_fault : (logs : List Log) (counts : List ℕ) (now : List Log) (recent : Recent) (head : Head) (e : Entry) (fault : AuditFault) → AreDistinct (ids_of logs) → NoneFalls logs → NoneTwice logs → AreJournals logs → max_entries ≤ recent.always → HasRun logs counts now
+pub told_fault : (logs : List Log) (counts : List ℕ) (now : List Log) (recent : Recent) (head : Head) (e : Entry) (fault : AuditFault) → AreDistinct (ids_of logs) → NoneFalls logs → NoneTwice logs → AreLegal logs → max_entries ≤ recent.always → HasRun logs counts now
     → IsNextBelow logs counts (length logs) head → EntryIn logs head.index (count_at counts head.index) e → IsToldOf [] now recent head.index e fault → IsFault logs fault × IsOneOf IsOfSource fault
 told_fault logs counts now recent head e NoMemory distinct rising single legal all run next there told = (rising, tt)
 told_fault logs counts now recent head e (Found code vnode place) distinct rising single legal all run next there (id, end, wrong) =

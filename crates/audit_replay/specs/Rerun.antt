@@ -22,5 +22,5 @@ pub record IsSoFar (begin : Knowledge) (logs : List Log) (steps : List Step) (no
   pub sent : (k : ℕ) (m : Message) → slice_get messages k ≡ Some (Some m) → slice_get replies k ≡ Some (Sent m)
 
 -- each is the journal of its vnode
-abbrev pub AreJournals : List Log → Type 0
-AreJournals logs = (index : ℕ) → index < length logs → IsJournal (log_at logs index).vnode (log_at logs index).entries
+abbrev pub AreLegal : List Log → Type 0
+AreLegal logs = (index : ℕ) → index < length logs → IsJournal (log_at logs index).vnode (log_at logs index).entries

@@ -7,7 +7,7 @@ ghost use Rattle.audit_faults.specs.Codes.{IsOneOf, IsOfSource};
 ghost use Rattle.audit_replay.specs.Faulty.{NoneFalls, NoneTwice, AllHaveSources, IsFault};
 ghost use Rattle.audit_replay.specs.Fronts.{HasRun};
 ghost use Rattle.audit_replay.specs.Interleaved.{IsInterleaving, ids_of};
-ghost use Rattle.audit_replay.specs.Rerun.{AreJournals};
+ghost use Rattle.audit_replay.specs.Rerun.{AreLegal};
 ghost use Rattle.audit_replay.specs.Runs.{IsRunFrom};
 ghost use Rattle.audit_replay.specs.Turns.{IsNextBelow, count_at};
 
@@ -61,7 +61,7 @@ fn go_on(
     requires distinct { AreDistinct (ids_of journals.now) }
     requires rising { NoneFalls journals.now }
     requires single { NoneTwice journals.now }
-    requires legal { AreJournals journals.now }
+    requires legal { AreLegal journals.now }
     requires run { HasRun journals.now counts.old rerun.old.logs }
     requires going { rerun.old.fault ≡ None }
     requires all { max_entries ≤ rerun.old.recent.always }
@@ -89,7 +89,7 @@ pub fn check_sources(alloc: Global, journals: &[Whole<'_>]) -> Result<(), AuditF
     requires distinct { AreDistinct (ids_of journals.now) }
     requires rising { NoneFalls journals.now }
     requires single { NoneTwice journals.now }
-    requires legal { AreJournals journals.now }
+    requires legal { AreLegal journals.now }
     ensures ok { OnOk result (IsInterleaving journals.now) }
     ensures sources { OnOk result (AllHaveSources journals.now) }
     ensures err { IfErr result (IsFault journals.now) }

@@ -23,12 +23,12 @@ abbrev pub IsRefused : List Change → Change → HookFault → Type 0
 IsRefused made change fault = (shown : Shown) × Shows made shown × registry.Refuses shown change fault
 
 -- why a change is refused: as such a registry refuses it, and for want of memory where it is allowed
-abbrev pub Refuses : List Change → Change → HookFault → Type 0
-Refuses made change NameUnknown = IsRefused made change NameUnknown
-Refuses made change KindDiffers = IsRefused made change KindDiffers
-Refuses made change NoMemory = IsAllowed made change
+abbrev pub RefusesAfter : List Change → Change → HookFault → Type 0
+RefusesAfter made change NameUnknown = IsRefused made change NameUnknown
+RefusesAfter made change KindDiffers = IsRefused made change KindDiffers
+RefusesAfter made change NoMemory = IsAllowed made change
 
 -- a change is added, or it is refused and nothing changes
 abbrev pub Takes : Standing → Change → Result Unit HookFault → Standing → Type 0
 Takes old change (Ok done) new = IsAllowed old.made change × (new ≡ added old change)
-Takes old change (Err fault) new = Refuses old.made change fault × (new ≡ old)
+Takes old change (Err fault) new = RefusesAfter old.made change fault × (new ≡ old)

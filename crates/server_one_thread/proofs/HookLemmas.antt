@@ -10,7 +10,7 @@ use Rattle.hook_registry.specs.declared.fault.HookFault.TheVariants.{NameUnknown
 use Rattle.hook_registry.specs.Changes.{Change, Install, Remove, Bind, Binding, are_fitting, are_known, is_known, is_fitting, has_kind, has_program, hook_at, program_at}
 use Rattle.hook_registry.specs.Tables as tables
 use Rattle.hook_registry.specs.Tables.{ChangesBy, IsAllowed, Shown, Shows, Takes, bound_in, hook_in, program_in}
-use Rattle.server_one_thread.specs.Hooks.{FindsAt, NamesAt, TakesAt, Allows, Refuses}
+use Rattle.server_one_thread.specs.Hooks.{FindsAt, NamesAt, TakesAt, AllowsAt, RefusesAt}
 
 module _ (a b : List ℕ → Option Program) (alike : (name : List ℕ) → a name ≡ b name) where
   known_alike : (name : Option (List ℕ)) → has_program a name ≡ has_program b name
@@ -36,12 +36,12 @@ module _ (changes : List Change) (old : Shown) (shows : Shows changes old) where
   fitting_is : (bindings : List Binding) (is : Bool) → are_fitting (program_in old.programs) bindings ≡ is → are_fitting (program_at changes) bindings ≡ is
   fitting_is bindings is h = sym (all_fitting (program_in old.programs) (program_at changes) shows.programs bindings) ∙ h
 
-  allowed : (change : Change) → IsAllowed old change → Allows changes change
+  allowed : (change : Change) → IsAllowed old change → AllowsAt changes change
   allowed (Install name program) h = tt
   allowed (Remove name) h = λ none. h (shows.programs name ∙ none)
   allowed (Bind bucket bindings) h = (known_is bindings true h.0, fitting_is bindings true h.1)
 
-  refused : (change : Change) (fault : HookFault) → tables.Refuses old change fault → Refuses changes change fault
+  refused : (change : Change) (fault : HookFault) → tables.Refuses old change fault → RefusesAt changes change fault
   refused (Install name program) NameUnknown h = h
   refused (Install name program) KindDiffers h = h
   refused (Install name program) NoMemory h = tt

@@ -19,21 +19,21 @@ NamesAt changes bucket kind named after = (after ≡ changes) × MatchResult nam
 
 -- after the changes so far nothing but memory stands in the way of one more: the name that is given up has a program, and each
 -- name that is bound has one of that kind
-abbrev pub Allows : List Change → Change → Type 0
-Allows changes (Install name program) = Unit {0}
-Allows changes (Remove name) = ¬ (program_at changes name ≡ None)
-Allows changes (Bind bucket bindings) = AreAllowed (program_at changes) bindings
+abbrev pub AllowsAt : List Change → Change → Type 0
+AllowsAt changes (Install name program) = Unit {0}
+AllowsAt changes (Remove name) = ¬ (program_at changes name ≡ None)
+AllowsAt changes (Bind bucket bindings) = AreAllowed (program_at changes) bindings
 
 -- why one more change is refused after those so far
-abbrev pub Refuses : List Change → Change → HookFault → Type 0
-Refuses changes (Remove name) NameUnknown = program_at changes name ≡ None
-Refuses changes (Bind bucket bindings) NameUnknown = AreRefused (program_at changes) bindings NameUnknown
-Refuses changes (Bind bucket bindings) KindDiffers = AreRefused (program_at changes) bindings KindDiffers
-Refuses changes (Remove name) NoMemory = ⊥
-Refuses changes change NoMemory = Allows changes change
-Refuses changes change fault = ⊥
+abbrev pub RefusesAt : List Change → Change → HookFault → Type 0
+RefusesAt changes (Remove name) NameUnknown = program_at changes name ≡ None
+RefusesAt changes (Bind bucket bindings) NameUnknown = AreRefused (program_at changes) bindings NameUnknown
+RefusesAt changes (Bind bucket bindings) KindDiffers = AreRefused (program_at changes) bindings KindDiffers
+RefusesAt changes (Remove name) NoMemory = ⊥
+RefusesAt changes change NoMemory = AllowsAt changes change
+RefusesAt changes change fault = ⊥
 
 -- a change that is told comes behind those so far, or it is refused and they stay as they are
 abbrev pub TakesAt : List Change → Change → Result Unit HookFault → List Change → Type 0
-TakesAt changes change (Ok done) after = Allows changes change × (after ≡ changes ++ change ∷ [])
-TakesAt changes change (Err fault) after = Refuses changes change fault × (after ≡ changes)
+TakesAt changes change (Ok done) after = AllowsAt changes change × (after ≡ changes ++ change ∷ [])
+TakesAt changes change (Err fault) after = RefusesAt changes change fault × (after ≡ changes)

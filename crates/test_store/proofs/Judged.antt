@@ -6,7 +6,7 @@ use Rattle.journal.specs.Journals.{IsJournal}
 use Rattle.journal.specs.Logs.{Log}
 use Rattle.world.specs.Represents.{AreDistinct, log_at}
 use Rattle.audit_replay.specs.Interleaved.{ids_of}
-use Rattle.audit_replay.specs.Rerun.{AreJournals}
+use Rattle.audit_replay.specs.Rerun.{AreLegal}
 
 before : {X : Type 0} (xs : List X) (y d : X) (i : ℕ) → i < length xs → get_or (xs ++ y ∷ []) i d ≡ get_or xs i d
 before xs y d i lt = get_or_append_left xs (y ∷ []) d i lt
@@ -37,7 +37,7 @@ distinct_more logs log distinct new =
     (distinct_push (ids_of logs) log.vnode distinct (λ i lt same. (let size = length-map logs (λ (l : Log). l.vnode) in let within : i < length logs = omega (arith, size, lt) in
     new i within (sym (get_or-map (λ (l : Log). l.vnode) logs i (record { vnode = 0; entries = [] }) 0 within) ∙ same))))
 
-pub legal_more : (logs : List Log) (log : Log) → AreJournals logs → IsJournal log.vnode log.entries → AreJournals (logs ++ log ∷ [])
+pub legal_more : (logs : List Log) (log : Log) → AreLegal logs → IsJournal log.vnode log.entries → AreLegal (logs ++ log ∷ [])
 legal_more logs log legal is i lt = elim (cases_eq i (length logs)) [
   | inl last ↦ subst (λ (l : Log). IsJournal l.vnode l.entries) (sym (get_or_push logs log (record { vnode = 0; entries = [] }) i (sym last))) is
   | inr not ↦

@@ -2,7 +2,7 @@
 
 ghost use Rattle.std.specs.Prelude.{◌≡◌, ◌≢◌, ◌<◌, ℕ, true, length};
 ghost use Rattle.audit_replay.specs.Interleaved.{ids_of};
-ghost use Rattle.audit_replay.specs.Rerun.{AreJournals};
+ghost use Rattle.audit_replay.specs.Rerun.{AreLegal};
 ghost use Rattle.world.specs.Represents.{AreDistinct, log_at};
 
 use audit_journals::{AuditFault, EntryFault, audit};
@@ -37,7 +37,7 @@ fn is_new(journals: &[Whole<'_>], vnode: u32) -> bool
 /// What the audit of some journals tells. There is memory for it.
 fn told(alloc: Global, journals: &[Whole<'_>]) -> Result<Told, Fail>
     requires distinct { AreDistinct (ids_of journals.now) }
-    requires legal { AreJournals journals.now }
+    requires legal { AreLegal journals.now }
 {
     match audit(alloc, journals) {
         Ok(()) => Ok(None),

@@ -3,7 +3,7 @@ use Rattle.journal.specs.Journals.{IsJournal}
 use Rattle.journal.specs.Logs.{Log}
 use Rattle.world.specs.Represents.{AreDistinct, log_at}
 use Rattle.audit_replay.specs.Interleaved.{ids_of}
-use Rattle.audit_replay.specs.Rerun.{AreJournals}
+use Rattle.audit_replay.specs.Rerun.{AreLegal}
 use Rattle.test_store.proofs.Judged.{distinct_more, legal_more}
 use Rattle.test_store.proofs.parts.judging.judge.Goals as goal
 
@@ -18,5 +18,5 @@ loop-vnode-preserved c =
     let new : (i : ℕ) → i < length logs → (log_at logs i).vnode ≢ log.vnode = subst (λ (v : ℕ). (i : ℕ) → i < length logs → (log_at logs i).vnode ≢ v) c.vnode.ensures (subst (λ js. (i : ℕ) → i < length js → (log_at js i).vnode ≢ c.vnode.result) c.deref.ensures.value told) in
     record {
       distinct = subst (λ (ls : List Log). AreDistinct (ids_of ls)) (sym pushed) (distinct_more logs log c.loop-vnode.invariant.distinct new);
-      legal = subst (λ (ls : List Log). AreJournals ls) (sym pushed) (legal_more logs log c.loop-vnode.invariant.legal legal);
+      legal = subst (λ (ls : List Log). AreLegal ls) (sym pushed) (legal_more logs log c.loop-vnode.invariant.legal legal);
     }
