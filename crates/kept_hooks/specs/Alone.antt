@@ -1,27 +1,15 @@
 -- What calls do to hooks without a store of keys (this store's profile).
-use Rattle.std.specs.Prelude.{List, [], ◌∷◌, ◌++◌, Some, None, Result, Ok}
-use Rattle.bpf_image.specs.declared.image.ImageKind.{ImageKind}
-use Rattle.bpf_image.specs.declared.image.ImageKind.TheVariants.{PreCommit, Resolver}
+use Rattle.std.specs.Prelude.{List, Result, Ok}
 use Rattle.bpf_helpers.specs.declared.sig.Entry.{Entry}
 use Rattle.bpf_verifier.specs.Program.{Program}
 use Rattle.bpf_admission.specs.Admissions.{IsLetIn}
 use Rattle.hook_registry.specs.declared.fault.HookFault.{HookFault}
 use Rattle.hook_registry.specs.Changes as registry
-use Rattle.http_request.specs.declared.ask.Change.{Change}
-use Rattle.http_request.specs.declared.ask.Change.TheVariants.{Kept, Unbound, Bound}
 use Rattle.http_request.specs.declared.ask.Call.{Call}
 use Rattle.http_request.specs.declared.ask.Call.TheVariants as call
 use Rattle.http_response.specs.declared.reply.Reply.{Reply}
 use Rattle.http_response.specs.declared.reply.Reply.TheVariants as reply
-
--- the binding that a change of one kind makes, if any
-abbrev pub binding_of : ImageKind → Change → List registry.Binding
-binding_of kind Kept = []
-binding_of kind Unbound = (kind, None) ∷ []
-binding_of kind (Bound name) = (kind, Some name) ∷ []
-
-abbrev pub bindings_of : Change → Change → List registry.Binding
-bindings_of precommit resolver = binding_of PreCommit precommit ++ binding_of Resolver resolver
+use Rattle.server_store.specs.Changes.{bindings_of}
 
 module _ {H : Type 0} (takes : H → registry.Change → Result Unit HookFault → H → Type 0) (sigs : List Entry) where
   -- a change that was answered Ok was made, of an image that is let in; of what is refused nothing is said

@@ -1,11 +1,10 @@
 //! Hooks without a store of keys.
 
-ghost use Rattle.std.specs.Prelude.{◌≡◌, ◌++◌, IfOk, OnOk};
-ghost use Rattle.kept_hooks.specs.Alone.{Changes, binding_of, bindings_of};
+ghost use Rattle.std.specs.Prelude.{◌≡◌};
+ghost use Rattle.kept_hooks.specs.Alone.{Changes};
 
 use bpf_admission::{Refusal, admit_image};
 use bpf_helpers::Sigs;
-use bpf_image::ImageKind;
 use dvv::{Clock, Dot};
 use hook_registry::{HookChanges, HookFault, NameFault};
 use http_connection::Backend;
@@ -13,7 +12,8 @@ use http_request::Change;
 use http_response::Bound;
 use key_state::{Bytes, Content, Key, KeyState};
 use quorum::QuorumFault;
-use std::alloc::{AllocError, Global};
+use server_store::bindings_of;
+use std::alloc::Global;
 use std::sync::Arc;
 
 /// The hooks of a store, before it has keys: they may be changed, and nothing is read or written.
@@ -90,37 +90,5 @@ impl<H: HookChanges> Backend for HooksAlone<'_, H> {
     ) -> Result<(), HookFault> {
         let bindings = bindings_of(self.alloc, precommit, resolver)?;
         self.hooks.bind(bucket, &bindings)
-    }
-}
-
-// The bindings that changes of both kinds make.
-fn bindings_of(
-    alloc: Global,
-    precommit: &Change,
-    resolver: &Change,
-) -> Result<Vec<(ImageKind, Option<Bytes>)>, AllocError>
-    ensures { IfOk result (λ bindings. bindings.items ≡ bindings_of precommit.now resolver.now) }
-{
-    let mut bindings = Vec::new(alloc);
-    push_binding(&mut bindings, ImageKind::PreCommit, precommit)?;
-    push_binding(&mut bindings, ImageKind::Resolver, resolver)?;
-    Ok(bindings)
-}
-
-// Adds the binding that a change of one kind makes, if any.
-fn push_binding(
-    bindings: &mut Vec<(ImageKind, Option<Bytes>)>,
-    kind: ImageKind,
-    change: &Change,
-) -> Result<(), AllocError>
-    ensures { OnOk result (bindings.new.items ≡ bindings.old.items ++ binding_of kind change.now) }
-{
-    match change {
-        Change::Kept => Ok(()),
-        Change::Unbound => Ok(bindings.push((kind, None))?),
-        Change::Bound(name) => {
-            let name = name.copy()?;
-            Ok(bindings.push((kind, Some(name)))?)
-        }
     }
 }

@@ -1,16 +1,15 @@
 //! The calls on the store's hooks.
 
-ghost use Rattle.std.specs.Prelude.{◌≡◌, ◌++◌, IfOk, OnOk};
-ghost use Rattle.server_store.specs.Changes.{Installs, Removes, Names, Binds, bindings_of, binding_of};
+ghost use Rattle.server_store.specs.Changes.{Installs, Removes, Names, Binds};
 ghost use Rattle.server_store.specs.View.{shown};
 
+use crate::bindings::bindings_of;
 use crate::store::Store;
 use bpf_admission::{Refusal, admit_image};
 use bpf_image::ImageKind;
 use hook_registry::{HookChanges, HookFault, Hooks, NameFault};
 use http_request::Change;
 use key_state::Bytes;
-use std::alloc::{AllocError, Global};
 use std::sync::Arc;
 
 impl<P, H: HookChanges> Store<P, H> {
@@ -69,37 +68,5 @@ impl<P, H: Hooks> Store<P, H> {
         ensures { Names H.names (shown self.old.peers self.old.hooking.hooks self.old.hooking.table.listed self.old.placement self.old.noted.kinds) bucket.now kind result (shown self.new.peers self.new.hooking.hooks self.new.hooking.table.listed self.new.placement self.new.noted.kinds) }
     {
         self.hooking.hooks.bound(bucket, kind)
-    }
-}
-
-// The bindings that changes of both kinds make.
-fn bindings_of(
-    alloc: Global,
-    precommit: &Change,
-    resolver: &Change,
-) -> Result<Vec<(ImageKind, Option<Bytes>)>, AllocError>
-    ensures { IfOk result (λ bindings. bindings.items ≡ bindings_of precommit.now resolver.now) }
-{
-    let mut bindings = Vec::new(alloc);
-    push_binding(&mut bindings, ImageKind::PreCommit, precommit)?;
-    push_binding(&mut bindings, ImageKind::Resolver, resolver)?;
-    Ok(bindings)
-}
-
-// Adds the binding that a change of one kind makes, if any.
-fn push_binding(
-    bindings: &mut Vec<(ImageKind, Option<Bytes>)>,
-    kind: ImageKind,
-    change: &Change,
-) -> Result<(), AllocError>
-    ensures { OnOk result (bindings.new.items ≡ bindings.old.items ++ binding_of kind change.now) }
-{
-    match change {
-        Change::Kept => Ok(()),
-        Change::Unbound => Ok(bindings.push((kind, None))?),
-        Change::Bound(name) => {
-            let name = name.copy()?;
-            Ok(bindings.push((kind, Some(name)))?)
-        }
     }
 }

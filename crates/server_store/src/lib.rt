@@ -3,10 +3,12 @@
 #![tactic(auto)]
 
 mod backend;
+mod bindings;
 mod hooking;
 mod notes;
 mod noting;
 mod store;
 
+pub use bindings::bindings_of;
 pub use notes::NotingBackend;
 pub use store::{Read, Store};
