@@ -5,10 +5,12 @@
 mod closing;
 mod copying;
 mod ending;
+mod limits;
 mod watch;
 
 pub use audit_faults::{Followed, WatchFault};
 pub use audit_follower::Start;
 pub use closing::{Audited, CloseFault, audit_vnodes};
 pub use ending::{Closed, close_keeping, close_watched};
-pub use watch::{Alarm, Notice, RECENT, Spot, Watch};
+pub use limits::RECENT;
+pub use watch::{Alarm, Notice, Spot, Watch};

@@ -7,8 +7,11 @@ ghost use Rattle.audit_follower.specs.Waiting.{bytes_waiting, count_waiting, wai
 ghost use Rattle.world.specs.Represents.{log_at};
 ghost use Rattle.audit_cluster.specs.Following.{AreRestarts, IsTakenMore, IsToldMore, Rouses, WaitsLittle};
 
+use crate::limits::{
+    MOST_BEHIND_BYTES, MOST_BEHIND_ENTRIES, NEARLY_FULL_ENTRIES, RECENT, SHARED_AT_ONCE_BLOCKS,
+};
 use audit_faults::{TakeFault, WatchFault};
-use audit_follower::{Follower, Recent, Start};
+use audit_follower::{Follower, Start};
 use cluster::{Cluster, Pass, Room};
 use cluster_stamps::Request;
 use journal::{BLOCK, Entry, Handout};
@@ -16,26 +19,6 @@ use std::alloc::{AllocError, Global};
 use std::marker::{Brand, Model};
 use std::sync::Wait;
 use thiserror::Error;
-
-/// Of which of the last entries of each vnode the answers are kept: a merge may name any of these.
-pub const RECENT: Recent = Recent {
-    always: 256,
-    entries: 16_384,
-    bytes: 33_554_432,
-};
-
-/// So many entries may wait behind a vnode at which nothing happens.
-const MOST_BEHIND: usize = 8_192;
-
-/// So many bytes of contents may.
-const MOST_BYTES_BEHIND: u64 = 33_554_432;
-
-/// So many blocks of keys of a vnode are shared in a turn: more than are filled between two turns, and so few that none
-/// takes long.
-const SHARED_AT_ONCE: usize = 4;
-
-/// Nine tenths of the entries that a vnode can have.
-const NEARLY_FULL: usize = 3_865_470_566;
 
 /// Says from which identifier on the vnodes of a cluster are numbered. Each call of a program that opens a cluster picks it.
 pub trait Spot {
@@ -77,7 +60,7 @@ impl Seen {
     // So many entries were taken in all, the last of them with the stamp before this number.
     fn note<A: Alarm>(&mut self, entries: usize, below: u64, alarm: &A) {
         self.below = below;
-        if entries >= NEARLY_FULL && !self.warned {
+        if entries >= NEARLY_FULL_ENTRIES && !self.warned {
             self.warned = true;
             alarm.raise(Notice::NearlyFull {
                 vnode: self.id,
@@ -194,7 +177,7 @@ fn share_keys_of<B: Room, R: Wait>(
     requires follower { index < length follower.old.followed }
     ensures { follower.new ≡ follower.old }
 {
-    for _ in 0..SHARED_AT_ONCE {
+    for _ in 0..SHARED_AT_ONCE_BLOCKS {
         let Some(at) = follower.uncompared(index) else {
             break;
         };
@@ -336,7 +319,7 @@ impl<B: Room + Spot> Watch<B> {
     fn is_held_up(&self) -> bool
         ensures { IsTrue result → WaitsLittle self.now.taken → ⊥ }
     {
-        !(self.can_go_on(MOST_BEHIND) && self.holds_less(MOST_BYTES_BEHIND))
+        !(self.can_go_on(MOST_BEHIND_ENTRIES) && self.holds_less(MOST_BEHIND_BYTES))
     }
 
     /// Where 8,192 entries wait to be followed, or 32 MiB of contents, has each vnode of a cluster of which none waits fill its block: it

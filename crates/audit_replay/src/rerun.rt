@@ -39,7 +39,12 @@ impl Model for Rerun {
 impl Rerun {
     /// Nothing has happened at vnodes with these identifiers. Of each vnode it is kept what the recent entries answered: a merge may
     /// name any of these.
-    pub fn new(alloc: Global, ids: &[u32], recent: Recent, start: Start) -> Result<Rerun, AllocError>
+    pub fn new(
+        alloc: Global,
+        ids: &[u32],
+        recent: Recent,
+        start: Start,
+    ) -> Result<Rerun, AllocError>
         requires distinct { AreDistinct ids.now }
         ensures logs { IfOk result (λ rerun. rerun.logs ≡ empty_logs ids.now) }
         ensures run { IfOk result (λ rerun. IsRunFrom rerun.fronts rerun.logs) }

@@ -264,7 +264,13 @@ fn watched<B: Room + Spot>(
     ensures passes { vec_len passes.new + 1 ≡ vec_len passes.old }
 {
     let Making { first, seed } = making;
-    let watch = Watch::new(alloc, passes, first, VNODES as usize, Start { seed, fronts })?;
+    let watch = Watch::new(
+        alloc,
+        passes,
+        first,
+        VNODES as usize,
+        Start { seed, fronts },
+    )?;
     Ok(Lookout {
         watch,
         requests: Requests::none(alloc),
