@@ -29,7 +29,7 @@ fn copy_of_merge(
     stamp: u64,
     key: &Key,
     from: u32,
-    at: u32,
+    at: u64,
     state: &KeyState,
 ) -> Result<Entry, AllocError>
     ensures { IfOk result (λ copy. copy ≡ Merge stamp key.now from at state.now) }
@@ -73,7 +73,7 @@ pub(crate) fn rest_of(alloc: Global, journal: &Journal) -> Result<Vec<Entry>, Al
 {
     let mut rest = Vec::new(alloc);
     for place in journal.first()..journal.len() {
-        let Some(entry) = journal.get(place as u32) else {
+        let Some(entry) = journal.get(place as u64) else {
             unreachable!();
         };
         rest.push(copy_of(alloc, entry)?)?;

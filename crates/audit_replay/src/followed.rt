@@ -29,7 +29,7 @@ pub(crate) fn index_of(vnodes: &[Vnode], id: u32) -> Option<usize>
 
 // Whether a state is what a read of a key answered, which is kept at a place of a vnode: it is the one before the first change of the key
 // behind the read, or, where there is none, the one that is there now.
-fn is_answer(vnode: &Vnode, kept: &Answers, at: u32, key: &Key, state: &KeyState) -> bool
+fn is_answer(vnode: &Vnode, kept: &Answers, at: u64, key: &Key, state: &KeyState) -> bool
     ensures { IsTrue result ↔ IsAnswerOf vnode.now kept.now at key.now state.now }
 {
     match kept.first_was(at, key) {
@@ -44,7 +44,7 @@ fn check_merge(
     answers: &[Answers],
     key: &Key,
     from: u32,
-    at: u32,
+    at: u64,
     state: &KeyState,
 ) -> Result<(), EntryFault>
     requires size { length answers.now ≡ length vnodes.now }

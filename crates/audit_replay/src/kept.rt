@@ -136,7 +136,7 @@ impl Answers {
     }
 
     /// What is kept at a place.
-    pub(crate) fn at(&self, place: u32) -> Found<'_>
+    pub(crate) fn at(&self, place: u64) -> Found<'_>
         ensures { IsFound self.now place result }
     {
         let place = place as usize;
@@ -151,7 +151,7 @@ impl Answers {
     }
 
     /// The state that was at a key before the first entry behind a place that changes it, of those that are here.
-    pub(crate) fn first_was(&self, place: u32, key: &Key) -> Option<&Shared>
+    pub(crate) fn first_was(&self, place: u64, key: &Key) -> Option<&Shared>
         ensures { option_copied result ≡ first_was (drop (place + 1) self.now) key.now }
     {
         let behind = (place as usize + 1).saturating_sub(self.first);

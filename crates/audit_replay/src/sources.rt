@@ -55,7 +55,7 @@ fn go_on(
     journals: &[Whole<'_>],
     counts: &mut [usize],
     head: Head,
-    place: u32,
+    place: u64,
     rerun: &mut Rerun,
 ) -> Result<(), AuditFault>
     requires distinct { AreDistinct (ids_of journals.now) }

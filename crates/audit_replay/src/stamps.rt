@@ -20,7 +20,7 @@ use std::alloc::Global;
 #[derive(Clone, Copy, Drop)]
 pub(crate) struct Fall {
     pub(crate) vnode: u32,
-    pub(crate) place: u32,
+    pub(crate) place: u64,
 }
 
 impl Fall {
@@ -53,7 +53,7 @@ fn fall_of(journals: &[Whole<'_>], index: usize) -> Option<Fall>
         if stamp_at(journals, index, place) <= stamp_at(journals, index, place - 1) {
             return Some(Fall {
                 vnode: vnode_at(journals, index),
-                place: place as u32,
+                place: place as u64,
             });
         }
     }

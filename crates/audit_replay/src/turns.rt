@@ -29,7 +29,7 @@ pub(crate) fn entry_at<'a, 'b>(
 {
     let journal = &journals[index];
     if place < journal.len() {
-        journal.get(place as u32)
+        journal.get(place as u64)
     } else {
         None
     }
@@ -94,17 +94,17 @@ pub(crate) fn len_at(journals: &[Whole<'_>], index: usize) -> usize
 }
 
 // A place of a journal, which has at most 2^32.
-fn place_of(journals: &[Whole<'_>], index: usize, place: usize) -> u32
+fn place_of(journals: &[Whole<'_>], index: usize, place: usize) -> u64
     requires inside { index < length journals.now }
     requires there { place < length (log_at journals.now index).entries }
     ensures { result ≡ place }
 {
     let _len = len_at(journals, index);
-    place as u32
+    place as u64
 }
 
 // The place of the next entry of all.
-fn place_at(journals: &[Whole<'_>], counts: &[usize], head: Head) -> u32
+fn place_at(journals: &[Whole<'_>], counts: &[usize], head: Head) -> u64
     requires size { length counts.now ≡ length journals.now }
     requires next { IsNextBelow journals.now counts.now (length journals.now) head }
     ensures { result ≡ count_at counts.now head.index }
@@ -117,7 +117,7 @@ pub(crate) fn next_of(
     journals: &[Whole<'_>],
     counts: &[usize],
     heads: &mut Heads,
-) -> Option<(Head, u32)>
+) -> Option<(Head, u64)>
     requires size { length counts.now ≡ length journals.now }
     requires heads { AreHeads journals.now counts.now heads.old }
     ensures { MatchOption result (NoneBelow journals.now counts.now (length journals.now)) (λ next. IsNextBelow journals.now counts.now (length journals.now) next.0 × (next.1 ≡ count_at counts.now next.0.index) × Leaves heads.old next.0 heads.new) }

@@ -122,7 +122,7 @@ impl<B: Room, R: Wait> ClusterPeers<'_, B, R> {
         i: usize,
         key: &Key,
         from: u32,
-        at: u32,
+        at: u64,
         state: &KeyState,
     ) -> Result<bool, PeerFault>
         ensures merge { IsMerge self.old.size self.old.pass self.new.pass i (request.Merge key.now from at state.now) result }
@@ -198,7 +198,7 @@ impl<B: Room, R: Wait> ClusterPeers<'_, B, R> {
         i: usize,
         key: &Key,
         from: u32,
-        at: u32,
+        at: u64,
         part: &Part,
     ) -> Result<PartAnswer, PeerFault>
         ensures part { IsPart self.old.size self.old.pass self.new.pass i (request.Part key.now from at part.now) result }
@@ -266,7 +266,7 @@ impl<B: Room, R: Wait> Peers for ClusterPeers<'_, B, R> {
         i: usize,
         key: &Key,
         from: u32,
-        at: u32,
+        at: u64,
         state: &KeyState,
     ) -> Result<bool, PeerFault> {
         let back = self.merge(i, key, from, at, state);
@@ -291,7 +291,7 @@ impl<B: Room, R: Wait> Peers for ClusterPeers<'_, B, R> {
         i: usize,
         key: &Key,
         from: u32,
-        at: u32,
+        at: u64,
         part: &Part,
     ) -> Result<PartAnswer, PeerFault> {
         let back = self.merge_part(i, key, from, at, part);

@@ -23,7 +23,7 @@ pub struct Receipt {
     /// The vnode's identifier.
     pub vnode: u32,
     /// The entry's place in the vnode's journal.
-    pub place: u32,
+    pub place: u64,
     /// The entry's stamp.
     pub stamp: u64,
 }

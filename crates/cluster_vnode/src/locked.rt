@@ -156,7 +156,7 @@ impl<B: Room> Locked<B> {
                 reply,
                 Receipt {
                     vnode: id,
-                    place: at as u32,
+                    place: at as u64,
                     stamp,
                 },
             )),

@@ -31,7 +31,7 @@ pub fn spelled(alloc: Global, copies: &Copies) -> Result<Vec<u8>, Unspelled>
 }
 
 /// The record of a copy that an entry at a place of a vnode's journal made.
-fn record_of(alloc: Global, from: u32, at: u32, copy: &Copied) -> Result<Vec<u8>, Unspelled>
+fn record_of(alloc: Global, from: u32, at: u64, copy: &Copied) -> Result<Vec<u8>, Unspelled>
     ensures { IfOk result (λ bytes. IsRecord (record_of from at copy.now) × (bytes.items ≡ spelling (record_of from at copy.now))) }
 {
     let Copied { key, state } = copy;

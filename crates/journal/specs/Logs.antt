@@ -4,7 +4,7 @@ use Rattle.journal.specs.Entry.{Entry}
 
 -- the most entries of a vnode (this store's profile)
 abbrev pub max_entries : ℕ
-max_entries = 2 ^ 32
+max_entries = 2 ^ 62
 
 -- the entries of a vnode, oldest first
 pub record Log : Type 0 where

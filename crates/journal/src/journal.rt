@@ -11,13 +11,13 @@ use std::alloc::{AllocError, Global};
 use std::marker::Model;
 use thiserror::Error;
 
-/// The most entries of a journal: a place is a `u32`.
-const MAX_LENGTH: usize = 1 << 32;
+/// The most entries of a journal: at a million a second it takes 146,000 years to fill.
+const MAX_LENGTH: usize = 1 << 62;
 
 /// Why an entry is not added, the first in this order.
 #[derive(Clone, Copy, Debug, PartialEq, Eq, Error)]
 pub enum JournalFault {
-    /// There are 2^32 entries.
+    /// There are 2^62 entries.
     #[error("J1")]
     Full,
     /// A growth was refused.
@@ -121,7 +121,7 @@ impl Journal {
     }
 
     /// The entry at a place. None where it was handed out, or there is none yet.
-    pub fn get(&self, place: u32) -> Option<&Entry>
+    pub fn get(&self, place: u64) -> Option<&Entry>
         ensures here { self.now.first ≤ place → option_copied result ≡ slice_get self.now.log.entries place }
         ensures gone { place < self.now.first → result ≡ None }
     {
@@ -169,20 +169,20 @@ impl Journal {
     }
 
     /// Adds an entry for which there is room, and answers its place.
-    pub fn append(&mut self, entry: Entry) -> u32
+    pub fn append(&mut self, entry: Entry) -> u64
         requires room { 0 < self.old.room }
         requires below { TakesEntry self.old.log.entries }
         ensures place { result ≡ length self.old.log.entries }
         ensures entry { self.new.log ≡ with_entry self.old.log entry }
         ensures first { self.new.first ≡ self.old.first }
     {
-        let place = self.len() as u32;
+        let place = self.len() as u64;
         self.here.append(entry);
         place
     }
 
     /// Adds an entry, and answers its place. An entry that is refused is dropped.
-    pub fn push(&mut self, entry: Entry) -> Result<u32, JournalFault>
+    pub fn push(&mut self, entry: Entry) -> Result<u64, JournalFault>
         ensures place { IfOk result (λ place. place ≡ length self.old.log.entries) }
         ensures entry { OnOk result (self.new.log ≡ with_entry self.old.log entry) }
         ensures full { result ≡ Err JournalFault.Full ↔ IsFull self.old.log.entries }

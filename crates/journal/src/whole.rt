@@ -55,7 +55,7 @@ impl<'a> Whole<'a> {
     }
 
     /// The entry at a place.
-    pub fn get(&self, place: u32) -> Option<&Entry>
+    pub fn get(&self, place: u64) -> Option<&Entry>
         ensures { option_copied result ≡ slice_get self.now.entries place }
     {
         self.journal.get(place)

@@ -159,7 +159,7 @@ pub(crate) fn write_record<W: Write>(
     alloc: Global,
     key: &Key,
     from: u32,
-    at: u32,
+    at: u64,
     state: &KeyState,
     out: &mut W,
 ) -> Result<(), SnapshotFault>

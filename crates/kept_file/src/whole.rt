@@ -51,7 +51,7 @@ fn write_held<W: Write>(
     ensures { OnOk result ((bytes : List ℕ) × AreSpelledBy (records_held id first held.now) bytes × Appends (W.contents out.old) (W.contents out.new) bytes) }
 {
     for (place, copied) in held.iter().enumerate() {
-        let at = (first + place) as u32;
+        let at = (first + place) as u64;
         write_record(alloc, &copied.key, id, at, &copied.state, out)?;
     }
     Ok(())

@@ -208,7 +208,7 @@ fn merge_at(
     i: usize,
     key: &Key,
     from: u32,
-    at: u32,
+    at: u64,
     state: &KeyState,
 ) -> Result<bool, PeerFault>
     ensures does { Does stamp vnodes.old.items (MergeAt i key.now from at state.now result) vnodes.new.items }
@@ -268,7 +268,7 @@ fn merge_part_in(
     stamp: u64,
     key: &Key,
     from: u32,
-    at: u32,
+    at: u64,
     part: &Part,
 ) -> Result<PartAnswer, PeerFault>
     ensures { MergesPartIn stamp key.now from at part.now vnode.old result vnode.new }
@@ -288,7 +288,7 @@ fn merge_part_at(
     i: usize,
     key: &Key,
     from: u32,
-    at: u32,
+    at: u64,
     part: &Part,
 ) -> Result<PartAnswer, PeerFault>
     ensures does { Does stamp vnodes.old.items (MergePartAt i key.now from at part.now result) vnodes.new.items }
@@ -354,7 +354,7 @@ impl Peers for Local {
         i: usize,
         key: &Key,
         from: u32,
-        at: u32,
+        at: u64,
         state: &KeyState,
     ) -> Result<bool, PeerFault> {
         let back = if self.loses() {
@@ -388,7 +388,7 @@ impl Peers for Local {
         i: usize,
         key: &Key,
         from: u32,
-        at: u32,
+        at: u64,
         part: &Part,
     ) -> Result<PartAnswer, PeerFault> {
         let back = if self.loses() {

@@ -13,7 +13,7 @@ pub struct Answer {
     /// The identifier of the vnode.
     pub from: u32,
     /// The place of the read in its journal.
-    pub at: u32,
+    pub at: u64,
     /// The state of the key there.
     pub state: KeyState,
 }
@@ -24,7 +24,7 @@ pub struct SummaryAnswer {
     /// The identifier of the vnode.
     pub from: u32,
     /// The place of the read in its journal.
-    pub at: u32,
+    pub at: u64,
     /// The summary of the state of the key there.
     pub summary: Summary,
 }
@@ -69,7 +69,7 @@ pub trait Peers {
         i: usize,
         key: &Key,
         from: u32,
-        at: u32,
+        at: u64,
         state: &KeyState,
     ) -> Result<bool, PeerFault>
         ensures { happens self.old (MergeAt i key.now from at state.now result) self.new };
@@ -89,7 +89,7 @@ pub trait Peers {
         i: usize,
         key: &Key,
         from: u32,
-        at: u32,
+        at: u64,
         part: &Part,
     ) -> Result<PartAnswer, PeerFault>
         ensures { happens self.old (MergePartAt i key.now from at part.now result) self.new };

@@ -48,7 +48,7 @@ pub fn record_bytes(
     alloc: Global,
     key: &Key,
     from: u32,
-    at: u32,
+    at: u64,
     state: &KeyState,
 ) -> Result<Vec<u8>, Unspelled>
     ensures is_record { IfOk result (λ bytes. IsRecord (record_of key.now from at state.now) × (bytes.items ≡ spelling (record_of key.now from at state.now))) }

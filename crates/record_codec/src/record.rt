@@ -10,7 +10,7 @@ pub struct Record {
     /// The identifier of the vnode whose state it is.
     pub from: u32,
     /// The place of that vnode's journal at which the state was read.
-    pub at: u32,
+    pub at: u64,
     /// The siblings and the clock.
     pub state: KeyState,
 }

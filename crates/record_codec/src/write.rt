@@ -47,7 +47,7 @@ pub fn write_record(
     alloc: Global,
     key: &Key,
     from: u32,
-    at: u32,
+    at: u64,
     state: &KeyState,
 ) -> Result<Vec<u8>, AllocError>
     requires key { IsKey key.now }
@@ -82,7 +82,7 @@ fn put_body(
     out: &mut Vec<u8>,
     key: &Key,
     from: u32,
-    at: u32,
+    at: u64,
     state: &KeyState,
 ) -> Result<(), AllocError>
     requires key { IsKey key.now }

@@ -9,7 +9,7 @@ pub struct PutAnswer {
     /// The dot of what was put.
     pub dot: Dot,
     /// The place of its entry in the journal.
-    pub place: u32,
+    pub place: u64,
     /// The state that was at its key before.
     pub was: Shared,
 }
@@ -20,7 +20,7 @@ pub struct MergeAnswer {
     /// Whether siblings or clock of the key changed.
     pub changed: bool,
     /// The place of its entry in the journal.
-    pub place: u32,
+    pub place: u64,
     /// The state that was at the key before.
     pub was: Shared,
 }

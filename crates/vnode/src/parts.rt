@@ -37,7 +37,7 @@ pub fn merged_part_of<'a>(
     alloc: Global,
     key: &Key,
     from: u32,
-    at: u32,
+    at: u64,
     part: &'a Part,
 ) -> Result<(Box<Merged>, PreparedPart<'a>), AllocError>
     ensures { IfOk result (λ made. (made.0.value.key ≡ key.now) × (made.0.value.from ≡ from) × (made.0.value.at ≡ at) × (made.1 ≡ part.now)) }

@@ -237,7 +237,7 @@ impl Vnode {
         stamp: u64,
         key: &Key,
         from: u32,
-        at: u32,
+        at: u64,
         state: &KeyState,
     ) -> Result<MergeAnswer, VnodeFault>
         ensures changed { IfOk result (λ merge. TellsChange self.old.entries (Merge stamp key.now from at state.now) key.now merge.changed) }
@@ -268,7 +268,7 @@ impl Vnode {
     }
 
     /// Copies the state of a key. Answers it, and the place of the entry.
-    pub fn read(&mut self, stamp: u64, key: &Key) -> Result<(KeyState, u32), VnodeFault>
+    pub fn read(&mut self, stamp: u64, key: &Key) -> Result<(KeyState, u64), VnodeFault>
         ensures state { IfOk result (λ read. IsReplay self.old.entries key.now read.0) }
         ensures place { IfOk result (λ read. read.1 ≡ length self.old.entries) }
         ensures entry { OnOk result (self.new ≡ with_entry self.old (Read stamp key.now)) }
@@ -287,7 +287,7 @@ impl Vnode {
 
     /// Writes down that a key was read, where nobody waits for what it answers: nothing is looked up. The entry takes the key over. Answers
     /// the place of the entry.
-    pub fn note_read(&mut self, stamp: u64, key: Key) -> Result<u32, VnodeFault>
+    pub fn note_read(&mut self, stamp: u64, key: Key) -> Result<u64, VnodeFault>
         ensures state { (state : State) × IsReplay self.old.entries key state }
         ensures place { IfOk result (λ place. place ≡ length self.old.entries) }
         ensures entry { OnOk result (self.new ≡ with_entry self.old (Read stamp key)) }
@@ -310,7 +310,7 @@ impl Vnode {
     }
 
     /// The summary of what is held under a key. Answers it, and the place of the entry: it is a read of the key.
-    pub fn summary(&mut self, stamp: u64, key: &Key) -> Result<(Summary, u32), VnodeFault>
+    pub fn summary(&mut self, stamp: u64, key: &Key) -> Result<(Summary, u64), VnodeFault>
         ensures summary { IfOk result (λ read. Leaves self.old.entries key.now (λ state. read.0 ≡ summary_of state)) }
         ensures place { IfOk result (λ read. read.1 ≡ length self.old.entries) }
         ensures entry { OnOk result (self.new ≡ with_entry self.old (Read stamp key.now)) }
@@ -357,7 +357,7 @@ impl Vnode {
         stamp: u64,
         key: &Key,
         from: u32,
-        at: u32,
+        at: u64,
         part: &Part,
     ) -> Result<MergeAnswer, PartFault>
         ensures held { OnOk result (Leaves self.old.entries key.now (λ own. lacks_some own part.now ≡ false)) }
@@ -415,7 +415,7 @@ impl Vnode {
     }
 
     /// Starts again. Nothing is lost. Answers the place of the entry.
-    pub fn restart(&mut self, stamp: u64) -> Result<u32, VnodeFault>
+    pub fn restart(&mut self, stamp: u64) -> Result<u64, VnodeFault>
         ensures place { IfOk result (λ place. place ≡ length self.old.entries) }
         ensures entry { OnOk result (self.new ≡ with_entry self.old (Restart stamp)) }
         ensures accepts { OnOk result (TakesEntry self.old.entries) }

@@ -110,7 +110,7 @@ impl Run {
     }
 
     /// Reads a key at a vnode. The place of the entry is that of the answer.
-    pub(crate) fn read_at(&mut self, at: usize, key: &Key) -> Result<(KeyState, u32), VnodeFault>
+    pub(crate) fn read_at(&mut self, at: usize, key: &Key) -> Result<(KeyState, u64), VnodeFault>
         requires inside { at < length self.old.vnodes.items }
         requires room { self.old.made + 1 < 2 ^ 64 }
         ensures read { OnOk result (Appends self.old.vnodes.items self.new.vnodes.items at (Read self.old.made key.now)) }

@@ -86,7 +86,7 @@ pub struct Message {
     /// The vnode's identifier.
     pub from: u32,
     /// The place of the entry in its journal.
-    pub at: u32,
+    pub at: u64,
     pub state: KeyState,
 }
 
@@ -97,7 +97,7 @@ pub struct PartMessage {
     /// The vnode's identifier.
     pub from: u32,
     /// The place of the entry in its journal.
-    pub at: u32,
+    pub at: u64,
     pub part: Part,
 }
 

@@ -111,7 +111,7 @@ fn loaded(
 {
     let mut vnode = Vnode::new(alloc, id);
     for (index, one) in held.iter().enumerate() {
-        let at = (first + index) as u32;
+        let at = (first + index) as u64;
         merge_copy(&mut vnode, stamp + index as u64, from, at, one)?;
     }
     // What every journal keeps is told with it.
@@ -124,7 +124,7 @@ fn merge_copy(
     vnode: &mut Vnode,
     stamp: u64,
     from: u32,
-    at: u32,
+    at: u64,
     one: &Copied,
 ) -> Result<(), VnodeFault>
     requires unknown { IsReplay vnode.old.entries one.now.key empty }

@@ -39,7 +39,7 @@ fn deliver(
     local: &mut Local,
     read: &Entry,
     from: u32,
-    at: u32,
+    at: u64,
     state: &KeyState,
 ) -> Result<(), Fail> {
     let Said::Read { key, .. } = read.said() else {

@@ -50,7 +50,7 @@ impl Peers for Watched {
         i: usize,
         key: &Key,
         from: u32,
-        at: u32,
+        at: u64,
         state: &KeyState,
     ) -> Result<bool, PeerFault> {
         self.sent[2] = self.sent[2].saturating_add(1);
@@ -70,7 +70,7 @@ impl Peers for Watched {
         i: usize,
         key: &Key,
         from: u32,
-        at: u32,
+        at: u64,
         part: &Part,
     ) -> Result<PartAnswer, PeerFault> {
         self.sent[0] = self.sent[0].saturating_add(1);

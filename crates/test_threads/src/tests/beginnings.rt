@@ -27,7 +27,7 @@ pub(super) fn merge_of(
     stamp: u64,
     key: &Key,
     from: u32,
-    at: u32,
+    at: u64,
     state: &KeyState,
 ) -> Result<Entry, AllocError> {
     let merged = Merged {
