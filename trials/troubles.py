@@ -28,6 +28,7 @@ PROPERTIES = {PRE_COMMIT: "precommit", RESOLVER: "resolver"}
 EXIT = b"\x95" + bytes(7)
 QUIET_SECONDS = 0.2
 LINE_SECONDS = 10.0
+DUE_SECONDS = 1.7  # a worker times what goes wrong by the beginning of its turn, which waits half a second at the most
 LEAST_APART_SECONDS = 0.7  # a line that is read late seems nearer to the next
 LEFT_OUT = " of its kind left out before"
 
@@ -91,7 +92,9 @@ def try_trouble(found: Findings, server: Server, clients: list[Client], trouble:
     found.hold(texts[:1] == [trouble.line], f"the first of {bucket}: {texts[:1]}")
     found.hold(len(texts) <= took + 1, f"at most one a second of {bucket}: {len(texts)} in {took:.2f} s")
     found.hold(all(seconds >= LEAST_APART_SECONDS for seconds in apart), f"a second apart of {bucket}: {apart}")
-    time.sleep(1)
+    if not lines:
+        return
+    time.sleep(max(0.0, lines[-1].moment + DUE_SECONDS - time.monotonic()))
     behind = len(server.told)
     clients[0].ask("PUT", f"{trouble.path(0)}?at=0", b"v")
     clients[0].ask("GET", trouble.path(0))
