@@ -170,7 +170,7 @@ def told_sizes(trial: ModuleType) -> dict[str, str]:
 def program_of(word: str) -> Path:
     if word != "unproved":
         return Path(word).resolve()
-    print("building the program without proofs", flush=True)
+    print("the program without proofs is built where none is kept", flush=True)
     return unproved.build()
 
 
