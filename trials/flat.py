@@ -4,17 +4,12 @@ Each of three loads has a server of its own, with two workers; all go on at the 
 bucket's hook rejects. `large`: a key of 65,536 bytes that is read and written again in the context of that read. `deletes`: fresh
 keys, each written, read and deleted. Memory is what the system says that a process holds, told from time to time, and of deletes
 how many bytes each deleted key has taken since half of the time: until then what is kept of the last answers, and for what waits,
-fills up.
-
-Contents that wait to be followed take up to 64 MiB for a while where the machine has else to do. So what is compared is the middle
-of all looks of the last quarter with that of the quarter before half of the time: no server may hold more than 5 % above it, less
-250 bytes for each key that was deleted since. The most that was held is told. The short form, which is over before all is filled
-up, judges the answers alone.
+fills up. After that half no server may hold more than 5 % above what it held then, less 250 bytes for each key that was deleted
+since. The short form, which is over before all is filled up, judges the answers alone.
 """
 from __future__ import annotations
 
 import random
-import statistics
 import threading
 import time
 from dataclasses import dataclass
@@ -141,17 +136,15 @@ def watched(found: Findings, loads: list[Load], minutes: float) -> list[list[Loo
 
 
 def growth_of(found: Findings, load: Load, looks: list[Look]) -> float:
-    """By what part the last quarter's middle is above that of the quarter before half of the time, less what is kept of deleted keys."""
+    """By what part the most that a server held after half of the time is above what it held then, less what is kept of deleted keys."""
     half, last, name = looks[len(looks) // 2 - 1], looks[-1], type(load).__name__
     a_round = DELETED_KEY_BYTES if load.is_of_deletes else 0
-    held = [look.memory_bytes - a_round * (look.rounds - half.rounds) for look in looks]
-    quarter = len(held) // 4
-    before, behind = statistics.median(held[quarter : 2 * quarter]), statistics.median(held[3 * quarter :])
+    most = max(look.memory_bytes - a_round * (look.rounds - half.rounds) for look in looks[len(looks) // 2 :])
+    growth = most / half.memory_bytes - 1
     if load.is_of_deletes:
         each = (last.memory_bytes - half.memory_bytes) / max(1, last.rounds - half.rounds)
         found.say(f"{name}: {each:.0f} bytes a deleted key")
-    growth, most = behind / before - 1, max(held[2 * quarter :]) / before - 1
-    found.say(f"{name}: {before / MIB:.1f} MB before half of the time, in the last quarter {growth:+.1%}, at the most {most:+.1%}")
+    found.say(f"{name}: {half.memory_bytes / MIB:.1f} MB after half of the time, then at the most {growth:+.1%}")
     return growth
 
 
@@ -166,5 +159,5 @@ def run(program: Path, seed: int, size: Size) -> Result:
         load.end()
         found.hold(not load.fault, f"{type(load).__name__}: {load.fault}")
         found.hold(not size.is_judged or growth <= SPARE_PART, f"{type(load).__name__} is flat, and does not grow by {growth:.1%}")
-    shown = f"growth {max(growths):+.1%}"
+    shown = f"growth {max(growths):+.1%} at the most"
     return found.result(shown if size.is_judged else f"{shown}, not judged")

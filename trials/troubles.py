@@ -28,8 +28,8 @@ PROPERTIES = {PRE_COMMIT: "precommit", RESOLVER: "resolver"}
 EXIT = b"\x95" + bytes(7)
 QUIET_SECONDS = 0.2
 LINE_SECONDS = 10.0
-DUE_SECONDS = 1.7  # a worker times what goes wrong by the beginning of its turn, which waits half a second at the most
-LEAST_APART_SECONDS = 0.7  # a line that is read late seems nearer to the next
+DUE_SECONDS = 1.0  # at most one line of a kind a second: so long after one the next failure is told
+LEAST_APART_SECONDS = 0.95  # a second, less what reading a line may take
 LEFT_OUT = " of its kind left out before"
 
 
