@@ -112,4 +112,4 @@ def run(program: Path, seed: int, size: Size) -> Result:
     for method, connections in itertools.product(METHODS, size.connections):
         found.say(rates.line(method, connections))
     first = ", ".join(f"{method} {rates.ratio('redis', method, size.connections[0]):.2f}" for method in METHODS)
-    return found.result(f"at {size.connections[0]} connections {first} of redis")
+    return found.result(f"connections {size.connections[0]}: {first} of redis")

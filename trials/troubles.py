@@ -28,7 +28,8 @@ PROPERTIES = {PRE_COMMIT: "precommit", RESOLVER: "resolver"}
 EXIT = b"\x95" + bytes(7)
 QUIET_SECONDS = 0.2
 LINE_SECONDS = 10.0
-LEAST_APART_SECONDS = 0.7  # a line that is read late seems nearer to the next
+DUE_SECONDS = 1.0  # at most one line of a kind a second: so long after one the next failure is told
+LEAST_APART_SECONDS = 0.95  # a second, less what reading a line may take
 LEFT_OUT = " of its kind left out before"
 
 
@@ -91,7 +92,9 @@ def try_trouble(found: Findings, server: Server, clients: list[Client], trouble:
     found.hold(texts[:1] == [trouble.line], f"the first of {bucket}: {texts[:1]}")
     found.hold(len(texts) <= took + 1, f"at most one a second of {bucket}: {len(texts)} in {took:.2f} s")
     found.hold(all(seconds >= LEAST_APART_SECONDS for seconds in apart), f"a second apart of {bucket}: {apart}")
-    time.sleep(1)
+    if not lines:
+        return
+    time.sleep(max(0.0, lines[-1].moment + DUE_SECONDS - time.monotonic()))
     behind = len(server.told)
     clients[0].ask("PUT", f"{trouble.path(0)}?at=0", b"v")
     clients[0].ask("GET", trouble.path(0))

@@ -1,0 +1,90 @@
+"""Folders of a kept store that can't be had or written, and settings.
+
+A start is refused whose folder is a file, and one that can't write its number; the folder stays as it is. Where what is held can't
+be written at a stop, that has to be told, status 1, and the next start has what the last whole files hold. `settings` that are no
+line of theirs are refused; snapshots of a number of seconds come by themselves, and none with 0. Of a store that nothing keeps no
+snapshot can be asked for.
+"""
+from __future__ import annotations
+
+import random
+import resource
+import signal
+from pathlib import Path
+
+import kept
+from server import End, Server
+from trial import Findings, Result, Whole
+
+NAME = "folders"
+PROMISES = "A folder that can't be had or written is told in a line, and keeps what it held."
+QUICK = True
+FULL = SHORT = Whole()
+
+WRONG_SETTINGS = ("", "snapshot", "snapshot \n", "snapshot -1\n", "snapshot 007\n", "snapshot 4294967296\n", "snapshot 1\n\n", "snapshot 1")
+BY_THEMSELVES = {"snapshot 1\n": True, "snapshot 0\n": False}
+WAIT_SECONDS = 3.0
+FEW_BYTES = 200
+END_SECONDS = 60
+
+
+def allow_files_of(most_bytes: int) -> None:
+    """No file may have more bytes: further writes fail."""
+    signal.signal(signal.SIGXFSZ, signal.SIG_IGN)
+    resource.setrlimit(resource.RLIMIT_FSIZE, (most_bytes, most_bytes))
+
+
+def try_refusals(found: Findings, program: Path, folder: Path) -> None:
+    whole = kept.contents(folder)
+    no_folder = kept.refusal(program, folder / "incarnation")
+    found.hold(no_folder == kept.Refusal(1, "refused folder: refused by the system\n"), f"a file in place of a folder: {no_folder}")
+    no_number = kept.refusal(program, folder, lambda: allow_files_of(0))
+    found.hold(no_number == kept.Refusal(1, "refused incarnation: refused by the system\n"), f"no number can be written: {no_number}")
+    left = {name: data for name, data in kept.contents(folder).items() if not name.endswith(".part")}
+    found.hold(left == whole, "no number can be written: the folder was changed")
+
+
+def try_unwritten_stop(found: Findings, program: Path, folder: Path) -> None:
+    with Server.keep(program, folder, before=lambda: allow_files_of(FEW_BYTES)) as server:
+        kept.put(server, "full", b"x")
+        end = server.stop()
+        is_told = end is not None and end.status == 1 and len(end.printed) == 2 and end.printed[0].startswith("not kept ")
+        found.hold(is_told and end.printed[1] == "audit ok", f"a stop that can't write: {end}")
+    with Server.keep(program, folder) as again:
+        found.hold(again.loaded == server.loaded, f"after a stop that couldn't write: {again.loaded} records in place of {server.loaded}")
+        again.stop_in_order()
+
+
+def try_settings(found: Findings, program: Path, folder: Path) -> None:
+    settings = folder / kept.SETTINGS
+    for text in WRONG_SETTINGS:
+        settings.write_text(text, encoding="ascii")
+        whole = kept.contents(folder)
+        refusal = kept.refusal(program, folder)
+        found.hold(refusal.names(kept.SETTINGS) and kept.contents(folder) == whole, f"settings {text!r}: {refusal}")
+    for text, comes in BY_THEMSELVES.items():
+        settings.write_text(text, encoding="ascii")
+        with Server.keep(program, folder) as server:
+            kept.put(server, "set", b"x")  # none is made of a store to which nothing was written
+            line = server.told.at(0, WAIT_SECONDS)
+            found.hold(kept.is_whole_snapshot(line) == comes, f"settings {text!r}: {line}")
+            server.stop_in_order()
+    settings.unlink()
+
+
+def try_served(found: Findings, program: Path) -> None:
+    with Server.serve(program) as server:
+        server.say("snapshot")
+        end = server.stop(END_SECONDS)
+        found.hold(end == End(0, ["audit ok"], ["unknown line"]), f"a snapshot of what isn't kept: {end}")
+
+
+def run(program: Path, seed: int, size: Whole) -> Result:
+    found = Findings()
+    with kept.folders() as folder:
+        kept.fill(program, folder, random.Random(seed), starts=1)
+        try_refusals(found, program, folder)
+        try_settings(found, program, folder)
+        try_unwritten_stop(found, program, folder)
+    try_served(found, program)
+    return found.result(f"{len(WRONG_SETTINGS)} settings refused, {len(BY_THEMSELVES)} taken, 3 folders")
