@@ -73,23 +73,20 @@ pub trait Server {
 
     /// Takes the store that a folder keeps, tells on `out` how many records it has, and then answers connections as
     /// [`serve`](Server::serve) does. At the end all that the store holds is written into the folder, and how many records it has is told,
-    /// or why it isn't. A server that has no folders keeps no store: it is `Unreadable`.
+    /// or why it isn't.
     fn keep<O: Write>(
         &mut self,
-        _alloc: Global,
-        _table: Table,
+        alloc: Global,
+        table: Table,
         more: Vec<Table>,
-        _site: &Site<'_>,
+        site: &Site<'_>,
         out: &mut O,
     ) -> Result<Ended, Unserved>
         requires ready { ready }
         requires few { vec_len more < 16 }
         ensures told { IfOk result (HasKept (O.contents out.old) (O.contents out.new)) }
         ensures refused { IfErr result (λ why. why ≡ Unserved.Refused → HasRefused (O.contents out.old) (O.contents out.new)) }
-        ensures untold { IfErr result (λ why. why ≡ Unserved.NoMemory → O.contents out.new ≡ O.contents out.old) }
-    {
-        Err(Unserved::Unreadable)
-    }
+        ensures untold { IfErr result (λ why. why ≡ Unserved.NoMemory → O.contents out.new ≡ O.contents out.old) };
 }
 
 /// Serves nothing: no address can be bound.
@@ -106,6 +103,17 @@ impl Server for Offline {
         _count: Option<u32>,
         _out: &mut O,
     ) -> Result<Followed, Unserved> {
+        Err(Unserved::Unreadable)
+    }
+
+    fn keep<O: Write>(
+        &mut self,
+        _alloc: Global,
+        _table: Table,
+        _more: Vec<Table>,
+        _site: &Site<'_>,
+        _out: &mut O,
+    ) -> Result<Ended, Unserved> {
         Err(Unserved::Unreadable)
     }
 }

@@ -11,7 +11,7 @@ use bpf_interpreter::{State, Stop, drive, padded, run};
 use bpf_semantics::Windows;
 use bpf_verifier::Verified;
 use commands::files::Files;
-use commands::server::{Server, Unserved};
+use commands::server::{Ended, Server, Site, Unserved};
 use std::alloc::{AllocError, Global};
 use std::io;
 use std::io::Write;
@@ -93,6 +93,17 @@ impl Server for Both<'_> {
             }
             Err(AllocError) => Err(Unserved::NoMemory),
         }
+    }
+
+    fn keep<O: Write>(
+        &mut self,
+        _alloc: Global,
+        _table: Table,
+        _more: Vec<Table>,
+        _site: &Site<'_>,
+        _out: &mut O,
+    ) -> Result<Ended, Unserved> {
+        Err(Unserved::Unreadable)
     }
 }
 

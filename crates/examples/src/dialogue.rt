@@ -9,7 +9,7 @@ use crate::texts::first_difference;
 use audit_faults::{Followed, WatchFault};
 use bpf_helpers::Table;
 use commands::files::Files;
-use commands::server::{Server, Unserved};
+use commands::server::{Ended, Server, Site, Unserved};
 use hook_registry::Registry;
 use http_connection::Backend;
 use peers::Local;
@@ -74,6 +74,17 @@ impl Server for Dialogue<'_> {
         drop(more);
         let mut store = open(alloc, table)?;
         self.answer(alloc, &mut store, addr, out)
+    }
+
+    fn keep<O: Write>(
+        &mut self,
+        _alloc: Global,
+        _table: Table,
+        _more: Vec<Table>,
+        _site: &Site<'_>,
+        _out: &mut O,
+    ) -> Result<Ended, Unserved> {
+        Err(Unserved::Unreadable)
     }
 }
 

@@ -9,7 +9,7 @@ use crate::folder::{Folder, read_ending};
 use audit_faults::{Followed, WatchFault};
 use bpf_helpers::Table;
 use commands::files::Files;
-use commands::server::{Server, Unserved};
+use commands::server::{Ended, Server, Site, Unserved};
 use http_connection::Backend;
 use http_connections::Client;
 use server_one_thread::{Arrival, Delivery, answer_all};
@@ -68,6 +68,17 @@ impl Server for Play<'_> {
         drop(more);
         let mut store = open(alloc, table)?;
         self.answer(alloc, &mut store, addr, out)
+    }
+
+    fn keep<O: Write>(
+        &mut self,
+        _alloc: Global,
+        _table: Table,
+        _more: Vec<Table>,
+        _site: &Site<'_>,
+        _out: &mut O,
+    ) -> Result<Ended, Unserved> {
+        Err(Unserved::Unreadable)
     }
 }
 

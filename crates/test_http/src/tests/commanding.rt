@@ -4,7 +4,7 @@ use audit_faults::{AuditFault, EntryFault, Followed, WatchFault};
 use bpf_helpers::Table;
 use commands::files::{Files, Part};
 use commands::own::command_with_helpers;
-use commands::server::{Server, Unserved};
+use commands::server::{Ended, Server, Site, Unserved};
 use std::alloc::Global;
 use std::io;
 use std::io::Write;
@@ -51,6 +51,17 @@ impl Server for Deserted {
         writeln!(out, "listening {addr}")?;
         self.asked = Some((1 + more.len(), count));
         Ok(said)
+    }
+
+    fn keep<O: Write>(
+        &mut self,
+        _alloc: Global,
+        _table: Table,
+        _more: Vec<Table>,
+        _site: &Site<'_>,
+        _out: &mut O,
+    ) -> Result<Ended, Unserved> {
+        Err(Unserved::Unreadable)
     }
 }
 
