@@ -13,6 +13,7 @@ use crate::reasons::listen;
 use crate::saver::{Saver, Shelf};
 use crate::session::Left;
 use audit_cluster::Spot;
+use bpf_helpers::Sigs;
 use cluster::{Cluster, Room};
 use hook_registry::{HookChanges, Hooks};
 use kept_file::KeptFile;
@@ -20,7 +21,6 @@ use kept_folder::{Folder, HOOKS, Held, Settings};
 use kept_hooks::{HooksAlone, Recorder, ReplayFault, Requests, replay};
 use kept_restore::laws::loads_stand;
 use kept_restore::{Passes, Unloaded, fronts_of};
-use quorum::Hooking;
 use server_accept::{Lobby, Setup, open};
 use std::alloc::{AllocError, Global};
 use std::io;
@@ -189,9 +189,14 @@ pub fn live<
         files,
         ..
     } = held;
+    let Some(mut seat) = seats.pop() else {
+        unreachable!();
+    };
     if folder.is_some() {
-        lookout.requests = begin_hooks(host, &mut seats, &hooks)?;
+        let sigs = &seat.hooking.table.listed;
+        lookout.requests = begin_hooks(host, sigs, &mut seat.hooking.hooks, &hooks)?;
     }
+    seats.push_reserved(seat);
     let loaded = loaded_in(&files);
     // Else each state would be kept until the end that a key had at the start.
     drop(files);
@@ -287,25 +292,17 @@ fn loaded_in(files: &[KeptFile]) -> usize {
     loaded
 }
 
-/// Has the hooks of the workers of the seats begin with requests, by the last seat. The requests are written down once more.
-fn begin_hooks<B: Room, H: HookChanges, R: Wait>(
+/// Has hooks that may call helpers with these signatures begin with requests. The requests are written down once more.
+fn begin_hooks<H: HookChanges, R: Wait>(
     host: &Host<'_, R>,
-    seats: &mut Vec<Seat<B, H>>,
+    sigs: &Sigs,
+    hooks: &mut H,
     held: &[u8],
-) -> Result<Requests, Unbegun>
-    ensures count { vec_len seats.new ≡ vec_len seats.old }
-{
-    let Some(seat) = seats.last_mut() else {
-        return Ok(Requests::new(host.alloc));
-    };
-    let Hooking { hooks, table, .. } = &mut seat.hooking;
-    let list = Mutex::new(Requests::new(host.alloc));
-    let mut recorder = Recorder::new(
-        HooksAlone::new(host.alloc, &table.listed, hooks),
-        &list,
-        host.rt,
-    );
-    match replay(host.alloc, held, &mut recorder) {
+) -> Result<Requests, Unbegun> {
+    let (alloc, rt) = (host.alloc, host.rt);
+    let list = Mutex::new(Requests::new(alloc));
+    let mut recorder = Recorder::new(HooksAlone::new(alloc, sigs, hooks), &list, rt);
+    match replay(alloc, held, &mut recorder) {
         Ok(_) => {}
         Err(ReplayFault::NoMemory) => return Err(Unbegun::NoMemory),
         Err(fault) => return Err(Unbegun::Hooks(fault)),

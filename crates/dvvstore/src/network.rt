@@ -120,7 +120,6 @@ impl<
         let making = Making {
             first: u32::from(self.begin()) * IDENTIFIERS_PER_START,
             seed,
-            tables: more,
         };
         let stay = Stay {
             folder: None::<SystemFolder<'_>>,
@@ -128,7 +127,7 @@ impl<
             door: Door::<'_, R>::Open(&lobby),
             err: self.err,
         };
-        match session::live(&self.host(alloc), making, stay, &mut io::sink()) {
+        match session::live(&self.host(alloc), making, more, stay, &mut io::sink()) {
             Ok(Left::Kept(served)) => Ok(served.closed.said),
             _ => Ok(NO_MEMORY),
         }
@@ -160,7 +159,6 @@ impl<
         let making = Making {
             first: u32::from(number) * IDENTIFIERS_PER_START,
             seed,
-            tables: more,
         };
         let stay = Stay {
             folder: Some(folder),
@@ -173,7 +171,7 @@ impl<
             }),
             err: self.err,
         };
-        match session::live(&self.host(alloc), making, stay, out) {
+        match session::live(&self.host(alloc), making, more, stay, out) {
             Ok(Left::Kept(served)) => finish(alloc, &mut folder, served, out),
             Ok(Left::Lost) => lose(alloc, out),
             Err(Unbegun::Unreadable) => Err(Unserved::Unreadable),

@@ -32,18 +32,14 @@ use std::sync::{Mutex, Wait};
 use std::thread::Threads;
 use vnode::Seed;
 
-/// How the vnodes of a start are made, and a worker for each table.
-#[derive(Drop)]
+/// How the vnodes of a start are made.
+#[derive(Clone, Copy)]
 pub struct Making {
     /// The first of their identifiers.
     pub first: u32,
     /// What the hashes of their keys begin with.
     pub seed: Seed,
-    /// The helpers that the hooks of each worker may call.
-    pub tables: Vec<Table>,
     ghost numbers: { first + 3 ≤ 2 ^ 32 },
-    ghost some: { 0 < vec_len tables },
-    ghost few: { vec_len tables ≤ 16 },
 }
 
 /// What is left of a store.
@@ -55,35 +51,42 @@ pub enum Left {
     Lost,
 }
 
-/// A word that nobody has drawn a stamp from.
+/// A word that nobody has drawn a stamp from, and how the vnodes are made that draw from it.
 #[derive(Drop)]
 struct Undrawn {
+    making: Making,
     stamps: Stamps,
     card: Card,
 }
 
-/// A store that has begun: three vnodes, and a pass and a table for each worker.
+/// Three vnodes that have begun.
 #[derive(Drop)]
-struct Parts<B: Room + Spot> {
+struct Vnodes<B: Room + Spot> {
     cluster: Cluster<B>,
-    /// Those of workers.
+    /// The passes of workers.
     passes: Vec<Pass<B>>,
-    tables: Vec<Table>,
     /// Who follows what workers do.
     lookout: Lookout<B>,
-    /// With what it has begun.
+    /// With what they have begun.
     begun: Begun<B>,
-    ghost some: { 0 < vec_len tables },
-    ghost few: { vec_len tables ≤ 16 },
-    ghost each: { vec_len passes ≡ vec_len tables },
     ghost all: { cluster.passes ≡ vec_len passes + 4 },
     ghost spot: { cluster.first ≡ B.first },
-    ghost vnodes: { cluster.vnodes ≡ 3 },
+    ghost three: { cluster.vnodes ≡ 3 },
+}
+
+/// The parts of a store that has begun: its vnodes, and a table for each worker, who has a pass.
+#[derive(Drop)]
+struct Parts<B: Room + Spot> {
+    vnodes: Vnodes<B>,
+    tables: Vec<Table>,
+    ghost some: { 0 < vec_len tables },
+    ghost few: { vec_len tables ≤ 16 },
+    ghost each: { vec_len vnodes.passes ≡ vec_len tables },
 }
 
 /// Where the hooks of workers come from: who changes them, and a reader of them for each.
 #[derive(Drop)]
-struct Hooked<'a, J: Naming, T: Rack<J>, R> {
+struct Hooked<'a, J: Naming, T: Rack<J> + Drop, R: Wait + Drop> {
     installer: &'a Mutex<Installer<J, T, R>>,
     handle: &'a R,
     readers: Vec<HookReader<J, T>>,
@@ -97,23 +100,32 @@ pub fn live<
     N: Net<Listener = TcpListener, Stream = TcpStream>,
     F: Folder + Copy + Send,
     O: Write,
->(host: &Host<'_, R>, making: Making, stay: Stay<'_, N, F>, out: &mut O) -> Result<Left, Unbegun>
+>(
+    host: &Host<'_, R>,
+    making: Making,
+    tables: Vec<Table>,
+    stay: Stay<'_, N, F>,
+    out: &mut O,
+) -> Result<Left, Unbegun>
+    requires some { 0 < vec_len tables }
+    requires few { vec_len tables ≤ 16 }
     ensures told { Tells stay.entry.door result (O.contents out.old) (O.contents out.new) }
     ensures kept { Leaves stay.entry.folder making.first stay.entry.held.files.items result }
 {
     let size = Size {
         first: making.first,
         vnodes: VNODES as usize,
-        passes: making.tables.len() + SPARE_PASSES,
+        passes: tables.len() + SPARE_PASSES,
     };
     match Stamps::new(host.alloc, &size) {
-        Ok((stamps, card)) => over_stamps::<Brand, R, N, F, O>(
-            host,
-            making,
-            Undrawn { stamps, card },
-            stay,
-            out,
-        ),
+        Ok((stamps, card)) => {
+            let undrawn = Undrawn {
+                making,
+                stamps,
+                card,
+            };
+            over_stamps::<Brand, R, N, F, O>(host, undrawn, tables, stay, out)
+        }
         Err(_) => Err(Unbegun::NoMemory),
     }
 }
@@ -127,53 +139,55 @@ fn over_stamps<
     O: Write,
 >(
     host: &Host<'_, R>,
-    making: Making,
     undrawn: Undrawn,
+    tables: Vec<Table>,
     stay: Stay<'_, N, F>,
     out: &mut O,
 ) -> Result<Left, Unbegun>
+    requires some { 0 < vec_len tables }
+    requires few { vec_len tables ≤ 16 }
     requires table { (undrawn.stamps.table.shared.table_id ≡ B.table) × (undrawn.card.table_id ≡ B.table) }
-    requires size { undrawn.stamps.table.shared.key ≡ record { first = making.first; vnodes = 3; passes = vec_len making.tables + 4 } }
-    requires spot { making.first ≡ B.first }
+    requires size { undrawn.stamps.table.shared.key ≡ record { first = undrawn.making.first; vnodes = 3; passes = vec_len tables + 4 } }
+    requires spot { undrawn.making.first ≡ B.first }
     requires card { undrawn.card.me ≡ (newcomer undrawn.stamps.table.shared.key, []) }
     ensures told { Tells stay.entry.door result (O.contents out.old) (O.contents out.new) }
-    ensures kept { Leaves stay.entry.folder making.first stay.entry.held.files.items result }
+    ensures kept { Leaves stay.entry.folder undrawn.making.first stay.entry.held.files.items result }
 {
-    let seed = making.seed;
-    let parts = begin(host, making, undrawn, &stay)?;
-    let opening = Opening::seeded(seed.build_hasher());
+    let opening = Opening::seeded(undrawn.making.seed.build_hasher());
+    let vnodes = begin(host, undrawn, tables.len(), &stay)?;
+    let parts = Parts { vnodes, tables };
     over_cluster::<B, Brand, R, N, F, O>(host, parts, opening, stay, out)
 }
 
-/// Has the vnodes take over what a folder held, each by a pass of its own, by which it is read for snapshots later, while that is followed
-/// by the last of the passes. Where no folder keeps the store they begin with nothing.
+/// Opens vnodes for so many workers, and has them take over what a folder held, each by a pass of its own, by which it is read for
+/// snapshots later, while that is followed by the last of the passes. Where no folder keeps the store they begin with nothing.
 fn begin<B: Room + Spot + Send + Sync, R: Threads + Wait + Sync, N, F: Copy>(
     host: &Host<'_, R>,
-    making: Making,
     undrawn: Undrawn,
+    workers: usize,
     stay: &Stay<'_, N, F>,
-) -> Result<Parts<B>, Unbegun>
+) -> Result<Vnodes<B>, Unbegun>
+    requires few { workers ≤ 16 }
     requires table { (undrawn.stamps.table.shared.table_id ≡ B.table) × (undrawn.card.table_id ≡ B.table) }
-    requires size { undrawn.stamps.table.shared.key ≡ record { first = making.first; vnodes = 3; passes = vec_len making.tables + 4 } }
-    requires spot { making.first ≡ B.first }
+    requires size { undrawn.stamps.table.shared.key ≡ record { first = undrawn.making.first; vnodes = 3; passes = workers + 4 } }
+    requires spot { undrawn.making.first ≡ B.first }
     requires card { undrawn.card.me ≡ (newcomer undrawn.stamps.table.shared.key, []) }
-    ensures first { IfOk result (λ parts. parts.cluster.first ≡ making.first) }
-    ensures begun { IfOk result (λ parts. HasBegunWith stay.now.folder making.first stay.now.held.files.items parts.begun) }
+    ensures first { IfOk result (λ vnodes. vnodes.cluster.first ≡ undrawn.making.first) }
+    ensures passes { IfOk result (λ vnodes. vec_len vnodes.passes ≡ workers) }
+    ensures begun { IfOk result (λ vnodes. HasBegunWith stay.now.folder undrawn.making.first stay.now.held.files.items vnodes.begun) }
 {
     let alloc = host.alloc;
-    let Making {
-        first,
-        seed,
-        tables,
-    } = making;
-    let Undrawn { stamps, card } = undrawn;
-    let count = tables.len() + SPARE_PASSES;
-    let vnodes = VNODES as usize;
+    let Undrawn {
+        making,
+        stamps,
+        card,
+    } = undrawn;
+    let Making { first, seed } = making;
+    let (vnodes, count) = (VNODES as usize, workers + SPARE_PASSES);
     let (cluster, mut passes) = Cluster::<B>::open_seeded(
         alloc, seed, stamps, card, first, vnodes, count,
     )?;
     let spares = spares_of(&mut passes);
-    let files = &stay.held.files;
     let fronts = stay.fronts(alloc)?;
     let behind = fronts.as_slice().to_vec(alloc)?;
     let mut lookout = Lookout {
@@ -181,17 +195,17 @@ fn begin<B: Room + Spot + Send + Sync, R: Threads + Wait + Sync, N, F: Copy>(
         requests: Requests::none(alloc),
         err: stay.err,
     };
-    let spares = beginning::begin(host, &cluster, spares, files, &mut lookout)?;
-    Ok(Parts {
+    let spares = beginning::begin(host, &cluster, spares, &stay.held.files, &mut lookout)?;
+    let begun = Begun {
+        spares,
+        fronts,
+        first,
+    };
+    Ok(Vnodes {
         cluster,
         passes,
-        tables,
         lookout,
-        begun: Begun {
-            spares,
-            fronts,
-            first,
-        },
+        begun,
     })
 }
 
@@ -228,9 +242,9 @@ fn over_cluster<
     out: &mut O,
 ) -> Result<Left, Unbegun>
     requires list { list_of opening ≡ J.book }
-    requires begun { HasBegunWith stay.folder parts.cluster.first stay.held.files.items parts.begun }
+    requires begun { HasBegunWith stay.folder parts.vnodes.cluster.first stay.held.files.items parts.vnodes.begun }
     ensures told { Tells stay.entry.door result (O.contents out.old) (O.contents out.new) }
-    ensures kept { Leaves stay.entry.folder parts.cluster.first stay.entry.held.files.items result }
+    ensures kept { Leaves stay.entry.folder parts.vnodes.cluster.first stay.entry.held.files.items result }
 {
     over_ground(host, parts, opening.named::<J>(host.alloc), stay, out)
 }
@@ -252,9 +266,9 @@ fn over_ground<
     out: &mut O,
 ) -> Result<Left, Unbegun>
     requires ground { (ground.front ≡ []) × (T.state ground.first ≡ []) × (T.state ground.second ≡ []) }
-    requires begun { HasBegunWith stay.folder parts.cluster.first stay.held.files.items parts.begun }
+    requires begun { HasBegunWith stay.folder parts.vnodes.cluster.first stay.held.files.items parts.vnodes.begun }
     ensures told { Tells stay.entry.door result (O.contents out.old) (O.contents out.new) }
-    ensures kept { Leaves stay.entry.folder parts.cluster.first stay.entry.held.files.items result }
+    ensures kept { Leaves stay.entry.folder parts.vnodes.cluster.first stay.entry.held.files.items result }
 {
     match open(host.alloc, host.rt, ground, parts.tables.len()) {
         Ok((installer, readers)) => {
@@ -287,17 +301,17 @@ fn over_hooks<
     out: &mut O,
 ) -> Result<Left, Unbegun>
     requires readers { vec_len hooked.readers ≡ vec_len parts.tables }
-    requires begun { HasBegunWith stay.folder parts.cluster.first stay.held.files.items parts.begun }
+    requires begun { HasBegunWith stay.folder parts.vnodes.cluster.first stay.held.files.items parts.vnodes.begun }
     ensures told { Tells stay.entry.door result (O.contents out.old) (O.contents out.new) }
-    ensures kept { Leaves stay.entry.folder parts.cluster.first stay.entry.held.files.items result }
+    ensures kept { Leaves stay.entry.folder parts.vnodes.cluster.first stay.entry.held.files.items result }
 {
-    let Parts {
+    let Parts { vnodes, tables } = parts;
+    let Vnodes {
         cluster,
         passes,
-        tables,
         lookout,
         begun,
-    } = parts;
+    } = vnodes;
     let seats = seats_of(host.alloc, passes, tables, hooked)?;
     let staffed = Staffed {
         cluster,

@@ -193,7 +193,6 @@ fn two_workers(rt: HostRuntime) -> Result<(), Fail> {
                 let making = Making {
                     first: 458_752,
                     seed: Seed::fixed(),
-                    tables,
                 };
                 let stay = Stay {
                     folder: None::<SystemFolder<'_>>,
@@ -201,7 +200,7 @@ fn two_workers(rt: HostRuntime) -> Result<(), Fail> {
                     door: Door::<'_, HostRuntime>::Open(hall),
                     err,
                 };
-                said_of(session::live(&host, making, stay, &mut io::sink()))
+                said_of(session::live(&host, making, tables, stay, &mut io::sink()))
             },
         );
         expect(answered? == (TALK.len(), CLIENTS), &458_752)?;

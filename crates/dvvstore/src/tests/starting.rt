@@ -83,10 +83,10 @@ fn kept_store(rt: HostRuntime) -> Result<(), Fail> {
     let making = Making {
         first: BEFORE + 65_536,
         seed: Seed::fixed(),
-        tables: two_tables(alloc)?,
     };
+    let tables = two_tables(alloc)?;
     let host = Host { alloc, rt: &rt };
-    let left = session::live(&host, making, stay, &mut io::sink());
+    let left = session::live(&host, making, tables, stay, &mut io::sink());
     let (entries, said) = kept_by(left);
     expect(entries >= 3 * KEYS, &entries)?;
     expect(said == Ok(()), &said)?;

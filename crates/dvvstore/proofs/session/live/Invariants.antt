@@ -6,4 +6,4 @@ ghosts-over_stamps-B-Room g a = record { table = a.undrawn.stamps.table.shared.t
 
 -- the first identifier
 abbrev pub ghosts-over_stamps-B-Spot : goal.ghosts-over_stamps-B-Spot
-ghosts-over_stamps-B-Spot g a = record { first = a.making.first }
+ghosts-over_stamps-B-Spot g a = record { first = a.undrawn.making.first }
