@@ -89,6 +89,52 @@ pub trait Server {
         ensures untold { IfErr result (λ why. why ≡ Unserved.NoMemory → O.contents out.new ≡ O.contents out.old) };
 }
 
+/// Who serves a store that is forgotten, and has no folder to keep one in.
+pub trait Serving {
+    /// Serves as [`Server::serve`] does.
+    fn serve<O: Write>(
+        &mut self,
+        alloc: Global,
+        table: Table,
+        more: Vec<Table>,
+        addr: &str,
+        count: Option<u32>,
+        out: &mut O,
+    ) -> Result<Followed, Unserved>
+        requires few { vec_len more < 16 }
+        ensures told { OnOk result (Listened (O.contents out.old) (O.contents out.new)) }
+        ensures untold { IfErr result (λ why. why ≡ Unserved.NoMemory → O.contents out.new ≡ O.contents out.old) };
+}
+
+/// A server that serves as another does, and keeps no store: none can be read.
+#[derive(Drop)]
+pub struct ServesOnly<S>(pub S);
+
+impl<S: Serving> Server for ServesOnly<S> {
+    fn serve<O: Write>(
+        &mut self,
+        alloc: Global,
+        table: Table,
+        more: Vec<Table>,
+        addr: &str,
+        count: Option<u32>,
+        out: &mut O,
+    ) -> Result<Followed, Unserved> {
+        self.0.serve(alloc, table, more, addr, count, out)
+    }
+
+    fn keep<O: Write>(
+        &mut self,
+        _alloc: Global,
+        _table: Table,
+        _more: Vec<Table>,
+        _site: &Site<'_>,
+        _out: &mut O,
+    ) -> Result<Ended, Unserved> {
+        Err(Unserved::Unreadable)
+    }
+}
+
 /// Serves nothing: no address can be bound.
 #[derive(Clone, Copy)]
 pub struct Offline;

@@ -1,11 +1,11 @@
 -- What some passes of several were told.
-use Rattle.std.proofs.Common.{◌≡◌, ◌++◌, ◌∷◌, [], List, Option, Some, None, ap, refl, subst, sym, ◌∙◌, append_assoc, flat_map}
+use Rattle.std.proofs.Common.{◌≡◌, ◌++◌, ◌∷◌, [], List, ap, refl, subst, sym, ◌∙◌, append_assoc, flat_map}
 use Rattle.std.proofs.lemmas.Grind.{flat_map-append}
 use Rattle.journal.specs.Logs.{Log}
 use Rattle.cluster_stamps.specs.declared.view.Told.{Told}
 use Rattle.cluster_stamps.specs.declared.view.View.{View}
 use Rattle.cluster_vnode.specs.Gathers.{IsGathered}
-use Rattle.dvvstore.specs.Asides.{AreGathered, GoOn, passes_of}
+use Rattle.dvvstore.specs.Asides.{AllGrow, AreGathered, passes_of}
 use Rattle.kept_restore.specs.declared.beginning.Passes.{Passes}
 
 -- what passes were told
@@ -23,7 +23,7 @@ one_among front before own more behind rest now grown =
     ∙ sym (append_assoc (front ++ before) own (more ++ (behind ++ rest)))))))
 
 -- what each of spare passes had been told stands among what all passes were told, behind what the others were told
-all_among : {B : Type 0} → (front rest : List Told) (old new : Passes B) (logs : List Log) → GoOn (Some old) (Some new) → IsGathered (front ++ all_told (new.first ∷ new.second ∷ new.third ∷ []) ++ rest) logs
+all_among : {B : Type 0} → (front rest : List Told) (old new : Passes B) (logs : List Log) → AllGrow old new → IsGathered (front ++ all_told (new.first ∷ new.second ∷ new.third ∷ []) ++ rest) logs
     → AreGathered front old logs
 all_among front rest old new logs (first, second, third) gathered =
     let one = new.first.told in
@@ -37,9 +37,14 @@ all_among front rest old new logs (first, second, third) gathered =
       at (one ++ two) old.third.told third.0 [] three third.1 (sym (append_assoc one two (three ++ []))),
     )
 
-pub told_among : {B : Type 0} → (passes all : List View) (old : Passes B) (new : Option (Passes B)) (rest : List Told) (logs : List Log) → all ≡ passes ++ passes_of new → GoOn (Some old) new
+pub told_among : {B : Type 0} → (passes all : List View) (old new : Passes B) (rest : List Told) (logs : List Log) → all ≡ passes ++ passes_of new → AllGrow old new
     → IsGathered (all_told all ++ rest) logs → AreGathered (all_told passes) old logs
-told_among passes all old None rest logs is goes gathered = absurd goes
-told_among passes all old (Some new) rest logs is goes gathered =
+told_among passes all old new rest logs is goes gathered =
     all_among (all_told passes) rest old new logs goes
-    (subst (λ (ts : List Told). IsGathered (ts ++ rest) logs) (ap all_told is ∙ flat_map-append (λ p. p.told) passes (passes_of (Some new))) gathered)
+    (subst (λ (ts : List Told). IsGathered (ts ++ rest) logs) (ap all_told is ∙ flat_map-append (λ p. p.told) passes (passes_of new)) gathered)
+
+-- what all passes were told is what some were told, and more
+pub told_before : {B : Type 0} → (passes all : List View) (new : Passes B) (rest : List Told) → all ≡ passes ++ passes_of new
+    → all_told all ++ rest ≡ all_told passes ++ (all_told (passes_of new) ++ rest)
+told_before passes all new rest is =
+    ap (λ (ts : List Told). ts ++ rest) (ap all_told is ∙ flat_map-append (λ p. p.told) passes (passes_of new)) ∙ append_assoc (all_told passes) (all_told (passes_of new)) rest

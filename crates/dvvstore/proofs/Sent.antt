@@ -34,12 +34,9 @@ saver_alone F s = search (saver.the_send, s, sendable, crosses) depth 40
 pub spares_alone : (B : RattleType) (g : room.Ghosts B.Denot) → IsSend B → IsSend (Passes.the_row B g)
 spares_alone B g s = search (spares.the_send, sendable, crosses) depth 30
 
--- the thread beside the workers may be handed who makes snapshots, and passes, if there are any
+-- the thread beside the workers may be handed who makes snapshots, if somebody does
 pub saver_send : (F : RattleType) → IsSend F → IsSend (Option.the_row (Saver.the_row F))
 saver_send F s = option.the_send _ (saver_alone F s)
-
-pub spares_send : (B : RattleType) (g : room.Ghosts B.Denot) → IsSend B → IsSend (Option.the_row (Passes.the_row B g))
-spares_send B g s = option.the_send _ (spares_alone B g s)
 
 -- a thread may be handed who reads some of the vnodes, and look at what is done beside the workers
 pub side_send : (B F : RattleType) (g : room.Ghosts B.Denot) → IsSend B → IsSend F → IsSend (Side.the_row B F g)

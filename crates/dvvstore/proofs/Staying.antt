@@ -1,5 +1,5 @@
 -- What is left of a store, said of the same numbers and files.
-use Rattle.std.proofs.Common.{◌≡◌, ◌∙◌, ◌+◌, ◌<◌, ◌++◌, ℕ, zero, suc, List, Result, [], ◌∷◌, arith, subst, sym}
+use Rattle.std.proofs.Common.{◌≡◌, ◌∙◌, ◌+◌, ◌<◌, ◌++◌, ℕ, zero, suc, List, Option, Result, Ok, Err, IfOk, [], ◌∷◌, arith, subst, sym}
 use Rattle.std.specs.List.{All}
 use Rattle.std.proofs.lemmas.List.{get_or_append_left, length-append}
 use Rattle.kept_file.specs.declared.file.KeptFile.{KeptFile}
@@ -8,12 +8,15 @@ use Rattle.cluster_stamps.specs.declared.view.View.{View}
 use Rattle.cluster_vnode.specs.Calls.{pass_view}
 use Rattle.kept_file.specs.Files.{records_at}
 use Rattle.kept_restore.specs.Beginnings.{BeginWithFiles, BeginsWith}
-use Rattle.dvvstore.specs.Keeping.{Leaves}
+use Rattle.audit_cluster.specs.Following.{IsSaidOf}
+use Rattle.dvvstore.specs.Keeping.{IsLeftFrom, Leaves, Tells, TellsBeginning, fronts_for, left_as}
+use Rattle.dvvstore.specs.declared.crew.running.Served.{Served}
+use Rattle.dvvstore.specs.declared.keeper.Door.{Door}
 use Rattle.dvvstore.specs.declared.keeper.Unbegun.{Unbegun}
 use Rattle.dvvstore.specs.declared.session.Left.{Left}
 
-pub leaves_as : (first number : ℕ) (files held : List KeptFile) (left : Result Left Unbegun) → first ≡ number → files ≡ held → Leaves first files left → Leaves number held left
-leaves_as first number files held left is same so = subst (λ (n : ℕ). Leaves n held left) is (subst (λ (fs : List KeptFile). Leaves first fs left) same so)
+pub leaves_as : {F : Type 0} → (folder : Option F) (first number : ℕ) (files : List KeptFile) (left : Result Left Unbegun) → first ≡ number → Leaves folder first files left → Leaves folder number files left
+leaves_as folder first number files left is so = subst (λ (n : ℕ). Leaves folder n files left) is so
 
 -- of passes that were told nothing those before the last were told nothing, either
 pub fresh_before : (passes rest : List View) (pass : View) → All (λ (p : View). p ≡ pass_view 0 []) passes → passes ≡ rest ++ pass ∷ [] → All (λ (p : View). p ≡ pass_view 0 []) rest
@@ -33,3 +36,19 @@ at_index logs first files (suc (suc (suc index))) lt one two three = absurd (ome
 pub three_begin : (logs : List Log) (first : ℕ) (files : List KeptFile) → BeginsWith logs (first + 0) (records_at files 0) → BeginsWith logs (first + 1) (records_at files 1)
     → BeginsWith logs (first + 2) (records_at files 2) → BeginWithFiles logs first files 3
 three_begin logs first files one two three = λ index lt. at_index logs first files index lt one two three
+
+-- where vnodes are left, they are left so
+pub left_so : {F E : Type 0} → (folder : Option F) (first : ℕ) (files : List KeptFile) (served : Result Served E) → IfOk served (IsLeftFrom folder first files) → Leaves folder first files (left_as served)
+left_so folder first files (Ok served) so = so
+left_so folder first files (Err why) so = tt
+
+-- how a store began is told of whatever is left of it
+pub tells_so : {N E : Type 0} → (door : Door N) (served : Result Served E) (before after : Option (List ℕ)) → TellsBeginning door before after → Tells door (left_as served) before after
+tells_so door (Ok served) before after so = so
+tells_so door (Err why) before after so = so
+
+-- what is left of a store that has begun with files: its journals begin with the merges of these, and what is said is said from its fronts on
+pub left_from : {F E : Type 0} → (folder : Option F) (first : ℕ) (files : List KeptFile) (fronts : List ℕ) (served : Result Served E) → fronts ≡ fronts_for folder files
+    → IfOk served (λ s. BeginWithFiles s.closed.vnodes.items first files 3) → IfOk served (λ s. IsSaidOf fronts s.closed.vnodes.items s.closed.said) → IfOk served (IsLeftFrom folder first files)
+left_from folder first files fronts (Ok s) is begin said = (begin, subst (λ (fs : List ℕ). IsSaidOf fs s.closed.vnodes.items s.closed.said) is said)
+left_from folder first files fronts (Err why) is begin said = begin

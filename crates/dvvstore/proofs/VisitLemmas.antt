@@ -27,7 +27,17 @@ use Rattle.cluster_stamps.specs.declared.view.View.{View}
 use Rattle.server_store.specs.View.{StoreView, shown}
 use Rattle.peers.specs.Calls.{Call as PeerCall}
 use Rattle.server_one_thread.specs.Passes.{AreCallsOf, GivesUnnoted, PassCalls, Passing, all_calls, by_pass, told_by}
+use Rattle.cluster_vnode.specs.Gathers.{IsGathered}
+use Rattle.kept_file.specs.Files.{records_at}
+use Rattle.kept_file.specs.declared.file.KeptFile.{KeptFile}
+use Rattle.kept_restore.specs.Beginnings.{BeginWithFiles, BeginsWith}
+use Rattle.kept_restore.specs.Loads.{HasLoaded}
+use Rattle.record_codec.specs.declared.record.Record.{Record}
+use Rattle.dvvstore.proofs.Staying.{three_begin}
 use Rattle.dvvstore.specs.Asides.{AreGathered}
+use Rattle.dvvstore.specs.Keeping.{HasBegunWith}
+use Rattle.dvvstore.specs.declared.crew.running.Served.{Served}
+use Rattle.dvvstore.specs.declared.keeper.Begun.{Begun}
 use Rattle.kept_restore.specs.declared.beginning.Passes.{Passes}
 use Rattle.dvvstore.specs.Visits.{AfterVisits, AreVisits, HasLed, HasVisited, HaveVisited, IsVisit, Leads, begun, told_with}
 
@@ -181,3 +191,22 @@ gathered_after finds names takes starts spares logs (calls, visits, gathered) = 
 pub if_both : {T E : Type 0} (r : Result T E) (P Q R : T → Type 0) → ((v : T) → P v → Q v → R v) → IfOk r P → IfOk r Q → IfOk r R
 if_both (Ok v) P Q R f p q = f v p q
 if_both (Err e) P Q R f p q = p
+
+-- the law of loads, as `kept_restore` has it
+abbrev LoadsStand : Type 0
+LoadsStand = (before after : List Told) (old new : View) (logs : List JournalLog) (id : ℕ) (records : List Record) → IsGathered (before ++ new.told ++ after) logs → HasLoaded old new id records → BeginsWith logs id records
+
+-- where a store has begun with files, the journals that are left of it begin with the merges of what these hold
+pub begins_from : {H F B E : Type 0} (finds : H → List ℕ → ImageKind → Result (Option Program) NotSeen → H → Type 0) (names : H → List ℕ → ImageKind → Result (Option (List ℕ)) NameFault → H → Type 0)
+    (takes : H → Change → Result Unit HookFault → H → Type 0) (starts : List (StoreView Passing H)) (folder : Option F) (first vnodes : ℕ) (files : List KeptFile) (begun : Begun B) (served : Result Served E)
+    → LoadsStand → HasBegunWith folder first files begun
+    → IfOk served (λ s. AfterVisits finds names takes starts (λ told. AreGathered told begun.spares s.closed.vnodes.items) × (length s.closed.vnodes.items ≡ vnodes))
+    → IfOk served (λ s. BeginWithFiles s.closed.vnodes.items first files 3)
+begins_from finds names takes starts folder first vnodes files begun (Err why) stand has kept = kept
+begins_from finds names takes starts folder first vnodes files begun (Ok s) stand (one, two, three, a, b, c, rest) kept =
+    let found = gathered_after finds names takes starts begun.spares s.closed.vnodes.items kept.0 in
+    let logs = s.closed.vnodes.items in
+    three_begin logs first files
+    (stand (found.0 ++ found.1.0.0) found.1.0.1 one begun.spares.first logs (first + 0) (records_at files 0) found.1.0.2 a)
+    (stand (found.0 ++ found.1.1.0) found.1.1.1 two begun.spares.second logs (first + 1) (records_at files 1) found.1.1.2 b)
+    (stand (found.0 ++ found.1.2.0) found.1.2.1 three begun.spares.third logs (first + 2) (records_at files 2) found.1.2.2 c)

@@ -5,6 +5,7 @@ ghost use Rattle.kept_restore.specs.Beginnings.{HaveLoaded};
 
 use crate::crew::Lookout;
 use crate::crew::reporter::Aloud;
+use crate::host::Host;
 use crate::limits::{
     LOAD_AHEAD_ENTRIES, LOAD_LOOK_RECORDS, LOAD_NAP_MS, LOAD_PIECE_STAMPS, LOAD_REST_MS,
 };
@@ -58,8 +59,7 @@ impl<R: Wait> Throttle for Load<'_, R> {
 /// as they go on. They wait where they are too far ahead of it. What is left to be followed behind them is followed as the store serves.
 /// The passes come back.
 pub fn begin<B: Room + Spot + Send + Sync, R: Threads + Wait + Sync>(
-    alloc: Global,
-    rt: &R,
+    host: &Host<'_, R>,
     cluster: &Cluster<B>,
     passes: Passes<B>,
     files: &[KeptFile],
@@ -69,6 +69,7 @@ pub fn begin<B: Room + Spot + Send + Sync, R: Threads + Wait + Sync>(
     requires spot { cluster.now.first ≡ B.first }
     ensures loaded { IfOk result (λ back. HaveLoaded passes back cluster.now.first files.now) }
 {
+    let (alloc, rt) = (host.alloc, host.rt);
     let load = Load::new(rt);
     let both = &load;
     let (loaded, ()) = thread::join(

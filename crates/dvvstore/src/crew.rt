@@ -6,6 +6,6 @@ mod running;
 mod signs;
 mod working;
 
-pub use running::{Served, keep, serve};
+pub use running::{Crew, Served, serve};
 pub use signs::Signs;
 pub use working::{Lookout, Seat};

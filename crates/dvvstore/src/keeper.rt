@@ -3,10 +3,12 @@
 ghost use Rattle.std.specs.Prelude.{◌≡◌, ◌+◌, ◌<◌, ◌≤◌, ℕ, List, IfOk, OnOk, vec_len};
 ghost use Rattle.std.specs.Io.KnownBytes.{Appends};
 ghost use Rattle.commands.specs.Command.{begun};
-ghost use Rattle.dvvstore.specs.Keeping.{HasBegunWith, Leaves, Tells};
+ghost use Rattle.dvvstore.specs.Keeping.{HasBegunWith, Leaves, Tells, fronts_for, left_as};
 
 use crate::crew;
-use crate::crew::{Lookout, Seat};
+use crate::crew::{Crew, Lookout, Seat, Served};
+use crate::host::Host;
+use crate::limits::VNODES;
 use crate::reasons::listen;
 use crate::saver::{Saver, Shelf};
 use crate::session::Left;
@@ -15,10 +17,10 @@ use bpf_helpers::Sigs;
 use cluster::{Cluster, Room};
 use hook_registry::{HookChanges, Hooks};
 use kept_file::KeptFile;
-use kept_folder::{Folder, HOOKS, Held};
+use kept_folder::{Folder, HOOKS, Held, Settings};
 use kept_hooks::{HooksAlone, Recorder, ReplayFault, Requests, replay};
 use kept_restore::laws::loads_stand;
-use kept_restore::{Passes, Unloaded};
+use kept_restore::{Passes, Unloaded, fronts_of};
 use server_accept::{Lobby, Setup, open};
 use std::alloc::{AllocError, Global};
 use std::io;
@@ -43,6 +45,16 @@ pub enum Unbegun {
     /// Memory ran out.
     #[error("E1")]
     NoMemory,
+}
+
+impl From<Unloaded> for Unbegun {
+    ghost use Rattle.dvvstore.specs.declared.keeper.Unbegun.TheVariants.{Records};
+
+    ghost from_gives = { λ unloaded why. why ≡ Records unloaded };
+
+    fn from(unloaded: Unloaded) -> Unbegun {
+        Unbegun::Records(unloaded)
+    }
 }
 
 impl From<AllocError> for Unbegun {
@@ -76,10 +88,10 @@ pub struct Begun<B: Room> {
     pub first: u32,
 }
 
-/// Where a store answers.
+/// An address at which a store answers.
 #[derive(Drop)]
-pub struct Door<'a, N> {
-    /// Where the address is bound.
+pub struct Address<'a, N> {
+    /// Where it is bound.
     pub rt: &'a N,
     /// The address.
     pub addr: &'a str,
@@ -89,19 +101,59 @@ pub struct Door<'a, N> {
     pub input: Stdin,
 }
 
-/// What a store begins with that a folder keeps, and where it answers.
+/// Where connections come to.
 #[derive(Drop)]
-pub struct Keeper<'a, N, F> {
-    /// The folder.
-    pub folder: F,
-    /// What it held. The records are let go once the vnodes have them.
+pub enum Door<'a, N> {
+    /// A lobby that is open.
+    Open(&'a Lobby),
+    /// An address, which is bound once the store has begun. With how many records it has is told first.
+    Closed(Address<'a, N>),
+}
+
+/// What a store begins with, who keeps it, and where it answers.
+#[derive(Drop)]
+pub struct Stay<'a, N, F> {
+    /// The folder that keeps it; none of a store that is forgotten.
+    pub folder: Option<F>,
+    /// What that held: nothing where there is none. The records are let go once the vnodes have them.
     pub held: Held,
     /// Where the store answers.
     pub door: Door<'a, N>,
+    /// Where what can't wait is told.
+    pub err: Stderr,
 }
 
-/// Has hooks begin with the requests that the folder held, binds the address, and has the workers of the seats answer the connections that
-/// come there.
+impl<N, F> Stay<'_, N, F> {
+    /// How many of the first entries of each vnode were there before: none are named where no folder keeps the store.
+    pub fn fronts(&self, alloc: Global) -> Result<Vec<usize>, AllocError>
+        ensures { IfOk result (λ fronts. fronts.items ≡ fronts_for self.now.folder self.now.held.files.items) }
+    {
+        match &self.folder {
+            Some(_) => fronts_of(alloc, &self.held.files, VNODES as usize),
+            None => Ok(Vec::new(alloc)),
+        }
+    }
+}
+
+/// A store that has begun, with a seat for each worker.
+#[derive(Drop)]
+pub struct Staffed<B: Room + Spot, H> {
+    /// The vnodes.
+    pub cluster: Cluster<B>,
+    /// The seats.
+    pub seats: Vec<Seat<B, H>>,
+    /// Who follows what workers do.
+    pub lookout: Lookout<B>,
+    /// With what it has begun.
+    pub begun: Begun<B>,
+    ghost some: { 0 < vec_len seats },
+    ghost all: { cluster.passes ≤ vec_len seats + 4 },
+    ghost spot: { cluster.first ≡ B.first },
+    ghost vnodes: { cluster.vnodes ≡ 3 },
+}
+
+/// Has hooks begin with the requests that a folder held, opens the door, and has the workers of the seats answer the connections that come
+/// there.
 pub fn live<
     B: Room + Spot + Send + Sync,
     H: Hooks + HookChanges + Send + Drop,
@@ -110,87 +162,116 @@ pub fn live<
     F: Folder + Copy + Send,
     O: Write,
 >(
-    alloc: Global,
-    rt: &R,
-    cluster: Cluster<B>,
-    mut seats: Vec<Seat<B, H>>,
-    lookout: Lookout<B>,
-    begun: Begun<B>,
-    keeper: Keeper<'_, N, F>,
+    host: &Host<'_, R>,
+    staffed: Staffed<B, H>,
+    stay: Stay<'_, N, F>,
     out: &mut O,
 ) -> Result<Left, Unbegun>
-    requires some { 0 < vec_len seats }
-    requires all { cluster.passes ≤ vec_len seats + 4 }
-    requires spot { cluster.first ≡ B.first }
-    requires vnodes { cluster.vnodes ≡ 3 }
-    requires begun { HasBegunWith cluster.first keeper.held.files.items begun }
-    ensures told { Tells result (O.contents out.old) (O.contents out.new) }
-    ensures kept { Leaves cluster.first keeper.entry.held.files.items result }
+    requires begun { HasBegunWith stay.folder staffed.cluster.first stay.held.files.items staffed.begun }
+    ensures told { Tells stay.entry.door result (O.contents out.old) (O.contents out.new) }
+    ensures kept { Leaves stay.entry.folder staffed.cluster.first stay.entry.held.files.items result }
 {
-    let Some(mut seat) = seats.pop() else {
-        unreachable!();
-    };
-    let Keeper { folder, held, door } = keeper;
+    let Stay {
+        folder,
+        held,
+        door,
+        err,
+    } = stay;
+    let Staffed {
+        cluster,
+        mut seats,
+        mut lookout,
+        begun,
+    } = staffed;
     let Held {
         settings,
         hooks,
         files,
         ..
     } = held;
-    let table = &seat.hooking.table;
-    let requests = begin_hooks(alloc, rt, &table.listed, &mut seat.hooking.hooks, &hooks)?;
+    let Some(mut seat) = seats.pop() else {
+        unreachable!();
+    };
+    if folder.is_some() {
+        let sigs = &seat.hooking.table.listed;
+        lookout.requests = begin_hooks(host, sigs, &mut seat.hooking.hooks, &hooks)?;
+    }
     seats.push_reserved(seat);
-    let Lookout { watch, err, .. } = lookout;
     let loaded = loaded_in(&files);
     // Else each state would be kept until the end that a key had at the start.
     drop(files);
-    let lobby = open_lobby(alloc, door, loaded, seats.len(), err, out)?;
-    let lookout = Lookout {
-        watch,
-        requests,
-        err,
-    };
-    loads_stand();
     let Begun {
         spares,
         fronts,
         first,
     } = begun;
-    let saver = Saver {
-        shelf: Shelf {
-            alloc,
-            folder,
-            first,
-        },
-        every: settings.every,
-        err,
+    let workers = seats.len();
+    let crew = Crew {
+        seats,
+        lookout,
+        spares,
+        saver: saver_of(host.alloc, folder, settings, first, err),
     };
-    match crew::keep(
-        alloc, rt, cluster, seats, &lobby, lookout, &fronts, spares, saver,
-    ) {
+    loads_stand();
+    match door {
+        Door::Open(lobby) => left_of(crew::serve(host, cluster, crew, lobby, &fronts)),
+        Door::Closed(address) => {
+            let lobby = open_lobby(host.alloc, address, (loaded, workers), err, out)?;
+            left_of(crew::serve(host, cluster, crew, &lobby, &fronts))
+        }
+    }
+}
+
+/// What is left of a store that was served.
+fn left_of(served: Result<Served, AllocError>) -> Result<Left, Unbegun>
+    ensures { result ≡ left_as served }
+{
+    match served {
         Ok(served) => Ok(Left::Kept(served)),
         Err(AllocError) => Ok(Left::Lost),
     }
 }
 
-/// Tells with how many records a store begins, binds its address, and opens a lobby for so many workers. The error: the address can't be
-/// bound, the output can't be written, the system has no descriptor for a worker, or memory was refused.
+/// Who makes snapshots of a store, whose vnodes are numbered from the first on, where a folder keeps it.
+fn saver_of<F>(
+    alloc: Global,
+    folder: Option<F>,
+    settings: Settings,
+    first: u32,
+    err: Stderr,
+) -> Option<Saver<F>> {
+    match folder {
+        Some(folder) => Some(Saver {
+            shelf: Shelf {
+                alloc,
+                folder,
+                first,
+            },
+            every: settings.every,
+            err,
+        }),
+        None => None,
+    }
+}
+
+/// Tells with how many records a store begins, binds its address, and opens a lobby for so many workers: `counts` are the two. The error:
+/// the address can't be bound, the output can't be written, the system has no descriptor for a worker, or memory was refused.
 fn open_lobby<N: Net<Listener = TcpListener, Stream = TcpStream>, O: Write>(
     alloc: Global,
-    door: Door<'_, N>,
-    loaded: usize,
-    workers: usize,
+    address: Address<'_, N>,
+    counts: (usize, usize),
     err: Stderr,
     out: &mut O,
 ) -> io::Result<Lobby>
     ensures told { OnOk result ((loaded : ℕ) × (bound : List ℕ) × Appends (O.contents out.old) (O.contents out.new) (begun loaded bound)) }
 {
-    let Door {
+    let Address {
         rt,
         addr,
         count,
         input,
-    } = door;
+    } = address;
+    let (loaded, workers) = counts;
     writeln!(out, "loaded {loaded}")?;
     let setup = Setup {
         listener: listen(rt, addr, err, out)?,
@@ -213,12 +294,12 @@ fn loaded_in(files: &[KeptFile]) -> usize {
 
 /// Has hooks that may call helpers with these signatures begin with requests. The requests are written down once more.
 fn begin_hooks<H: HookChanges, R: Wait>(
-    alloc: Global,
-    rt: &R,
+    host: &Host<'_, R>,
     sigs: &Sigs,
     hooks: &mut H,
     held: &[u8],
 ) -> Result<Requests, Unbegun> {
+    let (alloc, rt) = (host.alloc, host.rt);
     let list = Mutex::new(Requests::new(alloc));
     let mut recorder = Recorder::new(HooksAlone::new(alloc, sigs, hooks), &list, rt);
     match replay(alloc, held, &mut recorder) {

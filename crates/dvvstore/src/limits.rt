@@ -3,6 +3,9 @@
 /// How many vnodes there are.
 pub(crate) const VNODES: u32 = 3;
 
+/// So many passes there are besides those of workers: the follower's, and one for each vnode, by which that takes over what it begins with.
+pub(crate) const SPARE_PASSES: usize = 4;
+
 /// How many numbers of starts there are: one for each second, and then again from the first.
 pub(crate) const START_NUMBERS: u64 = 65_536;
 

@@ -4,10 +4,10 @@
 mod beginning;
 mod crew;
 mod disk;
+mod host;
 mod keeper;
 mod limits;
 mod network;
-mod nowhere;
 mod reasons;
 mod saver;
 mod session;

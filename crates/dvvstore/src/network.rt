@@ -6,19 +6,19 @@ ghost use Rattle.commands.specs.Command.{HasRefused};
 ghost use Rattle.dvvstore.specs.Keeping.{HasEnded};
 
 use crate::crew::Served;
-use crate::keeper::{Door, Keeper, Unbegun};
+use crate::host::Host;
+use crate::keeper::{Address, Door, Stay, Unbegun};
 use crate::limits::IDENTIFIERS_PER_START;
-use crate::nowhere::Nowhere;
 use crate::reasons::listen;
 use crate::session;
-use crate::session::{Left, Making, Tenant};
+use crate::session::{Left, Making};
 use crate::start::start_at;
 use crate::system_folder::{SystemFolder, take};
 use audit_cluster::Closed;
 use audit_faults::{Followed, WatchFault};
 use bpf_helpers::Table;
 use commands::server::{Ended, Server, Site, Unserved};
-use kept_folder::{Folder, OpenFault, Opened, keep_all};
+use kept_folder::{Folder, Held, OpenFault, Opened, keep_all};
 use server_accept::{Setup, open};
 use std::alloc::Global;
 use std::fmt::Display;
@@ -45,6 +45,13 @@ pub struct Network<'a, R> {
     pub input: Stdin,
     /// Where is told what can't wait.
     pub err: Stderr,
+}
+
+impl<'a, R> Network<'a, R> {
+    /// What a store runs on.
+    fn host(&self, alloc: Global) -> Host<'a, R> {
+        Host { alloc, rt: self.rt }
+    }
 }
 
 impl<R: Clock + Wait> Network<'_, R> {
@@ -114,17 +121,14 @@ impl<
             first: u32::from(self.begin()) * IDENTIFIERS_PER_START,
             seed,
         };
-        let tenant: Tenant<'_, R, Nowhere> = Tenant::Guest(&lobby);
-        match session::live(
-            alloc,
-            self.rt,
-            making,
-            more,
-            tenant,
-            self.err,
-            &mut io::sink(),
-        ) {
-            Ok(Left::Said(said)) => Ok(said),
+        let stay = Stay {
+            folder: None::<SystemFolder<'_>>,
+            held: Held::nothing(alloc),
+            door: Door::<'_, R>::Open(&lobby),
+            err: self.err,
+        };
+        match session::live(&self.host(alloc), making, more, stay, &mut io::sink()) {
+            Ok(Left::Kept(served)) => Ok(served.closed.said),
             _ => Ok(NO_MEMORY),
         }
     }
@@ -156,22 +160,21 @@ impl<
             first: u32::from(number) * IDENTIFIERS_PER_START,
             seed,
         };
-        let keeper = Keeper {
-            folder,
+        let stay = Stay {
+            folder: Some(folder),
             held,
-            door: Door {
+            door: Door::Closed(Address {
                 rt: self.rt,
                 addr: site.addr,
                 count: site.count,
                 input: self.input,
-            },
+            }),
+            err: self.err,
         };
-        let tenant = Tenant::Keeper(keeper);
-        match session::live(alloc, self.rt, making, more, tenant, self.err, out) {
+        match session::live(&self.host(alloc), making, more, stay, out) {
             Ok(Left::Kept(served)) => finish(alloc, &mut folder, served, out),
             Ok(Left::Lost) => lose(alloc, out),
-            // Of a store that a folder keeps all is left, or nothing.
-            Ok(Left::Said(_)) | Err(Unbegun::Unreadable) => Err(Unserved::Unreadable),
+            Err(Unbegun::Unreadable) => Err(Unserved::Unreadable),
             Err(Unbegun::NoMemory) => Err(Unserved::NoMemory),
             Err(why) => Err(refused(alloc, out, &why)),
         }

@@ -4,12 +4,14 @@ ghost use Rattle.std.specs.Prelude.{◌≡◌, IfOk, vec_len};
 
 mod starting;
 
-use crate::keeper::Unbegun;
-use crate::nowhere::Nowhere;
+use crate::host::Host;
+use crate::keeper::{Door, Stay, Unbegun};
 use crate::session;
-use crate::session::{Left, Making, Tenant};
+use crate::session::{Left, Making};
+use crate::system_folder::SystemFolder;
 use audit_faults::{Followed, WatchFault};
 use bpf_helpers::Table;
+use kept_folder::Held;
 use mio::net::TcpListener;
 use server_accept::{Lobby, Setup, open};
 use std::alloc::{AllocError, Global};
@@ -157,7 +159,7 @@ fn two_tables(alloc: Global) -> Result<Vec<Table>, AllocError>
 /// What is said of the journals of a store that is forgotten.
 fn said_of(left: Result<Left, Unbegun>) -> Followed {
     match left {
-        Ok(Left::Said(said)) => said,
+        Ok(Left::Kept(served)) => served.closed.said,
         _ => Err(WatchFault::Lost),
     }
 }
@@ -187,12 +189,18 @@ fn two_workers(rt: HostRuntime) -> Result<(), Fail> {
             ||
                 requires { vec_len tables ≡ 2 }
             {
+                let host = Host { alloc, rt: lent };
                 let making = Making {
                     first: 458_752,
                     seed: Seed::fixed(),
                 };
-                let tenant: Tenant<'_, HostRuntime, Nowhere> = Tenant::Guest(hall);
-                said_of(session::live(alloc, lent, making, tables, tenant, err, &mut io::sink()))
+                let stay = Stay {
+                    folder: None::<SystemFolder<'_>>,
+                    held: Held::nothing(alloc),
+                    door: Door::<'_, HostRuntime>::Open(hall),
+                    err,
+                };
+                said_of(session::live(&host, making, tables, stay, &mut io::sink()))
             },
         );
         expect(answered? == (TALK.len(), CLIENTS), &458_752)?;

@@ -11,7 +11,7 @@ use bpf_interpreter::{State, Stop, drive, padded, run};
 use bpf_semantics::Windows;
 use bpf_verifier::Verified;
 use commands::files::Files;
-use commands::server::{Ended, Server, Site, Unserved};
+use commands::server::{ServesOnly, Serving, Unserved};
 use std::alloc::{AllocError, Global};
 use std::io;
 use std::io::Write;
@@ -51,14 +51,14 @@ impl Counts {
         program: &[u8],
         input: &[u8],
     ) -> io::Result<()> {
-        let mut both = Both {
+        let mut both = ServesOnly(Both {
             program,
             input,
             is_alike: None,
-        };
+        });
         let words = ["serve", "memory", "1", "1"];
         ask(alloc, &words, files, &mut both)?;
-        match both.is_alike {
+        match both.0.is_alike {
             Some(true) => self.alike = self.alike.saturating_add(1),
             Some(false) => self.apart = self.apart.saturating_add(1),
             None => {}
@@ -76,7 +76,7 @@ struct Both<'a> {
     is_alike: Option<bool>,
 }
 
-impl Server for Both<'_> {
+impl Serving for Both<'_> {
     fn serve<O: Write>(
         &mut self,
         alloc: Global,
@@ -93,17 +93,6 @@ impl Server for Both<'_> {
             }
             Err(AllocError) => Err(Unserved::NoMemory),
         }
-    }
-
-    fn keep<O: Write>(
-        &mut self,
-        _alloc: Global,
-        _table: Table,
-        _more: Vec<Table>,
-        _site: &Site<'_>,
-        _out: &mut O,
-    ) -> Result<Ended, Unserved> {
-        Err(Unserved::Unreadable)
     }
 }
 

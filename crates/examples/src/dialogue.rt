@@ -9,7 +9,7 @@ use crate::texts::first_difference;
 use audit_faults::{Followed, WatchFault};
 use bpf_helpers::Table;
 use commands::files::Files;
-use commands::server::{Ended, Server, Site, Unserved};
+use commands::server::{ServesOnly, Serving, Unserved};
 use hook_registry::Registry;
 use http_connection::Backend;
 use peers::Local;
@@ -61,7 +61,7 @@ impl Dialogue<'_> {
     }
 }
 
-impl Server for Dialogue<'_> {
+impl Serving for Dialogue<'_> {
     fn serve<O: Write>(
         &mut self,
         alloc: Global,
@@ -74,17 +74,6 @@ impl Server for Dialogue<'_> {
         drop(more);
         let mut store = open(alloc, table)?;
         self.answer(alloc, &mut store, addr, out)
-    }
-
-    fn keep<O: Write>(
-        &mut self,
-        _alloc: Global,
-        _table: Table,
-        _more: Vec<Table>,
-        _site: &Site<'_>,
-        _out: &mut O,
-    ) -> Result<Ended, Unserved> {
-        Err(Unserved::Unreadable)
     }
 }
 
@@ -143,10 +132,10 @@ fn answered_otherwise<F: Files>(
     requests: &[u8],
     want: &[u8],
 ) -> io::Result<Option<usize>> {
-    let mut dialogue = Dialogue {
+    let mut server = ServesOnly(Dialogue {
         requests,
         answers: Vec::new(alloc),
-    };
-    ask(alloc, &["serve", "memory", "1", "1"], files, &mut dialogue)?;
-    Ok(first_difference(&dialogue.answers, want))
+    });
+    ask(alloc, &["serve", "memory", "1", "1"], files, &mut server)?;
+    Ok(first_difference(&server.0.answers, want))
 }

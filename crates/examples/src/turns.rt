@@ -9,7 +9,7 @@ use crate::folder::{Folder, read_ending};
 use audit_faults::{Followed, WatchFault};
 use bpf_helpers::Table;
 use commands::files::Files;
-use commands::server::{Ended, Server, Site, Unserved};
+use commands::server::{ServesOnly, Serving, Unserved};
 use http_connection::Backend;
 use http_connections::Client;
 use server_one_thread::{Arrival, Delivery, answer_all};
@@ -55,7 +55,7 @@ impl Play<'_> {
     }
 }
 
-impl Server for Play<'_> {
+impl Serving for Play<'_> {
     fn serve<O: Write>(
         &mut self,
         alloc: Global,
@@ -68,17 +68,6 @@ impl Server for Play<'_> {
         drop(more);
         let mut store = open(alloc, table)?;
         self.answer(alloc, &mut store, addr, out)
-    }
-
-    fn keep<O: Write>(
-        &mut self,
-        _alloc: Global,
-        _table: Table,
-        _more: Vec<Table>,
-        _site: &Site<'_>,
-        _out: &mut O,
-    ) -> Result<Ended, Unserved> {
-        Err(Unserved::Unreadable)
     }
 }
 
@@ -124,12 +113,13 @@ fn is_answered<F: Files>(
     pieces: &[u8],
     want: &[u8],
 ) -> io::Result<bool> {
-    let mut play = Play {
+    let mut server = ServesOnly(Play {
         deliveries: deliveries_of(alloc, pieces)?,
         clients: want.split(|byte| *byte == UNIT).count(),
         told: Vec::new(alloc),
-    };
-    ask(alloc, &["serve", "memory", "1", "1"], files, &mut play)?;
+    });
+    ask(alloc, &["serve", "memory", "1", "1"], files, &mut server)?;
+    let ServesOnly(play) = server;
     Ok(play.told.len() == play.clients && are_told(&play, want))
 }
 

@@ -42,6 +42,20 @@ pub struct Held {
     pub files: Vec<KeptFile>,
 }
 
+impl Held {
+    /// What a folder holds that isn't there: nothing, and no snapshot is made but where it is asked for.
+    pub fn nothing(alloc: Global) -> Held
+        ensures { result.files.items ≡ [] }
+    {
+        Held {
+            last: None,
+            settings: Settings { every: 0 },
+            hooks: Vec::new(alloc),
+            files: Vec::new(alloc),
+        }
+    }
+}
+
 /// Why a folder isn't opened.
 #[derive(Clone, Copy, Debug, PartialEq, Eq, Error)]
 pub enum OpenFault {

@@ -1,17 +1,16 @@
 //! A crew at work, from its beginning to what is left of it.
 
-ghost use Rattle.std.specs.Prelude.{◌≡◌, ◌+◌, ◌++◌, ◌≤◌, List, IfOk, map, vec_len};
+ghost use Rattle.std.specs.Prelude.{◌≡◌, ◌+◌, ◌++◌, ◌≤◌, [], List, IfOk, map, vec_len};
 ghost use Rattle.cluster_stamps.specs.declared.view.Told.{Told};
 ghost use Rattle.audit_cluster.specs.Following.{IsFollowedTo, IsSaidOf};
-ghost use Rattle.dvvstore.specs.Asides.{AreGathered, GoOn, count_of, passes_of};
+ghost use Rattle.dvvstore.specs.Asides.{AllGrow, AreGathered, passes_of};
 ghost use Rattle.dvvstore.specs.Visits.{AfterVisits, HaveVisited, begun};
 
 use crate::crew::signs::Signs;
 use crate::crew::working::{Lookout, Seat, Shared, work_attended};
-use crate::nowhere::Nowhere;
+use crate::host::Host;
 use crate::saver::Saver;
-use audit_cluster::{Closed, Spot, Watch, close_keeping, close_watched};
-use audit_faults::{Followed, WatchFault};
+use audit_cluster::{Closed, Spot, Watch, close_keeping};
 use cluster::{Cluster, Pass, Room};
 use hook_registry::{HookChanges, Hooks};
 use kept_folder::Folder;
@@ -23,11 +22,24 @@ use std::sync::Wait;
 use std::thread;
 use std::thread::Threads;
 
+/// Who serves a store: its workers, who follows them, and who makes snapshots beside them.
+#[derive(Drop)]
+pub struct Crew<B: Room + Spot, H, F> {
+    /// The seats of its workers.
+    pub seats: Vec<Seat<B, H>>,
+    /// Who follows.
+    pub lookout: Lookout<B>,
+    /// The passes by which the vnodes have taken over what they began with, and by which snapshots are made.
+    pub spares: Passes<B>,
+    /// Who makes snapshots, if somebody does.
+    pub saver: Option<Saver<F>>,
+}
+
 /// What is left of a crew: the passes of its workers, those of snapshots, and what they shared.
 #[derive(Drop)]
 struct Back<B: Room + Spot> {
     passes: Vec<Pass<B>>,
-    spares: Option<Passes<B>>,
+    spares: Passes<B>,
     watch: Watch<B>,
     requests: Requests,
 }
@@ -35,35 +47,38 @@ struct Back<B: Room + Spot> {
 /// Has the worker of each seat answer the connections that it is handed, while a thread of its own accepts them in a lobby and follows
 /// what the workers do to the vnodes, whose journals are handed out for that; where no thread can be made for it, workers do so after
 /// each of their turns. What can't wait is told on standard error, and the workers go on; what goes wrong while they answer is told
-/// there, too, at most once a second and kind. Snapshots are made beside them by spare passes, if there are any and somebody makes them: on
-/// one more thread and those that it makes, and where it can't be made there are none. The error: a growth was refused for the threads;
-/// some workers may have answered no connection then.
+/// there, too, at most once a second and kind. Snapshots are made beside them by spare passes, if somebody makes them: on one more thread
+/// and those that it makes, and where it can't be made there are none. The error: a growth was refused for the threads; some workers may
+/// have answered no connection then.
 fn run<
     B: Room + Spot + Send + Sync,
     H: Hooks + HookChanges + Send + Drop,
     F: Folder + Copy + Send,
     R: Threads + Wait + Sync,
 >(
-    alloc: Global,
-    rt: &R,
+    host: &Host<'_, R>,
     cluster: &Cluster<B>,
-    seats: Vec<Seat<B, H>>,
+    crew: Crew<B, H, F>,
     lobby: &Lobby,
-    lookout: Lookout<B>,
-    saver: Option<Saver<F>>,
-    spares: Option<Passes<B>>,
 ) -> Result<Back<B>, AllocError>
     requires first { cluster.now.first ≡ B.first }
-    ensures passes { IfOk result (λ left. vec_len left.passes ≡ vec_len seats) }
-    ensures visited { IfOk result (λ left. HaveVisited H.finds H.names H.takes (map (λ s. begun cluster.now s.pass s.hooking.hooks s.hooking.table.listed s.placement) seats.items) left.passes.items) }
-    ensures spares { IfOk result (λ left. GoOn spares left.spares) }
+    ensures passes { IfOk result (λ left. vec_len left.passes ≡ vec_len crew.seats) }
+    ensures visited { IfOk result (λ left. HaveVisited H.finds H.names H.takes (map (λ s. begun cluster.now s.pass s.hooking.hooks s.hooking.table.listed s.placement) crew.seats.items) left.passes.items) }
+    ensures spares { IfOk result (λ left. AllGrow crew.spares left.spares) }
 {
+    let Crew {
+        seats,
+        lookout,
+        spares,
+        saver,
+    } = crew;
+    let (alloc, rt) = (host.alloc, host.rt);
     let shared = Shared::new(lookout);
     let (lent, both) = (cluster, &shared);
     let (spares, back) = thread::join(
         rt,
-        || -> Option<Passes<B>>
-            ensures { GoOn spares result }
+        || -> Passes<B>
+            ensures { AllGrow spares result }
         { save_beside(rt, lent, &both.signs(lobby), saver, spares) },
         || -> Result<Vec<Pass<B>>, AllocError>
             requires { lent.now.first ≡ B.first }
@@ -83,47 +98,20 @@ fn run<
     })
 }
 
-/// Makes snapshots by spare passes until all workers have ended, if there are any and somebody makes them. The passes come back.
-#[tactic(auto, using(crate::proofs::Growing::goes_on_same))]
+/// Makes snapshots by spare passes until all workers have ended, if somebody makes them. The passes come back.
+#[tactic(auto, using(crate::proofs::Growing::all_grow_same))]
 fn save_beside<B: Room + Send + Sync, F: Folder + Copy + Send, R: Threads + Wait + Sync>(
     rt: &R,
     cluster: &Cluster<B>,
     signs: &Signs<'_>,
     saver: Option<Saver<F>>,
-    spares: Option<Passes<B>>,
-) -> Option<Passes<B>>
-    ensures { GoOn spares result }
+    spares: Passes<B>,
+) -> Passes<B>
+    ensures { AllGrow spares result }
 {
-    match (saver, spares) {
-        (Some(mut saver), Some(spares)) => Some(saver.run(rt, cluster, spares, signs)),
-        (_, spares) => spares,
-    }
-}
-
-/// Has a crew serve. Once all workers have ended, the cluster is gathered, and what is left of the journals is followed.
-///
-/// The fault is that of [`close_watched`]. `NoMemory` also where a growth was refused for the threads; some workers may have answered no
-/// connection then.
-pub fn serve<
-    B: Room + Spot + Send + Sync,
-    H: Hooks + HookChanges + Send + Drop,
-    R: Threads + Wait + Sync,
->(
-    alloc: Global,
-    rt: &R,
-    cluster: Cluster<B>,
-    seats: Vec<Seat<B, H>>,
-    lobby: &Lobby,
-    lookout: Lookout<B>,
-) -> Followed
-    requires first { cluster.first ≡ B.first }
-    requires all { cluster.passes ≤ vec_len seats + 1 }
-    ensures followed { AfterVisits H.finds H.names H.takes (map (λ s. begun cluster s.pass s.hooking.hooks s.hooking.table.listed s.placement) seats.items) (λ told. (watched : List Told) × IsFollowedTo (told ++ watched) cluster.vnodes result) }
-{
-    let saver: Option<Saver<Nowhere>> = None;
-    match run(alloc, rt, &cluster, seats, lobby, lookout, saver, None) {
-        Ok(Back { passes, watch, .. }) => close_watched(alloc, cluster, passes, watch),
-        Err(AllocError) => Err(WatchFault::NoMemory),
+    match saver {
+        Some(mut saver) => saver.run(rt, cluster, spares, signs),
+        None => spares,
     }
 }
 
@@ -137,71 +125,56 @@ pub struct Served {
 }
 
 /// Has a crew serve a store that has begun with something, so many entries of each vnode, by index, while snapshots are made beside it by
-/// the passes that brought these. Once all workers have ended, the cluster is gathered, and what is left of the journals is followed; the
-/// vnodes are handed back, whatever is said of them, and what each of these passes had been told before stands in their journals. The
-/// error: memory was refused before the vnodes were gathered, and they are lost.
-pub fn keep<
+/// the passes that brought these. Where no fronts are named nothing was there before. Once all workers have ended, the cluster is gathered,
+/// and what is left of the journals is followed; the vnodes are handed back, whatever is said of them, and what each of these passes had
+/// been told before stands in their journals.
+///
+/// The error: memory was refused before the vnodes were gathered, and they are lost; some workers may have answered no connection then.
+pub fn serve<
     B: Room + Spot + Send + Sync,
     H: Hooks + HookChanges + Send + Drop,
     F: Folder + Copy + Send,
     R: Threads + Wait + Sync,
 >(
-    alloc: Global,
-    rt: &R,
+    host: &Host<'_, R>,
     cluster: Cluster<B>,
-    seats: Vec<Seat<B, H>>,
+    crew: Crew<B, H, F>,
     lobby: &Lobby,
-    lookout: Lookout<B>,
     fronts: &[usize],
-    spares: Passes<B>,
-    saver: Saver<F>,
 ) -> Result<Served, AllocError>
     requires first { cluster.first ≡ B.first }
-    requires all { cluster.passes ≤ vec_len seats + 4 }
-    ensures kept { IfOk result (λ served. AfterVisits H.finds H.names H.takes (map (λ s. begun cluster s.pass s.hooking.hooks s.hooking.table.listed s.placement) seats.items) (λ told. AreGathered told spares served.closed.vnodes.items) × (vec_len served.closed.vnodes ≡ cluster.vnodes)) }
+    requires all { cluster.passes ≤ vec_len crew.seats + 4 }
+    ensures kept { IfOk result (λ served. AfterVisits H.finds H.names H.takes (map (λ s. begun cluster s.pass s.hooking.hooks s.hooking.table.listed s.placement) crew.seats.items) (λ told. AreGathered told crew.spares served.closed.vnodes.items) × (vec_len served.closed.vnodes ≡ cluster.vnodes)) }
     ensures said { IfOk result (λ served. IsSaidOf fronts.now served.closed.vnodes.items served.closed.said) }
+    // Where nothing was there before, a yes is that of the journals from their first entries on.
+    ensures followed { IfOk result (λ served. fronts.now ≡ [] → AfterVisits H.finds H.names H.takes (map (λ s. begun cluster s.pass s.hooking.hooks s.hooking.table.listed s.placement) crew.seats.items) (λ told. (watched : List Told) × IsFollowedTo (told ++ watched) cluster.vnodes served.closed.said)) }
 {
     let Back {
         passes,
         spares,
         watch,
         requests,
-    } = run(
-        alloc,
-        rt,
-        &cluster,
-        seats,
-        lobby,
-        lookout,
-        Some(saver),
-        Some(spares),
-    )?;
+    } = run(host, &cluster, crew, lobby)?;
     let passes = all_passes(passes, spares)?;
-    let closed = close_keeping(alloc, cluster, passes, watch, fronts)?;
+    let closed = close_keeping(host.alloc, cluster, passes, watch, fronts)?;
     Ok(Served { closed, requests })
 }
 
-/// The passes of workers, and behind them spare ones, if there are any.
+/// The passes of workers, and behind them spare ones.
 fn all_passes<B: Room>(
     mut passes: Vec<Pass<B>>,
-    spares: Option<Passes<B>>,
+    spares: Passes<B>,
 ) -> Result<Vec<Pass<B>>, AllocError>
     ensures all { IfOk result (λ all. all.items ≡ passes.items ++ passes_of spares) }
-    ensures count { IfOk result (λ all. vec_len all ≡ vec_len passes + count_of spares) }
+    ensures count { IfOk result (λ all. vec_len all ≡ vec_len passes + 3) }
 {
-    match spares {
-        Some(
-            Passes {
-                first,
-                second,
-                third,
-            },
-        ) => {
-            passes.push(first)?;
-            passes.push(second)?;
-            passes.push(third)?;
-            Ok(passes)
-        }
-        None => Ok(passes),
-    }
+    let Passes {
+        first,
+        second,
+        third,
+    } = spares;
+    passes.push(first)?;
+    passes.push(second)?;
+    passes.push(third)?;
+    Ok(passes)
 }

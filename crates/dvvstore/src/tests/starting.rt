@@ -1,9 +1,10 @@
 //! A start from what a folder held.
 
-use crate::keeper::{Door, Keeper, Unbegun};
-use crate::nowhere::Nowhere;
+use crate::host::Host;
+use crate::keeper::{Address, Door, Stay, Unbegun};
 use crate::session;
-use crate::session::{Left, Making, Tenant};
+use crate::session::{Left, Making};
+use crate::system_folder::SystemFolder;
 use crate::tests::two_tables;
 use audit_faults::{Followed, WatchFault};
 use dvv::Clock;
@@ -63,36 +64,29 @@ fn kept_store(rt: HostRuntime) -> Result<(), Fail> {
     for from in BEFORE..BEFORE + 3 {
         files.push(file_of(alloc, from)?)?;
     }
-    let keeper = Keeper {
-        folder: Nowhere,
+    let stay = Stay {
+        folder: Some(SystemFolder::at(&rt, alloc, "nowhere")),
         held: Held {
             last: Some(6),
             settings: Settings { every: 0 },
             hooks: Vec::new(alloc),
             files,
         },
-        door: Door {
+        door: Door::Closed(Address {
             rt: &rt,
             addr: "127.0.0.1:0",
             count: Some(0),
             input: rt.stdin(),
-        },
+        }),
+        err: rt.stderr(),
     };
     let making = Making {
         first: BEFORE + 65_536,
         seed: Seed::fixed(),
     };
     let tables = two_tables(alloc)?;
-    let tenant = Tenant::Keeper(keeper);
-    let left = session::live(
-        alloc,
-        &rt,
-        making,
-        tables,
-        tenant,
-        rt.stderr(),
-        &mut io::sink(),
-    );
+    let host = Host { alloc, rt: &rt };
+    let left = session::live(&host, making, tables, stay, &mut io::sink());
     let (entries, said) = kept_by(left);
     expect(entries >= 3 * KEYS, &entries)?;
     expect(said == Ok(()), &said)?;

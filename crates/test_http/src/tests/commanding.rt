@@ -4,7 +4,7 @@ use audit_faults::{AuditFault, EntryFault, Followed, WatchFault};
 use bpf_helpers::Table;
 use commands::files::{Files, Part};
 use commands::own::command_with_helpers;
-use commands::server::{Ended, Server, Site, Unserved};
+use commands::server::{ServesOnly, Serving, Unserved};
 use std::alloc::Global;
 use std::io;
 use std::io::Write;
@@ -37,7 +37,7 @@ struct Deserted {
     asked: Option<(usize, Option<u32>)>,
 }
 
-impl Server for Deserted {
+impl Serving for Deserted {
     fn serve<O: Write>(
         &mut self,
         _alloc: Global,
@@ -51,17 +51,6 @@ impl Server for Deserted {
         writeln!(out, "listening {addr}")?;
         self.asked = Some((1 + more.len(), count));
         Ok(said)
-    }
-
-    fn keep<O: Write>(
-        &mut self,
-        _alloc: Global,
-        _table: Table,
-        _more: Vec<Table>,
-        _site: &Site<'_>,
-        _out: &mut O,
-    ) -> Result<Ended, Unserved> {
-        Err(Unserved::Unreadable)
     }
 }
 
@@ -219,14 +208,14 @@ const ROWS: &[Row] = &[
 /// Whether words come to what their row says, with nothing beside it.
 fn comes_to(alloc: Global, row: &Row) -> bool {
     let (words, says, asked, told, status) = row;
-    let mut server = Deserted {
+    let mut server = ServesOnly(Deserted {
         says: *says,
         asked: None,
-    };
+    });
     let (mut out, mut err) = (Vec::new(alloc), Vec::new(alloc));
     let done = command_with_helpers(alloc, words, &mut Bare, &mut server, &mut out, &mut err);
     done == Ok(*status)
-        && server.asked == *asked
+        && server.0.asked == *asked
         && out.as_slice() == told.as_bytes()
         && err.is_empty()
 }

@@ -35,4 +35,4 @@ returns-clause-readers g c =
     let y = YieldsList-from_vec {s = c.into_iter-pass-iterator.result} c.args.passes.items start.0 (start.1 ∙ long) in
     let e = YieldsList-end y c.loop-pass.yielded c.loop-pass.pass-iterator c.loop-pass.yielded_by c.next.result c.next.new.self c.in-None.is c.next.ensures.steps in
     let even : vec_len c.loop-pass.seats ≡ vec_len c.args.passes = i.count ∙ e.1 ∙ sym long in
-    all_taken (λ s. s.hooking.hooks) _ _ c.loop-pass.seats.items i.readers (sym c.loop-pass.seats.ok.0 ∙ (even ∙ (c.requires.each ∙ (sym c.requires.readers ∙ c.args.readers.ok.0))))
+    all_taken (λ s. s.hooking.hooks) _ _ c.loop-pass.seats.items i.readers (sym c.loop-pass.seats.ok.0 ∙ (even ∙ (c.requires.each ∙ (sym c.requires.readers ∙ c.args.hooked.readers.ok.0))))
