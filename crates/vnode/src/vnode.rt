@@ -12,7 +12,7 @@ use crate::parts::{merged_part_of, part_refusal_at, summary_at};
 use crate::seed::Seed;
 use crate::states::{BlockSpot, States};
 use crate::steps::{
-    Copied, Placed, copies_at, has_places_for, is_at, keys_in, listed_in, merge_at,
+    Copied, Placed, all_copies_in, copies_at, has_places_for, is_at, keys_in, listed_in, merge_at,
     merge_refusal_at, merged_of, put_at, put_refusal_at, read_all_at, write_of,
 };
 use dvv::Clock;
@@ -412,6 +412,15 @@ impl Vnode {
         ensures legal { IsJournal self.new.vnode self.new.entries }
     {
         read_all_at(self.alloc, &self.states, &mut self.journal, stamp)
+    }
+
+    /// Copies of the keys at which something is known, in the order of bytes, and of their states. It is no event: no entry says that they
+    /// were read. Memory alone may be refused.
+    pub fn copies(&self) -> Result<Vec<Copied>, AllocError>
+        ensures keys { IfOk result (λ copies. AreKeys self.now (keys_of copies.items)) }
+        ensures states { IfOk result (λ copies. All (λ c. IsReplay self.now.entries c.key c.state) copies.items) }
+    {
+        all_copies_in(self.alloc, &self.states)
     }
 
     /// Starts again. Nothing is lost. Answers the place of the entry.
