@@ -17,6 +17,3 @@ pub(crate) const MOST_BEHIND_BYTES: u64 = 33_554_432;
 
 /// So many blocks of keys of a vnode are shared in a turn: more than are filled between two turns, and so few that none takes long.
 pub(crate) const SHARED_AT_ONCE_BLOCKS: usize = 4;
-
-/// Nine tenths of the entries that a vnode can have.
-pub(crate) const NEARLY_FULL_ENTRIES: usize = 3_865_470_566;

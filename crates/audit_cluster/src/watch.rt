@@ -7,9 +7,7 @@ ghost use Rattle.audit_follower.specs.Waiting.{bytes_waiting, count_waiting, wai
 ghost use Rattle.world.specs.Represents.{log_at};
 ghost use Rattle.audit_cluster.specs.Following.{AreRestarts, IsTakenMore, IsToldMore, Rouses, WaitsLittle};
 
-use crate::limits::{
-    MOST_BEHIND_BYTES, MOST_BEHIND_ENTRIES, NEARLY_FULL_ENTRIES, RECENT, SHARED_AT_ONCE_BLOCKS,
-};
+use crate::limits::{MOST_BEHIND_BYTES, MOST_BEHIND_ENTRIES, RECENT, SHARED_AT_ONCE_BLOCKS};
 use audit_faults::{TakeFault, WatchFault};
 use audit_follower::{Follower, Start};
 use cluster::{Cluster, Pass, Room};
@@ -35,39 +33,12 @@ pub enum Notice {
     /// The journals aren't found to be one run. Nothing is followed any more.
     #[error("followed {0}")]
     Stopped(WatchFault),
-    /// A vnode has so many entries: nine tenths of those that it can have, or more.
-    #[error("vnode {vnode} has {entries} of 4294967296 entries")]
-    NearlyFull { vnode: u32, entries: usize },
 }
 
 /// Is told what can't wait.
 pub trait Alarm {
     /// Tells it.
     fn raise(&self, notice: Notice);
-}
-
-/// What was handed out by one vnode.
-#[derive(Clone, Copy, Drop)]
-struct Seen {
-    id: u32,
-    /// The number after the last stamp that was handed out: what is still to come has no lower one.
-    below: u64,
-    /// Whether it was told that it is nearly full.
-    warned: bool,
-}
-
-impl Seen {
-    // So many entries were taken in all, the last of them with the stamp before this number.
-    fn note<A: Alarm>(&mut self, entries: usize, below: u64, alarm: &A) {
-        self.below = below;
-        if entries >= NEARLY_FULL_ENTRIES && !self.warned {
-            self.warned = true;
-            alarm.raise(Notice::NearlyFull {
-                vnode: self.id,
-                entries,
-            });
-        }
-    }
 }
 
 /// A follower beside a cluster that serves: it has the vnodes hand out their full blocks, which its pass is told, and follows them.
@@ -81,7 +52,8 @@ pub struct Watch<B: Room + Spot> {
     pub(crate) first: u32,
     pub(crate) vnodes: usize,
     pub(crate) follower: Follower,
-    seen: Vec<Seen>,
+    /// The number after the last stamp that each vnode handed out: what is still to come from it has no lower one.
+    ends: Vec<u64>,
     /// An empty block for the next entries of a vnode that has none.
     next: Vec<Entry>,
     /// The number below which all was followed.
@@ -114,13 +86,13 @@ fn end_of(handout: &Handout) -> u64 {
     }
 }
 
-// Takes what the vnode with an index handed out. Answers how many entries it has handed out in all.
+// Takes what the vnode with an index handed out.
 fn take_blocks(
     alloc: Global,
     follower: &mut Follower,
     index: usize,
     handout: Handout,
-) -> Result<usize, TakeFault>
+) -> Result<(), TakeFault>
     ensures taken { OnOk result (IsTakenMore follower.old follower.new index handout.first (all_of handout.blocks.items)) }
     ensures fault { follower.new.fault ≡ follower.old.fault }
     ensures recent { follower.new.recent ≡ follower.old.recent }
@@ -138,7 +110,7 @@ fn take_blocks(
         follower.take_at(index, next, block)?;
         next = next.saturating_add(count);
     }
-    Ok(next)
+    Ok(())
 }
 
 // Starts the vnode with an index again, under its lock, until it has more than a block of entries behind so many: so a block of them is
@@ -215,22 +187,17 @@ impl<B: Room + Spot> Watch<B> {
             unreachable!();
         };
         let mut ids = Vec::new(alloc);
-        let mut seen = Vec::new(alloc);
+        let mut ends = Vec::new(alloc);
         for index in 0..vnodes {
-            let id = first + index as u32;
-            ids.push(id)?;
-            seen.push(Seen {
-                id,
-                below: 0,
-                warned: false,
-            })?;
+            ids.push(first + index as u32)?;
+            ends.push(0)?;
         }
         Ok(Watch {
             pass,
             first,
             vnodes,
             follower: Follower::new(alloc, &ids, RECENT, start)?,
-            seen,
+            ends,
             next: Vec::new(alloc),
             reached: 0,
             lost: None,
@@ -250,15 +217,8 @@ impl<B: Room + Spot> Watch<B> {
     }
 
     /// Has the vnode with an index hand out its full blocks, under its lock, and takes them. Where nothing is followed any more they are
-    /// let go. That a vnode is nearly full is told, once.
-    pub fn hear<R: Wait, A: Alarm>(
-        &mut self,
-        alloc: Global,
-        rt: &R,
-        cluster: &Cluster<B>,
-        index: usize,
-        alarm: &A,
-    )
+    /// let go.
+    pub fn hear<R: Wait>(&mut self, alloc: Global, rt: &R, cluster: &Cluster<B>, index: usize)
         requires first { cluster.now.first ≡ B.first }
         requires inside { index < cluster.now.vnodes }
         ensures told { IsToldMore self.old.told self.new.told }
@@ -274,9 +234,9 @@ impl<B: Room + Spot> Watch<B> {
         }
         let below = end_of(&handout);
         match take_blocks(alloc, &mut self.follower, index, handout) {
-            Ok(entries) => {
-                if let Some(seen) = self.seen.get_mut(index) {
-                    seen.note(entries, below, alarm);
+            Ok(()) => {
+                if let Some(end) = self.ends.get_mut(index) {
+                    *end = below;
                 }
             }
             Err(why) => self.lost = Some(why),
@@ -286,8 +246,8 @@ impl<B: Room + Spot> Watch<B> {
     // The number below which all stamps were handed out.
     fn below(&self) -> u64 {
         let mut below = u64::MAX;
-        for seen in &self.seen {
-            below = below.min(seen.below);
+        for end in &self.ends {
+            below = below.min(*end);
         }
         below
     }
@@ -353,34 +313,22 @@ impl<B: Room + Spot> Watch<B> {
     }
 
     /// Has each vnode of a cluster hand out its full blocks: [`Watch::hear`] of each.
-    pub fn hear_each<R: Wait, A: Alarm>(
-        &mut self,
-        alloc: Global,
-        rt: &R,
-        cluster: &Cluster<B>,
-        alarm: &A,
-    )
+    pub fn hear_each<R: Wait>(&mut self, alloc: Global, rt: &R, cluster: &Cluster<B>)
         requires first { cluster.now.first ≡ B.first }
         ensures told { IsToldMore self.old.told self.new.told }
     {
         for index in 0..cluster.count() {
-            self.hear(alloc, rt, cluster, index, alarm);
+            self.hear(alloc, rt, cluster, index);
         }
     }
 
     /// Has each vnode of a cluster hand out its full blocks: [`Watch::hear_each`], and then [`Watch::rouse`]. Of the
     /// keys that were followed full blocks are then held once, by the vnode and the follower's.
-    pub fn hear_all<R: Wait, A: Alarm>(
-        &mut self,
-        alloc: Global,
-        rt: &R,
-        cluster: &Cluster<B>,
-        alarm: &A,
-    )
+    pub fn hear_all<R: Wait>(&mut self, alloc: Global, rt: &R, cluster: &Cluster<B>)
         requires first { cluster.now.first ≡ B.first }
         ensures told { IsToldMore self.old.told self.new.told }
     {
-        self.hear_each(alloc, rt, cluster, alarm);
+        self.hear_each(alloc, rt, cluster);
         self.rouse(rt, cluster);
         self.share_keys(rt, cluster);
     }
@@ -439,7 +387,7 @@ impl<B: Room + Spot> Watch<B> {
         requires first { cluster.now.first ≡ B.first }
         ensures told { IsToldMore self.old.told self.new.told }
     {
-        self.hear_all(alloc, rt, cluster, alarm);
+        self.hear_all(alloc, rt, cluster);
         self.follow_some(u64::MAX, alarm);
     }
 }

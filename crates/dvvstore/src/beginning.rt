@@ -105,7 +105,7 @@ fn follow_load<B: Room + Spot, R: Wait>(
         if load.is_over.load(SeqCst) {
             break;
         }
-        watch.hear_each(alloc, load.rt, cluster, &alarm);
+        watch.hear_each(alloc, load.rt, cluster);
         let is_more = watch.follow_some(LOAD_PIECE_STAMPS, &alarm);
         load.is_behind
             .store(!watch.can_go_on(LOAD_AHEAD_ENTRIES), SeqCst);
