@@ -35,7 +35,7 @@ pub enum EntryFault {
 #[derive(Clone, Copy, Debug, PartialEq, Eq, Drop, Error)]
 pub enum AuditFault {
     /// What is wrong with the entry at this place of the journal of the vnode with this identifier. Places are counted from 0, and there
-    /// are at most 2^32.
+    /// are at most 2^62.
     #[error("{code} {vnode} {place}")]
     Found {
         code: EntryFault,

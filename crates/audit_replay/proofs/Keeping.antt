@@ -222,6 +222,11 @@ first_here (suc first) (suc p) here key = first_here first p here key ∙ ap (λ
 pub first_begun : (list : List Kept) (first p behind : ℕ) (here : List Kept) (key : Key) → replicate first GivenUp ++ here ≡ list → behind ≡ p - first → first_was (drop p list) key ≡ first_was (drop behind here) key
 first_begun list first p behind here key is at = ap (λ (l : List Kept). first_was (drop p l) key) (sym is) ∙ first_here first p here key ∙ ap (λ (n : ℕ). first_was (drop n here) key) (sym at)
 
+-- an index past the end may be any such
+pub first_past : (here : List Kept) (p q : ℕ) (key : Key) → (p ≡ q) ⊎ ((length here ≤ p) × (length here ≤ q)) → first_was (drop p here) key ≡ first_was (drop q here) key
+first_past here p q key (inl same) = ap (λ (n : ℕ). first_was (drop n here) key) same
+first_past here p q key (inr (a, b)) = ap (λ (l : List Kept). first_was l key) (drop_all p here a ∙ sym (drop_all q here b))
+
 -- one that tells nothing of it is passed
 pub first_passed : (here : List Kept) (i : ℕ) (k : Kept) (key : Key) → slice_get here i ≡ Some k → None ≡ was_before k key → first_was (drop i here) key ≡ first_was (drop (i + 1) here) key
 first_passed here i k key at none = ap (λ (l : List Kept). first_was l key) (drop_next here i k at) ∙ ap (λ (o : Option State). option_or o (first_was (drop (i + 1) here) key)) (sym none)

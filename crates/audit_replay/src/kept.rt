@@ -1,7 +1,8 @@
 //! What is kept of entries, by their places in a vnode's journal: it tells what reads answered.
 
-ghost use Rattle.std.specs.Prelude.{◌≡◌, ◌++◌, ◌∷◌, [], ◌+◌, ◌<◌, ◌≤◌, ◌^◌, OnOk, MatchBool, drop, length};
+ghost use Rattle.std.specs.Prelude.{◌≡◌, ◌++◌, ◌∷◌, [], ◌+◌, ◌-◌, ◌^◌, ◌<◌, ◌≤◌, OnOk, MatchBool, drop, length, min};
 ghost use Rattle.std.specs.Option.{option_copied};
+ghost use Rattle.journal.specs.Logs.{max_entries};
 ghost use Rattle.audit_replay.specs.Kept.{IsFound, IsLeft, IsMore, first_was, kept_bytes, was_before};
 
 use key_state::{Key, Shared};
@@ -97,6 +98,17 @@ impl Model for Answers {
     ghost invariant = { λ a. a.bytes ≡ sum_by kept_bytes a.here.items };
 }
 
+// The index of the entry behind a place, where that of the first place has index 0. No place is behind the greatest.
+fn index_behind(place: u64, first: usize) -> usize
+    ensures { result ≡ min (place + 1 - first) (2 ^ 64 - 1) }
+{
+    let place = place as usize;
+    if place < first {
+        return 0;
+    }
+    (place - first).saturating_add(1)
+}
+
 impl Answers {
     /// No entry.
     pub(crate) fn new(alloc: Global) -> Self
@@ -111,7 +123,7 @@ impl Answers {
 
     /// One entry more. What is no longer recent is given up.
     pub(crate) fn keep(&mut self, kept: Kept, recent: Recent) -> Result<(), AllocError>
-        requires few { length self.old < 2 ^ 32 }
+        requires few { length self.old < max_entries }
         ensures { OnOk result (IsLeft recent (self.old ++ kept ∷ []) self.new) }
     {
         let bytes = u128::from(kept.bytes());
@@ -123,7 +135,7 @@ impl Answers {
 
     // What is no longer recent is given up.
     fn give_up(&mut self, recent: Recent)
-        requires few { length self.old ≤ 2 ^ 32 }
+        requires few { length self.old ≤ max_entries }
         ensures { IsLeft recent self.old self.new }
     {
         while is_over(recent, self.here.len(), self.bytes) {
@@ -154,8 +166,7 @@ impl Answers {
     pub(crate) fn first_was(&self, place: u64, key: &Key) -> Option<&Shared>
         ensures { option_copied result ≡ first_was (drop (place + 1) self.now) key.now }
     {
-        let behind = (place as usize + 1).saturating_sub(self.first);
-        for index in behind..self.here.len() {
+        for index in index_behind(place, self.first)..self.here.len() {
             if let Some(state) = self.here[index].was_at(key) {
                 return Some(state);
             }

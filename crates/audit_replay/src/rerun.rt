@@ -1,6 +1,7 @@
 //! Entries of several vnodes happen again, one after another.
 
-ghost use Rattle.std.specs.Prelude.{◌≡◌, ◌≢◌, ◌<◌, ◌≤◌, ◌^◌, ℕ, IfOk, IfErr, OnOk, MatchOption, None, Some, length};
+ghost use Rattle.std.specs.Prelude.{◌≡◌, ◌≢◌, ◌<◌, ◌≤◌, ℕ, IfOk, IfErr, OnOk, MatchOption, None, Some, length};
+ghost use Rattle.journal.specs.Logs.{max_entries};
 ghost use Rattle.world.specs.Represents.{AreDistinct, empty_logs, log_at, with_entry_at};
 ghost use Rattle.audit_replay.specs.Runs.{IsRunFrom};
 ghost use Rattle.audit_replay.specs.Wrong.{IsAfterAll, IsFounded, IsHeld, IsToldOf};
@@ -92,7 +93,7 @@ impl Rerun {
     pub fn happened(&self, index: usize) -> usize
         requires inside { index < length self.now.logs }
         ensures len { result ≡ length (log_at self.now.logs index).entries }
-        ensures limit { result ≤ 2 ^ 32 }
+        ensures limit { result ≤ max_entries }
     {
         self.followed.vnodes[index].journal().len()
     }

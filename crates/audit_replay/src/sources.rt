@@ -55,7 +55,7 @@ fn go_on(
     journals: &[Whole<'_>],
     counts: &mut [usize],
     head: Head,
-    place: u64,
+    place: usize,
     rerun: &mut Rerun,
 ) -> Result<(), AuditFault>
     requires distinct { AreDistinct (ids_of journals.now) }
@@ -68,6 +68,7 @@ fn go_on(
     requires fronts { rerun.old.fronts ≡ [] }
     requires next { IsNextBelow journals.now counts.old (length journals.now) head }
     requires place { place ≡ count_at counts.old head.index }
+    requires limit { place < max_entries }
     ensures run { OnOk result (HasRun journals.now counts.new rerun.new.logs) }
     ensures counts { OnOk result (counts.new ≡ slice_set counts.old head.index (count_at counts.old head.index + 1)) }
     ensures going { OnOk result (rerun.new.fault ≡ None) }
@@ -76,11 +77,11 @@ fn go_on(
     ensures err { IfErr result (IsFault journals.now) }
     ensures codes { IfErr result (IsOneOf IsOfSource) }
 {
-    let Some(entry) = entry_at(journals, head.index, place as usize) else {
+    let Some(entry) = entry_at(journals, head.index, place) else {
         unreachable!()
     };
     rerun.go_on_lent(head.index, entry)?;
-    counts[head.index] = place as usize + 1;
+    counts[head.index] = place + 1;
     Ok(())
 }
 

@@ -20,7 +20,7 @@ use std::alloc::Global;
 #[derive(Clone, Copy, Drop)]
 pub(crate) struct Fall {
     pub(crate) vnode: u32,
-    pub(crate) place: u64,
+    pub(crate) place: usize,
 }
 
 impl Fall {
@@ -53,7 +53,7 @@ fn fall_of(journals: &[Whole<'_>], index: usize) -> Option<Fall>
         if stamp_at(journals, index, place) <= stamp_at(journals, index, place - 1) {
             return Some(Fall {
                 vnode: vnode_at(journals, index),
-                place: place as u64,
+                place,
             });
         }
     }
@@ -93,7 +93,7 @@ pub fn check_rising(journals: &[Whole<'_>]) -> Result<(), AuditFault>
         Some(fall) => Err(AuditFault::Found {
             code: EntryFault::Falls,
             vnode: fall.vnode,
-            place: fall.place as usize,
+            place: fall.place,
         }),
         None => Ok(()),
     }
@@ -125,11 +125,11 @@ pub fn check_single(alloc: Global, journals: &[Whole<'_>]) -> Result<(), AuditFa
             return Err(AuditFault::Found {
                 code: EntryFault::Twice,
                 vnode: head.vnode,
-                place: place as usize,
+                place,
             });
         }
         last = Some(head.stamp);
-        counts[head.index] = place as usize + 1;
+        counts[head.index] = place + 1;
         join(journals, &counts, head.index, &mut heads)?;
     }
     Ok(())

@@ -1,8 +1,9 @@
 //! Whose entry is next: the lowest stamp of those that are to come.
 
-ghost use Rattle.std.specs.Prelude.{◌≡◌, ◌<◌, ◌≤◌, ◌^◌, length, slice_get, IfOk, MatchOption, OnOk, Some};
+ghost use Rattle.std.specs.Prelude.{◌≡◌, ◌<◌, ◌≤◌, length, slice_get, IfOk, IfSome, MatchOption, OnOk, Some};
 ghost use Rattle.std.specs.Option.{option_copied};
 ghost use Rattle.journal.specs.Entry.{Entry as Entered};
+ghost use Rattle.journal.specs.Logs.{max_entries};
 ghost use Rattle.world.specs.Represents.{log_at};
 ghost use Rattle.audit_replay.specs.Turns.{AreHeads, IsHead, IsHeadOf, IsNextBelow, Joins, Leaves, NoneBelow, count_at};
 
@@ -88,28 +89,21 @@ pub(crate) fn heads_of(
 pub(crate) fn len_at(journals: &[Whole<'_>], index: usize) -> usize
     requires inside { index < length journals.now }
     ensures len { result ≡ length (log_at journals.now index).entries }
-    ensures limit { result ≤ 2 ^ 32 }
+    ensures limit { result ≤ max_entries }
 {
     journals[index].len()
 }
 
-// A place of a journal, which has at most 2^32.
-fn place_of(journals: &[Whole<'_>], index: usize, place: usize) -> u64
-    requires inside { index < length journals.now }
-    requires there { place < length (log_at journals.now index).entries }
-    ensures { result ≡ place }
-{
-    let _len = len_at(journals, index);
-    place as u64
-}
-
 // The place of the next entry of all.
-fn place_at(journals: &[Whole<'_>], counts: &[usize], head: Head) -> u64
+fn place_at(journals: &[Whole<'_>], counts: &[usize], head: Head) -> usize
     requires size { length counts.now ≡ length journals.now }
     requires next { IsNextBelow journals.now counts.now (length journals.now) head }
-    ensures { result ≡ count_at counts.now head.index }
+    ensures place { result ≡ count_at counts.now head.index }
+    ensures limit { result < max_entries }
 {
-    place_of(journals, head.index, counts[head.index])
+    // What every journal keeps of its length is told with it.
+    let _len = len_at(journals, head.index);
+    counts[head.index]
 }
 
 // The next entry of all: its journal's head, which leaves the others, and its place there.
@@ -117,10 +111,11 @@ pub(crate) fn next_of(
     journals: &[Whole<'_>],
     counts: &[usize],
     heads: &mut Heads,
-) -> Option<(Head, u64)>
+) -> Option<(Head, usize)>
     requires size { length counts.now ≡ length journals.now }
     requires heads { AreHeads journals.now counts.now heads.old }
-    ensures { MatchOption result (NoneBelow journals.now counts.now (length journals.now)) (λ next. IsNextBelow journals.now counts.now (length journals.now) next.0 × (next.1 ≡ count_at counts.now next.0.index) × Leaves heads.old next.0 heads.new) }
+    ensures limit { IfSome result (λ next. next.1 < max_entries) }
+    ensures next { MatchOption result (NoneBelow journals.now counts.now (length journals.now)) (λ next. IsNextBelow journals.now counts.now (length journals.now) next.0 × (next.1 ≡ count_at counts.now next.0.index) × Leaves heads.old next.0 heads.new) }
 {
     match heads.pop() {
         Some(head) => Some((head, place_at(journals, counts, head))),

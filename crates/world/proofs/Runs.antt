@@ -1,5 +1,5 @@
 -- Runs of the code, event by event.
-use Rattle.std.proofs.Common.{◌≡◌, ℕ, ◌+◌, ◌^◌, ◌<◌, ◌≤◌, ◌⊎◌, Bool, true, false, List, [], ◌∷◌, ◌++◌, length, get_or, refl, sym, ap, subst, ◌∙◌, inl, inr, Some, add-one}
+use Rattle.std.proofs.Common.{◌≡◌, ℕ, ◌+◌, ◌<◌, ◌≤◌, ◌⊎◌, Bool, true, false, List, [], ◌∷◌, ◌++◌, length, get_or, refl, sym, ap, subst, ◌∙◌, inl, inr, Some, add-one}
 use Rattle.std.specs.Prelude.{slice_get, MatchBool, ◌↔◌}
 use Rattle.std.proofs.lemmas.List.{map-append}
 use Rattle.std.proofs.lemmas.Option.{slice_get_read, slice_get_within}
@@ -8,7 +8,7 @@ use Rattle.key_state.specs.declared.content.Key.{Key}
 use Rattle.key_state.specs.Known.{Write}
 use Rattle.key_state.specs.State.{State, kept, next}
 use Rattle.key_state.specs.Parts.{Summarized as Summary, summary_of, part_of, whole_of}
-use Rattle.journal.specs.Logs.{Log}
+use Rattle.journal.specs.Logs.{Log, max_entries}
 use Rattle.key_state.specs.declared.content.Content.{Content}
 use Rattle.journal.specs.Entry.{Entry}
 use Rattle.journal.specs.Entry as entry
@@ -121,7 +121,7 @@ put_refusal logs w v key clock r rep inside (state, replay, why) = by_cause r wh
         context = known why.0.context;
         siblings = (length (kept clock state.siblings), (state, own, refl), why.0.sibling);
         clock = (state.clock, (own.clock, own.shows.clock), room_next logs w v key state rep inside replay why.0.dot);
-        journal = subst (λ (n : ℕ). n < 2 ^ 32) (rep.accepted v inside) why.1;
+        journal = subst (λ (n : ℕ). n < max_entries) (rep.accepted v inside) why.1;
       },
     )
 
@@ -215,7 +215,7 @@ part_send_refused listed logs w replies v summary key told r rep inside remember
 
     by_cause : (r : VnodeFault) → RefusesEntryAt (log_at logs v) r → (after : Knowledge) × Happens listed w (SendPart v key summary) (Refused r) after × Represents logs after
     by_cause JournalFull why = refused_so listed logs w (SendPart v key summary) JournalFull rep (part_refused v key summary h.0 h.1 refl h.2 (sym (rep.accepted v inside) ∙ why) refl refl)
-    by_cause NoMemory why = refused_so listed logs w (SendPart v key summary) NoMemory rep (wants_memory (h.0, h.1, h.2, subst (λ (n : ℕ). n < 2 ^ 32) (rep.accepted v inside) why) refl refl)
+    by_cause NoMemory why = refused_so listed logs w (SendPart v key summary) NoMemory rep (wants_memory (h.0, h.1, h.2, subst (λ (n : ℕ). n < max_entries) (rep.accepted v inside) why) refl refl)
     by_cause ContextAhead why = absurd why
     by_cause TooManySiblings why = absurd why
     by_cause ClockFull why = absurd why
@@ -243,7 +243,7 @@ place_may w (ResolveWrite run u) v at place = absurd at
 pub entry_was_refused : (listed : List Helper) (logs : List Log) (w : Knowledge) (v : ℕ) (what : Event) (r : VnodeFault) → Represents logs w → v < length logs → IsAt what v → RefusesEntryAt (log_at logs v) r
     → (after : Knowledge) × Happens listed w what (Refused r) after × Represents logs after
 entry_was_refused listed logs w v what JournalFull rep inside at why = refused_so listed logs w what JournalFull rep (full v at (sym (rep.accepted v inside) ∙ why) refl refl)
-entry_was_refused listed logs w v what NoMemory rep inside at why = refused_so listed logs w what NoMemory rep (wants_memory (place_may w what v at (subst (λ (n : ℕ). n < 2 ^ 32) (rep.accepted v inside) why)) refl refl)
+entry_was_refused listed logs w v what NoMemory rep inside at why = refused_so listed logs w what NoMemory rep (wants_memory (place_may w what v at (subst (λ (n : ℕ). n < max_entries) (rep.accepted v inside) why)) refl refl)
 entry_was_refused listed logs w v what ContextAhead rep inside at why = absurd why
 entry_was_refused listed logs w v what TooManySiblings rep inside at why = absurd why
 entry_was_refused listed logs w v what ClockFull rep inside at why = absurd why

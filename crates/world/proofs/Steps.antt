@@ -1,5 +1,5 @@
 -- One entry more at a vnode is one event more of the world.
-use Rattle.std.proofs.Common.{◌≡◌, ◌≢◌, ℕ, zero, suc, ◌+◌, ◌^◌, ◌<◌, ◌≤◌, ◌&&◌, Bool, true, false, cond, List, [], ◌∷◌, ◌++◌, length, get_or, refl, sym, ap, subst, ◌∙◌, inl, inr, arith, MatchBool, append_assoc, length-append, length-set, replicate}
+use Rattle.std.proofs.Common.{◌≡◌, ◌≢◌, ℕ, zero, suc, ◌+◌, ◌<◌, ◌≤◌, ◌&&◌, Bool, true, false, cond, List, [], ◌∷◌, ◌++◌, length, get_or, refl, sym, ap, subst, ◌∙◌, inl, inr, arith, MatchBool, append_assoc, length-append, length-set, replicate}
 use Rattle.std.proofs.lemmas.List.{length-replicate, length-map}
 use Rattle.std.specs.Prelude.{Contains, ◌↔◌, nat_le, nat_lt, Option}
 use Rattle.std.proofs.lemmas.Bool.{cases_eq, and_parts, and_from, both_ways, le-leb, lt-ltb, leb-true, ltb-true}
@@ -13,7 +13,7 @@ use Rattle.key_state.specs.State.{State, next, kept}
 use Rattle.key_state.specs.Known.{Write, IsCurrent, AreUnique}
 use Rattle.journal.specs.Keys.{same_key}
 use Rattle.journal.specs.Entry.{Entry, Put, Merge, Read, Restart}
-use Rattle.journal.specs.Logs.{Log, with_entry}
+use Rattle.journal.specs.Logs.{Log, max_entries, with_entry}
 use Rattle.journal.specs.Replay.{sibling_in, known_in, IsReplay, IsNextDot, LeaveAlike, Knows, Leaves}
 use Rattle.journal.specs.Limits.{TakesEntry, TakesClock, AcceptsPut}
 use Rattle.journal.specs.Journals.{MayFollow, IsJournal}
@@ -128,7 +128,7 @@ may_put logs w v key seen rep inside accepted =
       context = known_seen logs w v key seen rep inside accepted.knows;
       siblings = (length (kept seen r.0.siblings), (r.0, is, refl), r.2.0);
       clock = (r.0.clock, (is.clock, is.shows.clock), subst (HasRoom r.0.clock) (state_next_is logs w v key r.0 rep inside r.1) r.2.1);
-      journal = subst (λ (n : ℕ). n < 2 ^ 32) (rep.accepted v inside) accepted.place;
+      journal = subst (λ (n : ℕ). n < max_entries) (rep.accepted v inside) accepted.place;
     }
 
 -- An entry of a put is the put of the world.
@@ -170,20 +170,20 @@ put_step logs w v stamp key seen content dot rep inside follows = (is, may_put l
 -- a copy is what its event left: the vnode's entry of a read
 pub copy_step : (logs : List Log) (w : Knowledge) (v stamp : ℕ) (key : Key) → Represents logs w → v < length logs → TakesEntry (log_at logs v).entries → HasPlace w v × Represents (with_entry_at logs v (Read stamp key)) (after_copy w v key)
 copy_step logs w v stamp key rep inside place = (
-  subst (λ (n : ℕ). n < 2 ^ 32) (rep.accepted v inside) place,
+  subst (λ (n : ℕ). n < max_entries) (rep.accepted v inside) place,
   grown logs w (after_copy w v key) v (Read stamp key) rep inside place (lawful_copy w v key rep.lawful) rep.own refl refl refl (λ k. ([], refl, sym (append-nil (known_at w v k)))) (λ u k other. refl),
 )
 
 -- so is a part
 pub part_step : (logs : List Log) (w : Knowledge) (v stamp : ℕ) (key : Key) (held : List Write) → Represents logs w → v < length logs → TakesEntry (log_at logs v).entries → HasPlace w v × Represents (with_entry_at logs v (Read stamp key)) (after_part w v key held)
 part_step logs w v stamp key held rep inside place = (
-  subst (λ (n : ℕ). n < 2 ^ 32) (rep.accepted v inside) place,
+  subst (λ (n : ℕ). n < max_entries) (rep.accepted v inside) place,
   grown logs w (after_part w v key held) v (Read stamp key) rep inside place (lawful_part w v key held rep.lawful) rep.own refl refl refl (λ k. ([], refl, sym (append-nil (known_at w v k)))) (λ u k other. refl),
 )
 
 pub restart_step : (logs : List Log) (w : Knowledge) (v stamp : ℕ) → Represents logs w → v < length logs → TakesEntry (log_at logs v).entries → HasPlace w v × Represents (with_entry_at logs v (Restart stamp)) (after_restart w v)
 restart_step logs w v stamp rep inside place = (
-  subst (λ (n : ℕ). n < 2 ^ 32) (rep.accepted v inside) place,
+  subst (λ (n : ℕ). n < max_entries) (rep.accepted v inside) place,
   grown logs w (after_restart w v) v (Restart stamp) rep inside place (lawful_restart w v rep.lawful) rep.own refl refl refl (λ k. ([], refl, sym (append-nil (known_at w v k)))) (λ u k other. refl),
 )
 
@@ -241,7 +241,7 @@ may_deliver logs w v key state writes rep inside r room is =
     let own = state_shown logs w v key r.0 rep inside r.1 in
     record {
       clock = (vnodes_together r.0.clock state.clock, (r.0.clock, state.clock, (own.clock, own.shows.clock), (is.clock, is.shows.clock), refl), r.2);
-      journal = subst (λ (n : ℕ). n < 2 ^ 32) (rep.accepted v inside) room;
+      journal = subst (λ (n : ℕ). n < max_entries) (rep.accepted v inside) room;
     }
 
 -- An entry of a merge is the delivery of the writes that its state shows.

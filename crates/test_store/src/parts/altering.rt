@@ -16,7 +16,7 @@ pub(crate) enum Alteration {
 }
 
 /// The vnode and the place of an entry, and what is altered of it.
-pub(crate) type Altered = (u32, u32, Alteration);
+pub(crate) type Altered = (u32, u64, Alteration);
 
 /// The vnodes once more, entry by entry, one of which is altered.
 pub(crate) fn alter(alloc: Global, vnodes: &[Vnode], altered: Altered) -> Result<Vec<Vnode>, Fail> {
@@ -39,7 +39,7 @@ fn happen_again(
     journal: &Journal,
     altered: Altered,
 ) -> Result<(), Fail> {
-    for place in 0..u32::MAX {
+    for place in 0..u64::MAX {
         let Some(entry) = journal.get(place) else {
             break;
         };
@@ -54,7 +54,7 @@ fn happen_again(
 }
 
 /// What is altered of the entry at a place.
-fn alteration_at(vnode: u32, place: u32, altered: Altered) -> Option<Alteration> {
+fn alteration_at(vnode: u32, place: u64, altered: Altered) -> Option<Alteration> {
     if (vnode, place) == (altered.0, altered.1) {
         Some(altered.2)
     } else {

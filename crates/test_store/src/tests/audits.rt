@@ -21,7 +21,7 @@ enum Step {
     Put(usize, Option<&'static [u8]>),
     Read,
     /// A merge of what a read answered, as that of the vnode and the place at hand, else of its own.
-    Merge(Option<(u32, u32)>, usize),
+    Merge(Option<(u32, u64)>, usize),
     Restart,
 }
 
@@ -281,7 +281,7 @@ const SENT: &[At] = &[
 
 /// A merge at vnode 5 of what the first read answered: its stamp and its key, the vnode and the place that it names, and what is
 /// told.
-type Named = (u64, u8, (u32, u32), Told);
+type Named = (u64, u8, (u32, u64), Told);
 
 /// The merges, one at a time.
 const MERGES: &[Named] = &[
@@ -291,7 +291,7 @@ const MERGES: &[Named] = &[
     (9, b'k', (7, 2), Some((UNREAD, 5, 0))),
     (9, b'k', (7, 4), Some((UNREAD, 5, 0))),
     (9, b'k', (7, 5), Some((UNREAD, 5, 0))),
-    (9, b'k', (7, LAST), Some((UNREAD, 5, 0))),
+    (9, b'k', (7, u64::MAX), Some((UNREAD, 5, 0))),
     (9, b'l', (7, 1), Some((UNREAD, 5, 0))),
     (9, b'l', (7, 4), Some((ANOTHER, 5, 0))),
     (9, b'k', (6, 1), Some((UNREAD, 5, 0))),

@@ -23,7 +23,7 @@ pub(super) fn deliver_late(alloc: Global, local: &mut Local) -> Result<(), Fail>
 /// Delivers what each read of a journal answered, by having its entries happen once more.
 fn deliver_reads(alloc: Global, local: &mut Local, journal: &Journal) -> Result<(), Fail> {
     let mut again = Vnode::new(alloc, journal.vnode());
-    for at in 0..u32::MAX {
+    for at in 0..u64::MAX {
         let Some(entry) = journal.get(at) else {
             break;
         };

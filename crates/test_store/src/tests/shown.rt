@@ -76,7 +76,7 @@ fn was_seen(vnodes: &[Vnode], key: &Key, known: &Clock, dot: Dot) -> bool {
 
 /// The same, of those that were put at one vnode.
 fn was_seen_at(journal: &Journal, key: &Key, known: &Clock, dot: Dot) -> bool {
-    for place in 0..u32::MAX {
+    for place in 0..u64::MAX {
         match journal.get(place) {
             Some(entry) if had_seen(entry, key, known, dot) => return true,
             Some(_) => {}

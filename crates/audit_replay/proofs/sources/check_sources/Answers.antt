@@ -31,7 +31,7 @@ pub loop-head-smaller : goal.loop-head-smaller
 loop-head-smaller c =
     let logs = c.args.journals.now in
     let counts = c.loop-head.counts.items in
-    let next = (next_read logs c.deref-in-loop-head.result.now counts c.in-Some.head c.in-Some.place c.loop-head.heads c.next_of.new.heads c.deref-in-loop-head.ensures.value c.in-Some.ensures).0 in
+    let next = (next_read logs c.deref-in-loop-head.result.now counts c.in-Some.head c.in-Some.place c.loop-head.heads c.next_of.new.heads c.deref-in-loop-head.ensures.value c.in-Some.ensures.next).0 in
     let given : (with_items c.loop-head.counts c.go_on.new.counts).items ≡ c.go_on.new.counts = items_given c.loop-head.counts c.go_on.new.counts (c.go_on.auto.counts ∙ ap length c.deref_mut.ensures.value) in
     subst (λ (xs : List ℕ). left logs xs < left logs counts) (sym (given ∙ c.in_ok-go_on.ensures.counts))
     (subst (λ (xs : List ℕ). left logs (with_next xs c.in-Some.head.index) < left logs counts) (sym c.deref_mut.ensures.value)
@@ -44,7 +44,7 @@ loop-head-preserved c =
     let head = c.in-Some.head in
     let so_far = c.loop-head.invariant in
     let gone = c.in_ok-go_on.ensures in
-    let told = next_read logs c.deref-in-loop-head.result.now counts head c.in-Some.place c.loop-head.heads c.next_of.new.heads c.deref-in-loop-head.ensures.value c.in-Some.ensures in
+    let told = next_read logs c.deref-in-loop-head.result.now counts head c.in-Some.place c.loop-head.heads c.next_of.new.heads c.deref-in-loop-head.ensures.value c.in-Some.ensures.next in
     let given : (with_items c.loop-head.counts c.go_on.new.counts).items ≡ c.go_on.new.counts = items_given c.loop-head.counts c.go_on.new.counts (c.go_on.auto.counts ∙ ap length c.deref_mut.ensures.value) in
     let same : (with_items c.loop-head.counts c.go_on.new.counts).items ≡ with_next counts head.index = given ∙ gone.counts ∙ ap (λ (cs : List ℕ). with_next cs head.index) c.deref_mut.ensures.value in
     let joins = subst (λ (cs : List ℕ). Joins logs cs head.index c.next_of.new.heads c.join.new.heads) (c.deref-in-Some.ensures.value ∙ same) c.in_ok-join.ensures in
@@ -60,12 +60,12 @@ pub returns-clause-ok : goal.returns-clause-ok
 returns-clause-ok c =
     let logs = c.args.journals.now in
     let counts = c.loop-head.counts.items in
-    let none : NoneBelow logs counts (length logs) = subst (λ (cs : List ℕ). NoneBelow logs cs (length logs)) c.deref-in-loop-head.ensures.value c.in_default.ensures in
+    let none : NoneBelow logs counts (length logs) = subst (λ (cs : List ℕ). NoneBelow logs cs (length logs)) c.deref-in-loop-head.ensures.value c.in_default.ensures.next in
     all_ran logs counts c.loop-head.rerun.logs c.loop-head.invariant.run none
 
 pub returns-clause-sources : goal.returns-clause-sources
 returns-clause-sources c =
     let logs = c.args.journals.now in
     let counts = c.loop-head.counts.items in
-    let none : NoneBelow logs counts (length logs) = subst (λ (cs : List ℕ). NoneBelow logs cs (length logs)) c.deref-in-loop-head.ensures.value c.in_default.ensures in
+    let none : NoneBelow logs counts (length logs) = subst (λ (cs : List ℕ). NoneBelow logs cs (length logs)) c.deref-in-loop-head.ensures.value c.in_default.ensures.next in
     all_have_sources logs counts c.loop-head.rerun.logs c.loop-head.invariant.run none

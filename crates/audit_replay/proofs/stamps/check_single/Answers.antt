@@ -15,7 +15,7 @@ returns-then-is_last-clause-err c =
     let counts = c.loop-head.counts.items in
     let so_far = c.loop-head.invariant in
     let head = c.in-Some.head in
-    let next = next_read logs c.deref-in-loop-head.result.now counts head c.in-Some.place c.loop-head.heads c.next_of.new.heads c.deref-in-loop-head.ensures.value c.in-Some.ensures in
+    let next = next_read logs c.deref-in-loop-head.result.now counts head c.in-Some.place c.loop-head.heads c.next_of.new.heads c.deref-in-loop-head.ensures.value c.in-Some.ensures.next in
     let last : IsLast logs counts (Some head.stamp) = subst (λ (o : Option ℕ). IsLast logs counts o) c.if-is_last.ensures so_far.last in
     subst (λ (p : ℕ). IsFault logs (Found Twice head.vnode p)) (sym next.1) (found_twice logs counts head c.requires.distinct c.requires.rising so_far.split so_far.once last next.0)
 
@@ -24,7 +24,7 @@ loop-head-smaller c =
     let logs = c.args.journals.now in
     let counts = c.loop-head.counts.items in
     let head = c.in-Some.head in
-    let told = next_read logs c.deref-in-loop-head.result.now counts head c.in-Some.place c.loop-head.heads c.next_of.new.heads c.deref-in-loop-head.ensures.value c.in-Some.ensures in
+    let told = next_read logs c.deref-in-loop-head.result.now counts head c.in-Some.place c.loop-head.heads c.next_of.new.heads c.deref-in-loop-head.ensures.value c.in-Some.ensures.next in
     let next = told.0 in
     subst (λ (p : ℕ). left logs (set counts head.index (p + 1)) < left logs counts) (sym told.1) (left_falls logs counts head.index next.0 c.loop-head.invariant.split.size (slice_get_within _ _ next.1.2.0 next.1.2.1.1))
 
@@ -34,7 +34,7 @@ loop-head-preserved c =
     let counts = c.loop-head.counts.items in
     let so_far = c.loop-head.invariant in
     let head = c.in-Some.head in
-    let told = next_read logs c.deref-in-loop-head.result.now counts head c.in-Some.place c.loop-head.heads c.next_of.new.heads c.deref-in-loop-head.ensures.value c.in-Some.ensures in
+    let told = next_read logs c.deref-in-loop-head.result.now counts head c.in-Some.place c.loop-head.heads c.next_of.new.heads c.deref-in-loop-head.ensures.value c.in-Some.ensures.next in
     let next = told.0 in
     let place = sym told.1 in
     record {
@@ -47,4 +47,4 @@ loop-head-preserved c =
 pub returns-clause-ok : goal.returns-clause-ok
 returns-clause-ok c =
     let logs = c.args.journals.now in
-    all_once logs c.loop-head.counts.items c.loop-head.invariant.once (subst (λ (cs : List ℕ). NoneBelow logs cs (length logs)) c.deref-in-loop-head.ensures.value c.in_default.ensures)
+    all_once logs c.loop-head.counts.items c.loop-head.invariant.once (subst (λ (cs : List ℕ). NoneBelow logs cs (length logs)) c.deref-in-loop-head.ensures.value c.in_default.ensures.next)
