@@ -1,5 +1,5 @@
 -- Reading a record's body from left to right: what stands at the front, and the bytes after it. Nothing where no record's body begins so.
-use Rattle.std.specs.Prelude.{◌≡◌, ℕ, zero, suc, ◌+◌, ◌==◌, nat_lt, nat_le, ◌&&◌, List, [], ◌∷◌, length, take, drop, Option, Some, None, Result, Ok, Err, if◌then◌else◌}
+use Rattle.std.specs.Prelude.{◌≡◌, ℕ, zero, suc, ◌+◌, ◌^◌, ◌==◌, nat_lt, nat_le, ◌&&◌, List, [], ◌∷◌, length, take, drop, Option, Some, None, Result, Ok, Err, if◌then◌else◌}
 use Rattle.std.specs.Int.{Width, w16, w32, w64, byte_len, from_be_bytes}
 use Rattle.dvv.specs.declared.Dot.{Dot}
 use Rattle.dvv.specs.Dots.{is_before}
@@ -10,6 +10,8 @@ use Rattle.key_state.specs.declared.content.Key.{Key}
 use Rattle.key_state.specs.declared.content.Sibling.{Sibling}
 use Rattle.key_state.specs.Limits.{longest_bucket, longest_key, longest_media, longest_value}
 use Rattle.key_state.specs.State.{State}
+use Rattle.record_codec.specs.declared.form.Form.{Form}
+use Rattle.record_codec.specs.declared.form.Form.TheVariants.{Narrow, Wide}
 use Rattle.record_codec.specs.declared.record.Record.{Record}
 use Rattle.record_codec.specs.declared.fault.WireFault.{WireFault}
 use Rattle.record_codec.specs.declared.fault.WireFault.TheVariants.{Cut, Mark, Digest, NotCanonical, NoMemory}
@@ -119,28 +121,35 @@ state_at bytes = do
   siblings ← siblings_at clock.0 clock.1
   Some (record { siblings = siblings.0; clock = clock.0 }, siblings.1)
 
+-- a place: in four bytes, or in eight where four don't hold it
+unfoldable pub place_at : Form → Reader ℕ
+place_at Narrow bytes = number_at w32 bytes
+place_at Wide bytes = do
+  at ← number_at w64 bytes
+  if nat_le (2 ^ 32) at.0 then Some at else None
+
 -- the place, and the state read there
-unfoldable pub placed_at : Reader (ℕ × State)
-placed_at bytes = do
-  at ← number_at w32 bytes
+unfoldable pub placed_at : Form → Reader (ℕ × State)
+placed_at form bytes = do
+  at ← place_at form bytes
   state ← state_at at.1
   Some ((at.0, state.0), state.1)
 
 -- the vnode, the place and the state
-unfoldable pub sent_at : Reader (ℕ × (ℕ × State))
-sent_at bytes = do
+unfoldable pub sent_at : Form → Reader (ℕ × (ℕ × State))
+sent_at form bytes = do
   from ← number_at w32 bytes
-  placed ← placed_at from.1
+  placed ← placed_at form from.1
   Some ((from.0, placed.0), placed.1)
 
-unfoldable pub body_at : Reader Record
-body_at bytes = do
+unfoldable pub body_at : Form → Reader Record
+body_at form bytes = do
   key ← key_at bytes
-  sent ← sent_at key.1
+  sent ← sent_at form key.1
   Some (record { key = key.0; from = sent.0.0; at = sent.0.1.0; state = sent.0.1.1 }, sent.1)
 
 -- all of the bytes
-unfoldable pub record_in : List ℕ → Option Record
-record_in bytes = do
-  record_ ← body_at bytes
+unfoldable pub record_in : Form → List ℕ → Option Record
+record_in form bytes = do
+  record_ ← body_at form bytes
   if length record_.1 == 0 then Some record_.0 else None

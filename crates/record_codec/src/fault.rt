@@ -13,7 +13,7 @@ pub enum WireFault {
     /// The input ends before eight bytes, or, behind the mark, before all that the length says.
     #[error("W1")]
     Cut,
-    /// The first four bytes aren't `DVR1`.
+    /// The first four bytes are neither `DVR1` nor `DVR2`.
     #[error("W2")]
     Mark,
     /// The digest isn't the body's.

@@ -1,16 +1,20 @@
 //! Records: the state of a key as bytes, for a dump that another process loads.
 //!
-//! A record is the mark `DVR1`, the length of its body, the body, and the body's SHA-1. Each state of a key has one
+//! A record is a mark, the length of its body, the body, and the body's SHA-1. Behind the mark `DVR1` the body has the
+//! record's place in four bytes, and behind `DVR2` in eight, where four don't hold it. Each state of a key has one
 //! spelling, so a record that is damaged is told, and a good one is read as it was written. The format is this store's
 //! profile.
 #![tactic(auto)]
 
 mod fault;
+mod form;
 pub mod laws;
 mod lists;
 mod read;
 mod record;
 mod sharing;
+#[cfg(test)]
+mod tests;
 mod write;
 
 pub use fault::WireFault;

@@ -54,7 +54,7 @@ pub fn record_bytes(
     ensures is_record { IfOk result (λ bytes. IsRecord (record_of key.now from at state.now) × (bytes.items ≡ spelling (record_of key.now from at state.now))) }
     ensures listed { IfOk result (λ bytes. AreSpelledBy (record_of key.now from at state.now ∷ []) bytes.items) }
 {
-    if !is_key(key) || !are_contents(state.siblings()) || !has_record(key, state) {
+    if !is_key(key) || !are_contents(state.siblings()) || !has_record(key, at, state) {
         return Err(Unspelled::PastLimit);
     }
     Ok(write_record(alloc, key, from, at, state)?)

@@ -1,17 +1,19 @@
 //! Reading a record.
 
-ghost use Rattle.std.specs.Prelude.{◌≡◌, List, ℕ, ◌≤◌, ◌<◌, ◌+◌, ◌^◌, ◌++◌, ◌↔◌, length, IfOk, IfErr, IfSome, OnErr, None, IsTrue, Err, MatchResult};
+ghost use Rattle.std.specs.Prelude.{◌≡◌, List, ℕ, ◌≤◌, ◌<◌, ◌+◌, ◌^◌, ◌++◌, ◌↔◌, length, IfOk, IfErr, IfSome, OnErr, take, None, IsTrue, Err, MatchResult};
 ghost use Rattle.sha1.specs.Sha1.{sha1};
 ghost use Rattle.std.specs.Int.{w16, w32, w64};
-ghost use Rattle.record_codec.specs.Reading.{Gives, chain_at, clock_at, content_at, dot_at, key_at, next_entry, next_sibling, no_dot, number_at, record_in, sent_at, sibling_at, siblings_at, state_at, taken_at, text_at, value_at};
-ghost use Rattle.record_codec.specs.Records.{Begins, HasFault, IsOfFrame, IsWhole, body_in, body_length, digest_in};
+ghost use Rattle.record_codec.specs.Reading.{Gives, chain_at, clock_at, content_at, dot_at, key_at, next_entry, next_sibling, no_dot, number_at, place_at, record_in, sent_at, sibling_at, siblings_at, state_at, taken_at, text_at, value_at};
+ghost use Rattle.record_codec.specs.Records.{Begins, HasFault, IsOfFrame, IsWhole, body_in, body_length, digest_in, mark};
 ghost use Rattle.key_state.specs.declared.content.Content.TheVariants.{Value};
 ghost use Rattle.record_codec.specs.declared.fault.WireFault.{WireFault as OneFault};
+ghost use Rattle.record_codec.specs.declared.form.Form.TheVariants.{Wide};
 ghost use Rattle.record_codec.specs.declared.record.Record.{Record as OneRecord};
 
 use crate::fault::WireFault;
+use crate::form::{FIRST_WIDE, Form};
 use crate::record::Record;
-use crate::write::{DIGEST_LEN, HEAD_LEN, MARK, TOMBSTONE, VALUE};
+use crate::write::{DIGEST_LEN, HEAD_LEN, TOMBSTONE, VALUE};
 use dvv::{Clock, Dot, MAX_COUNTER, MAX_ENTRIES};
 use key_state::{
     Bytes, Content, Key, KeyState, MAX_BUCKET, MAX_KEY, MAX_MEDIA, MAX_VALUE, Sibling,
@@ -228,24 +230,54 @@ fn state_at(alloc: Global, bytes: &[u8]) -> Result<(KeyState, &[u8]), WireFault>
     Ok((KeyState::from_parts(clock, siblings)?, rest))
 }
 
+/// The place of a record of a form.
+#[tactic(auto, unfolding(crate::specs::Reading::place_at))]
+fn place_at(form: Form, bytes: &[u8]) -> Result<(u64, &[u8]), WireFault>
+    ensures { Gives (λ x. (x.0, x.1.now)) result (place_at form bytes.now) }
+{
+    match form {
+        Form::Narrow => {
+            let (at, rest) = u32_at(bytes)?;
+            Ok((at as u64, rest))
+        }
+        Form::Wide => wide_place_at(bytes),
+    }
+}
+
+/// The place of a record of the wide form.
+#[tactic(auto, unfolding(crate::specs::Reading::place_at))]
+fn wide_place_at(bytes: &[u8]) -> Result<(u64, &[u8]), WireFault>
+    ensures { Gives (λ x. (x.0, x.1.now)) result (place_at Wide bytes.now) }
+{
+    let (at, rest) = u64_at(bytes)?;
+    if at < FIRST_WIDE {
+        return Err(WireFault::NotCanonical);
+    }
+    Ok((at, rest))
+}
+
 /// Whose state it is, the place at which it was read, and the state.
 #[tactic(auto, unfolding(crate::specs::Reading::sent_at, crate::specs::Reading::placed_at))]
-fn sent_at(alloc: Global, bytes: &[u8]) -> Result<(u32, u32, KeyState, &[u8]), WireFault>
-    ensures { Gives (λ x. ((x.0, (x.1, x.2)), x.3.now)) result (sent_at bytes.now) }
+fn sent_at(
+    alloc: Global,
+    form: Form,
+    bytes: &[u8],
+) -> Result<(u32, u64, KeyState, &[u8]), WireFault>
+    ensures { Gives (λ x. ((x.0, (x.1, x.2)), x.3.now)) result (sent_at form bytes.now) }
 {
     let (from, rest) = u32_at(bytes)?;
-    let (at, rest) = u32_at(rest)?;
+    let (at, rest) = place_at(form, rest)?;
     let (state, rest) = state_at(alloc, rest)?;
     Ok((from, at, state, rest))
 }
 
-/// The record whose body these bytes are, all of them.
+/// The record of a form whose body these bytes are, all of them.
 #[tactic(auto, unfolding(crate::specs::Reading::record_in, crate::specs::Reading::body_at))]
-fn record_in(alloc: Global, body: &[u8]) -> Result<Record, WireFault>
-    ensures { Gives (λ record_. record_) result (record_in body.now) }
+fn record_in(alloc: Global, form: Form, body: &[u8]) -> Result<Record, WireFault>
+    ensures { Gives (λ record_. record_) result (record_in form body.now) }
 {
     let (key, rest) = key_at(alloc, body)?;
-    let (from, at, state, rest) = sent_at(alloc, rest)?;
+    let (from, at, state, rest) = sent_at(alloc, form, rest)?;
     if !rest.is_empty() {
         return Err(WireFault::NotCanonical);
     }
@@ -264,11 +296,23 @@ fn is_digest(body: &[u8], digest: &[u8]) -> bool
     Sha1::digest(body).as_slice() == digest
 }
 
-/// The body and the digest of the record at the front, as its head says where they are. Whether they match isn't tested.
-fn parts_of(bytes: &[u8]) -> Result<(&[u8], &[u8]), WireFault>
-    ensures whole { IfOk result (λ x. IsWhole bytes.now) }
-    ensures body { IfOk result (λ x. x.0.now ≡ body_in bytes.now) }
-    ensures digest { IfOk result (λ x. x.1.now ≡ digest_in bytes.now) }
+/// A record as bytes that are lent.
+#[derive(Clone, Copy)]
+struct Frame<'a> {
+    /// The form that its mark tells.
+    form: Form,
+    /// Its body.
+    body: &'a [u8],
+    /// What it gives as the body's digest.
+    digest: &'a [u8],
+}
+
+/// The record at the front, as its head says where its parts are. Whether body and digest match isn't tested.
+fn frame_at(bytes: &[u8]) -> Result<Frame<'_>, WireFault>
+    ensures whole { IfOk result (λ frame. IsWhole bytes.now) }
+    ensures form { IfOk result (λ frame. take 4 bytes.now ≡ mark frame.form) }
+    ensures body { IfOk result (λ frame. frame.body.now ≡ body_in bytes.now) }
+    ensures digest { IfOk result (λ frame. frame.digest.now ≡ digest_in bytes.now) }
     ensures fault { IfErr result (HasFault bytes.now) }
     ensures cut { OnErr result (IsWhole bytes.now → ⊥) }
 {
@@ -278,15 +322,16 @@ fn parts_of(bytes: &[u8]) -> Result<(&[u8], &[u8]), WireFault>
     let Some((len, rest)) = rest.split_first_chunk::<4>() else {
         return Err(WireFault::Cut);
     };
-    if *head != MARK {
+    let Some(form) = Form::marked(*head) else {
         return Err(WireFault::Mark);
-    }
+    };
     let len = u32::from_be_bytes(*len) as usize;
     if rest.len() < len + DIGEST_LEN {
         return Err(WireFault::Cut);
     }
     let (body, rest) = rest.split_at(len);
-    Ok((body, &rest[..DIGEST_LEN]))
+    let digest = &rest[..DIGEST_LEN];
+    Ok(Frame { form, body, digest })
 }
 
 /// How long a record with a body is.
@@ -296,35 +341,37 @@ fn length_around(body: &[u8]) -> usize
     HEAD_LEN + body.len() + DIGEST_LEN
 }
 
-/// How long the record at the front of the input is, as its head says it. None where the input doesn't begin with the mark, or ends before
+/// How long the record at the front of the input is, as its head says it. None where the input doesn't begin with a mark, or ends before
 /// all that the length says. Neither the body nor its digest is looked at.
 pub fn record_length(bytes: &[u8]) -> Option<usize>
     ensures some { IfSome result (λ len. IsWhole bytes.now × (len ≡ 28 + body_length bytes.now)) }
     ensures within { IfSome result (λ len. len ≤ length bytes.now) }
     ensures none { result ≡ None → IsWhole bytes.now → ⊥ }
 {
-    match parts_of(bytes) {
-        Ok((body, _)) => Some(length_around(body)),
+    match frame_at(bytes) {
+        Ok(frame) => Some(length_around(frame.body)),
         Err(_) => None,
     }
 }
 
-/// The body of the record at the front, whose digest is right, and the record's length.
-fn framed(bytes: &[u8]) -> Result<(&[u8], usize), WireFault>
+/// The record at the front, whose digest is right, and its length.
+fn right_frame_at(bytes: &[u8]) -> Result<(Frame<'_>, usize), WireFault>
     ensures whole { IfOk result (λ x. IsWhole bytes.now) }
+    ensures form { IfOk result (λ x. take 4 bytes.now ≡ mark x.0.form) }
     ensures digest { IfOk result (λ x. sha1 (body_in bytes.now) ≡ digest_in bytes.now) }
-    ensures body { IfOk result (λ x. x.0.now ≡ body_in bytes.now) }
+    ensures body { IfOk result (λ x. x.0.body.now ≡ body_in bytes.now) }
     ensures len { IfOk result (λ x. x.1 ≡ 28 + body_length bytes.now) }
     ensures fault { IfErr result (HasFault bytes.now) }
 {
-    let (body, digest) = match parts_of(bytes) {
-        Ok(parts) => parts,
+    let frame = match frame_at(bytes) {
+        Ok(frame) => frame,
         Err(fault) => return Err(fault),
     };
-    if !is_digest(body, digest) {
+    if !is_digest(frame.body, frame.digest) {
         return Err(WireFault::Digest);
     }
-    Ok((body, length_around(body)))
+    let len = length_around(frame.body);
+    Ok((frame, len))
 }
 
 /// The record at the front of the input, and its length; anything may follow it.
@@ -341,10 +388,10 @@ pub fn read_record(alloc: Global, bytes: &[u8]) -> Result<(Record, usize), WireF
     // A fault of the frame is told exactly where it stands.
     ensures exact { (fault : OneFault) → IsOfFrame fault → (result ≡ Err fault) ↔ HasFault bytes.now fault }
 {
-    let (body, len) = match framed(bytes) {
+    let (frame, len) = match right_frame_at(bytes) {
         Ok(front) => front,
         Err(fault) => return Err(fault),
     };
-    let record_ = record_in(alloc, body)?;
+    let record_ = record_in(alloc, frame.form, frame.body)?;
     Ok((record_, len))
 }

@@ -6,16 +6,14 @@ ghost use Rattle.std.specs.List.{flat_map};
 ghost use Rattle.std.specs.Int.{w16, w32, to_be_bytes};
 ghost use Rattle.key_state.specs.Limits.{IsContent, IsKey};
 ghost use Rattle.key_state.specs.State.{IsState};
-ghost use Rattle.record_codec.specs.Records.{AreContents, AreNarrow, IsRecord, body, clock, content, dot, key, long_text, mark, short_text, sibling, siblings, spelling, state};
+ghost use Rattle.record_codec.specs.Records.{AreContents, AreNarrow, IsRecord, body, clock, content, dot, form_of, key, long_text, mark, place, short_text, sibling, siblings, spelling, state};
 ghost use Rattle.record_codec.specs.declared.record.Record.{Record};
 
+use crate::form::Form;
 use dvv::{Clock, Dot};
 use key_state::{Content, Key, KeyState, Sibling};
 use sha1::Sha1;
 use std::alloc::{AllocError, Global};
-
-/// The first bytes of a record.
-pub(crate) const MARK: [u8; 4] = *b"DVR1";
 
 /// The bytes before the body: the mark, and the body's length.
 pub(crate) const HEAD_LEN: usize = 8;
@@ -34,11 +32,11 @@ pub(crate) const VALUE: u8 = 1;
 /// A body's length is below this.
 const BODY_LIMIT: usize = 1 << 32;
 
-/// Whether a key's state has a record: whether its body would be below 4,294,967,296 bytes.
-pub fn has_record(key: &Key, state: &KeyState) -> bool
-    ensures { (from at : ℕ) → IsTrue result ↔ (length (body (record { key = key.now; from = from; at = at; state = state.now })) < 2 ^ 32) }
+/// Whether a key's state has a record that names this place: whether its body would be below 4,294,967,296 bytes.
+pub fn has_record(key: &Key, at: u64, state: &KeyState) -> bool
+    ensures { (from : ℕ) → IsTrue result ↔ (length (body (record { key = key.now; from = from; at = at; state = state.now })) < 2 ^ 32) }
 {
-    body_len(key, state).is_some()
+    body_len(key, at, state).is_some()
 }
 
 /// The one spelling of a record: of this key's state, which is the state of the vnode `from` at the place `at` of its
@@ -58,22 +56,22 @@ pub fn write_record(
     // It is a record's, so it is read as it was, whatever follows it.
     ensures is_record { OnOk result (IsRecord (record { key = key.now; from = from; at = at; state = state.now })) }
 {
-    let Some(len) = body_len(key, state) else {
+    let Some(len) = body_len(key, at, state) else {
         unreachable!();
     };
     let mut out = Vec::with_capacity(alloc, HEAD_LEN + len + DIGEST_LEN)?;
-    put_head(&mut out, len as u32)?;
+    put_head(&mut out, Form::of(at), len as u32)?;
     put_body(&mut out, key, from, at, state)?;
     let digest = Sha1::digest(&out[HEAD_LEN..]);
     out.extend_from_slice(&digest)?;
     Ok(out)
 }
 
-/// Adds the mark, and the length of a body.
-fn put_head(out: &mut Vec<u8>, len: u32) -> Result<(), AllocError>
-    ensures { OnOk result (out.new.items ≡ out.old.items ++ mark ++ to_be_bytes w32 len) }
+/// Adds the mark of a form, and the length of a body.
+fn put_head(out: &mut Vec<u8>, form: Form, len: u32) -> Result<(), AllocError>
+    ensures { OnOk result (out.new.items ≡ out.old.items ++ mark form ++ to_be_bytes w32 len) }
 {
-    out.extend_from_slice(&MARK)?;
+    out.extend_from_slice(&form.mark())?;
     out.extend_from_slice(&len.to_be_bytes())
 }
 
@@ -94,16 +92,26 @@ fn put_body(
 {
     put_key(out, key)?;
     out.extend_from_slice(&from.to_be_bytes())?;
-    out.extend_from_slice(&at.to_be_bytes())?;
+    put_place(out, at)?;
     put_clock(out, state.clock())?;
     put_siblings(out, state.siblings())
 }
 
-/// How long a record's body is, where it is below its limit.
-fn body_len(key: &Key, state: &KeyState) -> Option<usize>
-    ensures { (from at : ℕ) → SomeIff result (length (body (record { key = key.now; from = from; at = at; state = state.now })) < 2 ^ 32) (length (body (record { key = key.now; from = from; at = at; state = state.now }))) }
+/// Adds a place, in the bytes of its form.
+fn put_place(out: &mut Vec<u8>, at: u64) -> Result<(), AllocError>
+    ensures { OnOk result (out.new.items ≡ out.old.items ++ place at) }
 {
-    let fixed = 4 * 2 + 2 + 4 + 4;
+    match Form::of(at) {
+        Form::Narrow => out.extend_from_slice(&(at as u32).to_be_bytes()),
+        Form::Wide => out.extend_from_slice(&at.to_be_bytes()),
+    }
+}
+
+/// How long a record's body is, where it is below its limit.
+fn body_len(key: &Key, at: u64, state: &KeyState) -> Option<usize>
+    ensures { (from : ℕ) → SomeIff result (length (body (record { key = key.now; from = from; at = at; state = state.now })) < 2 ^ 32) (length (body (record { key = key.now; from = from; at = at; state = state.now }))) }
+{
+    let fixed = 2 * 2 + 4 + Form::of(at).place_len() + 2 + 4;
     let mut room = BODY_LIMIT - 1 - fixed;
     room = room.checked_sub(key.bucket().len())?;
     room = room.checked_sub(key.key().len())?;

@@ -14,17 +14,17 @@ returns-in-Err-clause-exact c = λ fault frame. told_fault c.args.bytes.now _ c.
 pub returns-in_err-record_-clause-only : goal.returns-in_err-record_-clause-only
 returns-in_err-record_-clause-only c =
     let p = err_from_is_err_and c.from_residual.result c.from_residual.ensures.1 in
-    let fault = unread c.args.bytes.now c.in-Ok.front.0.now c.in_err-record_.field-0.0 c.in-Ok.ensures.whole c.in-Ok.ensures.digest c.in-Ok.ensures.body c.in_err-record_.ensures in
+    let fault = unread c.args.bytes.now c.in-Ok.front.0.body.now c.in-Ok.front.0.form c.in_err-record_.field-0.0 c.in-Ok.ensures.whole c.in-Ok.ensures.form c.in-Ok.ensures.digest c.in-Ok.ensures.body c.in_err-record_.ensures in
     λ r len begins. rw (p.1, p.2) (fault_only c.args.bytes.now c.in_err-record_.field-0.0 r len fault begins)
 
 pub returns-in_err-record_-clause-fault : goal.returns-in_err-record_-clause-fault
 returns-in_err-record_-clause-fault c =
     let p = err_from_is_err_and c.from_residual.result c.from_residual.ensures.1 in
-    rw (p.1, p.2) (unread c.args.bytes.now c.in-Ok.front.0.now c.in_err-record_.field-0.0 c.in-Ok.ensures.whole c.in-Ok.ensures.digest c.in-Ok.ensures.body c.in_err-record_.ensures)
+    rw (p.1, p.2) (unread c.args.bytes.now c.in-Ok.front.0.body.now c.in-Ok.front.0.form c.in_err-record_.field-0.0 c.in-Ok.ensures.whole c.in-Ok.ensures.form c.in-Ok.ensures.digest c.in-Ok.ensures.body c.in_err-record_.ensures)
 
 is_found : (c : goal.In_ok-record_) → Begins c.args.bytes.now c.in_ok-record_.record_ c.in-Ok.front.1
 is_found c =
-    let found = read_begins c.args.bytes.now c.in_ok-record_.record_ (λ i. omega (arith, c.type_inv.bytes i)) c.in-Ok.ensures.whole c.in-Ok.ensures.digest (ap record_in (sym c.in-Ok.ensures.body) ∙ c.in_ok-record_.ensures) in
+    let found = read_begins c.args.bytes.now c.in-Ok.front.0.form c.in_ok-record_.record_ (λ i. omega (arith, c.type_inv.bytes i)) c.in-Ok.ensures.whole c.in-Ok.ensures.form c.in-Ok.ensures.digest (ap (record_in c.in-Ok.front.0.form) (sym c.in-Ok.ensures.body) ∙ c.in_ok-record_.ensures) in
     subst (Begins c.args.bytes.now c.in_ok-record_.record_) (sym c.in-Ok.ensures.len) found
 
 pub returns-clause-found : goal.returns-clause-found
