@@ -8,7 +8,7 @@ use Rattle.audit_journals.proofs.auditing.audit.Goals as goal
 
 pub returns-in_err-check_rising-clause-codes : goal.returns-in_err-check_rising-clause-codes
 returns-in_err-check_rising-clause-codes c =
-    passed c.from_residual-in_err-check_rising.result _ (λ (f : AuditFault). IsOneOf IsOfWhole f) c.from_residual-in_err-check_rising.ensures.1 (one_of_whole Falls tt c.in_err-check_rising.field-0.0 c.in_err-check_rising.ensures.codes)
+    passed c.from_residual.result _ (λ (f : AuditFault). IsOneOf IsOfWhole f) c.from_residual.ensures.1 (one_of_whole Falls tt c.in_err-check_rising.field-0.0 c.in_err-check_rising.ensures.codes)
 
 pub returns-in_err-check_single-clause-codes : goal.returns-in_err-check_single-clause-codes
 returns-in_err-check_single-clause-codes c =

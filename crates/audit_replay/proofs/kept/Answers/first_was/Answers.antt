@@ -7,9 +7,9 @@ pub loop-index-init : goal.loop-index-init
 loop-index-init c =
     let own = c.self.inside in
     let p = c.args.place + 1 - own.first in
-    let i = c.index_behind.result in
-    let is = c.index_behind.ensures in
-    let few : length own.here.items ≤ 2 ^ 64 - 1 = omega arith in
+    let i = c.index_behind-index.result in
+    let is = c.index_behind-index.ensures in
+    let few : length own.here.items ≤ 2 ^ 64 - 1 = omega (arith, own.here.ok.0, c.len-index-end.ensures, c.len-index-end.type_inv) in
     let same : (p ≡ i) ⊎ ((length own.here.items ≤ p) × (length own.here.items ≤ i)) =
     elim (cases_lt p (2 ^ 64)) [
       | inl below ↦ inl (omega (arith, is, below))

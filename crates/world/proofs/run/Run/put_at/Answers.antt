@@ -8,15 +8,15 @@ use Rattle.world.proofs.Sources.{go_on_none, go_on_back}
 use Rattle.world.proofs.run.Run.put_at.Goals as goal
 
 pub returns-in-Ok-clause-stamps : goal.returns-in-Ok-clause-stamps
-returns-in-Ok-clause-stamps c = stamped_at c.args.self.now.vnodes.items c.args.self.now.made c.args.at (Put c.args.self.now.made c.args.key.now c.args.seen.now c.args.content.now c.in-Ok.put.dot) c.index_mut.result.now c.put_lent.new.self c.requires.inside c.index_mut.ensures.value c.in-Ok.ensures.entry refl
+returns-in-Ok-clause-stamps c = stamped_at c.args.self.now.vnodes.items c.args.self.now.made c.args.at (Put c.args.self.now.made c.args.key.now c.args.seen.now c.args.content.now c.in-Ok.put.dot) c.index_mut-vnode.result.now c.put_lent.new.self c.requires.inside c.index_mut-vnode.ensures.value c.in-Ok.ensures.entry refl
 
 pub returns-in-Err-clause-refused : goal.returns-in-Err-clause-refused
 returns-in-Err-clause-refused c =
     subst (λ (l : Log). RefusesPut l c.args.key.now c.args.seen.now c.in-Err.fault)
-    (c.index_mut.ensures.value ∙ get_or_default c.args.self.now.vnodes.items c.args.at c.index_mut.result.now (record { vnode = 0; entries = [] }) c.requires.inside) c.in-Err.ensures.why
+    (c.index_mut-vnode.ensures.value ∙ get_or_default c.args.self.now.vnodes.items c.args.at c.index_mut-vnode.result.now (record { vnode = 0; entries = [] }) c.requires.inside) c.in-Err.ensures.why
 
 pub returns-in-Ok-clause-goes : goal.returns-in-Ok-clause-goes
-returns-in-Ok-clause-goes c = go_on_none c.args.self.now.vnodes.items c.args.at (Put c.args.self.now.made c.args.key.now c.args.seen.now c.args.content.now c.in-Ok.put.dot ∷ []) c.index_mut.result.now c.put_lent.new.self c.requires.inside c.index_mut.ensures.value c.in-Ok.ensures.entry refl
+returns-in-Ok-clause-goes c = go_on_none c.args.self.now.vnodes.items c.args.at (Put c.args.self.now.made c.args.key.now c.args.seen.now c.args.content.now c.in-Ok.put.dot ∷ []) c.index_mut-vnode.result.now c.put_lent.new.self c.requires.inside c.index_mut-vnode.ensures.value c.in-Ok.ensures.entry refl
 
 pub returns-in-Err-clause-goes : goal.returns-in-Err-clause-goes
-returns-in-Err-clause-goes c = go_on_back c.args.self.now.vnodes.items c.args.at c.index_mut.result.now c.put_lent.new.self c.index_mut.ensures.value c.in-Err.ensures.err
+returns-in-Err-clause-goes c = go_on_back c.args.self.now.vnodes.items c.args.at c.index_mut-vnode.result.now c.put_lent.new.self c.index_mut-vnode.ensures.value c.in-Err.ensures.err
