@@ -153,9 +153,10 @@ fn over_stamps<
     ensures told { Tells stay.entry.door result (O.contents out.old) (O.contents out.new) }
     ensures kept { Leaves stay.entry.folder undrawn.making.first stay.entry.held.files.items result }
 {
-    let opening = Opening::seeded(undrawn.making.seed.build_hasher());
+    let seed = undrawn.making.seed;
     let vnodes = begin(host, undrawn, tables.len(), &stay)?;
     let parts = Parts { vnodes, tables };
+    let opening = Opening::seeded(seed.build_hasher());
     over_cluster::<B, Brand, R, N, F, O>(host, parts, opening, stay, out)
 }
 
