@@ -7,6 +7,7 @@ use Rattle.audit_cluster.specs.contracts.watch.Watch as Watch
 use Rattle.audit_cluster.specs.declared.watch.Spot as spot
 use Rattle.audit_cluster.proofs.Sent.{watch_send}
 use Rattle.cluster_vnode.specs.declared.pass.Room as room
+use Rattle.dvvstore.specs.contracts.crew.working.Lookout as Lookout
 use Rattle.dvvstore.specs.contracts.crew.working.Shared as Shared
 use Rattle.std.proofs.option.Option.TheSendSync as option
 use Rattle.std.specs.contracts.option.Option as Option
@@ -27,6 +28,10 @@ lock_sync B g h s = search (watch_send, sendable, crosses) depth 40
 
 pub shared_sync : (B : RattleType) (g : room.Ghosts B.Denot) (h : spot.Ghosts B.Denot) → IsSend B → IsSync (Shared.the_row B g h)
 shared_sync B g h s = search (lock_sync, reporter.the_field_sync, sendable, crosses) depth 60
+
+-- a thread may be handed who follows
+pub lookout_send : (B : RattleType) (g : room.Ghosts B.Denot) (h : spot.Ghosts B.Denot) → IsSend B → IsSend (Lookout.the_row B g h)
+lookout_send B g h s = search (watch_send, sendable, crosses) depth 40
 
 saver_alone : (F : RattleType) → IsSend F → IsSend (Saver.the_row F)
 saver_alone F s = search (saver.the_send, s, sendable, crosses) depth 40

@@ -72,8 +72,12 @@ pub fn begin<B: Room + Spot + Send + Sync, R: Threads + Wait + Sync>(
     let (alloc, rt) = (host.alloc, host.rt);
     let load = Load::new(rt);
     let both = &load;
-    let (loaded, ()) = thread::join(
+    // Who follows is handed the new thread, or waits for its turn where none can be made: it ends only once the others have.
+    let ((), loaded) = thread::join(
         rt,
+        || -> ()
+            requires { cluster.now.first ≡ B.first }
+        { follow_load(alloc, cluster, lookout, both) },
         || -> Result<Passes<B>, Unloaded>
             requires { cluster.now.vnodes ≡ 3 }
             ensures { IfOk result (λ back. HaveLoaded passes back cluster.entry.now.first files.entry.now) }
@@ -82,9 +86,6 @@ pub fn begin<B: Room + Spot + Send + Sync, R: Threads + Wait + Sync>(
             both.is_over.store(true, SeqCst);
             loaded
         },
-        || -> ()
-            requires { cluster.now.first ≡ B.first }
-        { follow_load(alloc, cluster, lookout, both) },
     );
     loaded
 }

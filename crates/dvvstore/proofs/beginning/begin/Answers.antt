@@ -1,14 +1,21 @@
-use denote.Exit.{no}
-use denote.Param.Send.{arg_send, param_send, shr_send, shr_slice_send}
+use denote.RattleType.{RattleType}
+use denote.Param.Send.{IsSend, mut_send, param_send, sendable, shr_send}
 use denote.Param.{param}
+use denote.Struct.Tuple.{TupleAt}
+use mir.Syntax.{Sym, erased}
+use mathlib.Core.List.{[], ◌∷◌}
 use Rattle.std.proofs.alloc.Global.TheSendSync as heap
 use Rattle.cluster.proofs.Sent.{cluster_sync}
-use Rattle.kept_restore.proofs.Sent.{file_sync, six_send}
-use Rattle.dvvstore.proofs.Sent.{load_sync, spares_alone}
+use Rattle.dvvstore.proofs.Sent.{load_sync, lookout_send}
 use Rattle.dvvstore.proofs.beginning.begin.Goals as goal
+
+-- four captures
+captures_send : (ν : Sym) (A B C D : RattleType) → IsSend A → IsSend B → IsSend C → IsSend D → IsSend (TupleAt ν (A ∷ B ∷ C ∷ D ∷ []))
+captures_send ν A B C D a b c d = search (sendable) depth 30
 
 pub join-loaded-requires-send-F : goal.join-loaded-requires-send-F
 join-loaded-requires-send-F g c κs within =
     let cluster = cluster_sync (param 0 g.row.B) g.B.Room c.type_bounds.send-B c.type_bounds.sync-B in
-    param_send 1 _ (arg_send _ no _ (six_send _ _ _ _ _ _ _ (shr_send _ _ _ heap.the_sync) (shr_send _ _ _ c.type_bounds.sync-R) (shr_send _ _ _ cluster) (spares_alone _ _ c.type_bounds.send-B) (shr_slice_send _ _ _ file_sync)
-    (shr_send _ _ _ (load_sync _ _ c.type_bounds.sync-R))))
+    let lookout = lookout_send (param 0 g.row.B) g.B.Room g.B.Spot c.type_bounds.send-B in
+    let captured = captures_send [] _ _ _ _ (shr_send erased [] _ heap.the_sync) (shr_send erased _ _ cluster) (mut_send erased _ _ lookout) (shr_send erased _ _ (load_sync _ _ c.type_bounds.sync-R)) in
+    record { owned = captured.owned; leaving = (param_send 1 _ captured).leaving }
