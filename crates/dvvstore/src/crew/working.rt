@@ -167,11 +167,11 @@ fn attend<B: Room + Spot, R: Wait>(rt: &R, floor: &Floor<'_, B>) {
 }
 
 /// Tells what went wrong in a store, and how many connections ended for want of memory.
-fn tell<R: Wait>(rt: &R, reporter: &Reporter, noted: &Noted, lacks: u32, now: u64) {
-    reporter.tell(rt, Trouble::NoMemory, u64::from(lacks), None, now);
+fn tell<R: Wait>(rt: &R, reporter: &Reporter, noted: &Noted, lacks: u32) {
+    reporter.tell(rt, Trouble::NoMemory, u64::from(lacks), None);
     for note in noted.iter() {
         let bucket = note.bucket.as_ref().map(|it| it.name());
-        reporter.tell(rt, note.trouble, note.count, bucket, now);
+        reporter.tell(rt, note.trouble, note.count, bucket);
     }
 }
 
@@ -191,8 +191,6 @@ struct Worked {
     goes_on: bool,
     /// So many connections ended for want of memory.
     lacks: u32,
-    /// When it began.
-    now: u64,
 }
 
 /// One turn of a worker over a store. It goes on until no more connections come and all have ended, or it is told to end at once. Where no
@@ -231,7 +229,6 @@ fn work_once<B: Room + Spot, K: Backend, R: Wait>(
     Worked {
         goes_on,
         lacks: turned.lacks,
-        now: orders.now,
     }
 }
 
@@ -267,13 +264,7 @@ fn tell_troubles<P: Peers, H: Hooks + HookChanges, K: NotingBackend<P, H>, R: Wa
     ensures stays { unnoted (K.shows store.new) ≡ unnoted (K.shows store.old) }
 {
     if worked.lacks > 0 || store.has_troubles() {
-        tell(
-            rt,
-            reporter,
-            &store.take_troubles(),
-            worked.lacks,
-            worked.now,
-        );
+        tell(rt, reporter, &store.take_troubles(), worked.lacks);
     }
 }
 
