@@ -3,7 +3,8 @@
 A pre-commit hook whose window is too short for any content is bound to one bucket, one whose answer has no meaning to another, and
 a resolver whose answer has none to a third; a fourth has a hook that rejects what it sees, which is told nobody but the client. Two
 clients write to each, 200 times in a row. Of each of the first three the first failure is told at once, and no more within a
-second; one that comes later is told with how many were left out.
+second; one that comes later is told with how many were left out. Then a worker that had slept meets a failure, and the other one
+meets more, soon one after another: the next line has to be a second behind that of the first.
 """
 from __future__ import annotations
 
@@ -30,6 +31,8 @@ QUIET_SECONDS = 0.2
 LINE_SECONDS = 10.0
 DUE_SECONDS = 1.0  # at most one line of a kind a second: so long after one the next failure is told
 LEAST_APART_SECONDS = 0.95  # a second, less what reading a line may take
+ASLEEP_SECONDS = 1.4  # longer than a line keeps others back, and in the midst of one of the half seconds for which a worker sleeps
+BETWEEN_SECONDS = 0.02
 LEFT_OUT = " of its kind left out before"
 
 
@@ -105,6 +108,23 @@ def try_trouble(found: Findings, server: Server, clients: list[Client], trouble:
     found.say(f"{bucket}: {WRITES} writes in {took:.2f} s, {len(texts)} lines, then: {last}")
 
 
+def try_apart(found: Findings, server: Server, clients: list[Client]) -> None:
+    """Failures at a worker that had slept, and then at the other one, which doesn't, until a second one is told."""
+    asleep, awake = clients
+    trouble, first = TROUBLES[0], len(server.told)
+    found.hold(asleep.ping(), "a ping is answered by the worker that sleeps then")
+    time.sleep(ASLEEP_SECONDS)
+    trouble.write(asleep, 0)
+    until = time.monotonic() + LINE_SECONDS
+    while len(server.told) < first + 2 and time.monotonic() < until:
+        trouble.write(awake, 0)
+        time.sleep(BETWEEN_SECONDS)
+    lines = server.told.lines[first : first + 2]
+    apart = [lines[1].moment - lines[0].moment] if len(lines) == 2 else []
+    found.hold(apart and apart[0] >= LEAST_APART_SECONDS, f"a second behind a worker that had slept: {apart}")
+    found.say(f"behind a worker that had slept the next line came after {apart} s")
+
+
 def run(program: Path, seed: int, size: Whole) -> Result:
     found = Findings()
     troubles = random.Random(seed).sample(TROUBLES, len(TROUBLES))
@@ -116,5 +136,6 @@ def run(program: Path, seed: int, size: Whole) -> Result:
             clients[0].must(204, "PUT", f"/buckets/{trouble.bucket}/props", binding)
         for trouble in troubles:
             try_trouble(found, server, clients, trouble)
+        try_apart(found, server, clients)
         told = len(server.told)
-    return found.result(f"{told} lines of {WRITES * len(troubles)} failures")
+    return found.result(f"{told} lines of {WRITES * len(troubles)} failures and more")
