@@ -16,5 +16,5 @@ pub use ending::Ending;
 pub use lobby::{Lobby, open};
 pub use roster::{Post, Roster};
 pub use snapshots::Snapshots;
-pub use start::listen;
+pub use start::{Bound, bind, tell_listening};
 pub use timer::{Stint, Timer};
