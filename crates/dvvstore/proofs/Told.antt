@@ -28,11 +28,6 @@ pub some_told : {T E : Type 0} (r : Result T E) (P : List ℕ → Type 0) (text 
 some_told (Ok v) P text h = (text, h)
 some_told (Err e) P text h = h
 
--- what holds anyway
-pub anyway : {T E : Type 0} (r : Result T E) (P : Type 0) → P → OnOk r P
-anyway (Ok v) P h = h
-anyway (Err e) P h = tt
-
 appends_then : (before mid after : Option (List ℕ)) (s t : List ℕ) → Appends before mid s → Appends mid after t → Appends before after (s ++ t)
 appends_then None mid after s t first then = tt
 appends_then (Some xs) None after s t first then = absurd first
@@ -40,9 +35,15 @@ appends_then (Some xs) (Some ms) None s t first then = absurd then
 appends_then (Some xs) (Some ms) (Some zs) s t first then = then ∙ ap (λ (l : List ℕ). l ++ t) first ∙ append_assoc xs s t
 
 -- how many records there are was told, and then an address
-pub begun_told : (before mid after : Option (List ℕ)) (loaded : ℕ) → Appends before mid (line (codes "loaded " ++ decimal loaded)) → (bound : List ℕ) × Appends mid after (line (codes "listening " ++ bound))
+begun_told : (before mid after : Option (List ℕ)) (loaded : ℕ) → Appends before mid (line (codes "loaded " ++ decimal loaded)) → (bound : List ℕ) × Appends mid after (line (codes "listening " ++ bound))
     → (loaded : ℕ) × (bound : List ℕ) × Appends before after (begun loaded bound)
 begun_told before mid after loaded first (bound, then) = (loaded, bound, appends_then before mid after (line (codes "loaded " ++ decimal loaded)) (line (codes "listening " ++ bound)) first then)
+
+-- the same, where the address was told
+pub begun_where_told : {T E : Type 0} (before mid after : Option (List ℕ)) (loaded : ℕ) (told : Result T E) → Appends before mid (line (codes "loaded " ++ decimal loaded))
+    → OnOk told ((bound : List ℕ) × Appends mid after (line (codes "listening " ++ bound))) → OnOk told (HasBegun before after)
+begun_where_told before mid after loaded (Ok v) first then = begun_told before mid after loaded first then
+begun_where_told before mid after loaded (Err e) first then = tt
 
 -- how it began was told, and then how it ended
 pub kept_told : (before mid after : Option (List ℕ)) (said : Ended) → HasBegun before mid → HasEnded mid after said → HasKept before after said

@@ -1,15 +1,12 @@
 //! A store that a folder keeps, from what it held to what is to be written.
 
-ghost use Rattle.std.specs.Prelude.{◌≡◌, ◌+◌, ◌<◌, ◌≤◌, ℕ, List, IfOk, OnOk, vec_len};
-ghost use Rattle.std.specs.Io.KnownBytes.{Appends};
-ghost use Rattle.commands.specs.Command.{begun};
-ghost use Rattle.dvvstore.specs.Keeping.{HasBegunWith, Leaves, Tells, fronts_for, left_as};
+ghost use Rattle.std.specs.Prelude.{◌≡◌, ◌+◌, ◌<◌, ◌≤◌, IfOk, OnOk, vec_len};
+ghost use Rattle.dvvstore.specs.Keeping.{HasBegun, HasBegunWith, Leaves, Tells, fronts_for, left_as};
 
 use crate::crew;
 use crate::crew::{Crew, Lookout, Seat, Served};
 use crate::host::Host;
 use crate::limits::VNODES;
-use crate::reasons::listen;
 use crate::saver::{Saver, Shelf};
 use crate::session::Left;
 use audit_cluster::Spot;
@@ -21,11 +18,11 @@ use kept_folder::{Folder, HOOKS, Held, Settings};
 use kept_hooks::{HooksAlone, Recorder, ReplayFault, Requests, replay};
 use kept_restore::laws::loads_stand;
 use kept_restore::{Passes, Unloaded, fronts_of};
-use server_accept::{Lobby, Setup, open};
+use server_accept::{Bound, Lobby, Setup, open, tell_listening};
 use std::alloc::{AllocError, Global};
 use std::io;
-use std::io::{Stderr, Stdin, Write};
-use std::net::{Net, TcpListener, TcpStream};
+use std::io::{ErrorKind, Stderr, Stdin, Write};
+use std::net::{Net, SocketAddr, TcpListener, TcpStream};
 use std::sync::{Mutex, Wait};
 use std::thread::Threads;
 use thiserror::Error;
@@ -39,7 +36,7 @@ pub enum Unbegun {
     /// A request that changes hooks isn't done.
     #[error("{HOOKS}: {0}")]
     Hooks(ReplayFault),
-    /// The address can't be bound, the output can't be written, or the system has no descriptor for a worker.
+    /// The output can't be written, or the system has no descriptor for a worker.
     #[error("unreadable")]
     Unreadable,
     /// Memory ran out.
@@ -88,13 +85,13 @@ pub struct Begun<B: Room> {
     pub first: u32,
 }
 
-/// An address at which a store answers.
+/// An address at which a store is to answer.
 #[derive(Drop)]
 pub struct Address<'a, N> {
-    /// Where it is bound.
+    /// What workers that wait for connections are made by.
     pub rt: &'a N,
-    /// The address.
-    pub addr: &'a str,
+    /// The address, which is bound: who connects waits until the store has begun.
+    pub bound: Bound,
     /// How many connections may come in all; any number where that isn't said.
     pub count: Option<u32>,
     /// Where the server is told what to do.
@@ -106,7 +103,7 @@ pub struct Address<'a, N> {
 pub enum Door<'a, N> {
     /// A lobby that is open.
     Open(&'a Lobby),
-    /// An address, which is bound once the store has begun. With how many records it has is told first.
+    /// An address, where a lobby is opened once the store has begun. With how many records it has is told then, and the address.
     Closed(Address<'a, N>),
 }
 
@@ -216,7 +213,9 @@ pub fn live<
     match door {
         Door::Open(lobby) => left_of(crew::serve(host, cluster, crew, lobby, &fronts)),
         Door::Closed(address) => {
-            let lobby = open_lobby(host.alloc, address, (loaded, workers), err, out)?;
+            let addr = address.bound.addr;
+            let lobby = open_lobby(host.alloc, address, workers, err)?;
+            tell_begun(loaded, addr, out)?;
             left_of(crew::serve(host, cluster, crew, &lobby, &fronts))
         }
     }
@@ -254,33 +253,39 @@ fn saver_of<F>(
     }
 }
 
-/// Tells with how many records a store begins, binds its address, and opens a lobby for so many workers: `counts` are the two. The error:
-/// the address can't be bound, the output can't be written, the system has no descriptor for a worker, or memory was refused.
-fn open_lobby<N: Net<Listener = TcpListener, Stream = TcpStream>, O: Write>(
+/// Opens a lobby for so many workers at an address. The error: memory was refused, or the system has no descriptor for a worker.
+fn open_lobby<N: Net<Listener = TcpListener, Stream = TcpStream>>(
     alloc: Global,
     address: Address<'_, N>,
-    counts: (usize, usize),
+    workers: usize,
     err: Stderr,
-    out: &mut O,
-) -> io::Result<Lobby>
-    ensures told { OnOk result ((loaded : ℕ) × (bound : List ℕ) × Appends (O.contents out.old) (O.contents out.new) (begun loaded bound)) }
-{
+) -> Result<Lobby, Unbegun> {
     let Address {
         rt,
-        addr,
+        bound,
         count,
         input,
     } = address;
-    let (loaded, workers) = counts;
-    writeln!(out, "loaded {loaded}")?;
     let setup = Setup {
-        listener: listen(rt, addr, err, out)?,
+        listener: bound.listener,
         count,
         input,
         makes_snapshots: true,
         err,
     };
-    open(alloc, rt, workers, setup)
+    match open(alloc, rt, workers, setup) {
+        Ok(lobby) => Ok(lobby),
+        Err(error) if error.kind() == ErrorKind::OutOfMemory => Err(Unbegun::NoMemory),
+        Err(_) => Err(Unbegun::Unreadable),
+    }
+}
+
+/// Tells with how many records a store begins, and at which address it listens. The error: the output can't be written.
+fn tell_begun<O: Write>(loaded: usize, addr: SocketAddr, out: &mut O) -> io::Result<()>
+    ensures told { OnOk result (HasBegun (O.contents out.old) (O.contents out.new)) }
+{
+    writeln!(out, "loaded {loaded}")?;
+    tell_listening(addr, out)
 }
 
 /// How many records there are.

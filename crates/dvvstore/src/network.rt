@@ -9,7 +9,7 @@ use crate::crew::Served;
 use crate::host::Host;
 use crate::keeper::{Address, Door, Stay, Unbegun};
 use crate::limits::IDENTIFIERS_PER_START;
-use crate::reasons::listen;
+use crate::reasons::bind;
 use crate::session;
 use crate::session::{Left, Making};
 use crate::start::start_at;
@@ -19,7 +19,7 @@ use audit_faults::{Followed, WatchFault};
 use bpf_helpers::Table;
 use commands::server::{Ended, Server, Site, Unserved};
 use kept_folder::{Folder, Held, OpenFault, Opened, keep_all};
-use server_accept::{Setup, open};
+use server_accept::{Bound, Setup, open, tell_listening};
 use std::alloc::Global;
 use std::fmt::Display;
 use std::io;
@@ -103,8 +103,9 @@ impl<
             return Err(Unserved::NoMemory);
         }
         let seed = Seed::random(self.rt)?;
+        let Bound { listener, addr } = bind(self.rt, addr, self.err)?;
         let setup = Setup {
-            listener: listen(self.rt, addr, self.err, out)?,
+            listener,
             count,
             input: self.input,
             makes_snapshots: false,
@@ -113,10 +114,11 @@ impl<
         let lobby = match open(alloc, self.rt, more.len(), setup) {
             Ok(opened) => opened,
             Err(error) if error.kind() == ErrorKind::OutOfMemory => {
-                return Ok(Err(WatchFault::NoMemory));
+                return Err(Unserved::NoMemory);
             }
             Err(_) => return Err(Unserved::Unreadable),
         };
+        tell_listening(addr, out)?;
         let making = Making {
             first: u32::from(self.begin()) * IDENTIFIERS_PER_START,
             seed,
@@ -149,6 +151,8 @@ impl<
             Ok(lock) => lock,
             Err(why) => return Err(refused(alloc, out, &why)),
         };
+        // Before a number is taken: starts at an address that can't be had use none up.
+        let bound = bind(self.rt, site.addr, self.err)?;
         let mut folder = SystemFolder::at(self.files, alloc, site.folder);
         let opened = match kept_folder::open(alloc, self.rt, &mut folder) {
             Ok(opened) => opened,
@@ -165,7 +169,7 @@ impl<
             held,
             door: Door::Closed(Address {
                 rt: self.rt,
-                addr: site.addr,
+                bound,
                 count: site.count,
                 input: self.input,
             }),

@@ -2,6 +2,7 @@
 
 use crate::host::Host;
 use crate::keeper::{Address, Door, Stay, Unbegun};
+use crate::reasons::bind;
 use crate::session;
 use crate::session::{Left, Making};
 use crate::system_folder::SystemFolder;
@@ -74,7 +75,7 @@ fn kept_store(rt: HostRuntime) -> Result<(), Fail> {
         },
         door: Door::Closed(Address {
             rt: &rt,
-            addr: "127.0.0.1:0",
+            bound: bind(&rt, "127.0.0.1:0", rt.stderr())?,
             count: Some(0),
             input: rt.stdin(),
         }),
