@@ -3,17 +3,18 @@
 A start is refused whose folder is a file, and one that can't write its number; the folder stays as it is. Where what is held can't
 be written at a stop, that has to be told, status 1, and the next start has what the last whole files hold. `settings` that are no
 line of theirs are refused; snapshots of a number of seconds come by themselves, and none with 0. Of a store that nothing keeps no
-snapshot can be asked for.
+snapshot can be asked for. A start at an address that another server has is told so, and takes no number.
 """
 from __future__ import annotations
 
 import random
 import resource
 import signal
+import subprocess
 from pathlib import Path
 
 import kept
-from server import End, Server
+from server import HOST, End, Server
 from trial import Findings, Result, Whole
 
 NAME = "folders"
@@ -25,6 +26,7 @@ WRONG_SETTINGS = ("", "snapshot", "snapshot \n", "snapshot -1\n", "snapshot 007\
 BY_THEMSELVES = {"snapshot 1\n": True, "snapshot 0\n": False}
 WAIT_SECONDS = 3.0
 FEW_BYTES = 200
+STARTS_IN_VAIN = 4
 END_SECONDS = 60
 
 
@@ -79,12 +81,28 @@ def try_served(found: Findings, program: Path) -> None:
         found.hold(end == End(0, ["audit ok"], ["unknown line"]), f"a snapshot of what isn't kept: {end}")
 
 
+def try_used_address(found: Findings, program: Path, folder: Path) -> None:
+    """Starts at an address that another server has."""
+    whole = kept.contents(folder)
+    with Server.serve(program) as other:
+        address = f"{HOST}:{other.port}"
+        for _ in range(STARTS_IN_VAIN):
+            how = {"stdin": subprocess.DEVNULL, "capture_output": True, "text": True, "timeout": END_SECONDS}
+            start = subprocess.run([program, "keep", folder, address, "1"], **how)
+            told = start.stderr.splitlines()
+            is_told = len(told) == 2 and told[0].startswith(f"{address}: ") and told[1] == "unreadable"
+            found.hold((start.returncode, start.stdout) == (2, "") and is_told, f"an address that is in use: {start}")
+        other.stop_in_order()
+    found.hold(kept.contents(folder) == whole, "an address that is in use: the folder was changed")
+
+
 def run(program: Path, seed: int, size: Whole) -> Result:
     found = Findings()
     with kept.folders() as folder:
         kept.fill(program, folder, random.Random(seed), starts=1)
         try_refusals(found, program, folder)
         try_settings(found, program, folder)
+        try_used_address(found, program, folder)
         try_unwritten_stop(found, program, folder)
     try_served(found, program)
-    return found.result(f"{len(WRONG_SETTINGS)} settings refused, {len(BY_THEMSELVES)} taken, 3 folders")
+    return found.result(f"{len(WRONG_SETTINGS)} settings refused, {len(BY_THEMSELVES)} taken, {STARTS_IN_VAIN} starts in vain")
