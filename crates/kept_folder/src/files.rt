@@ -14,6 +14,9 @@ pub enum FileFault {
     /// The system refused it.
     #[error("refused by the system")]
     Refused,
+    /// The folder was moved or removed, and another may stand in its place.
+    #[error("the folder was moved or removed")]
+    Moved,
     /// Memory ran out.
     #[error("E1")]
     NoMemory,

@@ -18,6 +18,6 @@ mod writing;
 
 pub use files::{FileFault, Folder};
 pub use names::HOOKS;
-pub use opening::{Held, OpenFault, Opened, open};
+pub use opening::{Held, OpenFault, Opened, keep_number, open};
 pub use settings::Settings;
 pub use writing::{Unreplaced, WriteFault, keep_all, keep_requests, keep_served};

@@ -1,6 +1,6 @@
 //! What a start reads of a folder, and the number that it takes.
 
-ghost use Rattle.std.specs.Prelude.{◌≡◌, ◌<◌, ◌/◌, ◌++◌, ◌∷◌, [], ℕ, List, Option, IfOk, OnOk, Contains, codes, decimal, length, option_to_list};
+ghost use Rattle.std.specs.Prelude.{◌≡◌, ◌<◌, ◌/◌, ◌++◌, ◌∷◌, [], ℕ, List, Option, IfOk, MatchOption, OnOk, Contains, codes, decimal, length, option_to_list};
 ghost use Rattle.kept_file.specs.Numbers.{all_ids};
 ghost use Rattle.kept_folder.specs.Reads.{IsFileIn, IsFoundAt, IsReadAt, bytes_in};
 ghost use Rattle.kept_folder.specs.Seals.{sealed};
@@ -11,7 +11,7 @@ use crate::files::{FileFault, Folder};
 use crate::names::{HOOKS, INCARNATION, SETTINGS, VNODES, name_of};
 use crate::sealing::{seal, unseal};
 use crate::settings::{Settings, USUAL, settings_in};
-use crate::writing::{WriteFault, replace};
+use crate::writing::{Unreplaced, WriteFault, replace};
 use kept_file::{KeptFile, Spent, Unkept, next_incarnation, read_file};
 use record_codec::Record;
 use std::alloc::{AllocError, Global};
@@ -135,6 +135,25 @@ fn take<F: Folder>(alloc: Global, folder: &mut F, number: u16) -> Result<(), Wri
     let text = format!(in alloc; "{number}\n")?;
     let bytes = seal(alloc, text.as_bytes())?;
     replace(alloc, folder, INCARNATION, &bytes)
+}
+
+/// Has the number of a start stand in its folder again, where it is lacking: where records are and no number nobody can start.
+pub fn keep_number<F: Folder>(alloc: Global, folder: &mut F, number: u16) -> Result<(), Unreplaced>
+    ensures there { OnOk result ((found : Option (List ℕ)) × F.finds folder.old (codes "incarnation") found
+        × MatchOption found (IsPut F.does folder.old (codes "incarnation") (sealed (decimal number ++ 10 ∷ [])) folder.new) (λ _. folder.new ≡ folder.old)) }
+{
+    let came = match folder.read(alloc, INCARNATION) {
+        Ok(Some(_)) => Ok(()),
+        Ok(None) => take(alloc, folder, number),
+        Err(fault) => Err(WriteFault::File(fault)),
+    };
+    match came {
+        Ok(()) => Ok(()),
+        Err(fault) => Err(Unreplaced {
+            name: INCARNATION,
+            fault,
+        }),
+    }
 }
 
 /// What a folder holds, all of it read.
