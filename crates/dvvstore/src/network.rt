@@ -18,7 +18,7 @@ use audit_cluster::Closed;
 use audit_faults::{Followed, WatchFault};
 use bpf_helpers::Table;
 use commands::server::{Ended, Server, Site, Unserved};
-use kept_folder::{Folder, Held, OpenFault, Opened, keep_all};
+use kept_folder::{Folder, Held, OpenFault, Opened, keep_all, keep_number};
 use server_accept::{Bound, Setup, open, tell_listening};
 use std::alloc::Global;
 use std::fmt::Display;
@@ -147,13 +147,13 @@ impl<
             return Err(Unserved::NoMemory);
         }
         let seed = Seed::random(self.rt)?;
-        let _lock = match take(self.files, alloc, site.folder) {
+        let lock = match take(self.files, alloc, site.folder) {
             Ok(lock) => lock,
             Err(why) => return Err(refused(alloc, out, &why)),
         };
         // Before a number is taken: starts at an address that can't be had use none up.
         let bound = bind(self.rt, site.addr, self.err)?;
-        let mut folder = SystemFolder::at(self.files, alloc, site.folder);
+        let mut folder = lock.folder();
         let opened = match kept_folder::open(alloc, self.rt, &mut folder) {
             Ok(opened) => opened,
             Err(OpenFault::NoMemory) => return Err(Unserved::NoMemory),
@@ -176,7 +176,7 @@ impl<
             err: self.err,
         };
         match session::live(&self.host(alloc), making, more, stay, out) {
-            Ok(Left::Kept(served)) => finish(alloc, &mut folder, served, out),
+            Ok(Left::Kept(served)) => finish(alloc, &mut folder, number, served, out),
             Ok(Left::Lost) => lose(alloc, out),
             Err(Unbegun::Unreadable) => Err(Unserved::Unreadable),
             Err(Unbegun::NoMemory) => Err(Unserved::NoMemory),
@@ -213,10 +213,12 @@ fn lose<O: Write>(alloc: Global, out: &mut O) -> Result<Ended, Unserved>
     Ok(Ended::Unkept(NO_MEMORY))
 }
 
-/// Writes what is left of a store into its folder, and tells how many records that is, or why it isn't written.
+/// Writes what is left of a store into its folder, and the number of its start where that is lacking, and tells how many records that is,
+/// or why not all is written.
 fn finish<F: Folder, O: Write>(
     alloc: Global,
     folder: &mut F,
+    number: u16,
     served: Served,
     out: &mut O,
 ) -> Result<Ended, Unserved>
@@ -225,7 +227,11 @@ fn finish<F: Folder, O: Write>(
 {
     let Served { closed, requests } = served;
     let Closed { mut vnodes, said } = closed;
-    match keep_all(alloc, folder, &mut vnodes, requests.bytes()) {
+    let came = match keep_number(alloc, folder, number) {
+        Ok(()) => keep_all(alloc, folder, &mut vnodes, requests.bytes()),
+        Err(why) => Err(why),
+    };
+    match came {
         Ok(kept) => {
             writeln!(out, "kept {kept}")?;
             Ok(Ended::Kept(said))

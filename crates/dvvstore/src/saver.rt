@@ -1,18 +1,18 @@
 //! Snapshots of a store that is kept, beside its workers.
 
-ghost use Rattle.std.specs.Prelude.{◌≡◌};
+ghost use Rattle.std.specs.Prelude.{◌≡◌, ◌/◌};
 ghost use Rattle.dvvstore.specs.Asides.{AllGrow, Grows};
 
 mod stride;
 
 use crate::crew::Signs;
-use crate::limits::{SNAPSHOT_SIDES, SNAPSHOT_TICK_MS};
+use crate::limits::{IDENTIFIERS_PER_START, SNAPSHOT_SIDES, SNAPSHOT_TICK_MS};
 use crate::saver::stride::{Stride, is_serving};
 use cluster::{Cluster, Pass, Room};
 use cluster_peers::ClusterPeers;
 use cluster_peers::laws::calls_only_add;
 use kept_file::{SnapshotFault, Subject};
-use kept_folder::{Folder, Unreplaced, WriteFault, keep_requests, keep_served};
+use kept_folder::{Folder, Unreplaced, WriteFault, keep_number, keep_requests, keep_served};
 use kept_restore::{Passes, join_three};
 use server_accept::Timer;
 use std::alloc::Global;
@@ -129,7 +129,8 @@ impl<F: Folder + Copy + Send> Saver<F> {
     }
 
     /// Replaces the files of a folder by what vnodes hold that serve, and by the requests that install and bind their hooks. Answers how
-    /// many keys the vnodes have. Where a vnode's file isn't replaced those of the others may be, and that of the requests isn't.
+    /// many keys the vnodes have. Where a vnode's file isn't replaced those of the others may be, and that of the requests isn't. Where
+    /// the number of the start is lacking, it is written again.
     fn write<B: Room + Send + Sync, R: Threads + Wait + Sync>(
         &mut self,
         rt: &R,
@@ -142,20 +143,23 @@ impl<F: Folder + Copy + Send> Saver<F> {
         let (spares, came) = self.write_vnodes(rt, cluster, spares, signs);
         (
             spares,
-            came.and_then(|keys| self.write_hooks(rt, signs, keys)),
+            came.and_then(|keys| self.write_rest(rt, signs, keys)),
         )
     }
 
-    /// Replaces the file of the requests that install and bind hooks, behind those of vnodes that have so many keys.
-    fn write_hooks<R: Wait>(
+    /// Replaces the file of the requests that install and bind hooks, and has the number of the start be there, behind the files of vnodes
+    /// that have so many keys.
+    fn write_rest<R: Wait>(
         &mut self,
         rt: &R,
         signs: &Signs<'_>,
         keys: usize,
     ) -> Result<usize, Unreplaced> {
+        let number = self.shelf.number();
         let Shelf { alloc, folder, .. } = &mut self.shelf;
         let requests = signs.requests(*alloc, rt).unwrap_or(None);
         keep_requests(*alloc, folder, requests.as_deref())?;
+        keep_number(*alloc, folder, number)?;
         Ok(keys)
     }
 
@@ -208,6 +212,15 @@ pub struct Shelf<F> {
     pub folder: F,
     /// The identifier of the vnode with index 0.
     pub first: u32,
+}
+
+impl<F> Shelf<F> {
+    /// The number of the start: the upper half of the identifiers of its vnodes.
+    fn number(&self) -> u16
+        ensures { result ≡ self.now.first / 65536 }
+    {
+        (self.first / IDENTIFIERS_PER_START) as u16
+    }
 }
 
 impl<F: Folder + Copy> Shelf<F> {

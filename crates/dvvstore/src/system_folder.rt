@@ -2,7 +2,9 @@
 
 use kept_folder::{FileFault, Folder};
 use std::alloc::{AllocError, Global};
+use std::fs::OpenFile as _;
 use std::io::{ErrorKind, Read as _};
+use std::os::unix::fs::MetadataExt as _;
 use std::{fs, io};
 use thiserror::Error;
 
@@ -32,42 +34,108 @@ impl From<io::Error> for Untaken {
     }
 }
 
+/// Which file a file is, whatever names it has.
+#[derive(Clone, Copy, Debug, PartialEq, Eq)]
+struct Node {
+    device: u64,
+    number: u64,
+}
+
+impl Node {
+    fn of(metadata: &fs::Metadata) -> Node {
+        Node {
+            device: metadata.dev(),
+            number: metadata.ino(),
+        }
+    }
+}
+
 /// That a folder is this process's own as long as this value lives: the folder's file `lock` is locked, which the system undoes however the
 /// process ends.
 #[derive(Drop)]
-pub struct Lock {
+pub struct Lock<'a> {
+    rt: &'a HostRuntime,
+    alloc: Global,
+    path: &'a str,
+    /// The file that is locked.
     file: fs::File,
+    /// Which one that is.
+    node: Node,
+}
+
+impl Lock<'_> {
+    /// The files of the folder.
+    pub fn folder(&self) -> SystemFolder<'_> {
+        SystemFolder {
+            rt: self.rt,
+            alloc: self.alloc,
+            path: self.path,
+            held: self.node,
+        }
+    }
 }
 
 /// Takes the folder with a path, which is made where it is missing.
-pub fn take(rt: &HostRuntime, alloc: Global, path: &str) -> Result<Lock, Untaken> {
+pub fn take<'a>(rt: &'a HostRuntime, alloc: Global, path: &'a str) -> Result<Lock<'a>, Untaken> {
     fs::create_dir_all(rt, path)?;
     let file = fs::File::create(rt, format!(in alloc; "{path}/{LOCK}")?.as_str())?;
+    let node = Node::of(&file.metadata()?);
     match file.try_lock() {
-        Ok(()) => Ok(Lock { file }),
+        Ok(()) => Ok(Lock {
+            rt,
+            alloc,
+            path,
+            file,
+            node,
+        }),
         Err(fs::TryLockError::WouldBlock) => Err(Untaken::InUse),
         Err(fs::TryLockError::Error(error)) => Err(Untaken::from(error)),
     }
 }
 
 /// The files of a folder that is taken. Threads may each be handed them, so the system is no parameter of this type.
+///
+/// They are found by the folder's path. So before one is begun or gets another name, it is looked whether the file `lock` there is still
+/// the one that is locked: nothing is written where the folder was moved or removed, whatever stands in its place.
 #[derive(Clone, Copy)]
 pub struct SystemFolder<'a> {
     rt: &'a HostRuntime,
     alloc: Global,
     path: &'a str,
+    /// The file that is locked.
+    held: Node,
 }
 
 impl<'a> SystemFolder<'a> {
-    /// Those of the folder with a path.
-    pub fn at(rt: &'a HostRuntime, alloc: Global, path: &'a str) -> SystemFolder<'a> {
-        SystemFolder { rt, alloc, path }
+    /// Those of a folder that nobody has: none of its files is written.
+    #[cfg(test)]
+    pub fn nowhere(rt: &'a HostRuntime, alloc: Global) -> SystemFolder<'a> {
+        SystemFolder {
+            rt,
+            alloc,
+            path: "nowhere",
+            held: Node {
+                device: 0,
+                number: 0,
+            },
+        }
     }
 
     // The path of a file.
     fn path_of(&self, name: &str) -> Result<String, FileFault> {
         let path = self.path;
         Ok(format!(in self.alloc; "{path}/{name}")?)
+    }
+
+    // Looks whether the folder is still there.
+    fn look(&self) -> Result<(), FileFault> {
+        let path = self.path_of(LOCK)?;
+        match fs::metadata(self.rt, path.as_str()) {
+            Ok(found) if Node::of(&found) == self.held => Ok(()),
+            Ok(_) => Err(FileFault::Moved),
+            Err(error) if error.kind() == ErrorKind::NotFound => Err(FileFault::Moved),
+            Err(error) => Err(fault_of(&error)),
+        }
     }
 }
 
@@ -92,6 +160,7 @@ impl Folder for SystemFolder<'_> {
     }
 
     fn create(&mut self, name: &str) -> Result<fs::File, FileFault> {
+        self.look()?;
         let path = self.path_of(name)?;
         done(fs::File::create(self.rt, path.as_str()))
     }
@@ -101,6 +170,7 @@ impl Folder for SystemFolder<'_> {
     }
 
     fn rename(&mut self, from: &str, to: &str) -> Result<(), FileFault> {
+        self.look()?;
         let from = self.path_of(from)?;
         let to = self.path_of(to)?;
         done(fs::rename(self.rt, from.as_str(), to.as_str()))

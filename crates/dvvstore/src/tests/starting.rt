@@ -66,7 +66,7 @@ fn kept_store(rt: HostRuntime) -> Result<(), Fail> {
         files.push(file_of(alloc, from)?)?;
     }
     let stay = Stay {
-        folder: Some(SystemFolder::at(&rt, alloc, "nowhere")),
+        folder: Some(SystemFolder::nowhere(&rt, alloc)),
         held: Held {
             last: Some(6),
             settings: Settings { every: 0 },
