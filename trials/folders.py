@@ -4,6 +4,10 @@ A start is refused whose folder is a file, and one that can't write its number; 
 be written at a stop, that has to be told, status 1, and the next start has what the last whole files hold. `settings` that are no
 line of theirs are refused; snapshots of a number of seconds come by themselves, and none with 0. Of a store that nothing keeps no
 snapshot can be asked for. A start at an address that another server has is told so, and takes no number.
+
+A folder is moved away while its store serves, and another store begins in its place: what the first can't keep any more it has to
+tell, at a snapshot and at its stop, and neither folder is touched. The number of a start is taken away while it serves: it is there
+again once the server has stopped.
 """
 from __future__ import annotations
 
@@ -96,6 +100,44 @@ def try_used_address(found: Findings, program: Path, folder: Path) -> None:
     found.hold(kept.contents(folder) == whole, "an address that is in use: the folder was changed")
 
 
+def try_moved(found: Findings, program: Path, folder: Path) -> None:
+    """A folder that is moved away while it is served, and another that stands in its place then."""
+    with kept.copied(folder) as served:
+        moved = served.with_name("moved")
+        with Server.keep(program, served) as server:
+            kept.put(server, "first", b"x")
+            served.rename(moved)
+            own = kept.contents(moved)
+            found.hold(is_told_moved(server.snapshot()), "a snapshot where no folder is told that nothing is kept")
+            with Server.keep(program, served) as other:
+                kept.put(other, "second", b"y")
+                found.hold(kept.is_whole_snapshot(other.snapshot()), "the second store is kept in the place of the first")
+                theirs = kept.contents(served)
+                found.hold(is_told_moved(server.snapshot()), "a snapshot where another folder is told that nothing is kept")
+                end = server.stop(END_SECONDS)
+                is_told = end is not None and end.status == 1 and is_told_moved(end.printed[0]) and end.printed[1:] == ["audit ok"]
+                found.hold(is_told, f"a stop where another folder is: {end}")
+                found.hold(kept.contents(served) == theirs, "the folder that stands in the place of the first was changed")
+                found.hold(kept.contents(moved) == own, "the folder that was moved away was changed")
+                other.stop_in_order()
+
+
+def is_told_moved(line: str | None) -> bool:
+    return line is not None and line.startswith("not kept ") and line.endswith(": the folder was moved or removed")
+
+
+def try_lacking_number(found: Findings, program: Path, folder: Path) -> None:
+    """A number that is taken away while its store serves."""
+    with kept.copied(folder) as copy:
+        with Server.keep(program, copy) as server:
+            number = (copy / kept.NUMBER).read_bytes()
+            for what in ("a snapshot", "a stop"):
+                (copy / kept.NUMBER).unlink()
+                server.snapshot() if what == "a snapshot" else server.stop_in_order()
+                found.hold(kept.contents(copy).get(kept.NUMBER) == number, f"the number is there again after {what}")
+        found.hold(kept.loaded_from(program, copy) is not None, "the next start has its number")
+
+
 def run(program: Path, seed: int, size: Whole) -> Result:
     found = Findings()
     with kept.folders() as folder:
@@ -103,6 +145,8 @@ def run(program: Path, seed: int, size: Whole) -> Result:
         try_refusals(found, program, folder)
         try_settings(found, program, folder)
         try_used_address(found, program, folder)
+        try_moved(found, program, folder)
+        try_lacking_number(found, program, folder)
         try_unwritten_stop(found, program, folder)
     try_served(found, program)
-    return found.result(f"{len(WRONG_SETTINGS)} settings refused, {len(BY_THEMSELVES)} taken, {STARTS_IN_VAIN} starts in vain")
+    return found.result(f"{len(WRONG_SETTINGS)} settings refused, {len(BY_THEMSELVES)} taken, {STARTS_IN_VAIN} starts in vain, 2 folders changed")

@@ -15,6 +15,7 @@ from server import AT_A_PORT_OF_THE_SYSTEM, Client, Server
 VNODES = 3
 SETTINGS = "settings"
 LOCK = "lock"
+NUMBER = "incarnation"
 NO_SNAPSHOTS_BY_ITSELF = b"snapshot 0\n"
 REFUSAL_SECONDS = 10
 
