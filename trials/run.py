@@ -37,6 +37,7 @@ NAMES = (
     "alone",
     "starts",
     "stop",
+    "slow_stop",
     "kills",
     "damages",
     "folders",
