@@ -7,5 +7,5 @@ mod signs;
 mod working;
 
 pub use running::{Crew, Served, serve};
-pub use signs::Signs;
+pub use signs::{Signs, Until};
 pub use working::{Lookout, Seat};

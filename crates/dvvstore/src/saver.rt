@@ -1,13 +1,13 @@
 //! Snapshots of a store that is kept, beside its workers.
 
-ghost use Rattle.std.specs.Prelude.{◌≡◌, ◌/◌};
+ghost use Rattle.std.specs.Prelude.{◌≡◌, ◌/◌, ◌-◌, ◌&&◌, ◌||◌, false, max, nat_eq, nat_le, not};
 ghost use Rattle.dvvstore.specs.Asides.{AllGrow, Grows};
 
 mod stride;
 
-use crate::crew::Signs;
+use crate::crew::{Signs, Until};
 use crate::limits::{IDENTIFIERS_PER_START, SNAPSHOT_SIDES, SNAPSHOT_TICK_MS};
-use crate::saver::stride::{Stride, is_serving};
+use crate::saver::stride::Stride;
 use cluster::{Cluster, Pass, Room};
 use cluster_peers::ClusterPeers;
 use cluster_peers::laws::calls_only_add;
@@ -21,22 +21,52 @@ use std::sync::Wait;
 use std::thread::Threads;
 use std::time::Duration;
 
-/// When a snapshot is made.
+/// When a snapshot is made, where something was written since the last one began.
 #[derive(Clone, Copy, Debug)]
 struct Schedule {
-    /// So many milliseconds after one the next is made, where something was written; only where it is asked for where it is 0.
+    /// So many milliseconds after one the next is made; none by itself where it is 0.
     every: u64,
     /// When the last one ended.
     last: u64,
-    /// For so many milliseconds after it none is made but where it is asked for: as many as a vnode had keys. A read takes a place of its
-    /// vnode's journal, and so a journal lasts months.
+    /// For so many milliseconds after it none is made by itself: as many as a vnode had keys. A read takes a place of its vnode's journal,
+    /// and so a journal lasts months.
     least: u64,
+    /// Whether one has begun since the server was told to stop.
+    has_last: bool,
 }
 
 impl Schedule {
-    /// Whether one is due.
-    fn is_due(&self, now: u64) -> bool {
-        self.every != 0 && now.saturating_sub(self.last) >= self.every.max(self.least)
+    /// The first one is made so many seconds from now on.
+    fn new(every: u32, now: u64) -> Schedule {
+        Schedule {
+            every: u64::from(every).saturating_mul(1_000),
+            last: now,
+            least: 0,
+            has_last: false,
+        }
+    }
+
+    /// Whether one is due. The first is that could go on until all workers have ended: whoever kills the server while it waits for
+    /// clients loses nothing then that was acknowledged before it was told to stop.
+    fn is_due(&self, until: Until, now: u64) -> bool
+        ensures stop { until ≡ Until.Stop → result ≡ (not (nat_eq self.now.every 0) && nat_le (max self.now.every self.now.least) (now - self.now.last)) }
+        ensures end { until ≡ Until.End → result ≡ (not self.now.has_last || not (nat_eq self.now.every 0) && nat_le (max self.now.every self.now.least) (now - self.now.last)) }
+    {
+        let is_first = until == Until::End && !self.has_last;
+        let rested = now.saturating_sub(self.last);
+        is_first || self.every != 0 && rested >= self.every.max(self.least)
+    }
+
+    /// One has ended, of vnodes with so many keys each.
+    fn note(&mut self, until: Until, keys: u64, now: u64)
+        ensures every { self.new.every ≡ self.old.every }
+        ensures last { self.new.last ≡ now }
+        ensures least { self.new.least ≡ keys }
+        ensures has_last { self.new.has_last ≡ false → (self.old.has_last ≡ false) × (until ≡ Until.Stop) }
+    {
+        self.last = now;
+        self.least = keys;
+        self.has_last = self.has_last || until == Until::End;
     }
 }
 
@@ -61,8 +91,8 @@ pub struct Saver<F> {
 }
 
 impl<F: Folder + Copy + Send> Saver<F> {
-    /// Makes snapshots until all workers have ended or the server is told to stop, by calls on the vnodes through passes: what each is told
-    /// comes behind what it was told before. The passes come back.
+    /// Makes snapshots until all workers have ended, by calls on the vnodes through passes: what each is told comes behind what it was told
+    /// before. One that is under way when the server is told to stop is given up, and another begins. The passes come back.
     pub fn run<B: Room + Send + Sync, R: Threads + Wait + Sync>(
         &mut self,
         rt: &R,
@@ -73,22 +103,19 @@ impl<F: Folder + Copy + Send> Saver<F> {
         ensures grow { AllGrow spares result }
     {
         let mut timer = Timer::new();
-        let mut schedule = Schedule {
-            every: u64::from(self.every).saturating_mul(1_000),
-            last: timer.now(),
-            least: 0,
-        };
+        let mut schedule = Schedule::new(self.every, timer.now());
         for _ in rt.forever() {
             signs.wait(rt, Duration::from_millis(SNAPSHOT_TICK_MS));
-            if !is_serving(signs) {
+            if signs.is_over() {
                 break;
             }
+            let signs = signs.from_now();
             let is_asked = signs.lobby.roster.snapshots.take();
-            if is_asked || (signs.is_written() && schedule.is_due(timer.now())) {
-                let (back, keys) = self.save(rt, cluster, spares, signs);
+            if is_asked || (signs.is_written() && schedule.is_due(signs.until, timer.now())) {
+                let (back, keys) = self.save(rt, cluster, spares, &signs);
                 spares = back;
-                schedule.least = (keys / cluster.count().max(1)) as u64;
-                schedule.last = timer.now();
+                let keys = (keys / cluster.count().max(1)) as u64;
+                schedule.note(signs.until, keys, timer.now());
             }
         }
         spares

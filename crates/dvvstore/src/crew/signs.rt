@@ -1,13 +1,38 @@
 //! What somebody looks at who does something beside the workers.
 
+ghost use Rattle.std.specs.Prelude.{◌≡◌, ◌&&◌, not};
+
 use kept_hooks::Requests;
 use server_accept::Lobby;
+use server_sockets::Stance;
 use std::alloc::{AllocError, Global};
 use std::sync::atomic::AtomicBool;
 use std::sync::atomic::Ordering::SeqCst;
 use std::sync::{Mutex, Wait};
 use std::thread::Parker;
 use std::time::Duration;
+
+/// How long something goes on that is done beside the workers.
+#[derive(Clone, Copy, Debug, PartialEq, Eq)]
+pub enum Until {
+    /// Until the server is told to stop.
+    Stop,
+    /// Until all workers have ended: the server had been told to stop when it began.
+    End,
+}
+
+impl Until {
+    /// Whether it goes on, by whether the server was told to stop, and whether all workers have ended.
+    fn goes_on(self, is_stopping: bool, is_over: bool) -> bool
+        ensures stop { self ≡ Until.Stop → result ≡ (not is_stopping && not is_over) }
+        ensures end { self ≡ Until.End → result ≡ not is_over }
+    {
+        match self {
+            Until::Stop => !is_stopping && !is_over,
+            Until::End => !is_over,
+        }
+    }
+}
 
 /// What somebody looks at who does something beside the workers.
 #[derive(Clone, Copy)]
@@ -19,9 +44,33 @@ pub struct Signs<'a> {
     pub(crate) bell: &'a Parker,
     pub(crate) written: &'a AtomicBool,
     pub(crate) trailing: &'a AtomicBool,
+    /// How long that goes on which is done by these signs.
+    pub(crate) until: Until,
 }
 
-impl Signs<'_> {
+impl<'a> Signs<'a> {
+    /// The same signs, for what begins now.
+    pub fn from_now(&self) -> Signs<'a> {
+        Signs {
+            until: if self.is_stopping() {
+                Until::End
+            } else {
+                Until::Stop
+            },
+            ..*self
+        }
+    }
+
+    /// Whether that goes on which is done by these signs.
+    pub fn go_on(&self) -> bool {
+        self.until.goes_on(self.is_stopping(), self.is_over())
+    }
+
+    /// Whether the server was told to stop.
+    fn is_stopping(&self) -> bool {
+        self.lobby.roster.ending.stance() == Stance::Stopping
+    }
+
     /// Whether all workers have ended.
     pub fn is_over(&self) -> bool {
         self.over.load(SeqCst)

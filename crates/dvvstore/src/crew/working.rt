@@ -10,7 +10,7 @@ ghost use Rattle.dvvstore.specs.Visits.{HasLed, HasVisited, HaveVisited, Leads, 
 
 use crate::crew::pace::{Next, Pace, keeps_snapshots_waiting};
 use crate::crew::reporter::{Aloud, Reporter};
-use crate::crew::signs::Signs;
+use crate::crew::signs::{Signs, Until};
 use crate::limits::{FOLLOWED_PIECE_STAMPS, WORKER_NAP_MS, WORKER_WAIT_MS};
 use audit_cluster::{Spot, Watch};
 use cluster::{Cluster, Pass, Room};
@@ -114,6 +114,7 @@ impl<B: Room + Spot> Shared<B> {
             bell: &self.bell,
             written: &self.written,
             trailing: &self.is_trailing,
+            until: Until::Stop,
         }
     }
 }

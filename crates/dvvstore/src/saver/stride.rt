@@ -7,15 +7,9 @@ use crate::limits::{
 };
 use kept_file::Pace;
 use server_accept::{Post, Stint, Timer};
-use server_sockets::Stance;
 use std::sync::Wait;
 use std::thread::Parker;
 use std::time::Duration;
-
-/// Whether the server goes on: neither have all workers ended, nor was it told to stop.
-pub(crate) fn is_serving(signs: &Signs<'_>) -> bool {
-    !signs.is_over() && signs.lobby.roster.ending.stance() != Stance::Stopping
-}
 
 /// How many microseconds are rested behind a spell.
 fn rest_behind(spell: &Stint) -> u64 {
@@ -24,7 +18,7 @@ fn rest_behind(spell: &Stint) -> u64 {
     by_time.max(by_waits).min(MAX_REST_US)
 }
 
-/// How fast a snapshot of a vnode goes on, and how long: as long as the server does. It reads spell by spell. Behind one in which somebody
+/// How fast a snapshot of a vnode goes on, and how long: as its signs say. It reads spell by spell. Behind one in which somebody
 /// else called the vnode it waits until each worker has ended the turn that it was in: so a merge that a client's request makes still finds
 /// the answer that it names among the last that the follower keeps. Then it rests, the longer the longer the spell lasted and the more it
 /// had to wait for a processor, so that clients have most of the time of those that are busy, of the vnode and of who follows. Where nobody
@@ -99,7 +93,7 @@ impl<'a, R: Wait> Stride<'a, R> {
         let turns = post.turns();
         for _ in self.rt.forever() {
             self.wait_a_little();
-            if post.turns() != turns || timer.now() >= until || !is_serving(&self.signs) {
+            if post.turns() != turns || timer.now() >= until || !self.signs.go_on() {
                 return;
             }
             post.inlet.wake();
@@ -109,7 +103,7 @@ impl<'a, R: Wait> Stride<'a, R> {
     /// Waits until most of what was done is followed.
     fn wait_for_follower(&self) {
         for _ in self.rt.forever() {
-            if !self.signs.is_trailing() || !is_serving(&self.signs) {
+            if !self.signs.is_trailing() || !self.signs.go_on() {
                 return;
             }
             self.wait_a_little();
@@ -135,6 +129,6 @@ impl<R: Wait> Pace for Stride<'_, R> {
         if self.is_over() {
             self.rest();
         }
-        is_serving(&self.signs)
+        self.signs.go_on()
     }
 }
