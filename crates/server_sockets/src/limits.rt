@@ -8,6 +8,10 @@ pub(crate) const IDLE_LIMIT_MS: u64 = 600_000;
 /// For so long a request may be coming, and a client may take nothing of its answers, in milliseconds: a minute.
 pub(crate) const STALL_LIMIT_MS: u64 = 60_000;
 
+/// Once a worker is told to stop each of its connections has so long in all, in milliseconds, however its client takes its answers: ten
+/// seconds, less what a limit may be late by.
+pub(crate) const STOP_LIMIT_MS: u64 = 8_000;
+
 /// Clients that are too slow are looked for so often, in milliseconds: their limits are late by no more.
 pub(crate) const SWEEP_MS: u64 = 1_000;
 

@@ -8,6 +8,7 @@ pub enum Stance {
     /// No more come. It ends once its connections have ended.
     Finishing,
     /// It answers what was read whole, closes each connection in order once its answers are written, and ends. What is offered is closed.
+    /// Clients that haven't taken their answers in some eight seconds are given up.
     Stopping,
 }
 

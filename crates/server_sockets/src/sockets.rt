@@ -253,11 +253,12 @@ impl Sockets {
         self.lines.range(from..).next().map(|(number, _)| *number)
     }
 
-    /// The first connection from a number on whose client has kept it waiting for too long.
-    pub(crate) fn first_overdue(&self, from: u64, now: u64) -> Option<u64> {
+    /// The first connection from a number on whose client has kept it waiting for too long, where the worker was told to stop at that
+    /// moment, if it was.
+    pub(crate) fn first_overdue(&self, from: u64, stopped: Option<u64>, now: u64) -> Option<u64> {
         self.lines
             .range(from..)
-            .find(|(_, line)| is_overdue(line, now))
+            .find(|(_, line)| is_overdue(line, stopped, now))
             .map(|(number, _)| *number)
     }
 
@@ -340,8 +341,8 @@ impl Sockets {
 }
 
 // Whether the client of a connection has kept it waiting for too long.
-fn is_overdue(line: &Line, now: u64) -> bool {
-    line.course == Course::Served && !line.is_held && line.watch.is_overdue(now)
+fn is_overdue(line: &Line, stopped: Option<u64>, now: u64) -> bool {
+    line.course == Course::Served && line.watch.is_given_up(line.is_held, stopped, now)
 }
 
 // Whether a connection is between two requests.

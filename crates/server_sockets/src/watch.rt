@@ -1,9 +1,9 @@
 //! How long clients may take.
 
-ghost use Rattle.std.specs.Prelude.{◌≡◌, ◌≢◌, ◌-◌, nat_lt, true, false};
-ghost use Rattle.server_sockets.specs.Limits.{most_of};
+ghost use Rattle.std.specs.Prelude.{◌≡◌, ◌≢◌, ◌-◌, ◌&&◌, ◌||◌, nat_lt, not, true, false};
+ghost use Rattle.server_sockets.specs.Limits.{is_past_stop, most_of};
 
-use crate::limits::{IDLE_LIMIT_MS, STALL_LIMIT_MS};
+use crate::limits::{IDLE_LIMIT_MS, STALL_LIMIT_MS, STOP_LIMIT_MS};
 use http_connections::Standing;
 
 /// How a connection stands, and since when, in milliseconds: how long it is idle, or its next request is coming, or its client takes
@@ -52,5 +52,23 @@ impl Watch {
             Standing::Asking | Standing::Telling => STALL_LIMIT_MS,
         };
         now.saturating_sub(self.since) > limit
+    }
+
+    /// Whether its client is given up: it has stood so for longer than it may, and is read from, so that its client is to blame; or its
+    /// worker was told to stop at that moment, and the time that is left then is over.
+    pub fn is_given_up(self, is_held: bool, stopped: Option<u64>, now: u64) -> bool
+        ensures { result ≡ (is_past_stop stopped now || not is_held && nat_lt (most_of self.standing) (now - self.since)) }
+    {
+        has_had_its_time(stopped, now) || !is_held && self.is_overdue(now)
+    }
+}
+
+// Whether a connection has had its time since its worker was told to stop, if it was.
+fn has_had_its_time(stopped: Option<u64>, now: u64) -> bool
+    ensures { result ≡ is_past_stop stopped now }
+{
+    match stopped {
+        Some(stopped) => now.saturating_sub(stopped) > STOP_LIMIT_MS,
+        None => false,
     }
 }

@@ -35,8 +35,8 @@ pub struct Worker {
     reported: Vec<u64>,
     /// When clients that are too slow were last looked for.
     swept: u64,
-    /// Whether each connection was told that it is to end.
-    is_stopping: bool,
+    /// When it was told to stop, if it was: each connection was told then that it is to end.
+    stopped: Option<u64>,
     rest: Parker,
 }
 
@@ -59,7 +59,7 @@ pub fn open<R: Net<Listener = TcpListener, Stream = TcpStream>>(
         events: Events::with_capacity(alloc, REPORTED_PER_TURN)?,
         reported,
         swept: 0,
-        is_stopping: false,
+        stopped: None,
         rest: Parker::new(),
     };
     Ok((worker, Inlet::new(alloc, waker)))
@@ -85,7 +85,7 @@ impl Worker {
         self.attend_reported(backend);
         self.attend_held(backend);
         self.attend_called(backend);
-        self.stop(orders.stance, backend);
+        self.stop(orders, backend);
         self.sockets.end_draining(orders.now);
         self.give_up_overdue(orders.now);
         Turned {
@@ -202,13 +202,13 @@ impl Worker {
     }
 
     // Attends all connections, where the worker stops and that was not done since, so that each closes as soon as its answers are written.
-    fn stop<B: Backend>(&mut self, stance: Stance, backend: &mut B)
+    fn stop<B: Backend>(&mut self, orders: &Orders, backend: &mut B)
         ensures { Works B.gives B.copies self.old self.new backend.old backend.new }
     {
-        if self.is_stopping || stance != Stance::Stopping {
+        if self.stopped.is_some() || orders.stance != Stance::Stopping {
             return;
         }
-        self.is_stopping = true;
+        self.stopped = Some(orders.now);
         self.attend_each(backend);
     }
 
@@ -243,7 +243,7 @@ impl Worker {
     {
         let mut from = 0;
         for _ in 0..self.sockets.len() {
-            let Some(number) = self.sockets.first_overdue(from, now) else {
+            let Some(number) = self.sockets.first_overdue(from, self.stopped, now) else {
                 return;
             };
             self.hall.give_up(number, &mut self.sockets);
