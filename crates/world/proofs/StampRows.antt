@@ -16,7 +16,7 @@ use Rattle.world.specs.Represents.{log_at, with_entry_at}
 use Rattle.world.specs.Stamped.{AreStamped, IsLater}
 use Rattle.world.proofs.Lists.{Contains-nil}
 use Rattle.world.proofs.Loads.{set_here, set_there, set_last, length-set_more, one_index}
-use Rattle.world.proofs.Stamped.{stamped_at}
+use Rattle.world.proofs.Stamped.{stamped_more}
 
 -- entries with stamps in a row
 abbrev pub AreInRow : ℕ → List Entry → Type 0
@@ -60,7 +60,7 @@ stamped_row logs made at (e ∷ es) inside row h =
     subst (λ (ls : List Log). AreStamped ls (made + length (e ∷ es))) moved
     (subst (AreStamped (slice_set (with_entry_at logs at e) at (with_entries (log_at (with_entry_at logs at e) at) es))) more
     (stamped_row (with_entry_at logs at e) (made + 1) at es (let n = length-set logs at (with_entry (log_at logs at) e) in omega (arith, n, inside)) row.1
-    (stamped_at logs made at e (record { vnode = 0; entries = [] }) (with_entry (log_at logs at) e) inside refl row.0 h)))
+    (stamped_more logs (with_entry_at logs at e) made at e inside refl row.0 h)))
   where
     more : made + 1 + length es ≡ made + length (e ∷ es)
     more = omega arith

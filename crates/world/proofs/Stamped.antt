@@ -12,7 +12,7 @@ use Rattle.world.specs.Represents.{log_at, with_entry_at, empty_logs}
 use Rattle.world.specs.Stamped.{AreStamped, IsLater, entries_of}
 use Rattle.world.proofs.Lists.{Contains-nil, EachAfter-push, set_cases}
 
-stamped_more : (logs new : List Log) (made at : ℕ) (e : Entry) → at < length logs → new ≡ with_entry_at logs at e → stamp_of e ≡ made → AreStamped logs made → AreStamped new (made + 1)
+pub stamped_more : (logs new : List Log) (made at : ℕ) (e : Entry) → at < length logs → new ≡ with_entry_at logs at e → stamp_of e ≡ made → AreStamped logs made → AreStamped new (made + 1)
 stamped_more logs new made at e inside is stamp h = subst (λ (ls : List Log). AreStamped ls (made + 1)) (sym is) (record {
   count = let s = sum_by-set (λ (l : Log). length l.entries) logs at (with_entry (log_at logs at) e) none inside in let n = length-append (log_at logs at).entries (e ∷ []) in let c = h.count in omega (arith, s, n, c);
   below = λ v x c. elim (stands v x c) [ inl old ↦ let b = h.below v x old in omega (arith, b) | inr last ↦ let b = stamp_is x last.1 in omega (arith, b) ];

@@ -14,8 +14,8 @@ use Rattle.world.proofs.Runs.{with_same}
 use Rattle.world.proofs.Sources.{go_on_same}
 use Rattle.world.proofs.run.Run.dump.Goals as goal
 
-pub returns-then-made-gt-MAX_ENTRIES_MADE-clause-step : goal.returns-then-made-gt-MAX_ENTRIES_MADE-clause-step
-returns-then-made-gt-MAX_ENTRIES_MADE-clause-step c = λ listed old rep.
+pub returns-then-self-gt-MAX_ENTRIES_MADE-clause-step : goal.returns-then-self-gt-MAX_ENTRIES_MADE-clause-step
+returns-then-self-gt-MAX_ENTRIES_MADE-clause-step c = λ listed old rep.
     let full : (keys : List Key) × AreKeys (log_at c.args.self.now.vnodes.items c.args.vnode) keys × (c.no_memory_for_all.result ≡ JournalFull ↔ (max_entries < length (log_at c.args.self.now.vnodes.items c.args.vnode).entries + length keys)) = subst (λ (l : Log). (keys : List Key) × AreKeys l keys × (c.no_memory_for_all.result ≡ JournalFull ↔ (max_entries < length l.entries + length keys))) (c.index.ensures ∙ get_or_default c.args.self.now.vnodes.items c.args.vnode c.index.result.now (record { vnode = 0; entries = [] }) c.requires.inside) c.no_memory_for_all.ensures.full in
     dump_was_refused listed c.args.self.now.vnodes.items old c.args.vnode full.0 c.no_memory_for_all.result rep c.requires.inside full.1 full.2 c.no_memory_for_all.ensures.why
 
@@ -29,5 +29,5 @@ returns-in-Err-clause-step c = λ listed old rep. with_same listed c.args.self.n
 pub returns-in-Ok-clause-kind : goal.returns-in-Ok-clause-kind
 returns-in-Ok-clause-kind c = copies_are c.args.self.now.vnodes.items c.dump_at.new.self.vnodes.items c.args.vnode c.args.self.now.made c.in-Ok.copies c.in-Ok.ensures.copied
 
-pub returns-then-made-gt-MAX_ENTRIES_MADE-clause-goes : goal.returns-then-made-gt-MAX_ENTRIES_MADE-clause-goes
-returns-then-made-gt-MAX_ENTRIES_MADE-clause-goes c = go_on_same c.args.self.now.vnodes.items
+pub returns-then-self-gt-MAX_ENTRIES_MADE-clause-goes : goal.returns-then-self-gt-MAX_ENTRIES_MADE-clause-goes
+returns-then-self-gt-MAX_ENTRIES_MADE-clause-goes c = go_on_same c.args.self.now.vnodes.items

@@ -17,8 +17,8 @@ returns-in-Ok-clause-stamps c = copies_stamped c.args.self.now.vnodes.items c.ar
 pub returns-in-Err-clause-full : goal.returns-in-Err-clause-full
 returns-in-Err-clause-full c = full_at c.args.self.now.vnodes.items c.args.at c.index_mut-vnode.result.now c.read_all.result c.in-Err.fault c.requires.inside c.index_mut-vnode.ensures.value c.in-Err.is c.read_all.ensures.full
 
-pub overflow_add-made : goal.overflow_add-made
-overflow_add-made c =
+pub overflow_add-self : goal.overflow_add-self
+overflow_add-self c =
     let places = c.in-Ok.ensures.places in
     let keys = length-map c.in-Ok.held.items (λ (one : Held). one.key) in
     let count = c.len.ensures in

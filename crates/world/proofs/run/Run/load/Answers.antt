@@ -16,8 +16,8 @@ use Rattle.world.proofs.run.Run.load.Goals as goal
 pub returns-in-Err-clause-step : goal.returns-in-Err-clause-step
 returns-in-Err-clause-step g c = λ listed old rep named remember new. load_refused_alike listed c.args.self.now.vnodes.items old c.args.turn.replies.now c.args.dump c.args.vnode c.args.incarnation c.in-Err.refusal rep remember c.in-Err.ensures.refused
 
-pub returns-then-made-gt-MAX_ENTRIES_MADE-clause-step : goal.returns-then-made-gt-MAX_ENTRIES_MADE-clause-step
-returns-then-made-gt-MAX_ENTRIES_MADE-clause-step g c = λ listed old rep named remember new. load_wants listed c.args.self.now.vnodes.items c.args.self.now.vnodes.items old c.args.turn.replies.now c.args.dump c.args.vnode c.args.incarnation c.in-Ok.copies.now NoMemory rep remember c.in-Ok.ensures.copied refl refl
+pub returns-then-self-gt-MAX_ENTRIES_MADE-clause-step : goal.returns-then-self-gt-MAX_ENTRIES_MADE-clause-step
+returns-then-self-gt-MAX_ENTRIES_MADE-clause-step g c = λ listed old rep named remember new. load_wants listed c.args.self.now.vnodes.items c.args.self.now.vnodes.items old c.args.turn.replies.now c.args.dump c.args.vnode c.args.incarnation c.in-Ok.copies.now NoMemory rep remember c.in-Ok.ensures.copied refl refl
 
 pub returns-in-Ok-load_at-clause-step : goal.returns-in-Ok-load_at-clause-step
 returns-in-Ok-load_at-clause-step g c = λ listed old rep named remember new.
@@ -35,8 +35,8 @@ returns-in-Ok-load_at-clause-more g c = loads_more c.in-Ok-load_at.ensures.loade
 pub returns-in-Err-clause-goes : goal.returns-in-Err-clause-goes
 returns-in-Err-clause-goes g c = go_on_same c.args.self.now.vnodes.items
 
-pub returns-then-made-gt-MAX_ENTRIES_MADE-clause-goes : goal.returns-then-made-gt-MAX_ENTRIES_MADE-clause-goes
-returns-then-made-gt-MAX_ENTRIES_MADE-clause-goes g c = go_on_same c.args.self.now.vnodes.items
+pub returns-then-self-gt-MAX_ENTRIES_MADE-clause-goes : goal.returns-then-self-gt-MAX_ENTRIES_MADE-clause-goes
+returns-then-self-gt-MAX_ENTRIES_MADE-clause-goes g c = go_on_same c.args.self.now.vnodes.items
 
 pub returns-in-Ok-load_at-clause-goes : goal.returns-in-Ok-load_at-clause-goes
 returns-in-Ok-load_at-clause-goes g c =
