@@ -1,6 +1,7 @@
 //! A vnode answers a request.
 
-ghost use Rattle.std.specs.Prelude.{◌≡◌, ◌≢◌, ◌<◌, ◌^◌, OnOk, Err, length};
+ghost use Rattle.std.specs.Prelude.{◌≡◌, ◌≢◌, ◌<◌, OnOk, Err, length};
+ghost use Rattle.journal.specs.Logs.{max_entries};
 ghost use Rattle.vnode.specs.declared.fault.PartFault.{PartFault};
 ghost use Rattle.vnode.specs.declared.fault.VnodeFault.{VnodeFault};
 ghost use Rattle.cluster_stamps.specs.Answered.{IsOutcome, Refuses, with_made, asked};
@@ -15,7 +16,7 @@ use vnode::{PartFault, Vnode};
 pub fn answer(vnode: &mut Vnode, stamp: u64, prepared: Prepared<'_>) -> Result<Reply, PartFault>
     ensures outcome { IsOutcome vnode.old stamp (asked prepared.entry) result }
     ensures log { vnode.new ≡ with_made vnode.old stamp (asked prepared.entry) result }
-    ensures room { OnOk result (length vnode.old.entries < 2 ^ 32) }
+    ensures room { OnOk result (length vnode.old.entries < max_entries) }
 
     // No memory is asked for before a limit was looked at.
     ensures exact { (fault : PartFault) → fault ≢ PartFault.Refused VnodeFault.NoMemory → Refuses vnode.old (asked prepared.entry) fault → result ≡ Err fault }

@@ -1,11 +1,12 @@
 //! A vnode under a lock, beside what its seat of the stamp word knows.
 
-ghost use Rattle.std.specs.Prelude.{◌≡◌, ◌+◌, ◌*◌, ◌<◌, ◌≤◌, ◌^◌, [], ◌∷◌, ◌++◌, length, IfOk, IfErr, IfSome, IfNone, OnOk, Err, false, vec_len};
+ghost use Rattle.std.specs.Prelude.{◌≡◌, ◌+◌, ◌*◌, ◌<◌, ◌≤◌, [], ◌∷◌, ◌++◌, length, IfOk, IfErr, IfSome, IfNone, OnOk, Err, false, vec_len};
 ghost use Rattle.cluster_stamps.specs.Rule.{together, nothing, without_pass, pass_of, stamps_each, IsWithin, call_of, hand_out_of};
 ghost use Rattle.std.specs.Prelude.{List};
 ghost use Rattle.journal.specs.Blocks.{AreHandedOut, all_of};
 ghost use Rattle.journal.specs.Entry.{Entry as Entered};
 ghost use Rattle.journal.specs.Journals.{IsJournal};
+ghost use Rattle.journal.specs.Logs.{max_entries};
 ghost use Rattle.vnode.specs.Keys.{AreUnsorted};
 ghost use Rattle.ring.specs.Places.{ring_place};
 ghost use Rattle.cluster_stamps.specs.Answered.{asked};
@@ -86,7 +87,7 @@ fn ask<Q: Asking>(
     ensures id { vnode.new.vnode ≡ vnode.old.vnode }
     ensures pass { pass.new.me ≡ (pass_view (pass.old.me.0.drawn + 1) (told_then pass.old.me.0.told (call_of vnode.old.vnode result.at result.stamp Q.request result.outcome)), pass.old.me.1) }
     ensures call { lacks_memory result.outcome ≡ false → IsTold (call_of vnode.old.vnode result.at result.stamp Q.request result.outcome) pass.old.me.0.told }
-    ensures short { OnOk result.outcome (result.at < 2 ^ 32) }
+    ensures short { OnOk result.outcome (result.at < max_entries) }
 {
     lend(stamps, card, pass);
     let stamp = stamps.draw(card);

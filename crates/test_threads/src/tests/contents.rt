@@ -37,7 +37,7 @@ fn replaced(
 }
 
 /// Copies of so many first entries of a vnode.
-fn entries_of(alloc: Global, vnode: &Vnode, count: u32) -> Result<Vec<Entry>, Fail> {
+fn entries_of(alloc: Global, vnode: &Vnode, count: u64) -> Result<Vec<Entry>, Fail> {
     let mut entries = Vec::new(alloc);
     for place in 0..count {
         if let Some(entry) = vnode.journal().get(place) {

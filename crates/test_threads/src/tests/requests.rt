@@ -62,7 +62,7 @@ enum Ask {
 }
 
 /// What a call comes to, and vnode, place and stamp of its receipt.
-type Answer = Result<(Came, (u32, u32, u64)), CallFault>;
+type Answer = Result<(Came, (u32, u64, u64)), CallFault>;
 
 /// A call: the index of the vnode, the key's name, what is asked, and what it is to come to.
 type Row = (usize, u8, Ask, Answer);

@@ -27,7 +27,7 @@ fn entries_before<B: Room, R: Wait>(
     rt: &R,
     cluster: &Cluster<B>,
     pass: &mut Pass<B>,
-) -> Option<u32> {
+) -> Option<u64> {
     if cluster.count() != 1 {
         return None;
     }
