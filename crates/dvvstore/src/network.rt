@@ -220,8 +220,8 @@ fn finish<F: Folder, O: Write>(
     ensures why { IfErr result (λ why. why ≡ Unserved.Unreadable) }
 {
     let Served { closed, requests } = served;
-    let Closed { mut vnodes, said } = closed;
-    match keep_all(alloc, folder, &mut vnodes, requests.bytes()) {
+    let Closed { vnodes, said } = closed;
+    match keep_all(alloc, folder, &vnodes, requests.bytes()) {
         Ok(kept) => {
             writeln!(out, "kept {kept}")?;
             Ok(Ended::Kept(said))
