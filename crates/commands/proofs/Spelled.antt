@@ -18,16 +18,16 @@ records_append from at (c ∷ held) one =
 
 -- ---- written
 
-pub copy_spelled : (from first i at place : ℕ) (items held : List Copied) (one : Copied) (bytes more new : List ℕ) → items ≡ held → i < length items → one ≡ get_or items i one → AreSpelledBy (records_from from first (take i held)) bytes
-    → place ≡ first + i → at ≡ place → IsRecord (record_of from at one) → more ≡ spelling (record_of from at one) → new ≡ bytes ++ more → AreSpelledBy (records_from from first (take (i + 1) held)) new
-copy_spelled from first i at place items held one bytes more new same in_items at_items so_far here there is_record spelled longer =
+pub copy_spelled : (from first i at : ℕ) (items held : List Copied) (one : Copied) (bytes more new : List ℕ) → items ≡ held → i < length items → one ≡ get_or items i one → AreSpelledBy (records_from from first (take i held)) bytes
+    → at ≡ first + i → IsRecord (record_of from at one) → more ≡ spelling (record_of from at one) → new ≡ bytes ++ more → AreSpelledBy (records_from from first (take (i + 1) held)) new
+copy_spelled from first i at items held one bytes more new same in_items at_items so_far here is_record spelled longer =
     let lt : i < length held = subst (λ (cs : List Copied). i < length cs) same in_items in
     let is : one ≡ get_or held i one = subst (λ (cs : List Copied). one ≡ get_or cs i one) same at_items in
     let held_more : take (i + 1) held ≡ take i held ++ one ∷ [] = take_more held i one lt ∙ ap (λ (c : Copied). take i held ++ c ∷ []) (sym is) in
     let count : length (take i held) ≡ i = length-take-le i held (omega (arith, lt)) in
     let all : records_from from first (take (i + 1) held) ≡ records_from from first (take i held) ++ record_of from at one ∷ [] =
     ap (λ (cs : List Copied). records_from from first cs) held_more ∙ records_append from first (take i held) one
-    ∙ ap (λ (n : ℕ). records_from from first (take i held) ++ record_of from n one ∷ []) (omega (arith, count, here, there)) in
+    ∙ ap (λ (n : ℕ). records_from from first (take i held) ++ record_of from n one ∷ []) (omega (arith, count, here)) in
     subst (λ (rs : List Record). AreSpelledBy rs new) (sym all) (record {
       each = all_append (records_from from first (take i held)) (record_of from at one ∷ []) so_far.each (is_record, tt);
       bytes_are = longer ∙ ap (λ (bs : List ℕ). bs ++ more) so_far.bytes_are ∙ ap (λ (bs : List ℕ). flat_map spelling (records_from from first (take i held)) ++ bs) spelled

@@ -19,13 +19,13 @@ pub fn spelled(alloc: Global, copies: &Copies) -> Result<Vec<u8>, Unspelled>
     ensures { IfOk result (λ bytes. AreSpelledBy (records_of copies.now) bytes.items) }
 {
     let mut bytes = Vec::new(alloc);
-    let mut place = copies.first as u64;
+    let mut place = Some(copies.first as u64);
     for copy in &copies.held {
-        let Ok(at) = u32::try_from(place) else {
+        let Some(at) = place else {
             return Err(Unspelled::PastLimit);
         };
         bytes.extend_from_slice(&record_of(alloc, copies.from, at, copy)?)?;
-        place = at as u64 + 1;
+        place = at.checked_add(1);
     }
     Ok(bytes)
 }

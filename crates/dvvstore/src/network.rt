@@ -226,9 +226,9 @@ fn finish<F: Folder, O: Write>(
     ensures why { IfErr result (λ why. why ≡ Unserved.Unreadable) }
 {
     let Served { closed, requests } = served;
-    let Closed { mut vnodes, said } = closed;
+    let Closed { vnodes, said } = closed;
     let came = match keep_number(alloc, folder, number) {
-        Ok(()) => keep_all(alloc, folder, &mut vnodes, requests.bytes()),
+        Ok(()) => keep_all(alloc, folder, &vnodes, requests.bytes()),
         Err(why) => Err(why),
     };
     match came {

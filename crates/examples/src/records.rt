@@ -91,7 +91,7 @@ fn tell_content(content: &Content, told: &mut Vec<u8>) -> io::Result<()> {
 fn tell_spelling(alloc: Global, found: &Record, bytes: &[u8], told: &mut Vec<u8>) -> io::Result<()>
     requires { IsRecord found.now }
 {
-    let spelling: &[u8] = if !has_record(&found.key, &found.state) {
+    let spelling: &[u8] = if !has_record(&found.key, found.at, &found.state) {
         b"|has no record"
     } else if is_spelling_of(alloc, found, bytes)? {
         b"|written again"

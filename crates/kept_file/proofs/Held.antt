@@ -1,8 +1,8 @@
 -- Records of copies, one more each time.
-use Rattle.std.proofs.Common.{◌≡◌, ℕ, suc, ◌+◌, ◌<◌, List, [], ◌∷◌, ◌++◌, length, take, get_or, refl, sym, ap, subst, ◌∙◌, arith, Option}
+use Rattle.std.proofs.Common.{◌≡◌, ℕ, ◌+◌, ◌<◌, List, [], ◌∷◌, ◌++◌, length, take, get_or, sym, ap, subst, ◌∙◌, Option}
 use Rattle.std.specs.Io.KnownBytes.{Appends}
 use Rattle.std.proofs.lemmas.Grind.{take_at_read}
-use Rattle.std.proofs.lemmas.List.{length-take-le}
+use Rattle.std.proofs.lemmas.List.{length-map, map-append}
 use Rattle.vnode.specs.declared.steps.Copied.{Copied}
 use Rattle.record_codec.specs.declared.record.Record.{Record}
 use Rattle.kept_file.specs.Files.{IsFileOf, end_of}
@@ -21,26 +21,19 @@ pub writing_none : (from at : ℕ) (held : List Copied) (known : Option (List �
 writing_none from at [] known = record { bytes = []; spelled = none_spelled; written = appends_none known }
 writing_none from at (c ∷ held) known = record { bytes = []; spelled = none_spelled; written = appends_none known }
 
-held_end : (from at : ℕ) (held : List Copied) (c : Copied) → records_held from at (held ++ c ∷ []) ≡ records_held from at held ++ record_of c.key from (at + length held) c.state ∷ []
-held_end from at [] c = ap (λ (n : ℕ). record_of c.key from n c.state ∷ []) (omega (arith))
-held_end from at (x ∷ held) c = ap (λ (rs : List Record). record_of x.key from at x.state ∷ rs)
-    (held_end from (at + 1) held c ∙ ap (λ (n : ℕ). records_held from (at + 1) held ++ record_of c.key from n c.state ∷ []) (omega (arith)))
-
-pub writing_more : (from at : ℕ) (held : List Copied) (count place : ℕ) (c : Copied) (before mid after : Option (List ℕ)) → count < length held → c ≡ get_or held count c → place ≡ at + count → AreWriting from at held count before mid
-    → (bytes : List ℕ) × AreSpelledBy (record_of c.key from place c.state ∷ []) bytes × Appends mid after bytes → AreWriting from at held (count + 1) before after
-writing_more from at held count place c before mid after lt is place_is so (bytes, spelled, written) =
+pub writing_more : (from at : ℕ) (held : List Copied) (count : ℕ) (c : Copied) (before mid after : Option (List ℕ)) → count < length held → c ≡ get_or held count c → AreWriting from at held count before mid
+    → (bytes : List ℕ) × AreSpelledBy (record_of c.key from at c.state ∷ []) bytes × Appends mid after bytes → AreWriting from at held (count + 1) before after
+writing_more from at held count c before mid after lt is so (bytes, spelled, written) =
     let front : take (count + 1) held ≡ take count held ++ c ∷ [] = (take_at_read held count c lt).1 ∙ ap (λ (x : Copied). take count held ++ x ∷ []) (sym is) in
-    let len : length (take count held) ≡ count = length-take-le count held (omega (arith, lt)) in
-    let ends = held_end from at (take count held) c ∙ ap (λ (n : ℕ). records_held from at (take count held) ++ record_of c.key from n c.state ∷ []) (ap (λ (n : ℕ). at + n) len ∙ sym place_is) in
+    let ends : records_held from at (take count held ++ c ∷ []) ≡ records_held from at (take count held) ++ record_of c.key from at c.state ∷ [] = map-append (λ (c : Copied). record_of c.key from at c.state) (take count held) (c ∷ []) in
     record {
       bytes = so.bytes ++ bytes;
-      spelled = subst (λ (rs : List Record). AreSpelledBy rs (so.bytes ++ bytes)) (sym (ap (records_held from at) front ∙ ends)) (both_spelled (records_held from at (take count held)) (record_of c.key from place c.state ∷ []) so.bytes bytes so.spelled spelled);
+      spelled = subst (λ (rs : List Record). AreSpelledBy rs (so.bytes ++ bytes)) (sym (ap (records_held from at) front ∙ ends)) (both_spelled (records_held from at (take count held)) (record_of c.key from at c.state ∷ []) so.bytes bytes so.spelled spelled);
       written = appends_then before mid after so.bytes bytes so.written written;
     }
 
 count_held : (from at : ℕ) (held : List Copied) → length (records_held from at held) ≡ length held
-count_held from at [] = refl
-count_held from at (c ∷ held) = ap suc (count_held from (at + 1) held)
+count_held from at held = length-map held (λ (c : Copied). record_of c.key from at c.state)
 
 -- the record of each copy, and the record that ends the file
 pub whole_file : (id from first at n : ℕ) (slice held : List Copied) (before between after : Option (List ℕ)) → id ≡ from → first ≡ at → slice ≡ held → n ≡ length held

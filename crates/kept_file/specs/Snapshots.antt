@@ -1,5 +1,5 @@
 -- The calls by which a vnode's records are taken while it serves, and the records.
-use Rattle.std.specs.Prelude.{◌≡◌, ℕ, ◌+◌, List, [], ◌∷◌, Ok}
+use Rattle.std.specs.Prelude.{◌≡◌, ℕ, List, [], ◌∷◌, map, Ok}
 use Rattle.std.specs.Global.{Vec}
 use Rattle.key_state.specs.declared.content.Key.{Key}
 use Rattle.record_codec.specs.declared.record.Record.{Record}
@@ -7,6 +7,8 @@ use Rattle.peers.specs.declared.peers.Answer.{Answer}
 use Rattle.peers.specs.Calls.{Call, PutAt, MergeAt, StateOf, SummaryAt, MergePartAt, KeysOf}
 use Rattle.vnode.specs.declared.steps.Copied.{Copied}
 use Rattle.record_codec.specs.Lists.{record_of}
+use Rattle.kept_file.specs.declared.snapshot.SnapshotFault.{SnapshotFault}
+use Rattle.kept_file.specs.declared.snapshot.SnapshotFault.TheVariants as fault
 
 -- a read of each key at a vnode, in order, and what each answered
 abbrev pub reads_at : ℕ → List Key → List Answer → List Call
@@ -37,7 +39,14 @@ records_read (key ∷ keys) (answer ∷ answers) = record_read key answer ∷ re
 abbrev pub snapshot_calls : ℕ → Vec Key → List Answer → List Call
 snapshot_calls i keys answers = KeysOf i (Ok keys) ∷ reads_at i keys.items answers
 
--- the record of each copy of a vnode, the first of which was read at a place of its journal
+-- the record of each copy of a vnode, all of which were made at one place of its journal
 abbrev pub records_held : ℕ → ℕ → List Copied → List Record
-records_held from at [] = []
-records_held from at (c ∷ held) = record_of c.key from at c.state ∷ records_held from (at + 1) held
+records_held from at held = map (λ (c : Copied). record_of c.key from at c.state) held
+
+-- why a record isn't written: for its limits, for memory or for the device
+abbrev pub IsOfWriting : SnapshotFault → Type 0
+IsOfWriting (fault.Unread why) = ⊥
+IsOfWriting fault.PastLimit = Unit {0}
+IsOfWriting fault.NoMemory = Unit {0}
+IsOfWriting fault.Unwritten = Unit {0}
+IsOfWriting fault.GivenUp = ⊥

@@ -1,6 +1,6 @@
 //! The records of a vnode that serves.
 
-ghost use Rattle.std.specs.Prelude.{◌≡◌, ℕ, ◌^◌, ◌<◌, List, ◌∷◌, [], Ok, length, OnOk, IfOk};
+ghost use Rattle.std.specs.Prelude.{◌≡◌, ℕ, ◌^◌, ◌<◌, List, ◌∷◌, [], Ok, length, OnOk, IfErr, IfOk};
 ghost use Rattle.std.specs.Global.{Vec as List_};
 ghost use Rattle.std.specs.Io.KnownBytes.{Appends};
 ghost use Rattle.std.specs.List.{AllByRecursion};
@@ -9,7 +9,7 @@ ghost use Rattle.peers.specs.declared.peers.Answer.{Answer as OneAnswer};
 ghost use Rattle.peers.specs.Calls.{Call, Made, StateOf};
 ghost use Rattle.record_codec.specs.Lists.{AreSpelledBy, record_of};
 ghost use Rattle.kept_file.specs.Files.{IsFileOf, end_of};
-ghost use Rattle.kept_file.specs.Snapshots.{IsReadAt, record_read, records_read, reads_at, snapshot_calls};
+ghost use Rattle.kept_file.specs.Snapshots.{IsOfWriting, IsReadAt, record_read, records_read, reads_at, snapshot_calls};
 
 use crate::file::END;
 use key_state::{Key, KeyState};
@@ -25,7 +25,7 @@ pub enum SnapshotFault {
     /// A call on the vnode was lost or refused.
     #[error("{0}")]
     Unread(PeerFault),
-    /// A key, a content, a place or a body is past its limit.
+    /// A key, a content or a body is past its limit.
     #[error("past a limit")]
     PastLimit,
     /// Memory ran out.
@@ -43,10 +43,12 @@ pub enum SnapshotFault {
 pub trait Pace {
     /// Whether it goes on. It may be made to wait first. It is told at which place of the vnode's journal the key before was read: where
     /// that isn't the place after the one that it was told before, somebody else called the vnode meanwhile.
-    fn goes_on(&mut self, last: Option<u32>) -> bool;
+    fn goes_on(&mut self, last: Option<u64>) -> bool;
 }
 
 impl From<Unspelled> for SnapshotFault {
+    ghost from_gives = { λ _ fault. IsOfWriting fault };
+
     fn from(why: Unspelled) -> SnapshotFault {
         match why {
             Unspelled::PastLimit => SnapshotFault::PastLimit,
@@ -56,6 +58,8 @@ impl From<Unspelled> for SnapshotFault {
 }
 
 impl From<AllocError> for SnapshotFault {
+    ghost from_gives = { λ _ fault. IsOfWriting fault };
+
     fn from(_: AllocError) -> SnapshotFault {
         SnapshotFault::NoMemory
     }
@@ -125,7 +129,7 @@ fn write_key<P: Peers, W: Write>(
     index: usize,
     key: &Key,
     out: &mut W,
-) -> Result<u32, SnapshotFault>
+) -> Result<u64, SnapshotFault>
     ensures asked { (calls : List Call) × AllByRecursion (IsReadAt index) calls × Made P.happens peers.old calls peers.new }
     ensures read { OnOk result ((answer : OneAnswer) × (bytes : List ℕ) × P.happens peers.old (StateOf index key.now (Ok answer)) peers.new
         × AreSpelledBy (record_read key.now answer ∷ []) bytes × Appends (W.contents out.old) (W.contents out.new) bytes) }
@@ -145,13 +149,12 @@ pub(crate) fn write_end<W: Write>(
     count: usize,
     out: &mut W,
 ) -> Result<(), SnapshotFault>
-    ensures { OnOk result ((bytes : List ℕ) × AreSpelledBy (end_of id count ∷ []) bytes × Appends (W.contents out.old) (W.contents out.new) bytes) }
+    ensures written { OnOk result ((bytes : List ℕ) × AreSpelledBy (end_of id count ∷ []) bytes × Appends (W.contents out.old) (W.contents out.new) bytes) }
+    ensures why { IfErr result IsOfWriting }
 {
-    let Ok(at) = u32::try_from(count) else {
-        return Err(SnapshotFault::PastLimit);
-    };
     let key = Key::new(alloc, END, END)?;
-    write_record(alloc, &key, id, at, &KeyState::new(alloc), out)
+    let nothing = KeyState::new(alloc);
+    write_record(alloc, &key, id, count as u64, &nothing, out)
 }
 
 /// Writes the record of a key's state.
@@ -163,7 +166,8 @@ pub(crate) fn write_record<W: Write>(
     state: &KeyState,
     out: &mut W,
 ) -> Result<(), SnapshotFault>
-    ensures { OnOk result ((bytes : List ℕ) × AreSpelledBy (record_of key.now from at state.now ∷ []) bytes × Appends (W.contents out.old) (W.contents out.new) bytes) }
+    ensures written { OnOk result ((bytes : List ℕ) × AreSpelledBy (record_of key.now from at state.now ∷ []) bytes × Appends (W.contents out.old) (W.contents out.new) bytes) }
+    ensures why { IfErr result IsOfWriting }
 {
     let bytes = record_bytes(alloc, key, from, at, state)?;
     match out.write_all(&bytes) {

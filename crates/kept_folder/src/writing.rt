@@ -143,10 +143,10 @@ pub struct Unreplaced {
 pub fn keep_all<F: Folder>(
     alloc: Global,
     folder: &mut F,
-    vnodes: &mut [Vnode],
+    vnodes: &[Vnode],
     requests: Option<&[u8]>,
 ) -> Result<usize, Unreplaced>
-    ensures put { IfOk result (λ count. (files : List Put) × AreFilesOf 0 vnodes.old files
+    ensures put { IfOk result (λ count. (files : List Put) × AreFilesOf 0 vnodes.now files
         × MatchOption requests.entry ⊥ (λ held. ArePut F.does folder.old (files ++ record { name = codes "hooks.requests"; bytes = sealed held.now } ∷ []) folder.new)) }
 {
     let kept = keep_vnodes(alloc, folder, vnodes);
@@ -160,13 +160,13 @@ pub fn keep_all<F: Folder>(
 fn keep_vnodes<F: Folder>(
     alloc: Global,
     folder: &mut F,
-    vnodes: &mut [Vnode],
+    vnodes: &[Vnode],
 ) -> Result<usize, Unreplaced>
-    ensures put { IfOk result (λ count. (files : List Put) × AreFilesOf 0 vnodes.old files × ArePut F.does folder.old files folder.new) }
+    ensures put { IfOk result (λ count. (files : List Put) × AreFilesOf 0 vnodes.now files × ArePut F.does folder.old files folder.new) }
 {
     let mut all = Ok(0usize);
-    for index in 0..vnodes.len() {
-        let came = keep_whole(alloc, folder, &mut vnodes[index], index);
+    for (index, vnode) in vnodes.iter().enumerate() {
+        let came = keep_whole(alloc, folder, vnode, index);
         all = with_one_more(all, came, index);
     }
     all
@@ -193,10 +193,10 @@ fn with_one_more(
 fn keep_whole<F: Folder>(
     alloc: Global,
     folder: &mut F,
-    vnode: &mut Vnode,
+    vnode: &Vnode,
     index: usize,
 ) -> Result<usize, WriteFault>
-    ensures put { IfOk result (λ count. (bytes : List ℕ) × IsFileOfAll vnode.old count bytes × IsPut F.does folder.old (name_of index) bytes folder.new) }
+    ensures put { IfOk result (λ count. (bytes : List ℕ) × IsFileOfAll vnode.now count bytes × IsPut F.does folder.old (name_of index) bytes folder.new) }
 {
     let name = name_of(index);
     let beside = format!(in alloc; "{name}.part")?;
@@ -208,12 +208,12 @@ fn keep_whole<F: Folder>(
 fn put_whole<F: Folder>(
     alloc: Global,
     folder: &mut F,
-    vnode: &mut Vnode,
+    vnode: &Vnode,
     beside: &str,
     name: &str,
 ) -> Result<usize, WriteFault>
     requires { beside.now ≡ part_name name.now }
-    ensures put { IfOk result (λ count. (bytes : List ℕ) × IsFileOfAll vnode.old count bytes × IsPut F.does folder.old name.now bytes folder.new) }
+    ensures put { IfOk result (λ count. (bytes : List ℕ) × IsFileOfAll vnode.now count bytes × IsPut F.does folder.old name.now bytes folder.new) }
 {
     let mut out = begin(alloc, folder, beside)?;
     let count = write_whole(alloc, vnode, &mut out)?;

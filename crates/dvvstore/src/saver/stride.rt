@@ -34,7 +34,7 @@ pub(crate) struct Stride<'a, R> {
     /// How many keys it may still read.
     left: u32,
     /// Where the last key was read.
-    last: Option<u32>,
+    last: Option<u64>,
     /// Whether somebody else called the vnode in the spell.
     is_shared: bool,
 }
@@ -54,7 +54,7 @@ impl<'a, R: Wait> Stride<'a, R> {
     }
 
     /// Another key was read, at a place of the vnode's journal.
-    fn note(&mut self, place: u32) {
+    fn note(&mut self, place: u64) {
         self.left = self.left.saturating_sub(1);
         self.is_shared = self.is_shared
             || self.last.map(|last| last.wrapping_add(1)) != Some(place);
@@ -122,7 +122,7 @@ impl<'a, R: Wait> Stride<'a, R> {
 }
 
 impl<R: Wait> Pace for Stride<'_, R> {
-    fn goes_on(&mut self, last: Option<u32>) -> bool {
+    fn goes_on(&mut self, last: Option<u64>) -> bool {
         if let Some(place) = last {
             self.note(place);
         }

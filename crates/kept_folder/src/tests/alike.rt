@@ -51,7 +51,7 @@ fn written_and_read<R: Threads + Sync>(rt: &R, alloc: Global) -> Result<Held, Fa
     for (id, written) in WRITTEN.iter().enumerate() {
         vnodes.push(vnode_of(alloc, id as u32, *written)?)?;
     }
-    keep_all(alloc, &mut folder, &mut vnodes, Some(b""))?;
+    keep_all(alloc, &mut folder, &vnodes, Some(b""))?;
     Ok(open(alloc, rt, &mut folder)?.held)
 }
 

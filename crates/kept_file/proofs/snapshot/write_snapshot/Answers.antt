@@ -20,5 +20,5 @@ returns g c = record {
   asked = asked_then g.P.Peers.happens c.args.peers.now c.keys_of.new.self c.write_keys.new.peers c.args.subject.index
       (asked_one g.P.Peers.happens c.args.peers.now c.keys_of.new.self c.args.subject.index (KeysOf c.args.subject.index c.keys_of.result) refl c.keys_of.ensures) c.write_keys.ensures.asked;
   calls = whole_snapshot g.P.Peers.happens c.args.peers.now c.keys_of.new.self c.write_keys.new.peers c.args.subject.index c.args.subject.id c.in-Ok.keys _ _ c.len-2.result (g.W.Write.contents c.args.out.now) (g.W.Write.contents c.write_keys.new.out) (g.W.Write.contents c.write_end.new.out)
-      (subst (λ b. g.P.Peers.happens c.args.peers.now (KeysOf c.args.subject.index b) c.keys_of.new.self) c.in-Ok.is c.keys_of.ensures) (search rules) c.in_ok-write_keys.ensures.read (search rules) c.in_ok-write_end.ensures (search rules);
+      (subst (λ b. g.P.Peers.happens c.args.peers.now (KeysOf c.args.subject.index b) c.keys_of.new.self) c.in-Ok.is c.keys_of.ensures) (search rules) c.in_ok-write_keys.ensures.read (search rules) c.in_ok-write_end.ensures.written (search rules);
 }
