@@ -1,6 +1,6 @@
 //! Whether each merge has its state from an earlier read: the entries of journals happen again, in the order of their stamps.
 
-ghost use Rattle.std.specs.Prelude.{[], ◌≡◌, ◌≤◌, ◌+◌, IfOk, IfErr, OnOk, None, length, slice_set};
+ghost use Rattle.std.specs.Prelude.{[], ◌≡◌, ◌<◌, ◌≤◌, ◌+◌, IfOk, IfErr, OnOk, None, length, slice_set};
 ghost use Rattle.journal.specs.Logs.{max_entries};
 ghost use Rattle.world.specs.Represents.{AreDistinct, empty_logs};
 ghost use Rattle.audit_faults.specs.Codes.{IsOneOf, IsOfSource};

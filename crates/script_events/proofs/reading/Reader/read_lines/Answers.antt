@@ -1,4 +1,4 @@
-use Rattle.script_events.proofs.Reading.{begins, goes_on, ends, of_none}
+use Rattle.script_events.proofs.ReadLines.{begins, goes_on, ends, of_none}
 use Rattle.script_events.proofs.reading.Reader.read_lines.Goals as goal
 
 pub loop-line-init : goal.loop-line-init

@@ -1,5 +1,5 @@
 use Rattle.std.proofs.Common.{length}
-use Rattle.script_events.proofs.Reading.{IsReadSoFar}
+use Rattle.script_events.proofs.ReadLines.{IsReadSoFar}
 use Rattle.script_events.proofs.reading.Reader.read_lines.Given as goal
 
 -- the lines before those that are left were read
