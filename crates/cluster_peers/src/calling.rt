@@ -75,7 +75,7 @@ impl<'a, B: Room, R: Wait> ClusterPeers<'a, B, R> {
 
     /// The pass, as the calls have left it.
     pub fn into_pass(self) -> Pass<B>
-        ensures { result ≡ self.pass }
+        ensures { result ≡ self.entry.pass }
     {
         self.pass
     }
