@@ -227,7 +227,7 @@ fn ask<'a, I: Images>(
     images: &I,
     wanted: Wanted<'a>,
 ) -> Result<Hook, NoHook>
-    ensures { IfOk result (λ hook. (hook.kind ≡ wanted.kind) × AgreesWith (I.listed images.now) hook.sigs) }
+    ensures { IfOk result (λ hook. (hook.kind ≡ wanted.entry.kind) × AgreesWith (I.listed images.now) hook.sigs) }
 {
     let Wanted { file, kind } = wanted;
     match images.hook(alloc, file, kind) {

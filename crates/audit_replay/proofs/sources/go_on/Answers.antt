@@ -1,4 +1,4 @@
-use Rattle.std.proofs.Common.{◌≡◌, List, [], set, sym, subst, ℕ, ◌+◌, Some}
+use Rattle.std.proofs.Common.{◌≡◌, List, set, sym, subst, ℕ, ◌+◌, Some}
 use Rattle.std.specs.Prelude.{slice_get}
 use Rattle.world.specs.Represents.{log_at}
 use Rattle.journal.specs.Logs.{Log}
