@@ -142,17 +142,24 @@ pub fn keep_number<F: Folder>(alloc: Global, folder: &mut F, number: u16) -> Res
     ensures there { OnOk result ((found : Option (List ℕ)) × F.finds folder.old (codes "incarnation") found
         × MatchOption found (IsPut F.does folder.old (codes "incarnation") (sealed (decimal number ++ 10 ∷ [])) folder.new) (λ _. folder.new ≡ folder.old)) }
 {
-    let came = match folder.read(alloc, INCARNATION) {
-        Ok(Some(_)) => Ok(()),
-        Ok(None) => take(alloc, folder, number),
-        Err(fault) => Err(WriteFault::File(fault)),
-    };
-    match came {
+    match take_again(alloc, folder, number) {
         Ok(()) => Ok(()),
         Err(fault) => Err(Unreplaced {
             name: INCARNATION,
             fault,
         }),
+    }
+}
+
+/// Writes the number of a start where it is lacking.
+fn take_again<F: Folder>(alloc: Global, folder: &mut F, number: u16) -> Result<(), WriteFault>
+    ensures there { OnOk result ((found : Option (List ℕ)) × F.finds folder.old (codes "incarnation") found
+        × MatchOption found (IsPut F.does folder.old (codes "incarnation") (sealed (decimal number ++ 10 ∷ [])) folder.new) (λ _. folder.new ≡ folder.old)) }
+{
+    match folder.read(alloc, INCARNATION) {
+        Ok(Some(_)) => Ok(()),
+        Ok(None) => take(alloc, folder, number),
+        Err(fault) => Err(WriteFault::File(fault)),
     }
 }
 

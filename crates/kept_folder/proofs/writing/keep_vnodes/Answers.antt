@@ -1,6 +1,3 @@
-use Rattle.std.proofs.Common.{subst, sym}
-use Rattle.journal.specs.Logs.{Log}
-use Rattle.kept_folder.specs.Steps.{IsFileOfAll}
 use Rattle.kept_folder.proofs.Storing.{both_came, one_file_more}
 use Rattle.kept_folder.proofs.writing.keep_vnodes.Goals as goal
 

@@ -1,4 +1,4 @@
-use Rattle.std.proofs.Common.{ℕ, List, take, IfOk}
+use Rattle.std.proofs.Common.{List, take, IfOk}
 use Rattle.kept_folder.specs.Steps.{AreFilesOf, ArePut, Put}
 use Rattle.kept_folder.proofs.writing.keep_vnodes.Given as goal
 
