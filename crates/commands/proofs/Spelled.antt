@@ -1,8 +1,8 @@
 -- Records of dumps, one after another.
-use Rattle.std.proofs.Common.{◌≡◌, ℕ, ◌+◌, ◌-◌, ◌<◌, List, [], ◌∷◌, ◌++◌, length, get_or, take, drop, arith, sym, ap, subst, ◌∙◌, append_assoc}
-use Rattle.std.specs.List.{AllByRecursion, flat_map}
-use Rattle.std.proofs.lemmas.List.{append-nil, length-drop, length-take-le, take-append-drop, take_all, take_more}
-use Rattle.std.proofs.lemmas.Grind.{flat_map-append}
+use Rattle.std.proofs.Common.{◌≡◌, ℕ, ◌+◌, ◌^◌, ◌<◌, Option, None, Some, IfSome, List, [], ◌∷◌, ◌++◌, length, get_or, take, arith, sym, ap, subst, ◌∙◌}
+use Rattle.std.specs.List.{flat_map}
+use Rattle.std.specs.Option.{SomeIff}
+use Rattle.std.proofs.lemmas.List.{length-take-le, take_more}
 use Rattle.vnode.specs.declared.steps.Copied.{Copied}
 use Rattle.record_codec.specs.declared.record.Record.{Record}
 use Rattle.record_codec.specs.Records.{IsRecord, spelling}
@@ -33,3 +33,8 @@ copy_spelled from first i at items held one bytes more new same in_items at_item
       bytes_are = longer ∙ ap (λ (bs : List ℕ). bs ++ more) so_far.bytes_are ∙ ap (λ (bs : List ℕ). flat_map spelling (records_from from first (take i held)) ++ bs) spelled
           ∙ sym (spelled_append (records_from from first (take i held)) (record_of from at one));
     })
+
+-- the place of the next copy, where there is one
+pub next_place : (next : Option ℕ) (first i at : ℕ) → at ≡ first + i → SomeIff next (at + 1 < 2 ^ 64) (at + 1) → IfSome next (λ place. place ≡ first + (i + 1))
+next_place None first i at here is = tt
+next_place (Some place) first i at here is = omega (arith, here, is.1)
