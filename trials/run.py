@@ -58,6 +58,7 @@ NAMES = (
     "docs",
     "fresh",
     "corpus",
+    "library",
     "wrong_bodies",
 )
 
