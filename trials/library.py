@@ -3,7 +3,8 @@
 Each hook has a model in Python here, which was written from the head of its source. It is run on layouts as a store makes them: of 1 to
 64 siblings or a new content beside some, of values that the hook is for, of values that read as rows, and with a last value that ends
 at the window's last byte. Its answer, and the value that it writes, have to be the model's. On bytes that are no layout it has to come
-to an end. Where the compiler is the one that made the images they are made anew, and have to be the same.
+to an end. Where the compiler is the one that made the images they are made anew, and have to be the same; and the accessors that
+hooks read by are tried on offsets and lengths round the windows' ends.
 """
 from __future__ import annotations
 
@@ -11,6 +12,7 @@ import random
 import re
 import struct
 import subprocess
+import sys
 import tempfile
 from collections.abc import Callable, Iterable
 from concurrent.futures import ThreadPoolExecutor
@@ -18,7 +20,7 @@ from dataclasses import dataclass
 from pathlib import Path
 
 from fresh import DATA, try_generator, why_no_c
-from trial import Findings, Result, words_of
+from trial import C_SOURCES, Findings, Result, words_of
 
 NAME = "library"
 PROMISES = "Each ready hook does what its head says, on siblings of any layout and on hostile bytes."
@@ -176,11 +178,11 @@ def union_lines(values: Values) -> Verdict:
         return DELETE, None
     if any(it and not it.endswith(b"\n") for it in present):
         return KEEP, None
-    lines = b"".join(present[1:]).split(b"\n")[:-1]
-    if len(lines) > 44:
+    others = b"".join(present[1:]).split(b"\n")[:-1]
+    if len(others) > 44:
         return KEEP, None
-    there = present[0].split(b"\n")[:-1]
-    more = [line for line in dict.fromkeys(lines) if line not in set(there)]
+    there = set(present[0].split(b"\n")[:-1])
+    more = [line for line in dict.fromkeys(others) if line not in there]
     return WRITE, present[0] + b"".join(line + b"\n" for line in more)
 
 
@@ -277,12 +279,28 @@ NUMBERS = bytes_of(b"0", b"1", b"9", b"a", most=6)
 LINES = bytes_of(b"a\n", b"b\n", b"ab\n", b"\n", b"a\n", b"\0\n", b"longer line\n", most=12)
 
 
+def spread(parts: list[bytes], first: bytes | None = None) -> Values:
+    """Parts that all differ, over as many siblings as there may be, behind a first one if there is one."""
+    begin = [] if first is None else [first]
+    count = MOST_SIBLINGS - len(begin)
+    return begin + [b"".join(parts[at::count]) for at in range(count)]
+
+
+def numbered(count: int) -> list[bytes]:
+    return [struct.pack("<Q", number * 0x9E3779B97F4A7C15 % 2**64) for number in range(count)]
+
+
+def lines(count: int) -> list[bytes]:
+    return [b"%d\n" % number for number in range(count)]
+
+
 @dataclass(frozen=True)
 class Model:
-    """What a hook says of siblings, and values that it is for."""
+    """What a hook says of siblings, values that it is for, and siblings round what it serves at most."""
 
     says: Callable[[Values], Verdict]
     draws: Callable[[random.Random], bytes]
+    edges: tuple[Values, ...] = ()
 
 
 MODELS = {
@@ -299,9 +317,9 @@ MODELS = {
     "prefix": Model(prefix, bytes_of(b"user:", b"user", b":", b"User:", most=2)),
     "size_between": Model(size_between, of_length(0, 1, 2, 999, 1000, 1001, 9000)),
     "union_flags": Model(of_words(4, flags), words(4)),
-    "union_ids": Model(union_ids, some_words(12)),
-    "union_lines": Model(union_lines, LINES),
-    "union_records": Model(union_records, some_words(16)),
+    "union_ids": Model(union_ids, some_words(12), (spread(numbered(48)), spread(numbered(49)))),
+    "union_lines": Model(union_lines, LINES, (spread(lines(44), b"7\n0\n"), spread(lines(45), b"7\n0\n"), [b"7\n", *[None] * 62, b"0"])),
+    "union_records": Model(union_records, some_words(16), (spread(numbered(72)), spread(numbered(73)))),
     "version_rises": Model(version_rises, version),
 }
 
@@ -327,6 +345,80 @@ def filled(kind: int, values: Values, chance: random.Random) -> Values:
     return [(it or b"") + bytes(left - 1) + b"\n" if index == place and left else it for index, it in enumerate(values)]
 
 
+# Accessors
+
+ACCESSORS = C_SOURCES / "accessors.c"
+BYTES = 4096  # each of its windows
+LARGE = [1 << 16, 1 << 31, (1 << 32) - 1, 1 << 32, 1 << 63, (1 << 64) - BYTES, (1 << 64) - 1]
+NONE = (1 << 64) - 1
+
+
+def edge(chance: random.Random) -> int:
+    """An offset or a length, most of them at a window's begin or end."""
+    near = chance.choice([0, 24, 32, 100, 1000, BYTES - 100, BYTES - 24, BYTES]) + chance.randrange(-9, 10)
+    return chance.choice([max(near, 0), max(near, 0), chance.randrange(30), chance.randrange(BYTES), *LARGE[:: chance.choice([2, 3])]])
+
+
+def of_accessors(given: bytes) -> bytes:
+    """What the accessors come to: the output of the program that calls them."""
+    offset, length, place = struct.unpack_from("<3Q", given)
+    output = bytearray(BYTES)
+
+    def lies_in(at: int, size: int) -> bool:
+        return at + size <= BYTES
+
+    def number(size: int) -> int:
+        at = min(offset, BYTES - size)
+        return int.from_bytes(given[at : at + size], "little")
+
+    def decimal(size: int) -> int:
+        number = spelled(given[offset : offset + size]) if lies_in(offset, size) else None
+        return NONE if number is None else number
+
+    def same(size: int) -> bool:
+        return lies_in(offset, size) and given[offset : offset + size] == given[32 : 32 + size]
+
+    is_copied = lies_in(place, length) and lies_in(offset, length)
+    if is_copied:
+        output[place : place + length] = given[offset : offset + length]
+    clamped = min(offset, BYTES - 100)
+    told = [
+        is_copied,
+        min(offset, 1000),
+        HEAD + ROW * min(offset, (BYTES - HEAD) // ROW - 1),
+        clamped,
+        clamped,
+        *map(number, (1, 2, 4, 8)),
+        decimal(length),
+        same(min(length, 4000)),
+        1 + given.find(given[32:34], offset, offset + length) if lies_in(offset, length) else 0,
+        decimal(3),
+        same(5),
+        min(offset % (1 << 32), BYTES - 100),
+    ]
+    if told[11]:
+        told[11] -= offset
+    struct.pack_into(f"<{len(told)}Q", output, 0, *told)
+    return bytes(output)
+
+
+def drawn_for_accessors(chance: random.Random) -> bytes:
+    """An offset, a length and a place, and text that comes again, but for a byte here and there."""
+    text = bytearray(bytes(chance.choices(b"0123456789", k=chance.randrange(1, 8))) * BYTES)[: BYTES - 24]
+    for _ in range(chance.choice([0, 100])):
+        text[chance.randrange(len(text))] = chance.choice(b"a19")
+    length = chance.choice([edge(chance), chance.randrange(22)])
+    return struct.pack("<3Q", edge(chance), length, edge(chance)) + text
+
+
+def made_accessors(image: Path, program: Path) -> str:
+    """Makes the image of the program that calls the accessors. Gives what the verifier says of it."""
+    sys.path.insert(0, str(FOLDER.parent))
+    import make_hooks
+
+    return make_hooks.make(ACCESSORS, "plain", BYTES, BYTES, image, program)
+
+
 # Runs
 
 
@@ -341,19 +433,28 @@ class Told:
     def is_whole(self) -> bool:
         return self.status == 0 and re.fullmatch(r"answer \d+\nsteps \d+\noutput ([0-9a-f]+|-)\n", self.text) is not None
 
+    def output(self, length: int) -> bytes:
+        """So many bytes of the output window."""
+        _, _, printed = self.text.rpartition("output ")
+        return bytes.fromhex(printed.strip().replace("-", "")).ljust(length, b"\0")
+
     def verdict(self) -> Verdict | str:
         if not self.is_whole:
             return f"status {self.status}: {self.text}"
-        answer, _, output = (line.partition(" ")[2] for line in self.text.splitlines())
-        if int(answer) != WRITE:
-            return int(answer), None
-        written = bytes.fromhex(output.replace("-", "")).ljust(4 + WINDOW, b"\0")
+        answer = int(self.text.split()[1])
+        if answer != WRITE:
+            return answer, None
+        written = self.output(4 + WINDOW)
         (length,) = struct.unpack_from("<I", written)
         return WRITE, written[4 : 4 + length]
 
 
-def told(program: Path, image: Path, given: Path) -> Told:
-    ran = subprocess.run([program, "run", image, given], stdin=subprocess.DEVNULL, capture_output=True, text=True, timeout=RUN_SECONDS)
+def told(program: Path, image: Path, given: bytes) -> Told:
+    with tempfile.NamedTemporaryFile() as file:
+        file.write(given)
+        file.flush()
+        words = [program, "run", image, file.name]
+        ran = subprocess.run(words, stdin=subprocess.DEVNULL, capture_output=True, text=True, timeout=RUN_SECONDS)
     return Told(ran.returncode, ran.stdout + ran.stderr)
 
 
@@ -369,6 +470,10 @@ class Try:
 def tries_of(name: str, size: Size, chance: random.Random) -> Iterable[Try]:
     kind = KINDS[re.match(r"/\* (\S+)", (FOLDER / f"{name}.c").read_text(encoding="utf-8"))[1]]
     model = MODELS[name]
+    new = [model.draws(chance)] if kind == PRE_COMMIT else []
+    alone = [[*new, *[None] * (MOST_SIBLINGS - 1), model.draws(chance)] for _ in range(size.layouts // 10)]
+    for values in (*model.edges, *alone):
+        yield Try(name, layout(kind, values, chance), model.says(values))
     for _ in range(size.layouts):
         values = values_for(kind, model, chance)
         if not chance.randrange(5):
@@ -380,14 +485,30 @@ def tries_of(name: str, size: Size, chance: random.Random) -> Iterable[Try]:
 
 def fault_of(program: Path, one: Try) -> str:
     """What doesn't hold of an input; empty where it is as the model has it."""
-    with tempfile.NamedTemporaryFile() as given:
-        given.write(one.given)
-        given.flush()
-        seen = told(program, FOLDER / f"{one.hook}.img", Path(given.name))
+    seen = told(program, FOLDER / f"{one.hook}.img", one.given)
+    on = f"on {words_of(one.given.hex())}"
     if one.verdict is None:
-        return "" if seen.is_whole else f"{one.hook} comes to an end: {seen.text}, on {words_of(one.given.hex())}"
+        return "" if seen.is_whole else f"{one.hook} comes to an end: {seen.text}, {on}"
     verdict = seen.verdict()
-    return "" if verdict == one.verdict else f"{one.hook}: {words_of(verdict)} in place of {words_of(one.verdict)}, on {words_of(one.given.hex())}"
+    return "" if verdict == one.verdict else f"{one.hook}: {words_of(verdict)} in place of {words_of(one.verdict)}, {on}"
+
+
+def try_accessors(found: Findings, program: Path, count: int, chance: random.Random) -> None:
+    """Whether the accessors come to what the header says, on so many inputs."""
+    with tempfile.TemporaryDirectory() as folder:
+        image = Path(folder, "accessors.img")
+        said = made_accessors(image, program)
+        if not found.hold(said.startswith("accepted"), f"{ACCESSORS.name}: {said}"):
+            return
+
+        def fault_on(given: bytes) -> str:
+            seen, wanted = told(program, image, given), of_accessors(given)
+            is_so = seen.is_whole and seen.output(BYTES) == wanted
+            return "" if is_so else f"accessors: {words_of(seen.text)} in place of {words_of(wanted.hex())}, on {words_of(given.hex())}"
+
+        with ThreadPoolExecutor(THREADS) as threads:
+            for fault in threads.map(fault_on, [drawn_for_accessors(chance) for _ in range(count)]):
+                found.hold(not fault, fault)
 
 
 def run(program: Path, seed: int, size: Size) -> Result:
@@ -398,6 +519,7 @@ def run(program: Path, seed: int, size: Size) -> Result:
         found.say(f"images are not made anew: {why}")
     else:
         try_generator(found, FOLDER / "make_library.py", program)
+        try_accessors(found, program, 2 * size.layouts, chance)
     for name in MODELS:
         verified = subprocess.run([program, "verify", FOLDER / f"{name}.img"], capture_output=True, text=True, timeout=RUN_SECONDS)
         found.hold(verified.stdout.startswith("accepted "), f"{name}.img is accepted: {verified.stdout}")
@@ -406,5 +528,5 @@ def run(program: Path, seed: int, size: Size) -> Result:
     with ThreadPoolExecutor(THREADS) as threads:
         for fault in threads.map(lambda one: fault_of(program, one), tries):
             found.hold(not fault, fault)
-    writes = sum(one.verdict is not None and one.verdict[0] not in (KEEP,) for one in tries)
-    return found.result(f"{len(MODELS)} hooks on {len(tries)} inputs, {writes} answers that aren't 0")
+    told_of = sum(one.verdict is not None and one.verdict[0] != KEEP for one in tries)
+    return found.result(f"{len(MODELS)} hooks on {len(tries)} inputs, {told_of} answers that aren't 0")
