@@ -43,13 +43,14 @@ Verdict = tuple[int, bytes | None]
 
 @dataclass(frozen=True)
 class Size:
-    """How many layouts, and how many inputs of hostile bytes, each hook is run on."""
+    """How many layouts, and how many inputs of hostile bytes, each hook is run on; and whether images are made anew, as `fresh` does too."""
 
     layouts: int
     hostile: int
+    are_made: bool
 
 
-FULL, SHORT = Size(layouts=200, hostile=40), Size(layouts=20, hostile=4)
+FULL, SHORT = Size(layouts=200, hostile=40, are_made=True), Size(layouts=20, hostile=4, are_made=False)
 
 
 # Layouts
@@ -516,10 +517,11 @@ def run(program: Path, seed: int, size: Size) -> Result:
     found.hold({path.stem for path in FOLDER.glob("*.c")} == set(MODELS), f"each hook has a model: {', '.join(MODELS)}")
     why = why_no_c()
     if why:
-        found.say(f"images are not made anew: {why}")
+        found.say(f"nothing is compiled: {why}")
     else:
-        try_generator(found, FOLDER / "make_library.py", program)
         try_accessors(found, program, 2 * size.layouts, chance)
+    if size.are_made and not why:
+        try_generator(found, FOLDER / "make_library.py", program)
     for name in MODELS:
         verified = subprocess.run([program, "verify", FOLDER / f"{name}.img"], capture_output=True, text=True, timeout=RUN_SECONDS)
         found.hold(verified.stdout.startswith("accepted "), f"{name}.img is accepted: {verified.stdout}")
