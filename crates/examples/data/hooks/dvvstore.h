@@ -114,9 +114,10 @@ ACCESSOR u8 *output_at(u8 *output, u64 place, u64 longest)
     return output + at_most(place, OUTPUT_WINDOW - longest);
 }
 
-/* 1 where so many bytes (length) from an offset on lie in a window of so many, else 0. Both are variables: behind this test, with no other
- * between, a helper takes input + offset, or output + offset, with that length. */
+/* 1 where so many bytes (length) from an offset on lie in a window of so many, else 0. Both are variables of type u64: behind this test,
+ * with no other between, a helper takes input + offset, or output + offset, with that length. */
 #define LIES_IN(offset, length, window) __extension__({ \
+    _Static_assert(sizeof(offset) == 8 && sizeof(length) == 8, "an offset and a length are variables of type u64"); \
     u64 lies_in = 0; \
     SETTLE(offset); \
     if (__builtin_expect((offset) <= (window), 1)) { \
