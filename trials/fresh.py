@@ -22,7 +22,7 @@ QUICK = True
 FULL = SHORT = Whole()
 
 DATA = TOP / "crates" / "examples" / "data"
-OF_C = {"make_c.py": (), "make_hooks.py": ("--dvvstore",)}
+OF_C = {"make_c.py": (), "make_hooks.py": ("--dvvstore",), "make_library.py": ("--dvvstore",)}
 CLANG_MAJOR = 14
 MAKE_SECONDS = 900
 

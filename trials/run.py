@@ -59,6 +59,7 @@ NAMES = (
     "docs",
     "fresh",
     "corpus",
+    "library",
     "wrong_bodies",
 )
 

@@ -42,7 +42,7 @@ def answer_of(source, window):
 
 
 def main(folder):
-    make_hooks.CPUS = ("v2",)
+    make_hooks.WAYS = (("-mcpu=v2",),)
     fine = True
     for name, given in INPUTS.items():
         source = HERE / f"{name}.c"

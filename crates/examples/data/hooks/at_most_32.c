@@ -4,6 +4,6 @@
 
 u64 hook(const u8 *input, u64 used, u8 *output, u64 room)
 {
-    const struct row *new = (const struct row *)(input + HEAD_SIZE);
+    const struct row *new = row_at(input, 0);
     return new->length > MOST ? REJECT(1) : PASS;
 }

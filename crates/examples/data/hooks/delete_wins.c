@@ -5,10 +5,9 @@
 u64 hook(const u8 *input, u64 used, u8 *output, u64 room)
 {
     const struct head *head = (const struct head *)input;
-    const struct row *rows = (const struct row *)(input + HEAD_SIZE);
 #pragma unroll
     for (u64 i = 0; i < SIBLINGS; i++) {
-        if (i < head->rows && !(rows[i].flags & IS_VALUE)) return DELETE;
+        if (i < head->rows && !(row_at(input, i)->flags & IS_VALUE)) return DELETE;
     }
     return KEEP;
 }

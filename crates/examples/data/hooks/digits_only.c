@@ -3,10 +3,7 @@
 
 u64 hook(const u8 *input, u64 used, u8 *output, u64 room)
 {
-    const struct row *new = (const struct row *)(input + HEAD_SIZE);
-    u64 offset = new->offset, length = new->length;
+    const struct row *new = row_at(input, 0);
     if (!(new->flags & IS_VALUE)) return PASS;
-    /* A new value stands right behind the rows, before offset 1,600: the second bound is the verifier's. */
-    if (length > 19 || offset > 4000) return REJECT(2);
-    return decimal(input + offset, length) == NO_NUMBER ? REJECT(2) : PASS;
+    return decimal_at(input, new->offset, new->length) == NO_NUMBER ? REJECT(2) : PASS;
 }

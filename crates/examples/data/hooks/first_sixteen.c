@@ -4,11 +4,9 @@
 
 u64 hook(const u8 *input, u64 used, u8 *output, u64 room)
 {
-    const struct row *new = (const struct row *)(input + HEAD_SIZE);
-    u64 offset = new->offset;
-    /* A new value stands right behind the rows, before offset 1,600: the second bound is the verifier's. */
-    if (new->length <= MOST || offset > 4000) return PASS;
+    const struct row *new = row_at(input, 0);
+    if (new->length <= MOST) return PASS;
     *(u32 *)output = MOST;
-    copy(output + 4, input + offset, MOST);
+    copy_at(output, 4, input, new->offset, MOST);
     return CHANGE;
 }

@@ -4,20 +4,17 @@
 #include "dvvstore.h"
 #define SIBLINGS 64
 #define DIGITS 10
-#define FURTHEST (65536 - DIGITS)
 
 u64 hook(const u8 *input, u64 used, u8 *output, u64 room)
 {
     const struct head *head = (const struct head *)input;
-    const struct row *rows = (const struct row *)(input + HEAD_SIZE);
     u64 latest = 0, taken = KEEP;
 #pragma unroll
     for (u64 i = 0; i < SIBLINGS; i++) {
-        if (i < head->rows && rows[i].length >= DIGITS) {
-            u64 offset = rows[i].offset;
-            if (offset > FURTHEST) continue;
-            u64 time = decimal(input + offset, DIGITS);
-            if (time + 1 > latest) { latest = time + 1; taken = TAKE(i); }
+        const struct row *row = row_at(input, i);
+        if (i < head->rows && row->length >= DIGITS) {
+            u64 time = decimal_at(input, row->offset, DIGITS);
+            if (time + 1 > latest) { latest = time + 1; taken = TAKE(i); } /* NO_NUMBER + 1 is 0 */
         }
     }
     return taken;

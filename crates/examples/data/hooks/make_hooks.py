@@ -6,8 +6,9 @@
     make_hooks.py --line my.c 3                the line of my.c that slot 3 of my.img comes from
 
 Where dvvstore is built (or named: --dvvstore PATH) it verifies what was made, and of a refusal the line of C, the instruction, the rule in
-words, what to write instead and what was known there are told at once (the command `explain`). What is refused is compiled once more without jumps and arithmetic on 32 bits, whose spills are of 8
-bytes, which the verifier follows, and stays so where that is accepted.
+words, what to write instead and what was known there are told at once (the command `explain`). What is refused is compiled once more without
+jumps and arithmetic on 32 bits, whose spills are of 8 bytes, which the verifier follows, and then with them, but with a jump for each test,
+and stays so where that is accepted.
 """
 import argparse
 import re
@@ -25,6 +26,7 @@ VERSION = 2  # verified by the second table of kinds, which knows what the stack
 SLOT = 8
 MOST_SLOTS = 4096
 MOST_WINDOW = 65536
+HEAD_SIZE = 16
 
 # Kind, length of the input window, length of the output window.
 HOOKS = {
@@ -44,8 +46,8 @@ HOOKS = {
     "same_ends": ("pre-commit", 4096, 0),
 }
 
-# Instruction sets, in the order in which they are tried.
-CPUS = ("v3", "v2")
+# Ways of compiling, in the order in which they are tried: an instruction set, and for the last that two tests are never made one.
+WAYS = (("-mcpu=v3",), ("-mcpu=v2",), ("-mcpu=v3", "-mllvm", "-simplifycfg-branch-fold-threshold=0"))
 
 # -g adds sections beside the code, and leaves the code as it is.
 COMPILE = ["clang", "-O2", "-g", "-Wall", "-target", "bpf", "-mllvm", "-disable-block-placement", "-I", HERE, "-c"]
@@ -225,11 +227,12 @@ def refuse_foreign(compiled, code, lines):
             raise Refused(f"{lines[at]}: a call of a function that is not inlined: {WORDS_ON_FUNCTIONS}")
 
 
-def compile_hook(source, cpu):
-    """The ordered code of a C source for an instruction set, and the line of each of its slots."""
+def compile_hook(source, way, in_len, out_len):
+    """The ordered code of a C source, compiled in a way for windows of these lengths, and the line of each of its slots."""
+    windows = [f"-DINPUT_WINDOW={in_len}", f"-DOUTPUT_WINDOW={out_len}"]
     with tempfile.TemporaryDirectory() as folder:
         compiled, text = Path(folder, "hook.o"), Path(folder, "hook.bin")
-        if subprocess.run([*COMPILE, f"-mcpu={cpu}", source, "-o", compiled]).returncode:
+        if subprocess.run([*COMPILE, *way, *windows, source, "-o", compiled]).returncode:
             raise Refused("clang does not compile it")
         output_of(tool("llvm-objcopy"), "-O", "binary", "--only-section=.text", compiled, text)
         code, lines = text.read_bytes(), lines_of(compiled)
@@ -274,26 +277,27 @@ def verdict(dvvstore, image, lines):
 
 
 def make(source, kind, in_len, out_len, image, dvvstore=None):
-    """Writes the image of a source, and gives what the verifier (of dvvstore, or of the built one) says of it: that of the first instruction
-    set for which it is accepted, or else of the first."""
+    """Writes the image of a source, and gives what the verifier (of dvvstore, or of the built one) says of it: that of the first way in
+    which it is accepted, or else of the first."""
     dvvstore, refused = dvvstore or program(), []
-    for cpu in CPUS:
-        code, lines = compile_hook(source, cpu)
+    for way in WAYS:
+        code, lines = compile_hook(source, way, in_len, out_len)
         image.write_bytes(head(kind, in_len, out_len) + code)
         said = verdict(dvvstore, image, lines)
         if not said.startswith("refused"):
-            return f"{said} (-mcpu={cpu})" if refused else said
+            return f"{said} ({' '.join(way)})" if refused else said
         refused.append((image.read_bytes(), said))
     image.write_bytes(refused[0][0])
     return refused[0][1]
 
 
 def lines_in(source):
-    """The line of each slot of a source's image, by the instruction set that the image is for."""
+    """The line of each slot of a source's image, by the way in which the image was compiled."""
     image = source.with_suffix(".img")
-    made = image.read_bytes()[len(head("plain", 0, 0)) :] if image.is_file() else b""
-    built = [compile_hook(source, cpu) for cpu in CPUS]
-    return next((lines for code, lines in built if code == made), built[0][1])
+    made = image.read_bytes() if image.is_file() else head("plain", MOST_WINDOW, MOST_WINDOW)
+    _, in_len, out_len = struct.unpack_from("<8sII", made)
+    built = [compile_hook(source, way, in_len, out_len) for way in WAYS]
+    return next((lines for code, lines in built if code == made[HEAD_SIZE:]), built[0][1])
 
 
 def tell(source, hook, image, dvvstore=None):

@@ -3,11 +3,10 @@
 
 u64 hook(const u8 *input, u64 used, u8 *output, u64 room)
 {
-    const struct row *new = (const struct row *)(input + HEAD_SIZE);
-    u64 offset = new->offset, length = new->length;
-    /* A new value stands right behind the rows, before offset 1,600: the second bound is the verifier's. */
-    if (length < 1 || length > 4096 || offset > 4000) return PASS;
-    const u8 *first = input + offset, *behind = first + length, *end = input + used;
+    const struct row *new = row_at(input, 0);
+    u64 length = at_most(new->length, 4096);
+    if (length < 1) return PASS;
+    const u8 *first = value_at(input, new, 1), *behind = first + length, *end = input + used;
     if (behind > end) return PASS;
     return *first == behind[-1] ? PASS : REJECT(4);
 }

@@ -3,20 +3,17 @@
 #include "dvvstore.h"
 #define SIBLINGS 64
 #define SET 8
-#define FURTHEST (65536 - SET)
 
 u64 hook(const u8 *input, u64 used, u8 *output, u64 room)
 {
     const struct head *head = (const struct head *)input;
-    const struct row *rows = (const struct row *)(input + HEAD_SIZE);
     u64 members = 0;
 #pragma unroll
     for (u64 i = 0; i < SIBLINGS; i++) {
+        const struct row *row = row_at(input, i);
         if (i < head->rows) {
-            u64 offset = rows[i].offset;
-            if (!(rows[i].flags & IS_VALUE) || rows[i].length != SET) return KEEP;
-            if (offset > FURTHEST) return KEEP;
-            members |= *(const u64 *)(input + offset);
+            if (!(row->flags & IS_VALUE) || row->length != SET) return KEEP;
+            members |= number_at(input, row->offset, SET);
         }
     }
     *(u64 *)(output + 4) = members;

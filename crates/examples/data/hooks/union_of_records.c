@@ -8,14 +8,15 @@
 u64 hook(const u8 *input, u64 used, u8 *output, u64 room)
 {
     const struct head *head = (const struct head *)input;
-    const struct row *rows = (const struct row *)(input + HEAD_SIZE);
+    const struct row *rows = row_at(input, 0);
     if (head->rows != 2) return KEEP;
     if (!(rows[0].flags & rows[1].flags & IS_VALUE)) return KEEP;
-    u64 length = rows[0].length, left = rows[1].length, first_at = rows[0].offset, second_at = rows[1].offset;
-    /* Of two such values the second stands before offset 256: the bounds on both are the verifier's. */
-    if (first_at > 256 || second_at > 256 || length > RECORDS * RECORD || left > RECORDS * RECORD) return KEEP;
+    u64 length = rows[0].length, left = rows[1].length;
+    if (length > RECORDS * RECORD || left > RECORDS * RECORD) return KEEP;
     if ((length | left) % RECORD) return KEEP;
-    const u64 *first = (const u64 *)(input + first_at), *second = (const u64 *)(input + second_at);
+    /* Two such values stand before offset 256, so the window has room behind them. */
+    const u64 *first = (const u64 *)value_at(input, &rows[0], RECORDS * RECORD);
+    const u64 *second = (const u64 *)value_at(input, &rows[1], RECORDS * RECORD);
     u64 held = length / RECORD, added = left / RECORD;
     copy(output + 4, first, length);
 #pragma unroll
