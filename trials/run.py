@@ -37,6 +37,8 @@ NAMES = (
     "alone",
     "starts",
     "stop",
+    "service",
+    "proxies",
     "kills",
     "damages",
     "folders",
