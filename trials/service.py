@@ -30,7 +30,7 @@ from pathlib import Path
 from typing import Any
 
 import kept
-from server import AT_A_PORT_OF_THE_SYSTEM, HungUp, Server, request
+from server import AT_A_PORT_OF_THE_SYSTEM, End, HungUp, Server, request
 from trial import TOP, Findings, Result, line_of_page, run_line
 
 NAME = "service"
@@ -77,6 +77,16 @@ def as_a_leader() -> None:
         signal.signal(number, signal.SIG_DFL)
 
 
+def runs_in_group(leader: int) -> bool:
+    """Whether a process of a group runs; one that has ended and that nobody waited for doesn't."""
+    for path in Path("/proc").glob("[0-9]*/stat"):
+        with contextlib.suppress(OSError):
+            state, _, group = path.read_text(encoding="utf-8", errors="replace").rpartition(") ")[2].split()[:3]
+            if int(group) == leader and state not in "ZX":
+                return True
+    return False
+
+
 class Service(Server):
     """A server that the wrapper runs."""
 
@@ -94,20 +104,23 @@ class Service(Server):
     def signal_group(self, number: int) -> None:
         os.killpg(self.pid, number)
 
-    def kill(self) -> None:
+    def kill_group(self) -> None:
         with contextlib.suppress(ProcessLookupError):
             self.signal_group(signal.SIGKILL)
+
+    def kill(self) -> None:
+        self.kill_group()
         super().kill()
 
-
-def runs_in_group(leader: int) -> bool:
-    """Whether a process of a group runs; one that has ended and that nobody waited for doesn't."""
-    for path in Path("/proc").glob("[0-9]*/stat"):
-        with contextlib.suppress(OSError):
-            state, _, group = path.read_text(encoding="utf-8", errors="replace").rpartition(") ")[2].split()[:3]
-            if int(group) == leader and state not in "ZX":
-                return True
-    return False
+    def end(self, seconds: float = END_SECONDS) -> End | None:
+        """How it ends, and with it the program, which is killed where it runs on for so long without its wrapper."""
+        until = time.monotonic() + seconds
+        with contextlib.suppress(subprocess.TimeoutExpired):
+            self.process.wait(seconds)
+            while runs_in_group(self.pid) and time.monotonic() < until:
+                time.sleep(0.02)
+            self.kill_group()
+        return super().end(0)
 
 
 # How it is ended, for each way that is tried: by which words it is begun, and what is done to it.
@@ -305,8 +318,8 @@ def try_words(life: Life) -> None:
     }
     for words, (status, told) in tries.items():
         environment = {**os.environ, "DVVSTORE": str(life.program)}
-        how: dict[str, Any] = {"stdin": subprocess.DEVNULL, "capture_output": True, "text": True, "env": environment, "timeout": END_SECONDS}
-        ran = subprocess.run([WRAPPER, *words], **how)
+        how: dict[str, Any] = {"stdin": subprocess.DEVNULL, "capture_output": True, "text": True, "env": environment}
+        ran = subprocess.run([WRAPPER, *words], timeout=END_SECONDS, **how)
         life.found.hold(ran.returncode == status and ran.stderr.endswith(told), f"words {words}: {ran}")
 
 
