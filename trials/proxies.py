@@ -98,6 +98,8 @@ ASKED: tuple[tuple[str, str, str, int], ...] = (
     ("app", "PUT", "/%68ooks/no", 403),
     ("app", "DELETE", "/hooks/no", 403),
     ("app", "PUT", "/buckets/b/keys/..%2F..%2Fprops", 204),
+    ("app", "PUT", "/buckets/b/keys/a%00b", 400),
+    ("app", "PUT", "/buckets/b/keys/a%zz", 400),
     ("app", "PUT", "/buckets/a%2Fb/keys/x%3Fy%23z?w=3", 204),
     ("admin", "PUT", "/hooks/no", 204),
     ("admin", "PUT", ESCAPED, 204),
