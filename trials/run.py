@@ -38,6 +38,8 @@ NAMES = (
     "starts",
     "stop",
     "slow_stop",
+    "service",
+    "proxies",
     "kills",
     "damages",
     "folders",

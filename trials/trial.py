@@ -2,6 +2,7 @@
 from __future__ import annotations
 
 import dataclasses
+import re
 import shutil
 import subprocess
 from collections.abc import Mapping
@@ -12,6 +13,7 @@ from typing import Any
 TOP = Path(__file__).resolve().parent.parent
 ALL = 0  # in the place of a number, where nothing is left out
 C_SOURCES = Path(__file__).resolve().parent / "c"
+FOR_THE_SYSTEM = "/usr/sbin:/sbin"  # which aren't on the PATH of all users
 COMPILE = ("-O2", "-pthread")
 COMPILE_LIBRARY = ("-O2", "-shared", "-fPIC")
 
@@ -80,7 +82,7 @@ class Findings:
 
 def tool(name: str) -> str:
     """The path of a tool, without which a trial is skipped."""
-    path = shutil.which(name)
+    path = shutil.which(name) or shutil.which(name, path=FOR_THE_SYSTEM)
     if path is None:
         raise Skipped(f"no {name}")
     return path
@@ -95,6 +97,22 @@ def compiled(source: str, made: Path, *flags: str, before: tuple[str, ...] = COM
 def library(source: str, made: Path) -> Path:
     """A library of `c/` that is loaded before the system's."""
     return compiled(source, made, "-ldl", before=COMPILE_LIBRARY)
+
+
+def line_of_page(page: Path, word: str) -> str:
+    """The one command line of a page that has this word; one that ends by a backslash goes on in the next."""
+    text = page.read_text(encoding="utf-8").replace("\\\n", "")
+    lines = [line.strip() for line in text.splitlines() if line.startswith("    ") and word in line]
+    if len(lines) != 1:
+        raise ValueError(f"{page.name} has {len(lines)} lines with {word!r}")
+    return lines[0]
+
+
+def run_line(line: str, room: Path, given: str = "", **named: object) -> subprocess.CompletedProcess[str]:
+    """Runs a command line of a page in a room, with what stands for each name in it, and with this on its standard input."""
+    for name, word in named.items():
+        line = re.sub(rf"\b{name}\b", str(word), line)
+    return subprocess.run(["sh", "-c", line], cwd=room, input=given, capture_output=True, text=True)
 
 
 def words_of(found: object, most: int = 300) -> str:
