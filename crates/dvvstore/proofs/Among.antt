@@ -1,6 +1,10 @@
 -- What some passes of several were told.
-use Rattle.std.proofs.Common.{◌≡◌, ◌++◌, ◌∷◌, [], List, ap, refl, subst, sym, ◌∙◌, append_assoc, flat_map}
+use Rattle.std.proofs.Common.{◌≡◌, ◌++◌, ◌∷◌, [], ℕ, List, Result, Ok, Err, ap, length, refl, subst, sym, ◌∙◌, append_assoc, flat_map}
 use Rattle.std.proofs.lemmas.Grind.{flat_map-append}
+use Rattle.audit_cluster.specs.Following.{IsFollowedTo, IsSaidOf}
+use Rattle.audit_faults.specs.declared.fault.WatchFault.{WatchFault}
+use Rattle.audit_faults.specs.declared.fault.WatchFault.TheVariants.{Found, Lost, NoMemory}
+use Rattle.audit_replay.proofs.Faultless.{faultless}
 use Rattle.journal.specs.Logs.{Log}
 use Rattle.cluster_stamps.specs.declared.view.Told.{Told}
 use Rattle.cluster_stamps.specs.declared.view.View.{View}
@@ -48,3 +52,10 @@ pub told_before : {B : Type 0} → (passes all : List View) (new : Passes B) (re
     → all_told all ++ rest ≡ all_told passes ++ (all_told (passes_of new) ++ rest)
 told_before passes all new rest is =
     ap (λ (ts : List Told). ts ++ rest) (ap all_told is ∙ flat_map-append (λ p. p.told) passes (passes_of new)) ∙ append_assoc (all_told passes) (all_told (passes_of new)) rest
+
+-- what is said of gathered journals of which nothing was there before
+pub said_at_end : (told : List Told) (vnodes : ℕ) (logs : List Log) (r : Result (Unit {0}) WatchFault) → IsGathered told logs → length logs ≡ vnodes → IsSaidOf [] logs r → IsFollowedTo told vnodes r
+said_at_end told vnodes logs (Ok done) gathered size said = (logs, gathered, size, said.whole refl, faultless logs said)
+said_at_end told vnodes logs (Err (Found fault)) gathered size said = (logs, gathered, size, said)
+said_at_end told vnodes logs (Err Lost) gathered size said = tt
+said_at_end told vnodes logs (Err NoMemory) gathered size said = tt

@@ -143,10 +143,6 @@ pub struct Staffed<B: Room + Spot, H> {
     pub lookout: Lookout<B>,
     /// With what it has begun.
     pub begun: Begun<B>,
-    ghost some: { 0 < vec_len seats },
-    ghost all: { cluster.passes ≤ vec_len seats + 4 },
-    ghost spot: { cluster.first ≡ B.first },
-    ghost vnodes: { cluster.vnodes ≡ 3 },
 }
 
 /// Has hooks begin with the requests that a folder held, opens the door, and has the workers of the seats answer the connections that come
@@ -164,6 +160,10 @@ pub fn live<
     stay: Stay<'_, N, F>,
     out: &mut O,
 ) -> Result<Left, Unbegun>
+    requires some { 0 < vec_len staffed.seats }
+    requires all { staffed.cluster.passes ≤ vec_len staffed.seats + 4 }
+    requires spot { staffed.cluster.first ≡ B.first }
+    requires three { staffed.cluster.vnodes ≡ 3 }
     requires begun { HasBegunWith stay.folder staffed.cluster.first stay.held.files.items staffed.begun }
     ensures told { Tells stay.entry.door result (O.contents out.old) (O.contents out.new) }
     ensures kept { Leaves stay.entry.folder staffed.cluster.first stay.entry.held.files.items result }
@@ -190,8 +190,8 @@ pub fn live<
         unreachable!();
     };
     if folder.is_some() {
-        let sigs = &seat.hooking.table.listed;
-        lookout.requests = begin_hooks(host, sigs, &mut seat.hooking.hooks, &hooks)?;
+        let table = &seat.hooking.table;
+        lookout.requests = begin_hooks(host, &table.listed, &mut seat.hooking.hooks, &hooks)?;
     }
     seats.push_reserved(seat);
     let loaded = loaded_in(&files);

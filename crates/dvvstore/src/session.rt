@@ -69,9 +69,6 @@ struct Vnodes<B: Room + Spot> {
     lookout: Lookout<B>,
     /// With what they have begun.
     begun: Begun<B>,
-    ghost all: { cluster.passes ≡ vec_len passes + 4 },
-    ghost spot: { cluster.first ≡ B.first },
-    ghost three: { cluster.vnodes ≡ 3 },
 }
 
 /// The parts of a store that has begun: its vnodes, and a table for each worker, who has a pass.
@@ -79,9 +76,6 @@ struct Vnodes<B: Room + Spot> {
 struct Parts<B: Room + Spot> {
     vnodes: Vnodes<B>,
     tables: Vec<Table>,
-    ghost some: { 0 < vec_len tables },
-    ghost few: { vec_len tables ≤ 16 },
-    ghost each: { vec_len vnodes.passes ≡ vec_len tables },
 }
 
 /// Where the hooks of workers come from: who changes them, and a reader of them for each.
@@ -174,6 +168,8 @@ fn begin<B: Room + Spot + Send + Sync, R: Threads + Wait + Sync, N, F: Copy>(
     requires spot { undrawn.making.first ≡ B.first }
     requires card { undrawn.card.me ≡ (newcomer undrawn.stamps.table.shared.key, []) }
     ensures first { IfOk result (λ vnodes. vnodes.cluster.first ≡ undrawn.making.first) }
+    ensures three { IfOk result (λ vnodes. vnodes.cluster.vnodes ≡ 3) }
+    ensures all { IfOk result (λ vnodes. vnodes.cluster.passes ≡ workers + 4) }
     ensures passes { IfOk result (λ vnodes. vec_len vnodes.passes ≡ workers) }
     ensures begun { IfOk result (λ vnodes. HasBegunWith stay.now.folder undrawn.making.first stay.now.held.files.items vnodes.begun) }
 {
@@ -249,6 +245,12 @@ fn over_cluster<
     out: &mut O,
 ) -> Result<Left, Unbegun>
     requires list { list_of opening ≡ J.book }
+    requires some { 0 < vec_len parts.tables }
+    requires few { vec_len parts.tables ≤ 16 }
+    requires each { vec_len parts.vnodes.passes ≡ vec_len parts.tables }
+    requires all { parts.vnodes.cluster.passes ≡ vec_len parts.tables + 4 }
+    requires spot { parts.vnodes.cluster.first ≡ B.first }
+    requires three { parts.vnodes.cluster.vnodes ≡ 3 }
     requires begun { HasBegunWith stay.folder parts.vnodes.cluster.first stay.held.files.items parts.vnodes.begun }
     ensures told { Tells stay.entry.door result (O.contents out.old) (O.contents out.new) }
     ensures kept { Leaves stay.entry.folder parts.vnodes.cluster.first stay.entry.held.files.items result }
@@ -273,6 +275,12 @@ fn over_ground<
     out: &mut O,
 ) -> Result<Left, Unbegun>
     requires ground { (ground.front ≡ []) × (T.state ground.first ≡ []) × (T.state ground.second ≡ []) }
+    requires some { 0 < vec_len parts.tables }
+    requires few { vec_len parts.tables ≤ 16 }
+    requires each { vec_len parts.vnodes.passes ≡ vec_len parts.tables }
+    requires all { parts.vnodes.cluster.passes ≡ vec_len parts.tables + 4 }
+    requires spot { parts.vnodes.cluster.first ≡ B.first }
+    requires three { parts.vnodes.cluster.vnodes ≡ 3 }
     requires begun { HasBegunWith stay.folder parts.vnodes.cluster.first stay.held.files.items parts.vnodes.begun }
     ensures told { Tells stay.entry.door result (O.contents out.old) (O.contents out.new) }
     ensures kept { Leaves stay.entry.folder parts.vnodes.cluster.first stay.entry.held.files.items result }
@@ -308,6 +316,11 @@ fn over_hooks<
     out: &mut O,
 ) -> Result<Left, Unbegun>
     requires readers { vec_len hooked.readers ≡ vec_len parts.tables }
+    requires some { 0 < vec_len parts.tables }
+    requires each { vec_len parts.vnodes.passes ≡ vec_len parts.tables }
+    requires all { parts.vnodes.cluster.passes ≡ vec_len parts.tables + 4 }
+    requires spot { parts.vnodes.cluster.first ≡ B.first }
+    requires three { parts.vnodes.cluster.vnodes ≡ 3 }
     requires begun { HasBegunWith stay.folder parts.vnodes.cluster.first stay.held.files.items parts.vnodes.begun }
     ensures told { Tells stay.entry.door result (O.contents out.old) (O.contents out.new) }
     ensures kept { Leaves stay.entry.folder parts.vnodes.cluster.first stay.entry.held.files.items result }

@@ -1,8 +1,9 @@
 use denote.RattleType.{RattleType}
-use denote.Param.Send.{IsSend, mut_send, param_send, sendable, shr_send}
+use denote.Exit.{no}
+use denote.Param.Send.{IsSend, arg_send, mut_send, param_send, sendable, shr_send}
 use denote.Param.{param}
 use denote.Struct.Tuple.{TupleAt}
-use mir.Syntax.{Sym, erased}
+use mir.Syntax.{Sym}
 use mathlib.Core.List.{[], ◌∷◌}
 use Rattle.std.proofs.alloc.Global.TheSendSync as heap
 use Rattle.cluster.proofs.Sent.{cluster_sync}
@@ -17,5 +18,4 @@ pub join-loaded-requires-send-F : goal.join-loaded-requires-send-F
 join-loaded-requires-send-F g c κs within =
     let cluster = cluster_sync (param 0 g.row.B) g.B.Room c.type_bounds.send-B c.type_bounds.sync-B in
     let lookout = lookout_send (param 0 g.row.B) g.B.Room g.B.Spot c.type_bounds.send-B in
-    let captured = captures_send [] _ _ _ _ (shr_send erased [] _ heap.the_sync) (shr_send erased _ _ cluster) (mut_send erased _ _ lookout) (shr_send erased _ _ (load_sync _ _ c.type_bounds.sync-R)) in
-    record { owned = captured.owned; leaving = (param_send 1 _ captured).leaving }
+    param_send 1 _ (arg_send _ no _ (captures_send _ _ _ _ _ (shr_send _ _ _ heap.the_sync) (shr_send _ _ _ cluster) (mut_send _ _ _ lookout) (shr_send _ _ _ (load_sync _ _ c.type_bounds.sync-R))))

@@ -1,11 +1,10 @@
 use Rattle.std.proofs.Common.{◌≡◌, ◌++◌, ℕ, List, [], arith, flat_map, length, subst}
-use Rattle.audit_cluster.proofs.Ends.{said_at_end}
 use Rattle.audit_cluster.specs.Following.{IsFollowedTo, IsSaidOf}
 use Rattle.cluster_stamps.specs.declared.view.Told.{Told}
 use Rattle.cluster_stamps.specs.declared.view.View.{View}
 use Rattle.cluster_vnode.specs.Gathers.{IsGathered}
 use Rattle.dvvstore.specs.Asides.{AreGathered, passes_of}
-use Rattle.dvvstore.proofs.Among.{told_among, told_before}
+use Rattle.dvvstore.proofs.Among.{said_at_end, told_among, told_before}
 use Rattle.dvvstore.proofs.VisitLemmas.{told_after}
 use Rattle.dvvstore.proofs.crew.running.serve.Goals as goal
 
