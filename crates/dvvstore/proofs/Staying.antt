@@ -1,6 +1,7 @@
 -- What is left of a store, said of the same numbers and files.
 use Rattle.std.proofs.Common.{◌≡◌, ◌∙◌, ◌+◌, ◌<◌, ◌++◌, ℕ, zero, suc, List, Option, Result, Ok, Err, IfOk, [], ◌∷◌, arith, subst, sym}
 use Rattle.std.specs.List.{All}
+use Rattle.std.specs.Prelude.{IsErrAnd}
 use Rattle.std.proofs.lemmas.List.{get_or_append_left, length-append}
 use Rattle.kept_file.specs.declared.file.KeptFile.{KeptFile}
 use Rattle.journal.specs.Logs.{Log}
@@ -9,11 +10,15 @@ use Rattle.cluster_vnode.specs.Calls.{pass_view}
 use Rattle.kept_file.specs.Files.{records_at}
 use Rattle.kept_restore.specs.Beginnings.{BeginWithFiles, BeginsWith}
 use Rattle.audit_cluster.specs.Following.{IsSaidOf}
-use Rattle.dvvstore.specs.Keeping.{IsLeftFrom, Leaves, Tells, TellsBeginning, fronts_for, left_as}
+use Rattle.dvvstore.specs.Keeping.{HasBegun, IsLeftFrom, Leaves, Tells, TellsBeginning, fronts_for, left_as}
 use Rattle.dvvstore.specs.declared.crew.running.Served.{Served}
+use Rattle.dvvstore.specs.declared.keeper.Address.{Address}
 use Rattle.dvvstore.specs.declared.keeper.Door.{Door}
+use Rattle.dvvstore.specs.declared.keeper.Door.TheVariants as door
 use Rattle.dvvstore.specs.declared.keeper.Unbegun.{Unbegun}
+use Rattle.dvvstore.specs.declared.keeper.Unbegun.TheVariants.{Unreadable}
 use Rattle.dvvstore.specs.declared.session.Left.{Left}
+use Rattle.dvvstore.specs.declared.session.Left.TheVariants.{Kept, Lost}
 
 pub leaves_as : {F : Type 0} → (folder : Option F) (first number : ℕ) (files : List KeptFile) (left : Result Left Unbegun) → first ≡ number → Leaves folder first files left → Leaves folder number files left
 leaves_as folder first number files left is so = subst (λ (n : ℕ). Leaves folder n files left) is so
@@ -46,6 +51,25 @@ left_so folder first files (Err why) so = tt
 pub tells_so : {N E : Type 0} → (door : Door N) (served : Result Served E) (before after : Option (List ℕ)) → TellsBeginning door before after → Tells door (left_as served) before after
 tells_so door (Ok served) before after so = so
 tells_so door (Err why) before after so = so
+
+-- so it was at an address, once that was told
+pub tells_closed : {N E : Type 0} → (d : Door N) (address : Address N) (served : Result Served E) (left : Result Left Unbegun) (before after : Option (List ℕ)) → d ≡ door.Closed address → left ≡ left_as served
+    → HasBegun before after → Tells d left before after
+tells_closed d address served left before after is same begun =
+    subst (λ (e : Door _). Tells e left before after) (sym is)
+    (subst (λ (l : Result Left Unbegun). Tells (door.Closed address) l before after) (sym same) (tells_so (door.Closed address) served before after begun))
+
+-- nothing is claimed where the output can't be written
+pub tells_unreadable : {N : Type 0} → (d : Door N) (left : Result Left Unbegun) (before after : Option (List ℕ)) → IsErrAnd left (λ why. why ≡ Unreadable) → Tells d left before after
+tells_unreadable d (Ok left) before after was = absurd was
+tells_unreadable d (Err why) before after was = subst (λ (w : Unbegun). Tells d (Err w) before after) (sym was) tt
+
+-- what was told at the beginning of a store of which something is left, and of one of which nothing is
+pub kept_tells : {N : Type 0} {d : Door N} → (left : Left) (served : Served) (before after : Option (List ℕ)) → left ≡ Kept served → Tells d (Ok left) before after → TellsBeginning d before after
+kept_tells {d = d} left served before after is told = subst (λ (l : Left). Tells d (Ok l) before after) is told
+
+pub lost_tells : {N : Type 0} {d : Door N} → (left : Left) (before after : Option (List ℕ)) → left ≡ Lost → Tells d (Ok left) before after → TellsBeginning d before after
+lost_tells {d = d} left before after is told = subst (λ (l : Left). Tells d (Ok l) before after) is told
 
 -- what is left of a store that has begun with files: its journals begin with the merges of these, and what is said is said from its fronts on
 pub left_from : {F E : Type 0} → (folder : Option F) (first : ℕ) (files : List KeptFile) (fronts : List ℕ) (served : Result Served E) → fronts ≡ fronts_for folder files

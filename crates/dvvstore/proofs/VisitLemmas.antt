@@ -1,5 +1,5 @@
 -- On the visits of workers.
-use Rattle.std.proofs.Common.{◌≡◌, ◌∙◌, ℕ, suc, ◌<◌, List, [], ◌∷◌, ◌++◌, Option, Some, None, Result, Ok, Err, IfOk, ap, refl, sym, subst, arith, append-nil, append_assoc, flat_map, length, map}
+use Rattle.std.proofs.Common.{◌≡◌, ◌∙◌, ◌+◌, ℕ, suc, ◌<◌, List, [], ◌∷◌, ◌++◌, Option, Some, None, Result, Ok, Err, IfOk, ap, refl, sym, subst, arith, append-nil, append_assoc, flat_map, length, map}
 use Rattle.std.specs.Prelude.{slice_index_or}
 use Rattle.bpf_image.specs.declared.image.ImageKind.{ImageKind}
 use Rattle.bpf_verifier.specs.Program.{Program}
@@ -198,12 +198,12 @@ LoadsStand = (before after : List Told) (old new : View) (logs : List JournalLog
 
 -- where a store has begun with files, the journals that are left of it begin with the merges of what these hold
 pub begins_from : {H F B E : Type 0} (finds : H → List ℕ → ImageKind → Result (Option Program) NotSeen → H → Type 0) (names : H → List ℕ → ImageKind → Result (Option (List ℕ)) NameFault → H → Type 0)
-    (takes : H → Change → Result Unit HookFault → H → Type 0) (starts : List (StoreView Passing H)) (folder : Option F) (first vnodes : ℕ) (files : List KeptFile) (begun : Begun B) (served : Result Served E)
+    (takes : H → Change → Result Unit HookFault → H → Type 0) (starts : List (StoreView Passing H)) (folder : Option F) (first : ℕ) (files : List KeptFile) (begun : Begun B) (served : Result Served E) (More : Served → Type 0)
     → LoadsStand → HasBegunWith folder first files begun
-    → IfOk served (λ s. AfterVisits finds names takes starts (λ told. AreGathered told begun.spares s.closed.vnodes.items) × (length s.closed.vnodes.items ≡ vnodes))
+    → IfOk served (λ s. AfterVisits finds names takes starts (λ told. AreGathered told begun.spares s.closed.vnodes.items) × More s)
     → IfOk served (λ s. BeginWithFiles s.closed.vnodes.items first files 3)
-begins_from finds names takes starts folder first vnodes files begun (Err why) stand has kept = kept
-begins_from finds names takes starts folder first vnodes files begun (Ok s) stand (one, two, three, a, b, c, rest) kept =
+begins_from finds names takes starts folder first files begun (Err why) More stand has kept = kept
+begins_from finds names takes starts folder first files begun (Ok s) More stand (one, two, three, a, b, c, rest) kept =
     let found = gathered_after finds names takes starts begun.spares s.closed.vnodes.items kept.0 in
     let logs = s.closed.vnodes.items in
     three_begin logs first files
