@@ -14,7 +14,7 @@ returns-in-Open-clause-kept g c =
     let id = c.args.staffed.cluster.first in
     let served = c.serve.result in
     let begins = begins_from g.H.Hooks.finds g.H.Hooks.names g.H.HookChanges.takes _ stay.folder id files c.args.staffed.begun served (λ s. vec_len s.closed.vnodes ≡ c.args.staffed.cluster.vnodes) c.loads_stand.ensures
-        c.requires.begun c.serve.ensures.kept in
+    c.requires.begun c.serve.ensures.kept in
     subst (λ (left : Result Left Unbegun). Leaves stay.folder id files left) (sym c.left_of.ensures)
     (left_so stay.folder id files served (left_from stay.folder id files _ served (c.deref-in-Open.ensures.value ∙ fronts) begins c.serve.ensures.said))
 
@@ -34,6 +34,6 @@ returns-clause-kept g c =
     let id = c.args.staffed.cluster.first in
     let served = c.serve-in-Closed.result in
     let begins = begins_from g.H.Hooks.finds g.H.Hooks.names g.H.HookChanges.takes _ stay.folder id files c.args.staffed.begun served (λ s. vec_len s.closed.vnodes ≡ c.args.staffed.cluster.vnodes) c.loads_stand.ensures
-        c.requires.begun c.serve-in-Closed.ensures.kept in
+    c.requires.begun c.serve-in-Closed.ensures.kept in
     subst (λ (left : Result Left Unbegun). Leaves stay.folder id files left) (sym c.left_of-in-Closed.ensures)
     (left_so stay.folder id files served (left_from stay.folder id files _ served (c.deref-in-Closed.ensures.value ∙ fronts) begins c.serve-in-Closed.ensures.said))
