@@ -35,7 +35,7 @@ fn file_of(alloc: Global, from: u32) -> Result<KeptFile, Fail> {
         records.push(Record {
             key: Key::new(alloc, b"b", &number.to_be_bytes())?,
             from,
-            at: number as u32,
+            at: number as u64,
             state,
         })?;
     }
