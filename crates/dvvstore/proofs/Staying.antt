@@ -18,7 +18,6 @@ use Rattle.dvvstore.specs.declared.keeper.Door.TheVariants as door
 use Rattle.dvvstore.specs.declared.keeper.Unbegun.{Unbegun}
 use Rattle.dvvstore.specs.declared.keeper.Unbegun.TheVariants.{Unreadable}
 use Rattle.dvvstore.specs.declared.session.Left.{Left}
-use Rattle.dvvstore.specs.declared.session.Left.TheVariants.{Kept, Lost}
 
 pub leaves_as : {F : Type 0} → (folder : Option F) (first number : ℕ) (files : List KeptFile) (left : Result Left Unbegun) → first ≡ number → Leaves folder first files left → Leaves folder number files left
 leaves_as folder first number files left is so = subst (λ (n : ℕ). Leaves folder n files left) is so
@@ -63,13 +62,6 @@ tells_closed d address served left before after is same begun =
 pub tells_unreadable : {N : Type 0} → (d : Door N) (left : Result Left Unbegun) (before after : Option (List ℕ)) → IsErrAnd left (λ why. why ≡ Unreadable) → Tells d left before after
 tells_unreadable d (Ok left) before after was = absurd was
 tells_unreadable d (Err why) before after was = subst (λ (w : Unbegun). Tells d (Err w) before after) (sym was) tt
-
--- what was told at the beginning of a store of which something is left, and of one of which nothing is
-pub kept_tells : {N : Type 0} {d : Door N} → (left : Left) (served : Served) (before after : Option (List ℕ)) → left ≡ Kept served → Tells d (Ok left) before after → TellsBeginning d before after
-kept_tells {d = d} left served before after is told = subst (λ (l : Left). Tells d (Ok l) before after) is told
-
-pub lost_tells : {N : Type 0} {d : Door N} → (left : Left) (before after : Option (List ℕ)) → left ≡ Lost → Tells d (Ok left) before after → TellsBeginning d before after
-lost_tells {d = d} left before after is told = subst (λ (l : Left). Tells d (Ok l) before after) is told
 
 -- what is left of a store that has begun with files: its journals begin with the merges of these, and what is said is said from its fronts on
 pub left_from : {F E : Type 0} → (folder : Option F) (first : ℕ) (files : List KeptFile) (fronts : List ℕ) (served : Result Served E) → fronts ≡ fronts_for folder files

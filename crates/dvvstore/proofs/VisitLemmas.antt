@@ -203,7 +203,7 @@ pub begins_from : {H F B E : Type 0} (finds : H → List ℕ → ImageKind → R
     → IfOk served (λ s. AfterVisits finds names takes starts (λ told. AreGathered told begun.spares s.closed.vnodes.items) × More s)
     → IfOk served (λ s. BeginWithFiles s.closed.vnodes.items first files 3)
 begins_from finds names takes starts folder first files begun (Err why) More stand has kept = kept
-begins_from finds names takes starts folder first files begun (Ok s) More stand (one, two, three, a, b, c, rest) kept =
+begins_from finds names takes starts folder first files begun (Ok s) More stand (one, two, three, a, b, c, fronts, number) kept =
     let found = gathered_after finds names takes starts begun.spares s.closed.vnodes.items kept.0 in
     let logs = s.closed.vnodes.items in
     three_begin logs first files

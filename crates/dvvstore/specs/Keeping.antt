@@ -31,8 +31,7 @@ TellsBeginning (door.Closed address) before after = HasBegun before after
 
 -- how a store began, or nothing where it didn't
 abbrev pub Tells : {N : Type 0} → Door N → Result Left Unbegun → Option (List ℕ) → Option (List ℕ) → Type 0
-Tells door (Ok (Kept served)) before after = TellsBeginning door before after
-Tells door (Ok Lost) before after = TellsBeginning door before after
+Tells door (Ok left) before after = TellsBeginning door before after
 Tells door (Err Unreadable) before after = Unit {0}
 Tells door (Err NoMemory) before after = after ≡ before
 Tells door (Err (Records unloaded)) before after = after ≡ before
