@@ -17,6 +17,10 @@ HERE = Path(__file__).resolve().parent
 
 MAX_COUNTER = 2**62
 
+# The marks of records whose place has four bytes and eight.
+NARROW = b"DVR1"
+WIDE = b"DVR2"
+
 
 # Rows, and what is told of them
 
@@ -74,8 +78,13 @@ class Record:
         self.sender = sender
         self.at = at
 
-    def head(self):
-        return short(self.bucket) + short(self.key) + struct.pack(">II", self.sender, self.at)
+    def head(self, wide=None):
+        """What stands before the clock; the place in eight bytes where that is asked for, or four don't hold it."""
+        place = ">IQ" if self.is_wide(wide) else ">II"
+        return short(self.bucket) + short(self.key) + struct.pack(place, self.sender, self.at)
+
+    def is_wide(self, wide=None):
+        return self.at >= 2**32 if wide is None else wide
 
     def clock_bytes(self):
         return struct.pack(">H", len(self.clock)) + b"".join(struct.pack(">IQ", *entry) for entry in self.clock)
@@ -84,8 +93,11 @@ class Record:
         siblings = b"".join(struct.pack(">IQ", vnode, n) + content[0] for vnode, n, content in self.siblings)
         return struct.pack(">I", self.count) + siblings
 
+    def body(self, wide=None):
+        return self.head(wide) + self.clock_bytes() + self.sibling_bytes()
+
     def bytes(self):
-        return framed(self.head() + self.clock_bytes() + self.sibling_bytes())
+        return framed(self.body(), WIDE if self.is_wide() else NARROW)
 
     def told(self):
         """What is told of a record that is read, as one with these parts is."""
@@ -101,9 +113,9 @@ class Record:
         return "|".join(parts)
 
 
-def framed(body):
+def framed(body, mark=NARROW):
     """A record with this body, under the right digest."""
-    return b"DVR1" + long(body) + hashlib.sha1(body).digest()
+    return mark + long(body) + hashlib.sha1(body).digest()
 
 
 def record_row(name, data, told):
@@ -244,6 +256,31 @@ def siblings():
         yield row_of(name, Record(SEEN, items, count), fault)
 
 
+# Places that are spelled as they are, and those that aren't: whether their bytes are eight, and the mark before them.
+PLACES = [("0", 0), ("2^32-1", 2**32 - 1), ("2^32", 2**32), ("2^62", 2**62), ("2^64-1", 2**64 - 1)]
+
+UNCANONICAL_PLACES = [
+    ("place 0 in eight bytes", 0, True, WIDE),
+    ("place 2^32-1 in eight bytes", 2**32 - 1, True, WIDE),
+    ("place 1 in four bytes behind DVR2", 1, False, WIDE),
+    ("place 2^32 in eight bytes behind DVR1", 2**32, True, NARROW),
+]
+
+
+def places():
+    for name, at in PLACES:
+        yield row_of(f"place {name}", Record([(0, 1)], [FIRST], at=at))
+    for name, at, wide, mark in UNCANONICAL_PLACES:
+        yield record_row(name, framed(Record([(0, 1)], [FIRST], at=at).body(wide), mark), "W4")
+    data = Record([(0, 1)], [FIRST], at=2**32).bytes()
+    for length in (4, 8, 13, len(data) - 1):
+        yield record_row(f"place 2^32, front of {length}", data[:length], "W1")
+    yield record_row("place 2^32 behind DVR3", b"DVR3" + data[4:], "W2")
+    changed = bytearray(data)
+    changed[24] ^= 1
+    yield record_row("place 2^32, byte 24 changed", bytes(changed), "W3")
+
+
 RECORDS = {
     "Whole records; what follows one doesn't count.": whole_records,
     "Each front of a record is cut.": fronts,
@@ -251,6 +288,7 @@ RECORDS = {
     "How long names and media types may be.": longest_names,
     "Clocks over one sibling, under right digests.": clocks,
     "Siblings under the clock 0:2 1:9, under right digests.": siblings,
+    "Places, in four bytes behind DVR1 and in eight behind DVR2, under right digests.": places,
 }
 
 
