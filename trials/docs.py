@@ -31,7 +31,7 @@ TESTING = "docs/TESTING.md"
 BLOCK = re.compile(r"(?:^    .*\n(?:(?:^ *\n)*(?=^    ))?)+", re.M)
 LENGTH = re.compile(r"Content-Length: \d+")
 TAG = r"\d{6,10}-\d+"
-CONTEXT = r"A[gQ][A-Za-z0-9+/]{10,}={0,2}"
+CONTEXT = r"A[gQw][A-Za-z0-9+/]{10,}={0,2}"
 NAMED = re.compile(rf"{CONTEXT}|{TAG}")
 PROMPT = "$ "
 NOT_COPIED = shutil.ignore_patterns(".git", "out", "*.rt", "*.antt", "*.edit")

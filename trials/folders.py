@@ -26,7 +26,9 @@ PROMISES = "A folder that can't be had or written is told in a line, and keeps w
 QUICK = True
 FULL = SHORT = Whole()
 
-WRONG_SETTINGS = ("", "snapshot", "snapshot \n", "snapshot -1\n", "snapshot 007\n", "snapshot 4294967296\n", "snapshot 1\n\n", "snapshot 1")
+WRONG_SNAPSHOTS = ("snapshot", "snapshot \n", "snapshot -1\n", "snapshot 007\n", "snapshot 4294967296\n", "snapshot 1\n\n", "snapshot 1")
+WRONG_NUMBERS = ("number\n", "number -1\n", "number 16777216\n", "number 1\nnumber 2\n", "snapshot 1\nnumber 1\nsnapshot 1\n", "number 1 ")
+WRONG_SETTINGS = ("", *WRONG_SNAPSHOTS, *WRONG_NUMBERS)
 BY_THEMSELVES = {"snapshot 1\n": True, "snapshot 0\n": False}
 WAIT_SECONDS = 3.0
 FEW_BYTES = 200
@@ -149,4 +151,5 @@ def run(program: Path, seed: int, size: Whole) -> Result:
         try_lacking_number(found, program, folder)
         try_unwritten_stop(found, program, folder)
     try_served(found, program)
-    return found.result(f"{len(WRONG_SETTINGS)} settings refused, {len(BY_THEMSELVES)} taken, {STARTS_IN_VAIN} starts in vain, 2 folders changed")
+    refused = f"{len(WRONG_SETTINGS)} settings refused, {len(BY_THEMSELVES)} taken"
+    return found.result(f"{refused}, {STARTS_IN_VAIN} starts in vain, 2 folders changed")

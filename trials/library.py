@@ -43,7 +43,7 @@ Verdict = tuple[int, bytes | None]
 
 @dataclass(frozen=True)
 class Size:
-    """How many layouts, and how many inputs of hostile bytes, each hook is run on; and whether images are made anew, as `fresh` does too."""
+    """How many layouts and how many inputs of hostile bytes each hook is run on, and whether images are made anew, as `fresh` does too."""
 
     layouts: int
     hostile: int

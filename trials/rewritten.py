@@ -1,8 +1,8 @@
 """Keys that are written again each time that their store is started: one sibling each, whose clock has an entry for each start.
 
 A kept store is started four times. Each time many keys are read and then written with the context that came, 64 requests together.
-A key's context has to have one entry for each start before, each of the same vnode's index, of the incarnations 0, 1 and so on, and
-of one write, and its value has to be the last start's. Told are the bytes a key that the process holds at the end of each start,
+A key's context has to have one entry for each start before, each of the same vnode's index, of numbers that rise from start to
+start, and of one write, and its value has to be the last start's. Told are the bytes a key that the process holds at the end of each start,
 less what it held before any key.
 """
 from __future__ import annotations
@@ -50,7 +50,9 @@ def is_right(answer: Answer, starts: int) -> bool:
     if (answer.status, answer.body) != (200, value(starts - 1)):
         return False
     entries = entries_of(answer.context)
-    return [(entry.index, entry.incarnation, entry.count) for entry in entries] == [(entries[0].index, start, 1) for start in range(starts)]
+    numbers = [entry.number for entry in entries]
+    is_of_starts = len(numbers) == starts and all(sooner < later for sooner, later in zip(numbers, numbers[1:]))
+    return is_of_starts and all((entry.index, entry.count) == (entries[0].index, 1) for entry in entries)
 
 
 def rewrite(client: Client, start: int, numbers: list[int]) -> int:

@@ -36,6 +36,7 @@ from trial import Findings, Result, Skipped, with_settings, words_of  # noqa: E4
 NAMES = (
     "alone",
     "starts",
+    "start_numbers",
     "stop",
     "slow_stop",
     "service",
@@ -50,6 +51,7 @@ NAMES = (
     "descriptors",
     "troubles",
     "strangers",
+    "deaf",
     "crowd",
     "rewritten",
     "flat",

@@ -28,6 +28,7 @@ ANSWER_SECONDS = 100
 HEAD_END = b"\r\n\r\n"
 CONTEXT, TAG = "x-riak-vclock", "x-riak-tag"
 PING_PATH = "/ping"
+VNODES_PER_NUMBER = 256
 
 
 # Requests and answers
@@ -71,20 +72,47 @@ class Answer:
 
 @dataclass(frozen=True)
 class ContextEntry:
-    """An entry of a context: so many writes of a vnode's incarnation."""
+    """An entry of a context: so many writes of a vnode."""
 
-    index: int
-    incarnation: int
+    vnode: int
     count: int
+
+    @property
+    def number(self) -> int:
+        """The number of the start whose vnode it is."""
+        return self.vnode // VNODES_PER_NUMBER
+
+    @property
+    def index(self) -> int:
+        return self.vnode % VNODES_PER_NUMBER
+
+
+# How long an entry of a context is, by the context's version.
+ENTRY_BYTES = {2: 11, 3: 12}
 
 
 def entries_of(context: str) -> list[ContextEntry]:
     """The entries of a context, as its format has them."""
     spelled = base64.b64decode(context)
     version, count = struct.unpack_from(">BH", spelled)
-    if version != 2 or len(spelled) != 3 + 11 * count:
+    length = ENTRY_BYTES.get(version)
+    if length is None or len(spelled) != 3 + length * count:
         raise ValueError(f"the context {context!r}")
-    return [ContextEntry(*struct.unpack_from(">BHQ", spelled, 3 + 11 * place)) for place in range(count)]
+    return [entry_of(version, spelled[3 + length * place :]) for place in range(count)]
+
+
+def entry_of(version: int, spelled: bytes) -> ContextEntry:
+    """The entry in front of these bytes: the second version has a number of 16 bits, which stands for 256 numbers of the third's 24."""
+    if version == 2:
+        index, number, count = struct.unpack_from(">BHQ", spelled)
+        return ContextEntry(number * 65_536 + index, count)
+    index, high, low, count = struct.unpack_from(">BBHQ", spelled)
+    return ContextEntry((high * 65_536 + low) * VNODES_PER_NUMBER + index, count)
+
+
+def vnode_of(tag: str) -> int:
+    """The vnode that gave a tag."""
+    return int(tag.partition("-")[0])
 
 
 # A client

@@ -9,8 +9,8 @@ moment of a start has to end it, and the folder to start again. Wrong words, a f
 bound have their statuses.
 
 Copies are made by the line of docs/OPERATIONS.md, beside writers and snapshots: each has to start, and to have what was
-acknowledged before the last whole snapshot. One is put back by the lines of that page: no tag may come twice, and a context of what
-the copy hasn't seen has to be refused.
+acknowledged before the last whole snapshot. One is put back by the lines of that page, with a number above those of these starts,
+which came quicker than one a minute: no tag may come twice, and a context of what the copy hasn't seen has to be refused.
 
 The unit has to pass `systemd-analyze verify`, where there is one.
 """
@@ -52,7 +52,7 @@ SHORT = Size(hurried_starts=6, copies=2)
 WRAPPER = TOP / "service" / "dvvstore-service"
 UNIT = TOP / "service" / "dvvstore.service"
 PAGE = TOP / "docs" / "OPERATIONS.md"
-MAKES_A_COPY, PUTS_IT_BACK, RAISES_THE_NUMBER = "-cf copy.tar", "-xf copy.tar", "sha1sum"
+MAKES_A_COPY, PUTS_IT_BACK, RAISES_THE_NUMBER = "-cf copy.tar", "-xf copy.tar", "number $N"
 TAKEN = (0, 1)  # where a file was replaced while it was read it is 1
 INSTALLED = "/usr/local/bin/dvvstore-service"
 FILES = {"incarnation", "lock", "vnode-0.records", "vnode-1.records", "vnode-2.records", "hooks.requests", kept.SETTINGS}
