@@ -389,3 +389,11 @@ pub last_untold : (passes rest : List View) (pass : View) → All (λ (p : View)
 last_untold passes rest pass fresh is =
     let there : Contains passes pass = subst (λ (ps : List View). Contains ps pass) (sym is) (Contains-append_right rest (pass ∷ []) pass (0, omega arith, refl)) in
     ap (λ (v : View). v.told) (All-contains (λ (p : View). p ≡ pass_view 0 []) passes pass fresh there)
+
+-- ---- what the pass of a watch is told is its own
+
+pub still_own : (old new : List Told) → All IsOfWatch old → IsToldMore old new → All IsOfWatch new
+still_own old new all (more, is, own) = subst (λ (ts : List Told). All IsOfWatch ts) (sym is) (All-append IsOfWatch old more all own)
+
+pub roused_own : (first : ℕ) (taken : Taken) (more : List Told) → All (λ t. IsIdle first taken t.vnode × IsRestart t.news) more → All IsOfWatch more
+roused_own first taken more all = All-weaker (λ (t : Told). IsIdle first taken t.vnode × IsRestart t.news) IsOfWatch (λ t h. inr h.1) more all

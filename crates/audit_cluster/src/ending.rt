@@ -1,12 +1,12 @@
 //! The end of a cluster that was followed.
 
-ghost use Rattle.std.specs.Prelude.{◌≡◌, ◌<◌, ◌≤◌, ◌+◌, ◌++◌, ℕ, length, vec_len, None, Some, OnOk, IfOk, IfErr, IsTrue};
+ghost use Rattle.std.specs.Prelude.{◌≡◌, ◌<◌, ◌≤◌, ◌+◌, ◌++◌, ℕ, [], All, Err, length, vec_len, None, Some, OnOk, IfOk, IfErr, IsTrue};
 ghost use Rattle.std.specs.List.{flat_map};
 ghost use Rattle.audit_faults.specs.declared.fault.AuditFault.{AuditFault as Faulted};
 ghost use Rattle.audit_faults.specs.Unsaid.{IsNoYes};
 ghost use Rattle.cluster_vnode.specs.Gathers.{IsGathered};
 ghost use Rattle.world.specs.Represents.{log_at};
-ghost use Rattle.audit_cluster.specs.Following.{AreFronts, IsFollowedTo, IsLong, IsSaidOf, IsTakenTo, StopsIn, answers_kept};
+ghost use Rattle.audit_cluster.specs.Following.{AreFronts, IsFollowedTo, IsLong, IsOfWatch, IsSaidOf, IsTakenTo, StopsIn, answers_kept};
 
 use crate::copying::rest_of;
 use crate::watch::{Spot, Watch};
@@ -14,7 +14,42 @@ use audit_faults::{Followed, TakeFault, WatchFault};
 use audit_follower::Follower;
 use cluster::{Cluster, Pass, Room, hand_outs_are_a_front};
 use std::alloc::{AllocError, Global};
+use std::marker::Model;
 use vnode::Vnode;
+
+/// What is said of the journals of a cluster that was followed. That they are one run can only be had of [`close_watched`]: nobody else
+/// makes a verdict, but one that says nothing of them.
+#[derive(Debug, Drop)]
+pub struct Verdict {
+    said: Followed,
+}
+
+impl Model for Verdict {
+    ghost use Rattle.std.specs.Prelude.{Result};
+    ghost use Rattle.audit_faults.specs.declared.fault.WatchFault.{WatchFault};
+
+    ghost Value = { Result (Unit {0}) WatchFault };
+
+    ghost view = { λ v. v.said };
+}
+
+impl Verdict {
+    /// There was no memory, and nothing is said of the journals.
+    pub fn no_memory() -> Self
+        ensures { result ≡ Err WatchFault.NoMemory }
+    {
+        Verdict {
+            said: Err(WatchFault::NoMemory),
+        }
+    }
+
+    /// That the journals are one run, or why it isn't found.
+    pub fn said(&self) -> Followed
+        ensures { result ≡ self.now }
+    {
+        self.said
+    }
+}
 
 /// A cluster that has ended: its vnodes, and what is said of their journals.
 #[derive(Drop)]
@@ -22,37 +57,19 @@ pub struct Closed {
     /// The vnodes, in the order of their identifiers.
     pub vnodes: Vec<Vnode>,
     /// That the journals are one run, or why it isn't found.
-    pub said: Followed,
+    pub said: Verdict,
 }
 
-/// Gathers a cluster, all of whose passes are back, the watch's too, and has what is left of the journals of its vnodes followed. Nothing
-/// was there before: the journals are one run from their first entries on.
+/// Gathers a cluster, all of whose passes are back, the watch's too, and has what is left of the journals of its vnodes followed. So many
+/// of the first entries of each vnode, by index, were there before: its front, from which the watch began. The journals are one run from
+/// there on, for each beginning that has led to the fronts; where there are none, from their first entries on. The vnodes are handed back,
+/// whatever is said of them.
 ///
-/// The fault is the follower's, which may have found it while the cluster served: so much of the journals is one run, and the entry that
-/// comes next is wrong so. `Lost` where it didn't take all that the vnodes handed out, or follows others, or began from fronts. `NoMemory`
-/// where a growth was refused.
+/// What is said is the follower's fault, which may have been found while the cluster served: so much of the journals is one run, and the
+/// entry that comes next is wrong so. `Lost` where it didn't take all that the vnodes handed out, or follows others, or began from other
+/// fronts. `NoMemory` where a growth was refused. The error, `AllocError`: a growth was refused before the vnodes were gathered, and they
+/// are lost.
 pub fn close_watched<B: Room + Spot>(
-    alloc: Global,
-    cluster: Cluster<B>,
-    passes: Vec<Pass<B>>,
-    watch: Watch<B>,
-) -> Followed
-    requires back { cluster.passes ≤ vec_len passes + 1 }
-    ensures followed { IsFollowedTo (flat_map (λ p. p.told) passes.items ++ watch.told) cluster.vnodes result }
-{
-    match close_keeping(alloc, cluster, passes, watch, &[]) {
-        Ok(closed) => closed.said,
-        Err(_) => Err(WatchFault::NoMemory),
-    }
-}
-
-/// The same of a cluster of which so many of the first entries of each vnode, by index, were there before: its front, from which the watch
-/// began. The journals are one run from there on, for each beginning that has led to the fronts. The vnodes are handed back, whatever is
-/// said of them.
-///
-/// What is said is `Lost`, too, where the watch began from other fronts. `AllocError` where a growth was refused before the vnodes were
-/// gathered: they are lost.
-pub fn close_keeping<B: Room + Spot>(
     alloc: Global,
     cluster: Cluster<B>,
     mut passes: Vec<Pass<B>>,
@@ -62,6 +79,10 @@ pub fn close_keeping<B: Room + Spot>(
     requires back { cluster.passes ≤ vec_len passes + 1 }
     ensures kept { IfOk result (λ closed. IsGathered (flat_map (λ p. p.told) passes.items ++ watch.told) closed.vnodes.items × (vec_len closed.vnodes ≡ cluster.vnodes)) }
     ensures said { IfOk result (λ closed. IsSaidOf fronts.now closed.vnodes.items closed.said) }
+    // The calls of the watch are its own.
+    ensures watched { All IsOfWatch watch.told }
+    // Where nothing was there before, a yes is that of the journals from their first entries on.
+    ensures followed { IfOk result (λ closed. fronts.now ≡ [] → IsFollowedTo (flat_map (λ p. p.told) passes.items ++ watch.told) cluster.vnodes closed.said) }
 {
     let Watch {
         pass,
@@ -80,6 +101,7 @@ pub fn close_keeping<B: Room + Spot>(
             } else {
                 Err(WatchFault::Lost)
             };
+            let said = Verdict { said };
             Ok(Closed { vnodes, said })
         }
         Err(_) => Err(AllocError),

@@ -11,6 +11,6 @@ mod watch;
 pub use audit_faults::{Followed, WatchFault};
 pub use audit_follower::Start;
 pub use closing::{Audited, CloseFault, audit_vnodes};
-pub use ending::{Closed, close_keeping, close_watched};
+pub use ending::{Closed, Verdict, close_watched};
 pub use limits::RECENT;
 pub use watch::{Alarm, Notice, Spot, Watch};

@@ -65,14 +65,14 @@ pub struct Watch<B: Room + Spot> {
 }
 
 impl<B: Room + Spot> Model for Watch<B> {
-    ghost use Rattle.std.specs.Prelude.{◌≡◌, None};
-    ghost use Rattle.audit_cluster.specs.Following.{Watched, Watches, answers_kept};
+    ghost use Rattle.std.specs.Prelude.{◌≡◌, All, None};
+    ghost use Rattle.audit_cluster.specs.Following.{IsOfWatch, Watched, Watches, answers_kept};
 
     ghost Value = { Watched };
 
     ghost view = { λ w. record { told = w.pass.told; taken = w.follower } };
 
-    ghost invariant = { λ w. (w.first ≡ B.first) × (w.follower.recent ≡ answers_kept) × (w.lost ≡ None → Watches B.first w.vnodes w.pass.told w.follower) };
+    ghost invariant = { λ w. (w.first ≡ B.first) × (w.follower.recent ≡ answers_kept) × All IsOfWatch w.pass.told × (w.lost ≡ None → Watches B.first w.vnodes w.pass.told w.follower) };
 }
 
 // The number after the stamp of the last entry that was handed out.

@@ -355,7 +355,7 @@ source_fault logs counts now recent head e Illegal distinct rising single run ne
 pub told_fault : (logs : List Log) (counts : List ℕ) (now : List Log) (recent : Recent) (head : Head) (e : Entry) (fault : AuditFault) → AreDistinct (ids_of logs) → NoneFalls logs → NoneTwice logs → AreLegal logs → max_entries ≤ recent.always → HasRun logs counts now
     → IsNextBelow logs counts (length logs) head → EntryIn logs head.index (count_at counts head.index) e → IsToldOf [] now recent head.index e fault → IsFault logs fault × IsOneOf IsOfSource fault
 told_fault logs counts now recent head e NoMemory distinct rising single legal all run next there told = (rising, tt)
-told_fault logs counts now recent head e (Found code vnode place) distinct rising single legal all run next there (id, end, wrong) =
+told_fault logs counts now recent head e (Found code vnode place) distinct rising single legal all run next there (id, end, wrong, first) =
     let i = head.index in
     let is = of_source logs counts now recent i e code distinct rising single legal all run there wrong in
     let so_far = run.fronts.each i there.0 in

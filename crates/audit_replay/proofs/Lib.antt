@@ -12,5 +12,6 @@ mod Grown
 mod Answered
 mod Going
 mod Telling
+pub mod Staying
 mod Fronts
 pub mod Faultless

@@ -1,6 +1,6 @@
 -- Nothing was followed yet.
 use Rattle.std.proofs.Common.{◌≡◌, ℕ, zero, suc, ◌+◌, ◌<◌, ◌≤◌, inl, List, [], ◌∷◌, ◌++◌, length, get_or, take, replicate, refl, sym, ap, subst, ◌∙◌, arith, Some, None}
-use Rattle.std.specs.Prelude.{slice_get, Result, Ok, Err, OnOk, IfErr}
+use Rattle.std.specs.Prelude.{slice_get, Result, Ok, Err, OnOk, OnErr, IfErr}
 use Rattle.std.specs.Result.{IsErrAnd}
 use Rattle.std.specs.List.Sorted.{IsPermutation}
 use Rattle.std.proofs.lemmas.List.{length-map, length-replicate, replicate_more, take_more, take_all}
@@ -108,6 +108,10 @@ on_ok (Err e) P Q h f = tt
 pub on_any : {T E : Type 0} (r : Result T E) (P : Type 0) → P → OnOk r P
 on_any (Ok x) P h = h
 on_any (Err e) P h = tt
+
+pub on_any_err : {T E : Type 0} (r : Result T E) (P : Type 0) → P → OnErr r P
+on_any_err (Ok x) P h = tt
+on_any_err (Err e) P h = h
 
 -- a fault that is passed on is the one that was told
 pub passed : {T : Type 0} (r : Result T AuditFault) (fault : AuditFault) (P : AuditFault → Type 0) → IsErrAnd r (λ e. e ≡ fault) → P fault → IfErr r P

@@ -18,7 +18,7 @@ use Rattle.audit_replay.specs.declared.kept.Kept.TheVariants as kept
 use Rattle.audit_replay.specs.Beginnings.{AreWhole, IsBehind, IsInFront}
 use Rattle.audit_replay.specs.declared.kept.Recent.{Recent}
 use Rattle.audit_replay.specs.Kept.{IsOver}
-use Rattle.audit_replay.specs.Followed.{AreAnswers, IsAnswered, kept_at}
+use Rattle.audit_replay.specs.Followed.{AreAnswers, IsAbove, IsAnswered, kept_at}
 
 -- a read of this key stands at a place of the vnode with an identifier, behind its front
 abbrev pub IsReadAt : List ℕ → List Log → ℕ → ℕ → Key → Type 0
@@ -86,11 +86,35 @@ IsHeld fronts logs recent index e = IsInFront fronts logs index ⊎ NamesHeld fr
 abbrev pub IsAfterAll : List Log → Entry → Type 0
 IsAfterAll logs e = (index place : ℕ) (a : Entry) → EntryIn logs index place a → stamp_of a < stamp_of e
 
--- what is told of the next entry of the vnode with this index: what is wrong with it, at its identifier and place; or memory was refused, and none of
+-- an entry that is a merge names no vnode that is followed, or an entry whose answer is kept
+abbrev pub IsKnown : List ℕ → List Log → Recent → Entry → Type 0
+IsKnown fronts logs recent (Merge stamp key from at state) =
+    ((index : ℕ) → index < length logs → (log_at logs index).vnode ≢ from) ⊎ ((index : ℕ) × (index < length logs) × ((log_at logs index).vnode ≡ from) × IsHeldAt fronts logs recent index at)
+IsKnown fronts logs recent (Put stamp key seen content dot) = Unit {0}
+IsKnown fronts logs recent (Read stamp key) = Unit {0}
+IsKnown fronts logs recent (Restart stamp) = Unit {0}
+
+-- the highest stamp that was followed is one of the vnode with this index
+abbrev pub IsHighest : List Log → ℕ → ℕ → Type 0
+IsHighest logs index stamp = ((place : ℕ) × (a : Entry) × EntryIn logs index place a × (stamp_of a ≡ stamp)) × ((other there : ℕ) (b : Entry) → EntryIn logs other there b → stamp_of b ≤ stamp)
+
+-- Which of several faults is told of the next entry of the vnode with this index: its stamp comes first, then its place behind the fronts, then its source, then
+-- whether it is legal. A stamp that isn't above the highest one falls where that one is of its own vnode; else it stands twice where they are the same, and is late
+-- where it is below.
+abbrev pub IsFirst : List ℕ → List Log → Recent → ℕ → Entry → EntryFault → Type 0
+IsFirst fronts logs recent index e Falls = (highest : ℕ) × IsHighest logs index highest × (stamp_of e ≤ highest)
+IsFirst fronts logs recent index e Twice = (other : ℕ) × (other ≢ index) × IsHighest logs other (stamp_of e)
+IsFirst fronts logs recent index e Late = ((other highest : ℕ) × (other ≢ index) × IsHighest logs other highest × (stamp_of e < highest)) ⊎ IsAfterAll logs e
+IsFirst fronts logs recent index e GivenUp = IsAfterAll logs e × AreWhole fronts logs
+IsFirst fronts logs recent index e NoSource = IsAfterAll logs e × AreWhole fronts logs × IsKnown fronts logs recent e
+IsFirst fronts logs recent index e OtherState = IsAfterAll logs e × AreWhole fronts logs × IsKnown fronts logs recent e
+IsFirst fronts logs recent index e Illegal = IsAfterAll logs e × IsFounded fronts logs index e × IsHeld fronts logs recent index e
+
+-- what is told of the next entry of the vnode with this index: what is wrong with it first, at its identifier and place; or memory was refused, and none of
 -- these faults, but that it may not be legal
 abbrev pub IsToldOf : List ℕ → List Log → Recent → ℕ → Entry → AuditFault → Type 0
-IsToldOf fronts logs recent index e (Found code vnode place) = ((log_at logs index).vnode ≡ vnode) × (length (log_at logs index).entries ≡ place) × IsWrong fronts logs recent index e code
-IsToldOf fronts logs recent index e NoMemory = IsAfterAll logs e × IsFounded fronts logs index e
+IsToldOf fronts logs recent index e (Found code vnode place) = ((log_at logs index).vnode ≡ vnode) × (length (log_at logs index).entries ≡ place) × IsWrong fronts logs recent index e code × IsFirst fronts logs recent index e code
+IsToldOf fronts logs recent index e NoMemory = IsAfterAll logs e × IsFounded fronts logs index e × IsHeld fronts logs recent index e
 
 -- ---- how the faults are found
 
@@ -102,7 +126,7 @@ IsNewest logs last newest = MatchOption last (Unit {0}) (λ stamp. (place : ℕ)
 abbrev pub IsStampWrong : ℕ → ℕ → ℕ → ℕ → EntryFault → Type 0
 IsStampWrong last newest index stamp Falls = (newest ≡ index) × (stamp ≤ last)
 IsStampWrong last newest index stamp Twice = (newest ≢ index) × (last ≡ stamp)
-IsStampWrong last newest index stamp Late = stamp < last
+IsStampWrong last newest index stamp Late = (newest ≢ index) × (stamp < last)
 IsStampWrong last newest index stamp NoSource = ⊥
 IsStampWrong last newest index stamp OtherState = ⊥
 IsStampWrong last newest index stamp GivenUp = ⊥
@@ -137,10 +161,10 @@ IsSourceFault logs answers (Put stamp key seen content dot) code = ⊥
 IsSourceFault logs answers (Read stamp key) code = ⊥
 IsSourceFault logs answers (Restart stamp) code = ⊥
 
--- an entry that is behind the front of the vnode with this index comes before the fronts are whole, or its source is wrong
+-- an entry that is behind the front of the vnode with this index comes before the fronts are whole, or they are and its source is wrong
 abbrev pub IsPlaceFault : List ℕ → List Log → List (List Kept) → ℕ → Entry → EntryFault → Type 0
-IsPlaceFault fronts logs answers index e code = IsBehind fronts index (length (log_at logs index).entries) × (((code ≡ Late) × ((other : ℕ) × (other < length logs) × IsInFront fronts logs other)) ⊎ IsSourceFault logs answers e code)
+IsPlaceFault fronts logs answers index e code = IsBehind fronts index (length (log_at logs index).entries) × (((code ≡ Late) × ((other : ℕ) × (other < length logs) × IsInFront fronts logs other)) ⊎ (AreWhole fronts logs × IsSourceFault logs answers e code))
 
--- what an entry is found to be
+-- what an entry is found to be: its stamp comes first
 abbrev pub IsFoundWrong : List ℕ → List Log → List (List Kept) → Option ℕ → ℕ → ℕ → Entry → EntryFault → Type 0
-IsFoundWrong fronts logs answers last newest index e code = IsStampFault last newest index (stamp_of e) code ⊎ IsPlaceFault fronts logs answers index e code
+IsFoundWrong fronts logs answers last newest index e code = IsStampFault last newest index (stamp_of e) code ⊎ (IsAbove last (stamp_of e) × IsPlaceFault fronts logs answers index e code)

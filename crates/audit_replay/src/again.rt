@@ -1,11 +1,12 @@
 //! An entry happens again.
 
-ghost use Rattle.std.specs.Prelude.{◌≡◌, IfOk, OnOk, Err};
+ghost use Rattle.std.specs.Prelude.{◌≡◌, IfOk, OnOk, OnErr, Err};
 ghost use Rattle.journal.specs.Entry.{Put, Merge, Read, Restart};
 ghost use Rattle.journal.specs.Journals.{MayFollow};
 ghost use Rattle.journal.specs.Logs.{with_entry};
 ghost use Rattle.audit_replay.specs.Again.{Tells};
 ghost use Rattle.audit_replay.specs.Followed.{IsToKeep};
+ghost use Rattle.audit_replay.specs.Reran.{HasOneMore};
 
 use crate::kept::Kept;
 use dvv::Dot;
@@ -77,6 +78,7 @@ fn put_again(
     ensures kept { IfOk result (λ again. IsToKeep vnode.old.entries (Put stamp write.value.key write.value.seen write.value.content dot) again.1) }
     ensures illegal { result ≡ Err Refusal.Illegal → MayFollow vnode.old.vnode vnode.old.entries (Put stamp write.value.key write.value.seen write.value.content dot) → ⊥ }
     ensures id { vnode.new.vnode ≡ vnode.old.vnode }
+    ensures stays { OnErr result (HasOneMore vnode.old vnode.new) }
 {
     let key = write.key.copy()?;
     let put = vnode.put(stamp, write)?;
@@ -94,6 +96,7 @@ fn merge_again(vnode: &mut Vnode, stamp: u64, merged: Box<Merged>) -> Result<(Ag
     ensures kept { IfOk result (λ again. IsToKeep vnode.old.entries (Merge stamp merged.value.key merged.value.from merged.value.at merged.value.state) again.1) }
     ensures illegal { result ≡ Err Refusal.Illegal → MayFollow vnode.old.vnode vnode.old.entries (Merge stamp merged.value.key merged.value.from merged.value.at merged.value.state) → ⊥ }
     ensures id { vnode.new.vnode ≡ vnode.old.vnode }
+    ensures err { OnErr result (vnode.new ≡ vnode.old) }
 {
     let key = merged.key.copy()?;
     let merge = vnode.merge(stamp, merged)?;
@@ -108,6 +111,7 @@ fn read_again(vnode: &mut Vnode, stamp: u64, key: Key) -> Result<(Again, Kept), 
     ensures kept { IfOk result (λ again. IsToKeep vnode.old.entries (Read stamp key) again.1) }
     ensures illegal { result ≡ Err Refusal.Illegal → MayFollow vnode.old.vnode vnode.old.entries (Read stamp key) → ⊥ }
     ensures id { vnode.new.vnode ≡ vnode.old.vnode }
+    ensures err { OnErr result (vnode.new ≡ vnode.old) }
 {
     let own = key.copy()?;
     vnode.note_read(stamp, key)?;
@@ -122,6 +126,7 @@ fn restart_again(vnode: &mut Vnode, stamp: u64) -> Result<(Again, Kept), Refusal
     ensures kept { IfOk result (λ again. IsToKeep vnode.old.entries (Restart stamp) again.1) }
     ensures illegal { result ≡ Err Refusal.Illegal → MayFollow vnode.old.vnode vnode.old.entries (Restart stamp) → ⊥ }
     ensures id { vnode.new.vnode ≡ vnode.old.vnode }
+    ensures err { OnErr result (vnode.new ≡ vnode.old) }
 {
     vnode.restart(stamp)?;
     Ok((Again::Done, Kept::Other))
@@ -142,7 +147,7 @@ fn settle(alloc: Global, vnode: &mut Vnode)
 /// of a merge the state that it replaced, which is shared.
 ///
 /// `Illegal` where the entry may not follow those at the vnode. A put with another dot than the next one is found after it was
-/// written, and stays there under that one: a vnode that has refused is of no further use. `NoMemory` where a growth was refused.
+/// written, and stays there under that one; else nothing changes. `NoMemory` where a growth was refused: nothing changes.
 pub(crate) fn happen(
     alloc: Global,
     vnode: &mut Vnode,
@@ -154,6 +159,7 @@ pub(crate) fn happen(
     ensures kept { IfOk result (λ again. IsToKeep vnode.old.entries entry again.1) }
     ensures illegal { result ≡ Err Refusal.Illegal → MayFollow vnode.old.vnode vnode.old.entries entry → ⊥ }
     ensures id { vnode.new.vnode ≡ vnode.old.vnode }
+    ensures stays { OnErr result (HasOneMore vnode.old vnode.new) }
 {
     let again = match entry.taken() {
         Taken::Put { stamp, write, dot } => put_again(vnode, stamp, write, dot),

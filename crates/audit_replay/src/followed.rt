@@ -1,9 +1,10 @@
 //! What was followed of some vnodes.
 
-ghost use Rattle.std.specs.Prelude.{◌≡◌, ◌≢◌, ◌↔◌, ◌<◌, ℕ, IfOk, IfErr, IsTrue, OnOk, MatchBool, MatchOption, Err, None, Some, length};
+ghost use Rattle.std.specs.Prelude.{◌≡◌, ◌≢◌, ◌↔◌, ◌<◌, ℕ, IfOk, IfErr, IsTrue, OnOk, OnErr, MatchBool, MatchOption, Err, None, Some, length};
 ghost use Rattle.journal.specs.Stamps.{stamp_of};
 ghost use Rattle.world.specs.Represents.{AreDistinct, empty_logs, log_at, with_entry_at};
 ghost use Rattle.audit_replay.specs.Wrong.{IsNewest, IsStampFault, IsMergeFault, IsSourceFault, IsPlaceFault, IsFoundWrong, IsAfterAll, IsFounded, IsHeld, IsToldOf};
+ghost use Rattle.audit_replay.specs.Reran.{MayHaveOneMore};
 ghost use Rattle.audit_replay.specs.Beginnings.{AreWhole, IsBehind, IsInFront};
 ghost use Rattle.audit_replay.specs.Followed.{HasFollowed, HasSource, IsAbove, IsAnswerOf, IsExpected, IsSourceKept};
 
@@ -255,6 +256,7 @@ impl Followed {
         ensures fronts { self.new.fronts ≡ self.old.fronts }
         ensures fault { self.new.fault ≡ self.old.fault }
         ensures told { IfErr result (λ fault. IsToldOf self.old.fronts.items self.old.vnodes.items self.old.recent index entry fault) }
+        ensures stays { OnErr result (MayHaveOneMore index self.old.vnodes.items self.new.vnodes.items) }
     {
         let illegal = self.fault_at(index, EntryFault::Illegal);
         let is_in_front = self.is_in_front(index);
@@ -292,6 +294,7 @@ impl Followed {
         ensures going { OnOk result (self.new.fault ≡ self.old.fault) }
         ensures fault { IfErr result (λ fault. self.new.fault ≡ Some fault) }
         ensures told { IfErr result (λ fault. IsToldOf self.old.fronts.items self.old.vnodes.items self.old.recent index entry fault) }
+        ensures stays { OnErr result (MayHaveOneMore index self.old.vnodes.items self.new.vnodes.items) }
     {
         let gone = self.step(alloc, index, entry);
         if let Err(fault) = gone {
@@ -322,6 +325,7 @@ impl Followed {
         ensures going { OnOk result (self.new.fault ≡ self.old.fault) }
         ensures fault { IfErr result (λ fault. self.new.fault ≡ Some fault) }
         ensures told { IfErr result (λ fault. IsToldOf self.old.fronts.items self.old.vnodes.items self.old.recent index entry.now fault) }
+        ensures stays { OnErr result (MayHaveOneMore index self.old.vnodes.items self.new.vnodes.items) }
     {
         match entry.copy(alloc) {
             Ok(copy) => self.go_on(alloc, index, copy),

@@ -1,8 +1,9 @@
 //! Entries of several vnodes happen again, one after another.
 
-ghost use Rattle.std.specs.Prelude.{◌≡◌, ◌≢◌, ◌<◌, ◌≤◌, ℕ, IfOk, IfErr, OnOk, MatchOption, None, Some, length};
+ghost use Rattle.std.specs.Prelude.{◌≡◌, ◌≢◌, ◌<◌, ◌≤◌, ℕ, IfOk, IfErr, OnOk, OnErr, MatchOption, None, Some, length};
 ghost use Rattle.journal.specs.Logs.{max_entries};
 ghost use Rattle.world.specs.Represents.{AreDistinct, empty_logs, log_at, with_entry_at};
+ghost use Rattle.audit_replay.specs.Reran.{MayHaveOneMore};
 ghost use Rattle.audit_replay.specs.Runs.{IsRunFrom};
 ghost use Rattle.audit_replay.specs.Wrong.{IsAfterAll, IsFounded, IsHeld, IsToldOf};
 
@@ -124,8 +125,9 @@ impl Rerun {
     /// The next entry of the vnode with this index is taken over and happens again, where no fault was found: a put with its dot, a merge
     /// as the delivery of what the earlier read that it names answered, or as what it says where it is one of its vnode's front.
     ///
-    /// A fault is that of this entry, and the last: from then on nothing happens. A merge that names an answer that is no longer kept is
-    /// told as such, and only then, though it may be right.
+    /// A fault is that of this entry, and the last: from then on nothing happens. Of several faults its stamp's is told first, then that of
+    /// its place behind the fronts, then its source's. A merge that names an answer that is no longer kept is told as such, and only then,
+    /// though it may be right. After a fault what has happened before stays, and one entry more may be counted of this vnode.
     pub fn go_on(&mut self, index: usize, entry: Entry) -> Result<(), AuditFault>
         requires going { self.old.fault ≡ None }
         requires inside { index < length self.old.logs }
@@ -136,6 +138,7 @@ impl Rerun {
         ensures going { OnOk result (self.new.fault ≡ None) }
         ensures fault { IfErr result (λ fault. self.new.fault ≡ Some fault) }
         ensures told { IfErr result (λ fault. IsToldOf self.old.fronts self.old.logs self.old.recent index entry fault) }
+        ensures stays { OnErr result (MayHaveOneMore index self.old.logs self.new.logs) }
         ensures size { length self.new.logs ≡ length self.old.logs }
         ensures recent { self.new.recent ≡ self.old.recent }
         ensures fronts { self.new.fronts ≡ self.old.fronts }
@@ -157,6 +160,7 @@ impl Rerun {
         ensures going { OnOk result (self.new.fault ≡ None) }
         ensures fault { IfErr result (λ fault. self.new.fault ≡ Some fault) }
         ensures told { IfErr result (λ fault. IsToldOf self.old.fronts self.old.logs self.old.recent index entry.now fault) }
+        ensures stays { OnErr result (MayHaveOneMore index self.old.logs self.new.logs) }
         ensures size { length self.new.logs ≡ length self.old.logs }
         ensures recent { self.new.recent ≡ self.old.recent }
         ensures fronts { self.new.fronts ≡ self.old.fronts }

@@ -290,7 +290,7 @@ impl<B: Room> Locked<B> {
         if vnode.id() != id {
             return None;
         }
-        let handout = vnode.settle(next);
+        let handout = vnode.settle(next).0;
         if handout.blocks.is_empty() {
             return None;
         }

@@ -32,13 +32,13 @@ served_below before after (Ok status) so = λ below. so
 served_below before after (Err why) so = so
 
 -- how a store that is kept began and ended, and then what is said of the journals
-pub kept_told : (before mid after : Option (List ℕ)) (audited : Result (Unit {0}) WatchFault) (told : Result ℕ Failure) → HasKept before mid (Kept audited) → OnOk told (Appends mid after (audit_text audited)) → IfOk told (λ status. status ≡ audit_status audited) → IfOk told (KeptFolder before after)
-kept_told before mid after audited (Ok status) (loaded, count, bound, written) then is = kept loaded count bound audited is (appends_then before mid after (begun loaded bound ++ line (codes "kept " ++ decimal count)) (audit_text audited) written then)
-kept_told before mid after audited (Err why) has then is = is
+pub kept_told : {V : Type 0} → (before mid after : Option (List ℕ)) (said : V) (audited : Result (Unit {0}) WatchFault) (told : Result ℕ Failure) → HasKept before mid (Kept said) → OnOk told (Appends mid after (audit_text audited)) → IfOk told (λ status. status ≡ audit_status audited) → IfOk told (KeptFolder before after)
+kept_told before mid after said audited (Ok status) (loaded, count, bound, written) then is = kept loaded count bound audited is (appends_then before mid after (begun loaded bound ++ line (codes "kept " ++ decimal count)) (audit_text audited) written then)
+kept_told before mid after said audited (Err why) has then is = is
 
 -- the same where not all was written
-pub unkept_told : (before mid after : Option (List ℕ)) (audited : Result (Unit {0}) WatchFault) → HasKept before mid (Unkept audited) → Appends mid after (audit_text audited) → KeptFolder before after 1
-unkept_told before mid after audited (loaded, bound, why, written) then = unkept loaded bound why audited refl (appends_then before mid after (begun loaded bound ++ line (codes "not kept " ++ why)) (audit_text audited) written then)
+pub unkept_told : {V : Type 0} → (before mid after : Option (List ℕ)) (said : V) (audited : Result (Unit {0}) WatchFault) → HasKept before mid (Unkept said) → Appends mid after (audit_text audited) → KeptFolder before after 1
+unkept_told before mid after said audited (loaded, bound, why, written) then = unkept loaded bound why audited refl (appends_then before mid after (begun loaded bound ++ line (codes "not kept " ++ why)) (audit_text audited) written then)
 
 pub kept_below : (before after : Option (List ℕ)) (told : Result ℕ Failure) → IfOk told (KeptFolder before after) → IfOk told (λ status. status < 2 → KeptFolder before after status)
 kept_below before after (Ok status) so = λ below. so

@@ -66,9 +66,9 @@ abbrev pub begun : ℕ → List ℕ → List ℕ
 begun loaded bound = line (codes "loaded " ++ decimal loaded) ++ line (codes "listening " ++ bound)
 
 -- how a store that is kept began was told, and then how it ended: how many records were written, or why they weren't
-abbrev pub HasKept : Option (List ℕ) → Option (List ℕ) → Ended → Type 0
-HasKept before after (Kept followed) = (loaded kept : ℕ) × (bound : List ℕ) × Appends before after (begun loaded bound ++ line (codes "kept " ++ decimal kept))
-HasKept before after (Unkept followed) = (loaded : ℕ) × (bound why : List ℕ) × Appends before after (begun loaded bound ++ line (codes "not kept " ++ why))
+abbrev pub HasKept : {V : Type 0} → Option (List ℕ) → Option (List ℕ) → Ended V → Type 0
+HasKept before after (Kept said) = (loaded kept : ℕ) × (bound : List ℕ) × Appends before after (begun loaded bound ++ line (codes "kept " ++ decimal kept))
+HasKept before after (Unkept said) = (loaded : ℕ) × (bound why : List ℕ) × Appends before after (begun loaded bound ++ line (codes "not kept " ++ why))
 
 -- why a folder isn't taken was told
 abbrev pub HasRefused : Option (List ℕ) → Option (List ℕ) → Type 0

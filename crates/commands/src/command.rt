@@ -13,7 +13,7 @@ use crate::files::Files;
 use crate::help::help;
 use crate::load::load;
 use crate::run::run;
-use crate::server::{Ended, Server, Site, Unserved};
+use crate::server::{Ended, Says as _, Server, Site, Unserved};
 use crate::simulate::simulate;
 use crate::verify::verify;
 use crate::words::{Request, parse};
@@ -155,7 +155,7 @@ fn serve<S: Server, O: Write>(
     ensures served { IfOk result (Served (O.contents out.old) (O.contents out.new)) }
 {
     match server.serve(alloc, table, more, addr, count, out) {
-        Ok(audited) => tell(audited, out),
+        Ok(audited) => tell(audited.said(), out),
         Err(Unserved::NoMemory) => {
             out.write_all(b"E1\n")?;
             Ok(REFUSED)
@@ -180,9 +180,9 @@ fn keep<S: Server, O: Write>(
     ensures kept { IfOk result (KeptFolder (O.contents out.old) (O.contents out.new)) }
 {
     match server.keep(alloc, table, more, site, out) {
-        Ok(Ended::Kept(audited)) => tell(audited, out),
+        Ok(Ended::Kept(audited)) => tell(audited.said(), out),
         Ok(Ended::Unkept(audited)) => {
-            tell(audited, out)?;
+            tell(audited.said(), out)?;
             Ok(REFUSED)
         }
         Err(Unserved::Refused) => Ok(REFUSED),

@@ -1,6 +1,6 @@
 //! The helpers that hooks of this program may call.
 
-ghost use Rattle.std.specs.Prelude.{◌≡◌, ◌≤◌, ◌<◌, ◌+◌, ◌^◌, ℕ, List, length, max, IfOk, OnOk, IsSome, ◌++◌, ◌∷◌, [], Option, None, Some};
+ghost use Rattle.std.specs.Prelude.{◌≡◌, ◌≤◌, ◌<◌, ◌+◌, ◌%◌, ◌^◌, slice_index, ℕ, List, length, max, IfOk, OnOk, IsSome, ◌++◌, ◌∷◌, [], Option, None, Some};
 ghost use Rattle.std.specs.Borrow.{Bor};
 ghost use Rattle.bpf_helpers.specs.Text.{order_of, place_of, spelled};
 ghost use Rattle.bpf_helpers.specs.Layout.{newest_of};
@@ -114,14 +114,16 @@ pub fn command_with_helpers<F: Files, S: Server, O: Write, E: Write>(
         let body: Body = Box::new(
             alloc,
             |numbers: [u64; 5], _first: &[u8], _second: &[u8]| -> u64
-                ensures { result ≤ 7 }
+                ensures value { result ≡ slice_index numbers 0 % 8 }
+                ensures range { result ≤ 7 }
             { numbers[0] % 8 },
         )?;
         add(&mut table, 64, one_number((0, 7)), body)?;
         let body: Body = Box::new(
             alloc,
             |numbers: [u64; 5], _first: &[u8], _second: &[u8]| -> u64
-                ensures { result ≤ 8 }
+                ensures value { result ≡ slice_index numbers 0 % 9 }
+                ensures range { result ≤ 8 }
             { numbers[0] % 9 },
         )?;
         add(&mut table, 65, one_number((0, 8)), body)?;

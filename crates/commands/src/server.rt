@@ -1,5 +1,6 @@
 //! Who serves the store.
-ghost use Rattle.std.specs.Prelude.{◌≡◌, ◌<◌, OnOk, IfOk, IfErr, vec_len};
+ghost use Rattle.std.specs.Prelude.{◌≡◌, ◌<◌, OnOk, IfOk, IfErr, Result, vec_len};
+ghost use Rattle.audit_faults.specs.declared.fault.WatchFault.{WatchFault as OneFault};
 ghost use Rattle.commands.specs.Command.{HasKept, HasRefused, Listened};
 
 use audit_faults::Followed;
@@ -19,13 +20,33 @@ pub enum Unserved {
     Refused,
 }
 
+/// What is said of the vnodes' journals at the end. Each server has a type of its own for it: so who prints a yes was handed one by who
+/// has followed them.
+pub trait Says {
+    // What it says.
+    ghost says: { Self → Result (Unit {0}) OneFault };
+
+    /// What it says.
+    fn said(&self) -> Followed
+        ensures { result ≡ says self.now };
+}
+
+/// What doubles of a server say is not followed by anybody.
+impl Says for Followed {
+    ghost says = { λ said. said };
+
+    fn said(&self) -> Followed {
+        *self
+    }
+}
+
 /// How a store that is kept has ended, and what is said of its vnodes' journals.
-#[derive(Clone, Copy)]
-pub enum Ended {
+#[derive(Drop)]
+pub enum Ended<V> {
     /// All that it held was written.
-    Kept(Followed),
+    Kept(V),
     /// Not all of it was, or none.
-    Unkept(Followed),
+    Unkept(V),
 }
 
 /// Where a store is kept, and where it answers.
@@ -51,6 +72,9 @@ impl From<io::Error> for Unserved {
 
 /// Serves the store over a network.
 pub trait Server {
+    /// What it says of the journals at the end.
+    type Said: Says + Drop;
+
     /// What the types of the server have to meet, as that threads may share its handle.
     ghost ready: { Type 0 } = { Unit {0} };
 
@@ -65,7 +89,7 @@ pub trait Server {
         addr: &str,
         count: Option<u32>,
         out: &mut O,
-    ) -> Result<Followed, Unserved>
+    ) -> Result<Self::Said, Unserved>
         requires ready { ready }
         requires few { vec_len more < 16 }
         ensures told { OnOk result (Listened (O.contents out.old) (O.contents out.new)) }
@@ -81,7 +105,7 @@ pub trait Server {
         more: Vec<Table>,
         site: &Site<'_>,
         out: &mut O,
-    ) -> Result<Ended, Unserved>
+    ) -> Result<Ended<Self::Said>, Unserved>
         requires ready { ready }
         requires few { vec_len more < 16 }
         ensures told { IfOk result (HasKept (O.contents out.old) (O.contents out.new)) }
@@ -111,6 +135,8 @@ pub trait Serving {
 pub struct ServesOnly<S>(pub S);
 
 impl<S: Serving> Server for ServesOnly<S> {
+    type Said = Followed;
+
     fn serve<O: Write>(
         &mut self,
         alloc: Global,
@@ -130,7 +156,7 @@ impl<S: Serving> Server for ServesOnly<S> {
         _more: Vec<Table>,
         _site: &Site<'_>,
         _out: &mut O,
-    ) -> Result<Ended, Unserved> {
+    ) -> Result<Ended<Followed>, Unserved> {
         Err(Unserved::Unreadable)
     }
 }
@@ -140,6 +166,8 @@ impl<S: Serving> Server for ServesOnly<S> {
 pub struct Offline;
 
 impl Server for Offline {
+    type Said = Followed;
+
     fn serve<O: Write>(
         &mut self,
         _alloc: Global,
@@ -159,7 +187,7 @@ impl Server for Offline {
         _more: Vec<Table>,
         _site: &Site<'_>,
         _out: &mut O,
-    ) -> Result<Ended, Unserved> {
+    ) -> Result<Ended<Followed>, Unserved> {
         Err(Unserved::Unreadable)
     }
 }

@@ -10,10 +10,10 @@ use Rattle.std.proofs.lemmas.Nat.{be_bytes_2, be_bytes_4, be_bytes_8, from_be_by
 use Rattle.base64.specs.GeneralPurpose.{IsBytes}
 use Rattle.dvv.specs.declared.Dot.{Dot}
 use Rattle.context_token.specs.declared.version.Version.{Version}
-use Rattle.context_token.specs.declared.version.Version.TheVariants.{First, Second}
-use Rattle.context_token.specs.Layouts.{Layout, layout, index, incarnation, in_order}
+use Rattle.context_token.specs.declared.version.Version.TheVariants.{First, Second, Third}
+use Rattle.context_token.specs.Layouts.{Layout, layout, index, incarnation, start_index, start_number, in_order}
 use Rattle.context_token.specs.Token.{token_bytes, entries_of}
-use Rattle.context_token.proofs.Bytes.{IsBytes-drop, IsBytes-take, IsBytes-rest, IsBytes-cons, IsBytes-append, IsBytes-none, bytes_of_8, bytes_of_16, bytes_of_32, bytes_of_64, below_8, below_16, below_32, be_bytes_1, from_be_bytes-to_be_bytes_1}
+use Rattle.context_token.proofs.Bytes.{IsBytes-drop, IsBytes-take, IsBytes-rest, IsBytes-cons, IsBytes-append, IsBytes-none, bytes_of_8, bytes_of_16, bytes_of_32, bytes_of_64, below_8, below_16, below_24, below_32, be_bytes_1, from_be_bytes-to_be_bytes_1, three_again}
 
 -- ---- an entry
 
@@ -21,12 +21,16 @@ use Rattle.context_token.proofs.Bytes.{IsBytes-drop, IsBytes-take, IsBytes-rest,
 pub entry_length : (v : Version) (e : Dot) → length ((layout v).bytes e) ≡ (layout v).entry_len
 entry_length First e = refl
 entry_length Second e = refl
+entry_length Third e = refl
 
 entry_is_bytes : (v : Version) (e : Dot) → IsBytes ((layout v).bytes e)
 entry_is_bytes First e = IsBytes-append (to_be_bytes w32 e.vnode) (to_be_bytes w64 e.n) (bytes_of_32 e.vnode) (bytes_of_64 e.n)
 entry_is_bytes Second e =
     IsBytes-append (to_be_bytes w8 (index e.vnode)) (to_be_bytes w16 (incarnation e.vnode) ++ to_be_bytes w64 e.n) (bytes_of_8 (index e.vnode))
     (IsBytes-append (to_be_bytes w16 (incarnation e.vnode)) (to_be_bytes w64 e.n) (bytes_of_16 (incarnation e.vnode)) (bytes_of_64 e.n))
+entry_is_bytes Third e =
+    IsBytes-append (to_be_bytes w8 (start_index e.vnode)) (drop 1 (to_be_bytes w32 (start_number e.vnode)) ++ to_be_bytes w64 e.n) (bytes_of_8 (start_index e.vnode))
+    (IsBytes-append (drop 1 (to_be_bytes w32 (start_number e.vnode))) (to_be_bytes w64 e.n) (IsBytes-drop 1 (to_be_bytes w32 (start_number e.vnode)) (bytes_of_32 (start_number e.vnode))) (bytes_of_64 e.n))
 
 pub joined : (x y a b whole : List ℕ) → x ≡ a → y ≡ b → a ++ b ≡ whole → x ++ y ≡ whole
 joined x y a b whole ex ey both = rw (ex, ey) both
@@ -51,11 +55,27 @@ entry_spelled Second (b ∷ bytes) len fits =
     (be_bytes_8 (drop 2 bytes) _ (omega (arith, length-drop 2 bytes)) (IsBytes-drop 2 bytes rest) refl)
     (take-append-drop 2 bytes))
     refl
+entry_spelled Third [] len fits = absurd (omega arith)
+entry_spelled Third (b ∷ bytes) len fits =
+    let rest : IsBytes bytes = IsBytes-rest b bytes fits in
+    let fit : IsBytes (0 ∷ take 3 bytes) = IsBytes-cons 0 (take 3 bytes) (omega arith) (IsBytes-take 3 bytes rest) in
+    let high : from_be_bytes w32 (0 ∷ take 3 bytes) < 2 ^ 32 = below_32 (0 ∷ take 3 bytes) fit in
+    let low : from_be_bytes w8 (b ∷ []) ≡ b = omega arith in
+    let byte : b < 256 = fits 0 in
+    joined _ _ (b ∷ []) bytes (b ∷ bytes)
+    (ap (to_be_bytes w8) (omega arith) ∙ be_bytes_1 b byte)
+    (joined _ _ (take 3 bytes) (drop 3 bytes) bytes
+    (ap (λ (n : ℕ). drop 1 (to_be_bytes w32 n)) (omega arith) ∙ ap (drop 1) (be_bytes_4 (0 ∷ take 3 bytes) _ (omega (arith, length-take 3 bytes)) fit refl))
+    (be_bytes_8 (drop 3 bytes) _ (omega (arith, length-drop 3 bytes)) (IsBytes-drop 3 bytes rest) refl)
+    (take-append-drop 3 bytes))
+    refl
 
 -- its vnode has 32 bits
 entry_fits : (v : Version) (bytes : List ℕ) → IsBytes bytes → ((layout v).entry bytes).vnode < 2 ^ 32
 entry_fits First bytes fits = below_32 (take 4 bytes) (IsBytes-take 4 bytes fits)
 entry_fits Second bytes fits = omega (arith, below_16 (take 2 (drop 1 bytes)) (IsBytes-take 2 (drop 1 bytes) (IsBytes-drop 1 bytes fits)), below_8 (take 1 bytes) (IsBytes-take 1 bytes fits))
+entry_fits Third bytes fits =
+    omega (arith, below_24 (take 3 (drop 1 bytes)) (IsBytes-take 3 (drop 1 bytes) (IsBytes-drop 1 bytes fits)), below_8 (take 1 bytes) (IsBytes-take 1 bytes fits))
 
 dot_is : (e : Dot) (v n : ℕ) → v ≡ e.vnode → n ≡ e.n → (let d : Dot = record { vnode = v; n = n } in d) ≡ e
 dot_is e v n ev en = rw (ev, en) refl
@@ -69,6 +89,12 @@ entry_again Second e vnode counter tells =
     let low : from_be_bytes w8 (to_be_bytes w8 (index e.vnode)) ≡ index e.vnode = from_be_bytes-to_be_bytes_1 (index e.vnode) (omega arith) in
     let whole : incarnation e.vnode * 2 ^ 16 + index e.vnode ≡ e.vnode = omega arith in
     dot_is e _ _ (ap (λ h. h * 2 ^ 16 + from_be_bytes w8 (to_be_bytes w8 (index e.vnode))) high ∙ (ap (λ l. incarnation e.vnode * 2 ^ 16 + l) low ∙ whole)) (from_be_bytes-to_be_bytes_8 e.n counter)
+entry_again Third e vnode counter tells =
+    let small : start_number e.vnode < 2 ^ 24 = omega arith in
+    let high : from_be_bytes w32 (0 ∷ drop 1 (to_be_bytes w32 (start_number e.vnode))) ≡ start_number e.vnode = three_again (start_number e.vnode) small in
+    let low : from_be_bytes w8 (to_be_bytes w8 (start_index e.vnode)) ≡ start_index e.vnode = from_be_bytes-to_be_bytes_1 (start_index e.vnode) (omega arith) in
+    let whole : start_number e.vnode * 2 ^ 8 + start_index e.vnode ≡ e.vnode = omega arith in
+    dot_is e _ _ (ap (λ h. h * 2 ^ 8 + from_be_bytes w8 (to_be_bytes w8 (start_index e.vnode))) high ∙ (ap (λ l. start_number e.vnode * 2 ^ 8 + l) low ∙ whole)) (from_be_bytes-to_be_bytes_8 e.n counter)
 
 -- ---- entries
 
@@ -76,14 +102,17 @@ entry_again Second e vnode counter tells =
 len_none : (v : Version) → (layout v).entry_len * 0 ≡ 0
 len_none First = omega arith
 len_none Second = omega arith
+len_none Third = omega arith
 
 len_more : (v : Version) (n : ℕ) → (layout v).entry_len + (layout v).entry_len * n ≡ (layout v).entry_len * suc n
 len_more First n = omega arith
 len_more Second n = omega arith
+len_more Third n = omega arith
 
 len_rest : (v : Version) (n len : ℕ) → len ≡ (layout v).entry_len * suc n → ((layout v).entry_len ≤ len) × (len - (layout v).entry_len ≡ (layout v).entry_len * n)
 len_rest First n len is = (omega arith, omega arith)
 len_rest Second n len is = (omega arith, omega arith)
+len_rest Third n len is = (omega arith, omega arith)
 
 pub entries_count : (l : Layout) (n : ℕ) (bytes : List ℕ) → length (entries_of l n bytes) ≡ n
 entries_count l zero bytes = refl
@@ -120,6 +149,7 @@ spelled_bytes v (e ∷ es) = subst IsBytes (sym (flat_map-cons (layout v).bytes 
 mark_fits : (v : Version) → (layout v).mark < 256
 mark_fits First = omega arith
 mark_fits Second = omega arith
+mark_fits Third = omega arith
 
 pub token_is_bytes : (v : Version) (clock : List Dot) → IsBytes (token_bytes (layout v) clock)
 token_is_bytes v clock =

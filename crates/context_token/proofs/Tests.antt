@@ -6,10 +6,10 @@ use Rattle.std.proofs.lemmas.Bool.{and_parts, and_from, and_left, and_right, ltb
 use Rattle.dvv.specs.declared.Dot.{Dot}
 use Rattle.dvv.specs.Clock.{AreRising}
 use Rattle.context_token.specs.declared.version.Version.{Version}
-use Rattle.context_token.specs.declared.version.Version.TheVariants.{First, Second}
+use Rattle.context_token.specs.declared.version.Version.TheVariants.{First, Second, Third}
 use Rattle.context_token.specs.Layouts.{first, layout, by_vnode, in_order}
 use Rattle.context_token.specs.Token.{tells_all, rises, counts}
-use Rattle.context_token.proofs.Orders.{Rises, Tells, order_all, index_tells, vnode_tells}
+use Rattle.context_token.proofs.Orders.{Rises, Tells, order_all, index_tells, start_index_tells, vnode_tells}
 use Rattle.context_token.proofs.Entries.{CanSpell}
 
 all_true : (p : Dot → Bool) (es : List Dot) → list_all p es ≡ true → AllByRecursion (λ e. p e ≡ true) es
@@ -61,6 +61,7 @@ can_spell v bound (e ∷ es) r fits tells =
 pub order_tells : (v : Version) (es : List Dot) → AllByRecursion (λ entry. entry.vnode < 2 ^ 32) es → Tells (layout v).order by_vnode es
 order_tells First es fits = vnode_tells by_vnode es
 order_tells Second es fits = index_tells es fits
+order_tells Third es fits = start_index_tells es fits
 
 -- neighbours that all rise, or two that don't
 adjacent_rises : (order : ℕ → ℕ) (es : List Dot) → AllAdjacentBelow (λ x y. true ≡ nat_lt (order x.vnode) (order y.vnode)) es (length es) → rises order es ≡ true

@@ -17,9 +17,9 @@ use Rattle.context_token.specs.declared.fault.TokenFault.{TokenFault}
 use Rattle.context_token.specs.declared.fault.TokenFault.TheVariants.{NotRising, Cut, PastLimit}
 use Rattle.context_token.specs.declared.fault.TokenFault.TheVariants as fault
 use Rattle.context_token.specs.declared.version.Version.{Version}
-use Rattle.context_token.specs.declared.version.Version.TheVariants.{First, Second}
-use Rattle.context_token.specs.Layouts.{Layout, first, second, layout, by_vnode, in_order}
-use Rattle.context_token.specs.Token.{token_bytes, text_by, tells_all, token, IsToken, HasToken, entries_of, rises, counts, checked, read_entries, read_bytes, read_text, Gives}
+use Rattle.context_token.specs.declared.version.Version.TheVariants.{First, Second, Third}
+use Rattle.context_token.specs.Layouts.{Layout, first, second, third, layout, by_vnode, in_order}
+use Rattle.context_token.specs.Token.{token_bytes, text_by, tells_all, written_by, token, IsToken, HasToken, entries_of, rises, counts, checked, read_entries, read_bytes, read_text, Gives}
 use Rattle.context_token.proofs.Bytes.{IsBytes-drop, IsBytes-take, IsBytes-rest}
 use Rattle.context_token.proofs.Orders.{Rises, AreApart, order_rises, order_back, order_all, order_len, clock_rises, vnode_tells, apart_from, sorted_is}
 use Rattle.context_token.proofs.Entries.{CanSpell, joined, entries_count, entries_spelled, entries_fit, entries_again, spelled_length, token_is_bytes}
@@ -29,11 +29,13 @@ chosen_err : {A : Type 0} (b : Bool) (e : TokenFault) (x : Result A TokenFault) 
 chosen_err true e x y h = absurd cc
 chosen_err false e x y h = (refl, h)
 
--- which of two versions was read
-which_read : (b c : Bool) (e : TokenFault) (x y : Result (List Dot) TokenFault) (z : List Dot) → cond b x (cond c y (Err e)) ≡ Ok z → ((b ≡ true) × (x ≡ Ok z)) ⊎ ((c ≡ true) × (y ≡ Ok z))
-which_read true c e x y z h = inl (refl, h)
-which_read false true e x y z h = inr (refl, h)
-which_read false false e x y z h = absurd cc
+-- which of the versions was read
+which_read : (b c d : Bool) (e : TokenFault) (x y z : Result (List Dot) TokenFault) (w : List Dot) → cond b x (cond c y (cond d z (Err e))) ≡ Ok w
+    → ((b ≡ true) × (x ≡ Ok w)) ⊎ (((c ≡ true) × (y ≡ Ok w)) ⊎ ((d ≡ true) × (z ≡ Ok w)))
+which_read true c d e x y z w h = inl (refl, h)
+which_read false true d e x y z w h = inr (inl (refl, h))
+which_read false false true e x y z w h = inr (inr (refl, h))
+which_read false false false e x y z w h = absurd cc
 
 not_not : (b : Bool) → not b ≡ false → b ≡ true
 not_not true h = refl
@@ -112,19 +114,28 @@ entries_take v bytes clock fits h =
       spelled = sym (joined _ _ (take 2 bytes) (drop 2 bytes) bytes (ap (to_be_bytes w16) (all.len ∙ many) ∙ head) (ap (flat_map (layout v).bytes) all.entries ∙ tail) (take-append-drop 2 bytes));
     })
 
--- the bytes of a clock, by either version
-abbrev pub AreToken : List ℕ → List Dot → Type 0
-AreToken bytes clock = (bytes ≡ token_bytes first clock) ⊎ ((tells_all second clock ≡ true) × (bytes ≡ token_bytes second clock))
+-- the bytes of a clock, by a version
+pub record AreToken (bytes : List ℕ) (clock : List Dot) : Type 0 where
+  pub version : Version
+  pub has : HasToken clock
+  pub tells : tells_all (layout version) clock ≡ true
+  pub spelled : bytes ≡ token_bytes (layout version) clock
 
 marked : (mark wanted : ℕ) (bytes rest : List ℕ) → (mark == wanted) ≡ true → bytes ≡ rest → mark ∷ bytes ≡ wanted ∷ rest
 marked mark wanted bytes rest same is = rw (eqb-true mark wanted same, is) refl
 
-pub token_takes : (bytes : List ℕ) (clock : List Dot) → IsBytes bytes → read_bytes bytes ≡ Ok clock → HasToken clock × AreToken bytes clock
+version_takes : (v : Version) (mark : ℕ) (bytes : List ℕ) (clock : List Dot) → IsBytes (mark ∷ bytes) → (mark == (layout v).mark) ≡ true → read_entries (layout v) bytes ≡ Ok clock → AreToken (mark ∷ bytes) clock
+version_takes v mark bytes clock fits same h =
+    let s = entries_take v bytes clock (IsBytes-rest mark bytes fits) h in
+    record { version = v; has = s.has; tells = s.tells; spelled = marked mark (layout v).mark bytes _ same s.spelled }
+
+pub token_takes : (bytes : List ℕ) (clock : List Dot) → IsBytes bytes → read_bytes bytes ≡ Ok clock → AreToken bytes clock
 token_takes [] clock fits h = absurd cc
 token_takes (mark ∷ bytes) clock fits h =
-    elim (which_read (mark == 1) (mark == 2) fault.Version (read_entries first bytes) (read_entries second bytes) clock h) [
-      | inl a ↦ let s = entries_take First bytes clock (IsBytes-rest mark bytes fits) a.1 in (s.has, inl (marked mark 1 bytes _ a.0 s.spelled))
-      | inr b ↦ let s = entries_take Second bytes clock (IsBytes-rest mark bytes fits) b.1 in (s.has, inr (s.tells, marked mark 2 bytes _ b.0 s.spelled))
+    elim (which_read (mark == 1) (mark == 2) (mark == 3) fault.Version (read_entries first bytes) (read_entries second bytes) (read_entries third bytes) clock h) [
+      | inl a ↦ version_takes First mark bytes clock fits a.0 a.1
+      | inr (inl b) ↦ version_takes Second mark bytes clock fits b.0 b.1
+      | inr (inr c) ↦ version_takes Third mark bytes clock fits c.0 c.1
     ]
 
 -- what is spelled so is read
@@ -176,30 +187,27 @@ entries_read v clock has tells =
 pub token_again : (v : Version) (clock : List Dot) → HasToken clock → tells_all (layout v) clock ≡ true → read_bytes (token_bytes (layout v) clock) ≡ Ok clock
 token_again First clock has tells = entries_read First clock has tells
 token_again Second clock has tells = entries_read Second clock has tells
+token_again Third clock has tells = entries_read Third clock has tells
 
 -- a clock's text is read as that clock
 text_by_again : (v : Version) (clock : List Dot) → HasToken clock → tells_all (layout v) clock ≡ true → read_text (text_by (layout v) clock) ≡ Ok clock
 text_by_again v clock has tells = rw (decode_of-encode_of standard (token_bytes (layout v) clock) refl (token_is_bytes v clock)) (token_again v clock has tells)
 
 pub text_again : (clock : List Dot) (text : List ℕ) → HasToken clock → IsToken text clock → read_text text ≡ Ok clock
-text_again clock text has (inl is) = ap read_text is ∙ text_by_again First clock has (first_tells clock)
-text_again clock text has (inr s) = ap read_text s.1 ∙ text_by_again Second clock has s.0
+text_again clock text has is = ap read_text is.spelled ∙ text_by_again is.version clock has is.tells
 
 -- the text that is written is one
 pub written : (clock : List Dot) → IsToken (token clock) clock
-written clock = by_case (tells_all second clock) refl
+written clock = record { version = written_by clock; tells = by_case (tells_all second clock) (tells_all third clock) refl refl; spelled = refl }
   where
-    by_case : (b : Bool) → tells_all second clock ≡ b → IsToken (cond b (text_by second clock) (text_by first clock)) clock
-    by_case true is = inr (is, refl)
-    by_case false is = inl refl
+    by_case : (b c : Bool) → tells_all second clock ≡ b → tells_all third clock ≡ c → tells_all (layout (cond b Second (cond c Third First))) clock ≡ true
+    by_case true c is other = is
+    by_case false true is other = other
+    by_case false false is other = first_tells clock
 
 -- and is ASCII
 pub token_ascii : (clock : List Dot) → IsAscii (token clock)
-token_ascii clock = by_case (tells_all second clock)
-  where
-    by_case : (b : Bool) → IsAscii (cond b (text_by second clock) (text_by first clock))
-    by_case true = IsAscii-encode_of standard (token_bytes second clock)
-    by_case false = IsAscii-encode_of standard (token_bytes first clock)
+token_ascii clock = IsAscii-encode_of standard (token_bytes (layout (written_by clock)) clock)
 
 pub same_clock : (a b : List Dot) → HasToken a → HasToken b → token a ≡ token b → a ≡ b
 same_clock a b ha hb same = is_ok a b (sym (text_again a (token a) ha (written a)) ∙ (ap read_text same ∙ text_again b (token b) hb (written b)))
@@ -216,9 +224,7 @@ reads_again text r gives clock has is = subst (Gives r) (text_again clock text h
 
 -- and the text of a clock that it answers
 pub reads_canonical : (text bytes : List ℕ) (r : Result (List Dot) TokenFault) → IsBytes bytes → text ≡ encode_of standard bytes → Gives r (read_bytes bytes) → IfOk r (λ clock. HasToken clock × IsToken text clock)
-reads_canonical text bytes (Ok clock) fits spelled gives = let t = token_takes bytes clock fits gives in (t.0, told_text t.1)
-  where
-    told_text : AreToken bytes clock → IsToken text clock
-    told_text (inl is) = inl (spelled ∙ ap (encode_of standard) is)
-    told_text (inr s) = inr (s.0, spelled ∙ ap (encode_of standard) s.1)
+reads_canonical text bytes (Ok clock) fits spelled gives =
+    let t = token_takes bytes clock fits gives in
+    (t.has, record { version = t.version; tells = t.tells; spelled = spelled ∙ ap (encode_of standard) t.spelled })
 reads_canonical text bytes (Err fault) fits spelled gives = tt

@@ -3,9 +3,9 @@ use Rattle.std.specs.Prelude.{ℕ, ◌+◌, ◌*◌, ◌/◌, ◌%◌, ◌^◌, 
 use Rattle.std.specs.Int.{to_be_bytes, from_be_bytes, w8, w16, w32, w64}
 use Rattle.dvv.specs.declared.Dot.{Dot}
 use Rattle.context_token.specs.declared.version.Version.{Version}
-use Rattle.context_token.specs.declared.version.Version.TheVariants.{First, Second}
+use Rattle.context_token.specs.declared.version.Version.TheVariants.{First, Second, Third}
 
--- a vnode's identifier has its index in the low 16 bits, and its incarnation above them
+-- a vnode's identifier as version 2 has it: its index in the low 16 bits, and its incarnation above them
 abbrev pub index : ℕ → ℕ
 index vnode = vnode % 2 ^ 16
 
@@ -15,6 +15,17 @@ incarnation vnode = vnode / 2 ^ 16
 -- vnodes in rising order of this number rise by index, and those of one index by incarnation
 abbrev pub by_index : ℕ → ℕ
 by_index vnode = index vnode * 2 ^ 16 + incarnation vnode
+
+-- a vnode's identifier as version 3 has it: its index in the low 8 bits, and the number of its start above them
+abbrev pub start_index : ℕ → ℕ
+start_index vnode = vnode % 2 ^ 8
+
+abbrev pub start_number : ℕ → ℕ
+start_number vnode = vnode / 2 ^ 8
+
+-- vnodes in rising order of this number rise by index, and those of one index by the number of their start
+abbrev pub by_start_index : ℕ → ℕ
+by_start_index vnode = start_index vnode * 2 ^ 24 + start_number vnode
 
 -- vnodes in rising order of their identifiers
 abbrev pub by_vnode : ℕ → ℕ
@@ -56,9 +67,21 @@ second = record {
   tells = λ vnode. nat_le (index vnode) 254;
 }
 
+-- version 3: the index in one byte, up to 254, the start's number in three and the counter in eight, big-endian
+abbrev pub third : Layout
+third = record {
+  mark = 3;
+  entry_len = 12;
+  bytes = λ entry. to_be_bytes w8 (start_index entry.vnode) ++ drop 1 (to_be_bytes w32 (start_number entry.vnode)) ++ to_be_bytes w64 entry.n;
+  entry = λ bytes. record { vnode = from_be_bytes w32 (0 ∷ take 3 (drop 1 bytes)) * 2 ^ 8 + from_be_bytes w8 (take 1 bytes); n = from_be_bytes w64 (drop 4 bytes) };
+  order = by_start_index;
+  tells = λ vnode. nat_le (start_index vnode) 254;
+}
+
 abbrev pub layout : Version → Layout
 layout First = first
 layout Second = second
+layout Third = third
 
 -- an entry before the first one with a greater number
 abbrev pub placed : (ℕ → ℕ) → Dot → List Dot → List Dot

@@ -1,5 +1,5 @@
 -- Tokens: the texts of a clock (this store's profile, over RFC 4648 base64 with padding).
-use Rattle.std.specs.Prelude.{◌≡◌, ◌⊎◌, ℕ, zero, suc, ◌*◌, ◌^◌, ◌<◌, ◌==◌, nat_lt, nat_le, not, ◌&&◌, Bool, true, if◌then◌else◌, List, [], ◌∷◌, ◌++◌, length, take, drop, flat_map}
+use Rattle.std.specs.Prelude.{◌≡◌, ℕ, zero, suc, ◌*◌, ◌^◌, ◌<◌, ◌==◌, nat_lt, nat_le, not, ◌&&◌, Bool, true, if◌then◌else◌, List, [], ◌∷◌, ◌++◌, length, take, drop, flat_map}
 use Rattle.std.specs.Int.{to_be_bytes, from_be_bytes, w16}
 use Rattle.std.specs.declared.result.Result.{Result}
 use Rattle.std.specs.declared.result.Result.TheVariants.{Ok, Err}
@@ -10,8 +10,11 @@ use Rattle.base64.specs.GeneralPurpose.{encode_of, decode_of}
 use Rattle.dvv.specs.declared.Dot.{Dot}
 use Rattle.dvv.specs.Clock.{IsClock}
 use Rattle.context_token.specs.declared.fault.TokenFault.{TokenFault}
-use Rattle.context_token.specs.declared.fault.TokenFault.TheVariants.{NotBase64, Version, NotRising, Cut, PastLimit, NoMemory}
-use Rattle.context_token.specs.Layouts.{Layout, first, second, by_vnode, in_order}
+use Rattle.context_token.specs.declared.fault.TokenFault.TheVariants.{NotBase64, NotRising, Cut, PastLimit, NoMemory}
+use Rattle.context_token.specs.declared.fault.TokenFault.TheVariants as fault
+use Rattle.context_token.specs.declared.version.Version.{Version}
+use Rattle.context_token.specs.declared.version.Version.TheVariants.{First, Second, Third}
+use Rattle.context_token.specs.Layouts.{Layout, layout, first, second, third, by_vnode, in_order}
 
 -- a version's mark, the number of entries, and these
 abbrev pub token_bytes : Layout → List Dot → List ℕ
@@ -25,13 +28,22 @@ text_by layout clock = encode_of standard (token_bytes layout clock)
 abbrev pub tells_all : Layout → List Dot → Bool
 tells_all layout clock = list_all (λ entry. layout.tells entry.vnode) clock
 
--- the text that is written: of version 2 where each index is up to 254, else of version 1
-abbrev pub token : List Dot → List ℕ
-token clock = if tells_all second clock then text_by second clock else text_by first clock
+-- the version by which a clock is written: the first of 2, 3 and 1 that can tell each vnode of it
+abbrev pub written_by : List Dot → Version
+written_by clock =
+    if tells_all second clock then Second
+    else if tells_all third clock then Third
+    else First
 
--- a text of a clock, by either version
-abbrev pub IsToken : List ℕ → List Dot → Type 0
-IsToken text clock = (text ≡ text_by first clock) ⊎ ((tells_all second clock ≡ true) × (text ≡ text_by second clock))
+-- the text that is written
+abbrev pub token : List Dot → List ℕ
+token clock = text_by (layout (written_by clock)) clock
+
+-- a text of a clock, by a version that can tell each vnode of it
+pub record IsToken (text : List ℕ) (clock : List Dot) : Type 0 where
+  pub version : Version
+  pub tells : tells_all (layout version) clock ≡ true
+  pub spelled : text ≡ text_by (layout version) clock
 
 -- a clock that has a token: its vnodes have 32 bits
 pub record HasToken (clock : List Dot) : Type 0 where
@@ -74,7 +86,8 @@ read_bytes [] = Err Cut
 read_bytes (mark ∷ bytes) =
     if mark == first.mark then read_entries first bytes
     else if mark == second.mark then read_entries second bytes
-    else Err Version
+    else if mark == third.mark then read_entries third bytes
+    else Err fault.Version
 
 -- the clock of a text's bytes, where it is base64
 abbrev pub read_decoded : Result (List ℕ) DecodeError → Result (List Dot) TokenFault
@@ -88,9 +101,9 @@ read_text text = read_decoded (decode_of standard text)
 -- A fault is that of reading, unless memory ran out.
 abbrev pub Fails : TokenFault → Result (List Dot) TokenFault → Type 0
 Fails NoMemory wanted = Unit {0}
-Fails fault wanted = wanted ≡ Err fault
+Fails other wanted = wanted ≡ Err other
 
 -- What a reader answers is what reading gives, unless memory ran out.
 abbrev pub Gives : Result (List Dot) TokenFault → Result (List Dot) TokenFault → Type 0
 Gives (Ok clock) wanted = wanted ≡ Ok clock
-Gives (Err fault) wanted = Fails fault wanted
+Gives (Err other) wanted = Fails other wanted

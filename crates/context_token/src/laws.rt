@@ -14,8 +14,8 @@ pub fn one_text()
     ensures { (a b : List Dot) → HasToken a → HasToken b → token a ≡ token b → a ≡ b }
 {}
 
-/// A clock's text of either version is read as that clock, so that a text is one clock's.
-pub fn either_version()
+/// A clock's text of any version is read as that clock, so that a text is one clock's.
+pub fn any_version()
     ensures read { (clock : List Dot) (text : List ℕ) → HasToken clock → IsToken text clock → read_text text ≡ Ok clock }
     ensures written { (clock : List Dot) → IsToken (token clock) clock }
 {}

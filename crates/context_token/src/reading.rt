@@ -9,14 +9,14 @@ ghost use Rattle.context_token.specs.Layouts.{layout};
 ghost use Rattle.context_token.specs.Token.{IsToken, entries_of, counts, checked, read_entries, read_bytes, read_text, HasToken, Fails, Gives};
 
 use crate::fault::TokenFault;
-use crate::version::{FIRST_MARK, SECOND_MARK, Version};
+use crate::version::{FIRST_MARK, SECOND_MARK, THIRD_MARK, Version};
 use base64::DecodeAllocError;
 use base64::engine::general_purpose::STANDARD;
 use dvv::{Clock, Dot, MAX_COUNTER, MAX_ENTRIES};
 use std::alloc::{AllocError, Global};
 
 /// The clock of a text, or the first fault in the order of [`TokenFault`]. Each clock has one text of version 1, and one
-/// of version 2 where no index is above 254; no other text is read as it.
+/// of version 2 and one of version 3 where these can tell each of its vnodes; no other text is read as it.
 pub fn read(alloc: Global, text: &str) -> Result<Clock, TokenFault>
     // Which answer it is.
     ensures exact { Gives result (read_text text.now) }
@@ -73,6 +73,7 @@ fn clock_of(alloc: Global, bytes: &[u8]) -> Result<Clock, TokenFault>
     match *mark {
         FIRST_MARK => counted_entries(alloc, Version::First, rest),
         SECOND_MARK => counted_entries(alloc, Version::Second, rest),
+        THIRD_MARK => counted_entries(alloc, Version::Third, rest),
         _ => Err(TokenFault::Version),
     }
 }

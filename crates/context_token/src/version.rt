@@ -3,22 +3,27 @@
 ghost use Rattle.std.specs.Prelude.{◌≡◌, ◌+◌, ◌^◌, ◌<◌, ◌++◌, length};
 ghost use Rattle.std.specs.Int.{w64, to_be_bytes, from_be_bytes};
 ghost use Rattle.context_token.specs.Layouts.{layout};
-ghost use Rattle.context_token.specs.Token.{rises, tells_all};
+ghost use Rattle.context_token.specs.Token.{rises, tells_all, written_by};
 
-use dvv::Dot;
+use dvv::{Dot, VNODES_PER_NUMBER};
 
 // The first bytes of tokens.
 pub(crate) const FIRST_MARK: u8 = 1;
 
 pub(crate) const SECOND_MARK: u8 = 2;
 
+pub(crate) const THIRD_MARK: u8 = 3;
+
 // The bytes of the longest entry.
 pub(crate) const MAX_ENTRY_LEN: usize = 12;
 
-// A vnode's index is below this, and its identifier is this many times its incarnation, and its index.
+// In version 2 a vnode's index is below this, and its identifier is this many times its incarnation, and its index.
 const INDEXES: u32 = 1 << 16;
 
-// The greatest index that version 2 tells.
+// In version 3 a start's number is below this.
+const NUMBERS: u32 = 1 << 24;
+
+// The greatest index that versions 2 and 3 tell.
 const MAX_INDEX: u32 = 254;
 
 #[derive(Clone, Copy)]
@@ -27,9 +32,24 @@ pub(crate) enum Version {
     First,
     // An entry has the vnode's index and its incarnation.
     Second,
+    // An entry has the vnode's index and the number of its start.
+    Third,
 }
 
 impl Version {
+    // The version by which a clock of these entries is written.
+    pub(crate) fn of(entries: &[Dot]) -> Version
+        ensures { result ≡ written_by entries.now }
+    {
+        if Version::Second.tells_all(entries) {
+            Version::Second
+        } else if Version::Third.tells_all(entries) {
+            Version::Third
+        } else {
+            Version::First
+        }
+    }
+
     // The first byte of a token.
     pub(crate) fn mark(self) -> u8
         ensures { result ≡ (layout self).mark }
@@ -37,6 +57,7 @@ impl Version {
         match self {
             Version::First => FIRST_MARK,
             Version::Second => SECOND_MARK,
+            Version::Third => THIRD_MARK,
         }
     }
 
@@ -47,6 +68,7 @@ impl Version {
         match self {
             Version::First => 12,
             Version::Second => 11,
+            Version::Third => 12,
         }
     }
 
@@ -57,6 +79,7 @@ impl Version {
         match self {
             Version::First => vnode,
             Version::Second => vnode % INDEXES * INDEXES + vnode / INDEXES,
+            Version::Third => vnode % VNODES_PER_NUMBER * NUMBERS + vnode / VNODES_PER_NUMBER,
         }
     }
 
@@ -67,6 +90,7 @@ impl Version {
         match self {
             Version::First => true,
             Version::Second => vnode % INDEXES <= MAX_INDEX,
+            Version::Third => vnode % VNODES_PER_NUMBER <= MAX_INDEX,
         }
     }
 
@@ -81,6 +105,10 @@ impl Version {
             Version::Second => {
                 let [high, low, _, index] = entry.vnode.to_be_bytes();
                 join(&[index, high, low], entry.n, bytes);
+            }
+            Version::Third => {
+                let [high, middle, low, index] = entry.vnode.to_be_bytes();
+                join(&[index, high, middle, low], entry.n, bytes);
             }
         }
     }
@@ -102,6 +130,13 @@ impl Version {
                 let (vnode, n) = bytes.split_at(3);
                 Dot {
                     vnode: u32::from_be_bytes([vnode[1], vnode[2], 0, vnode[0]]),
+                    n: u64_of(n),
+                }
+            }
+            Version::Third => {
+                let (vnode, n) = bytes.split_at(4);
+                Dot {
+                    vnode: u32::from_be_bytes([vnode[1], vnode[2], vnode[3], vnode[0]]),
                     n: u64_of(n),
                 }
             }

@@ -1,5 +1,7 @@
 mod Among
+mod Putting
 mod SeatSent
+mod Serving
 mod Sent
 mod Staying
 mod Taking

@@ -46,11 +46,11 @@ begun_where_told before mid after loaded (Ok v) first then = begun_told before m
 begun_where_told before mid after loaded (Err e) first then = tt
 
 -- how it began was told, and then how it ended
-pub kept_told : (before mid after : Option (List ℕ)) (said : Ended) → HasBegun before mid → HasEnded mid after said → HasKept before after said
+pub kept_told : {V : Type 0} → (before mid after : Option (List ℕ)) (said : Ended V) → HasBegun before mid → HasEnded mid after said → HasKept before after said
 kept_told before mid after (ended.Kept followed) (loaded, bound, first) (kept, then) = (loaded, kept, bound, appends_then before mid after (begun loaded bound) (line (codes "kept " ++ decimal kept)) first then)
 kept_told before mid after (ended.Unkept followed) (loaded, bound, first) (why, then) = (loaded, bound, why, appends_then before mid after (begun loaded bound) (line (codes "not kept " ++ why)) first then)
 
 -- the same, where it was told how it ended
-pub kept_where_told : (before mid after : Option (List ℕ)) (told : Result Ended Unserved) → HasBegun before mid → IfOk told (HasEnded mid after) → IfOk told (HasKept before after)
+pub kept_where_told : {V : Type 0} → (before mid after : Option (List ℕ)) (told : Result (Ended V) Unserved) → HasBegun before mid → IfOk told (HasEnded mid after) → IfOk told (HasKept before after)
 kept_where_told before mid after (Ok said) began so = kept_told before mid after said began so
 kept_where_told before mid after (Err why) began so = so

@@ -33,13 +33,14 @@ use Rattle.kept_file.specs.declared.file.KeptFile.{KeptFile}
 use Rattle.kept_restore.specs.Beginnings.{BeginWithFiles, BeginsWith}
 use Rattle.kept_restore.specs.Loads.{HasLoaded}
 use Rattle.record_codec.specs.declared.record.Record.{Record}
+use Rattle.dvvstore.proofs.Among.{each_among}
 use Rattle.dvvstore.proofs.Staying.{three_begin}
 use Rattle.dvvstore.specs.Asides.{AreGathered}
 use Rattle.dvvstore.specs.Keeping.{HasBegunWith}
 use Rattle.dvvstore.specs.declared.crew.running.Served.{Served}
 use Rattle.dvvstore.specs.declared.keeper.Begun.{Begun}
 use Rattle.kept_restore.specs.declared.beginning.Passes.{Passes}
-use Rattle.dvvstore.specs.Visits.{AfterVisits, AreVisits, HasLed, HasVisited, HaveVisited, IsVisit, Leads, begun, told_with}
+use Rattle.dvvstore.specs.Visits.{AfterVisits, AreVisits, HasAll, HasLed, HasVisited, HaveVisited, IsVisit, Leads, begun, told_with}
 
 -- ---- turn by turn
 
@@ -183,9 +184,15 @@ module _ {H : Type 0} (finds : H → List ℕ → ImageKind → Result (Option P
 
 -- what spare passes had been told stands among it
 pub gathered_after : {H B : Type 0} (finds : H → List ℕ → ImageKind → Result (Option Program) NotSeen → H → Type 0) (names : H → List ℕ → ImageKind → Result (Option (List ℕ)) NameFault → H → Type 0)
-    (takes : H → Change → Result Unit HookFault → H → Type 0) (starts : List (StoreView Passing H)) (spares : Passes B) (logs : List JournalLog)
-    → AfterVisits finds names takes starts (λ told. AreGathered told spares logs) → (told : List Told) × AreGathered told spares logs
-gathered_after finds names takes starts spares logs (calls, visits, gathered) = (told_with starts calls, gathered)
+    (takes : H → Change → Result Unit HookFault → H → Type 0) (starts : List (StoreView Passing H)) (id : ℕ) (spares : Passes B) (logs : List JournalLog)
+    → AfterVisits finds names takes starts (λ told. AreGathered id told spares logs) → (told : List Told) × AreGathered id told spares logs
+gathered_after finds names takes starts id spares logs (calls, visits, gathered) = (told_with starts calls, gathered)
+
+-- what the workers were told stands among it
+pub visits_gathered : {H B : Type 0} (finds : H → List ℕ → ImageKind → Result (Option Program) NotSeen → H → Type 0) (names : H → List ℕ → ImageKind → Result (Option (List ℕ)) NameFault → H → Type 0)
+    (takes : H → Change → Result Unit HookFault → H → Type 0) (starts : List (StoreView Passing H)) (id : ℕ) (spares : Passes B) (logs : List JournalLog)
+    → AfterVisits finds names takes starts (λ told. AreGathered id told spares logs) → AfterVisits finds names takes starts (λ told. HasAll told logs)
+visits_gathered finds names takes starts id spares logs (calls, visits, (spare, watched, spared, its, gathered)) = (calls, visits, (spare ++ watched, gathered))
 
 -- what holds of an answer, by what two clauses say of it
 pub if_both : {T E : Type 0} (r : Result T E) (P Q R : T → Type 0) → ((v : T) → P v → Q v → R v) → IfOk r P → IfOk r Q → IfOk r R
@@ -200,13 +207,14 @@ LoadsStand = (before after : List Told) (old new : View) (logs : List JournalLog
 pub begins_from : {H F B E : Type 0} (finds : H → List ℕ → ImageKind → Result (Option Program) NotSeen → H → Type 0) (names : H → List ℕ → ImageKind → Result (Option (List ℕ)) NameFault → H → Type 0)
     (takes : H → Change → Result Unit HookFault → H → Type 0) (starts : List (StoreView Passing H)) (folder : Option F) (first : ℕ) (files : List KeptFile) (begun : Begun B) (served : Result Served E) (More : Served → Type 0)
     → LoadsStand → HasBegunWith folder first files begun
-    → IfOk served (λ s. AfterVisits finds names takes starts (λ told. AreGathered told begun.spares s.closed.vnodes.items) × More s)
+    → IfOk served (λ s. AfterVisits finds names takes starts (λ told. AreGathered first told begun.spares s.closed.vnodes.items) × More s)
     → IfOk served (λ s. BeginWithFiles s.closed.vnodes.items first files 3)
 begins_from finds names takes starts folder first files begun (Err why) More stand has kept = kept
 begins_from finds names takes starts folder first files begun (Ok s) More stand (one, two, three, a, b, c, fronts, number) kept =
-    let found = gathered_after finds names takes starts begun.spares s.closed.vnodes.items kept.0 in
     let logs = s.closed.vnodes.items in
+    let found = gathered_after finds names takes starts first begun.spares logs kept.0 in
+    let each = each_among first found.0 begun.spares logs found.1 in
     three_begin logs first files
-    (stand (found.0 ++ found.1.0.0) found.1.0.1 one begun.spares.first logs (first + 0) (records_at files 0) found.1.0.2 a)
-    (stand (found.0 ++ found.1.1.0) found.1.1.1 two begun.spares.second logs (first + 1) (records_at files 1) found.1.1.2 b)
-    (stand (found.0 ++ found.1.2.0) found.1.2.1 three begun.spares.third logs (first + 2) (records_at files 2) found.1.2.2 c)
+    (stand each.0.0 each.0.1 one begun.spares.first logs (first + 0) (records_at files 0) each.0.2 a)
+    (stand each.1.0 each.1.1 two begun.spares.second logs (first + 1) (records_at files 1) each.1.2 b)
+    (stand each.2.0 each.2.1 three begun.spares.third logs (first + 2) (records_at files 2) each.2.2 c)

@@ -1,5 +1,11 @@
 -- What stands on the output when a store that is kept has ended (this store's profile).
-use Rattle.std.specs.Prelude.{◌≡◌, ◌+◌, ◌++◌, ℕ, List, [], Option, Some, None, Result, Ok, Err, codes, decimal}
+use Rattle.std.specs.Prelude.{◌≡◌, ◌+◌, ◌++◌, ◌∷◌, ℕ, List, [], MatchOption, Option, Some, None, Result, Ok, Err, true, codes, decimal, vec_len}
+use Rattle.bpf_image.specs.declared.image.ImageKind.{ImageKind}
+use Rattle.bpf_verifier.specs.Program.{Program}
+use Rattle.hook_registry.specs.Changes.{Change}
+use Rattle.hook_registry.specs.declared.fault.HookFault.{HookFault}
+use Rattle.hook_registry.specs.declared.fault.NameFault.{NameFault}
+use Rattle.hook_registry.specs.declared.fault.NotSeen.{NotSeen}
 use Rattle.std.specs.Io.KnownBytes.{Appends}
 use Rattle.commands.specs.Command.{begun}
 use Rattle.commands.specs.Outcome.{line}
@@ -8,9 +14,17 @@ use Rattle.commands.specs.declared.server.Ended.TheVariants as ended
 use Rattle.audit_cluster.specs.Following.{IsSaidOf}
 use Rattle.kept_file.specs.declared.file.KeptFile.{KeptFile}
 use Rattle.kept_file.specs.Files.{records_at}
+use Rattle.kept_folder.specs.Numbers.{number_text}
+use Rattle.kept_folder.specs.Seals.{sealed}
+use Rattle.kept_folder.specs.Steps.{ArePut, AreFilesOf, IsPut, Put, Step}
+use Rattle.journal.specs.Logs.{Log}
+use Rattle.kept_hooks.specs.Lists.{Listed}
 use Rattle.kept_restore.specs.Beginnings.{BeginWithFiles, fronts_to}
 use Rattle.kept_restore.specs.Loads.{HasLoaded}
 use Rattle.cluster_stamps.specs.declared.view.View.{View}
+use Rattle.server_one_thread.specs.Passes.{Passing}
+use Rattle.server_store.specs.View.{StoreView}
+use Rattle.dvvstore.specs.Visits.{AfterVisits, HasAll}
 use Rattle.dvvstore.specs.declared.crew.running.Served.{Served}
 use Rattle.dvvstore.specs.declared.keeper.Begun.{Begun}
 use Rattle.dvvstore.specs.declared.keeper.Door.{Door}
@@ -38,9 +52,9 @@ Tells door (Err (Records unloaded)) before after = after ≡ before
 Tells door (Err (Hooks fault)) before after = after ≡ before
 
 -- how it ended was told: how many records were written, or why they weren't
-abbrev pub HasEnded : Option (List ℕ) → Option (List ℕ) → Ended → Type 0
-HasEnded before after (ended.Kept followed) = (kept : ℕ) × Appends before after (line (codes "kept " ++ decimal kept))
-HasEnded before after (ended.Unkept followed) = (why : List ℕ) × Appends before after (line (codes "not kept " ++ why))
+abbrev pub HasEnded : {V : Type 0} → Option (List ℕ) → Option (List ℕ) → Ended V → Type 0
+HasEnded before after (ended.Kept said) = (kept : ℕ) × Appends before after (line (codes "kept " ++ decimal kept))
+HasEnded before after (ended.Unkept said) = (why : List ℕ) × Appends before after (line (codes "not kept " ++ why))
 
 -- ---- what a store begins with, and what is left of it
 
@@ -48,6 +62,11 @@ HasEnded before after (ended.Unkept followed) = (why : List ℕ) × Appends befo
 abbrev pub fronts_for : {F : Type 0} → Option F → List KeptFile → List ℕ
 fronts_for None files = []
 fronts_for (Some folder) files = fronts_to files 3
+
+-- the requests that install and bind hooks, where a folder keeps the store
+abbrev pub hooks_for : {F : Type 0} → Option F → List ℕ → Option (List ℕ)
+hooks_for None held = None
+hooks_for (Some folder) held = Some held
 
 -- the three vnodes, numbered from the first on, have taken over what these files hold, each what is its own by index, each record once and in order; its own pass
 -- was told of that, and of nothing else since; and their fronts are the numbers of these records, where a folder keeps the store
@@ -65,6 +84,40 @@ abbrev pub Leaves : {F : Type 0} → Option F → ℕ → List KeptFile → Resu
 Leaves folder first files (Ok (Kept served)) = IsLeftFrom folder first files served
 Leaves folder first files (Ok Lost) = Unit {0}
 Leaves folder first files (Err why) = Unit {0}
+
+module _ {H : Type 0} (finds : H → List ℕ → ImageKind → Result (Option Program) NotSeen → H → Type 0)
+    (names : H → List ℕ → ImageKind → Result (Option (List ℕ)) NameFault → H → Type 0) (takes : H → Change → Result Unit HookFault → H → Type 0) where
+  -- What is left of a store whose workers began so: each had its visit, and in the journals of three vnodes stands what they were told, each of it once.
+  abbrev pub HasServed : (List (StoreView Passing H) → Type 0) → Served → Type 0
+  HasServed Begins served =
+      (starts : List (StoreView Passing H)) × Begins starts × AfterVisits finds names takes starts (λ told. HasAll told served.closed.vnodes.items) × (vec_len served.closed.vnodes ≡ 3)
+
+  -- so it is, where vnodes are left
+  abbrev pub LeavesServed : (List (StoreView Passing H) → Type 0) → Result Left Unbegun → Type 0
+  LeavesServed Begins (Ok (Kept served)) = HasServed Begins served
+  LeavesServed Begins (Ok Lost) = Unit {0}
+  LeavesServed Begins (Err why) = Unit {0}
+
+-- ---- what a stop writes
+
+module _ {F : Type 0} (finds : F → List ℕ → Option (List ℕ) → Type 0) (does : F → Step → F → Type 0) where
+  -- the number of a start is there: it was put where it was lacking
+  abbrev pub HasNumber : ℕ → F → F → Type 0
+  HasNumber number old new =
+      (found : Option (List ℕ)) × finds old (codes "incarnation") found × MatchOption found (IsPut does old (codes "incarnation") (sealed (number_text number)) new) (λ bytes. new ≡ old)
+
+  -- All files of a store that has ended were put: the number of its start, where that was lacking, of each of these vnodes what its journal leaves, and the requests
+  -- that make its hooks what they are, none of which is lacking.
+  abbrev pub ArePutOf : ℕ → List Log → Listed → F → F → Type 0
+  ArePutOf number vnodes requests old new =
+      (mid : F) × HasNumber number old mid × (requests.whole ≡ true)
+      × ((files : List Put) × AreFilesOf 0 vnodes files
+      × ArePut does mid (files ++ record { name = codes "hooks.requests"; bytes = sealed requests.bytes } ∷ []) new)
+
+  -- so it is where all was kept
+  abbrev pub Keeps : {V : Type 0} → ℕ → Served → F → F → Ended V → Type 0
+  Keeps number served old new (ended.Kept said) = ArePutOf number served.closed.vnodes.items served.requests old new
+  Keeps number served old new (ended.Unkept said) = Unit {0}
 
 -- what is left of a store that was served, or that there was no memory for
 abbrev pub left_as : {E : Type 0} → Result Served E → Result Left Unbegun

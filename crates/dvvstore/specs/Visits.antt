@@ -1,5 +1,5 @@
 -- What the workers of a crew do to the vnodes, by the passes of their seats (this store's profile).
-use Rattle.std.specs.Prelude.{◌≡◌, ℕ, List, [], ◌∷◌, ◌++◌, Option, Result}
+use Rattle.std.specs.Prelude.{◌≡◌, ℕ, All, List, [], ◌∷◌, ◌++◌, Option, None, Some, Result, map, reverse}
 use Rattle.bpf_image.specs.declared.image.ImageKind.{ImageKind}
 use Rattle.bpf_verifier.specs.Program.{Program}
 use Rattle.bpf_helpers.specs.declared.sig.Entry.{Entry}
@@ -12,13 +12,16 @@ use Rattle.http_response.specs.declared.reply.Reply.{Reply}
 use Rattle.http_connections.specs.Halls.{AllStand, HallStands, Log, all_parts}
 use Rattle.http_connections.specs.Sockets.{Sockets}
 use Rattle.http_connections.specs.declared.seat.Seat.{Seat}
+use Rattle.journal.specs.Logs.{Log as JournalLog}
 use Rattle.ring.specs.Places.{PlacementView, copies_of}
 use Rattle.server_sockets.specs.Work.{seats_of, shows}
 use Rattle.server_sockets.specs.declared.worker.Worker.{Worker}
 use Rattle.cluster_stamps.specs.declared.view.Size.{Size}
 use Rattle.cluster_stamps.specs.declared.view.Told.{Told}
 use Rattle.cluster_stamps.specs.declared.view.View.{View}
+use Rattle.cluster_vnode.specs.Gathers.{IsGathered}
 use Rattle.server_store.specs.View.{StoreView, shown}
+use Rattle.dvvstore.specs.Crews.{by_digest}
 use Rattle.server_one_thread.specs.Passes.{AreCallsOf, GivesUnnoted, PassCalls, Passing, all_calls, told_by}
 
 -- a store as it begins on so many vnodes, as a pass shows it: what the pass knows, the hooks, the helpers that these may call, and where keys stand
@@ -33,6 +36,34 @@ module _ {B : Type 0} (gives : B → Call → Reply → B → Type 0) (copies : 
   -- so it is of these connections of a worker
   abbrev pub Leads : B → Worker → B → Type 0
   Leads start worker now = (sockets : Sockets) × shows worker sockets × HallStands gives copies start now sockets (seats_of worker)
+
+-- this was told, and maybe more, and all of it is gathered in these journals, each once
+abbrev pub HasAll : List Told → List JournalLog → Type 0
+HasAll told logs = (more : List Told) × IsGathered (told ++ more) logs
+
+module _ {H : Type 0} where
+  -- the same stores, but for the hooks of the last one
+  abbrev pub IsLastHooked : List (StoreView Passing H) → List (StoreView Passing H) → Type 0
+  IsLastHooked [] now = ⊥
+  IsLastHooked (start ∷ []) now = (hooks : H) × (now ≡ record start { hooks = hooks } ∷ [])
+  IsLastHooked (start ∷ next ∷ rest) now = (after : List (StoreView Passing H)) × (now ≡ start ∷ after) × IsLastHooked (next ∷ rest) after
+
+  -- so it is where a folder held requests of hooks, with which the last store's begin; else they are the same
+  abbrev pub AreStarts : Option (List ℕ) → List (StoreView Passing H) → List (StoreView Passing H) → Type 0
+  AreStarts None starts now = now ≡ starts
+  AreStarts (Some held) starts now = IsLastHooked starts now
+
+-- a store is over these vnodes, where keys stand as their digests say
+abbrev pub IsOver : {H : Type 0} → Size → StoreView Passing H → Type 0
+IsOver size start = (start.peers.size ≡ size) × (start.placement ≡ by_digest)
+
+-- there is a store over these vnodes for each table, whose hooks may call its helpers: that of the last table is the first
+abbrev pub AreOfTables : {H : Type 0} → Size → List (List Entry) → List (StoreView Passing H) → Type 0
+AreOfTables size tables starts = (map (λ s. s.listed) starts ≡ reverse tables) × All (IsOver size) starts
+
+-- so it is, but for the hooks of the last one, where a folder held requests with which they begin
+abbrev pub BeginOver : {H : Type 0} → Size → List (List Entry) → Option (List ℕ) → List (StoreView Passing H) → Type 0
+BeginOver {H} size tables held now = (starts : List (StoreView Passing H)) × AreOfTables size tables starts × AreStarts held starts now
 
 -- what passes had been told before, each with the calls of its visit behind it
 abbrev pub told_with : {H : Type 0} → List (StoreView Passing H) → List (List Told) → List Told

@@ -1,7 +1,10 @@
 //! A store that a folder keeps, from what it held to what is to be written.
 
-ghost use Rattle.std.specs.Prelude.{◌≡◌, ◌+◌, ◌<◌, ◌≤◌, IfOk, OnOk, vec_len};
-ghost use Rattle.dvvstore.specs.Keeping.{HasBegun, HasBegunWith, Leaves, Tells, fronts_for, left_as};
+ghost use Rattle.std.specs.Prelude.{◌≡◌, ◌+◌, ◌<◌, ◌≤◌, ◌^◌, IfOk, OnOk, map, vec_len};
+ghost use Rattle.std.specs.Option.{option_map};
+ghost use Rattle.cluster_stamps.specs.declared.view.Size.{Size};
+ghost use Rattle.dvvstore.specs.Keeping.{HasBegun, HasBegunWith, Leaves, LeavesServed, Tells, fronts_for, hooks_for, left_as};
+ghost use Rattle.dvvstore.specs.Visits.{AreStarts, begun};
 
 use crate::crew;
 use crate::crew::{Crew, Lookout, Seat, Served};
@@ -165,8 +168,10 @@ pub fn live<
     requires spot { staffed.cluster.first ≡ B.first }
     requires three { staffed.cluster.vnodes ≡ 3 }
     requires begun { HasBegunWith stay.folder staffed.cluster.first stay.held.files.items staffed.begun }
+    requires numbers { staffed.begun.first + 3 ≤ 2 ^ 32 }
     ensures told { Tells stay.entry.door result (O.contents out.old) (O.contents out.new) }
     ensures kept { Leaves stay.entry.folder staffed.cluster.first stay.entry.held.files.items result }
+    ensures served { LeavesServed H.finds H.names H.takes (AreStarts (hooks_for stay.entry.folder stay.entry.held.hooks.items) (map (λ s. begun staffed.cluster s.pass s.hooking.hooks s.hooking.table.listed s.placement) staffed.seats.items)) result }
 {
     let Stay {
         folder,
@@ -186,14 +191,7 @@ pub fn live<
         files,
         ..
     } = held;
-    let Some(mut seat) = seats.pop() else {
-        unreachable!();
-    };
-    if folder.is_some() {
-        let table = &seat.hooking.table;
-        lookout.requests = begin_hooks(host, &table.listed, &mut seat.hooking.hooks, &hooks)?;
-    }
-    seats.push_reserved(seat);
+    begin_seats(host, &mut seats, &mut lookout, hooks_of(&folder, &hooks))?;
     let loaded = loaded_in(&files);
     // Else each state would be kept until the end that a key had at the start.
     drop(files);
@@ -238,7 +236,9 @@ fn saver_of<F>(
     settings: Settings,
     first: u32,
     err: Stderr,
-) -> Option<Saver<F>> {
+) -> Option<Saver<F>>
+    requires { first + 3 ≤ 2 ^ 32 }
+{
     match folder {
         Some(folder) => Some(Saver {
             shelf: Shelf {
@@ -295,6 +295,41 @@ fn loaded_in(files: &[KeptFile]) -> usize {
         loaded = loaded.saturating_add(file.records.len());
     }
     loaded
+}
+
+/// The requests that a folder held which keeps a store, if one does.
+fn hooks_of<'a, F>(folder: &Option<F>, held: &'a [u8]) -> Option<&'a [u8]>
+    ensures { option_map (λ hooks. hooks.now) result ≡ hooks_for folder.now held.now }
+{
+    match folder {
+        Some(_) => Some(held),
+        None => None,
+    }
+}
+
+/// Has the hooks of the last of some seats begin with the requests that a folder held, if one did; the others come to know of them by their
+/// own look-ups. The requests are written down once more.
+fn begin_seats<B: Room + Spot, H: HookChanges + Drop, R: Wait>(
+    host: &Host<'_, R>,
+    seats: &mut Vec<Seat<B, H>>,
+    lookout: &mut Lookout<B>,
+    held: Option<&[u8]>,
+) -> Result<(), Unbegun>
+    requires some { 0 < vec_len seats.old }
+    ensures count { OnOk result (vec_len seats.new ≡ vec_len seats.old) }
+    ensures starts { OnOk result ((size : Size) → AreStarts (option_map (λ h. h.now) held.entry) (map (λ s. begun size s.pass s.hooking.hooks s.hooking.table.listed s.placement) seats.old.items)
+        (map (λ s. begun size s.pass s.hooking.hooks s.hooking.table.listed s.placement) seats.new.items)) }
+{
+    let Some(held) = held else {
+        return Ok(());
+    };
+    let Some(mut seat) = seats.pop() else {
+        unreachable!();
+    };
+    let table = &seat.hooking.table;
+    lookout.requests = begin_hooks(host, &table.listed, &mut seat.hooking.hooks, held)?;
+    seats.push_reserved(seat);
+    Ok(())
 }
 
 /// Has hooks that may call helpers with these signatures begin with requests. The requests are written down once more.

@@ -6,11 +6,15 @@ pub(crate) const VNODES: u32 = 3;
 /// So many passes there are besides those of workers: the follower's, and one for each vnode, by which that takes over what it begins with.
 pub(crate) const SPARE_PASSES: usize = 4;
 
-/// How many numbers of starts there are: one for each second, and then again from the first.
-pub(crate) const START_NUMBERS: u64 = 65_536;
+/// How many numbers of starts there are. Where nothing is kept there is one for each second, and then again from the first: for 194 days.
+pub(crate) const START_NUMBERS: u64 = 16_777_216;
 
-/// How many identifiers of vnodes a start has.
-pub(crate) const IDENTIFIERS_PER_START: u32 = 65_536;
+/// The second, since 1970, from which on the minutes are counted below whose number no start of a store that is kept is numbered: the first
+/// one of 2026.
+pub(crate) const COUNTED_FROM_S: u64 = 1_767_225_600;
+
+/// How many seconds a minute has.
+pub(crate) const MINUTE_S: u64 = 60;
 
 // ---- following
 
@@ -69,9 +73,6 @@ pub(crate) const LOAD_NAP_MS: u64 = 1;
 
 /// How long is waited before it is looked again whether a snapshot is due or asked for, in milliseconds.
 pub(crate) const SNAPSHOT_TICK_MS: u64 = 100;
-
-/// So many vnodes are read side by side.
-pub(crate) const SNAPSHOT_SIDES: usize = 3;
 
 /// At most so many keys of a vnode are read in a spell: half of the entries of which the follower keeps what they answered. So what a
 /// client's call answered is kept for longer than a spell lasts.

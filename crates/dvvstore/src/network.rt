@@ -1,24 +1,25 @@
 //! The network of the system.
 
-ghost use Rattle.std.specs.Prelude.{◌≡◌, ◌≢◌, ◌++◌, ◌∷◌, [], ℕ, List, IfOk, IfErr, OnOk};
+ghost use Rattle.std.specs.Prelude.{◌≡◌, ◌≢◌, ◌<◌, ◌++◌, ◌∷◌, [], ℕ, List, IfOk, IfErr, OnOk};
 ghost use Rattle.std.specs.Io.KnownBytes.{Appends};
 ghost use Rattle.commands.specs.Command.{HasRefused};
-ghost use Rattle.dvvstore.specs.Keeping.{HasEnded};
+ghost use Rattle.dvvstore.specs.Keeping.{ArePutOf, HasEnded, Keeps};
 
 use crate::crew::Served;
 use crate::host::Host;
 use crate::keeper::{Address, Door, Stay, Unbegun};
-use crate::limits::IDENTIFIERS_PER_START;
 use crate::reasons::bind;
 use crate::session;
 use crate::session::{Left, Making};
-use crate::start::start_at;
+use crate::start::{minute_at, start_at};
 use crate::system_folder::{SystemFolder, take};
-use audit_cluster::Closed;
-use audit_faults::{Followed, WatchFault};
+use audit_cluster::{Closed, Verdict};
+use audit_faults::Followed;
 use bpf_helpers::Table;
-use commands::server::{Ended, Server, Site, Unserved};
-use kept_folder::{Folder, Held, OpenFault, Opened, keep_all, keep_number};
+use commands::server::{Ended, Says, Server, Site, Unserved};
+use dvv::VNODES_PER_NUMBER;
+use kept_folder::{Folder, Held, OpenFault, Opened, Unreplaced, keep_all, keep_number};
+use kept_hooks::Requests;
 use server_accept::{Bound, Setup, open, tell_listening};
 use std::alloc::Global;
 use std::fmt::Display;
@@ -30,10 +31,19 @@ use std::rt::Clock;
 use std::sync::Wait;
 use std::thread::{Parker, Threads};
 use std::time::Duration;
-use vnode::Seed;
+use vnode::{Seed, Vnode};
 
-/// What is said where memory is refused for the store.
-const NO_MEMORY: Followed = Err(WatchFault::NoMemory);
+/// What is said of the journals of a store: a yes is that of who has followed them, since nobody else can make one.
+#[derive(Drop)]
+pub struct Said(Verdict);
+
+impl Says for Said {
+    ghost says = { λ said. said.0 };
+
+    fn said(&self) -> Followed {
+        self.0.said()
+    }
+}
 
 /// The network and the files of the system, and the streams on which who runs a server says and is told things.
 #[derive(Drop)]
@@ -57,7 +67,9 @@ impl<'a, R> Network<'a, R> {
 impl<R: Clock + Wait> Network<'_, R> {
     /// The number of this start, once the second that it took is over. Vnodes hold nothing then, so they take other identifiers than those
     /// of the starts before, of which clients may still have contexts. Where the clock can't be read it is 0.
-    fn begin(&self) -> u16 {
+    fn begin(&self) -> u32
+        ensures { result < 16777216 }
+    {
         let Ok(taken) = self.rt.since_1970() else {
             return 0;
         };
@@ -76,6 +88,14 @@ impl<R: Clock + Wait> Network<'_, R> {
         }
         start.number
     }
+
+    /// How many minutes of 2026 and of later years are over. Where the clock can't be read it is 0.
+    fn minute(&self) -> u32 {
+        match self.rt.since_1970() {
+            Ok(now) => minute_at(now.as_secs()),
+            Err(_) => 0,
+        }
+    }
 }
 
 impl<
@@ -88,6 +108,8 @@ impl<
 > Server for Network<'_, R> {
     ghost use denote.Param.Send.{IsSync};
 
+    type Said = Said;
+
     ghost ready = { IsSync R.row };
 
     fn serve<O: Write>(
@@ -98,7 +120,7 @@ impl<
         addr: &str,
         count: Option<u32>,
         out: &mut O,
-    ) -> Result<Followed, Unserved> {
+    ) -> Result<Said, Unserved> {
         if more.push(table).is_err() {
             return Err(Unserved::NoMemory);
         }
@@ -120,7 +142,7 @@ impl<
         };
         tell_listening(addr, out)?;
         let making = Making {
-            first: u32::from(self.begin()) * IDENTIFIERS_PER_START,
+            first: self.begin() * VNODES_PER_NUMBER,
             seed,
         };
         let stay = Stay {
@@ -130,8 +152,8 @@ impl<
             err: self.err,
         };
         match session::live(&self.host(alloc), making, more, stay, &mut io::sink()) {
-            Ok(Left::Kept(served)) => Ok(served.closed.said),
-            _ => Ok(NO_MEMORY),
+            Ok(Left::Kept(served)) => Ok(said_of(served)),
+            _ => Ok(Said(Verdict::no_memory())),
         }
     }
 
@@ -142,7 +164,7 @@ impl<
         mut more: Vec<Table>,
         site: &Site<'_>,
         out: &mut O,
-    ) -> Result<Ended, Unserved> {
+    ) -> Result<Ended<Said>, Unserved> {
         if more.push(table).is_err() {
             return Err(Unserved::NoMemory);
         }
@@ -154,14 +176,14 @@ impl<
         // Before a number is taken: starts at an address that can't be had use none up.
         let bound = bind(self.rt, site.addr, self.err)?;
         let mut folder = lock.folder();
-        let opened = match kept_folder::open(alloc, self.rt, &mut folder) {
+        let opened = match kept_folder::open(alloc, self.rt, &mut folder, self.minute()) {
             Ok(opened) => opened,
             Err(OpenFault::NoMemory) => return Err(Unserved::NoMemory),
             Err(why) => return Err(refused(alloc, out, &why)),
         };
         let Opened { number, held } = opened;
         let making = Making {
-            first: u32::from(number) * IDENTIFIERS_PER_START,
+            first: number * VNODES_PER_NUMBER,
             seed,
         };
         let stay = Stay {
@@ -185,6 +207,15 @@ impl<
     }
 }
 
+/// What is said of the journals of a store that was served.
+fn said_of(served: Served) -> Said
+    ensures { result.0 ≡ served.closed.said }
+{
+    let Served { closed, .. } = served;
+    let Closed { said, .. } = closed;
+    Said(said)
+}
+
 /// Tells a word and why it is said, in a line. The error: the output can't be written, or memory was refused.
 fn tell<O: Write, D: Display>(alloc: Global, out: &mut O, word: &str, why: &D) -> io::Result<()>
     ensures told { OnOk result ((text : List ℕ) × Appends (O.contents out.old) (O.contents out.new) (word.now ++ 32 ∷ text ++ 10 ∷ [])) }
@@ -205,12 +236,12 @@ fn refused<O: Write, D: Display>(alloc: Global, out: &mut O, why: &D) -> Unserve
 }
 
 /// Tells that nothing is left of a store, since memory was refused.
-fn lose<O: Write>(alloc: Global, out: &mut O) -> Result<Ended, Unserved>
+fn lose<O: Write>(alloc: Global, out: &mut O) -> Result<Ended<Said>, Unserved>
     ensures told { IfOk result (HasEnded (O.contents out.old) (O.contents out.new)) }
     ensures why { IfErr result (λ why. why ≡ Unserved.Unreadable) }
 {
     tell(alloc, out, "not kept", &"E1")?;
-    Ok(Ended::Unkept(NO_MEMORY))
+    Ok(Ended::Unkept(Said(Verdict::no_memory())))
 }
 
 /// Writes what is left of a store into its folder, and the number of its start where that is lacking, and tells how many records that is,
@@ -218,20 +249,18 @@ fn lose<O: Write>(alloc: Global, out: &mut O) -> Result<Ended, Unserved>
 fn finish<F: Folder, O: Write>(
     alloc: Global,
     folder: &mut F,
-    number: u16,
+    number: u32,
     served: Served,
     out: &mut O,
-) -> Result<Ended, Unserved>
+) -> Result<Ended<Said>, Unserved>
     ensures told { IfOk result (HasEnded (O.contents out.old) (O.contents out.new)) }
     ensures why { IfErr result (λ why. why ≡ Unserved.Unreadable) }
+    ensures put { IfOk result (Keeps F.finds F.does number served folder.old folder.new) }
 {
     let Served { closed, requests } = served;
     let Closed { vnodes, said } = closed;
-    let came = match keep_number(alloc, folder, number) {
-        Ok(()) => keep_all(alloc, folder, &vnodes, requests.bytes()),
-        Err(why) => Err(why),
-    };
-    match came {
+    let said = Said(said);
+    match write_all(alloc, folder, number, &vnodes, &requests) {
         Ok(kept) => {
             writeln!(out, "kept {kept}")?;
             Ok(Ended::Kept(said))
@@ -240,5 +269,24 @@ fn finish<F: Folder, O: Write>(
             tell(alloc, out, "not kept", &why)?;
             Ok(Ended::Unkept(said))
         }
+    }
+}
+
+/// Has the number of a start be in a folder, and replaces all files by what vnodes hold that nobody calls any more, and by the requests that
+/// make their hooks what they are. Answers how many records are written.
+fn write_all<F: Folder>(
+    alloc: Global,
+    folder: &mut F,
+    number: u32,
+    vnodes: &[Vnode],
+    requests: &Requests,
+) -> Result<usize, Unreplaced>
+    ensures put { OnOk result (ArePutOf F.finds F.does number vnodes.now requests.now folder.old folder.new) }
+{
+    keep_number(alloc, folder, number)?;
+    match requests.bytes() {
+        Some(held) => keep_all(alloc, folder, vnodes, Some(held)),
+        // One of them is lacking.
+        None => keep_all(alloc, folder, vnodes, None),
     }
 }

@@ -1,16 +1,16 @@
 //! Snapshots of a store that is kept, beside its workers.
 
-ghost use Rattle.std.specs.Prelude.{◌≡◌, ◌/◌, ◌-◌, ◌&&◌, ◌||◌, false, max, nat_eq, nat_le, not};
-ghost use Rattle.dvvstore.specs.Asides.{AllGrow, Grows};
+ghost use Rattle.std.specs.Prelude.{◌≡◌, ◌<◌, ◌≤◌, ◌+◌, ◌/◌, ◌-◌, ◌^◌, ◌&&◌, ◌||◌, IfOk, false, max, nat_eq, nat_le, not};
+ghost use Rattle.dvvstore.specs.Asides.{AllRead, IsKeptBy, Reads};
 
 mod stride;
 
 use crate::crew::{Signs, Until};
-use crate::limits::{IDENTIFIERS_PER_START, SNAPSHOT_SIDES, SNAPSHOT_TICK_MS};
+use crate::limits::SNAPSHOT_TICK_MS;
 use crate::saver::stride::Stride;
 use cluster::{Cluster, Pass, Room};
 use cluster_peers::ClusterPeers;
-use cluster_peers::laws::calls_only_add;
+use dvv::VNODES_PER_NUMBER;
 use kept_file::{SnapshotFault, Subject};
 use kept_folder::{Folder, Unreplaced, WriteFault, keep_number, keep_requests, keep_served};
 use kept_restore::{Passes, join_three};
@@ -88,6 +88,7 @@ pub struct Saver<F> {
     pub every: u32,
     /// Where snapshots are told.
     pub err: Stderr,
+    ghost numbers: { shelf.first + 3 ≤ 2 ^ 32 },
 }
 
 impl<F: Folder + Copy + Send> Saver<F> {
@@ -100,7 +101,7 @@ impl<F: Folder + Copy + Send> Saver<F> {
         mut spares: Passes<B>,
         signs: &Signs<'_>,
     ) -> Passes<B>
-        ensures grow { AllGrow spares result }
+        ensures read { AllRead cluster.now.first spares result }
     {
         let mut timer = Timer::new();
         let mut schedule = Schedule::new(self.every, timer.now());
@@ -129,7 +130,7 @@ impl<F: Folder + Copy + Send> Saver<F> {
         spares: Passes<B>,
         signs: &Signs<'_>,
     ) -> (Passes<B>, usize)
-        ensures grow { AllGrow spares result.0 }
+        ensures read { AllRead cluster.now.first spares result.0 }
     {
         let mut timer = Timer::new();
         let begin = timer.now();
@@ -165,7 +166,7 @@ impl<F: Folder + Copy + Send> Saver<F> {
         spares: Passes<B>,
         signs: &Signs<'_>,
     ) -> (Passes<B>, Result<usize, Unreplaced>)
-        ensures grow { AllGrow spares result.0 }
+        ensures read { AllRead cluster.now.first spares result.0 }
     {
         let (spares, came) = self.write_vnodes(rt, cluster, spares, signs);
         (
@@ -198,7 +199,7 @@ impl<F: Folder + Copy + Send> Saver<F> {
         spares: Passes<B>,
         signs: &Signs<'_>,
     ) -> (Passes<B>, Result<usize, Unreplaced>)
-        ensures grow { AllGrow spares result.0 }
+        ensures read { AllRead cluster.now.first spares result.0 }
     {
         let Passes {
             first,
@@ -211,13 +212,13 @@ impl<F: Folder + Copy + Send> Saver<F> {
         let (one, two, three) = join_three(
             rt,
             || -> Saved<B>
-                ensures { Grows one.pass result.pass }
+                ensures { Reads (cluster.entry.now.first + one.index) one.pass result.pass }
             { one.write(rt, cluster, signs) },
             || -> Saved<B>
-                ensures { Grows two.pass result.pass }
+                ensures { Reads (cluster.entry.now.first + two.index) two.pass result.pass }
             { two.write(rt, cluster, signs) },
             || -> Saved<B>
-                ensures { Grows three.pass result.pass }
+                ensures { Reads (cluster.entry.now.first + three.index) three.pass result.pass }
             { three.write(rt, cluster, signs) },
         );
         let came = all_keys(one.came, all_keys(two.came, three.came));
@@ -242,23 +243,27 @@ pub struct Shelf<F> {
 }
 
 impl<F> Shelf<F> {
-    /// The number of the start: the upper half of the identifiers of its vnodes.
-    fn number(&self) -> u16
-        ensures { result ≡ self.now.first / 65536 }
+    /// The number of the start: the upper three bytes of the identifiers of its vnodes.
+    fn number(&self) -> u32
+        ensures { result ≡ self.now.first / 256 }
     {
-        (self.first / IDENTIFIERS_PER_START) as u16
+        self.first / VNODES_PER_NUMBER
     }
 }
 
 impl<F: Folder + Copy> Shelf<F> {
-    /// Who reads vnodes from that with an index on, by a pass.
-    fn side<B: Room>(&self, pass: Pass<B>, from: usize) -> Side<B, F>
+    /// Who reads the vnode with an index, by a pass.
+    fn side<B: Room>(&self, pass: Pass<B>, index: usize) -> Side<B, F>
+        requires numbers { self.now.first + 3 ≤ 2 ^ 32 }
+        requires inside { index < 3 }
+        ensures shelf { result.shelf ≡ self.now }
         ensures pass { result.pass ≡ pass }
+        ensures index { result.index ≡ index }
     {
         Side {
             shelf: *self,
             pass,
-            from,
+            index,
         }
     }
 }
@@ -272,49 +277,46 @@ impl<F: Folder> Shelf<F> {
         signs: &Signs<'_>,
         index: usize,
     ) -> Result<usize, Unreplaced>
-        ensures grows { Grows peers.old.pass peers.new.pass }
+        requires numbers { self.old.first + 3 ≤ 2 ^ 32 }
+        requires inside { index < 3 }
+        ensures read { Reads (peers.old.size.first + index) peers.old.pass peers.new.pass }
+        ensures put { IfOk result (IsKeptBy F.does self.old.folder (self.old.first + index) index peers.old.pass peers.new.pass) }
     {
-        calls_only_add();
         let subject = Subject {
             index,
-            id: self
-                .first
-                .saturating_add(u32::try_from(index).unwrap_or(u32::MAX)),
+            id: self.first + index as u32,
         };
         let mut pace = Stride::new(rt, *signs);
         keep_served(self.alloc, &mut self.folder, peers, subject, &mut pace)
     }
 }
 
-/// Who reads some of the vnodes: that with an index, and each so many-th behind it as are read side by side.
+/// Who reads one of the vnodes.
 #[derive(Drop)]
 struct Side<B: Room, F> {
-    /// Where their files stand.
+    /// Where its file stands.
     shelf: Shelf<F>,
-    /// What they are called with.
+    /// What it is called with.
     pass: Pass<B>,
-    /// The index of the first one.
-    from: usize,
+    /// Its index.
+    index: usize,
+    ghost numbers: { shelf.first + 3 ≤ 2 ^ 32 },
+    ghost inside: { index < 3 },
 }
 
 impl<B: Room, F: Folder + Copy> Side<B, F> {
-    /// Replaces the files of these vnodes. The first that isn't replaced is the last that is tried.
+    /// Replaces the file of this vnode.
     fn write<R: Wait>(self, rt: &R, cluster: &Cluster<B>, signs: &Signs<'_>) -> Saved<B>
-        ensures grows { Grows self.pass result.pass }
+        ensures read { Reads (cluster.now.first + self.index) self.pass result.pass }
+        ensures put { IfOk result.came (IsKeptBy F.does self.shelf.folder (self.shelf.first + self.index) self.index self.pass result.pass) }
     {
         let Side {
             mut shelf,
             pass,
-            from,
+            index,
         } = self;
         let mut peers = ClusterPeers::new(shelf.alloc, rt, cluster, pass);
-        let mut came = Ok(0usize);
-        for index in (from..cluster.count()).step_by(SNAPSHOT_SIDES) {
-            if came.is_ok() {
-                let more = shelf.write_vnode(rt, &mut peers, signs, index);
-                came = all_keys(came, more);
-            }
-        }
+        let came = shelf.write_vnode(rt, &mut peers, signs, index);
         Saved {
             pass: peers.into_pass(),
             came,

@@ -5,7 +5,10 @@ ghost use Rattle.hook_sharing.specs.Lists.{list_of};
 ghost use Rattle.cluster_stamps.specs.Rule.{newcomer};
 ghost use Rattle.cluster_vnode.specs.Calls.{pass_view};
 ghost use Rattle.dvvstore.specs.Crews.{AreAllPlaced};
-ghost use Rattle.dvvstore.specs.Keeping.{HasBegunWith, Leaves, Tells};
+ghost use Rattle.hook_readers.specs.Edits.{Finds, Names};
+ghost use Rattle.hook_sharing.specs.Taking.{Takes};
+ghost use Rattle.dvvstore.specs.Keeping.{HasBegunWith, Leaves, LeavesServed, Tells, hooks_for};
+ghost use Rattle.dvvstore.specs.Visits.{BeginOver};
 
 use crate::crew::{Lookout, Seat, Served};
 use crate::host::Host;
@@ -105,6 +108,7 @@ pub fn live<
     requires few { vec_len tables ≤ 16 }
     ensures told { Tells stay.entry.door result (O.contents out.old) (O.contents out.new) }
     ensures kept { Leaves stay.entry.folder making.first stay.entry.held.files.items result }
+    ensures served { LeavesServed Finds Names Takes (BeginOver (record { first = making.first; vnodes = 3; passes = vec_len tables + 4 }) (map (λ t. t.listed) tables.items) (hooks_for stay.entry.folder stay.entry.held.hooks.items)) result }
 {
     let size = Size {
         first: making.first,
@@ -146,6 +150,7 @@ fn over_stamps<
     requires card { undrawn.card.me ≡ (newcomer undrawn.stamps.table.shared.key, []) }
     ensures told { Tells stay.entry.door result (O.contents out.old) (O.contents out.new) }
     ensures kept { Leaves stay.entry.folder undrawn.making.first stay.entry.held.files.items result }
+    ensures served { LeavesServed Finds Names Takes (BeginOver (record { first = undrawn.making.first; vnodes = 3; passes = vec_len tables + 4 }) (map (λ t. t.listed) tables.items) (hooks_for stay.entry.folder stay.entry.held.hooks.items)) result }
 {
     let seed = undrawn.making.seed;
     let vnodes = begin(host, undrawn, tables.len(), &stay)?;
@@ -172,6 +177,7 @@ fn begin<B: Room + Spot + Send + Sync, R: Threads + Wait + Sync, N, F: Copy>(
     ensures all { IfOk result (λ vnodes. vnodes.cluster.passes ≡ workers + 4) }
     ensures passes { IfOk result (λ vnodes. vec_len vnodes.passes ≡ workers) }
     ensures begun { IfOk result (λ vnodes. HasBegunWith stay.now.folder undrawn.making.first stay.now.held.files.items vnodes.begun) }
+    ensures numbers { IfOk result (λ vnodes. vnodes.begun.first + 3 ≤ 2 ^ 32) }
 {
     let alloc = host.alloc;
     let Undrawn {
@@ -252,8 +258,10 @@ fn over_cluster<
     requires spot { parts.vnodes.cluster.first ≡ B.first }
     requires three { parts.vnodes.cluster.vnodes ≡ 3 }
     requires begun { HasBegunWith stay.folder parts.vnodes.cluster.first stay.held.files.items parts.vnodes.begun }
+    requires numbers { parts.vnodes.begun.first + 3 ≤ 2 ^ 32 }
     ensures told { Tells stay.entry.door result (O.contents out.old) (O.contents out.new) }
     ensures kept { Leaves stay.entry.folder parts.vnodes.cluster.first stay.entry.held.files.items result }
+    ensures served { LeavesServed Finds Names Takes (BeginOver parts.vnodes.cluster (map (λ t. t.listed) parts.tables.items) (hooks_for stay.entry.folder stay.entry.held.hooks.items)) result }
 {
     over_ground(host, parts, opening.named::<J>(host.alloc), stay, out)
 }
@@ -282,8 +290,10 @@ fn over_ground<
     requires spot { parts.vnodes.cluster.first ≡ B.first }
     requires three { parts.vnodes.cluster.vnodes ≡ 3 }
     requires begun { HasBegunWith stay.folder parts.vnodes.cluster.first stay.held.files.items parts.vnodes.begun }
+    requires numbers { parts.vnodes.begun.first + 3 ≤ 2 ^ 32 }
     ensures told { Tells stay.entry.door result (O.contents out.old) (O.contents out.new) }
     ensures kept { Leaves stay.entry.folder parts.vnodes.cluster.first stay.entry.held.files.items result }
+    ensures served { LeavesServed Finds Names Takes (BeginOver parts.vnodes.cluster (map (λ t. t.listed) parts.tables.items) (hooks_for stay.entry.folder stay.entry.held.hooks.items)) result }
 {
     match open(host.alloc, host.rt, ground, parts.tables.len()) {
         Ok((installer, readers)) => {
@@ -322,8 +332,10 @@ fn over_hooks<
     requires spot { parts.vnodes.cluster.first ≡ B.first }
     requires three { parts.vnodes.cluster.vnodes ≡ 3 }
     requires begun { HasBegunWith stay.folder parts.vnodes.cluster.first stay.held.files.items parts.vnodes.begun }
+    requires numbers { parts.vnodes.begun.first + 3 ≤ 2 ^ 32 }
     ensures told { Tells stay.entry.door result (O.contents out.old) (O.contents out.new) }
     ensures kept { Leaves stay.entry.folder parts.vnodes.cluster.first stay.entry.held.files.items result }
+    ensures served { LeavesServed Finds Names Takes (BeginOver parts.vnodes.cluster (map (λ t. t.listed) parts.tables.items) (hooks_for stay.entry.folder stay.entry.held.hooks.items)) result }
 {
     let Parts { vnodes, tables } = parts;
     let Vnodes {

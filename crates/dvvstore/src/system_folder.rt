@@ -75,9 +75,10 @@ impl Lock<'_> {
     }
 }
 
-/// Takes the folder with a path, which is made where it is missing.
+/// Takes the folder with a path, which is made where it is missing: its own name is forced to the device, too.
 pub fn take<'a>(rt: &'a HostRuntime, alloc: Global, path: &'a str) -> Result<Lock<'a>, Untaken> {
     fs::create_dir_all(rt, path)?;
+    force_name(rt, alloc, path)?;
     let file = fs::File::create(rt, format!(in alloc; "{path}/{LOCK}")?.as_str())?;
     let node = Node::of(&file.metadata()?);
     match file.try_lock() {
@@ -90,6 +91,15 @@ pub fn take<'a>(rt: &'a HostRuntime, alloc: Global, path: &'a str) -> Result<Loc
         }),
         Err(fs::TryLockError::WouldBlock) => Err(Untaken::InUse),
         Err(fs::TryLockError::Error(error)) => Err(Untaken::from(error)),
+    }
+}
+
+/// Forces the name of a folder to the device, where the one around it can be opened: who may not read that may still use this.
+fn force_name(rt: &HostRuntime, alloc: Global, path: &str) -> io::Result<()> {
+    let around = format!(in alloc; "{path}/..")?;
+    match fs::File::open(rt, around.as_str()) {
+        Ok(folder) => folder.sync_all(),
+        Err(_) => Ok(()),
     }
 }
 

@@ -11,6 +11,7 @@ use crate::session::{Left, Making};
 use crate::system_folder::SystemFolder;
 use audit_faults::{Followed, WatchFault};
 use bpf_helpers::Table;
+use dvv::VNODES_PER_NUMBER;
 use kept_folder::Held;
 use mio::net::TcpListener;
 use server_accept::{Lobby, Setup, open};
@@ -26,10 +27,13 @@ use vnode::Seed;
 /// How many clients there are, each with a connection of its own.
 const CLIENTS: usize = 3;
 
+/// The first identifier.
+const FIRST: u32 = 1_792 * VNODES_PER_NUMBER;
+
 /// Which client asks what, and what it is told.
 type Line = (usize, &'static [u8], &'static [u8]);
 
-/// What is asked by whom, and what the client is told, in order. The first identifier is 7 times 65,536.
+/// What is asked by whom, and what the client is told, in order. The first identifier is 1,792 times 256.
 const TALK: [Line; 9] = [
     (
         0,
@@ -159,7 +163,7 @@ fn two_tables(alloc: Global) -> Result<Vec<Table>, AllocError>
 /// What is said of the journals of a store that is forgotten.
 fn said_of(left: Result<Left, Unbegun>) -> Followed {
     match left {
-        Ok(Left::Kept(served)) => served.closed.said,
+        Ok(Left::Kept(served)) => served.closed.said.said(),
         _ => Err(WatchFault::Lost),
     }
 }
@@ -191,7 +195,7 @@ fn two_workers(rt: HostRuntime) -> Result<(), Fail> {
             {
                 let host = Host { alloc, rt: lent };
                 let making = Making {
-                    first: 458_752,
+                    first: FIRST,
                     seed: Seed::fixed(),
                 };
                 let stay = Stay {
@@ -203,7 +207,7 @@ fn two_workers(rt: HostRuntime) -> Result<(), Fail> {
                 said_of(session::live(&host, making, tables, stay, &mut io::sink()))
             },
         );
-        expect(answered? == (TALK.len(), CLIENTS), &458_752)?;
+        expect(answered? == (TALK.len(), CLIENTS), &FIRST)?;
         expect(said == Ok(()), &said)?;
     }
     Ok(())

@@ -2,7 +2,7 @@
 
 ghost use Rattle.std.specs.Prelude.{◌≡◌};
 
-use http_request::MAX_HEAD;
+use http_request::MAX_HEAD_BYTES;
 
 /// What has to come before the bytes that wait are worth a look.
 #[derive(Clone, Copy)]
@@ -21,7 +21,7 @@ impl Wanted {
         ensures { result ≡ has_come self bytes.now waiting }
     {
         match self {
-            Wanted::Line => waiting > MAX_HEAD || bytes.contains(&b'\n'),
+            Wanted::Line => waiting > MAX_HEAD_BYTES || bytes.contains(&b'\n'),
             Wanted::Bytes(needs) => waiting >= needs,
         }
     }

@@ -4,3 +4,4 @@ pub mod MoveLemmas
 pub mod LogLemmas
 pub mod HallLemmas
 pub mod ClientLemmas
+pub mod UnsentLemmas

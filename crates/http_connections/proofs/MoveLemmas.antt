@@ -110,3 +110,15 @@ module _ {B : Type 0} (gives : B → Call → Reply → B → Type 0) (copies n 
     attends_last (x, makes, pushed) =
         attends_called gives n shows old xs (Speaks copies phase.Closing waits' out') from now x shown (makes []).does
         (speaks_last copies waits out (old n) xs speaks gives from now x waits' out' pushed makes)
+
+-- some calls on the sockets and then others
+pub moves_then : (shows shows' : Sockets → Type 0) (n : ℕ) (old : Sockets) (P Q : Socket → Type 0) → Moves shows n old P
+    → ((s : Sockets) → shows s → P (s n) → Moves shows' n s Q) → Moves shows' n old Q
+moves_then shows shows' n old P Q a next =
+    let b = next a.new a.shown a.to in record {
+      new = b.new;
+      shown = b.shown;
+      only = only_then n old a.new b.new a.only b.only;
+      state = b.state ∙ a.state;
+      to = b.to;
+    }

@@ -29,7 +29,7 @@ all_parts (e ∷ log) = e.1 ∷ all_parts log
 
 -- the seat of a connection
 abbrev pub seat_at : Hall → ℕ → Option Seat
-seat_at hall n = get nat_cmp hall.seats n
+seat_at hall n = get nat_cmp hall.seats.by_number n
 
 -- what is known of a connection: it didn't come yet; or it is here, its exchanges are the requests of what was heard so far, and nothing but
 -- its client holds it up, or it was reported and not attended yet; or it ended, in order or not

@@ -1,4 +1,6 @@
 pub mod Sockets
 pub mod Spoken
+pub mod Unsent
 pub mod Halls
+pub mod Full
 pub mod Clients

@@ -1,27 +1,33 @@
 //! The connections of one worker.
 
-ghost use Rattle.std.specs.Prelude.{◌≡◌, ℕ, List, [], Option, None, Some, Result, Ok, IfOk, OnOk, OnErr, option_map};
+ghost use Rattle.std.specs.Prelude.{◌≡◌, ◌+◌, ◌<◌, ◌≤◌, ℕ, List, [], true, false, Option, None, Some, Result, Ok, IfOk, IfSome, OnOk, OnErr, option_map};
 ghost use Rattle.http_connection.specs.Dialogue.{Exchange};
 ghost use Rattle.http_connection.specs.declared.device.Failed.{Failed as Failure};
 ghost use Rattle.http_connections.specs.Sockets.{Socket, Sockets, OnlyAt, Changes, unborn, after_accept};
 ghost use Rattle.http_connections.specs.Spoken.{Serves, Attended, Attends, standing_of};
 ghost use Rattle.http_connections.specs.Halls.{Log, AllStand, AllRestBut, Goes, HallStands, IsOfOne, OnlySeat, RestsAt, Greets, comes_to, seat_at};
+ghost use Rattle.http_connections.specs.Unsent.{full, half_full};
+ghost use Rattle.http_connections.specs.Full.{HoldsMost, IsFull, IsWithin, Sheds, held_in, unsent_in};
 ghost use Rattle.http_connections.specs.declared.seat.Seat.{Seat as Place};
 
 use crate::buffer::Buffer;
+use crate::limits::{FULL_BYTES, HALF_FULL_BYTES};
 use crate::seat::{Seat, Standing};
+use crate::seats::Seats;
 use crate::socket_ring::{Closing, Ring};
 use http_connection::{Backend, Desk, Failed, FrontFault};
 use std::alloc::{AllocError, Global};
-use std::collections::BTreeMap;
 
 /// The connections of one worker, each with its seat, and the room that they share.
+///
+/// Where 64 MiB of their answers wait to be written the hall is full: no request is begun and nothing is read, until less waits. So fewer wait
+/// at any time, but for those of one connection, which may have 64 KiB and one answer.
 #[derive(Drop)]
 pub struct Hall {
     alloc: Global,
     desk: Desk,
     buffer: Buffer,
-    seats: BTreeMap<u64, Seat>,
+    seats: Seats,
 }
 
 impl Hall {
@@ -33,7 +39,7 @@ impl Hall {
             alloc,
             desk: Desk::new(alloc)?,
             buffer: Buffer::new(alloc)?,
-            seats: BTreeMap::new(alloc),
+            seats: Seats::new(alloc),
         })
     }
 
@@ -73,21 +79,22 @@ impl Hall {
         ensures err { OnErr result (seat_at self.new number ≡ seat_at self.old number) }
         ensures others { OnlySeat number (seat_at self.old) (seat_at self.new) }
     {
-        self.seats.insert(number, Seat::new(self.alloc))?;
-        Ok(())
+        self.seats.seat(self.alloc, number)
     }
 
     // Takes the seat of a connection away.
     fn unseat(&mut self, number: u64)
         ensures gone { seat_at self.new number ≡ None }
         ensures others { OnlySeat number (seat_at self.old) (seat_at self.new) }
+        ensures less { unsent_in self.new + held_in self.old number ≡ unsent_in self.old }
     {
-        self.seats.remove(&number);
+        self.seats.unseat(number);
     }
 
     /// Does a bounded piece of work for one connection: what it sent is read, its whole requests make their calls and are answered, and the
     /// answers are written, until it has nothing to give or take now, or ends, or had its share. No other connection is touched, and no
-    /// call is made but those of its own exchanges. One that nobody has, as one that ended meanwhile, is passed over.
+    /// call is made but those of its own exchanges. Where the hall is full answers are written alone. One that nobody has, as one that ended
+    /// meanwhile, is passed over.
     pub fn attend<R: Ring, B: Backend>(&mut self, number: u64, ring: &mut R, backend: &mut B)
         ensures goes { (log : Log) (old : Sockets) → R.shows ring.old old → AllStand (B.copies backend.old) log old (seat_at self.old)
             → (new : Sockets) × R.shows ring.new new × (goes : Goes B.gives (B.copies backend.old) log backend.old backend.new new (seat_at self.new)) × IsOfOne number goes.made
@@ -97,6 +104,7 @@ impl Hall {
             → (new : Sockets) × R.shows ring.new new × HallStands B.gives B.copies start backend.new new (seat_at self.new) × OnlyAt number old new
             × RestsAt number new (seat_at self.new) }
         ensures others { OnlySeat number (seat_at self.old) (seat_at self.new) }
+        ensures quiet { IsFull self.old → backend.new ≡ backend.old }
     {
         if let Some(closing) = self.attend_seat(number, ring, backend) {
             self.unseat(number);
@@ -117,20 +125,36 @@ impl Hall {
         ensures absent { seat_at self.old number ≡ None → (result ≡ None) × (seat_at self.new number ≡ None) × (ring.new ≡ ring.old) × (backend.new ≡ backend.old) }
         ensures others { OnlySeat number (seat_at self.old) (seat_at self.new) }
         ensures stays { B.copies backend.new ≡ B.copies backend.old }
+        ensures quiet { IsFull self.old → backend.new ≡ backend.old }
     {
-        match self.seats.get_mut(&number) {
-            Some(seat) => {
-                seat.serve(
-                    self.alloc,
-                    number,
-                    &mut self.desk,
-                    &mut self.buffer,
-                    ring,
-                    backend,
-                )
-            }
-            None => None,
+        if self.is_full() {
+            self.seats.write_out(number, &mut self.desk, ring)
+        } else {
+            self.seats.serve(
+                self.alloc,
+                number,
+                &mut self.desk,
+                &mut self.buffer,
+                ring,
+                backend,
+            )
         }
+    }
+
+    /// How many bytes of answers wait to be written, of all connections together.
+    pub fn unsent(&self) -> usize
+        ensures value { result ≡ unsent_in self.now }
+        ensures bounded { IsWithin self.now }
+    {
+        self.seats.unsent()
+    }
+
+    /// Whether so many wait that no request is begun.
+    pub fn is_full(&self) -> bool
+        ensures full { result ≡ true → IsFull self.now }
+        ensures room { result ≡ false → unsent_in self.now < full }
+    {
+        self.unsent() >= FULL_BYTES
     }
 
     /// Attends each of the connections that were reported.
@@ -148,7 +172,7 @@ impl Hall {
     pub fn standing(&self, number: u64) -> Option<Standing>
         ensures { result ≡ option_map standing_of (seat_at self.now number) }
     {
-        self.seats.get(&number).map(Seat::standing)
+        self.seats.get(number).map(Seat::standing)
     }
 
     /// Gives a connection up: it is closed at once, and no other is touched. One that nobody has is passed over.
@@ -157,10 +181,36 @@ impl Hall {
             → (new : Sockets) × R.shows ring.new new × AllStand copies log new (seat_at self.new) × OnlyAt number old new }
         ensures gone { seat_at self.new number ≡ None }
         ensures others { OnlySeat number (seat_at self.old) (seat_at self.new) }
+        ensures less { unsent_in self.new + held_in self.old number ≡ unsent_in self.old }
     {
-        if self.seats.contains_key(&number) {
+        if self.seats.contains_key(number) {
             self.unseat(number);
             ring.close(number, Closing::GivenUp);
+        }
+    }
+
+    /// Closes connections at once, each time one that holds most of the answers that wait, until no more than half of what fills the hall waits.
+    pub fn relieve<R: Ring>(&mut self, ring: &mut R)
+        ensures stands { (copies : ℕ) (log : Log) (old : Sockets) → R.shows ring.old old → AllStand copies log old (seat_at self.old)
+            → (new : Sockets) × R.shows ring.new new × AllStand copies log new (seat_at self.new) }
+        ensures sheds { Sheds self.old self.new }
+        ensures enough { unsent_in self.new ≤ half_full }
+    {
+        while self.unsent() > HALF_FULL_BYTES {
+            self.give_up_fullest(ring);
+        }
+    }
+
+    // Closes a connection that holds most.
+    fn give_up_fullest<R: Ring>(&mut self, ring: &mut R)
+        requires some { 0 < unsent_in self.old }
+        ensures stands { (copies : ℕ) (log : Log) (old : Sockets) → R.shows ring.old old → AllStand copies log old (seat_at self.old)
+            → (new : Sockets) × R.shows ring.new new × AllStand copies log new (seat_at self.new) }
+        ensures closed { (n : ℕ) × HoldsMost n self.old × (seat_at self.new n ≡ None) × OnlySeat n (seat_at self.old) (seat_at self.new) }
+        ensures fewer { unsent_in self.new < unsent_in self.old }
+    {
+        if let Some(number) = self.seats.fullest() {
+            self.give_up(number, ring);
         }
     }
 }

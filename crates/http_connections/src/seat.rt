@@ -1,10 +1,11 @@
 //! One connection of a hall.
 
-ghost use Rattle.std.specs.Prelude.{◌≡◌, ◌<◌, ◌≤◌, ℕ, List, ◌++◌, length, [], IfOk, OnOk};
+ghost use Rattle.std.specs.Prelude.{◌≡◌, ◌<◌, ◌≤◌, ◌^◌, ℕ, List, ◌++◌, length, [], IfOk, OnOk};
 ghost use Rattle.http_connection.specs.Pending.{IsPending};
 ghost use Rattle.http_connection.specs.Dialogue.{Exchange, Runs};
 ghost use Rattle.http_connections.specs.Sockets.{Socket, Sockets};
 ghost use Rattle.http_connections.specs.Spoken.{Serves, Left, Attended, Moves, Attends, standing_of};
+ghost use Rattle.http_connections.specs.Unsent.{held};
 
 use crate::buffer::Buffer;
 use crate::socket_ring::{Closing, Heard, Ring, Told};
@@ -56,7 +57,8 @@ pub(crate) struct Seat {
 impl Seat {
     /// The seat of a connection that just came.
     pub(crate) fn new(alloc: Global) -> Seat
-        ensures { (s : Socket) (copies : ℕ) → s.heard ≡ [] → s.written ≡ [] → Serves copies result s [] }
+        ensures serves { (s : Socket) (copies : ℕ) → s.heard ≡ [] → s.written ≡ [] → Serves copies result s [] }
+        ensures held { held result ≡ 0 }
     {
         Seat {
             phase: Phase::Open,
@@ -77,6 +79,14 @@ impl Seat {
         }
     }
 
+    /// How many bytes of its answers wait to be written.
+    pub(crate) fn held(&self) -> usize
+        ensures held { result ≡ held self.now }
+        ensures small { result < 2 ^ 63 }
+    {
+        self.talk.unsent().len()
+    }
+
     /// A bounded piece of work: what is there is read, what was asked is answered, and what is answered is written, until the connection
     /// rests or ends, or had its share. Answers how it ends, if it does. One that is idle then has no buffers.
     pub(crate) fn serve<R: Ring, B: Backend>(
@@ -95,6 +105,46 @@ impl Seat {
         let ended = self.attend(number, desk, buffer, ring, backend);
         self.settle(alloc);
         ended
+    }
+
+    /// The same where the worker is full: answers that wait are written, and nothing is read nor asked of the backend. Where it is not its
+    /// client that holds it up it is reported once more.
+    pub(crate) fn write_out<R: Ring>(
+        &mut self,
+        number: u64,
+        desk: &mut Desk,
+        ring: &mut R,
+    ) -> Option<Closing>
+        ensures moves { (copies : ℕ) (old : Sockets) (xs : List Exchange) → R.shows ring.old old → Serves copies self.old (old number) xs
+            → Moves (R.shows ring.new) number old (λ s. Attended copies result self.new s xs) }
+        ensures fewer { held self.new ≤ held self.old }
+    {
+        match self.push_out(number, desk, ring) {
+            Ok(Round::Again) => call_again(number, ring),
+            Ok(Round::Rests) => None,
+            Ok(Round::Done) => Some(Closing::InOrder),
+            Err(fault) => Some(Closing::Broken(fault)),
+        }
+    }
+
+    // Writes some of what waits to be written, if anything does; one that closes ends where nothing does.
+    fn push_out<R: Ring>(
+        &mut self,
+        number: u64,
+        desk: &mut Desk,
+        ring: &mut R,
+    ) -> Result<Round, FrontFault>
+        ensures leaves { (copies : ℕ) (old : Sockets) (xs : List Exchange) → R.shows ring.old old → Serves copies self.old (old number) xs
+            → Moves (R.shows ring.new) number old (λ s. Left copies result self.new s xs) }
+        ensures fewer { held self.new ≤ held self.old }
+    {
+        if !self.talk.unsent().is_empty() {
+            self.tell(number, desk, ring)
+        } else if self.phase == Phase::Closing {
+            Ok(Round::Done)
+        } else {
+            Ok(Round::Again)
+        }
     }
 
     // The piece of work, but for the buffers.
@@ -220,8 +270,9 @@ impl Seat {
         ring: &mut R,
     ) -> Result<Round, FrontFault>
         requires { 0 < length self.old.talk.unsent }
-        ensures { (copies : ℕ) (old : Sockets) (xs : List Exchange) → R.shows ring.old old → Serves copies self.old (old number) xs
+        ensures leaves { (copies : ℕ) (old : Sockets) (xs : List Exchange) → R.shows ring.old old → Serves copies self.old (old number) xs
             → Moves (R.shows ring.new) number old (λ s. Left copies result self.new s xs) }
+        ensures fewer { held self.new ≤ held self.old }
     {
         match ring.write(number, self.talk.unsent()) {
             Ok(Told::Bytes(n)) => {

@@ -182,8 +182,8 @@ fn needs_length(method: &[u8]) -> bool
 }
 
 /// Whether the connection ends after the answer: HTTP/1.0, or a `close` element.
-pub(crate) fn closes(version: u8, connection: Option<&[u8]>) -> bool
-    ensures { result ≡ (version == 0) || says (codes "close") (option_copied connection.entry) }
+pub(crate) fn closes(version: u8, fields: &Fields<'_>) -> bool
+    ensures { result ≡ (version == 0) || fields.now.closes }
 {
-    version == 0 || has_element(connection, b"close")
+    version == 0 || fields.closes
 }

@@ -1,21 +1,22 @@
 //! The fields that the store reads, found in one pass over the lines.
 
-ghost use Rattle.std.specs.Prelude.{◌≡◌, ℕ, ◌∷◌, List, length, map, All, Option, Some, if◌then◌else◌};
+ghost use Rattle.std.specs.Prelude.{◌≡◌, ℕ, ◌∷◌, ◌||◌, List, length, map, codes, All, Option, Some, if◌then◌else◌};
 ghost use Rattle.std.specs.Option.{option_copied};
 ghost use Rattle.std.specs.Str.{str_to_ascii_lowercase};
 ghost use Rattle.httparse.specs.Spans.{header_bytes, IsHeaderWithin};
-ghost use Rattle.http_request.specs.Fields.{Pair, is_named};
+ghost use Rattle.http_request.specs.Fields.{Pair, any_has_element, is_named};
 ghost use Rattle.http_parse.specs.Firsts.{AreFirst, LeadTo, or_else};
 
-use crate::fields::is_named;
+use crate::fields::{has_element, is_named};
 use httparse::spans::HeaderSpan;
 
-/// The value of the first line of each name that the store reads.
+/// The value of the first line of each name that the store reads, and whether the connection is to end.
 #[derive(Clone, Copy)]
 pub(crate) struct Fields<'b> {
     pub(crate) transfer_encoding: Option<&'b [u8]>,
     pub(crate) content_length: Option<&'b [u8]>,
-    pub(crate) connection: Option<&'b [u8]>,
+    /// Whether a `Connection` line has the element `close`: all of them are one list.
+    pub(crate) closes: bool,
     pub(crate) accept: Option<&'b [u8]>,
     pub(crate) content_type: Option<&'b [u8]>,
     pub(crate) context: Option<&'b [u8]>,
@@ -29,7 +30,7 @@ pub(crate) fn fields_of<'b>(bytes: &'b [u8], lines: &[HeaderSpan]) -> Fields<'b>
     let mut fields = Fields {
         transfer_encoding: None,
         content_length: None,
-        connection: None,
+        closes: false,
         accept: None,
         content_type: None,
         context: None,
@@ -48,7 +49,7 @@ fn with_line<'b>(fields: Fields<'b>, bytes: &'b [u8], line: HeaderSpan) -> Field
     Fields {
         transfer_encoding: first(fields.transfer_encoding, bytes, line, b"transfer-encoding"),
         content_length: first(fields.content_length, bytes, line, b"content-length"),
-        connection: first(fields.connection, bytes, line, b"connection"),
+        closes: fields.closes || says_close(bytes, line),
         accept: first(fields.accept, bytes, line, b"accept"),
         content_type: first(fields.content_type, bytes, line, b"content-type"),
         context: first(fields.context, bytes, line, b"x-riak-vclock"),
@@ -71,4 +72,13 @@ fn first<'b>(
         return Some(line.value.of(bytes));
     }
     kept
+}
+
+// Whether it is a `Connection` line that has the element `close`.
+fn says_close(bytes: &[u8], line: HeaderSpan) -> bool
+    requires { IsHeaderWithin (length bytes.now) line }
+    ensures { (rest : List Pair) → any_has_element (codes "connection") (codes "close") (header_bytes bytes.now line ∷ rest)
+        ≡ (result || any_has_element (codes "connection") (codes "close") rest) }
+{
+    is_named(bytes, line, b"connection") && has_element(Some(line.value.of(bytes)), b"close")
 }

@@ -4,7 +4,7 @@ ghost use Rattle.std.specs.Prelude.{◌≡◌, length};
 ghost use Rattle.http_request.specs.Limits.{most_lines};
 ghost use Rattle.http_parse.specs.Heads.{FindsHead};
 
-use http_request::MAX_HEAD;
+use http_request::MAX_HEAD_BYTES;
 use httparse::spans::{HeaderSpan, RequestSpans, parse_request};
 use httparse::{Error, Status};
 
@@ -23,14 +23,14 @@ pub(crate) fn read_head(bytes: &[u8], lines: &mut [HeaderSpan]) -> HeadAt
 {
     match parse_request(bytes, lines) {
         Ok(Status::Complete(spans)) => {
-            if spans.len <= MAX_HEAD {
+            if spans.len <= MAX_HEAD_BYTES {
                 HeadAt::Whole(spans)
             } else {
                 HeadAt::Bad
             }
         }
         Ok(Status::Partial) => {
-            if bytes.len() <= MAX_HEAD {
+            if bytes.len() <= MAX_HEAD_BYTES {
                 HeadAt::Unfinished
             } else {
                 HeadAt::Bad

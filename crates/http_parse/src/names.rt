@@ -8,7 +8,7 @@ ghost use Rattle.std.specs.Cow.{cow_slice_items};
 ghost use Rattle.key_state.specs.Limits.{IsKey, longest_bucket, longest_key};
 ghost use Rattle.http_request.specs.Target as spec;
 
-use http_request::MAX_HOOK_NAME;
+use http_request::MAX_HOOK_NAME_BYTES;
 use key_state::{Bytes, Key};
 use percent_encoding::percent_decode;
 use std::alloc::{AllocError, Global};
@@ -33,7 +33,7 @@ pub(crate) fn has_names(key: &Key) -> bool
 pub(crate) fn is_hook_name(name: &[u8]) -> bool
     ensures { result ≡ spec.is_hook_name name.now }
 {
-    is_name(MAX_HOOK_NAME, name) && are_hook_letters(name)
+    is_name(MAX_HOOK_NAME_BYTES, name) && are_hook_letters(name)
 }
 
 fn are_hook_letters(name: &[u8]) -> bool

@@ -9,7 +9,7 @@ ghost use Rattle.http_request.specs.Fields as fields;
 ghost use Rattle.http_request.specs.Target as target;
 ghost use Rattle.http_parse.specs.Numbers as spec;
 
-use http_request::MAX_BODY;
+use http_request::MAX_BODY_BYTES;
 
 /// Whether the bytes are one or more digits.
 pub(crate) fn is_number(text: &[u8]) -> bool
@@ -24,7 +24,7 @@ fn are_digits(text: &[u8]) -> bool
     text.iter().all(|b| b.is_ascii_digit())
 }
 
-/// The number that digits spell, if it is at most [`MAX_BODY`].
+/// The number that digits spell, if it is at most [`MAX_BODY_BYTES`].
 pub(crate) fn small_number(digits: &[u8]) -> Option<usize>
     requires { fields.is_number digits.now ≡ true }
     ensures small { IfSome result (λ n. (n ≡ digits_value 10 digits.now) × (n ≤ longest_body)) }
@@ -33,7 +33,7 @@ pub(crate) fn small_number(digits: &[u8]) -> Option<usize>
     let mut n = 0usize;
     for digit in digits {
         n = n * 10 + worth(*digit);
-        if n > MAX_BODY {
+        if n > MAX_BODY_BYTES {
             return None;
         }
     }
@@ -55,7 +55,7 @@ fn is_plain_number(text: &[u8]) -> bool
     is_number(text) && (text.len() == 1 || text[0] != b'0')
 }
 
-/// The number that a text without zeros in front spells, if it is at most [`MAX_BODY`].
+/// The number that a text without zeros in front spells, if it is at most [`MAX_BODY_BYTES`].
 pub(crate) fn plain_number(text: &[u8]) -> Option<u32>
     ensures { result ≡ spec.plain_number text.now }
 {

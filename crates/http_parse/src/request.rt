@@ -24,7 +24,7 @@ use std::alloc::{AllocError, Global};
 #[derive(Drop)]
 pub enum Asking {
     /// No whole head is there yet. A head ends with a line feed, so the bytes are worth another look after a new one, or with
-    /// more than [`MAX_HEAD`](http_request::MAX_HEAD) bytes, which are too many.
+    /// more than [`MAX_HEAD_BYTES`](http_request::MAX_HEAD_BYTES) bytes, which are too many.
     Head,
     /// The head is whole, and its body isn't. So many bytes from the first on are the whole request, and with fewer there is
     /// none yet.
@@ -160,6 +160,6 @@ fn request_to(
         types: &tables.types,
     };
     let ask = request.ask(alloc, &tables.routes, copies)?;
-    let ends = closes(spans.version, fields.connection);
+    let ends = closes(spans.version, &fields);
     Ok(Asking::First { ask, ends, len })
 }

@@ -10,7 +10,7 @@ ghost use Rattle.http_parse.specs.Targets.{IsTarget, IsTargetOf};
 use memchr::memchr;
 
 /// The most bytes of a target.
-const MAX_TARGET: usize = 65_534;
+const MAX_TARGET_BYTES: usize = 65_534;
 
 /// The parts of a target that is a path with its query (RFC 9112, 3.2.1), as they stand in it.
 #[derive(Clone, Copy)]
@@ -25,7 +25,7 @@ pub(crate) fn target_of(text: &[u8]) -> Option<Target<'_>>
     ensures some { IfSome result (λ target. IsTargetOf text.now target.path.now target.query.now) }
     ensures none { IfNone result (¬ (IsOriginTarget text.now)) }
 {
-    if text.is_empty() || text[0] != b'/' || text.len() > MAX_TARGET {
+    if text.is_empty() || text[0] != b'/' || text.len() > MAX_TARGET_BYTES {
         return None;
     }
     if are_of_path(text) {

@@ -69,7 +69,11 @@ closes : is_last (head (codes "GET") (codes "/") (field (codes "Connection") (co
 unfolding trim_ows field head
 closes = refl
 
-stays : is_last (head (codes "GET") (codes "/") (field (codes "Connection") (codes "keep-alive") ∷ field (codes "Connection") (codes "close") ∷ [])) ≡ false
+closes_joined : is_last (head (codes "GET") (codes "/") (field (codes "Connection") (codes "keep-alive") ∷ field (codes "Connection") (codes "close") ∷ [])) ≡ true
+unfolding trim_ows field head
+closes_joined = refl
+
+stays : is_last (head (codes "GET") (codes "/") (field (codes "Connection") (codes "keep-alive") ∷ field (codes "Connection") (codes "closed") ∷ [])) ≡ false
 unfolding trim_ows field head
 stays = refl
 

@@ -42,9 +42,13 @@ abbrev pub has_element : List ℕ → List ℕ → List Pair → Bool
 has_element name element pairs =
     list_any (bytes_eq element) (unwrap_or (option_map elements_of (value_of name pairs)) [])
 
--- the connection ends after the answer: HTTP/1.0, or a `close` element
+-- the fields of this name, which are one list together, have this element
+abbrev pub any_has_element : List ℕ → List ℕ → List Pair → Bool
+any_has_element name element pairs = list_any (λ value. list_any (bytes_eq element) (elements_of value)) (values_of name pairs)
+
+-- the connection ends after the answer: HTTP/1.0, or a `close` element in any `Connection` field
 abbrev pub is_last : RequestHead → Bool
-is_last head = (head.minor == 0) || has_element (codes "connection") (codes "close") (pairs_of head)
+is_last head = (head.minor == 0) || any_has_element (codes "connection") (codes "close") (pairs_of head)
 
 -- one or more digits
 abbrev pub is_number : List ℕ → Bool

@@ -8,7 +8,7 @@ use key_state::{Bytes, Content, Key};
 /// and no other. After each of the first five the connection ends.
 #[derive(Clone, Copy, PartialEq, Eq)]
 pub enum Refusal {
-    /// No head of at most [`MAX_HEAD`](crate::MAX_HEAD) bytes and [`MAX_LINES`](crate::MAX_LINES) field lines can come of
+    /// No head of at most [`MAX_HEAD_BYTES`](crate::MAX_HEAD_BYTES) bytes and [`MAX_LINES`](crate::MAX_LINES) field lines can come of
     /// the bytes, or its target is no path with a query that begins with `/`.
     BadHead,
     /// There is a `Transfer-Encoding`.
@@ -17,7 +17,7 @@ pub enum Refusal {
     BadLength,
     /// A `PUT` or `POST` has no `Content-Length`.
     NoLength,
-    /// The body has more than [`MAX_BODY`](crate::MAX_BODY) bytes.
+    /// The body has more than [`MAX_BODY_BYTES`](crate::MAX_BODY_BYTES) bytes.
     Large,
     /// The path is that of no [`Route`](crate::Route).
     NoRoute,

@@ -3,12 +3,12 @@
 ghost use Rattle.std.specs.Prelude.{◌≡◌};
 ghost use Rattle.http_request.specs.Limits.{longest_head, most_lines, longest_body, longest_hook_name};
 
-use crate::limits::{MAX_BODY, MAX_HEAD, MAX_HOOK_NAME, MAX_LINES};
+use crate::limits::{MAX_BODY_BYTES, MAX_HEAD_BYTES, MAX_HOOK_NAME_BYTES, MAX_LINES};
 
 /// The constants are the limits' numbers.
 pub fn limits()
-    ensures head { MAX_HEAD ≡ longest_head }
+    ensures head { MAX_HEAD_BYTES ≡ longest_head }
     ensures lines { MAX_LINES ≡ most_lines }
-    ensures body { MAX_BODY ≡ longest_body }
-    ensures hook_name { MAX_HOOK_NAME ≡ longest_hook_name }
+    ensures body { MAX_BODY_BYTES ≡ longest_body }
+    ensures hook_name { MAX_HOOK_NAME_BYTES ≡ longest_hook_name }
 {}

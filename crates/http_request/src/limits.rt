@@ -1,13 +1,13 @@
 //! The limits of requests.
 
 /// The most bytes of a head, the empty line at its end among them.
-pub const MAX_HEAD: usize = 32_768;
+pub const MAX_HEAD_BYTES: usize = 32_768;
 
 /// The most field lines of a head.
 pub const MAX_LINES: usize = 64;
 
 /// The most bytes of a body, which may have none.
-pub const MAX_BODY: usize = 65_536;
+pub const MAX_BODY_BYTES: usize = 65_536;
 
 /// The most bytes of a hook's name. It has one at least.
-pub const MAX_HOOK_NAME: usize = 64;
+pub const MAX_HOOK_NAME_BYTES: usize = 64;

@@ -132,14 +132,15 @@ impl Journal {
         self.here.get(place - self.first)
     }
 
-    /// Hands out the full blocks that are here. The journal has their entries as before; what is left here is at most one block. An empty block
-    /// with memory is taken over where there is none, so that the next time that one is full no memory is asked for.
+    /// Hands out the full blocks that are here. The journal has their entries as before; what is left here is at most one block. An empty
+    /// block with memory is taken over where there is none, so that the next time that one is full no memory is asked for.
     pub fn settle(&mut self, next: &mut Vec<Entry>) -> Handout
         requires empty { next.old.items ≡ [] }
         ensures empty { next.new.items ≡ [] }
         ensures same { self.new.log ≡ self.old.log }
         ensures first { result.first ≡ self.old.first }
         ensures next { self.new.first ≡ self.old.first + length (all_of result.blocks.items) }
+        ensures rest { length self.old.log.entries ≤ self.new.first + 1024 }
         ensures entries { drop self.old.first self.old.log.entries ≡ all_of result.blocks.items ++ drop self.new.first self.old.log.entries }
         ensures out { AreHandedOut self.old.log.entries result.first result.blocks.items }
     {
@@ -181,7 +182,8 @@ impl Journal {
         place
     }
 
-    /// Adds an entry, and answers its place. An entry that is refused is dropped.
+    /// Adds an entry, and answers its place. A refusal leaves the journal as it was and drops the entry: who would keep it calls
+    /// [`reserve`](Journal::reserve) first, and then [`append`](Journal::append).
     pub fn push(&mut self, entry: Entry) -> Result<u64, JournalFault>
         ensures place { IfOk result (λ place. place ≡ length self.old.log.entries) }
         ensures entry { OnOk result (self.new.log ≡ with_entry self.old.log entry) }

@@ -30,7 +30,7 @@ IsUnkept bytes (unkept.Faulty place fault) = FaultAt bytes place fault
 IsUnkept bytes unkept.NoEnd = (records : List Record) × AreSpelledBy records bytes × HaveNoEnd records
 IsUnkept bytes unkept.NoMemory = Unit {0}
 
--- the records of the vnode with an index: those of the first file whose vnode has that index; none where there is no such file
+-- the records of the vnode with an index, which is the lower 8 bits of its identifier: those of the first file whose vnode has that index; none where there is no such file
 abbrev pub records_at : List KeptFile → ℕ → List Record
 records_at [] index = []
-records_at (file ∷ files) index = if (file.from % 65536) == index then file.records.items else records_at files index
+records_at (file ∷ files) index = if (file.from % 256) == index then file.records.items else records_at files index

@@ -1,4 +1,4 @@
--- Which incarnations records name (this store's profile): an identifier's are its upper 16 bits.
+-- Which starts' numbers records name (this store's profile): an identifier's number is its upper 24 bits.
 use Rattle.std.specs.Prelude.{◌≡◌, ℕ, ◌+◌, ◌/◌, ◌⊎◌, max, List, [], ◌∷◌, map, Contains, Option, None, Some}
 use Rattle.std.specs.List.{flat_map}
 use Rattle.dvv.specs.declared.Dot.{Dot}
@@ -16,14 +16,14 @@ ids_in file = file.from ∷ flat_map ids_of file.records.items
 abbrev pub all_ids : List KeptFile → List ℕ
 all_ids files = flat_map ids_in files
 
--- an incarnation was named: by the last start, or by a file
+-- a number was named: by the last start, or by a file
 abbrev pub IsNamed : Option ℕ → List KeptFile → ℕ → Type 0
-IsNamed last files number = (last ≡ Some number) ⊎ ((id : ℕ) × Contains (all_ids files) id × (id / 65536 ≡ number))
+IsNamed last files number = (last ≡ Some number) ⊎ ((id : ℕ) × Contains (all_ids files) id × (id / 256 ≡ number))
 
--- one above the incarnations of identifiers, and no less than a number
+-- one above the numbers of identifiers, and no less than a number
 abbrev pub above : ℕ → List ℕ → ℕ
 above least [] = least
-above least (id ∷ ids) = above (max least (id / 65536 + 1)) ids
+above least (id ∷ ids) = above (max least (id / 256 + 1)) ids
 
 -- the number after that of the last start, if there was one
 abbrev pub after : Option ℕ → ℕ

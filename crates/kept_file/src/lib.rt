@@ -9,6 +9,6 @@ mod snapshot;
 mod whole;
 
 pub use file::{KeptFile, Unkept, read_file};
-pub use number::{Spent, next_incarnation};
+pub use number::{MAX_NUMBER, Spent, next_number};
 pub use snapshot::{Pace, SnapshotFault, Subject, write_snapshot};
 pub use whole::write_whole;

@@ -1,49 +1,52 @@
-//! The number of a start: its incarnation, which vnodes' identifiers begin with.
+//! The number of a start, which vnodes' identifiers begin with.
 
-ghost use Rattle.std.specs.Prelude.{◌≡◌, ◌⊎◌, ◌<◌, ◌≤◌, ◌+◌, ℕ, OnErr, IfOk, map, [], ◌∷◌};
+ghost use Rattle.std.specs.Prelude.{◌≡◌, ◌⊎◌, ◌↔◌, ◌<◌, ◌≤◌, ◌+◌, ℕ, IsErr, IfOk, map, max, [], ◌∷◌};
 ghost use Rattle.std.specs.List.{flat_map};
 ghost use Rattle.dvv.specs.declared.Dot.{Dot as OneDot};
 ghost use Rattle.kept_file.specs.Numbers.{IsNamed, above, after, all_ids, ids_of};
 
 use crate::file::KeptFile;
-use dvv::Dot;
+use dvv::{Dot, VNODES_PER_NUMBER};
 use record_codec::Record;
 use thiserror::Error;
 
-/// Every number was used: 65,535 was the last.
+/// The greatest number that a start may have: identifiers have 24 bits for it.
+pub const MAX_NUMBER: u32 = u32::MAX / VNODES_PER_NUMBER;
+
+/// No number is left: each up to the greatest was used, or is below what is asked for.
 #[derive(Clone, Copy, Debug, PartialEq, Eq, Error)]
-#[error("no incarnation is left above 65535: begin a new folder, and bring over what it holds by GETs and PUTs")]
+#[error("no number is left above 16777215: set the clock right if it is ahead, else begin a new folder")]
 pub struct Spent;
 
-/// The number of the next start: the least above that of the last start, `last`, and above all that the files name, as a vnode's or in a
-/// clock. Where 65,535 was named there is none.
-pub fn next_incarnation(last: Option<u16>, files: &[KeptFile]) -> Result<u16, Spent>
+/// The number of the next start: the least above that of the last start, `last`, above all that the files name, as a vnode's or in a
+/// clock, and no less than `least`. Where that is above [`MAX_NUMBER`] there is none.
+pub fn next_number(last: Option<u32>, least: u32, files: &[KeptFile]) -> Result<u32, Spent>
     ensures above { IfOk result (λ next. (number : ℕ) → IsNamed last files.now number → number < next) }
-    ensures least { IfOk result (λ next. (next ≡ 0) ⊎ ((number : ℕ) × IsNamed last files.now number × (next ≡ number + 1))) }
-    ensures spent { OnErr result (IsNamed last files.now 65535) }
+    ensures at_least { IfOk result (λ next. least ≤ next) }
+    ensures least { IfOk result (λ next. (next ≡ least) ⊎ ((number : ℕ) × IsNamed last files.now number × (next ≡ number + 1))) }
+    ensures few { IfOk result (λ next. next ≤ 16777215) }
+    ensures spent { IsErr result ↔ ((16777215 < least) ⊎ ((number : ℕ) × IsNamed last files.now number × (16777215 ≤ number))) }
 {
-    match u16::try_from(above_files(after(last), files)) {
-        Ok(next) => Ok(next),
-        Err(_) => Err(Spent),
+    let first = u64::from(least).max(after(last));
+    match u32::try_from(above_files(first, files)) {
+        Ok(next) if next <= MAX_NUMBER => Ok(next),
+        _ => Err(Spent),
     }
 }
 
 /// The number after that of the last start.
-fn after(last: Option<u16>) -> u32
+fn after(last: Option<u32>) -> u64
     ensures exact { result ≡ after last }
-    ensures few { result ≤ 65536 }
 {
     match last {
-        Some(last) => last as u32 + 1,
+        Some(last) => u64::from(last) + 1,
         None => 0,
     }
 }
 
 /// One above what files name, and no less than a number.
-fn above_files(least: u32, files: &[KeptFile]) -> u32
-    requires { least ≤ 65536 }
+fn above_files(least: u64, files: &[KeptFile]) -> u64
     ensures exact { result ≡ above least (all_ids files.now) }
-    ensures few { result ≤ 65536 }
 {
     let mut next = least;
     for file in files {
@@ -53,10 +56,8 @@ fn above_files(least: u32, files: &[KeptFile]) -> u32
 }
 
 /// The same of records.
-fn above_records(least: u32, records: &[Record]) -> u32
-    requires { least ≤ 65536 }
+fn above_records(least: u64, records: &[Record]) -> u64
     ensures exact { result ≡ above least (flat_map ids_of records.now) }
-    ensures few { result ≤ 65536 }
 {
     let mut next = least;
     for record in records {
@@ -66,10 +67,8 @@ fn above_records(least: u32, records: &[Record]) -> u32
 }
 
 /// The same of a clock's entries.
-fn above_entries(least: u32, entries: &[Dot]) -> u32
-    requires { least ≤ 65536 }
+fn above_entries(least: u64, entries: &[Dot]) -> u64
     ensures exact { result ≡ above least (map (λ (entry : OneDot). entry.vnode) entries.now) }
-    ensures few { result ≤ 65536 }
 {
     let mut next = least;
     for entry in entries {
@@ -79,10 +78,8 @@ fn above_entries(least: u32, entries: &[Dot]) -> u32
 }
 
 /// The same of an identifier.
-fn above_id(least: u32, id: u32) -> u32
-    requires { least ≤ 65536 }
+fn above_id(least: u64, id: u32) -> u64
     ensures exact { result ≡ above least (id ∷ []) }
-    ensures few { result ≤ 65536 }
 {
-    least.max(id / 65_536 + 1)
+    least.max(u64::from(id / VNODES_PER_NUMBER) + 1)
 }

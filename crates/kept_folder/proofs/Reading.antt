@@ -10,26 +10,26 @@ use Rattle.kept_folder.specs.Reads.{IsFileIn, IsFoundAt, IsReadAt, name_of}
 
 -- the files are of vnodes with indexes below a number
 abbrev pub AreBelow : ℕ → List KeptFile → Type 0
-AreBelow n files = AllByRecursion (λ f. f.from % 65536 < n) files
+AreBelow n files = AllByRecursion (λ f. f.from % 256 < n) files
 
 -- where a file is of another vnode, the others are looked at
-other : (f : KeptFile) (files : List KeptFile) (i : ℕ) → (f.from % 65536 ≡ i → ⊥) → records_at (f ∷ files) i ≡ records_at files i
-other f files i ne = let no = ne_eqb (f.from % 65536) i ne in rw no refl
+other : (f : KeptFile) (files : List KeptFile) (i : ℕ) → (f.from % 256 ≡ i → ⊥) → records_at (f ∷ files) i ≡ records_at files i
+other f files i ne = let no = ne_eqb (f.from % 256) i ne in rw no refl
 
-this : (f : KeptFile) (files : List KeptFile) (i : ℕ) → f.from % 65536 ≡ i → records_at (f ∷ files) i ≡ f.records.items
-this f files i is = let yes = eq-eqb (f.from % 65536) i is in rw yes refl
+this : (f : KeptFile) (files : List KeptFile) (i : ℕ) → f.from % 256 ≡ i → records_at (f ∷ files) i ≡ f.records.items
+this f files i is = let yes = eq-eqb (f.from % 256) i is in rw yes refl
 
 none_there : (files : List KeptFile) (n : ℕ) → AreBelow n files → records_at files n ≡ []
 none_there [] n below = refl
 none_there (f ∷ files) n below = other f files n (λ is. (let lt = below.0 in omega (arith, lt, is))) ∙ none_there files n below.1
 
 -- one more file changes nothing for the vnodes before
-kept_there : (files : List KeptFile) (f : KeptFile) (i : ℕ) → (f.from % 65536 ≡ i → ⊥) → records_at (files ++ f ∷ []) i ≡ records_at files i
+kept_there : (files : List KeptFile) (f : KeptFile) (i : ℕ) → (f.from % 256 ≡ i → ⊥) → records_at (files ++ f ∷ []) i ≡ records_at files i
 kept_there [] f i ne = other f [] i ne
-kept_there (g ∷ files) f i ne = ap (λ (rs : List Record). if (g.from % 65536) == i then g.records.items else rs) (kept_there files f i ne)
+kept_there (g ∷ files) f i ne = ap (λ (rs : List Record). if (g.from % 256) == i then g.records.items else rs) (kept_there files f i ne)
 
 -- and is that of its own
-found_there : (files : List KeptFile) (f : KeptFile) (n : ℕ) → AreBelow n files → f.from % 65536 ≡ n → records_at (files ++ f ∷ []) n ≡ f.records.items
+found_there : (files : List KeptFile) (f : KeptFile) (n : ℕ) → AreBelow n files → f.from % 256 ≡ n → records_at (files ++ f ∷ []) n ≡ f.records.items
 found_there [] f n below is = this f [] n is
 found_there (g ∷ files) f n below is = other g (files ++ f ∷ []) n (λ same. (let lt = below.0 in omega (arith, lt, same))) ∙ found_there files f n below.1 is
 
@@ -37,7 +37,7 @@ raised : (files : List KeptFile) (n : ℕ) → AreBelow n files → AreBelow (n 
 raised [] n below = tt
 raised (f ∷ files) n below = ((let lt = below.0 in omega (arith, lt)), raised files n below.1)
 
-below_then : (files : List KeptFile) (f : KeptFile) (n : ℕ) → AreBelow n files → f.from % 65536 ≡ n → AreBelow (n + 1) (files ++ f ∷ [])
+below_then : (files : List KeptFile) (f : KeptFile) (n : ℕ) → AreBelow n files → f.from % 256 ≡ n → AreBelow (n + 1) (files ++ f ∷ [])
 below_then [] f n below is = (omega (arith, is), tt)
 below_then (g ∷ files) f n below is = ((let lt = below.0 in omega (arith, lt)), below_then files f n below.1 is)
 
@@ -52,7 +52,7 @@ module _ (finds : List ℕ → Option (List ℕ) → Type 0) where
 
   -- as a clause says of these records
   abbrev IsRead : List Record → ℕ → Type 0
-  IsRead rs index = (finds (name_of index) None × (rs ≡ [])) ⊎ ((bytes : List ℕ) × (from : ℕ) × finds (name_of index) (Some bytes) × IsFileOf from rs bytes × (from % 65536 ≡ index))
+  IsRead rs index = (finds (name_of index) None × (rs ≡ [])) ⊎ ((bytes : List ℕ) × (from : ℕ) × finds (name_of index) (Some bytes) × IsFileOf from rs bytes × (from % 256 ≡ index))
 
   one_more : (files : List KeptFile) (bytes : Option (List ℕ)) (found : Option KeptFile) (n : ℕ) → AreRead files n → finds (name_of n) bytes → IsFileIn bytes n found → AreRead (files ++ option_to_list found) (n + 1)
   one_more files None (Some f) n so is in_ = absurd in_

@@ -34,3 +34,8 @@ take-sealed requests =
     let size = length-sealed requests in
     let count : length (sealed requests) - 41 ≡ length requests = omega (arith, size) in
     ap (λ n. take n (sealed requests)) count ∙ ap (take (length requests)) (parts requests) ∙ take_at requests (seal_of requests) (length requests) refl
+
+-- what is left of a file that is cut before its seal
+pub unsealed : (file held kept : List ℕ) (len : ℕ) → file ≡ sealed held → len ≡ length held → kept ≡ take len file → kept ≡ held
+unsealed file held kept len is size cut =
+    cut ∙ ap (λ n. take n file) size ∙ ap (take (length held)) (is ∙ parts held) ∙ take_at held (seal_of held) (length held) refl

@@ -1,4 +1,5 @@
 pub mod Seals
 pub mod Reads
+pub mod Numbers
 pub mod Settings
 pub mod Steps

@@ -1,6 +1,6 @@
 //! A folder that outlives its process: what is read from it at a start, and how its files are replaced.
 //!
-//! It holds `incarnation`, the number of the last start as a decimal; `vnode-0.records` to `vnode-2.records`, a file of records for each
+//! It holds `incarnation`, the number of the last start; `vnode-0.records` to `vnode-2.records`, a file of records for each
 //! vnode; `hooks.requests`, the requests that install and bind hooks; and `settings`, which who runs the store may have written. Each file
 //! stands for itself: a vnode's records are merges, and merges of records of another moment are as true. So files are replaced one by one,
 //! and no file has to be of the same moment as another.
@@ -8,6 +8,7 @@
 
 mod files;
 mod limits;
+mod lines;
 mod names;
 mod opening;
 mod sealing;

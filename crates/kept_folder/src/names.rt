@@ -6,8 +6,14 @@ ghost use Rattle.kept_folder.specs.Reads.{name_of};
 /// How many vnodes there are.
 pub(crate) const VNODES: usize = 3;
 
-/// The number of the last start, as a decimal.
+/// The number of the last start.
 pub(crate) const INCARNATION: &str = "incarnation";
+
+/// What a line begins with that has the number of a start.
+pub(crate) const NUMBER_WORD: &str = "number ";
+
+/// What a line begins with that has the seconds from a snapshot to the next.
+pub(crate) const SNAPSHOT_WORD: &str = "snapshot ";
 
 /// The requests that install and bind hooks.
 pub const HOOKS: &str = "hooks.requests";

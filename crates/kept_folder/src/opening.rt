@@ -1,18 +1,21 @@
 //! What a start reads of a folder, and the number that it takes.
 
-ghost use Rattle.std.specs.Prelude.{◌≡◌, ◌<◌, ◌/◌, ◌++◌, ◌∷◌, [], ℕ, List, Option, IfOk, MatchOption, OnOk, Contains, codes, decimal, length, option_to_list};
-ghost use Rattle.kept_file.specs.Numbers.{all_ids};
-ghost use Rattle.kept_folder.specs.Reads.{IsFileIn, IsFoundAt, IsReadAt, bytes_in};
+ghost use Rattle.std.specs.Prelude.{◌≡◌, ◌⊎◌, ◌<◌, ◌≤◌, ◌/◌, ◌+◌, ◌++◌, [], ℕ, List, Option, Some, IfOk, IfSome, MatchOption, OnOk, Contains, codes, max, option_to_list};
+ghost use Rattle.kept_file.specs.Numbers.{IsNamed, all_ids};
+ghost use Rattle.kept_folder.specs.Numbers.{EarlierText, IsLastIn, number_text};
+ghost use Rattle.kept_folder.specs.Reads.{IsFileIn, IsFoundAt, IsHeldIn, IsReadAt, IsUnsealed, bytes_in};
 ghost use Rattle.kept_folder.specs.Seals.{sealed};
 ghost use Rattle.kept_folder.specs.Settings.{IsSetBy};
 ghost use Rattle.kept_folder.specs.Steps.{IsPut};
 
 use crate::files::{FileFault, Folder};
-use crate::names::{HOOKS, INCARNATION, SETTINGS, VNODES, name_of};
+use crate::lines::number_in;
+use crate::names::{HOOKS, INCARNATION, NUMBER_WORD, SETTINGS, VNODES, name_of};
 use crate::sealing::{seal, unseal};
 use crate::settings::{Settings, USUAL, settings_in};
 use crate::writing::{Unreplaced, WriteFault, replace};
-use kept_file::{KeptFile, Spent, Unkept, next_incarnation, read_file};
+use dvv::VNODES_PER_NUMBER;
+use kept_file::{KeptFile, MAX_NUMBER, Spent, Unkept, next_number, read_file};
 use record_codec::Record;
 use std::alloc::{AllocError, Global};
 use std::thread;
@@ -22,8 +25,8 @@ use thiserror::Error;
 /// What a start has.
 #[derive(Drop)]
 pub struct Opened {
-    /// The number of this start. It stands in the folder, and no other start takes it.
-    pub number: u16,
+    /// The number of this start, at most 16,777,215. It stands in the folder: no later start that finds it there takes it.
+    pub number: u32,
     /// What the folder held.
     pub held: Held,
 }
@@ -32,12 +35,12 @@ pub struct Opened {
 #[derive(Drop)]
 pub struct Held {
     /// The number of the last start.
-    pub last: Option<u16>,
+    pub last: Option<u32>,
     /// What is set.
     pub settings: Settings,
     /// The requests that install and bind hooks.
     pub hooks: Vec<u8>,
-    /// The records of each vnode that has a file, with its identifier, whose lower half is the vnode's index. They stand in the order of
+    /// The records of each vnode that has a file, with its identifier, whose lower 8 bits are the vnode's index. They stand in the order of
     /// indexes.
     pub files: Vec<KeptFile>,
 }
@@ -49,7 +52,7 @@ impl Held {
     {
         Held {
             last: None,
-            settings: Settings { every: 0 },
+            settings: Settings { every: 0, least: 0 },
             hooks: Vec::new(alloc),
             files: Vec::new(alloc),
         }
@@ -82,7 +85,7 @@ pub enum OpenFault {
         name: &'static str,
     },
     /// What is set can't be read.
-    #[error("{SETTINGS}: not a line `snapshot SECONDS`")]
+    #[error("{SETTINGS}: not lines `snapshot SECONDS` and `number N`")]
     Unset,
     /// There are records, and no number of the start that they are of.
     #[error("{INCARNATION}: missing")]
@@ -104,21 +107,32 @@ impl From<AllocError> for OpenFault {
     }
 }
 
-/// Reads all files of a folder, and takes the next number: it is written and forced to the device before anything else is done. An empty
-/// folder is a new store. Nothing is changed where a file is at fault. The files of records are read and taken apart by several threads
-/// where there are some; of those at fault the first is told.
+/// Reads all files of a folder, and takes a number: the least above that of the last start and above all that the files name, and no less
+/// than what is set or than `minute`, the minutes since the first of 2026. It is written and forced to the device before anything else is
+/// done. An empty folder is a new store. Nothing is changed where a file is at fault. The files of records are read and taken apart by
+/// several threads where there are some; of those at fault the first is told.
 pub fn open<F: Folder + Sync, R: Threads + Sync>(
     alloc: Global,
     rt: &R,
     folder: &mut F,
+    minute: u32,
 ) -> Result<Opened, OpenFault>
-    ensures above { IfOk result (λ opened. (id : ℕ) → Contains (all_ids opened.held.files.items) id → id / 65536 < opened.number) }
-    ensures settings { IfOk result (λ opened. (found : Option (List ℕ)) × F.finds folder.old (codes "settings") found × IsSetBy found opened.held.settings.every) }
+    ensures last { IfOk result (λ opened. (found : Option (List ℕ)) × F.finds folder.old (codes "incarnation") found × IsLastIn found opened.held.last) }
+    ensures next { IfOk result (λ opened. (last : ℕ) → opened.held.last ≡ Some last → last < opened.number) }
+    ensures minute { IfOk result (λ opened. minute ≤ opened.number) }
+    ensures set { IfOk result (λ opened. opened.held.settings.least ≤ opened.number) }
+    ensures above { IfOk result (λ opened. (id : ℕ) → Contains (all_ids opened.held.files.items) id → id / 256 < opened.number) }
+    ensures least { IfOk result (λ opened. (opened.number ≡ max minute opened.held.settings.least)
+        ⊎ ((number : ℕ) × IsNamed opened.held.last opened.held.files.items number × (opened.number ≡ number + 1))) }
+    ensures few { IfOk result (λ opened. opened.number ≤ 16777215) }
+    ensures settings { IfOk result (λ opened. (found : Option (List ℕ)) × F.finds folder.old (codes "settings") found × IsSetBy found opened.held.settings.every opened.held.settings.least) }
+    ensures hooks { IfOk result (λ opened. IsHeldIn (F.finds folder.old) (codes "hooks.requests") opened.held.hooks.items) }
     ensures read { IfOk result (λ opened. (index : ℕ) → index < 3 → IsReadAt (F.finds folder.old) opened.held.files.items index) }
-    ensures put { IfOk result (λ opened. IsPut F.does folder.old (codes "incarnation") (sealed (decimal opened.number ++ 10 ∷ [])) folder.new) }
+    ensures put { IfOk result (λ opened. IsPut F.does folder.old (codes "incarnation") (sealed (number_text opened.number)) folder.new) }
 {
     let held = read_all(alloc, rt, folder)?;
-    let number = match next_incarnation(held.last, &held.files) {
+    let least = minute.max(held.settings.least);
+    let number = match next_number(held.last, least, &held.files) {
         Ok(number) => number,
         Err(spent) => return Err(OpenFault::Spent(spent)),
     };
@@ -129,18 +143,18 @@ pub fn open<F: Folder + Sync, R: Threads + Sync>(
 }
 
 /// Writes the number of a start.
-fn take<F: Folder>(alloc: Global, folder: &mut F, number: u16) -> Result<(), WriteFault>
-    ensures { OnOk result (IsPut F.does folder.old (codes "incarnation") (sealed (decimal number ++ 10 ∷ [])) folder.new) }
+fn take<F: Folder>(alloc: Global, folder: &mut F, number: u32) -> Result<(), WriteFault>
+    ensures { OnOk result (IsPut F.does folder.old (codes "incarnation") (sealed (number_text number)) folder.new) }
 {
-    let text = format!(in alloc; "{number}\n")?;
+    let text = format!(in alloc; "{NUMBER_WORD}{number}\n")?;
     let bytes = seal(alloc, text.as_bytes())?;
     replace(alloc, folder, INCARNATION, &bytes)
 }
 
 /// Has the number of a start stand in its folder again, where it is lacking: where records are and no number nobody can start.
-pub fn keep_number<F: Folder>(alloc: Global, folder: &mut F, number: u16) -> Result<(), Unreplaced>
+pub fn keep_number<F: Folder>(alloc: Global, folder: &mut F, number: u32) -> Result<(), Unreplaced>
     ensures there { OnOk result ((found : Option (List ℕ)) × F.finds folder.old (codes "incarnation") found
-        × MatchOption found (IsPut F.does folder.old (codes "incarnation") (sealed (decimal number ++ 10 ∷ [])) folder.new) (λ _. folder.new ≡ folder.old)) }
+        × MatchOption found (IsPut F.does folder.old (codes "incarnation") (sealed (number_text number)) folder.new) (λ _. folder.new ≡ folder.old)) }
 {
     match take_again(alloc, folder, number) {
         Ok(()) => Ok(()),
@@ -152,9 +166,9 @@ pub fn keep_number<F: Folder>(alloc: Global, folder: &mut F, number: u16) -> Res
 }
 
 /// Writes the number of a start where it is lacking.
-fn take_again<F: Folder>(alloc: Global, folder: &mut F, number: u16) -> Result<(), WriteFault>
+fn take_again<F: Folder>(alloc: Global, folder: &mut F, number: u32) -> Result<(), WriteFault>
     ensures there { OnOk result ((found : Option (List ℕ)) × F.finds folder.old (codes "incarnation") found
-        × MatchOption found (IsPut F.does folder.old (codes "incarnation") (sealed (decimal number ++ 10 ∷ [])) folder.new) (λ _. folder.new ≡ folder.old)) }
+        × MatchOption found (IsPut F.does folder.old (codes "incarnation") (sealed (number_text number)) folder.new) (λ _. folder.new ≡ folder.old)) }
 {
     match folder.read(alloc, INCARNATION) {
         Ok(Some(_)) => Ok(()),
@@ -170,11 +184,13 @@ fn read_all<F: Folder + Sync, R: Threads + Sync>(
     folder: &F,
 ) -> Result<Held, OpenFault>
     ensures read { IfOk result (λ held. (index : ℕ) → index < 3 → IsReadAt (F.finds folder.now) held.files.items index) }
-    ensures settings { IfOk result (λ held. (found : Option (List ℕ)) × F.finds folder.now (codes "settings") found × IsSetBy found held.settings.every) }
+    ensures settings { IfOk result (λ held. (found : Option (List ℕ)) × F.finds folder.now (codes "settings") found × IsSetBy found held.settings.every held.settings.least) }
+    ensures last { IfOk result (λ held. (found : Option (List ℕ)) × F.finds folder.now (codes "incarnation") found × IsLastIn found held.last) }
+    ensures hooks { IfOk result (λ held. IsHeldIn (F.finds folder.now) (codes "hooks.requests") held.hooks.items) }
 {
     let settings = settings_of(alloc, folder)?;
     let last = last_in(alloc, folder)?;
-    let hooks = sealed_in(alloc, folder, HOOKS)?.unwrap_or(Vec::new(alloc));
+    let hooks = requests_in(alloc, folder)?;
     let files = files_in(alloc, rt, folder)?;
     if last.is_none() && !files.is_empty() {
         return Err(OpenFault::Numberless);
@@ -189,7 +205,7 @@ fn read_all<F: Folder + Sync, R: Threads + Sync>(
 
 /// What is set.
 fn settings_of<F: Folder>(alloc: Global, folder: &F) -> Result<Settings, OpenFault>
-    ensures { IfOk result (λ settings. (found : Option (List ℕ)) × F.finds folder.now (codes "settings") found × IsSetBy found settings.every) }
+    ensures { IfOk result (λ settings. (found : Option (List ℕ)) × F.finds folder.now (codes "settings") found × IsSetBy found settings.every settings.least) }
 {
     let Some(bytes) = bytes_of(alloc, folder, SETTINGS)? else {
         return Ok(USUAL);
@@ -219,7 +235,9 @@ fn sealed_in<F: Folder>(
     alloc: Global,
     folder: &F,
     name: &'static str,
-) -> Result<Option<Vec<u8>>, OpenFault> {
+) -> Result<Option<Vec<u8>>, OpenFault>
+    ensures { IfOk result (IsUnsealed (F.finds folder.now) name.now) }
+{
     let Some(mut bytes) = bytes_of(alloc, folder, name)? else {
         return Ok(None);
     };
@@ -231,21 +249,45 @@ fn sealed_in<F: Folder>(
     Ok(Some(bytes))
 }
 
+/// The requests that install and bind hooks: none where there is no file of them.
+fn requests_in<F: Folder>(alloc: Global, folder: &F) -> Result<Vec<u8>, OpenFault>
+    ensures { IfOk result (λ held. IsHeldIn (F.finds folder.now) (codes "hooks.requests") held.items) }
+{
+    match sealed_in(alloc, folder, HOOKS)? {
+        Some(requests) => Ok(requests),
+        None => Ok(Vec::new(alloc)),
+    }
+}
+
 /// The number of the last start, if there was one.
-fn last_in<F: Folder>(alloc: Global, folder: &F) -> Result<Option<u16>, OpenFault> {
-    let Some(bytes) = sealed_in(alloc, folder, INCARNATION)? else {
+fn last_in<F: Folder>(alloc: Global, folder: &F) -> Result<Option<u32>, OpenFault>
+    ensures { IfOk result (λ last. (found : Option (List ℕ)) × F.finds folder.now (codes "incarnation") found × IsLastIn found last) }
+{
+    let Some(text) = sealed_in(alloc, folder, INCARNATION)? else {
         return Ok(None);
     };
-    match number_of(&bytes) {
+    match number_of(alloc, &text)? {
         Some(number) => Ok(Some(number)),
         None => Err(OpenFault::Unsealed { name: INCARNATION }),
     }
 }
 
-/// The decimal that a line is.
-fn number_of(bytes: &[u8]) -> Option<u16> {
-    let text = std::str::from_utf8(bytes).ok()?;
-    text.trim_end().parse::<u16>().ok()
+/// The number that a line has, if it has one. A decimal alone is the upper 16 bits of a number, as it stood before identifiers had 8 bits
+/// for a vnode's index: the greatest number with these was named at most.
+fn number_of(alloc: Global, text: &[u8]) -> Result<Option<u32>, OpenFault>
+    ensures { IfOk result (λ found. IfSome found (λ number. (text.now ≡ number_text number) ⊎ EarlierText text.now number)) }
+{
+    match number_in(alloc, NUMBER_WORD, text)? {
+        Some(number) if number <= MAX_NUMBER => return Ok(Some(number)),
+        Some(_) => return Ok(None),
+        None => {}
+    }
+    match number_in(alloc, "", text)? {
+        Some(upper) if upper <= MAX_NUMBER / VNODES_PER_NUMBER => {
+            Ok(Some(upper * VNODES_PER_NUMBER + (VNODES_PER_NUMBER - 1)))
+        }
+        _ => Ok(None),
+    }
 }
 
 /// The files of records that there are. The first is read and taken apart, and then the two others side by side where there are threads for
@@ -327,7 +369,7 @@ fn file_of<R: Threads>(
     };
     let name = name_of(index);
     match read_file(alloc, rt, &bytes, others) {
-        Ok(file) if (file.from % 65_536) as usize == index => Ok(Some(file)),
+        Ok(file) if (file.from % VNODES_PER_NUMBER) as usize == index => Ok(Some(file)),
         Ok(_) => Err(OpenFault::Misplaced { name }),
         Err(Unkept::NoMemory) => Err(OpenFault::NoMemory),
         Err(fault) => Err(OpenFault::Damaged { name, fault }),

@@ -3,12 +3,16 @@
 mod alike;
 mod memory;
 
+use crate::sealing::seal;
 use crate::writing::replace;
-use crate::{Folder, open};
+use crate::{Folder, Opened, keep_all, open};
+use dvv::VNODES_PER_NUMBER;
+use key_state::{Content, Key, KeyState};
 use memory::Memory;
 use std::alloc::Global;
 use std::test::Fail;
 use std::thread::Threads;
+use vnode::Vnode;
 
 /// More operations than any test does.
 const MANY: u64 = 1_000;
@@ -24,16 +28,26 @@ fn expect(holds: bool, operations: u64) -> Result<(), Fail> {
     Err(Fail::new(format_args!("after {operations}")))
 }
 
+/// The minute of the starts that are no later than the first.
+const MINUTE: u32 = 7;
+
+/// What a start finds and takes at a minute.
+fn begin<R: Threads + Sync>(
+    rt: &R,
+    alloc: Global,
+    folder: &mut Memory,
+    minute: u32,
+) -> Option<Opened> {
+    open(alloc, rt, folder, minute).ok()
+}
+
 /// The number that a start takes.
-fn number<R: Threads + Sync>(rt: &R, alloc: Global, folder: &mut Memory) -> Option<u16> {
-    match open(alloc, rt, folder) {
-        Ok(opened) => Some(opened.number),
-        Err(_) => None,
-    }
+fn number<R: Threads + Sync>(rt: &R, alloc: Global, folder: &mut Memory) -> Option<u32> {
+    Some(begin(rt, alloc, folder, MINUTE)?.number)
 }
 
 /// Whether a start's number is there, and above an earlier one's.
-fn is_above(later: Option<u16>, earlier: Option<u16>) -> bool {
+fn is_above(later: Option<u32>, earlier: Option<u32>) -> bool {
     match (later, earlier) {
         (Some(later), Some(earlier)) => earlier < later,
         (Some(_), None) => true,
@@ -41,15 +55,35 @@ fn is_above(later: Option<u16>, earlier: Option<u16>) -> bool {
     }
 }
 
+/// Writes a record of each vnode of a start into its folder.
+fn keep_some(alloc: Global, folder: &mut Memory, number: u32) -> Result<(), Fail> {
+    let mut vnodes = Vec::new(alloc);
+    for index in 0..3 {
+        let id = number * VNODES_PER_NUMBER + index;
+        let mut state = KeyState::new(alloc);
+        let nothing = KeyState::new(alloc);
+        state.put(id, nothing.clock(), Content::Tombstone)?;
+        let mut vnode = Vnode::new(alloc, id);
+        let _ = vnode.merge_lent(1, &Key::new(alloc, b"b", b"k")?, id, 0, &state);
+        vnodes.push(vnode)?;
+    }
+    keep_all(alloc, folder, &vnodes, Some(b""))?;
+    Ok(())
+}
+
+/// Starts, of which the first ends after so many operations or keeps records, and the second never does.
 #[test]
 fn no_number_is_taken_twice(rt: HostRuntime) -> Result<(), Fail> {
     for operations in 0..WHOLE + 2 {
         let mut folder = Memory::new(rt.alloc(), operations);
         let first = number(&rt, rt.alloc(), &mut folder);
+        expect(first.is_some() == (operations >= WHOLE), operations)?;
         folder.begin_again(MANY);
+        if let Some(first) = first {
+            keep_some(rt.alloc(), &mut folder, first)?;
+        }
         let second = number(&rt, rt.alloc(), &mut folder);
         let third = number(&rt, rt.alloc(), &mut folder);
-        expect(first.is_some() == (operations >= WHOLE), operations)?;
         expect(
             is_above(second, first) && is_above(third, second),
             operations,
@@ -58,11 +92,44 @@ fn no_number_is_taken_twice(rt: HostRuntime) -> Result<(), Fail> {
     Ok(())
 }
 
-/// What may stand in `settings`, and the seconds that it sets.
-const SET: [(&[u8], Option<u32>); 11] = [
-    (b"snapshot 60\n", Some(60)),
-    (b"snapshot 0\n", Some(0)),
-    (b"snapshot 4294967295\n", Some(4_294_967_295)),
+/// What may stand in `incarnation` before its seal, and the number that the next start takes.
+const LAST: [(&[u8], Option<u32>); 10] = [
+    (b"number 1000\n", Some(1_001)),
+    (b"number 6\n", Some(MINUTE)),
+    (b"number 16777214\n", Some(16_777_215)),
+    (b"number 16777215\n", None),
+    (b"number 16777216\n", None),
+    (b"number 01000\n", None),
+    (b"6\n", Some(1_792)),
+    (b"65534\n", Some(16_776_960)),
+    (b"65535\n", None),
+    (b"65536\n", None),
+];
+
+#[test]
+fn last_numbers_are_read(rt: HostRuntime) -> Result<(), Fail> {
+    for (place, (text, next)) in LAST.iter().enumerate() {
+        let place = place as u64;
+        let mut folder = Memory::new(rt.alloc(), MANY);
+        let bytes = seal(rt.alloc(), *text)?;
+        let done = replace(rt.alloc(), &mut folder, "incarnation", &bytes).is_ok();
+        expect(done && number(&rt, rt.alloc(), &mut folder) == *next, place)?;
+    }
+    Ok(())
+}
+
+/// What may stand in `settings`, the seconds that it sets, and the number that a start takes by it.
+const SET: [(&[u8], Option<(u32, u32)>); 18] = [
+    (b"snapshot 60\n", Some((60, MINUTE))),
+    (b"snapshot 0\n", Some((0, MINUTE))),
+    (b"snapshot 4294967295\n", Some((4_294_967_295, MINUTE))),
+    (b"number 0\n", Some((60, MINUTE))),
+    (b"number 16777215\n", Some((60, 16_777_215))),
+    (b"number 9\nsnapshot 5\n", Some((5, 9))),
+    (b"snapshot 5\nnumber 9\n", Some((5, 9))),
+    (b"number 16777216\n", None),
+    (b"snapshot 5\nsnapshot 5\n", None),
+    (b"number 9\nsnapshot 5\nnumber 9\n", None),
     (b"snapshot 4294967296\n", None),
     (b"snapshot 060\n", None),
     (b"snapshot +60\n", None),
@@ -73,25 +140,21 @@ const SET: [(&[u8], Option<u32>); 11] = [
     (b"", None),
 ];
 
-/// The seconds that a start reads, if it isn't refused for them.
-fn every<R: Threads + Sync>(rt: &R, alloc: Global, folder: &mut Memory) -> Option<u32> {
-    match open(alloc, rt, folder) {
-        Ok(opened) => Some(opened.held.settings.every),
-        Err(_) => None,
-    }
+/// The seconds that a start reads, and the number that it takes, if it isn't refused.
+fn set<R: Threads + Sync>(rt: &R, alloc: Global, folder: &mut Memory) -> Option<(u32, u32)> {
+    let opened = begin(rt, alloc, folder, MINUTE)?;
+    Some((opened.held.settings.every, opened.number))
 }
 
 #[test]
-fn settings_are_one_line(rt: HostRuntime) -> Result<(), Fail> {
+fn settings_are_lines(rt: HostRuntime) -> Result<(), Fail> {
     let mut folder = Memory::new(rt.alloc(), MANY);
-    expect(every(&rt, rt.alloc(), &mut folder) == Some(60), 0)?;
-    for (place, (bytes, seconds)) in SET.iter().enumerate() {
+    expect(set(&rt, rt.alloc(), &mut folder) == Some((60, MINUTE)), 0)?;
+    for (place, (bytes, is_set)) in SET.iter().enumerate() {
         let place = place as u64;
+        let mut folder = Memory::new(rt.alloc(), MANY);
         let done = replace(rt.alloc(), &mut folder, "settings", bytes).is_ok();
-        expect(
-            done && every(&rt, rt.alloc(), &mut folder) == *seconds,
-            place,
-        )?;
+        expect(done && set(&rt, rt.alloc(), &mut folder) == *is_set, place)?;
     }
     Ok(())
 }

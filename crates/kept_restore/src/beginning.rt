@@ -9,6 +9,7 @@ use crate::fault::LoadFault;
 use crate::join_three;
 use crate::loads::{Throttle, load};
 use cluster::{Cluster, Pass, Room};
+use dvv::VNODES_PER_NUMBER;
 use kept_file::KeptFile;
 use record_codec::Record;
 use std::alloc::{AllocError, Global};
@@ -121,7 +122,7 @@ fn records_of(files: &[KeptFile], index: usize) -> &[Record]
     ensures { result.now ≡ records_at files.now index }
 {
     for file in files {
-        if (file.from % 65_536) as usize == index {
+        if (file.from % VNODES_PER_NUMBER) as usize == index {
             return &file.records;
         }
     }

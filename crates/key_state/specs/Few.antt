@@ -3,9 +3,9 @@ use Rattle.std.specs.Prelude.{ℕ, nat_lt, ◌+◌, ◌-◌, ◌*◌, ◌/◌, �
 use Rattle.dvv.specs.declared.Dot.{Dot}
 use Rattle.key_state.specs.declared.few.Others.{Others}
 
--- the last of n events beside a dot: of a vnode of that index, and of the incarnation that is so much older than the dot's
+-- the last of n events beside a dot: of a vnode of that index, and of the start whose number is so much below that of the dot's
 abbrev pub beside : Dot → ℕ → ℕ → Dot
-beside dot whose n = record { vnode = (dot.vnode / 65536 - whose / 4) * 65536 + whose % 4; n = n }
+beside dot whose n = record { vnode = (dot.vnode / 256 - whose / 4) * 256 + whose % 4; n = n }
 
 abbrev pub first_beside : Dot → Others → Dot
 first_beside dot others = beside dot others.first_vnode others.first_n

@@ -4,18 +4,16 @@ ghost use Rattle.std.specs.Prelude.{◌≡◌, ◌∷◌, [], IfSome};
 ghost use Rattle.smallvec.specs.SmallVec.{HasRoomFor};
 ghost use Rattle.key_state.specs.Few.{beside, few_clock, first_beside, second_beside, short_of};
 
-use dvv::{Clock, Dot, Entries};
+use dvv::{Clock, Dot, Entries, VNODES_PER_NUMBER};
 use std::alloc::Global;
 use std::mem::size_of;
-
-/// A vnode's identifier is its incarnation times this, and its index.
-const IDENTIFIERS: u32 = 65_536;
 
 /// So many indexes are told apart here: a store has three vnodes.
 const INDEXES: u8 = 4;
 
 // The entries of a clock beside one of them, as they come: at most two, each of up to 65,535 events, of which none is no entry. Each one's
-// vnode is told by its index, and by how much older its incarnation is: a store that is kept begins each start under the next one.
+// vnode is told by its index, up to 3, and by how much lower the number of its start is, up to 63. So this serves the clocks of one start,
+// and those of starts that are less than 64 numbers, some minutes, apart.
 #[derive(Clone, Copy)]
 pub(crate) struct Others {
     first_n: u16,
@@ -48,21 +46,21 @@ fn beside(dot: Dot, vnode: u8, n: u16) -> Dot
     ensures { result ≡ beside dot vnode n }
 {
     let older = u32::from(vnode / INDEXES);
-    let incarnation = (dot.vnode / IDENTIFIERS).saturating_sub(older);
+    let number = (dot.vnode / VNODES_PER_NUMBER).saturating_sub(older);
     Dot {
-        vnode: incarnation * IDENTIFIERS + u32::from(vnode % INDEXES),
+        vnode: number * VNODES_PER_NUMBER + u32::from(vnode % INDEXES),
         n: u64::from(n),
     }
 }
 
 // Which vnode an entry is of, beside a dot, where that is told in a byte.
 fn vnode_beside(dot: Dot, entry: Dot) -> Option<u8> {
-    let incarnation = entry.vnode / IDENTIFIERS;
-    let index = u8::try_from(entry.vnode % IDENTIFIERS).ok()?;
+    let number = entry.vnode / VNODES_PER_NUMBER;
+    let index = u8::try_from(entry.vnode % VNODES_PER_NUMBER).ok()?;
     if index >= INDEXES {
         return None;
     }
-    let older = u8::try_from((dot.vnode / IDENTIFIERS).checked_sub(incarnation)?).ok()?;
+    let older = u8::try_from((dot.vnode / VNODES_PER_NUMBER).checked_sub(number)?).ok()?;
     older.checked_mul(INDEXES)?.checked_add(index)
 }
 

@@ -20,9 +20,9 @@ use Rattle.quorum.specs.declared.fault.Unfit.{Unfit}
 use Rattle.quorum.specs.declared.fault.Unfit.TheVariants.{TooLarge, Bad}
 use Rattle.peers.specs.Calls.{Call, PutAt, MergeAt, StateOf}
 
--- whether an answer is another vnode's: an identifier's index is what it leaves of 65,536
+-- whether an answer is another vnode's: an identifier's index is what it leaves of 256
 abbrev pub is_others : ℕ → Answer → Bool
-is_others coordinator answer = not ((answer.from % 65536) == coordinator)
+is_others coordinator answer = not ((answer.from % 256) == coordinator)
 
 -- the answers of other vnodes
 abbrev pub others_of : ℕ → List Answer → List Answer

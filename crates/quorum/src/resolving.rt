@@ -14,7 +14,7 @@ ghost use Rattle.quorum.specs.declared.fault.ResolveFault.{ResolveFault as Unmad
 use crate::fault::{ResolveFault, Unfit};
 use crate::hooking::{Hooking, hook_of};
 use bpf_image::ImageKind;
-use dvv::Clock;
+use dvv::{Clock, VNODES_PER_NUMBER};
 use hook_registry::Hooks;
 use hook_run::{Resolution, Unresolved};
 use key_state::{Content, Key, KeyState};
@@ -40,7 +40,7 @@ pub struct Resolved {
 /// refused or lost, or memory ran out for the resolver's windows or for what it wrote: `cut` tells which. No further call is made then;
 /// what was stored stays. It stands, too, where the resolver was shown too much or its answer has no meaning, as `unfit` tells.
 ///
-/// Which vnode answered is told by its identifier's index, the lower 16 bits.
+/// Which vnode answered is told by its identifier's index, the lower 8 bits.
 pub fn resolve<P: Peers, H: Hooks>(
     peers: &mut P,
     hooking: &mut Hooking<H>,
@@ -252,5 +252,5 @@ fn bring_others<P: Peers>(
 fn is_others(coordinator: usize, answer: &Answer) -> bool
     ensures { result ≡ is_others coordinator answer.now }
 {
-    (answer.from % 65536) as usize != coordinator
+    (answer.from % VNODES_PER_NUMBER) as usize != coordinator
 }

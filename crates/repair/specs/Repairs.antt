@@ -14,7 +14,7 @@ pub record Delivery : Type 0 where
 
 -- the index of the vnode that an identifier names
 abbrev pub index_of : ℕ → ℕ
-index_of vnode = vnode % 65536
+index_of vnode = vnode % 256
 
 -- one answered state goes to each vnode whose answered state it would change
 abbrev pub deliveries_of : List Answer → Answer → List Delivery

@@ -5,6 +5,7 @@ ghost use Rattle.peers.specs.declared.fault.PeerFault.{PeerFault};
 ghost use Rattle.peers.specs.Calls.{Made};
 ghost use Rattle.repair.specs.Repairs.{deliveries, deliveries_of, tries};
 
+use dvv::VNODES_PER_NUMBER;
 use key_state::Key;
 use peers::{Answer, Peers};
 
@@ -50,7 +51,7 @@ fn deliver<P: Peers>(peers: &mut P, key: &Key, sender: &Answer, answers: &[Answe
     let mut delivered = 0;
     for receiver in answers {
         if receiver.state.is_changed_by(&sender.state) {
-            let index = (receiver.from % 65536) as usize;
+            let index = (receiver.from % VNODES_PER_NUMBER) as usize;
             if peers
                 .merge_at(index, key, sender.from, sender.at, &sender.state)
                 .is_ok()

@@ -1,12 +1,20 @@
 -- How a script is parted into lines, and what its words are (this store's profile).
-use Rattle.std.specs.Prelude.{ℕ, ◌==◌, nat_le, Bool, false, if◌then◌else◌, List, [], ◌∷◌, length}
+use Rattle.std.specs.Prelude.{ℕ, ◌==◌, ◌&&◌, ◌||◌, nat_le, nat_lt, not, Bool, false, if◌then◌else◌, List, [], ◌∷◌, length, slice_index}
 use Rattle.std.specs.List.{list_all}
-use Rattle.std.specs.Char.{is_ascii_alphanumeric}
+use Rattle.std.specs.Char.{is_ascii_alphanumeric, is_ascii_digit}
 
 -- a key, a value or a name: 1 to 64 letters and digits
 abbrev pub is_word : List ℕ → Bool
 is_word [] = false
 is_word (c ∷ cs) = if nat_le (length (c ∷ cs)) 64 then list_all is_ascii_alphanumeric (c ∷ cs) else false
+
+-- one or more digits
+abbrev pub is_number : List ℕ → Bool
+is_number word = nat_lt 0 (length word) && list_all is_ascii_digit word
+
+-- a decimal without sign and leading zeros
+abbrev pub is_decimal : List ℕ → Bool
+is_decimal word = is_number word && ((length word == 1) || not (slice_index word 0 == 48))
 
 -- a byte before the first of some lines
 abbrev pub begin_line : ℕ → List (List ℕ) → List (List ℕ)

@@ -9,7 +9,7 @@ use hook_abi::Verdict;
 use hook_run::RunFault;
 use std::alloc::{AllocError, Global};
 
-/// Adds the line of a verdict. Fails for want of memory alone.
+/// Adds the line of a verdict. Fails for want of memory alone: the text then ends with a front of the line, or as before.
 pub fn print_verdict(
     alloc: Global,
     verdict: &Verdict<'_>,
@@ -27,7 +27,8 @@ pub fn print_verdict(
     }
 }
 
-/// Adds the line that tells why a hook decided nothing. Fails for want of memory, which the run's may be.
+/// Adds the line that tells why a hook decided nothing. Fails for want of memory, which the run's may be: the text then ends with a front
+/// of the line, or as before.
 pub fn print_run_fault(fault: RunFault, text: &mut String) -> Result<(), AllocError>
     ensures told { OnOk result (IsTold (Err fault)) }
     ensures text { OnOk result (string_bytes text.new ≡ string_bytes text.old ++ decision_text (Err fault)) }

@@ -10,7 +10,7 @@ use key_state::{Content, Part};
 use std::alloc::{AllocError, Global};
 use world::{Reply, Resolution};
 
-/// Adds the line of a reply. Fails for want of memory alone.
+/// Adds the line of a reply. Fails for want of memory alone: the text then ends with a front of the line, or as before.
 pub fn print_reply(alloc: Global, reply: &Reply, text: &mut String) -> Result<(), AllocError>
     ensures { OnOk result (string_bytes text.new ≡ string_bytes text.old ++ reply_text reply.now) }
 {

@@ -9,7 +9,8 @@ use key_state::{Content, KeyState, Sibling};
 use script_lines::is_word;
 use std::alloc::{AllocError, Global};
 
-/// Adds the line of a key's state: its siblings, or `none`, and the token of their context. Fails for want of memory alone.
+/// Adds the line of a key's state: its siblings, or `none`, and the token of their context. Fails for want of memory alone: the text then
+/// ends with a front of the line, or as before.
 pub fn print_state(alloc: Global, state: &KeyState, text: &mut String) -> Result<(), AllocError>
     ensures { OnOk result (string_bytes text.new ≡ string_bytes text.old ++ state_text state.now) }
 {

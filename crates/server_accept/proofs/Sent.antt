@@ -10,6 +10,7 @@ use Rattle.http_parse.proofs.known.KnownHead.TheSendSync as known
 use Rattle.http_connection.specs.contracts.desk.Desk as Desk
 use Rattle.http_connections.proofs.buffer.Buffer.TheSendSync as buffer
 use Rattle.http_connections.proofs.seat.Seat.TheSendSync as seat
+use Rattle.http_connections.specs.contracts.seats.Seats as Seats
 use Rattle.http_connections.specs.contracts.hall.Hall as Hall
 use Rattle.mio.proofs.event.events.Events.TheSendSync as events
 use Rattle.mio.proofs.waker.Waker.TheSendSync as waker
@@ -33,8 +34,11 @@ routes_send = search (node_send, sendable, crosses) depth 60 fits 20000
 desk_send : IsSend (Desk.the_field).row
 desk_send = search (routes_send, known.the_send, sendable, crosses) depth 60 fits 20000
 
+seats_send : IsSend (Seats.the_field).row
+seats_send = search (seat.the_send, BTreeMap-send, sendable, crosses) depth 60 fits 20000
+
 hall_send : IsSend (Hall.the_field).row
-hall_send = search (desk_send, buffer.the_field_send, seat.the_send, BTreeMap-send, sendable, crosses) depth 60 fits 20000
+hall_send = search (desk_send, buffer.the_field_send, seats_send, sendable, crosses) depth 60 fits 20000
 
 worker_send : IsSend (Worker.the_field).row
 worker_send = search (hall_send, sockets.the_field_send, events.the_field_send, sendable, crosses) depth 60 fits 20000

@@ -1,1 +1,4 @@
 pub mod Waiting
+pub mod Rests
+pub mod Endings
+pub mod Lines

@@ -1,6 +1,7 @@
 //! One thread takes the connections that come, and hands them out to the workers in turn.
 
-ghost use Rattle.std.specs.Prelude.{◌≡◌, ◌*◌, max, min};
+ghost use Rattle.std.specs.Prelude.{◌≡◌, None};
+ghost use Rattle.server_accept.specs.Rests.{borne, may_tell, rest_after, tells};
 
 use crate::console::{Console, Said};
 use crate::roster::Roster;
@@ -55,7 +56,9 @@ struct Patience {
 }
 
 impl Patience {
-    fn new() -> Patience {
+    fn new() -> Patience
+        ensures { result ≡ record { millis = 0; until = 0; told = None } }
+    {
         Patience {
             millis: 0,
             until: 0,
@@ -64,38 +67,47 @@ impl Patience {
     }
 
     /// A connection came: there may be more.
-    fn go_on(&mut self) {
+    fn go_on(&mut self)
+        ensures { self.new ≡ record self.old { until = 0 } }
+    {
         self.until = 0;
     }
 
     /// All that waited were taken: what fails next is the first of a row.
-    fn renew(&mut self) {
+    fn renew(&mut self)
+        ensures { self.new ≡ record self.old { millis = 0 } }
+    {
         self.millis = 0;
     }
 
     /// None could be taken now. Whether that is told.
-    fn bear(&mut self, now: u64) -> bool {
-        let is_first = self.millis == 0;
+    fn bear(&mut self, now: u64) -> bool
+        ensures told { result ≡ tells self.old now }
+        ensures borne { self.new ≡ borne self.old now }
+    {
+        let is_told = self.millis == 0 && is_due(self.told, now);
         self.millis = next_rest(self.millis);
         self.until = now.saturating_add(self.millis);
-        is_first && self.is_due(now)
-    }
-
-    fn is_due(&mut self, now: u64) -> bool {
-        let is_due = match self.told {
-            Some(told) => now.saturating_sub(told) >= ACCEPT_REPORT_MS,
-            None => true,
-        };
-        if is_due {
+        if is_told {
             self.told = Some(now);
         }
-        is_due
+        is_told
+    }
+}
+
+/// Whether it is told again that no connection can be taken, where it was told last at that time.
+fn is_due(told: Option<u64>, now: u64) -> bool
+    ensures { result ≡ may_tell told now }
+{
+    match told {
+        Some(told) => now.saturating_sub(told) >= ACCEPT_REPORT_MS,
+        None => true,
     }
 }
 
 /// How long it rests after one more failure in a row, in milliseconds: 1, and twice as long each time, but never more than a second.
 fn next_rest(millis: u64) -> u64
-    ensures { result ≡ min (max (2 * millis) 1) 1000 }
+    ensures { result ≡ rest_after millis }
 {
     millis.saturating_mul(2).max(1).min(ACCEPT_REST_MS)
 }

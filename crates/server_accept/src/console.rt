@@ -1,6 +1,8 @@
 //! What is said on standard input.
 
-ghost use Rattle.std.specs.Prelude.{◌≡◌, ◌≤◌};
+ghost use Rattle.std.specs.Prelude.{◌≡◌, ◌≤◌, ◌<◌, ◌+◌, ◌-◌, ◌^◌, min, take, Some, None};
+ghost use Rattle.std.specs.Option.{option_copied};
+ghost use Rattle.server_accept.specs.Lines.{said_with};
 
 use mio::unix::SourceFd;
 use mio::{Interest, Registry, Token};
@@ -30,7 +32,9 @@ pub struct Said {
 
 impl Said {
     /// Nothing.
-    fn nothing() -> Said {
+    fn nothing() -> Said
+        ensures { result ≡ record { stops = 0; snapshots = 0; others = 0 } }
+    {
         Said {
             stops: 0,
             snapshots: 0,
@@ -39,15 +43,14 @@ impl Said {
     }
 
     // Counts a line. Of one that is too long there is no text.
-    fn count(&mut self, text: Option<&[u8]>) {
-        let lines = if text == Some(STOP) {
-            &mut self.stops
-        } else if text == Some(SNAPSHOT) {
-            &mut self.snapshots
-        } else {
-            &mut self.others
-        };
-        *lines = lines.saturating_add(1);
+    fn count(&mut self, text: Option<&[u8]>)
+        ensures { self.new ≡ said_with self.old (option_copied text.entry) }
+    {
+        match text {
+            Some(text) if text == STOP => self.stops = self.stops.saturating_add(1),
+            Some(text) if text == SNAPSHOT => self.snapshots = self.snapshots.saturating_add(1),
+            _ => self.others = self.others.saturating_add(1),
+        }
     }
 }
 
@@ -62,7 +65,9 @@ struct Line {
 
 impl Line {
     /// An empty one.
-    fn new() -> Line {
+    fn new() -> Line
+        ensures { result.len ≡ 0 }
+    {
         Line {
             front: [0; LONGEST],
             len: 0,
@@ -70,7 +75,9 @@ impl Line {
     }
 
     // Adds a byte.
-    fn add(&mut self, byte: u8) {
+    fn add(&mut self, byte: u8)
+        ensures len { self.new.len ≡ min (self.old.len + 1) (2 ^ 64 - 1) }
+    {
         if let Some(place) = self.front.get_mut(self.len) {
             *place = byte;
         }
@@ -78,7 +85,10 @@ impl Line {
     }
 
     /// Its bytes, unless it is too long to say something.
-    fn text(&self) -> Option<&[u8]> {
+    fn text(&self) -> Option<&[u8]>
+        ensures short { self.now.len ≤ 8 → option_copied result ≡ Some (take self.now.len self.now.front) }
+        ensures long { 8 < self.now.len → option_copied result ≡ None }
+    {
         self.front.get(..self.len)
     }
 }

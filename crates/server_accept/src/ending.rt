@@ -1,5 +1,8 @@
 //! How a server ends.
 
+ghost use Rattle.std.specs.Prelude.{◌≡◌};
+ghost use Rattle.server_accept.specs.Endings.{stance_of};
+
 use server_sockets::Stance;
 use std::sync::atomic::AtomicBool;
 use std::sync::atomic::Ordering::SeqCst;
@@ -39,17 +42,24 @@ impl Ending {
 
     /// What workers do.
     pub fn stance(&self) -> Stance {
-        if self.is_stopped.load(SeqCst) {
-            Stance::Stopping
-        } else if self.is_full.load(SeqCst) {
-            Stance::Finishing
-        } else {
-            Stance::Serving
-        }
+        stance_of(self.is_stopped.load(SeqCst), self.is_full.load(SeqCst))
     }
 
     /// Whether workers end without waiting for clients.
     pub fn is_cut(&self) -> bool {
         self.is_cut.load(SeqCst)
+    }
+}
+
+/// What workers do, where the server was told to stop or wasn't, and where more connections may come or not.
+fn stance_of(is_stopped: bool, is_full: bool) -> Stance
+    ensures { result ≡ stance_of is_stopped is_full }
+{
+    if is_stopped {
+        Stance::Stopping
+    } else if is_full {
+        Stance::Finishing
+    } else {
+        Stance::Serving
     }
 }

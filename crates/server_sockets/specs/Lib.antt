@@ -1,3 +1,5 @@
 pub mod Limits
+pub mod Looks
+pub mod Orders
 pub mod Shows
 pub mod Work

@@ -14,6 +14,7 @@ pub mod limits;
 mod line;
 mod looks;
 mod orders;
+mod outcome;
 mod sockets;
 mod watch;
 mod worker;

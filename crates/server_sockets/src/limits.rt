@@ -12,6 +12,9 @@ pub(crate) const STALL_LIMIT_MS: u64 = 60_000;
 /// seconds, less what a limit may be late by.
 pub(crate) const STOP_LIMIT_MS: u64 = 8_000;
 
+/// Once a worker has been full of answers for so long, in milliseconds, it closes connections that hold most of them. Meanwhile others wait.
+pub(crate) const FULL_LIMIT_MS: u64 = 100;
+
 /// Clients that are too slow are looked for so often, in milliseconds: their limits are late by no more.
 pub(crate) const SWEEP_MS: u64 = 1_000;
 

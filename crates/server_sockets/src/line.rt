@@ -1,9 +1,10 @@
 //! One connection's socket.
 
-ghost use Rattle.std.specs.Prelude.{◌<◌, length, IfOk};
+ghost use Rattle.std.specs.Prelude.{◌≡◌, ◌<◌, length, IfOk};
 ghost use Rattle.http_connections.specs.Spoken.{FitsHeard, FitsTold};
 
 use crate::limits::{BUSY_BYTES, DROPPED_BYTES, DROPPING_READS};
+use crate::outcome::{Unmade, heard_by, told_by};
 use crate::watch::Watch;
 use http_connection::Failed;
 use http_connections::{Heard, Standing, Told};
@@ -127,21 +128,26 @@ impl Line {
         if self.inflow == Inflow::Dry {
             return Ok(Heard::NotNow);
         }
-        match self.stream.read(buf) {
-            Ok(0) => Ok(Heard::End),
-            Ok(n) => {
-                if n < buf.len() && self.inflow == Inflow::Ready {
-                    self.inflow = Inflow::Dry;
-                }
-                self.moved = self.moved.saturating_add(n);
-                Ok(Heard::Bytes(n))
+        match heard_by(self.stream.read(buf)) {
+            Ok(heard) => {
+                self.note_heard(heard, buf.len());
+                Ok(heard)
             }
-            Err(error) if error.kind() == ErrorKind::WouldBlock => Ok(Heard::NotNow),
-            Err(error) if error.kind() == ErrorKind::Interrupted => {
+            Err(Unmade::Interrupted) => {
                 self.register_again(registry, number)?;
                 Ok(Heard::NotNow)
             }
-            Err(_) => Err(Failed),
+            Err(Unmade::Failed) => Err(Failed),
+        }
+    }
+
+    // A read came to that, with so much room. One that left room has read all that was there.
+    fn note_heard(&mut self, heard: Heard, room: usize) {
+        if let Heard::Bytes(n) = heard {
+            if n < room && self.inflow == Inflow::Ready {
+                self.inflow = Inflow::Dry;
+            }
+            self.moved = self.moved.saturating_add(n);
         }
     }
 
@@ -155,19 +161,24 @@ impl Line {
         requires { 0 < length bytes.now }
         ensures fits { IfOk result (FitsTold (length bytes.now)) }
     {
-        match self.stream.write(bytes) {
-            Ok(0) => Err(Failed),
-            Ok(n) => {
-                self.has_taken = true;
-                self.moved = self.moved.saturating_add(n);
-                Ok(Told::Bytes(n))
+        match told_by(self.stream.write(bytes)) {
+            Ok(told) => {
+                self.note_told(told);
+                Ok(told)
             }
-            Err(error) if error.kind() == ErrorKind::WouldBlock => Ok(Told::NotNow),
-            Err(error) if error.kind() == ErrorKind::Interrupted => {
+            Err(Unmade::Interrupted) => {
                 self.register_again(registry, number)?;
                 Ok(Told::NotNow)
             }
-            Err(_) => Err(Failed),
+            Err(Unmade::Failed) => Err(Failed),
+        }
+    }
+
+    // A write came to that.
+    fn note_told(&mut self, told: Told) {
+        if let Told::Bytes(n) = told {
+            self.has_taken = true;
+            self.moved = self.moved.saturating_add(n);
         }
     }
 

@@ -1,5 +1,8 @@
 //! How often a worker looks for something to do before it sleeps.
 
+ghost use Rattle.std.specs.Prelude.{◌≡◌};
+ghost use Rattle.server_sockets.specs.Looks.{looks_after, most_looks};
+
 use crate::limits::{MAX_LOOKS, SLEEPS_PER_LOOK};
 
 /// How often a worker looks whether something is to be done before it sleeps until something is.
@@ -17,7 +20,9 @@ pub(crate) struct Looks {
 
 impl Looks {
     /// It looks as often as it may.
-    pub(crate) fn new() -> Looks {
+    pub(crate) fn new() -> Looks
+        ensures { result ≡ most_looks }
+    {
         Looks {
             count: MAX_LOOKS,
             unlooked: 0,
@@ -25,7 +30,9 @@ impl Looks {
     }
 
     /// What follows where something was found by a look, or nothing was and it slept.
-    pub(crate) fn after(self, found: bool) -> Looks {
+    pub(crate) fn after(self, found: bool) -> Looks
+        ensures { result ≡ looks_after self found }
+    {
         if found || self.unlooked >= SLEEPS_PER_LOOK {
             return Looks::new();
         }

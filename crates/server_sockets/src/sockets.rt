@@ -1,6 +1,7 @@
 //! The sockets of one worker.
 
-ghost use Rattle.std.specs.Prelude.{◌≡◌, ◌<◌, ◌≤◌, ◌+◌, ◌-◌, ◌^◌, ℕ, max, min, IfOk, OnErr};
+ghost use Rattle.std.specs.Prelude.{◌≡◌, ◌≢◌, ◌<◌, ◌≤◌, ◌+◌, ◌-◌, ◌^◌, ◌↔◌, ℕ, max, min, false, IsTrue, IfOk, OnErr};
+ghost use Rattle.server_sockets.specs.Limits.{is_too_slow};
 
 use crate::limits::{DROPPED_PIECE_BYTES, LINGER_MS};
 use crate::line::{Course, Drained, Line};
@@ -341,12 +342,17 @@ impl Sockets {
 }
 
 // Whether the client of a connection has kept it waiting for too long.
-fn is_overdue(line: &Line, stopped: Option<u64>, now: u64) -> bool {
+fn is_overdue(line: &Line, stopped: Option<u64>, now: u64) -> bool
+    ensures drains { line.now.course ≢ Course.Served → result ≡ false }
+    ensures served { line.now.course ≡ Course.Served → result ≡ is_too_slow line.now.watch line.now.is_held stopped now }
+{
     line.course == Course::Served && line.watch.is_given_up(line.is_held, stopped, now)
 }
 
 // Whether a connection is between two requests.
-fn is_idle(line: &Line) -> bool {
+fn is_idle(line: &Line) -> bool
+    ensures { IsTrue result ↔ ((line.now.course ≡ Course.Served) × (line.now.watch.standing ≡ Standing.Idle)) }
+{
     line.course == Course::Served && line.watch.standing == Standing::Idle
 }
 

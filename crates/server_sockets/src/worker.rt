@@ -2,6 +2,7 @@
 
 ghost use Rattle.std.specs.Prelude.{◌≡◌, ℕ, None, IfOk};
 ghost use Rattle.http_connections.specs.Sockets.{Sockets as History, unborn};
+ghost use Rattle.server_sockets.specs.Orders.{reading_of};
 ghost use Rattle.server_sockets.specs.Work.{Stays, Works, seats_of, shows};
 
 use crate::inlet::Inlet;
@@ -11,6 +12,7 @@ use crate::limits::{
 };
 use crate::orders::{Orders, Stance, Turned};
 use crate::sockets::{Reading, Sockets};
+use crate::watch::{full_since, is_full_for_long, while_full};
 use http_connection::Backend;
 use http_connections::Hall;
 use mio::{Events, Poll, Token, Waker};
@@ -37,6 +39,8 @@ pub struct Worker {
     swept: u64,
     /// When it was told to stop, if it was: each connection was told then that it is to end.
     stopped: Option<u64>,
+    /// Since when it has been full of answers that nobody takes, if it is, and no request was begun since.
+    filled: Option<u64>,
     rest: Parker,
 }
 
@@ -60,6 +64,7 @@ pub fn open<R: Net<Listener = TcpListener, Stream = TcpStream>>(
         reported,
         swept: 0,
         stopped: None,
+        filled: None,
         rest: Parker::new(),
     };
     Ok((worker, Inlet::new(alloc, waker)))
@@ -68,7 +73,8 @@ pub fn open<R: Net<Listener = TcpListener, Stream = TcpStream>>(
 impl Worker {
     /// One turn: it waits at most `most` for something to do, seats what was offered, attends the connections that were reported, then some
     /// of those that had their share before and are called again, and gives up those whose clients are too slow. Each connection has a
-    /// bounded share of it, so that who asks for little waits for nobody who asks for much.
+    /// bounded share of it, so that who asks for little waits for nobody who asks for much. Where it has been full of answers for a tenth of a
+    /// second it closes connections, those that hold most first.
     pub fn turn<R: Wait, B: Backend>(
         &mut self,
         rt: &R,
@@ -88,6 +94,7 @@ impl Worker {
         self.stop(orders, backend);
         self.sockets.end_draining(orders.now);
         self.give_up_overdue(orders.now);
+        self.relieve(orders.now);
         Turned {
             open: self.sockets.len(),
             lacks: self.sockets.take_lacks(),
@@ -191,6 +198,7 @@ impl Worker {
     fn attend<B: Backend>(&mut self, number: u64, backend: &mut B) -> usize
         ensures { Works B.gives B.copies self.old self.new backend.old backend.new }
     {
+        self.filled = while_full(self.filled, self.hall.is_full());
         self.hall.attend(number, &mut self.sockets, backend);
         match self.hall.standing(number) {
             Some(standing) => self.sockets.note(number, standing),
@@ -237,6 +245,17 @@ impl Worker {
         self.sweep(now);
     }
 
+    // Closes connections, those that hold most first, where the worker has been full for as long as it may, until half of that waits.
+    fn relieve(&mut self, now: u64)
+        ensures { Stays self.old self.new }
+    {
+        self.filled = full_since(self.filled, self.hall.is_full(), now);
+        if is_full_for_long(self.filled, now) {
+            self.filled = None;
+            self.hall.relieve(&mut self.sockets);
+        }
+    }
+
     // Gives up the connections whose clients are too slow.
     fn sweep(&mut self, now: u64)
         ensures { Stays self.old self.new }
@@ -268,7 +287,9 @@ fn note_reported(events: &Events, sockets: &mut Sockets, reported: &mut Vec<u64>
 }
 
 // Whether connections are read from.
-fn reading(orders: &Orders) -> Reading {
+fn reading(orders: &Orders) -> Reading
+    ensures { result ≡ reading_of orders.entry.now.stance orders.entry.now.may_read }
+{
     match orders.stance {
         Stance::Stopping => Reading::Over,
         Stance::Serving | Stance::Finishing => {

@@ -10,6 +10,7 @@ mod operations;
 mod places;
 mod quorums;
 mod repairs;
+mod seeds;
 mod shown;
 mod verdicts;
 mod watched;

@@ -75,8 +75,8 @@ impl Names {
         count
     }
 
-    /// Copies of the keys.
-    pub(crate) fn copies(&self) -> Result<Vec<Key>, AllocError>
+    /// Copies of the keys, in the order in which the vnode lists them: shard by shard, by which of 32 its seed puts a key into.
+    pub fn copies(&self) -> Result<Vec<Key>, AllocError>
         ensures { IfOk result (λ copies. copies.items ≡ self.now.keys) }
     {
         let mut keys = Vec::with_capacity(self.alloc, self.len())?;

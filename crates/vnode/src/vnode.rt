@@ -20,8 +20,10 @@ use journal::{Entry, Handout, Journal, Merged, Write};
 use key_state::{Content, Key, KeyState, Part, PreparedPart, Summary};
 use std::alloc::{AllocError, Global};
 use std::marker::Model;
+use std::snapshot::Snapshot;
 
-/// One vnode. It is seen as its journal: at each key it has the state that the journal leaves there.
+/// One vnode. It is seen as its journal: at each key it has the state that the journal leaves there. It takes at most 939,524,096 keys
+/// ([`VnodeFault::NoMemory`]).
 #[derive(Drop)]
 pub struct Vnode {
     alloc: Global,
@@ -54,7 +56,7 @@ impl Vnode {
     ghost use Rattle.key_state.specs.Parts.{summary_of, lacks_some, whole_of};
     ghost use Rattle.vnode.specs.declared.fault.PartFault.{PartFault};
     ghost use Rattle.vnode.specs.declared.fault.VnodeFault.{VnodeFault};
-    ghost use Rattle.journal.specs.Blocks.{AreHandedOut};
+    ghost use Rattle.journal.specs.Blocks.{AreHandedOut, all_of};
     ghost use Rattle.vnode.specs.Keys.{AreKeys, AreUnsorted, reads_of};
     ghost use Rattle.vnode.specs.States.{keys_of, state_at, AreInPlace};
     ghost use Rattle.vnode.specs.Refusals.{RefusesPut, RefusesMerge, RefusesEntry};
@@ -438,15 +440,21 @@ impl Vnode {
         Ok(self.journal.append(Entry::restart(stamp)))
     }
 
-    /// Hands out the full blocks of the journal that are still here. Nothing else changes: the vnode answers as before. An empty block with
-    /// memory is taken over where the journal has none, so that the next time that one is full no memory is asked for.
-    pub fn settle(&mut self, next: &mut Vec<Entry>) -> Handout
+    /// Hands out the full blocks of the journal that are still here, and shows to clauses the journal as that leaves it: at most a block of
+    /// its entries is here. Nothing else changes: the vnode answers as before. An empty block with memory is taken over where the journal
+    /// has none, so that the next time that one is full no memory is asked for.
+    pub fn settle(&mut self, next: &mut Vec<Entry>) -> (Handout, Snapshot<Journal>)
         requires empty { next.old.items ≡ [] }
         ensures empty { next.new.items ≡ [] }
         ensures same { self.new ≡ self.old }
-        ensures out { AreHandedOut self.old.entries result.first result.blocks.items }
+        ensures out { AreHandedOut self.old.entries result.0.first result.0.blocks.items }
+        ensures journal { result.1.value.log ≡ self.old }
+        // The journal goes on behind what was handed out, and little is left in it.
+        ensures next { result.1.value.first ≡ result.0.first + length (all_of result.0.blocks.items) }
+        ensures rest { length self.old.entries ≤ result.1.value.first + 1024 }
     {
-        self.journal.settle(next)
+        let handout = self.journal.settle(next);
+        (handout, Snapshot::of(&self.journal))
     }
 
     /// Has the look-ups to come begin by that hash: at vnodes of one seed a key's hash is made once. It is no event.

@@ -11,6 +11,7 @@ use std::marker::Model;
 // Where there are any.
 const FEWEST_SLOTS: usize = 8;
 
+// So many take 29,360,128 items: an eighth of them stays free.
 const MOST_SLOTS: usize = 1 << 25;
 
 /// From hashes to the places of items in a list that somebody else keeps. Items are only added. Contracts see it as

@@ -1,16 +1,15 @@
 //! A crew at work, from its beginning to what is left of it.
 
-ghost use Rattle.std.specs.Prelude.{◌≡◌, ◌+◌, ◌++◌, ◌≤◌, [], List, IfOk, map, vec_len};
-ghost use Rattle.cluster_stamps.specs.declared.view.Told.{Told};
+ghost use Rattle.std.specs.Prelude.{◌≡◌, ◌+◌, ◌++◌, ◌≤◌, [], IfOk, map, vec_len};
 ghost use Rattle.audit_cluster.specs.Following.{IsFollowedTo, IsSaidOf};
-ghost use Rattle.dvvstore.specs.Asides.{AllGrow, AreGathered, passes_of};
+ghost use Rattle.dvvstore.specs.Asides.{AllRead, AreGathered, WithAsides, passes_of};
 ghost use Rattle.dvvstore.specs.Visits.{AfterVisits, HaveVisited, begun};
 
 use crate::crew::signs::Signs;
 use crate::crew::working::{Lookout, Seat, Shared, work_attended};
 use crate::host::Host;
 use crate::saver::Saver;
-use audit_cluster::{Closed, Spot, Watch, close_keeping};
+use audit_cluster::{Closed, Spot, Watch, close_watched};
 use cluster::{Cluster, Pass, Room};
 use hook_registry::{HookChanges, Hooks};
 use kept_folder::Folder;
@@ -64,7 +63,7 @@ fn run<
     requires first { cluster.now.first ≡ B.first }
     ensures passes { IfOk result (λ left. vec_len left.passes ≡ vec_len crew.seats) }
     ensures visited { IfOk result (λ left. HaveVisited H.finds H.names H.takes (map (λ s. begun cluster.now s.pass s.hooking.hooks s.hooking.table.listed s.placement) crew.seats.items) left.passes.items) }
-    ensures spares { IfOk result (λ left. AllGrow crew.spares left.spares) }
+    ensures spares { IfOk result (λ left. AllRead cluster.now.first crew.spares left.spares) }
 {
     let Crew {
         seats,
@@ -78,7 +77,7 @@ fn run<
     let (spares, back) = thread::join(
         rt,
         || -> Passes<B>
-            ensures { AllGrow spares result }
+            ensures { AllRead lent.entry.now.first spares result }
         { save_beside(rt, lent, &both.signs(lobby), saver, spares) },
         || -> Result<Vec<Pass<B>>, AllocError>
             requires { lent.now.first ≡ B.first }
@@ -99,7 +98,7 @@ fn run<
 }
 
 /// Makes snapshots by spare passes until all workers have ended, if somebody makes them. The passes come back.
-#[tactic(auto, using(crate::proofs::Growing::all_grow_same))]
+#[tactic(auto, using(crate::proofs::Growing::all_read_same))]
 fn save_beside<B: Room + Send + Sync, F: Folder + Copy + Send, R: Threads + Wait + Sync>(
     rt: &R,
     cluster: &Cluster<B>,
@@ -107,7 +106,7 @@ fn save_beside<B: Room + Send + Sync, F: Folder + Copy + Send, R: Threads + Wait
     saver: Option<Saver<F>>,
     spares: Passes<B>,
 ) -> Passes<B>
-    ensures { AllGrow spares result }
+    ensures { AllRead cluster.now.first spares result }
 {
     match saver {
         Some(mut saver) => saver.run(rt, cluster, spares, signs),
@@ -126,8 +125,9 @@ pub struct Served {
 
 /// Has a crew serve a store that has begun with something, so many entries of each vnode, by index, while snapshots are made beside it by
 /// the passes that brought these. Where no fronts are named nothing was there before. Once all workers have ended, the cluster is gathered,
-/// and what is left of the journals is followed; the vnodes are handed back, whatever is said of them, and what each of these passes had
-/// been told before stands in their journals.
+/// and what is left of the journals is followed; the vnodes are handed back, whatever is said of them. In their journals stands what the
+/// workers were told, what these passes had been told before and then of reads, and what the watch was told, which has vnodes hand out and
+/// start again and does nothing else.
 ///
 /// The error: memory was refused before the vnodes were gathered, and they are lost; some workers may have answered no connection then.
 pub fn serve<
@@ -144,10 +144,10 @@ pub fn serve<
 ) -> Result<Served, AllocError>
     requires first { cluster.first ≡ B.first }
     requires all { cluster.passes ≤ vec_len crew.seats + 4 }
-    ensures kept { IfOk result (λ served. AfterVisits H.finds H.names H.takes (map (λ s. begun cluster s.pass s.hooking.hooks s.hooking.table.listed s.placement) crew.seats.items) (λ told. AreGathered told crew.spares served.closed.vnodes.items) × (vec_len served.closed.vnodes ≡ cluster.vnodes)) }
+    ensures kept { IfOk result (λ served. AfterVisits H.finds H.names H.takes (map (λ s. begun cluster s.pass s.hooking.hooks s.hooking.table.listed s.placement) crew.seats.items) (λ told. AreGathered cluster.first told crew.spares served.closed.vnodes.items) × (vec_len served.closed.vnodes ≡ cluster.vnodes)) }
     ensures said { IfOk result (λ served. IsSaidOf fronts.now served.closed.vnodes.items served.closed.said) }
     // Where nothing was there before, a yes is that of the journals from their first entries on.
-    ensures followed { IfOk result (λ served. fronts.now ≡ [] → AfterVisits H.finds H.names H.takes (map (λ s. begun cluster s.pass s.hooking.hooks s.hooking.table.listed s.placement) crew.seats.items) (λ told. (watched : List Told) × IsFollowedTo (told ++ watched) cluster.vnodes served.closed.said)) }
+    ensures followed { IfOk result (λ served. fronts.now ≡ [] → AfterVisits H.finds H.names H.takes (map (λ s. begun cluster s.pass s.hooking.hooks s.hooking.table.listed s.placement) crew.seats.items) (WithAsides cluster.first crew.spares (λ all. IsFollowedTo all cluster.vnodes served.closed.said))) }
 {
     let Back {
         passes,
@@ -156,7 +156,7 @@ pub fn serve<
         requests,
     } = run(host, &cluster, crew, lobby)?;
     let passes = all_passes(passes, spares)?;
-    let closed = close_keeping(host.alloc, cluster, passes, watch, fronts)?;
+    let closed = close_watched(host.alloc, cluster, passes, watch, fronts)?;
     Ok(Served { closed, requests })
 }
 

@@ -8,7 +8,7 @@ use crate::session::{Left, Making};
 use crate::system_folder::SystemFolder;
 use crate::tests::two_tables;
 use audit_faults::{Followed, WatchFault};
-use dvv::Clock;
+use dvv::{Clock, VNODES_PER_NUMBER};
 use kept_file::KeptFile;
 use kept_folder::{Held, Settings};
 use key_state::{Content, Key, KeyState};
@@ -22,8 +22,11 @@ use vnode::Seed;
 /// So many keys each vnode begins with: its journal hands out some blocks while it takes them over.
 const KEYS: usize = 25_000;
 
+/// The number of the start before.
+const LAST: u32 = 1_536;
+
 /// The first identifier of the start before.
-const BEFORE: u32 = 6 * 65_536;
+const BEFORE: u32 = LAST * VNODES_PER_NUMBER;
 
 /// The file of a vnode, of the start before: each of its keys was deleted there.
 fn file_of(alloc: Global, from: u32) -> Result<KeptFile, Fail> {
@@ -50,7 +53,7 @@ fn kept_by(left: Result<Left, Unbegun>) -> (usize, Followed) {
             for vnode in &served.closed.vnodes {
                 entries = entries.saturating_add(vnode.journal().len());
             }
-            (entries, served.closed.said)
+            (entries, served.closed.said.said())
         }
         _ => (0, Err(WatchFault::Lost)),
     }
@@ -68,8 +71,8 @@ fn kept_store(rt: HostRuntime) -> Result<(), Fail> {
     let stay = Stay {
         folder: Some(SystemFolder::nowhere(&rt, alloc)),
         held: Held {
-            last: Some(6),
-            settings: Settings { every: 0 },
+            last: Some(LAST),
+            settings: Settings { every: 0, least: 0 },
             hooks: Vec::new(alloc),
             files,
         },
@@ -82,7 +85,7 @@ fn kept_store(rt: HostRuntime) -> Result<(), Fail> {
         err: rt.stderr(),
     };
     let making = Making {
-        first: BEFORE + 65_536,
+        first: BEFORE + VNODES_PER_NUMBER,
         seed: Seed::fixed(),
     };
     let tables = two_tables(alloc)?;

@@ -652,7 +652,7 @@ REFUSED = [
     ("DELETE /hooks/a%20b HTTP/1.1", "", BAD_NAME),
     ("PUT /hooks/%C3%BC HTTP/1.1", "", BAD_NAME),
     ("PUT /buckets/b/keys/k HTTP/1.1\r\nX-Riak-Vclock: AQA", "a", (400, "K1")),
-    ("PUT /buckets/b/keys/k HTTP/1.1\r\nX-Riak-Vclock: AwAA", "a", (400, "K2")),
+    ("PUT /buckets/b/keys/k HTTP/1.1\r\nX-Riak-Vclock: BAAA", "a", (400, "K2")),
     ("POST /buckets/b/keys/k HTTP/1.1\r\nx-riak-vclock: AQACAAAAAAAAAAAAAAABAAAAAAAAAAAAAAAB", "a", (400, "K3")),
     ("DELETE /buckets/b/keys/k HTTP/1.1\r\nX-Riak-Vclock:", "", (400, "K4")),
     ("DELETE /buckets/b/keys/k HTTP/1.1\r\nX-Riak-Vclock: Af//\r\nX-Riak-Vclock: AQAA", "", (400, "K5")),
@@ -691,6 +691,7 @@ def broken():
         (ping("Connection: close"), pong(closes=True)),
         (b"GET /ping HTTP/1.0\r\n\r\n", pong(closes=True)),
         (ping("Connection: keep-alive, CLOSE"), pong(closes=True)),
+        (b"GET /ping HTTP/1.1\r\nConnection: closed\r\nConnection: close\r\n\r\n", pong(closes=True)),
         (request("HEAD /ping", "connection: close"), told(*METHOD, closes=True)),
     ]:
         yield NEXT
@@ -846,9 +847,9 @@ def spelled():
     yield request("PUT /buckets/b/props", body=props), done()
     yield request("GET /buckets/b/props"), properties(None, None)
 
-    # A body and fields that nothing uses, and of two fields `Connection` the first.
+    # A body and fields that nothing uses, and two fields `Connection` of which none has `close`.
     yield b"GET /ping HTTP/1.1\r\nExpect: 100-continue\r\nContent-Length: 2\r\nContent-Length: 02\r\n\r\nab", pong()
-    yield b"GET /ping HTTP/1.1\r\nConnection: closed\r\nConnection: close\r\n\r\n", pong()
+    yield b"GET /ping HTTP/1.1\r\nConnection: closed\r\nConnection: keep-alive\r\n\r\n", pong()
 
 
 # The second of two siblings, and the boundary and length of the answer in parts that its value leads to.

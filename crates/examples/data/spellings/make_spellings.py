@@ -316,11 +316,20 @@ def second_text(entries):
     return base64.b64encode(struct.pack(">BH", 2, len(entries)) + data).decode()
 
 
+def third_text(entries):
+    """The text of a clock by version 3, which has no identifier that ends in 255."""
+    ordered = sorted((vnode % 2**8, vnode // 2**8, n) for vnode, n in entries)
+    data = b"".join(struct.pack(">IQ", place * 2**24 + number, n) for place, number, n in ordered)
+    return base64.b64encode(struct.pack(">BH", 3, len(entries)) + data).decode()
+
+
 def text_of(entries):
-    """The text that is written of a clock."""
-    if any(index(vnode) > 254 for vnode, _ in entries):
-        return first_text(entries)
-    return second_text(entries)
+    """The text that is written of a clock: of the first of versions 2, 3 and 1 that can tell each of its vnodes."""
+    if all(index(vnode) <= 254 for vnode, _ in entries):
+        return second_text(entries)
+    if all(vnode % 2**8 <= 254 for vnode, _ in entries):
+        return third_text(entries)
+    return first_text(entries)
 
 
 def context_row(name, entries, text):
@@ -360,7 +369,37 @@ CLOCK_TEXTS = [
         "AQAEAAAAAQAAAAAAAAADAAEAAAAAAAAAAAAEAAEAAQAAAAAAAAAFAAIABwAAAAAAAAAG",
     ),
     ("the lowest index that version 2 hasn't", [(255, 1)], "AQABAAAA/wAAAAAAAAAB", "AQABAAAA/wAAAAAAAAAB"),
-    ("an index whose low byte is 0", [(256, 1)], "AQABAAABAAAAAAAAAAAB", "AQABAAABAAAAAAAAAAAB"),
+    ("the first number, which version 2 hasn't", [(256, 1)], "AwABAAAAAQAAAAAAAAAB", "AQABAAABAAAAAAAAAAAB"),
+    (
+        "the vnodes of a start",
+        [(122_880_256, 3), (122_880_257, 1), (122_880_258, 2)],
+        "AwADAAdTAQAAAAAAAAADAQdTAQAAAAAAAAABAgdTAQAAAAAAAAAC",
+        "AQADB1MBAAAAAAAAAAADB1MBAQAAAAAAAAABB1MBAgAAAAAAAAAC",
+    ),
+    (
+        "two starts, in the order of indexes",
+        [(122_880_257, 4), (122_881_024, 1), (122_881_025, 2)],
+        "AwADAAdTBAAAAAAAAAABAQdTAQAAAAAAAAAEAQdTBAAAAAAAAAAC",
+        "AQADB1MBAQAAAAAAAAAEB1MEAAAAAAAAAAABB1MEAQAAAAAAAAAC",
+    ),
+    (
+        "a vnode that version 2 has, beside one that it hasn't",
+        [(65_537, 1), (122_880_257, 2)],
+        "AwACAQABAAAAAAAAAAABAQdTAQAAAAAAAAAC",
+        "AQACAAEAAQAAAAAAAAABB1MBAQAAAAAAAAAC",
+    ),
+    (
+        "the last vnode that version 3 has, and the greatest counter",
+        [(4_294_967_294, MAX_COUNTER)],
+        "AwAB/v///0AAAAAAAAAA",
+        "AQAB/////kAAAAAAAAAA",
+    ),
+    (
+        "a vnode that version 3 hasn't, beside one that version 2 hasn't",
+        [(255, 1), (256, 2)],
+        "AQACAAAA/wAAAAAAAAABAAABAAAAAAAAAAAC",
+        "AQACAAAA/wAAAAAAAAABAAABAAAAAAAAAAAC",
+    ),
     (
         "an index above 254 behind others, in a later incarnation",
         [(0, 1), (1, 2), (65_791, 1)],
@@ -394,6 +433,18 @@ def clock_texts():
         yield context_row(name, entries, text)
         if first != text:
             yield context_row(f"{name}, by version 1", entries, first)
+    for name, entries, text in THIRD_TEXTS:
+        assert text == third_text(entries), name
+        yield context_row(f"{name}, by version 3", entries, text)
+
+
+# Clocks that version 2 can tell, and so is written by, as version 3 tells them.
+THIRD_TEXTS = [
+    ("a clock of no entries", [], "AwAA"),
+    ("0:2", [(0, 2)], "AwABAAAAAAAAAAAAAAAC"),
+    ("the last index of the first number", [(254, 1)], "AwAB/gAAAAAAAAAAAAAB"),
+    ("the later number first, since its index is lower", [(1, 1), (65_536, 2)], "AwACAAABAAAAAAAAAAACAQAAAAAAAAAAAAAB"),
+]
 
 
 # Clocks of the most entries, each of an incarnation of its own: of how many indexes, which fall as the incarnations rise, how the text
@@ -412,21 +463,22 @@ def most_entries():
         yield context_row(name, entries, text)
 
 
-# Texts of neither version, and their faults.
+# Texts of no version, and their faults.
 NO_VERSION = [
     ("no byte", "", "K4"),
     # versions that there are not, with and without what would follow
     ("version 0", "AA==", "K2"),
-    ("version 3", "Aw==", "K2"),
+    ("version 4", "BA==", "K2"),
     ("version 0 of no entry", "AAAA", "K2"),
-    ("version 3 of no entry", "AwAA", "K2"),
+    ("version 4 of no entry", "BAAA", "K2"),
     ("version 255 of no entry", "/wAA", "K2"),
     ("version 0 of an entry of 12 bytes", "AAABAAAAAAAAAAAAAAAB", "K2"),
-    ("version 3 of entries of 12 bytes", "AwACAAAAAwAAAAAAAAABAAAAAwAAAAAAAAAB", "K2"),
-    ("version 3 of entries of 11 bytes", "AwACAwAAAAAAAAAAAAEDAAAAAAAAAAAAAQ==", "K2"),
+    ("version 4 of entries of 12 bytes", "BAACAAAAAwAAAAAAAAABAAAAAwAAAAAAAAAB", "K2"),
+    ("version 4 of entries of 11 bytes", "BAACAwAAAAAAAAAAAAEDAAAAAAAAAAAAAQ==", "K2"),
     ("version 0 of an entry of 11 bytes", "AAABAAAAAAAAAAAAAAE=", "K2"),
-    ("version 3 of 1025 entries", "AwQB", "K2"),
-    # entries of the other version
+    ("version 4 of 1025 entries", "BAQB", "K2"),
+    # entries of another version
+    ("version 3 of entries of 11 bytes", "AwACAwAAAAAAAAAAAAEDAAAAAAAAAAAAAQ==", "K4"),
     ("version 1 of an entry of 11 bytes", "AQABAAAAAAAAAAAAAAE=", "K4"),
     ("version 2 of an entry of 12 bytes", "AgABAAAAAAAAAAAAAAAB", "K4"),
     ("version 2 of entries of 12 bytes", "AgACAAAAAwAAAAAAAAABAAAAAwAAAAAAAAAB", "K4"),
@@ -478,6 +530,24 @@ FIRST_VERSION = [
     ("padding where none is due", "AQAA=", "K1"),
     ("a whole group of padding", "AQAA====", "K1"),
     ("the URL alphabet", "AQAB_____0AAAAAAAAAA", "K1"),
+]
+
+# Damaged texts of version 3.
+THIRD_VERSION = [
+    ("the version alone", "Aw==", "K4"),
+    ("one entry announced, none there", "AwAB", "K4"),
+    ("one entry announced, two there", "AwABAAAAAAAAAAAAAAABAQAAAAAAAAAAAAAB", "K4"),
+    ("a trailing byte", "AwABAAAAAAAAAAAAAAABAA==", "K4"),
+    ("1025 entries announced", "AwQB", "K5"),
+    ("equal vnodes", "AwACAAAAAwAAAAAAAAABAAAAAwAAAAAAAAAB", "K3"),
+    ("falling numbers of an index", "AwACAAAAAwAAAAAAAAABAAAAAgAAAAAAAAAB", "K3"),
+    ("rising by identifier, not by index", "AwACAQAAAAAAAAAAAAABAAAAAQAAAAAAAAAB", "K3"),
+    ("a counter of 0", "AwABAAAAAAAAAAAAAAAA", "K5"),
+    ("a counter past the limit", "AwABAAAAAEAAAAAAAAAB", "K5"),
+    ("an index of 255", "AwAB/wAAAQAAAAAAAAAB", "K5"),
+    # the order is told first
+    ("an index of 255 before another", "AwAC/wAAAAAAAAAAAAABAAAAAQAAAAAAAAAB", "K3"),
+    ("bits behind two signs of padding", "Ax==", "K1"),
 ]
 
 # Damaged texts of version 2.
@@ -540,7 +610,7 @@ def bytes_behind():
         yield row(name, text, rest, "K1")
 
 
-# The clock 0:1 1:1 as both versions write it.
+# The clock 0:1 1:1 as versions 1 and 2 write it.
 WHOLE = {
     2: "AgACAAAAAAAAAAAAAAEBAAAAAAAAAAAAAQ==",
     1: "AQACAAAAAAAAAAAAAAABAAAAAQAAAAAAAAAB",
@@ -557,9 +627,10 @@ def cut_texts():
 CONTEXTS = {
     "Clocks as text.": clock_texts,
     "Clocks of the most entries.": most_entries,
-    "Damaged texts of neither version.": lambda: damaged(NO_VERSION),
+    "Damaged texts of no version.": lambda: damaged(NO_VERSION),
     "Damaged texts of version 1.": lambda: damaged(FIRST_VERSION, ", by version 1"),
     "Damaged texts of version 2.": lambda: damaged(SECOND_VERSION, ", by version 2"),
+    "Damaged texts of version 3.": lambda: damaged(THIRD_VERSION, ", by version 3"),
     "Bytes behind a text.": bytes_behind,
     "A text is cut at each character.": cut_texts,
 }

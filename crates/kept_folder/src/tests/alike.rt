@@ -46,13 +46,13 @@ fn vnode_of(alloc: Global, id: u32, written: Written) -> Result<Vnode, Fail> {
 /// Writes what three vnodes hold into a folder that was opened, and reads it.
 fn written_and_read<R: Threads + Sync>(rt: &R, alloc: Global) -> Result<Held, Fail> {
     let mut folder = Memory::new(alloc, MANY);
-    open(alloc, rt, &mut folder)?;
+    open(alloc, rt, &mut folder, 0)?;
     let mut vnodes = Vec::new(alloc);
     for (id, written) in WRITTEN.iter().enumerate() {
         vnodes.push(vnode_of(alloc, id as u32, *written)?)?;
     }
     keep_all(alloc, &mut folder, &vnodes, Some(b""))?;
-    Ok(open(alloc, rt, &mut folder)?.held)
+    Ok(open(alloc, rt, &mut folder, 0)?.held)
 }
 
 /// Whether a record has a key and one value.

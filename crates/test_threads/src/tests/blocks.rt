@@ -59,8 +59,8 @@ impl Pair {
 
     /// Takes what the vnodes hand out, and follows it up to a bound. No fault is found.
     fn follow(&mut self, alloc: Global, below: u64) -> Result<(), Fail> {
-        take_all(&mut self.follower, 0, self.a.settle(&mut Vec::new(alloc)))?;
-        take_all(&mut self.follower, 1, self.b.settle(&mut Vec::new(alloc)))?;
+        take_all(&mut self.follower, 0, self.a.settle(&mut Vec::new(alloc)).0)?;
+        take_all(&mut self.follower, 1, self.b.settle(&mut Vec::new(alloc)).0)?;
         Ok(self.follower.follow(below)?)
     }
 
@@ -127,7 +127,7 @@ fn empty_blocks_are_taken_over(rt: HostRuntime) -> Result<(), Fail> {
     let _none = vnode.settle(&mut next);
     expect(next.capacity() == BLOCK, &"the second, too early")?;
     fill(&mut vnode)?;
-    let handout = vnode.settle(&mut next);
+    let (handout, _) = vnode.settle(&mut next);
     expect(handout.blocks.len() == 1, &handout.first)?;
     expect(next.capacity() == 0, &"the second")
 }

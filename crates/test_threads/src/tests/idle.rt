@@ -88,8 +88,9 @@ fn busy_beside_idle<B: Room + Spot, R: Wait>(
     if let Some(pass) = passes.first_mut() {
         keep_busy(rt, alloc, &cluster, pass, &mut watch)?;
     }
-    let end = close_watched(alloc, cluster, passes, watch);
-    expect(end == Ok(()), &end)
+    let closed = close_watched(alloc, cluster, passes, watch, &[])?;
+    let said = closed.said.said();
+    expect(said == Ok(()), &said)
 }
 
 /// Vnodes at which nothing happens hold no others up.

@@ -82,7 +82,7 @@ fn take_block(
 fn take_vnode(alloc: Global, follower: &mut Follower, vnode: &mut Vnode) -> Result<(), Fail> {
     let id = vnode.id();
     let mut first: usize = 0;
-    for block in vnode.settle(&mut Vec::new(alloc)).blocks {
+    for block in vnode.settle(&mut Vec::new(alloc)).0.blocks {
         take_block(follower, id, first, block)?;
         first = first.saturating_add(PIECES * PIECE);
     }

@@ -58,7 +58,7 @@ fn keys_are_held_once(rt: HostRuntime) -> Result<(), Fail> {
     let mut vnode = Vnode::new(alloc, 0);
     let mut follower = Follower::new(alloc, &[0], SIXTEEN, Start::empty(alloc))?;
     write_all(alloc, &mut vnode)?;
-    take_all(&mut follower, 0, vnode.settle(&mut Vec::new(alloc)))?;
+    take_all(&mut follower, 0, vnode.settle(&mut Vec::new(alloc)).0)?;
     follower.follow(KEYS)?;
     for shared in 0..64 {
         if !share_one(&vnode, &mut follower)? {

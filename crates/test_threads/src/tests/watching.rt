@@ -91,8 +91,9 @@ fn watched_meanwhile<B: Room + Spot + Send + Sync, R: Threads + Wait + Sync>(
     if back.len() < 4 {
         return Err(Fail::new("a pass is missing"));
     }
-    let end = close_watched(alloc, cluster, back, watch.into_inner());
-    expect(end == Ok(()), &end)
+    let closed = close_watched(alloc, cluster, back, watch.into_inner(), &[])?;
+    let said = closed.said.said();
+    expect(said == Ok(()), &said)
 }
 
 /// What is followed while threads work is one run, with all that came after.

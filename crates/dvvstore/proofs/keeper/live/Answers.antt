@@ -1,7 +1,9 @@
-use Rattle.std.proofs.Common.{◌≡◌, ◌∙◌, Result, subst, sym, vec_len}
-use Rattle.dvvstore.specs.Keeping.{Leaves}
+use Rattle.std.proofs.Common.{◌≡◌, ◌∙◌, ℕ, List, Result, ap, map, subst, sym, vec_len}
+use Rattle.dvvstore.specs.Keeping.{Leaves, LeavesServed, hooks_for}
+use Rattle.dvvstore.specs.Visits.{AreStarts, begun}
 use Rattle.dvvstore.specs.declared.keeper.Unbegun.{Unbegun}
 use Rattle.dvvstore.specs.declared.session.Left.{Left}
+use Rattle.dvvstore.proofs.Serving.{served_from, served_so, starts_as}
 use Rattle.dvvstore.proofs.Staying.{left_from, left_so, tells_closed, tells_unreadable}
 use Rattle.dvvstore.proofs.VisitLemmas.{begins_from}
 use Rattle.dvvstore.proofs.keeper.live.Goals as goal
@@ -37,3 +39,27 @@ returns-clause-kept g c =
     c.requires.begun c.serve-in-Closed.ensures.kept in
     subst (λ (left : Result Left Unbegun). Leaves stay.folder id files left) (sym c.left_of-in-Closed.ensures)
     (left_so stay.folder id files served (left_from stay.folder id files _ served (c.deref-in-Closed.ensures.value ∙ fronts) begins c.serve-in-Closed.ensures.said))
+
+pub returns-in-Open-clause-served : goal.returns-in-Open-clause-served
+returns-in-Open-clause-served g c =
+    let size = c.args.staffed.cluster in
+    let starts = map (λ s. begun size s.pass s.hooking.hooks s.hooking.table.listed s.placement) c.args.staffed.seats.items in
+    let now = map (λ s. begun size s.pass s.hooking.hooks s.hooking.table.listed s.placement) c.begin_seats.new.seats.items in
+    let served = c.serve.result in
+    let held = hooks_for c.args.stay.folder c.args.stay.held.hooks.items in
+    let are = starts_as _ held starts now (c.hooks_of.ensures ∙ ap (λ (hooks : List ℕ). hooks_for c.args.stay.folder hooks) c.deref.ensures.value) (c.in_ok-begin_seats.ensures.starts size) in
+    subst (λ (left : Result Left Unbegun). LeavesServed g.H.Hooks.finds g.H.Hooks.names g.H.HookChanges.takes (AreStarts held starts) left) (sym c.left_of.ensures)
+    (served_so g.H.Hooks.finds g.H.Hooks.names g.H.HookChanges.takes (AreStarts held starts) served
+    (served_from g.H.Hooks.finds g.H.Hooks.names g.H.HookChanges.takes held starts now size.first size.vnodes c.args.staffed.begun.spares served are c.requires.three c.serve.ensures.kept))
+
+pub returns-clause-served : goal.returns-clause-served
+returns-clause-served g c =
+    let size = c.args.staffed.cluster in
+    let starts = map (λ s. begun size s.pass s.hooking.hooks s.hooking.table.listed s.placement) c.args.staffed.seats.items in
+    let now = map (λ s. begun size s.pass s.hooking.hooks s.hooking.table.listed s.placement) c.begin_seats.new.seats.items in
+    let served = c.serve-in-Closed.result in
+    let held = hooks_for c.args.stay.folder c.args.stay.held.hooks.items in
+    let are = starts_as _ held starts now (c.hooks_of.ensures ∙ ap (λ (hooks : List ℕ). hooks_for c.args.stay.folder hooks) c.deref.ensures.value) (c.in_ok-begin_seats.ensures.starts size) in
+    subst (λ (left : Result Left Unbegun). LeavesServed g.H.Hooks.finds g.H.Hooks.names g.H.HookChanges.takes (AreStarts held starts) left) (sym c.left_of-in-Closed.ensures)
+    (served_so g.H.Hooks.finds g.H.Hooks.names g.H.HookChanges.takes (AreStarts held starts) served
+    (served_from g.H.Hooks.finds g.H.Hooks.names g.H.HookChanges.takes held starts now size.first size.vnodes c.args.staffed.begun.spares served are c.requires.three c.serve-in-Closed.ensures.kept))

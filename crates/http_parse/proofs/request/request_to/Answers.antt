@@ -1,7 +1,6 @@
 use Rattle.std.proofs.Common.{[], ◌≡◌, ◌+◌, ◌-◌, ◌∙◌, ap, subst, rules, arith, take, drop, append-nil}
-use Rattle.std.specs.Prelude.{◌==◌, ◌||◌, codes}
+use Rattle.std.specs.Prelude.{◌==◌, ◌||◌}
 use Rattle.http_request.specs.Ask.{IsUnfinished}
-use Rattle.http_parse.specs.Firsts.{says}
 use Rattle.http_parse.proofs.TargetLemmas.{head_not_empty}
 use Rattle.http_parse.proofs.RequestLemmas.{no_fields, waits, is_whole}
 use Rattle.http_parse.proofs.request.request_to.Goals as goal
@@ -46,5 +45,5 @@ returns c =
           target.2
           (ap (λ k. take k (drop start c.args.bytes.now)) count)
           c.in_ok-ask.ensures.asked
-          (c.closes-ends.ensures ∙ (ap (λ v. (c.args.spans.version == 0) || says (codes "close") v) c.fields_of-fields.ensures.connection ∙ search (h.1.version, h.1.fields, rules))),
+          (c.closes-ends.ensures ∙ (ap (λ b. (c.args.spans.version == 0) || b) c.fields_of-fields.ensures.closes ∙ search (h.1.version, h.1.fields, rules))),
     )

@@ -3,7 +3,7 @@ use Rattle.cluster_stamps.specs.declared.view.Told.{Told}
 use Rattle.audit_follower.specs.Waiting.{Taken, waiting_at}
 use Rattle.audit_cluster.specs.Following.{Watched, Watches, IsIdle, Rouses}
 use Rattle.audit_cluster.specs.declared.watch.Watch.TheInside.{Inside}
-use Rattle.audit_cluster.proofs.Taken.{RousesUpTo, nothing_waits, restarts_alone, rouses_all, rouses_more, rouses_none, rouses_on, watches_still}
+use Rattle.audit_cluster.proofs.Taken.{still_own, roused_own, RousesUpTo, nothing_waits, restarts_alone, rouses_all, rouses_more, rouses_none, rouses_on, watches_still}
 use Rattle.audit_cluster.proofs.watch.Watch.rouse.Goals as goal
 use Rattle.audit_cluster.proofs.watch.Watch.rouse.Goals.{then-waiting-eq0, else-waiting-eq0}
 
@@ -56,11 +56,13 @@ loop-index-preserved g c =
 pub invariant_of-self : goal.invariant_of-self
 invariant_of-self g c =
     let told = c.loop-index.invariant.told in
-    let same = c.loop-index.invariant.follower in (
+    let same = c.loop-index.invariant.follower in
+    let was = c.self.inside.pass.told in (
       c.loop-index.invariant.first ∙ c.self.invariant.0,
       ap (λ (t : Taken). t.recent) same ∙ c.self.invariant.1,
+      still_own was c.loop-index.self-inside.pass.told c.self.invariant.2 (told.0, told.1, roused_own g.B.Spot.first c.self.inside.follower told.0 told.2),
       λ lost. subst (λ (n : ℕ). Watches g.B.Spot.first n c.loop-index.self-inside.pass.told c.loop-index.self-inside.follower) (sym c.loop-index.invariant.vnodes) (watches_still g.B.Spot.first c.self.inside.vnodes c.self.inside.pass.told c.loop-index.self-inside.pass.told told.0 c.loop-index.self-inside.follower
-          (subst (λ (t : Taken). Watches g.B.Spot.first c.self.inside.vnodes c.self.inside.pass.told t) (sym same) (c.self.invariant.2 (sym c.loop-index.invariant.lost ∙ lost)))
+          (subst (λ (t : Taken). Watches g.B.Spot.first c.self.inside.vnodes c.self.inside.pass.told t) (sym same) (c.self.invariant.3 (sym c.loop-index.invariant.lost ∙ lost)))
           told.1 (restarts_alone g.B.Spot.first c.self.inside.follower told.0 told.2)),
     )
 

@@ -1,9 +1,11 @@
-use Rattle.std.proofs.Common.{◌≡◌, ◌∙◌, arith, ap, ℕ, ◌<◌, List, [], ◌∷◌, ◌++◌, Some, length, get_or, set, sym, subst}
+use Rattle.std.proofs.Common.{◌≡◌, ◌∙◌, arith, ap, ℕ, ◌<◌, List, [], ◌∷◌, ◌++◌, Some, length, get_or, refl, set, sym, subst, inr}
 use Rattle.journal.specs.Answers.{Answers}
 use Rattle.journal.specs.Journals.{MayFollow}
 use Rattle.journal.specs.Logs.{Log, with_entry}
 use Rattle.world.specs.Represents.{log_at, with_entry_at}
 use Rattle.audit_replay.proofs.Sorting.{same_default}
+use Rattle.std.specs.Prelude.{Err}
+use Rattle.audit_replay.specs.declared.again.Refusal.{Refusal}
 use Rattle.audit_replay.specs.declared.kept.Kept.{Kept}
 use Rattle.audit_replay.specs.Followed.{HasFollowed, IsToKeep}
 use Rattle.audit_replay.specs.Kept.{IsLeft}
@@ -11,8 +13,9 @@ use Rattle.audit_replay.specs.Wrong.{IsNewest, IsToldOf}
 use Rattle.audit_faults.specs.declared.fault.AuditFault.{AuditFault}
 use Rattle.audit_faults.specs.declared.fault.AuditFault.TheVariants.{NoMemory}
 use Rattle.audit_replay.proofs.Going.{followed_more, next_kept}
-use Rattle.audit_replay.proofs.Opening.{passed}
-use Rattle.audit_replay.proofs.Telling.{lacked, newest_more}
+use Rattle.audit_replay.proofs.Opening.{passed, on_any_err}
+use Rattle.audit_replay.proofs.Telling.{illegal_told, lacked, newest_more}
+use Rattle.audit_replay.proofs.Staying.{one_more_at}
 use Rattle.audit_replay.proofs.followed.Followed.step.Goals as goal
 
 pub returns-clause-run : goal.returns-clause-run
@@ -60,3 +63,36 @@ returns-in_err-keep-clause-told c =
     let own = c.args.self.now in
     passed c.from_residual.result NoMemory (λ (fault : AuditFault). IsToldOf own.fronts.items own.vnodes.items own.recent c.args.index c.args.entry fault) c.from_residual.ensures.1
     (lacked own.fronts.items own.vnodes.items own.last own.recent own.answers.items c.args.index c.args.entry c.requires.run c.requires.above c.requires.place)
+
+pub returns-in-Err-Illegal-clause-told : goal.returns-in-Err-Illegal-clause-told
+returns-in-Err-Illegal-clause-told c =
+    let own = c.args.self.now in
+    let logs = own.vnodes.items in
+    let i = c.args.index in
+    let e = c.args.entry in
+    let vnode : c.index_mut.result.now ≡ log_at logs i = c.index_mut.ensures.value ∙ same_default logs i c.index_mut.result.now (record { vnode = 0; entries = [] }) c.requires.inside in
+    illegal_told own.fronts.items logs own.recent i (log_at logs i).vnode (length (log_at logs i).entries) e c.fault_at-illegal.result c.fault_at-illegal.ensures refl refl
+    (λ follows. c.happen.ensures.illegal (subst (λ (r : Refusal). c.happen.result ≡ Err r) c.in-Err-Illegal.field-0-is c.in-Err-Illegal.is) (subst (λ (l : Log). MayFollow l.vnode l.entries e) (sym vnode) follows))
+    (lacked own.fronts.items logs own.last own.recent own.answers.items i e c.requires.run c.requires.above c.requires.place)
+
+pub returns-in-Err-Illegal-clause-stays : goal.returns-in-Err-Illegal-clause-stays
+returns-in-Err-Illegal-clause-stays c =
+    let logs = c.args.self.now.vnodes.items in
+    let i = c.args.index in
+    let vnode : c.index_mut.result.now ≡ log_at logs i = c.index_mut.ensures.value ∙ same_default logs i c.index_mut.result.now (record { vnode = 0; entries = [] }) c.requires.inside in
+    one_more_at logs i c.index_mut.result.now c.happen.new.vnode c.requires.inside vnode c.in-Err-Illegal.ensures.stays
+
+pub returns-in-Err-NoMemory-clause-stays : goal.returns-in-Err-NoMemory-clause-stays
+returns-in-Err-NoMemory-clause-stays c =
+    let logs = c.args.self.now.vnodes.items in
+    let i = c.args.index in
+    let vnode : c.index_mut.result.now ≡ log_at logs i = c.index_mut.ensures.value ∙ same_default logs i c.index_mut.result.now (record { vnode = 0; entries = [] }) c.requires.inside in
+    one_more_at logs i c.index_mut.result.now c.happen.new.vnode c.requires.inside vnode c.in-Err-NoMemory.ensures.stays
+
+pub returns-in_err-keep-clause-stays : goal.returns-in_err-keep-clause-stays
+returns-in_err-keep-clause-stays c =
+    let logs = c.args.self.now.vnodes.items in
+    let i = c.args.index in
+    let e = c.args.entry in
+    let vnode : c.index_mut.result.now ≡ log_at logs i = c.index_mut.ensures.value ∙ same_default logs i c.index_mut.result.now (record { vnode = 0; entries = [] }) c.requires.inside in
+    on_any_err c.from_residual.result _ (one_more_at logs i c.index_mut.result.now c.happen.new.vnode c.requires.inside vnode (inr (e, c.in-Ok.ensures.entry)))

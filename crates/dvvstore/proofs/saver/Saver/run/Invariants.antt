@@ -1,6 +1,6 @@
-use Rattle.dvvstore.specs.Asides.{AllGrow}
+use Rattle.dvvstore.specs.Asides.{AllRead}
 use Rattle.dvvstore.proofs.saver.Saver.run.Given as goal
 
--- what each pass was told only grew
+-- each pass was told more of reads alone
 abbrev pub invariant-loop : goal.invariant-loop
-invariant-loop g l = AllGrow l.initial.spares l.spares
+invariant-loop g l = AllRead l.cluster.first l.initial.spares l.spares

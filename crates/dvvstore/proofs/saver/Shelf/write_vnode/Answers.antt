@@ -1,7 +1,12 @@
-use Rattle.dvvstore.proofs.Growing.{grows_by_calls}
+use Rattle.std.proofs.Common.{◌+◌}
+use Rattle.dvvstore.proofs.Growing.{kept_if_put, reads_by_calls}
 use Rattle.dvvstore.proofs.saver.Shelf.write_vnode.Goals as goal
 
-pub returns : goal.returns
-returns g c =
+pub returns-clause-read : goal.returns-clause-read
+returns-clause-read g c =
     let asked = c.keep_served.ensures.asked in
-    record { grows = grows_by_calls _ (λ p. p.pass) (λ old new call h. c.calls_only_add.ensures old.size old.pass call new.pass h.known) _ _ asked.0 asked.2 }
+    reads_by_calls c.args.index c.args.peers.now c.keep_served.new.peers asked.0 asked.1 asked.2
+
+pub returns-clause-put : goal.returns-clause-put
+returns-clause-put g c =
+    kept_if_put g.F.Folder.does c.args.self.now.folder c.keep_served.new.folder (c.args.self.now.first + c.args.index) c.args.index c.args.peers.now c.keep_served.new.peers c.keep_served.result c.keep_served.ensures.put

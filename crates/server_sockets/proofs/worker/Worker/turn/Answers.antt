@@ -18,6 +18,7 @@ returns g c =
     let stopped = works_then gives copies c.args.self.now c.attend_called.new.self c.stop.new.self from c.attend_called.new.backend c.stop.new.backend called c.stop.ensures in
     let drained = stays_same c.stop.new.self (record c.stop.new.self { sockets = c.end_draining.new.self }) refl c.end_draining.ensures.next in
     let swept = stays_then c.stop.new.self (record c.stop.new.self { sockets = c.end_draining.new.self }) c.give_up_overdue.new.self drained c.give_up_overdue.ensures in
-    let last : Worker = record c.give_up_overdue.new.self { sockets = c.take_lacks.new.self } in
-    let after = stays_then c.stop.new.self c.give_up_overdue.new.self last swept (stays_same c.give_up_overdue.new.self last refl c.take_lacks.ensures.next) in
+    let relieved = stays_then c.stop.new.self c.give_up_overdue.new.self c.relieve.new.self swept c.relieve.ensures in
+    let last : Worker = record c.relieve.new.self { sockets = c.take_lacks.new.self } in
+    let after = stays_then c.stop.new.self c.relieve.new.self last relieved (stays_same c.relieve.new.self last refl c.take_lacks.ensures.next) in
     works_then gives copies c.args.self.now c.stop.new.self last from c.stop.new.backend c.stop.new.backend stopped (works_stays gives copies c.stop.new.self last c.stop.new.backend after)

@@ -1,5 +1,5 @@
 use Rattle.context_token.proofs.Tokens.{text_again, written}
-use Rattle.context_token.proofs.laws.either_version.Goals as goal
+use Rattle.context_token.proofs.laws.any_version.Goals as goal
 
 pub returns-clause-read : goal.returns-clause-read
 returns-clause-read c clock text has is = text_again clock text has is

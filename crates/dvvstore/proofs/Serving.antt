@@ -1,0 +1,107 @@
+-- What the workers of a store that is left were told.
+use Rattle.std.proofs.Common.{◌≡◌, ◌∙◌, ◌++◌, ℕ, List, Option, Result, Ok, Err, IfOk, Some, [], ◌∷◌, ap, map, refl, reverse, subst, sym, vec_len}
+use Rattle.std.specs.List.{All}
+use Rattle.std.specs.Option.{option_map}
+use Rattle.std.proofs.lemmas.List.{map-append, reverse-append}
+use Rattle.std.proofs.lemmas.List.Elements.{All-cons, All-head, All-nil, All-tail}
+use Rattle.std.proofs.lemmas.Simd.{map-map}
+use Rattle.bpf_helpers.specs.declared.sig.Entry.{Entry}
+use Rattle.bpf_image.specs.declared.image.ImageKind.{ImageKind}
+use Rattle.bpf_verifier.specs.Program.{Program}
+use Rattle.hook_registry.specs.Changes.{Change}
+use Rattle.hook_registry.specs.declared.fault.HookFault.{HookFault}
+use Rattle.hook_registry.specs.declared.fault.NameFault.{NameFault}
+use Rattle.hook_registry.specs.declared.fault.NotSeen.{NotSeen}
+use Rattle.ring.specs.Places.{PlacementView}
+use Rattle.cluster_stamps.specs.declared.view.Size.{Size}
+use Rattle.server_one_thread.specs.Passes.{Passing}
+use Rattle.server_store.specs.View.{StoreView}
+use Rattle.kept_restore.specs.declared.beginning.Passes.{Passes}
+use Rattle.dvvstore.proofs.VisitLemmas.{visits_gathered}
+use Rattle.dvvstore.specs.Asides.{AreGathered}
+use Rattle.dvvstore.specs.Crews.{by_digest}
+use Rattle.dvvstore.specs.Keeping.{HasServed, LeavesServed, left_as}
+use Rattle.dvvstore.specs.Visits.{AfterVisits, AreOfTables, AreStarts, IsLastHooked, IsOver}
+use Rattle.dvvstore.specs.declared.crew.running.Served.{Served}
+use Rattle.dvvstore.specs.declared.keeper.Unbegun.{Unbegun}
+use Rattle.dvvstore.specs.declared.session.Left.{Left}
+use Rattle.dvvstore.specs.declared.session.Left.TheVariants.{Kept, Lost}
+
+-- the last of some stores has other hooks
+last_hooked : {H : Type 0} → (rest : List (StoreView Passing H)) (old : StoreView Passing H) (hooks : H) → IsLastHooked (rest ++ old ∷ []) (rest ++ record old { hooks = hooks } ∷ [])
+last_hooked [] old hooks = (hooks, refl)
+last_hooked (x ∷ []) old hooks = (_, refl, last_hooked [] old hooks)
+last_hooked (x ∷ y ∷ rest) old hooks = (_, refl, last_hooked (y ∷ rest) old hooks)
+
+pub last_changed : {H S : Type 0} → (of : S → StoreView Passing H) (before after rest : List S) (old new : S) (hooks : H)
+    → before ≡ rest ++ old ∷ [] → after ≡ rest ++ new ∷ [] → of new ≡ record (of old) { hooks = hooks } → IsLastHooked (map of before) (map of after)
+last_changed of before after rest old new hooks was is last =
+    let old_starts : map of before ≡ map of rest ++ of old ∷ [] = ap (map of) was ∙ map-append of rest (old ∷ []) in
+    let new_starts : map of after ≡ map of rest ++ record (of old) { hooks = hooks } ∷ [] =
+    ap (map of) is ∙ (map-append of rest (new ∷ []) ∙ ap (λ v. map of rest ++ v ∷ []) last) in
+    subst (λ xs. IsLastHooked xs (map of after)) (sym old_starts) (subst (IsLastHooked (map of rest ++ of old ∷ [])) (sym new_starts) (last_hooked (map of rest) (of old) hooks))
+
+-- where requests were held, the last of some stores has other hooks
+pub starts_where : {H T : Type 0} → (of : T → List ℕ) (given : Option T) (held : T) (starts now : List (StoreView Passing H)) → given ≡ Some held → IsLastHooked starts now → AreStarts (option_map of given) starts now
+starts_where {H} {T} of given held starts now is so = subst (λ (g : Option T). AreStarts (option_map of g) starts now) (sym is) so
+
+-- the same, said of what a folder held
+pub starts_as : {H : Type 0} → (held other : Option (List ℕ)) (starts now : List (StoreView Passing H)) → held ≡ other → AreStarts held starts now → AreStarts other starts now
+starts_as held other starts now is are = subst (λ (h : Option (List ℕ)). AreStarts h starts now) is are
+
+module _ {H : Type 0} (finds : H → List ℕ → ImageKind → Result (Option Program) NotSeen → H → Type 0)
+    (names : H → List ℕ → ImageKind → Result (Option (List ℕ)) NameFault → H → Type 0) (takes : H → Change → Result Unit HookFault → H → Type 0) where
+  -- where vnodes are left, they are left so
+  pub served_so : {E : Type 0} → (Begins : List (StoreView Passing H) → Type 0) (served : Result Served E) → IfOk served (HasServed finds names takes Begins) → LeavesServed finds names takes Begins (left_as served)
+  served_so Begins (Ok served) so = so
+  served_so Begins (Err why) so = tt
+
+  -- what a crew leaves
+  pub served_from : {E B : Type 0} → (held : Option (List ℕ)) (starts now : List (StoreView Passing H)) (id vnodes : ℕ) (spares : Passes B) (served : Result Served E) → AreStarts held starts now → vnodes ≡ 3
+      → IfOk served (λ s. AfterVisits finds names takes now (λ told. AreGathered id told spares s.closed.vnodes.items) × (vec_len s.closed.vnodes ≡ vnodes))
+      → IfOk served (HasServed finds names takes (AreStarts held starts))
+  served_from held starts now id vnodes spares (Ok s) are three (kept, many) = (now, are, visits_gathered finds names takes now id spares s.closed.vnodes.items kept, many ∙ three)
+  served_from held starts now id vnodes spares (Err why) are three so = so
+
+  -- the same of stores of which more is known
+  pub served_as : (Begins Are : List (StoreView Passing H) → Type 0) (left : Result Left Unbegun) → ((starts : List (StoreView Passing H)) → Begins starts → Are starts)
+      → LeavesServed finds names takes Begins left → LeavesServed finds names takes Are left
+  served_as Begins Are (Ok (Kept served)) f (starts, begins, visits, many) = (starts, f starts begins, visits, many)
+  served_as Begins Are (Ok Lost) f so = so
+  served_as Begins Are (Err why) f so = so
+
+-- ---- which stores these are
+
+-- each seat begins with a store over these vnodes, which has the helpers of its table
+seats_over : {H S : Type 0} → (size : Size) (of : S → StoreView Passing H) (helpers : S → List Entry) (place : S → PlacementView) → ((s : S) → (of s).listed ≡ helpers s)
+    → ((s : S) → (of s).peers.size ≡ size) → ((s : S) → (of s).placement ≡ place s) → (seats : List S) → All (λ (p : PlacementView). p ≡ by_digest) (map place seats)
+    → (map (λ (v : StoreView Passing H). v.listed) (map of seats) ≡ map helpers seats) × All (IsOver size) (map of seats)
+seats_over size of helpers place listed sizes places [] placed = (refl, All-nil (IsOver size))
+seats_over size of helpers place listed sizes places (s ∷ seats) placed =
+    let rest = seats_over size of helpers place listed sizes places seats (All-tail (λ (p : PlacementView). p ≡ by_digest) (place s) (map place seats) placed) in (
+      ap (λ (l : List Entry). l ∷ map (λ (v : StoreView Passing _). v.listed) (map of seats)) (listed s) ∙ ap (λ (ls : List (List Entry)). helpers s ∷ ls) rest.0,
+      All-cons (IsOver size) (of s) (map of seats) (sizes s, places s ∙ All-head (λ (p : PlacementView). p ≡ by_digest) (place s) (map place seats) placed) rest.1,
+    )
+
+-- tables that were handed out from the last on
+reversed : {A B : Type 0} (f : A → B) (xs : List A) → map f (reverse xs) ≡ reverse (map f xs)
+reversed f [] = refl
+reversed f (x ∷ xs) = ap (map f) (reverse-push x xs) ∙ (map-append f (reverse xs) (x ∷ []) ∙ (ap (λ l. l ++ f x ∷ []) (reversed f xs) ∙ sym (reverse-push (f x) (map f xs))))
+  where
+    reverse-push : {C : Type 0} (y : C) (ys : List C) → reverse (y ∷ ys) ≡ reverse ys ++ y ∷ []
+    reverse-push y ys = reverse-append (y ∷ []) ys
+
+pub seats_begin : {H S T : Type 0} → (size : Size) (of : S → StoreView Passing H) (table : S → T) (listed : T → List Entry) (place : S → PlacementView) → ((s : S) → (of s).listed ≡ listed (table s))
+    → ((s : S) → (of s).peers.size ≡ size) → ((s : S) → (of s).placement ≡ place s) → (seats : List S) (tables : List T) → map table seats ≡ reverse tables
+    → All (λ (p : PlacementView). p ≡ by_digest) (map place seats) → AreOfTables size (map listed tables) (map of seats)
+seats_begin size of table listed place helpers sizes places seats tables handed placed =
+    let over = seats_over size of (λ s. listed (table s)) place helpers sizes places seats placed in
+    (over.0 ∙ (sym (map-map listed table seats) ∙ (ap (map listed) handed ∙ reversed listed tables)), over.1)
+
+-- how many vnodes and passes there are
+pub size_as : (size : Size) (first vnodes passes : ℕ) → size.first ≡ first → size.vnodes ≡ vnodes → size.passes ≡ passes → size ≡ record { first = first; vnodes = vnodes; passes = passes }
+size_as size first vnodes passes a b c =
+    ap (λ (n : ℕ). size_of n size.vnodes size.passes) a ∙ (ap (λ (n : ℕ). size_of first n size.passes) b ∙ ap (λ (n : ℕ). size_of first vnodes n) c)
+  where
+    size_of : ℕ → ℕ → ℕ → Size
+    size_of x y z = record { first = x; vnodes = y; passes = z }

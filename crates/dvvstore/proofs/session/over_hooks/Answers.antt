@@ -1,0 +1,18 @@
+use Rattle.std.proofs.Common.{map, refl}
+use Rattle.hook_readers.specs.Edits.{Finds, Names}
+use Rattle.hook_sharing.specs.Taking.{Takes}
+use Rattle.dvvstore.specs.Keeping.{hooks_for}
+use Rattle.dvvstore.specs.Visits.{AreStarts, BeginOver, begun}
+use Rattle.dvvstore.proofs.Serving.{seats_begin, served_as}
+use Rattle.dvvstore.proofs.session.over_hooks.Goals as goal
+
+pub returns-clause-served : goal.returns-clause-served
+returns-clause-served g c =
+    let size = c.args.parts.vnodes.cluster in
+    let tables = c.args.parts.tables.items in
+    let seats = c.in_ok-seats.seats.items in
+    let held = hooks_for c.args.stay.folder c.args.stay.held.hooks.items in
+    let starts = map (λ s. begun size s.pass s.hooking.hooks s.hooking.table.listed s.placement) seats in
+    let over = seats_begin size (λ s. begun size s.pass s.hooking.hooks s.hooking.table.listed s.placement) (λ s. s.hooking.table) (λ t. t.listed) (λ s. s.placement) (λ s. refl) (λ s. refl) (λ s. refl)
+    seats tables c.in_ok-seats.ensures.tables c.in_ok-seats.ensures.placed in
+    served_as Finds Names Takes (AreStarts held starts) (BeginOver size (map (λ t. t.listed) tables) held) c.live.result (λ now are. (starts, over, are)) c.live.ensures.served
