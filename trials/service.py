@@ -183,9 +183,10 @@ class Life:
         time.sleep(self.chance.uniform(LEAST_LIFE_SECONDS, MOST_LIFE_SECONDS))
 
     def check_end(self, server: Server, what: str, status: int = 0) -> None:
-        """Whether it ends as one that was told to stop."""
+        """Whether it ends as one that was told to stop. It begins a snapshot then, of which it tells where that is whole first."""
         end = server.end(END_SECONDS)
-        is_kept = end is not None and [line.split()[0] for line in end.printed] == ["kept", "audit"] and not end.told
+        is_kept = end is not None and [line.split()[0] for line in end.printed] == ["kept", "audit"]
+        is_kept = is_kept and all(line.startswith("snapshot ") for line in end.told)
         self.found.hold(is_kept and end.status == status and end.printed[-1] == "audit ok", f"{what}: {end}")
         left = {path.name for path in self.folder.iterdir()}
         self.found.hold(left <= FILES, f"{what}: the folder holds {sorted(left - FILES)}")
