@@ -1,6 +1,7 @@
 -- A list of requests comes to what the changes came to that made it.
 use Rattle.std.proofs.Common.{◌≡◌, ◌≢◌, ℕ, Bool, true, false, not, cond, ◌&&◌, ◌||◌, List, [], ◌∷◌, ◌++◌, Option, Some, None, refl, sym, ap, ◌∙◌, subst, is_some}
 use Rattle.std.specs.List.{fold, filter, list_all}
+use Rattle.std.specs.Option.{option_map}
 use Rattle.std.proofs.lemmas.Cmp.{eq_by_cmp_equiv, nat_list_cmp_total}
 use Rattle.std.proofs.lemmas.List.Sums.{fold-append}
 use Rattle.std.proofs.lemmas.List.Folds.{list_all-append}
@@ -17,7 +18,7 @@ use Rattle.hook_registry.proofs.Named.{one_name}
 use Rattle.http_request.specs.declared.ask.Change.{Change}
 use Rattle.http_request.specs.declared.ask.Change.TheVariants.{Kept, Unbound, Bound}
 use Rattle.server_store.specs.Changes.{binding_of, bindings_of}
-use Rattle.kept_hooks.specs.Lists.{is_for, is_phase, names, takes, binds, passes, never, without, untaken, unbound, installed, removed, rebound, bound}
+use Rattle.kept_hooks.specs.Lists.{is_for, is_phase, names, takes, binds, passes, never, without, untaken, unbound, renews, settled, image_after, bound_after, with_image, freed, freed_if, installed, removed, replaced, rebound, bound}
 use Rattle.kept_hooks.specs.Standing.{kind_of, TellsPhases, change_of, changes_of, IsLegal, AreLegal, Stands}
 
 -- ---- names
@@ -281,6 +282,130 @@ module _ (program : List ℕ → Program) where
   stays_at name other p rs e =
       stays program (program_after other) (λ r. not (names name r)) p (λ r h. subst (λ o. program_after o p (change_of program r) ≡ p) (one_name name other e) (own_program program name p r h)) rs
 
+  -- ---- images on which nothing rests
+
+  -- where another image comes next, or nothing that rests on what there is
+  step_or : {A : Type 0} (b r : Bool) (f : Option Program → A) (x p q : Option Program) → (r ≡ true → f p ≡ f q) → (b || r) ≡ true → f (cond b x p) ≡ f (cond b x q)
+  step_or true r f x p q rest h = refl
+  step_or false r f x p q rest h = rest h
+
+  step_not : {A : Type 0} (b r : Bool) (f : Option Program → A) (x p q : Option Program) → (r ≡ true → f p ≡ f q) → (not b && r) ≡ true → f (cond b x p) ≡ f (cond b x q)
+  step_not true r f x p q rest h = absurd (sym h)
+  step_not false r f x p q rest h = rest h
+
+  rests_not : (b r : Bool) → (not b && r) ≡ true → r ≡ true
+  rests_not true r h = absurd (sym h)
+  rests_not false r h = h
+
+  keeps_or : {A : Type 0} (b r : Bool) (x p q : A) → ((b || r) ≡ false → p ≡ q) → r ≡ false → cond b x p ≡ cond b x q
+  keeps_or true r x p q h e = refl
+  keeps_or false r x p q h e = h e
+
+  keeps_not : {A : Type 0} (b r : Bool) (p q : A) → ((not b && r) ≡ false → p ≡ q) → r ≡ false → p ≡ q
+  keeps_not true r p q h e = h refl
+  keeps_not false r p q h e = h e
+
+  module _ (name : List ℕ) where
+    -- whatever a name had before
+    renews_any : (rs : List Request) (p q : Option Program) → renews name rs ≡ true → fold (program_after name) p (changes_of program rs) ≡ fold (program_after name) q (changes_of program rs)
+    renews_any [] p q h = absurd (sym h)
+    renews_any (Install it image ∷ rs) p q h = step_or (is_name it name) (renews name rs) (λ o. fold (program_after name) o (changes_of program rs)) (Some (program image)) p q (λ e. renews_any rs p q e) h
+    renews_any (Remove it ∷ rs) p q h = step_not (is_name it name) (renews name rs) (λ o. fold (program_after name) o (changes_of program rs)) None p q (λ e. renews_any rs p q e) h
+    renews_any (Bind bucket phase it ∷ rs) p q h = renews_any rs p q (rests_not (is_name it name) (renews name rs) h)
+
+    gives_up : (other it image : List ℕ) (rs : List Request) (p : Option Program) → is_name it name ≡ true → renews name rs ≡ true
+        → fold (program_after other) p (changes_of program rs) ≡ fold (program_after other) (cond (is_name it other) (Some (program image)) p) (changes_of program rs)
+    gives_up other it image rs p same new = by (is_name it other) refl
+      where
+        by : (b : Bool) → is_name it other ≡ b → fold (program_after other) p (changes_of program rs) ≡ fold (program_after other) (cond b (Some (program image)) p) (changes_of program rs)
+        by true e =
+            subst (λ (o : List ℕ). fold (program_after o) p (changes_of program rs) ≡ fold (program_after o) (Some (program image)) (changes_of program rs)) (sym (one_name it name same) ∙ one_name it other e)
+            (renews_any rs p (Some (program image)) new)
+        by false e = refl
+
+    settled_step : (other it image : List ℕ) (rs : List Request) (p : Option Program) → ((o : Option Program) → fold (program_after other) o (changes_of program (settled name rs)) ≡ fold (program_after other) o (changes_of program rs)) → (b r : Bool)
+        → is_name it name ≡ b → renews name rs ≡ r
+        → fold (program_after other) p (changes_of program (cond (b && r) (settled name rs) (Install it image ∷ settled name rs))) ≡ fold (program_after other) (cond (is_name it other) (Some (program image)) p) (changes_of program rs)
+    settled_step other it image rs p rest true true same new = rest p ∙ gives_up other it image rs p same new
+    settled_step other it image rs p rest true false same new = rest (cond (is_name it other) (Some (program image)) p)
+    settled_step other it image rs p rest false r same new = rest (cond (is_name it other) (Some (program image)) p)
+
+    settled_program : (other : List ℕ) (rs : List Request) (p : Option Program) → fold (program_after other) p (changes_of program (settled name rs)) ≡ fold (program_after other) p (changes_of program rs)
+    settled_program other [] p = refl
+    settled_program other (Install it image ∷ rs) p = settled_step other it image rs p (λ o. settled_program other rs o) (is_name it name) (renews name rs) refl refl
+    settled_program other (Remove it ∷ rs) p = settled_program other rs (cond (is_name it other) None p)
+    settled_program other (Bind bucket phase it ∷ rs) p = settled_program other rs p
+
+    settled_name_step : (bucket : List ℕ) (kind : ImageKind) (it image : List ℕ) (rs : List Request) (n : Option (List ℕ)) → fold (name_after bucket kind) n (changes_of program (settled name rs)) ≡ fold (name_after bucket kind) n (changes_of program rs) → (b : Bool)
+        → fold (name_after bucket kind) n (changes_of program (cond b (settled name rs) (Install it image ∷ settled name rs))) ≡ fold (name_after bucket kind) n (changes_of program rs)
+    settled_name_step bucket kind it image rs n rest true = rest
+    settled_name_step bucket kind it image rs n rest false = rest
+
+    settled_name : (bucket : List ℕ) (kind : ImageKind) (rs : List Request) (n : Option (List ℕ)) → fold (name_after bucket kind) n (changes_of program (settled name rs)) ≡ fold (name_after bucket kind) n (changes_of program rs)
+    settled_name bucket kind [] n = refl
+    settled_name bucket kind (Install it image ∷ rs) n = settled_name_step bucket kind it image rs n (settled_name bucket kind rs n) (is_name it name && renews name rs)
+    settled_name bucket kind (Remove it ∷ rs) n = settled_name bucket kind rs n
+    settled_name bucket kind (Bind other phase it ∷ rs) n = settled_name bucket kind rs (name_after bucket kind n (change_of program (Bind other phase it)))
+
+    -- all names but one have the same program, and so has that one, unless it gets another next
+    abbrev AllBut : (List ℕ → Option Program) → (List ℕ → Option Program) → Type 0
+    AllBut before after = (other : List ℕ) → is_name name other ≡ false → after other ≡ before other
+
+    drop_if : (after : List ℕ → Option Program) (it image : List ℕ) (rs : List Request) (b r : Bool) → (b ≡ true → r ≡ true → AreLegal program after (settled name rs)) → AreLegal program after (Install it image ∷ settled name rs)
+        → AreLegal program after (cond (b && r) (settled name rs) (Install it image ∷ settled name rs))
+    drop_if after it image rs true true gone here = gone refl refl
+    drop_if after it image rs true false gone here = here
+    drop_if after it image rs false r gone here = here
+
+    same_at : (before after : List ℕ → Option Program) → AllBut before after → (it : List ℕ) (r : Bool) → ((not (is_name it name) && r) ≡ false → after name ≡ before name) → after it ≡ before it
+    same_at before after others it r h = by (is_name it name) refl
+      where
+        by : (b : Bool) → is_name it name ≡ b → after it ≡ before it
+        by true e = subst (λ (x : List ℕ). after x ≡ before x) (sym (one_name it name e)) (h (ap (λ b. not b && r) e))
+        by false e = others it (apart_too it name e)
+
+    settled_legal : (before after : List ℕ → Option Program) → AllBut before after → (rs : List Request) → (renews name rs ≡ false → after name ≡ before name) → AreLegal program before rs → AreLegal program after (settled name rs)
+    settled_legal before after others [] h all = tt
+    settled_legal before after others (Install it image ∷ rs) h all =
+        drop_if after it image rs (is_name it name) (renews name rs)
+        (λ same new. settled_legal (λ x. cond (is_name it x) (Some (program image)) (before x)) after (others_said program name never it (Some (program image)) before after same others) rs (λ e. absurd (sym new ∙ e)) all.1) (
+          tt,
+          settled_legal (λ x. cond (is_name it x) (Some (program image)) (before x)) (λ x. cond (is_name it x) (Some (program image)) (after x)) (others_both program name never it (Some (program image)) before after others) rs
+              (keeps_or (is_name it name) (renews name rs) (Some (program image)) (after name) (before name) h) all.1,
+        )
+    settled_legal before after others (Remove it ∷ rs) h all = (
+      ap is_some (same_at before after others it (renews name rs) h) ∙ all.0,
+      settled_legal (λ x. cond (is_name it x) None (before x)) (λ x. cond (is_name it x) None (after x)) (others_both program name never it None before after others) rs
+          (λ e. ap (cond (is_name it name) None) (keeps_not (is_name it name) (renews name rs) (after name) (before name) h e)) all.1,
+    )
+    settled_legal before after others (Bind bucket phase it ∷ rs) h all = (
+      ap (λ p. is_some (of_kind (kind_of phase) p)) (same_at before after others it (renews name rs) h) ∙ all.0,
+      settled_legal before after others rs (keeps_not (is_name it name) (renews name rs) (after name) (before name) h) all.1,
+    )
+
+    settled_stands : (made : List registry.Change) (rs : List Request) → Stands program made rs → Stands program made (settled name rs)
+    settled_stands made rs stands = record {
+      programs = λ other. settled_program other rs None ∙ stands.programs other;
+      names = λ bucket kind. settled_name bucket kind rs None ∙ stands.names bucket kind;
+      legal = settled_legal none none (λ other differ. refl) rs (λ e. refl) stands.legal;
+    }
+
+  -- ---- the image that a name has in the end
+
+  some_if : (b : Bool) (image : List ℕ) (i : Option (List ℕ)) → cond b (Some (program image)) (option_map program i) ≡ option_map program (cond b (Some image) i)
+  some_if true image i = refl
+  some_if false image i = refl
+
+  none_if : (b : Bool) (i : Option (List ℕ)) → cond b None (option_map program i) ≡ option_map program (cond b None i)
+  none_if true i = refl
+  none_if false i = refl
+
+  image_program : (name : List ℕ) (rs : List Request) (i : Option (List ℕ)) → fold (program_after name) (option_map program i) (changes_of program rs) ≡ option_map program (fold (image_after name) i rs)
+  image_program name [] i = refl
+  image_program name (Install it image ∷ rs) i = ap (λ o. fold (program_after name) o (changes_of program rs)) (some_if (is_name it name) image i) ∙ image_program name rs (cond (is_name it name) (Some image) i)
+  image_program name (Remove it ∷ rs) i = ap (λ o. fold (program_after name) o (changes_of program rs)) (none_if (is_name it name) i) ∙ image_program name rs (cond (is_name it name) None i)
+  image_program name (Bind bucket phase it ∷ rs) i = image_program name rs i
+
   module _ (made : List registry.Change) (rs : List Request) (stands : Stands program made rs) where
     program_made : (name : List ℕ) (change : registry.Change) → program_at (made ++ change ∷ []) name ≡ program_after name (program_at made name) change
     program_made name change = fold-append (program_after name) None made (change ∷ [])
@@ -353,14 +478,46 @@ module _ (program : List ℕ → Program) where
         legal : AreLegal program none (without name rs)
         legal = legal_without program name never none none (λ other differ. refl) (λ phase h. absurd (sym h)) rs pass stands.legal
 
+    -- a name that nothing binds, of which its image is left
+    freed_stands : (name : List ℕ) → Stands program made (freed name rs)
+    freed_stands name = by (list_all (passes name never) rs) refl (fold (image_after name) None rs) refl
+      where
+        own : (i : Option (List ℕ)) → fold (image_after name) None rs ≡ i → (other : List ℕ) → is_name name other ≡ true → option_map program i ≡ program_at made other
+        own i is other e =
+            sym (ap (option_map program) is) ∙ sym (image_program name rs None) ∙ ap (λ (o : List ℕ). fold (program_after o) None (changes_of program rs)) (one_name name other e) ∙ stands.programs other
+
+        legal : list_all (passes name never) rs ≡ true → AreLegal program none (without name rs)
+        legal pass = legal_without program name never none none (λ other differ. refl) (λ phase h. absurd (sym h)) rs pass stands.legal
+
+        gone : fold (image_after name) None rs ≡ None → (other : List ℕ) (b : Bool) → is_name name other ≡ b → program_at (changes_of program (without name rs)) other ≡ program_at made other
+        gone is other true e = stays_at name other None rs e ∙ own None is other e
+        gone is other false e = program_left name other e
+
+        held : (image : List ℕ) → fold (image_after name) None rs ≡ Some image → (other : List ℕ) (b : Bool) → is_name name other ≡ b → cond b (Some (program image)) (program_at (changes_of program (without name rs)) other) ≡ program_at made other
+        held image is other true e = own (Some image) is other e
+        held image is other false e = program_left name other e
+
+        by : (b : Bool) → list_all (passes name never) rs ≡ b → (i : Option (List ℕ)) → fold (image_after name) None rs ≡ i → Stands program made (cond b (with_image name i (without name rs)) rs)
+        by false pass i is = stands
+        by true pass None is = record { programs = λ other. gone is other (is_name name other) refl; names = λ bucket kind. names_left name bucket kind; legal = legal pass }
+        by true pass (Some image) is = record {
+          programs = λ other. fold_more (program_after other) None (without name rs) (Install name image) ∙ held image is other (is_name name other) refl;
+          names = λ bucket kind. fold_more (name_after bucket kind) None (without name rs) (Install name image) ∙ names_left name bucket kind;
+          legal = legal_more program none (without name rs) (Install name image) (legal pass) tt;
+        }
+
+    freed_if_stands : (name : Option (List ℕ)) → Stands program made (freed_if name rs)
+    freed_if_stands None = stands
+    freed_if_stands (Some name) = freed_stands name
+
     pub installed_stands : TellsPhases program → (name image : List ℕ) → Stands program (made ++ registry.Install name (program image) ∷ []) (installed name image rs)
     installed_stands tells name image = by (list_all (passes name never) rs) refl (list_all (passes name (is_for image)) rs) refl
       where
         by : (b : Bool) → list_all (passes name never) rs ≡ b → (c : Bool) → list_all (passes name (is_for image)) rs ≡ c
-            → Stands program (made ++ registry.Install name (program image) ∷ []) (cond b (without name rs ++ Install name image ∷ []) (cond c (Install name image ∷ without name rs) (untaken name rs ++ Install name image ∷ [])))
+            → Stands program (made ++ registry.Install name (program image) ∷ []) (cond b (without name rs ++ Install name image ∷ []) (cond c (Install name image ∷ without name rs) (settled name (untaken name rs ++ Install name image ∷ []))))
         by true free c pass = free_stands name image free
         by false bound true pass = first_stands tells name image pass
-        by false bound false pass = last_stands name image
+        by false bound false pass = settled_stands name (made ++ registry.Install name (program image) ∷ []) (untaken name rs ++ Install name image ∷ []) (last_stands name image)
 
     -- a name that nothing binds
     gone_stands : (name : List ℕ) → list_all (passes name never) rs ≡ true → Stands program (made ++ registry.Remove name ∷ []) (without name rs)
@@ -392,17 +549,17 @@ module _ (program : List ℕ → Program) where
   -- ---- what is bound
 
   module _ (bucket : List ℕ) (phase : Phase) (rs : List Request) where
-    rebound_program : (change : Change) (name : List ℕ) → program_at (changes_of program (rebound bucket phase change rs)) name ≡ program_at (changes_of program rs) name
-    rebound_program Kept name = refl
-    rebound_program Unbound name = idle program (program_after name) (λ r. not (binds bucket phase r)) (binds_apart program bucket name phase) None rs
-    rebound_program (Bound to) name = fold_more (program_after name) None (unbound bucket phase rs) (Bind bucket phase to) ∙ idle program (program_after name) (λ r. not (binds bucket phase r)) (binds_apart program bucket name phase) None rs
+    replaced_program : (change : Change) (name : List ℕ) → program_at (changes_of program (replaced bucket phase change rs)) name ≡ program_at (changes_of program rs) name
+    replaced_program Kept name = refl
+    replaced_program Unbound name = idle program (program_after name) (λ r. not (binds bucket phase r)) (binds_apart program bucket name phase) None rs
+    replaced_program (Bound to) name = fold_more (program_after name) None (unbound bucket phase rs) (Bind bucket phase to) ∙ idle program (program_after name) (λ r. not (binds bucket phase r)) (binds_apart program bucket name phase) None rs
 
-    rebound_legal : (change : Change) → AreLegal program none rs → are_fitting (program_at (changes_of program rs)) (binding_of (kind_of phase) change) ≡ true → AreLegal program none (rebound bucket phase change rs)
-    rebound_legal Kept all fit = all
-    rebound_legal Unbound all fit = legal_unbound program bucket phase none rs all
-    rebound_legal (Bound to) all fit =
+    replaced_legal : (change : Change) → AreLegal program none rs → are_fitting (program_at (changes_of program rs)) (binding_of (kind_of phase) change) ≡ true → AreLegal program none (replaced bucket phase change rs)
+    replaced_legal Kept all fit = all
+    replaced_legal Unbound all fit = legal_unbound program bucket phase none rs all
+    replaced_legal (Bound to) all fit =
         legal_more program none (unbound bucket phase rs) (Bind bucket phase to) (legal_unbound program bucket phase none rs all)
-        (ap (λ p. is_some (of_kind (kind_of phase) p)) (rebound_program Unbound to) ∙ (both (is_some (of_kind (kind_of phase) (program_at (changes_of program rs) to))) true fit).0)
+        (ap (λ p. is_some (of_kind (kind_of phase) p)) (replaced_program Unbound to) ∙ (both (is_some (of_kind (kind_of phase) (program_at (changes_of program rs) to))) true fit).0)
 
     module _ (at : List ℕ) (kind : ImageKind) where
       -- a bucket and a kind that are others
@@ -444,11 +601,11 @@ module _ (program : List ℕ → Program) where
           by true e false f = idle program (name_after at kind) (λ r. not (binds bucket phase r)) (other_kind f) None rs
           by true e true f = stays program (name_after at kind) (λ r. not (binds bucket phase r)) None (left_apart e f) rs
 
-      rebound_name : (change : Change) → bound_at (changes_of program (rebound bucket phase change rs)) at kind
+      replaced_name : (change : Change) → bound_at (changes_of program (replaced bucket phase change rs)) at kind
           ≡ cond (is_name bucket at) (fold (binding_after kind) (bound_at (changes_of program rs) at kind) (binding_of (kind_of phase) change)) (bound_at (changes_of program rs) at kind)
-      rebound_name Kept = sym (cond_same (is_name bucket at) (bound_at (changes_of program rs) at kind))
-      rebound_name Unbound = unbound_name
-      rebound_name (Bound to) =
+      replaced_name Kept = sym (cond_same (is_name bucket at) (bound_at (changes_of program rs) at kind))
+      replaced_name Unbound = unbound_name
+      replaced_name (Bound to) =
           fold_more (name_after at kind) None (unbound bucket phase rs) (Bind bucket phase to) ∙ ap (λ n. cond (is_name bucket at) (cond (is_kind (kind_of phase) kind) (Some to) n) n) unbound_name
           ∙ by (is_name bucket at) (is_kind (kind_of phase) kind) (bound_at (changes_of program rs) at kind)
         where
@@ -457,21 +614,51 @@ module _ (program : List ℕ → Program) where
           by true false n = refl
           by false t n = refl
 
+  -- what is bound in a phase alone changes
+  replaced_stands : (made : List registry.Change) (rs : List Request) → Stands program made rs → (bucket : List ℕ) (phase : Phase) (change : Change) → are_fitting (program_at made) (binding_of (kind_of phase) change) ≡ true
+      → Stands program (made ++ registry.Bind bucket (binding_of (kind_of phase) change) ∷ []) (replaced bucket phase change rs)
+  replaced_stands made rs stands bucket phase change fit = record {
+    programs = λ name. replaced_program bucket phase rs change name ∙ stands.programs name ∙ sym (program_made made rs stands name (registry.Bind bucket (binding_of (kind_of phase) change)));
+    names = λ at kind.
+        replaced_name bucket phase rs at kind change ∙ ap (λ n. cond (is_name bucket at) (fold (binding_after kind) n (binding_of (kind_of phase) change)) n) (stands.names at kind)
+        ∙ sym (name_made made rs stands at kind (registry.Bind bucket (binding_of (kind_of phase) change)));
+    legal = replaced_legal bucket phase rs change stands.legal (fitting_as (program_at made) (program_at (changes_of program rs)) (λ name. sym (stands.programs name)) (binding_of (kind_of phase) change) fit);
+  }
+
+  rebound_stands : (made : List registry.Change) (rs : List Request) → Stands program made rs → (bucket : List ℕ) (phase : Phase) (change : Change) → are_fitting (program_at made) (binding_of (kind_of phase) change) ≡ true
+      → Stands program (made ++ registry.Bind bucket (binding_of (kind_of phase) change) ∷ []) (rebound bucket phase change rs)
+  rebound_stands made rs stands bucket phase Kept fit = replaced_stands made rs stands bucket phase Kept fit
+  rebound_stands made rs stands bucket phase Unbound fit =
+      freed_if_stands (made ++ registry.Bind bucket (binding_of (kind_of phase) Unbound) ∷ []) (replaced bucket phase Unbound rs) (replaced_stands made rs stands bucket phase Unbound fit) (fold (bound_after bucket phase) None rs)
+  rebound_stands made rs stands bucket phase (Bound to) fit =
+      freed_if_stands (made ++ registry.Bind bucket (binding_of (kind_of phase) (Bound to)) ∷ []) (replaced bucket phase (Bound to) rs) (replaced_stands made rs stands bucket phase (Bound to) fit) (fold (bound_after bucket phase) None rs)
+
   pub bound_stands : (made : List registry.Change) (rs : List Request) → Stands program made rs → (bucket : List ℕ) (precommit resolver : Change) → are_fitting (program_at made) (bindings_of precommit resolver) ≡ true
       → Stands program (made ++ registry.Bind bucket (bindings_of precommit resolver) ∷ []) (bound bucket precommit resolver rs)
-  bound_stands made rs stands bucket precommit resolver fit = record { programs = programs; names = bound_names; legal = legal }
+  bound_stands made rs stands bucket precommit resolver fit = record { programs = programs; names = bound_names; legal = both_stand.legal }
     where
-      first : List Request
-      first = rebound bucket PreCommit precommit rs
+      first : registry.Change
+      first = registry.Bind bucket (binding_of of.PreCommit precommit)
+
+      second : registry.Change
+      second = registry.Bind bucket (binding_of of.Resolver resolver)
 
       fits : (are_fitting (program_at made) (binding_of of.PreCommit precommit) ≡ true) × (are_fitting (program_at made) (binding_of of.Resolver resolver) ≡ true)
       fits =
           both (are_fitting (program_at made) (binding_of of.PreCommit precommit)) (are_fitting (program_at made) (binding_of of.Resolver resolver))
           (sym (list_all-append (is_fitting (program_at made)) (binding_of of.PreCommit precommit) (binding_of of.Resolver resolver)) ∙ fit)
 
+      first_stands_so : Stands program (made ++ first ∷ []) (rebound bucket PreCommit precommit rs)
+      first_stands_so = rebound_stands made rs stands bucket PreCommit precommit fits.0
+
+      both_stand : Stands program ((made ++ first ∷ []) ++ second ∷ []) (bound bucket precommit resolver rs)
+      both_stand =
+          rebound_stands (made ++ first ∷ []) (rebound bucket PreCommit precommit rs) first_stands_so bucket Resolver resolver
+          (fitting_as (program_at made) (program_at (made ++ first ∷ [])) (λ name. sym (program_made made rs stands name first)) (binding_of of.Resolver resolver) fits.1)
+
       programs : (name : List ℕ) → program_at (changes_of program (bound bucket precommit resolver rs)) name ≡ program_at (made ++ registry.Bind bucket (bindings_of precommit resolver) ∷ []) name
       programs name =
-          rebound_program bucket Resolver first resolver name ∙ rebound_program bucket PreCommit rs precommit name ∙ stands.programs name
+          both_stand.programs name ∙ program_made (made ++ first ∷ []) (rebound bucket PreCommit precommit rs) first_stands_so name second ∙ program_made made rs stands name first
           ∙ sym (program_made made rs stands name (registry.Bind bucket (bindings_of precommit resolver)))
 
       by : (s : Bool) (kind : ImageKind) (n : Option (List ℕ)) → cond s (fold (binding_after kind) (cond s (fold (binding_after kind) n (binding_of of.PreCommit precommit)) n) (binding_of of.Resolver resolver)) (cond s (fold (binding_after kind) n (binding_of of.PreCommit precommit)) n)
@@ -481,13 +668,6 @@ module _ (program : List ℕ → Program) where
 
       bound_names : (at : List ℕ) (kind : ImageKind) → bound_at (changes_of program (bound bucket precommit resolver rs)) at kind ≡ bound_at (made ++ registry.Bind bucket (bindings_of precommit resolver) ∷ []) at kind
       bound_names at kind =
-          rebound_name bucket Resolver first at kind resolver
-          ∙ ap (λ n. cond (is_name bucket at) (fold (binding_after kind) n (binding_of of.Resolver resolver)) n) (rebound_name bucket PreCommit rs at kind precommit) ∙ by (is_name bucket at) kind (bound_at (changes_of program rs) at kind)
-          ∙ ap (λ n. cond (is_name bucket at) (fold (binding_after kind) n (bindings_of precommit resolver)) n) (stands.names at kind)
-          ∙ sym (name_made made rs stands at kind (registry.Bind bucket (bindings_of precommit resolver)))
-
-      legal : AreLegal program none (bound bucket precommit resolver rs)
-      legal =
-          rebound_legal bucket Resolver first resolver
-          (rebound_legal bucket PreCommit rs precommit stands.legal (fitting_as (program_at made) (program_at (changes_of program rs)) (λ name. sym (stands.programs name)) (binding_of of.PreCommit precommit) fits.0))
-          (fitting_as (program_at made) (program_at (changes_of program first)) (λ name. sym (rebound_program bucket PreCommit rs precommit name ∙ stands.programs name)) (binding_of of.Resolver resolver) fits.1)
+          both_stand.names at kind ∙ name_made (made ++ first ∷ []) (rebound bucket PreCommit precommit rs) first_stands_so at kind second
+          ∙ ap (λ n. cond (is_name bucket at) (fold (binding_after kind) n (binding_of of.Resolver resolver)) n) (name_made made rs stands at kind first)
+          ∙ by (is_name bucket at) kind (bound_at made at kind) ∙ sym (name_made made rs stands at kind (registry.Bind bucket (bindings_of precommit resolver)))

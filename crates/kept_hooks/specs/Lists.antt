@@ -1,6 +1,6 @@
 -- The requests that a list has, as contracts see it (this store's profile).
-use Rattle.std.specs.Prelude.{◌≡◌, ◌==◌, ℕ, Bool, true, false, not, ◌&&◌, ◌||◌, List, [], ◌∷◌, ◌++◌, if◌then◌else◌, slice_index_or}
-use Rattle.std.specs.List.{filter, list_all}
+use Rattle.std.specs.Prelude.{◌≡◌, ◌==◌, ℕ, Bool, true, false, not, ◌&&◌, ◌||◌, List, [], ◌∷◌, ◌++◌, Option, None, Some, if◌then◌else◌, slice_index_or}
+use Rattle.std.specs.List.{filter, fold, list_all}
 use Rattle.kept_hooks.specs.declared.request.Request.{Request}
 use Rattle.kept_hooks.specs.declared.request.Request.TheVariants.{Install, Remove, Bind}
 use Rattle.kept_hooks.specs.declared.request.Phase.{Phase}
@@ -34,6 +34,18 @@ abbrev pub takes : List ℕ → Request → Bool
 takes name (Install other image) = false
 takes name (Remove other) = is_name other name
 takes name (Bind bucket phase other) = false
+
+-- a request gives a name an image
+abbrev pub installs : List ℕ → Request → Bool
+installs name (Install other image) = is_name other name
+installs name (Remove other) = false
+installs name (Bind bucket phase other) = false
+
+-- a request rests on what a name has: it takes the name from that, or binds it
+abbrev pub rests : List ℕ → Request → Bool
+rests name (Install other image) = false
+rests name (Remove other) = is_name other name
+rests name (Bind bucket phase other) = is_name other name
 
 -- a request binds a bucket's hook of a phase
 abbrev pub binds : List ℕ → Phase → Request → Bool
@@ -69,22 +81,64 @@ untaken name requests = filter (λ r. not (takes name r)) requests
 abbrev pub unbound : List ℕ → Phase → List Request → List Request
 unbound bucket phase requests = filter (λ r. not (binds bucket phase r)) requests
 
+-- of a name, another image comes next: nothing rests on what it has before
+abbrev pub renews : List ℕ → List Request → Bool
+renews name [] = false
+renews name (request ∷ requests) = installs name request || (not (rests name request) && renews name requests)
+
+-- what is left without the images of a name on which nothing rests, since another one comes next
+abbrev pub settled : List ℕ → List Request → List Request
+settled name [] = []
+settled name (request ∷ requests) = if installs name request && renews name requests then settled name requests else request ∷ settled name requests
+
+-- the image that a name has behind one more request
+abbrev pub image_after : List ℕ → Option (List ℕ) → Request → Option (List ℕ)
+image_after name before (Install other image) = if is_name other name then Some image else before
+image_after name before (Remove other) = if is_name other name then None else before
+image_after name before (Bind bucket phase other) = before
+
+-- the name that is bound to a bucket's phase behind one more request
+abbrev pub bound_after : List ℕ → Phase → Option (List ℕ) → Request → Option (List ℕ)
+bound_after bucket phase before (Install name image) = before
+bound_after bucket phase before (Remove name) = before
+bound_after bucket phase before (Bind other at name) = if is_name other bucket && is_phase at phase then Some name else before
+
+-- an image of a name stands last, if it has one
+abbrev pub with_image : List ℕ → Option (List ℕ) → List Request → List Request
+with_image name None requests = requests
+with_image name (Some image) requests = requests ++ Install name image ∷ []
+
+-- of a name that nothing binds no more is left than its image
+abbrev pub freed : List ℕ → List Request → List Request
+freed name requests = if list_all (passes name never) requests then with_image name (fold (image_after name) None requests) (without name requests) else requests
+
+-- the same, where there is such a name
+abbrev pub freed_if : Option (List ℕ) → List Request → List Request
+freed_if None requests = requests
+freed_if (Some name) requests = freed name requests
+
 -- A name gets an image. Where nothing binds the name it stands last, in place of all that was said of the name. Where its program runs in each
--- phase in which the name is bound it stands first, in place of all that. Else what binds the name rests on an earlier image, which stays.
+-- phase in which the name is bound it stands first, in place of all that. Else what binds the name rests on earlier images, of which those stay that are needed.
 abbrev pub installed : List ℕ → List ℕ → List Request → List Request
 installed name image requests =
     if list_all (passes name never) requests then without name requests ++ Install name image ∷ []
-    else (if list_all (passes name (is_for image)) requests then Install name image ∷ without name requests else untaken name requests ++ Install name image ∷ [])
+    else (if list_all (passes name (is_for image)) requests then Install name image ∷ without name requests else settled name (untaken name requests ++ Install name image ∷ []))
 
 -- A name is taken from its program. Where nothing binds it nothing is left of it.
 abbrev pub removed : List ℕ → List Request → List Request
 removed name requests = if list_all (passes name never) requests then without name requests else requests ++ Remove name ∷ []
 
--- What is bound in a phase changes: what was bound before is not left.
+-- what is bound in a phase changes: what was bound before is not left
+abbrev pub replaced : List ℕ → Phase → Change → List Request → List Request
+replaced bucket phase Kept requests = requests
+replaced bucket phase Unbound requests = unbound bucket phase requests
+replaced bucket phase (Bound name) requests = unbound bucket phase requests ++ Bind bucket phase name ∷ []
+
+-- the same, and where nothing binds the name any more that was bound, its image alone is left of it
 abbrev pub rebound : List ℕ → Phase → Change → List Request → List Request
 rebound bucket phase Kept requests = requests
-rebound bucket phase Unbound requests = unbound bucket phase requests
-rebound bucket phase (Bound name) requests = unbound bucket phase requests ++ Bind bucket phase name ∷ []
+rebound bucket phase Unbound requests = freed_if (fold (bound_after bucket phase) None requests) (replaced bucket phase Unbound requests)
+rebound bucket phase (Bound name) requests = freed_if (fold (bound_after bucket phase) None requests) (replaced bucket phase (Bound name) requests)
 
 -- what is bound to a bucket changes
 abbrev pub bound : List ℕ → Change → Change → List Request → List Request

@@ -76,7 +76,7 @@ impl Requests {
         ensures { IsAfter (installed name.now image.now) self.old self.new }
     {
         if self.is_whole {
-            let done = standing::install(&mut self.requests, name, image);
+            let done = standing::install(self.alloc, &mut self.requests, name, image);
             self.is_whole = done.is_ok();
         }
     }

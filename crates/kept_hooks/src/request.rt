@@ -2,7 +2,7 @@
 
 ghost use Rattle.std.specs.Prelude.{◌≡◌, ◌++◌, ◌==◌, IfOk, OnOk, slice_index_or};
 ghost use Rattle.hook_registry.specs.Changes.{is_name as is_one};
-ghost use Rattle.kept_hooks.specs.Lists.{binds, is_for, is_of_resolver, is_phase, names, passes, never, phase_number, takes};
+ghost use Rattle.kept_hooks.specs.Lists.{binds, bound_after, image_after, installs, is_for, is_of_resolver, is_phase, names, passes, never, phase_number, rests, takes};
 ghost use Rattle.kept_hooks.specs.Spelling as spec;
 
 use itoa::Buffer;
@@ -105,6 +105,86 @@ impl Request {
         match self {
             Request::Remove { name: other } => is_one(other, name),
             _ => false,
+        }
+    }
+
+    /// Whether it gives a name an image.
+    pub(crate) fn installs(&self, name: &Bytes) -> bool
+        ensures { result ≡ installs name.now self.now }
+    {
+        match self {
+            Request::Install { name: other, .. } => is_one(other, name),
+            _ => false,
+        }
+    }
+
+    /// Whether it rests on what a name has: it takes the name from that, or binds it.
+    pub(crate) fn rests_on(&self, name: &Bytes) -> bool
+        ensures { result ≡ rests name.now self.now }
+    {
+        match self {
+            Request::Install { .. } => false,
+            Request::Remove { name: other } | Request::Bind { name: other, .. } => is_one(
+                other, name,
+            ),
+        }
+    }
+
+    /// The image that a name has behind it, by the one that it has before. The error: memory was refused.
+    pub(crate) fn image_after(
+        &self,
+        name: &Bytes,
+        before: Option<Bytes>,
+    ) -> Result<Option<Bytes>, AllocError>
+        ensures { IfOk result (λ image. image ≡ image_after name.now before self.now) }
+    {
+        match self {
+            Request::Install { name: other, image } if is_one(other, name) => Ok(Some(
+                image.copy()?,
+            )),
+            Request::Remove { name: other } if is_one(other, name) => Ok(None),
+            _ => Ok(before),
+        }
+    }
+
+    /// The name that is bound to a bucket's phase behind it, by the one that is bound before. The error: memory was refused.
+    pub(crate) fn bound_after(
+        &self,
+        bucket: &Bytes,
+        phase: Phase,
+        before: Option<Bytes>,
+    ) -> Result<Option<Bytes>, AllocError>
+        ensures { IfOk result (λ name. name ≡ bound_after bucket.now phase before self.now) }
+    {
+        match self {
+            Request::Bind {
+                bucket: other,
+                phase: at,
+                name,
+            } if is_one(other, bucket) && at.is_same(phase) => Ok(Some(name.copy()?)),
+            _ => Ok(before),
+        }
+    }
+
+    /// The same request, which shares the bytes. The error: memory was refused.
+    pub(crate) fn copy(&self) -> Result<Request, AllocError>
+        ensures { IfOk result (λ copy. copy ≡ self.now) }
+    {
+        match self {
+            Request::Install { name, image } => Ok(Request::Install {
+                name: name.copy()?,
+                image: image.copy()?,
+            }),
+            Request::Remove { name } => Ok(Request::Remove { name: name.copy()? }),
+            Request::Bind {
+                bucket,
+                phase,
+                name,
+            } => Ok(Request::Bind {
+                bucket: bucket.copy()?,
+                phase: *phase,
+                name: name.copy()?,
+            }),
         }
     }
 

@@ -27,6 +27,9 @@ const UNSOUND: &[u8] =
 /// The name of the resolver.
 const KEEPER: &[u8] = b"keeper";
 
+/// The name of a hook that is taken from its name while it is bound, and then bound no more.
+const GONE: &[u8] = b"gone";
+
 /// Names with each of the characters that a hook's name may have.
 const NAMES: [&[u8]; 2] = [
     b"ABCDEFGHIJKLMNOPQRSTUVWXYZabcdefghijklmnopqrstuvwxyz0123456789_-",
@@ -36,8 +39,9 @@ const NAMES: [&[u8]; 2] = [
 /// So many bytes a bucket may have.
 const BUCKET: u8 = 64;
 
-/// So many requests are left: three images, both bindings of four buckets and one of a fifth, and one that takes a name that is bound.
-const COUNT: u64 = 13;
+/// So many requests are left: three images, both bindings of four buckets and one of a fifth, an image of a name that is bound in the other
+/// phase, and one that takes a name that is bound.
+const COUNT: u64 = 14;
 
 /// A bucket whose bytes rise from one on.
 fn bucket_from(alloc: Global, first: u8) -> Result<Bytes, AllocError> {
@@ -56,22 +60,26 @@ fn written(alloc: Global) -> Result<Requests, AllocError> {
     let all = Bytes::from_slice(alloc, all)?;
     let least = Bytes::from_slice(alloc, least)?;
     let keeper = Bytes::from_slice(alloc, KEEPER)?;
+    let gone = Bytes::from_slice(alloc, GONE)?;
     let image = Bytes::from_slice(alloc, REJECTS)?;
+    let resolver = Bytes::from_slice(alloc, KEEPS)?;
     list.install(&all, &image);
     list.install(&least, &image);
-    list.install(&keeper, &Bytes::from_slice(alloc, KEEPS)?);
+    list.install(&keeper, &resolver);
     for first in [0, 64, 128, 192] {
         let bucket = bucket_from(alloc, first)?;
         list.bind(&bucket, &Change::Bound(all.copy()?), &Change::Unbound);
         list.bind(&bucket, &Change::Kept, &Change::Bound(keeper.copy()?));
         list.bind(&bucket, &Change::Bound(least.copy()?), &Change::Kept);
     }
-    list.bind(
-        &bucket_from(alloc, 32)?,
-        &Change::Bound(all.copy()?),
-        &Change::Kept,
-    );
+    let bucket = bucket_from(alloc, 32)?;
+    list.install(&gone, &image);
+    list.bind(&bucket, &Change::Bound(gone.copy()?), &Change::Kept);
+    list.remove(&gone);
+    list.bind(&bucket, &Change::Bound(all.copy()?), &Change::Kept);
     list.install(&least, &image);
+    list.install(&least, &resolver);
+    list.install(&least, &resolver);
     list.remove(&all);
     Ok(list)
 }
@@ -141,5 +149,25 @@ fn a_refused_hook_is_passed_over(rt: HostRuntime) -> Result<(), Fail> {
         Ok(())
     } else {
         Err(Fail::from("others are served"))
+    }
+}
+
+#[test]
+fn reads_are_noted_where_a_resolver_may_be_bound(rt: HostRuntime) -> Result<(), Fail> {
+    let alloc = rt.alloc();
+    let writes = Writes::new(&Requests::new(alloc));
+    writes.note_read();
+    let before = writes.is_noted();
+    writes.note_resolver();
+    writes.note_read();
+    let behind = writes.is_noted();
+    writes.forget();
+    let forgotten = !writes.is_noted();
+    let begun = Writes::new(&written(alloc)?);
+    begun.note_read();
+    if !before && behind && forgotten && begun.is_noted() {
+        Ok(())
+    } else {
+        Err(Fail::from("other notes"))
     }
 }
