@@ -1,0 +1,6 @@
+pub mod Steps
+pub mod Longs
+pub mod Lasts
+pub mod Numbered
+pub mod Found
+pub mod Standing
