@@ -53,7 +53,7 @@ pub records_added : (records : List Record) (i : ℕ) (r : Record) (key : Key) (
 records_added records i r key old now new lt is so news =
     let one : new ≡ max now (last_fold (r ∷ []) key) = record_added r key now new news in
     let more : last_fold (take (i + 1) records) key ≡ max (last_fold (take i records) key) (last_fold (r ∷ []) key) =
-      ap (λ (l : List Record). last_fold l key) (take_more records i r lt ∙ ap (λ (x : Record). take i records ++ x ∷ []) (sym is)) ∙ last_append (take i records) (r ∷ []) key in
+    ap (λ (l : List Record). last_fold l key) (take_more records i r lt ∙ ap (λ (x : Record). take i records ++ x ∷ []) (sym is)) ∙ last_append (take i records) (r ∷ []) key in
     three old (last_fold (take i records) key) (last_fold (r ∷ []) key) now new (last_fold (take (i + 1) records) key) so one more
   where
     three : (a b c now new all : ℕ) → now ≡ max a b → new ≡ max now c → all ≡ max b c → new ≡ max a all

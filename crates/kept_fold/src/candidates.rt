@@ -57,12 +57,7 @@ fn add_long(
 }
 
 /// Adds a record's key, where its clock has more entries than that.
-fn add_one(
-    alloc: Global,
-    merges: &mut Merges,
-    one: &Record,
-    least: usize,
-) -> Result<(), AllocError>
+fn add_one(alloc: Global, merges: &mut Merges, one: &Record, least: usize) -> Result<(), AllocError>
     ensures { OnOk result ((key : OneKey) → get key_cmp merges.new key ≡ (if is_long least (one.now ∷ []) key then Some (Merged empty) else get key_cmp merges.old key)) }
 {
     let entries = one.state.clock().entries().len();
@@ -88,11 +83,7 @@ pub(crate) fn merge_files(
 }
 
 /// Merges those of one file.
-fn merge_records(
-    alloc: Global,
-    merges: &mut Merges,
-    records: &[Record],
-) -> Result<(), AllocError>
+fn merge_records(alloc: Global, merges: &mut Merges, records: &[Record]) -> Result<(), AllocError>
     ensures { OnOk result ((key : OneKey) → GoesOn (states_of records.now key) (get key_cmp merges.old key) (get key_cmp merges.new key)) }
 {
     for record in records {
@@ -114,11 +105,7 @@ fn merge_record(alloc: Global, merges: &mut Merges, one: &Record) -> Result<(), 
 }
 
 /// What a merge comes to with one state more.
-fn merged_with(
-    alloc: Global,
-    so_far: &Merging,
-    state: &KeyState,
-) -> Result<Merging, AllocError>
+fn merged_with(alloc: Global, so_far: &Merging, state: &KeyState) -> Result<Merging, AllocError>
     ensures { IfOk result (λ next. (states : List State) → HasCome states so_far.now → HasCome (states ++ state.now ∷ []) next) }
 {
     let Merging::Merged(own) = so_far else {

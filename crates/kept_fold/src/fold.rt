@@ -34,7 +34,12 @@ pub fn fold_files(
     let fresh = without_stale(alloc, files)?;
     let mut merges = long_keys(alloc, &fresh, share_of(&fresh))?;
     merge_files(alloc, &mut merges, &fresh)?;
-    rewrite_files(alloc, fresh, &merges, number * VNODES_PER_NUMBER + FOLD_INDEX)
+    rewrite_files(
+        alloc,
+        fresh,
+        &merges,
+        number * VNODES_PER_NUMBER + FOLD_INDEX,
+    )
 }
 
 /// Each file's share of the entries of a clock that isn't folded.

@@ -22,6 +22,6 @@ pub returns : goal.returns
 returns c = λ key.
     let long : c.args.least < length c.args.one.now.state.clock = subst (λ (l : List Dot). c.args.least < length l) (c.entries-entries.ensures.all ∙ c.clock.ensures) c.if-entries-least.false in
     let put : get key_cmp c.insert.new.self key ≡ (if same_key c.args.one.now.key key then Some (Merged c.new.result) else get key_cmp c.args.merges.now key) =
-      subst (λ (k : Key). get key_cmp c.insert.new.self key ≡ (if same_key k key then Some (Merged c.new.result) else get key_cmp c.args.merges.now key)) c.in_ok-copy.ensures (c.in_ok-insert.ensures.updates.0 key) in
+    subst (λ (k : Key). get key_cmp c.insert.new.self key ≡ (if same_key k key then Some (Merged c.new.result) else get key_cmp c.args.merges.now key)) c.in_ok-copy.ensures (c.in_ok-insert.ensures.updates.0 key) in
     long_one c.args.least c.args.one.now key (Merged empty) (get key_cmp c.args.merges.now key) (get key_cmp c.insert.new.self key) long
     (subst (λ (s : State). get key_cmp c.insert.new.self key ≡ (if same_key c.args.one.now.key key then Some (Merged s) else get key_cmp c.args.merges.now key)) c.new.ensures put)

@@ -10,5 +10,5 @@ use Rattle.kept_fold.proofs.stale.without_stale.Goals as goal
 pub returns : goal.returns
 returns c =
     let each : (key : Key) → number_at c.in_ok-last.last key ≡ last_fold (all_records c.args.files.items) key =
-      λ key. c.in_ok-last.ensures key ∙ ap (λ (l : List KeptFile). last_fold (all_records l) key) c.deref.ensures.value in
+    λ key. c.in_ok-last.ensures key ∙ ap (λ (l : List KeptFile). last_fold (all_records l) key) c.deref.ensures.value in
     if_ok (λ fresh all. are_fresh_by c.in_ok-last.last (all_records c.args.files.items) each c.args.files.items fresh.items all) c.fresh_by.result c.fresh_by.ensures
