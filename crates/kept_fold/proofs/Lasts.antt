@@ -1,7 +1,10 @@
 -- The last starts that records tell of.
-use Rattle.std.proofs.Common.{◌≡◌, ℕ, ◌+◌, ◌<◌, ◌≤◌, ◌++◌, Bool, true, false, not, List, [], ◌∷◌, length, take, get_or, refl, sym, ap, subst, ◌∙◌, arith, if◌then◌else◌}
+use Rattle.std.proofs.Common.{◌≡◌, ℕ, zero, suc, ◌+◌, ◌*◌, ◌/◌, ◌%◌, ◌<◌, ◌≤◌, ◌++◌, Bool, true, false, not, List, [], ◌∷◌, length, take, get_or, refl, sym, ap, subst, ◌∙◌, arith, if◌then◌else◌}
 use Rattle.std.specs.BTreeMap.{BTreeMap, get}
-use Rattle.std.specs.Prelude.{max, nat_lt, filter, Option, None, Some}
+use Rattle.std.specs.Prelude.{◌==◌, max, nat_lt, filter, Contains, Option, None, Some}
+use Rattle.std.proofs.Math.Nat.{le_refl}
+use Rattle.std.proofs.lemmas.Bool.{lt-ltb}
+use Rattle.journal.proofs.Keyed.{same_itself}
 use Rattle.std.specs.List.{AllZip}
 use Rattle.std.proofs.lemmas.List.{take_more}
 use Rattle.dvv.specs.declared.Dot.{Dot}
@@ -10,7 +13,7 @@ use Rattle.journal.specs.Keys.{key_cmp, same_key}
 use Rattle.kept_file.specs.declared.file.KeptFile.{KeptFile}
 use Rattle.record_codec.specs.declared.record.Record.{Record}
 use Rattle.kept_fold.specs.Merging.{all_records}
-use Rattle.kept_fold.specs.Stale.{AreFresh, IsFreshBy, fold_in, greatest, is_behind, is_stale, last_fold, number_at, number_in, start_of}
+use Rattle.kept_fold.specs.Stale.{AreFresh, IsFreshBy, fold_id, fold_in, greatest, is_behind, is_stale, last_fold, number_at, number_in, start_of}
 use Rattle.kept_fold.proofs.Steps.{records_more}
 
 -- ---- the greatest of a clock's entries
@@ -104,3 +107,39 @@ module _ (last : BTreeMap Key ℕ) (records : List Record) (each : (key : Key) �
   are_fresh_by [] (f ∷ fresh) all = absurd all
   are_fresh_by (f ∷ files) [] all = absurd all
   are_fresh_by (f ∷ files) (g ∷ fresh) all = ((all.0.0, all.0.1 ∙ fresh_alike f.records.items), are_fresh_by files fresh all.1)
+
+-- ---- records of before a fold
+
+fold_in_id : (number n : ℕ) → fold_in (record { vnode = fold_id number; n = n }) ≡ number
+fold_in_id number n =
+    let rest : (number * 256 + 254) % 256 ≡ 254 = omega arith in
+    let upper : (number * 256 + 254) / 256 ≡ number = omega arith in
+    ap (λ (k : ℕ). if k == 254 then (number * 256 + 254) / 256 else 0) rest ∙ upper
+
+le_max_left : (a b c : ℕ) → c ≤ a → c ≤ max a b
+le_max_left a b c le = omega (arith, le)
+
+le_max_right : (a b c : ℕ) → c ≤ b → c ≤ max a b
+le_max_right a b c le = omega (arith, le)
+
+greatest_from : (number : Dot → ℕ) (events : List Dot) (event : Dot) → Contains events event → number event ≤ greatest number events
+greatest_from number [] event (k, lt, is) = absurd (omega (arith, lt))
+greatest_from number (e ∷ events) event (zero, lt, is) = le_max_left (number e) (greatest number events) (number event) (subst (λ (x : Dot). number x ≤ number e) is (le_refl (number e)))
+greatest_from number (e ∷ events) event (suc k, lt, is) = le_max_right (number e) (greatest number events) (number event) (greatest_from number events event (k, (let l = lt in omega (arith, l)), is))
+
+last_from : (records : List Record) (later : Record) → Contains records later → greatest fold_in later.state.clock ≤ last_fold records later.key
+last_from [] later (k, lt, is) = absurd (omega (arith, lt))
+last_from (r ∷ records) later (zero, lt, is) =
+    le_max_left (if same_key r.key later.key then greatest fold_in r.state.clock else 0) (last_fold records later.key) (greatest fold_in later.state.clock)
+    (subst (λ (x : Record). greatest fold_in later.state.clock ≤ (if same_key x.key later.key then greatest fold_in x.state.clock else 0)) (sym is)
+    (subst (λ (b : Bool). greatest fold_in later.state.clock ≤ (if b then greatest fold_in later.state.clock else 0)) (sym (same_itself later.key)) (le_refl (greatest fold_in later.state.clock))))
+last_from (r ∷ records) later (suc k, lt, is) =
+    le_max_right (if same_key r.key later.key then greatest fold_in r.state.clock else 0) (last_fold records later.key) (greatest fold_in later.state.clock) (last_from records later (k, (let l = lt in omega (arith, l)), is))
+
+pub before_is_stale : (records : List Record) (old later : Record) (number n : ℕ) → Contains records later → later.key ≡ old.key → Contains later.state.clock (record { vnode = fold_id number; n = n })
+    → greatest start_of old.state.clock < number → is_stale records old ≡ true
+before_is_stale records old later number n among same counts before =
+    let here : number ≤ greatest fold_in later.state.clock =
+    subst (λ (k : ℕ). k ≤ greatest fold_in later.state.clock) (fold_in_id number n) (greatest_from fold_in later.state.clock (record { vnode = fold_id number; n = n }) counts) in
+    let all : greatest fold_in later.state.clock ≤ last_fold records old.key = subst (λ (k : Key). greatest fold_in later.state.clock ≤ last_fold records k) same (last_from records later among) in
+    lt-ltb (greatest start_of old.state.clock) (last_fold records old.key) (omega (arith, here, all, before))

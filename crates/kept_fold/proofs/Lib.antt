@@ -2,5 +2,6 @@ pub mod Steps
 pub mod Longs
 pub mod Lasts
 pub mod Numbered
+pub mod Mapped
 pub mod Found
 pub mod Standing

@@ -4,7 +4,7 @@ ghost use Rattle.std.specs.Prelude.{◌≡◌, ◌≤◌, length, map, IfOk, OnO
 ghost use Rattle.std.specs.BTreeMap.{get};
 ghost use Rattle.std.specs.List.{AllZip};
 ghost use Rattle.journal.specs.Keys.{key_cmp};
-ghost use Rattle.key_state.specs.declared.content.Key.{Key as OneKey};
+ghost use Rattle.record_codec.specs.declared.record.Record.{Record as OneRecord};
 ghost use Rattle.kept_fold.specs.Folds.{AreFolded, IsRewrittenBy, is_foldable, rewritten, share, to_fold};
 ghost use Rattle.kept_fold.specs.Stale.{fold_id};
 
@@ -68,30 +68,39 @@ fn rewrite_files(
 /// The same of one file.
 fn rewrite_file(
     alloc: Global,
-    file: KeptFile,
+    mut file: KeptFile,
     merges: &Merges,
     id: u32,
 ) -> Result<KeptFile, AllocError>
     ensures { IfOk result (λ folded. IsRewrittenBy merges.now id file folded) }
 {
-    let mut records = Vec::with_capacity(alloc, file.records.len())?;
-    for one in file.records {
-        records.push(rewritten(alloc, one, merges, id)?)?;
-    }
-    Ok(KeptFile {
-        from: file.from,
-        records,
-    })
+    rewrite_records(alloc, &mut file.records, merges, id)?;
+    Ok(file)
 }
 
-/// A record, rewritten where its key is folded.
-fn rewritten(alloc: Global, one: Record, merges: &Merges, id: u32) -> Result<Record, AllocError>
-    ensures { IfOk result (λ new. new ≡ rewritten id (to_fold (get key_cmp merges.now one.key)) one) }
+/// The same of its records.
+fn rewrite_records(
+    alloc: Global,
+    records: &mut [Record],
+    merges: &Merges,
+    id: u32,
+) -> Result<(), AllocError>
+    ensures { OnOk result (records.new ≡ map (λ (r : OneRecord). rewritten id (to_fold (get key_cmp merges.now r.key)) r) records.old) }
 {
-    match to_fold(merges, &one.key) {
-        Some(merged) => record_anew(alloc, id, one.key, merged.siblings()),
-        None => Ok(one),
+    for one in records.iter_mut() {
+        rewrite(alloc, one, merges, id)?;
     }
+    Ok(())
+}
+
+/// The same of a record.
+fn rewrite(alloc: Global, one: &mut Record, merges: &Merges, id: u32) -> Result<(), AllocError>
+    ensures { OnOk result (one.new ≡ rewritten id (to_fold (get key_cmp merges.now one.old.key)) one.old) }
+{
+    if let Some(merged) = to_fold(merges, &one.key) {
+        *one = record_anew(alloc, id, one.key.copy()?, merged.siblings())?;
+    }
+    Ok(())
 }
 
 /// The merge of a key that is folded.

@@ -1,14 +1,16 @@
 //! What holds of keys that are folded. Each of these functions does nothing: its contract is the law.
 
-ghost use Rattle.std.specs.Prelude.{◌≡◌, ◌≢◌, ℕ, ◌/◌, ◌<◌, ◌≤◌, List, Contains};
+ghost use Rattle.std.specs.Prelude.{◌≡◌, ◌≢◌, ℕ, ◌<◌, ◌≤◌, List, Contains, false, length, true};
 ghost use Rattle.dvv.specs.declared.Dot.{Dot};
 ghost use Rattle.dvv.specs.Clock.{Covers, Within};
 ghost use Rattle.journal.specs.Replay.{IsMergeOf};
 ghost use Rattle.key_state.specs.State.{State};
 ghost use Rattle.key_state.specs.declared.content.Key.{Key};
 ghost use Rattle.key_state.specs.declared.content.Sibling.{Sibling};
+ghost use Rattle.record_codec.specs.declared.record.Record.{Record};
 ghost use Rattle.kept_fold.specs.Folds.{anew};
 ghost use Rattle.kept_fold.specs.Merging.{AreMerged};
+ghost use Rattle.kept_fold.specs.Stale.{fold_id, greatest, is_stale, last_fold, start_of};
 
 use journal::laws::merges_go_on;
 
@@ -23,4 +25,12 @@ pub fn merges_are_merges()
 /// refused.
 pub fn former_contexts_are_ahead()
     ensures { (id : ℕ) (siblings : List Sibling) (seen : List Dot) (event : Dot) → Covers seen event → event.vnode ≢ id → Within seen (anew id siblings).clock → ⊥ }
+{}
+
+/// Beside a record that counts the contents that a start wrote anew, each record of the key is stale that is of before that start: the start has
+/// read it, so nothing of it is lost, and nothing of it comes back. A record that counts an event of the last of these starts isn't stale.
+pub fn records_of_before_are_stale()
+    ensures before { (records : List Record) (old later : Record) (number n : ℕ) → Contains records later → later.key ≡ old.key → Contains later.state.clock (record { vnode = fold_id number; n = n })
+        → greatest start_of old.state.clock < number → is_stale records old ≡ true }
+    ensures behind { (records : List Record) (one : Record) → last_fold records one.key ≤ greatest start_of one.state.clock → is_stale records one ≡ false }
 {}

@@ -95,24 +95,28 @@ const KEYS: [([u32; 3], Option<&[u8]>); 8] = [
 ];
 
 /// The file of a vnode, with the records of these keys.
-fn file_of(alloc: Global, index: usize) -> Result<KeptFile, Fail> {
-    let value = [1, 2, 0][index % 3];
+fn file_of(alloc: Global, index: u32) -> Result<KeptFile, Fail> {
+    let place = index as usize % 3;
     let mut records = Vec::new(alloc);
-    for (name, key) in KEYS.iter().enumerate() {
-        let starts = key.0[index % 3];
+    let mut name = 0u8;
+    for key in KEYS {
+        let starts = key.0[place];
         if starts > 0 {
-            let state = state_of(alloc, starts, index as u32, value)?;
-            records.push(record_of(alloc, name as u8, state)?)?;
+            let state = state_of(alloc, starts, index, [1, 2, 0][place])?;
+            records.push(record_of(alloc, name, state)?)?;
         }
+        name = name.saturating_add(1);
     }
-    let from = 499 * VNODES_PER_NUMBER + index as u32;
+    let from = index.saturating_add(127_744);
     Ok(KeptFile { from, records })
 }
 
 /// Whether a record is what a fold leaves of it.
 fn is_right(alloc: Global, old: &Record, new: &Record) -> Result<bool, Fail> {
-    let name = old.key.key()[0] as usize;
-    match KEYS[name % 8].1 {
+    let Some(name) = old.key.key().first() else {
+        return Ok(false);
+    };
+    match KEYS[*name as usize % 8].1 {
         Some(values) => Ok(is_folded(alloc, new, values)?),
         None => Ok(new.state.is_same(&old.state) && new.from == old.from && new.at == old.at),
     }
@@ -126,7 +130,8 @@ fn keys_of_many_starts_are_folded(rt: HostRuntime) -> Result<(), Fail> {
         files.push(file_of(alloc, index)?)?;
     }
     let folded = fold_files(alloc, files, NUMBER)?;
-    for (index, new) in folded.iter().enumerate() {
+    let mut index = 0;
+    for new in &folded {
         let old = file_of(alloc, index)?;
         let is_whole = new.from == old.from && new.records.len() == old.records.len();
         assert!(rt; is_whole, "file {index}");
@@ -134,6 +139,7 @@ fn keys_of_many_starts_are_folded(rt: HostRuntime) -> Result<(), Fail> {
             let is_same = old.key.key() == new.key.key();
             assert!(rt; is_same && is_right(alloc, old, new)?, "file {index}");
         }
+        index = index.saturating_add(1);
     }
     Ok(())
 }
