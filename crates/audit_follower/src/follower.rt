@@ -3,6 +3,7 @@
 ghost use Rattle.std.specs.Prelude.{◌≡◌, ◌≢◌, ◌<◌, ◌+◌, ◌++◌, ℕ, [], IfOk, IfErr, IfSome, OnOk, OnErr, Err, None, Some, length, replicate, slice_set, sum_by};
 ghost use Rattle.world.specs.Represents.{AreDistinct, empty_logs, log_at};
 ghost use Rattle.audit_faults.specs.declared.fault.AuditFault.{AuditFault as Faulted};
+ghost use Rattle.audit_replay.specs.Reran.{GoOnFrom};
 ghost use Rattle.audit_replay.specs.Runs.{IsRunFrom};
 ghost use Rattle.audit_replay.specs.Sizes.{entry_bytes};
 ghost use Rattle.audit_follower.specs.Stops.{HasStopped, IsStop};
@@ -10,12 +11,48 @@ ghost use Rattle.audit_follower.specs.Waiting.{AreTakenAlike, NoneBelow, taken_a
 
 use crate::queue::Queue;
 use crate::run::Run;
-use audit_faults::{AuditFault, TakeFault};
+use audit_faults::{AuditFault, TakeFault, WatchFault};
 use audit_replay::{Recent, Rerun, Start};
 use journal::Entry;
 use std::alloc::{AllocError, Global};
+use std::fmt;
 use std::marker::Model;
 use vnode::{BlockSpot, KeyBlock};
+
+/// Entries that a follower didn't take, as they were.
+#[derive(Drop)]
+pub struct Untaken {
+    /// Why not.
+    pub why: TakeFault,
+    /// The entries.
+    pub entries: Vec<Entry>,
+}
+
+impl From<Untaken> for TakeFault {
+    ghost use Rattle.std.specs.Prelude.{◌≡◌};
+
+    ghost from_gives = { λ untaken fault. fault ≡ untaken.why };
+
+    fn from(untaken: Untaken) -> Self {
+        untaken.why
+    }
+}
+
+impl From<Untaken> for WatchFault {
+    ghost use Rattle.audit_faults.specs.Unsaid.{IsNoYes};
+
+    ghost from_gives = { λ untaken fault. IsNoYes fault };
+
+    fn from(untaken: Untaken) -> Self {
+        WatchFault::from(untaken.why)
+    }
+}
+
+impl fmt::Debug for Untaken {
+    fn fmt<W: fmt::Write>(&self, f: &mut fmt::Formatter<W>) -> fmt::Result {
+        write!(f, "{}", self.why)
+    }
+}
 
 /// An auditor that goes along with vnodes: their journals are handed over in blocks, and happen again in the order of stamps, at
 /// vnodes of its own that settle. What it has followed of all vnodes is one run of the world, as long as it has found no fault. So many of
@@ -81,19 +118,21 @@ impl Follower {
     /// Takes the next entries of a vnode, of which the first stands at this place of its journal. They wait for their turn.
     ///
     /// `Unknown` where no vnode with this identifier is followed, and `Gap` where they don't begin where the last ones that were taken
-    /// of this vnode ended.
-    pub fn take(&mut self, vnode: u32, first: usize, entries: Vec<Entry>) -> Result<(), TakeFault>
+    /// of this vnode ended. Entries that aren't taken are handed back, so that they may be tried again where a growth was refused.
+    pub fn take(&mut self, vnode: u32, first: usize, entries: Vec<Entry>) -> Result<(), Untaken>
         ensures taken { OnOk result ((index : ℕ) × (index < length self.old.followed) × ((log_at self.old.followed index).vnode ≡ vnode) × (first ≡ taken_at self.old index) × (self.new.waiting ≡ slice_set self.old.waiting index (waiting_at self.old.waiting index ++ entries.items))) }
         ensures followed { self.new.followed ≡ self.old.followed }
         ensures fault { self.new.fault ≡ self.old.fault }
         ensures recent { self.new.recent ≡ self.old.recent }
         ensures fronts { self.new.fronts ≡ self.old.fronts }
-        ensures unknown { result ≡ Err TakeFault.Unknown → (index : ℕ) → index < length self.old.followed → (log_at self.old.followed index).vnode ≢ vnode }
-        ensures gap { result ≡ Err TakeFault.Gap → (index : ℕ) × (index < length self.old.followed) × ((log_at self.old.followed index).vnode ≡ vnode) × (first ≢ taken_at self.old index) }
+        ensures unknown { IfErr result (λ left. left.why ≡ TakeFault.Unknown → (index : ℕ) → index < length self.old.followed → (log_at self.old.followed index).vnode ≢ vnode) }
+        ensures gap { IfErr result (λ left. left.why ≡ TakeFault.Gap → (index : ℕ) × (index < length self.old.followed) × ((log_at self.old.followed index).vnode ≡ vnode) × (first ≢ taken_at self.old index)) }
+        ensures back { IfErr result (λ left. left.entries.items ≡ entries.items) }
         ensures err { OnErr result (self.new.waiting ≡ self.old.waiting) }
     {
         let Some(index) = self.run.rerun.index_of(vnode) else {
-            return Err(TakeFault::Unknown);
+            let why = TakeFault::Unknown;
+            return Err(Untaken { why, entries });
         };
         self.take_at(index, first, entries)
     }
@@ -127,6 +166,14 @@ impl Follower {
         ensures { result ≡ length (log_at self.now.followed index).entries }
     {
         self.run.rerun.happened(index)
+    }
+
+    /// How many entries of the vnode with this index were taken: those that were followed, and those that wait.
+    pub fn taken(&self, index: usize) -> usize
+        requires inside { index < length self.now.followed }
+        ensures { result ≡ taken_at self.now index }
+    {
+        self.run.taken(index)
     }
 
     /// How many entries of the vnode with this index wait for their turn.
@@ -168,18 +215,36 @@ impl Follower {
         index: usize,
         first: usize,
         entries: Vec<Entry>,
-    ) -> Result<(), TakeFault>
+    ) -> Result<(), Untaken>
         requires inside { index < length self.old.followed }
         ensures taken { OnOk result ((first ≡ taken_at self.old index) × (self.new ≡ record self.old { waiting = slice_set self.old.waiting index (waiting_at self.old.waiting index ++ entries.items) })) }
-        ensures gap { result ≡ Err TakeFault.Gap → first ≢ taken_at self.old index }
-        ensures known { result ≢ Err TakeFault.Unknown }
+        ensures gap { IfErr result (λ left. left.why ≡ TakeFault.Gap → first ≢ taken_at self.old index) }
+        ensures known { IfErr result (λ left. left.why ≢ TakeFault.Unknown) }
+        ensures back { IfErr result (λ left. left.entries.items ≡ entries.items) }
         ensures err { OnErr result (self.new ≡ self.old) }
     {
         if first != self.run.taken(index) {
-            return Err(TakeFault::Gap);
+            let why = TakeFault::Gap;
+            return Err(Untaken { why, entries });
         }
-        self.run.waiting[index].add(entries)?;
-        Ok(())
+        match self.take_next(index, entries) {
+            Ok(()) => Ok(()),
+            Err(entries) => {
+                let why = TakeFault::NoMemory;
+                Err(Untaken { why, entries })
+            }
+        }
+    }
+
+    /// Takes more entries of the vnode with this index, which stand behind those that were taken of it. Where a growth is refused they are
+    /// handed back.
+    pub fn take_next(&mut self, index: usize, entries: Vec<Entry>) -> Result<(), Vec<Entry>>
+        requires inside { index < length self.old.followed }
+        ensures taken { OnOk result (self.new ≡ record self.old { waiting = slice_set self.old.waiting index (waiting_at self.old.waiting index ++ entries.items) }) }
+        ensures back { IfErr result (λ back. back.items ≡ entries.items) }
+        ensures err { OnErr result (self.new ≡ self.old) }
+    {
+        self.run.waiting[index].add(entries)
     }
 
     /// Follows all that was taken with stamps below a bound, in the order of stamps: each put accepted with its dot, each merge the
@@ -187,7 +252,7 @@ impl Follower {
     /// the world that has led to the fronts, all is one run; where there is no front, from nothing on.
     ///
     /// The first fault is told, at the vnode and the place of its entry, which waits no longer. It is the last: from then on nothing is
-    /// followed, and it is told again. A merge that names an answer that is no longer kept is told as such, though it may be right. A bound
+    /// followed, and it is told again. What was followed before stays, and of the fault's vnode one entry more may be counted. A merge that names an answer that is no longer kept is told as such, though it may be right. A bound
     /// is to be one below which no stamp is drawn any more: an entry that comes later is told as late, and so is one that is behind its
     /// front before all fronts are whole.
     pub fn follow(&mut self, below: u64) -> Result<(), AuditFault>
@@ -197,6 +262,7 @@ impl Follower {
         ensures none { OnOk result (self.new.fault ≡ None) }
         ensures fault { IfErr result (λ fault. self.new.fault ≡ Some fault) }
         ensures stop { self.old.fault ≡ None → IfErr result (λ fault. IsStop self.old.fronts self.old.followed self.old.waiting below self.old.recent fault) }
+        ensures stays { OnErr result (GoOnFrom self.old.followed self.new.followed) }
         ensures again { (fault : Faulted) → self.old.fault ≡ Some fault → (result ≡ Err fault) × (self.new ≡ self.old) }
         ensures recent { self.new.recent ≡ self.old.recent }
         ensures fronts { self.new.fronts ≡ self.old.fronts }

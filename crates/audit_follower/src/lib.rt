@@ -7,4 +7,4 @@ mod run;
 
 pub use audit_faults::{AuditFault, EntryFault, TakeFault};
 pub use audit_replay::{Recent, Start};
-pub use follower::Follower;
+pub use follower::{Follower, Untaken};

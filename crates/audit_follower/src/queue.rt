@@ -1,12 +1,12 @@
 //! Entries that were taken and wait for their turn.
 
-ghost use Rattle.std.specs.Prelude.{◌≡◌, ◌<◌, ◌^◌, ◌++◌, [], OnOk, OnErr, drop, length, slice_get, sum_by};
+ghost use Rattle.std.specs.Prelude.{◌≡◌, ◌<◌, ◌^◌, ◌++◌, [], OnOk, OnErr, IfErr, drop, length, slice_get, sum_by};
 ghost use Rattle.std.specs.Option.{option_copied};
 ghost use Rattle.audit_replay.specs.Sizes.{entry_bytes};
 
 use audit_replay::bytes_of_entry;
 use journal::Entry;
-use std::alloc::{AllocError, Global};
+use std::alloc::Global;
 use std::collections::VecDeque;
 use std::marker::Model;
 
@@ -74,14 +74,17 @@ impl Queue {
         self.entries.front()
     }
 
-    /// These wait, too, behind the others.
-    pub(crate) fn add(&mut self, entries: Vec<Entry>) -> Result<(), AllocError>
+    /// These wait, too, behind the others. They are handed back where a growth is refused.
+    pub(crate) fn add(&mut self, entries: Vec<Entry>) -> Result<(), Vec<Entry>>
         ensures ok { OnOk result (self.new ≡ self.old ++ entries.items) }
+        ensures back { IfErr result (λ back. back.items ≡ entries.items) }
         ensures err { OnErr result (self.new ≡ self.old) }
     {
         let bytes = bytes_of(&entries);
         let mut more = VecDeque::from_vec(entries);
-        self.entries.append(&mut more)?;
+        if self.entries.append(&mut more).is_err() {
+            return Err(more.into_vec());
+        }
         self.bytes += bytes;
         Ok(())
     }

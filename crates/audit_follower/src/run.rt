@@ -1,9 +1,10 @@
 //! Entries that wait happen again, in the order of their stamps.
 
-ghost use Rattle.std.specs.Prelude.{◌≡◌, ◌≤◌, ◌<◌, ◌+◌, ◌⊎◌, OnOk, IfErr, MatchOption, None, Some, drop, length, slice_set};
+ghost use Rattle.std.specs.Prelude.{◌≡◌, ◌≤◌, ◌<◌, ◌+◌, ◌⊎◌, OnOk, OnErr, IfErr, MatchOption, None, Some, drop, length, slice_set};
 ghost use Rattle.journal.specs.Entry.{Entry as Entered};
 ghost use Rattle.journal.specs.Stamps.{stamp_of};
 ghost use Rattle.world.specs.Represents.{log_at, with_entry_at};
+ghost use Rattle.audit_replay.specs.Reran.{GoOnFrom};
 ghost use Rattle.audit_replay.specs.Runs.{IsRunFrom};
 ghost use Rattle.audit_replay.specs.Wrong.{IsToldOf};
 ghost use Rattle.audit_follower.specs.Stops.{IsStop};
@@ -106,6 +107,7 @@ impl Run {
         ensures size { length self.new.waiting.items ≡ length self.new.rerun.logs }
         ensures recent { self.new.rerun.recent ≡ self.old.rerun.recent }
         ensures fronts { self.new.rerun.fronts ≡ self.old.rerun.fronts }
+        ensures stays { OnErr result (GoOnFrom self.old.rerun.logs self.new.rerun.logs) }
         ensures told { IfErr result (λ fault. (e : Entered) × IsNext self.old.waiting.items index e × IsToldOf self.old.rerun.fronts self.old.rerun.logs self.old.rerun.recent index e fault) }
     {
         let Some(entry) = self.waiting[index].take_first() else {
@@ -127,6 +129,7 @@ impl Run {
         ensures size { length self.new.waiting.items ≡ length self.new.rerun.logs }
         ensures recent { self.new.rerun.recent ≡ self.old.rerun.recent }
         ensures fronts { self.new.rerun.fronts ≡ self.old.rerun.fronts }
+        ensures stays { OnErr result (GoOnFrom self.old.rerun.logs self.new.rerun.logs) }
         ensures stop { IfErr result (λ fault. IsStop self.old.rerun.fronts self.old.rerun.logs self.old.waiting.items below self.old.rerun.recent fault) }
     {
         while let Some(index) = self.next_below(below) {

@@ -1,6 +1,7 @@
 -- The first line of some bytes.
-use Rattle.std.proofs.Common.{◌≡◌, ◌≢◌, ℕ, zero, suc, ◌+◌, ◌<◌, List, [], ◌∷◌, ◌++◌, length, get_or, take, drop, arith, refl, ap, ◌∙◌, add-one, eq-eqb}
-use Rattle.std.specs.Prelude.{◌==◌, true}
+use Rattle.std.proofs.Common.{◌≡◌, ◌≢◌, ℕ, zero, suc, ◌+◌, ◌<◌, List, [], ◌∷◌, ◌++◌, length, get_or, take, drop, arith, refl, ap, ◌∙◌, add-one, eq-eqb, sym, Some, None}
+use Rattle.std.specs.Prelude.{◌==◌, true, false, slice_get}
+use Rattle.std.proofs.lemmas.Option.{same_Some}
 use Rattle.std.proofs.lemmas.Bool.{ne_eqb, cond-false, cond-true}
 use Rattle.script_lines.specs.Lines.{lines_in, begin_line, is_passed_over}
 
@@ -37,3 +38,7 @@ empty_passed last e = eq-eqb last 10 e
 pub first_tells : (b last : ℕ) (bs : List ℕ) → is_passed_over ((b ∷ bs) ++ last ∷ []) ≡ (b == 35)
 first_tells b last [] = refl
 first_tells b last (c ∷ bs) = refl
+
+pub passes_not : (bytes line : List ℕ) (b : ℕ) → bytes ≡ line ++ 10 ∷ [] → Some b ≡ slice_get line 0 → b ≢ 35 → is_passed_over bytes ≡ false
+passes_not bytes [] b is first other = absurd (let none : Some b ≡ None = first in cc)
+passes_not bytes (x ∷ xs) b is first other = ap is_passed_over is ∙ first_tells x 10 xs ∙ ap (λ (y : ℕ). y == 35) (sym (same_Some b x first)) ∙ ne_eqb b 35 other

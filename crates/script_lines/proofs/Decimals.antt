@@ -17,7 +17,7 @@ own : IsNumeralModel (λ ds. list_all is_ascii_digit ds ≡ true) (digits_value 
 own = numerals_by_value (λ ds. list_all is_ascii_digit ds ≡ true) (search rules)
 
 -- both of two tests that hold together
-both_hold : (a b : Bool) → (a && b) ≡ true → (a ≡ true) × (b ≡ true)
+pub both_hold : (a b : Bool) → (a && b) ≡ true → (a ≡ true) × (b ≡ true)
 both_hold true b e = (refl, e)
 both_hold false b e = absurd (search (e, rules))
 
@@ -89,3 +89,7 @@ past_limit word i n inside is past m small same =
 -- all digits
 pub whole_value : (word : List ℕ) (i n : ℕ) → i ≡ length word → n ≡ digits_value 10 (take i word) → n ≡ digits_value 10 word
 whole_value word i n all is = is ∙ ap (digits_value 10) (take_all i word (omega (arith, all)))
+
+-- what a decimal is worth
+pub value_of : (word : List ℕ) (n : ℕ) → n < 2 ^ 64 → word ≡ decimal n → digits_value 10 word ≡ n
+value_of word n small is = ap (digits_value 10) is ∙ digits_value-decimal own n small

@@ -1,2 +1,4 @@
 mod Cutting
 mod Decimals
+mod Grammar
+mod Spaces

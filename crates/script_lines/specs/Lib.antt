@@ -1,2 +1,4 @@
 pub mod Lines
+pub mod Grammar
+pub mod Commands
 pub mod Spelling

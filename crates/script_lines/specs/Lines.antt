@@ -26,6 +26,11 @@ unfoldable pub lines_in : List ℕ → List (List ℕ)
 lines_in [] = []
 lines_in (b ∷ bs) = if b == 10 then (b ∷ []) ∷ lines_in bs else begin_line b (lines_in bs)
 
+-- the words of a line, which are parted by one space
+unfoldable pub words_in : List ℕ → List (List ℕ)
+words_in [] = [] ∷ []
+words_in (b ∷ bs) = if b == 32 then [] ∷ words_in bs else begin_line b (words_in bs)
+
 -- an empty line, or a comment, which begins with '#'
 abbrev pub is_passed_over : List ℕ → Bool
 is_passed_over [] = false

@@ -1,7 +1,11 @@
 //! One line of a script, as it is spelled.
 
-ghost use Rattle.std.specs.Prelude.{IfOk};
-ghost use Rattle.script_lines.specs.Spelling.{Spells};
+ghost use Rattle.std.specs.Prelude.{◌≡◌, ◌==◌, ◌∷◌, [], codes, decimal, IfOk, MatchOption, MatchResult, None, Some};
+ghost use Rattle.script_lines.specs.Commands.{IsCommand};
+ghost use Rattle.script_lines.specs.Grammar.{IsRead, IsReadBehind, context_fault, context_word, fault_at, lent, places_of, question_word};
+ghost use Rattle.script_lines.specs.Grammar.{Index, Incarnation, Name, Seen, File};
+ghost use Rattle.script_lines.specs.Lines.{words_in};
+ghost use Rattle.script_lines.specs.Spelling.{IsSpelling, Spells};
 
 use crate::bad::Misspelling;
 use crate::words::{is_word, number};
@@ -112,27 +116,10 @@ enum Command {
     Check,
 }
 
-// The first words of lines.
-const COMMANDS: &[(&[u8], Command)] = &[
-    (b"vnodes", Command::Vnodes),
-    (b"put", Command::Put),
-    (b"del", Command::Del),
-    (b"get", Command::Ask(Question::Get)),
-    (b"send", Command::Ask(Question::Send)),
-    (b"sum", Command::Ask(Question::Sum)),
-    (b"part", Command::Part),
-    (b"deliver", Command::Deliver),
-    (b"restart", Command::Restart),
-    (b"dump", Command::Dump),
-    (b"load", Command::Load),
-    (b"resolve", Command::Resolve),
-    (b"commit", Command::Commit),
-    (b"check", Command::Check),
-];
-
 /// What the bytes of a line spell, its line feed among them. The list of its words takes memory.
 pub fn line_of<'a>(alloc: Global, bytes: &'a [u8]) -> Result<Spelling<'a>, AllocError>
-    ensures { IfOk result (Spells bytes.now) }
+    ensures passed_over { IfOk result (Spells bytes.now) }
+    ensures spelled { IfOk result (IsSpelling bytes.now) }
 {
     let Some((b'\n', line)) = bytes.split_last() else {
         return Ok(Spelling::Bad(Misspelling::NoLineFeed));
@@ -147,22 +134,32 @@ pub fn line_of<'a>(alloc: Global, bytes: &'a [u8]) -> Result<Spelling<'a>, Alloc
 }
 
 // The line that is spelled by bytes before a line feed.
-fn line_in<'a>(alloc: Global, line: &'a [u8]) -> Result<Result<Line<'a>, Misspelling>, AllocError> {
+fn line_in<'a>(alloc: Global, line: &'a [u8]) -> Result<Result<Line<'a>, Misspelling>, AllocError>
+    ensures { IfOk result (IsRead (words_in line.now)) }
+{
     let words = words_of(alloc, line)?;
     Ok(spelled(&words))
 }
 
 // The words of a line, which are parted by one space.
-fn words_of<'a>(alloc: Global, line: &'a [u8]) -> Result<Vec<&'a [u8]>, AllocError> {
+fn words_of<'a>(alloc: Global, line: &'a [u8]) -> Result<Vec<&'a [u8]>, AllocError>
+    ensures { IfOk result (λ words. lent words.items ≡ words_in line.now) }
+{
     let mut words = Vec::with_capacity(alloc, 5)?;
-    for word in line.split(|byte| *byte == b' ') {
+    for word in line.split(
+        |byte| -> bool
+            ensures { result ≡ (byte.now == 32) }
+        { *byte == b' ' },
+    ) {
         words.push(word)?;
     }
     Ok(words)
 }
 
 // The line of these words.
-fn spelled<'a>(words: &[&'a [u8]]) -> Result<Line<'a>, Misspelling> {
+fn spelled<'a>(words: &[&'a [u8]]) -> Result<Line<'a>, Misspelling>
+    ensures { IsRead (lent words.now) result }
+{
     let Some((command, arguments)) = words.split_first() else {
         return Err(Misspelling::NoSuchLine);
     };
@@ -184,23 +181,40 @@ fn spelled<'a>(words: &[&'a [u8]]) -> Result<Line<'a>, Misspelling> {
 }
 
 // The command of this name.
-fn command_of(name: &[u8]) -> Option<Command> {
-    for (known, command) in COMMANDS {
-        if *known == name {
-            return Some(*command);
-        }
+fn command_of(name: &[u8]) -> Option<Command>
+    ensures { MatchOption result (places_of name.now ≡ None) (IsCommand name.now) }
+{
+    match name {
+        b"vnodes" => Some(Command::Vnodes),
+        b"put" => Some(Command::Put),
+        b"del" => Some(Command::Del),
+        b"get" => Some(Command::Ask(Question::Get)),
+        b"send" => Some(Command::Ask(Question::Send)),
+        b"sum" => Some(Command::Ask(Question::Sum)),
+        b"part" => Some(Command::Part),
+        b"deliver" => Some(Command::Deliver),
+        b"restart" => Some(Command::Restart),
+        b"dump" => Some(Command::Dump),
+        b"load" => Some(Command::Load),
+        b"resolve" => Some(Command::Resolve),
+        b"commit" => Some(Command::Commit),
+        b"check" => Some(Command::Check),
+        _ => None,
     }
-    None
 }
 
-fn vnodes<'a>(arguments: &[&'a [u8]]) -> Result<Line<'a>, Misspelling> {
+fn vnodes<'a>(arguments: &[&'a [u8]]) -> Result<Line<'a>, Misspelling>
+    ensures { IsReadBehind (codes "vnodes") (Index ∷ []) (lent arguments.now) result }
+{
     let [count] = arguments else {
         return Err(Misspelling::WordCount);
     };
     Ok(Line::Vnodes(number_of(count)?))
 }
 
-fn put<'a>(arguments: &[&'a [u8]]) -> Result<Line<'a>, Misspelling> {
+fn put<'a>(arguments: &[&'a [u8]]) -> Result<Line<'a>, Misspelling>
+    ensures { IsReadBehind (codes "put") (Index ∷ Name ∷ Name ∷ Seen ∷ []) (lent arguments.now) result }
+{
     let [vnode, key, value, context] = arguments else {
         return Err(Misspelling::WordCount);
     };
@@ -212,7 +226,9 @@ fn put<'a>(arguments: &[&'a [u8]]) -> Result<Line<'a>, Misspelling> {
     })
 }
 
-fn del<'a>(arguments: &[&'a [u8]]) -> Result<Line<'a>, Misspelling> {
+fn del<'a>(arguments: &[&'a [u8]]) -> Result<Line<'a>, Misspelling>
+    ensures { IsReadBehind (codes "del") (Index ∷ Name ∷ Seen ∷ []) (lent arguments.now) result }
+{
     let [vnode, key, context] = arguments else {
         return Err(Misspelling::WordCount);
     };
@@ -224,7 +240,9 @@ fn del<'a>(arguments: &[&'a [u8]]) -> Result<Line<'a>, Misspelling> {
     })
 }
 
-fn ask<'a>(question: Question, arguments: &[&'a [u8]]) -> Result<Line<'a>, Misspelling> {
+fn ask<'a>(question: Question, arguments: &[&'a [u8]]) -> Result<Line<'a>, Misspelling>
+    ensures { IsReadBehind (question_word question) (Index ∷ Name ∷ Name ∷ []) (lent arguments.now) result }
+{
     let [vnode, key, name] = arguments else {
         return Err(Misspelling::WordCount);
     };
@@ -236,7 +254,9 @@ fn ask<'a>(question: Question, arguments: &[&'a [u8]]) -> Result<Line<'a>, Missp
     })
 }
 
-fn part<'a>(arguments: &[&'a [u8]]) -> Result<Line<'a>, Misspelling> {
+fn part<'a>(arguments: &[&'a [u8]]) -> Result<Line<'a>, Misspelling>
+    ensures { IsReadBehind (codes "part") (Index ∷ Name ∷ Name ∷ Name ∷ []) (lent arguments.now) result }
+{
     let [vnode, key, summary, message] = arguments else {
         return Err(Misspelling::WordCount);
     };
@@ -248,7 +268,9 @@ fn part<'a>(arguments: &[&'a [u8]]) -> Result<Line<'a>, Misspelling> {
     })
 }
 
-fn deliver<'a>(arguments: &[&'a [u8]]) -> Result<Line<'a>, Misspelling> {
+fn deliver<'a>(arguments: &[&'a [u8]]) -> Result<Line<'a>, Misspelling>
+    ensures { IsReadBehind (codes "deliver") (Name ∷ Index ∷ []) (lent arguments.now) result }
+{
     let [message, vnode] = arguments else {
         return Err(Misspelling::WordCount);
     };
@@ -258,7 +280,9 @@ fn deliver<'a>(arguments: &[&'a [u8]]) -> Result<Line<'a>, Misspelling> {
     })
 }
 
-fn restart<'a>(arguments: &[&'a [u8]]) -> Result<Line<'a>, Misspelling> {
+fn restart<'a>(arguments: &[&'a [u8]]) -> Result<Line<'a>, Misspelling>
+    ensures { IsReadBehind (codes "restart") (Index ∷ []) (lent arguments.now) result }
+{
     let [vnode] = arguments else {
         return Err(Misspelling::WordCount);
     };
@@ -267,7 +291,9 @@ fn restart<'a>(arguments: &[&'a [u8]]) -> Result<Line<'a>, Misspelling> {
     })
 }
 
-fn dump<'a>(arguments: &[&'a [u8]]) -> Result<Line<'a>, Misspelling> {
+fn dump<'a>(arguments: &[&'a [u8]]) -> Result<Line<'a>, Misspelling>
+    ensures { IsReadBehind (codes "dump") (Index ∷ Name ∷ []) (lent arguments.now) result }
+{
     let [vnode, copies] = arguments else {
         return Err(Misspelling::WordCount);
     };
@@ -277,7 +303,9 @@ fn dump<'a>(arguments: &[&'a [u8]]) -> Result<Line<'a>, Misspelling> {
     })
 }
 
-fn load<'a>(arguments: &[&'a [u8]]) -> Result<Line<'a>, Misspelling> {
+fn load<'a>(arguments: &[&'a [u8]]) -> Result<Line<'a>, Misspelling>
+    ensures { IsReadBehind (codes "load") (Index ∷ Incarnation ∷ Name ∷ []) (lent arguments.now) result }
+{
     let [vnode, incarnation, copies] = arguments else {
         return Err(Misspelling::WordCount);
     };
@@ -288,7 +316,9 @@ fn load<'a>(arguments: &[&'a [u8]]) -> Result<Line<'a>, Misspelling> {
     })
 }
 
-fn resolve<'a>(arguments: &[&'a [u8]]) -> Result<Line<'a>, Misspelling> {
+fn resolve<'a>(arguments: &[&'a [u8]]) -> Result<Line<'a>, Misspelling>
+    ensures { IsReadBehind (codes "resolve") (Name ∷ File ∷ []) (lent arguments.now) result }
+{
     let [answer, file] = arguments else {
         return Err(Misspelling::WordCount);
     };
@@ -298,7 +328,9 @@ fn resolve<'a>(arguments: &[&'a [u8]]) -> Result<Line<'a>, Misspelling> {
     })
 }
 
-fn commit<'a>(arguments: &[&'a [u8]]) -> Result<Line<'a>, Misspelling> {
+fn commit<'a>(arguments: &[&'a [u8]]) -> Result<Line<'a>, Misspelling>
+    ensures { IsReadBehind (codes "commit") (Index ∷ Name ∷ []) (lent arguments.now) result }
+{
     let [vnode, answer] = arguments else {
         return Err(Misspelling::WordCount);
     };
@@ -308,7 +340,9 @@ fn commit<'a>(arguments: &[&'a [u8]]) -> Result<Line<'a>, Misspelling> {
     })
 }
 
-fn check<'a>(arguments: &[&'a [u8]]) -> Result<Line<'a>, Misspelling> {
+fn check<'a>(arguments: &[&'a [u8]]) -> Result<Line<'a>, Misspelling>
+    ensures { IsReadBehind (codes "check") (Index ∷ Name ∷ Name ∷ File ∷ []) (lent arguments.now) result }
+{
     let [vnode, key, value, file] = arguments else {
         return Err(Misspelling::WordCount);
     };
@@ -321,7 +355,9 @@ fn check<'a>(arguments: &[&'a [u8]]) -> Result<Line<'a>, Misspelling> {
 }
 
 // An index or a count.
-fn number_of(word: &[u8]) -> Result<usize, Misspelling> {
+fn number_of(word: &[u8]) -> Result<usize, Misspelling>
+    ensures { MatchResult result (λ n. (fault_at Index word.now ≡ None) × (word.now ≡ decimal n)) (λ why. fault_at Index word.now ≡ Some why) }
+{
     match number(word) {
         Some(number) => Ok(number),
         None => Err(Misspelling::NoNumber),
@@ -329,7 +365,9 @@ fn number_of(word: &[u8]) -> Result<usize, Misspelling> {
 }
 
 // An incarnation of a vnode.
-fn incarnation_of(word: &[u8]) -> Result<u16, Misspelling> {
+fn incarnation_of(word: &[u8]) -> Result<u16, Misspelling>
+    ensures { MatchResult result (λ n. (fault_at Incarnation word.now ≡ None) × (word.now ≡ decimal n)) (λ why. fault_at Incarnation word.now ≡ Some why) }
+{
     match u16::try_from(number_of(word)?) {
         Ok(incarnation) => Ok(incarnation),
         Err(_) => Err(Misspelling::NoIncarnation),
@@ -337,7 +375,9 @@ fn incarnation_of(word: &[u8]) -> Result<u16, Misspelling> {
 }
 
 // A key, a value or a name.
-fn name_of<'a>(word: &'a [u8]) -> Result<&'a [u8], Misspelling> {
+fn name_of<'a>(word: &'a [u8]) -> Result<&'a [u8], Misspelling>
+    ensures { MatchResult result (λ name. (fault_at Name word.now ≡ None) × (name.now ≡ word.now)) (λ why. fault_at Name word.now ≡ Some why) }
+{
     if is_word(word) {
         Ok(word)
     } else {
@@ -346,7 +386,9 @@ fn name_of<'a>(word: &'a [u8]) -> Result<&'a [u8], Misspelling> {
 }
 
 // The name of a file, which is text.
-fn file_of<'a>(word: &'a [u8]) -> Result<&'a str, Misspelling> {
+fn file_of<'a>(word: &'a [u8]) -> Result<&'a str, Misspelling>
+    ensures { MatchResult result (λ file. (fault_at File word.now ≡ None) × (file.now ≡ word.now)) (λ why. fault_at File word.now ≡ Some why) }
+{
     match str::from_utf8(word) {
         Ok(file) => Ok(file),
         Err(_) => Err(Misspelling::NoFileName),
@@ -354,7 +396,9 @@ fn file_of<'a>(word: &'a [u8]) -> Result<&'a str, Misspelling> {
 }
 
 // The context that a word stands for.
-fn context_of<'a>(word: &'a [u8]) -> Result<Context<'a>, Misspelling> {
+fn context_of<'a>(word: &'a [u8]) -> Result<Context<'a>, Misspelling>
+    ensures { MatchResult result (λ context. (context_fault word.now ≡ None) × (context_word context ≡ word.now)) (λ why. context_fault word.now ≡ Some why) }
+{
     match word.split_first() {
         Some((b'-', [])) => Ok(Context::Nothing),
         Some((b'@', name)) => Ok(Context::OfGet(name_of(name)?)),

@@ -1,5 +1,4 @@
-use Rattle.std.proofs.Common.{◌≡◌, ◌∙◌, ◌+◌, ◌<◌, ◌≤◌, length, sym, ap, take, arith, refl, subst}
-use Rattle.std.specs.Str.Parse.{digits_value}
+use Rattle.std.proofs.Common.{◌∙◌, sym, arith}
 use Rattle.script_lines.proofs.Decimals.{digit_at, is_written, next_value, not_written, past_limit, whole_value}
 use Rattle.script_lines.proofs.words.number.Goals as goal
 

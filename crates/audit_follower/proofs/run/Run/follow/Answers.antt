@@ -1,4 +1,4 @@
-use Rattle.std.proofs.Common.{◌≡◌, ◌∙◌, ◌<◌, ℕ, List, sym, subst}
+use Rattle.std.proofs.Common.{◌≡◌, ◌∙◌, ◌<◌, ℕ, List, refl, sym, subst}
 use Rattle.std.proofs.lemmas.Option.{same_Some}
 use Rattle.journal.specs.Entry.{Entry}
 use Rattle.journal.specs.Logs.{Log}
@@ -10,7 +10,8 @@ use Rattle.audit_replay.specs.declared.kept.Recent.{Recent}
 use Rattle.audit_replay.specs.Runs.{IsRunFrom}
 use Rattle.audit_replay.specs.Wrong.{IsToldOf}
 use Rattle.audit_follower.specs.Stops.{IsStop}
-use Rattle.audit_replay.proofs.Opening.{passed}
+use Rattle.audit_replay.proofs.Opening.{on_any_err, passed}
+use Rattle.audit_replay.proofs.Staying.{goes_on_entry, goes_on_same, goes_on_then}
 use Rattle.audit_follower.proofs.Turns.{waits_less, alike_more}
 use Rattle.audit_follower.proofs.run.Run.follow.Goals as goal
 
@@ -19,6 +20,17 @@ loop-index-smaller c =
     let waiting = c.loop-index.self.waiting.items in
     let next = c.in_ok-step.ensures.next in
     subst (λ (w : List (List Entry)). count_waiting w < count_waiting waiting) (sym next.3) (waits_less waiting c.in-Some.index next.0 next.1)
+
+pub loop-index-init : goal.loop-index-init
+loop-index-init c = record {
+  size = c.requires.size;
+  going = c.requires.going;
+  run = c.requires.run;
+  fronts = refl;
+  recent = refl;
+  longer = goes_on_same c.args.self.now.rerun.logs;
+  alike = record { size = refl; vnodes = λ index. refl; entries = λ index. refl };
+}
 
 pub loop-index-preserved : goal.loop-index-preserved
 loop-index-preserved c =
@@ -34,10 +46,15 @@ loop-index-preserved c =
       run = subst (λ (ns : List ℕ). IsRunFrom ns c.step.new.self.rerun.logs) c.loop-index.invariant.fronts c.in_ok-step.ensures.run;
       fronts = c.in_ok-step.ensures.fronts ∙ c.loop-index.invariant.fronts;
       recent = c.in_ok-step.ensures.recent ∙ c.loop-index.invariant.recent;
+      longer = goes_on_then first logs c.step.new.self.rerun.logs c.loop-index.invariant.longer (goes_on_entry i logs c.step.new.self.rerun.logs next.0 c.in-Some.ensures.0 next.2);
       alike = subst (λ (l : List Log). AreTakenAlike first waited l c.step.new.self.waiting.items) (sym next.2)
           (subst (λ (w : List (List Entry)). AreTakenAlike first waited (with_entry_at logs i next.0) w) (sym next.3)
           (alike_more first waited logs waiting i next.0 c.loop-index.invariant.alike c.in-Some.ensures.0 next.1));
     }
+
+pub returns-in_err-step-clause-stays : goal.returns-in_err-step-clause-stays
+returns-in_err-step-clause-stays c =
+    on_any_err c.from_residual.result _ (goes_on_then c.args.self.now.rerun.logs c.loop-index.self.rerun.logs c.step.new.self.rerun.logs c.loop-index.invariant.longer c.in_err-step.ensures.stays)
 
 pub returns-in_err-step-clause-stop : goal.returns-in_err-step-clause-stop
 returns-in_err-step-clause-stop c =

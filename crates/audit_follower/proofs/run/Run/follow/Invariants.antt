@@ -1,4 +1,5 @@
 use Rattle.std.specs.Prelude.{◌≡◌, None, length}
+use Rattle.audit_replay.specs.Reran.{GoOnFrom}
 use Rattle.audit_replay.specs.Runs.{IsRunFrom}
 use Rattle.audit_follower.specs.Waiting.{AreTakenAlike, count_waiting}
 use Rattle.audit_follower.proofs.run.Run.follow.Given as goal
@@ -10,6 +11,7 @@ invariant-loop-index l = record {
   run : IsRunFrom l.initial.self.rerun.fronts l.self.rerun.logs;
   fronts : l.self.rerun.fronts ≡ l.initial.self.rerun.fronts;
   recent : l.self.rerun.recent ≡ l.initial.self.rerun.recent;
+  longer : GoOnFrom l.initial.self.rerun.logs l.self.rerun.logs;
   alike : AreTakenAlike l.initial.self.rerun.logs l.initial.self.waiting.items l.self.rerun.logs l.self.waiting.items;
 }
 

@@ -6,6 +6,7 @@ use Rattle.audit_faults.specs.declared.fault.AuditFault.{AuditFault}
 use Rattle.audit_follower.specs.Waiting.{IsNext}
 use Rattle.audit_replay.specs.Wrong.{IsToldOf}
 use Rattle.audit_replay.proofs.Sorting.{same_default}
+use Rattle.audit_replay.proofs.Staying.{stays_on}
 use Rattle.audit_follower.proofs.run.Run.step.Goals as goal
 
 pub returns-clause-next : goal.returns-clause-next
@@ -28,3 +29,6 @@ returns-clause-told c =
     let queue : c.index_mut.result.now ≡ get_or own.waiting.items i [] = c.index_mut.ensures.value ∙ same_default own.waiting.items i c.index_mut.result.now [] inside in
     let next : IsNext own.waiting.items i e = subst (λ (es : List Entry). slice_get es 0 ≡ Some e) queue (sym c.in-Some.ensures.first) in
     IfErr-weaker c.go_on.result (λ (fault : AuditFault). IsToldOf own.rerun.fronts own.rerun.logs own.rerun.recent i e fault) _ (λ fault told. (e, next, told)) c.go_on.ensures.told
+
+pub returns-clause-stays : goal.returns-clause-stays
+returns-clause-stays c = stays_on c.go_on.result c.args.index c.args.self.now.rerun.logs c.go_on.new.self.logs c.go_on.ensures.stays
