@@ -1,6 +1,6 @@
 -- Keys that are folded, by what the merges of their records come to.
 use Rattle.std.proofs.Common.{◌≡◌, ℕ, Bool, true, false, List, [], ◌∷◌, length, map, refl, sym, ap, subst, ◌∙◌, if◌then◌else◌}
-use Rattle.std.specs.Prelude.{Option, None, Some, Result, Ok, Err, IfOk}
+use Rattle.std.specs.Prelude.{Option, None, Some}
 use Rattle.std.specs.BTreeMap.{BTreeMap, get}
 use Rattle.std.specs.List.{AllZip}
 use Rattle.key_state.specs.declared.content.Key.{Key}
@@ -11,7 +11,7 @@ use Rattle.record_codec.specs.declared.record.Record.{Record}
 use Rattle.kept_fold.specs.declared.candidates.Merging.{Merging}
 use Rattle.kept_fold.specs.declared.candidates.Merging.TheVariants.{Merged, PastLimit}
 use Rattle.kept_fold.specs.Merging.{AreMerged, GoesOn, HasCome, all_records, is_long, states_of}
-use Rattle.kept_fold.specs.Folds.{AreRewritten, IsFold, IsRewritten, IsRewrittenBy, is_foldable, record_anew, rewritten, share, to_fold}
+use Rattle.kept_fold.specs.Folds.{IsFold, IsRewritten, IsRewrittenBy, is_foldable, rewritten, share, to_fold}
 use Rattle.kept_fold.proofs.Steps.{one_merge}
 
 -- ---- what a key's merge comes to, and whether it is folded
@@ -106,9 +106,3 @@ pub began_of : (n m : ℕ) (fs files : List KeptFile) (key : Key) (start : Optio
     → start ≡ (if is_long m (all_records files) key then Some (Merged empty) else None)
 began_of n m fs files key start one same is =
     is ∙ ap (λ (k : ℕ). if is_long k (all_records fs) key then Some (Merged empty) else None) one ∙ ap (λ (l : List KeptFile). if is_long m (all_records l) key then Some (Merged empty) else None) same
-
--- ---- results
-
-pub if_ok : {X E : Type 0} {P Q : X → Type 0} → ((x : X) → P x → Q x) → (r : Result X E) → IfOk r P → IfOk r Q
-if_ok f (Ok x) p = f x p
-if_ok f (Err e) p = p

@@ -1,7 +1,7 @@
 -- The last starts that records tell of.
 use Rattle.std.proofs.Common.{◌≡◌, ℕ, zero, suc, ◌+◌, ◌*◌, ◌/◌, ◌%◌, ◌<◌, ◌≤◌, ◌++◌, Bool, true, false, not, List, [], ◌∷◌, length, take, get_or, refl, sym, ap, subst, ◌∙◌, arith, if◌then◌else◌}
-use Rattle.std.specs.BTreeMap.{BTreeMap, get}
-use Rattle.std.specs.Prelude.{◌==◌, max, nat_lt, filter, Contains, Option, None, Some}
+use Rattle.std.specs.BTreeMap.{BTreeMap}
+use Rattle.std.specs.Prelude.{◌==◌, max, nat_lt, filter, Contains, Option, Some}
 use Rattle.std.proofs.Math.Nat.{le_refl}
 use Rattle.std.proofs.lemmas.Bool.{lt-ltb}
 use Rattle.journal.proofs.Keyed.{same_itself}
@@ -9,11 +9,11 @@ use Rattle.std.specs.List.{AllZip}
 use Rattle.std.proofs.lemmas.List.{take_more}
 use Rattle.dvv.specs.declared.Dot.{Dot}
 use Rattle.key_state.specs.declared.content.Key.{Key}
-use Rattle.journal.specs.Keys.{key_cmp, same_key}
+use Rattle.journal.specs.Keys.{same_key}
 use Rattle.kept_file.specs.declared.file.KeptFile.{KeptFile}
 use Rattle.record_codec.specs.declared.record.Record.{Record}
 use Rattle.kept_fold.specs.Merging.{all_records}
-use Rattle.kept_fold.specs.Stale.{AreFresh, IsFreshBy, fold_id, fold_in, greatest, is_behind, is_stale, last_fold, number_at, number_in, start_of}
+use Rattle.kept_fold.specs.Stale.{IsFreshBy, fold_id, fold_in, greatest, is_behind, is_stale, last_fold, number_at, number_in, start_of}
 use Rattle.kept_fold.proofs.Steps.{records_more}
 
 -- ---- the greatest of a clock's entries

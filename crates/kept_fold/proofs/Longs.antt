@@ -1,7 +1,6 @@
 -- Keys of which some record's clock is long.
 use Rattle.std.proofs.Common.{◌≡◌, ℕ, ◌+◌, ◌<◌, ◌≤◌, ◌++◌, ◌&&◌, ◌||◌, Bool, true, false, List, [], ◌∷◌, length, take, get_or, refl, sym, ap, ◌∙◌, if◌then◌else◌}
 use Rattle.std.specs.Prelude.{Option, None, Some, nat_lt}
-use Rattle.std.specs.List.{list_any}
 use Rattle.std.proofs.lemmas.List.{take_more}
 use Rattle.std.proofs.lemmas.List.Folds.{list_any-append}
 use Rattle.std.proofs.lemmas.Bool.{le-ltb, lt-ltb}
@@ -13,7 +12,7 @@ use Rattle.kept_fold.specs.declared.candidates.Merging.{Merging}
 use Rattle.kept_fold.specs.Merging.{all_records, is_long}
 use Rattle.kept_fold.proofs.Steps.{records_more}
 
-long_append : (least : ℕ) (xs ys : List Record) (key : Key) → is_long least (xs ++ ys) key ≡ (is_long least xs key || is_long least ys key)
+pub long_append : (least : ℕ) (xs ys : List Record) (key : Key) → is_long least (xs ++ ys) key ≡ (is_long least xs key || is_long least ys key)
 long_append least xs ys key = list_any-append (λ (r : Record). same_key r.key key && nat_lt least (length r.state.clock)) xs ys
 
 -- ---- one record

@@ -1,11 +1,11 @@
 -- Contents under an identifier's dots, in order.
-use Rattle.std.proofs.Common.{◌≡◌, ℕ, zero, suc, ◌+◌, ◌<◌, ◌≤◌, ◌++◌, ◌⊎◌, inl, inr, Bool, true, List, [], ◌∷◌, length, take, get_or, refl, sym, ap, subst, ◌∙◌, arith, rules, if◌then◌else◌}
+use Rattle.std.proofs.Common.{◌≡◌, ℕ, zero, suc, ◌+◌, ◌<◌, ◌≤◌, ◌++◌, inr, Bool, true, List, [], ◌∷◌, length, take, get_or, refl, sym, ap, ◌∙◌, arith, rules, if◌then◌else◌}
 use Rattle.std.specs.Prelude.{◌==◌, ◌^◌}
 use Rattle.std.specs.List.{AllByRecursion}
 use Rattle.std.proofs.lemmas.List.{take_more}
 use Rattle.dvv.specs.declared.Dot.{Dot}
 use Rattle.dvv.specs.Dots.{IsBefore}
-use Rattle.dvv.specs.Clock.{Covers, IsClock, counter}
+use Rattle.dvv.specs.Clock.{IsClock, counter}
 use Rattle.key_state.specs.declared.content.Content.{Content}
 use Rattle.key_state.specs.declared.content.Sibling.{Sibling}
 use Rattle.key_state.specs.State.{AreInOrder, AreCovered}

@@ -1,5 +1,5 @@
 -- What journals leave of merges, and contexts of before a fold.
-use Rattle.std.proofs.Common.{◌≡◌, ℕ, ◌+◌, ◌<◌, ◌≤◌, ◌++◌, List, [], ◌∷◌, length, refl, sym, ap, subst, ◌∙◌, arith, append_assoc}
+use Rattle.std.proofs.Common.{◌≡◌, ℕ, ◌++◌, List, [], ◌∷◌, length, refl, sym, subst, arith, append_assoc}
 use Rattle.std.specs.Prelude.{◌==◌, ◌≢◌, if◌then◌else◌, Bool, true, false}
 use Rattle.std.proofs.lemmas.List.{append-nil}
 use Rattle.std.proofs.lemmas.Bool.{eqb-true}
@@ -7,7 +7,7 @@ use Rattle.dvv.specs.declared.Dot.{Dot}
 use Rattle.dvv.specs.Clock.{Covers, Within, counter}
 use Rattle.key_state.specs.declared.content.Key.{Key}
 use Rattle.key_state.specs.declared.content.Sibling.{Sibling}
-use Rattle.key_state.specs.State.{State, IsState, Merges, empty}
+use Rattle.key_state.specs.State.{State, IsState, Merges}
 use Rattle.journal.specs.Replay.{IsMergeOf}
 use Rattle.kept_fold.specs.Folds.{anew}
 use Rattle.kept_fold.specs.Merging.{MergesInto}

@@ -12,7 +12,7 @@ use Rattle.journal.specs.Keys.{same_key}
 use Rattle.kept_file.specs.declared.file.KeptFile.{KeptFile}
 use Rattle.record_codec.specs.declared.record.Record.{Record}
 use Rattle.kept_fold.specs.declared.candidates.Merging.{Merging}
-use Rattle.kept_fold.specs.declared.candidates.Merging.TheVariants.{Merged, PastLimit}
+use Rattle.kept_fold.specs.declared.candidates.Merging.TheVariants.{PastLimit}
 use Rattle.kept_fold.specs.Merging.{AreMerged, GoesOn, HasCome, MergesInto, all_records, states_of}
 
 -- ---- there is one merge of states

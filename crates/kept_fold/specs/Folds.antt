@@ -2,7 +2,6 @@
 use Rattle.std.specs.Prelude.{◌≡◌, ℕ, ◌+◌, ◌/◌, ◌&&◌, max, nat_lt, nat_le, Bool, true, if◌then◌else◌, List, [], ◌∷◌, Option, None, Some, length, map}
 use Rattle.std.specs.BTreeMap.{BTreeMap, get}
 use Rattle.std.specs.List.{AllZip}
-use Rattle.dvv.specs.declared.Dot.{Dot}
 use Rattle.key_state.specs.declared.content.Key.{Key}
 use Rattle.key_state.specs.declared.content.Sibling.{Sibling}
 use Rattle.key_state.specs.State.{State}

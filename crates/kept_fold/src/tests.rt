@@ -213,42 +213,62 @@ fn written(
     Ok(state)
 }
 
-/// The files of a store that ended while start 40 replaced them, which had folded key 0: that of its first vnode is of start 40, where the
-/// key was written once more; that of the second is of start 39, and has what the fold has read; and in that of the third stands what its
-/// vnode of start 41 was told, which knew nothing of the key.
-fn torn_files(alloc: Global, name: u8, later: u32) -> Result<Vec<KeptFile>, Fail> {
+/// What the first vnode of start 40 has of a key that this start has folded, and starts up to a later one have written there once more.
+fn first_of(alloc: Global, later: u32) -> Result<KeyState, Fail> {
+    let mut state = KeyState::new(alloc);
+    put(alloc, &mut state, 40, 254, 5)?;
+    written(alloc, state, (40, later), 0, 6)
+}
+
+/// What the third vnode of start 41 was told of the key, which knew nothing of it.
+fn third_of(alloc: Global) -> Result<KeyState, Fail> {
+    written(alloc, KeyState::new(alloc), (41, 42), 2, 8)
+}
+
+/// The files of a store of which some weren't replaced: that of the second vnode is of start 39, and has what the fold has read.
+fn torn_files(alloc: Global, later: u32) -> Result<Vec<KeptFile>, Fail> {
     let mut files = Vec::new(alloc);
-    let mut first = KeyState::new(alloc);
-    put(alloc, &mut first, 40, 254, 5)?;
-    let first = written(alloc, first, (40, later), 0, 6)?;
-    files.push(file_with(alloc, 10_240, name, first)?)?;
-    files.push(file_with(alloc, 9_985, name, state_of(alloc, 39, 1, 7)?)?)?;
-    let third = written(alloc, KeyState::new(alloc), (41, 42), 2, 8)?;
-    files.push(file_with(alloc, 10_498, name, third)?)?;
+    files.push(file_with(alloc, 10_240, 0, first_of(alloc, later)?)?)?;
+    files.push(file_with(alloc, 9_985, 0, state_of(alloc, 39, 1, 7)?)?)?;
+    files.push(file_with(alloc, 10_498, 0, third_of(alloc)?)?)?;
     Ok(files)
+}
+
+/// The records of the first and the third of three files, where these have one, and the second has none.
+fn first_and_third(files: &[KeptFile]) -> Option<(&Record, &Record)> {
+    let [first, second, third] = files else {
+        return None;
+    };
+    if !second.records.is_empty() {
+        return None;
+    }
+    match (first.records.as_slice(), third.records.as_slice()) {
+        ([first], [third]) => Some((first, third)),
+        _ => None,
+    }
 }
 
 #[test]
 fn what_a_fold_has_read_is_left_out(rt: HostRuntime) -> Result<(), Fail> {
     let alloc = rt.alloc();
-    let old = torn_files(alloc, 0, 41)?;
-    let new = fold_files(alloc, torn_files(alloc, 0, 41)?, NUMBER)?;
-    assert!(rt; new.len() == 3 && new[1].records.is_empty(), "the second");
-    for index in [0, 2] {
-        let (old, new) = (&old[index].records, &new[index].records);
-        let is_same = new.len() == 1 && new[0].state.is_same(&old[0].state);
-        assert!(rt; is_same, "file {index}");
-    }
-    // The same key, written by 33 starts since.
-    let new = fold_files(alloc, torn_files(alloc, 0, 73)?, NUMBER)?;
+    let new = fold_files(alloc, torn_files(alloc, 41)?, NUMBER)?;
+    let Some((first, third)) = first_and_third(&new) else {
+        return Err(Fail::new("files"));
+    };
+    let is_first = first.state.is_same(&first_of(alloc, 41)?);
     assert!(rt;
-        new.len() == 3 && new[1].records.is_empty(),
-        "the second, later"
+        is_first && third.state.is_same(&third_of(alloc)?),
+        "they stay"
     );
-    for index in [0, 2] {
-        let records = &new[index].records;
-        let is_right = records.len() == 1 && is_folded(alloc, &records[0], &[8, 6])?;
-        assert!(rt; is_right, "file {index}, later");
-    }
+    // The same key, written by 32 starts more.
+    let new = fold_files(alloc, torn_files(alloc, 73)?, NUMBER)?;
+    let Some((first, third)) = first_and_third(&new) else {
+        return Err(Fail::new("later files"));
+    };
+    let is_first = is_folded(alloc, first, &[8, 6])?;
+    assert!(rt;
+        is_first && is_folded(alloc, third, &[8, 6])?,
+        "they are folded"
+    );
     Ok(())
 }

@@ -1,8 +1,7 @@
-use Rattle.std.proofs.Common.{◌≡◌, List, ◌∷◌, [], length, sym, subst}
+use Rattle.std.proofs.Common.{List, ◌∷◌, [], length, sym, subst}
 use Rattle.dvv.specs.declared.Dot.{Dot}
 use Rattle.key_state.specs.declared.content.Sibling.{Sibling}
 use Rattle.key_state.specs.State.{AreCovered, AreInOrder}
-use Rattle.kept_fold.specs.Folds.{numbered}
 use Rattle.kept_fold.proofs.Numbered.{numbered_covered, numbered_in_order}
 use Rattle.kept_fold.proofs.anew.anew.Goals as goal
 

@@ -1,15 +1,8 @@
-use Rattle.std.proofs.Common.{rules, ◌≡◌, ◌++◌, ◌∷◌, [], List, Bool, true, false, ℕ, ◌+◌, ◌<◌, ◌≤◌, length, take, refl, sym, ap, subst, ◌∙◌, arith, if◌then◌else◌}
-use Rattle.std.specs.Prelude.{Option, None, Some, nat_lt}
+use Rattle.std.proofs.Common.{take}
 use Rattle.std.specs.BTreeMap.{get}
-use Rattle.std.proofs.lemmas.List.{take_all}
 use Rattle.key_state.specs.declared.content.Key.{Key}
-use Rattle.key_state.specs.State.{State, empty}
-use Rattle.journal.specs.Keys.{key_cmp, same_key}
-use Rattle.kept_file.specs.declared.file.KeptFile.{KeptFile}
-use Rattle.record_codec.specs.declared.record.Record.{Record}
-use Rattle.kept_fold.specs.declared.candidates.Merging.{Merging}
-use Rattle.kept_fold.specs.declared.candidates.Merging.TheVariants.{Merged, PastLimit}
-use Rattle.kept_fold.specs.Merging.{AreMerged, GoesOn, HasCome, all_records, is_long, states_of}
+use Rattle.journal.specs.Keys.{key_cmp}
+use Rattle.kept_fold.specs.Merging.{GoesOn, states_of}
 use Rattle.kept_fold.proofs.candidates.merge_records.Given as goal
 
 -- those so far were merged

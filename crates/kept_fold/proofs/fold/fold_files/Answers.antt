@@ -1,13 +1,13 @@
-use Rattle.std.proofs.Common.{◌≡◌, List, ℕ, length, ap, sym, subst, ◌∙◌}
-use Rattle.std.specs.Prelude.{Option}
+use Rattle.std.proofs.Common.{List, length, ap, subst, ◌∙◌}
 use Rattle.std.specs.BTreeMap.{get}
+use Rattle.std.proofs.lemmas.Result.{IfOk-weaker}
 use Rattle.key_state.specs.declared.content.Key.{Key}
 use Rattle.journal.specs.Keys.{key_cmp}
 use Rattle.kept_file.specs.declared.file.KeptFile.{KeptFile}
 use Rattle.kept_fold.specs.Merging.{GoesOn, all_records, states_of}
 use Rattle.kept_fold.specs.Folds.{share}
 use Rattle.kept_fold.specs.Stale.{fold_id}
-use Rattle.kept_fold.proofs.Found.{IsJudged, are_rewritten, began_of, if_ok}
+use Rattle.kept_fold.proofs.Found.{IsJudged, are_rewritten, began_of}
 use Rattle.kept_fold.proofs.fold.fold_files.Goals as goal
 
 -- what each key began with, and what its merge has come to
@@ -20,10 +20,10 @@ judged c key = record {
 
 pub returns : goal.returns
 returns c =
-    if_ok
+    IfOk-weaker c.rewrite_files.result _ _
     (λ folded all. record {
       fresh = c.in_ok-fresh.fresh.items;
       left = c.in_ok-fresh.ensures;
       rewritten = are_rewritten c.in_ok-fresh.fresh.items c.in_ok-merges.merges c.merge_files.new.merges (judged c) (fold_id c.args.number) c.in_ok-fresh.fresh.items folded.items all;
     })
-    c.rewrite_files.result c.rewrite_files.ensures
+    c.rewrite_files.ensures
