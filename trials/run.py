@@ -50,6 +50,7 @@ NAMES = (
     "refused_calls",
     "descriptors",
     "troubles",
+    "uploads",
     "strangers",
     "deaf",
     "crowd",

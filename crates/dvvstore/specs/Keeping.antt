@@ -19,6 +19,7 @@ use Rattle.kept_folder.specs.Seals.{sealed}
 use Rattle.kept_folder.specs.Steps.{ArePut, AreFilesOf, IsPut, Put, Step}
 use Rattle.journal.specs.Logs.{Log}
 use Rattle.kept_hooks.specs.Lists.{Listed}
+use Rattle.kept_hooks.specs.Spelling.{all_spelled}
 use Rattle.kept_restore.specs.Beginnings.{BeginWithFiles, fronts_to}
 use Rattle.kept_restore.specs.Loads.{HasLoaded}
 use Rattle.cluster_stamps.specs.declared.view.View.{View}
@@ -112,7 +113,7 @@ module _ {F : Type 0} (finds : F → List ℕ → Option (List ℕ) → Type 0) 
   ArePutOf number vnodes requests old new =
       (mid : F) × HasNumber number old mid × (requests.whole ≡ true)
       × ((files : List Put) × AreFilesOf 0 vnodes files
-      × ArePut does mid (files ++ record { name = codes "hooks.requests"; bytes = sealed requests.bytes } ∷ []) new)
+      × ArePut does mid (files ++ record { name = codes "hooks.requests"; bytes = sealed (all_spelled requests.requests) } ∷ []) new)
 
   -- so it is where all was kept
   abbrev pub Keeps : {V : Type 0} → ℕ → Served → F → F → Ended V → Type 0

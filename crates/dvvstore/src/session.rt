@@ -108,7 +108,7 @@ pub fn live<
     requires few { vec_len tables ≤ 16 }
     ensures told { Tells stay.entry.door result (O.contents out.old) (O.contents out.new) }
     ensures kept { Leaves stay.entry.folder making.first stay.entry.held.files.items result }
-    ensures served { LeavesServed Finds Names Takes (BeginOver (record { first = making.first; vnodes = 3; passes = vec_len tables + 4 }) (map (λ t. t.listed) tables.items) (hooks_for stay.entry.folder stay.entry.held.hooks.items)) result }
+    ensures served { LeavesServed Finds Names Takes (BeginOver Takes (record { first = making.first; vnodes = 3; passes = vec_len tables + 4 }) (map (λ t. t.listed) tables.items) (hooks_for stay.entry.folder stay.entry.held.hooks.items)) result }
 {
     let size = Size {
         first: making.first,
@@ -150,7 +150,7 @@ fn over_stamps<
     requires card { undrawn.card.me ≡ (newcomer undrawn.stamps.table.shared.key, []) }
     ensures told { Tells stay.entry.door result (O.contents out.old) (O.contents out.new) }
     ensures kept { Leaves stay.entry.folder undrawn.making.first stay.entry.held.files.items result }
-    ensures served { LeavesServed Finds Names Takes (BeginOver (record { first = undrawn.making.first; vnodes = 3; passes = vec_len tables + 4 }) (map (λ t. t.listed) tables.items) (hooks_for stay.entry.folder stay.entry.held.hooks.items)) result }
+    ensures served { LeavesServed Finds Names Takes (BeginOver Takes (record { first = undrawn.making.first; vnodes = 3; passes = vec_len tables + 4 }) (map (λ t. t.listed) tables.items) (hooks_for stay.entry.folder stay.entry.held.hooks.items)) result }
 {
     let seed = undrawn.making.seed;
     let vnodes = begin(host, undrawn, tables.len(), &stay)?;
@@ -261,7 +261,7 @@ fn over_cluster<
     requires numbers { parts.vnodes.begun.first + 3 ≤ 2 ^ 32 }
     ensures told { Tells stay.entry.door result (O.contents out.old) (O.contents out.new) }
     ensures kept { Leaves stay.entry.folder parts.vnodes.cluster.first stay.entry.held.files.items result }
-    ensures served { LeavesServed Finds Names Takes (BeginOver parts.vnodes.cluster (map (λ t. t.listed) parts.tables.items) (hooks_for stay.entry.folder stay.entry.held.hooks.items)) result }
+    ensures served { LeavesServed Finds Names Takes (BeginOver Takes parts.vnodes.cluster (map (λ t. t.listed) parts.tables.items) (hooks_for stay.entry.folder stay.entry.held.hooks.items)) result }
 {
     over_ground(host, parts, opening.named::<J>(host.alloc), stay, out)
 }
@@ -293,7 +293,7 @@ fn over_ground<
     requires numbers { parts.vnodes.begun.first + 3 ≤ 2 ^ 32 }
     ensures told { Tells stay.entry.door result (O.contents out.old) (O.contents out.new) }
     ensures kept { Leaves stay.entry.folder parts.vnodes.cluster.first stay.entry.held.files.items result }
-    ensures served { LeavesServed Finds Names Takes (BeginOver parts.vnodes.cluster (map (λ t. t.listed) parts.tables.items) (hooks_for stay.entry.folder stay.entry.held.hooks.items)) result }
+    ensures served { LeavesServed Finds Names Takes (BeginOver Takes parts.vnodes.cluster (map (λ t. t.listed) parts.tables.items) (hooks_for stay.entry.folder stay.entry.held.hooks.items)) result }
 {
     match open(host.alloc, host.rt, ground, parts.tables.len()) {
         Ok((installer, readers)) => {
@@ -335,7 +335,7 @@ fn over_hooks<
     requires numbers { parts.vnodes.begun.first + 3 ≤ 2 ^ 32 }
     ensures told { Tells stay.entry.door result (O.contents out.old) (O.contents out.new) }
     ensures kept { Leaves stay.entry.folder parts.vnodes.cluster.first stay.entry.held.files.items result }
-    ensures served { LeavesServed Finds Names Takes (BeginOver parts.vnodes.cluster (map (λ t. t.listed) parts.tables.items) (hooks_for stay.entry.folder stay.entry.held.hooks.items)) result }
+    ensures served { LeavesServed Finds Names Takes (BeginOver Takes parts.vnodes.cluster (map (λ t. t.listed) parts.tables.items) (hooks_for stay.entry.folder stay.entry.held.hooks.items)) result }
 {
     let Parts { vnodes, tables } = parts;
     let Vnodes {
