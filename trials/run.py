@@ -37,6 +37,7 @@ NAMES = (
     "alone",
     "starts",
     "start_numbers",
+    "folds",
     "stop",
     "slow_stop",
     "service",

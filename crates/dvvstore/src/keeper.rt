@@ -3,6 +3,7 @@
 ghost use Rattle.std.specs.Prelude.{◌≡◌, ◌+◌, ◌<◌, ◌≤◌, ◌^◌, IfOk, OnOk, map, vec_len};
 ghost use Rattle.std.specs.Option.{option_map};
 ghost use Rattle.cluster_stamps.specs.declared.view.Size.{Size};
+ghost use Rattle.kept_fold.specs.Folds.{AreFolded};
 ghost use Rattle.dvvstore.specs.Keeping.{HasBegun, HasBegunWith, Leaves, LeavesServed, Tells, fronts_for, hooks_for, left_as};
 ghost use Rattle.dvvstore.specs.Visits.{AreBegun, AreStarts, HaveBegun, begun};
 
@@ -17,6 +18,7 @@ use bpf_helpers::Sigs;
 use cluster::{Cluster, Room};
 use hook_registry::{HookChanges, Hooks};
 use kept_file::KeptFile;
+use kept_fold::fold_files;
 use kept_folder::{Folder, HOOKS, Held, Settings};
 use kept_hooks::{BegunHooks, ReplayFault, Requests};
 use kept_restore::laws::loads_stand;
@@ -123,7 +125,7 @@ pub struct Stay<'a, N, F> {
     pub err: Stderr,
 }
 
-impl<N, F> Stay<'_, N, F> {
+impl<N, F: Drop> Stay<'_, N, F> {
     /// How many of the first entries of each vnode were there before: none are named where no folder keeps the store.
     pub fn fronts(&self, alloc: Global) -> Result<Vec<usize>, AllocError>
         ensures { IfOk result (λ fronts. fronts.items ≡ fronts_for self.now.folder self.now.held.files.items) }
@@ -132,6 +134,41 @@ impl<N, F> Stay<'_, N, F> {
             Some(_) => fronts_of(alloc, &self.held.files, VNODES as usize),
             None => Ok(Vec::new(alloc)),
         }
+    }
+
+    /// The same, with the keys folded that many starts have written, by the start with a number.
+    pub fn folded(self, alloc: Global, number: u32) -> Result<Self, AllocError>
+        requires few { number ≤ 16777215 }
+        ensures folder { IfOk result (λ stay. stay.folder ≡ self.entry.folder) }
+        ensures hooks { IfOk result (λ stay. stay.held.hooks ≡ self.entry.held.hooks) }
+        ensures files { IfOk result (λ stay. AreFolded number self.entry.held.files.items stay.held.files.items) }
+        ensures door { IfOk result (λ stay. stay.door ≡ self.entry.door) }
+    {
+        let Stay {
+            folder,
+            held,
+            door,
+            err,
+        } = self;
+        let Held {
+            last,
+            settings,
+            hooks,
+            files,
+        } = held;
+        let files = fold_files(alloc, files, number)?;
+        let held = Held {
+            last,
+            settings,
+            hooks,
+            files,
+        };
+        Ok(Stay {
+            folder,
+            held,
+            door,
+            err,
+        })
     }
 }
 
