@@ -65,6 +65,16 @@ pub fn load<F: Files, O: Write, E: Write>(
     }
 }
 
+/// Tells where records name the incarnation of the vnode that begins with them. What can't be told is lost: the lines run as they do.
+fn warn_of_names<E: Write>(records: &[Record], incarnation: u16, err: &mut E) {
+    if name_incarnation(records, incarnation) {
+        let _ = writeln!(
+            err,
+            "the records name incarnation {incarnation}: a put may take the identifier of another write"
+        );
+    }
+}
+
 /// Runs a script whose first vnode begins with records.
 fn run_loaded<I: Images, O: Write, E: Write>(
     alloc: Global,
@@ -82,13 +92,7 @@ fn run_loaded<I: Images, O: Write, E: Write>(
         records,
         incarnation,
     } = loaded;
-    if name_incarnation(records, incarnation) {
-        // What can't be told is lost: the lines run as they do.
-        let _ = writeln!(
-            streams.err,
-            "the records name incarnation {incarnation}: a put may take the identifier of another write"
-        );
-    }
+    warn_of_names(records, incarnation, &mut streams.err);
     match run_from(alloc, script, incarnation, records, table, images) {
         Ok((text, why)) => {
             let count = records.len();
