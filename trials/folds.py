@@ -15,7 +15,7 @@ from dataclasses import dataclass, field
 from pathlib import Path
 
 import kept
-from server import VNODES_PER_NUMBER, Client, Server, entries_of, vnode_of
+from server import Client, Server, entries_of
 from trial import Findings, Result
 
 NAME = "folds"
@@ -57,7 +57,7 @@ class Book:
 
     values: dict[str, frozenset[bytes]] = field(default_factory=lambda: dict.fromkeys(KEYS, frozenset()))
     contexts: dict[str, str | None] = field(default_factory=lambda: dict.fromkeys(KEYS))
-    tags: list[str] = field(default_factory=list)
+    tags: list[tuple[str, str]] = field(default_factory=list)
     folds: int = 0
 
     def is_to_be_folded(self) -> bool:
@@ -70,10 +70,10 @@ class Book:
         answer = client.ask(method, f"{path_of(key)}?at={vnode}", value, context)
         if answer.status != 204:
             raise ValueError(f"{method} {key} at {vnode}: {answer.status} {answer.body[:100]!r}")
-        self.tags.append(answer.tag)
+        self.tags.append((key, answer.tag))
 
-    def write_all(self, client: Client, start: int) -> int:
-        """Writes each key by each vnode. Gives the number of the start."""
+    def write_all(self, client: Client, start: int) -> None:
+        """Writes each key by each vnode."""
         for key, vnode in itertools.product(KEYS, range(kept.VNODES)):
             is_last = vnode == kept.VNODES - 1
             value = None if key == "gone" and is_last else b"%s-%d-%d" % (key.encode(), start, vnode)
@@ -87,7 +87,6 @@ class Book:
             "gone": frozenset(),
         }
         self.contexts = {key: read(client, key)[1] for key in KEYS}
-        return vnode_of(self.tags[-1]) // VNODES_PER_NUMBER
 
     def check(self, found: Findings, client: Client, what: str) -> None:
         """All values are there, and nothing besides."""

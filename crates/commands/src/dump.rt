@@ -29,7 +29,7 @@ pub fn dump<F: Files, O: Write, E: Write>(
     streams: &mut Streams<O, E>,
 ) -> Result<u8, Failure>
     ensures status { IfOk result (λ status. status ≤ 2) }
-    ensures dumped { IfOk result (DumpedFile table.now.listed vnode (F.held files.old paths.script.now) (F.held files.new paths.file.now) (O.contents streams.old.out) (O.contents streams.new.out)) }
+    ensures dumped { IfOk result (DumpedFile table.now.listed vnode (F.held files.old paths.entry.script.now) (F.held files.new paths.entry.file.now) (O.contents streams.old.out) (O.contents streams.new.out)) }
     ensures unwritten { IfOk result (λ status. 0 < status → files.new ≡ files.old) }
 {
     let script = files.read(alloc, paths.script)?;

@@ -37,7 +37,7 @@ pub fn load<F: Files, O: Write, E: Write>(
     streams: &mut Streams<O, E>,
 ) -> Result<u8, Failure>
     ensures status { IfOk result (λ status. status ≤ 2) }
-    ensures loaded { IfOk result (LoadedFile table.now.listed incarnation (F.held files.now paths.file.now) (F.held files.now paths.script.now) (O.contents streams.old.out) (O.contents streams.new.out)) }
+    ensures loaded { IfOk result (LoadedFile table.now.listed incarnation (F.held files.now paths.entry.file.now) (F.held files.now paths.entry.script.now) (O.contents streams.old.out) (O.contents streams.new.out)) }
 {
     let bytes = files.read(alloc, paths.file)?;
     let script = files.read(alloc, paths.script)?;
@@ -76,7 +76,7 @@ fn run_loaded<I: Images, O: Write, E: Write>(
 ) -> Result<u8, Failure>
     requires { table.now.listed ≡ I.listed images.now }
     ensures status { IfOk result (λ status. status ≤ 2) }
-    ensures loaded { (bytes : List ℕ) → AreSpelledBy loaded.records.now bytes → IfOk result (Loads table.now.listed bytes loaded.incarnation script.now (O.contents streams.old.out) (O.contents streams.new.out)) }
+    ensures loaded { (bytes : List ℕ) → AreSpelledBy loaded.entry.records.now bytes → IfOk result (Loads table.now.listed bytes loaded.entry.incarnation script.now (O.contents streams.old.out) (O.contents streams.new.out)) }
 {
     let Loaded {
         records,
