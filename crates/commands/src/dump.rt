@@ -5,10 +5,9 @@ ghost use Rattle.world.specs.declared.event.Reply.{Reply as OneReply};
 ghost use Rattle.commands.specs.Dumped.{Dumps, DumpedFile, EndsWith, Wrote, WroteCopies};
 
 use crate::failure::Failure;
-use crate::files::{Files, Paths};
+use crate::files::Files;
 use crate::records::spelled;
 use crate::simulate::FileImages;
-use crate::streams::Streams;
 use bpf_helpers::Table;
 use record_codec::Unspelled;
 use script_replies::refusal_number;
@@ -17,39 +16,39 @@ use std::alloc::Global;
 use std::io::Write;
 use world::{Copies, Reply};
 
-/// Runs the script of the paths, tells on `out` what its lines print and on `err` why a line is bad, and then makes the file of the paths
+/// Runs the script in the file `script`, tells on `out` what its lines print and on `err` why a line is bad, and then makes the file `file`
 /// hold the records of what the vnode at an index knows. Gives the status. No file is written behind a bad line, nor where the dump is
 /// refused, which is told on `out`.
 pub fn dump<F: Files, O: Write, E: Write>(
     alloc: Global,
     table: &Table,
-    paths: Paths<'_>,
+    file: &str,
+    script: &str,
     vnode: u32,
     files: &mut F,
-    streams: &mut Streams<O, E>,
+    out: &mut O,
+    err: &mut E,
 ) -> Result<u8, Failure>
     ensures status { IfOk result (λ status. status ≤ 2) }
-    ensures dumped { IfOk result (DumpedFile table.now.listed vnode (F.held files.old paths.entry.script.now) (F.held files.new paths.entry.file.now) (O.contents streams.old.out) (O.contents streams.new.out)) }
+    ensures dumped { IfOk result (DumpedFile table.now.listed vnode (F.held files.old script.now) (F.held files.new file.now) (O.contents out.old) (O.contents out.new)) }
     ensures unwritten { IfOk result (λ status. 0 < status → files.new ≡ files.old) }
 {
-    let script = files.read(alloc, paths.script)?;
+    let script = files.read(alloc, script)?;
     let images = FileImages {
         files: &*files,
         sigs: &table.listed,
     };
     let Ok((text, dumping)) = run_and_dump(alloc, &script, vnode as usize, table, &images) else {
-        streams.out.write_all(b"E1\n")?;
+        out.write_all(b"E1\n")?;
         return Ok(1);
     };
-    streams.out.write_all(text.as_bytes())?;
+    out.write_all(text.as_bytes())?;
     match dumping {
-        Dumping::Done(world) => {
-            write_last(alloc, paths.file, world.replies(), files, &mut streams.out)
-        },
+        Dumping::Done(world) => write_last(alloc, file, world.replies(), files, out),
         Dumping::NoVnode => Err(Failure::Usage),
         Dumping::BadLine(why) => {
             // A reason that can't be told leaves the output alone to tell of the line.
-            let _ = writeln!(streams.err, "{why}");
+            let _ = writeln!(err, "{why}");
             Ok(2)
         }
     }

@@ -15,7 +15,6 @@ pub mod records;
 pub mod run;
 pub mod server;
 pub mod simulate;
-pub mod streams;
-pub mod tables;
+mod tables;
 pub mod verify;
 pub mod words;

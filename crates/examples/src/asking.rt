@@ -3,7 +3,6 @@
 use commands::files::Files;
 use commands::own::command_with_helpers;
 use commands::server::{Offline, Server};
-use commands::streams::Streams;
 use std::alloc::Global;
 use std::io;
 use std::io::Write;
@@ -11,7 +10,8 @@ use std::io::Write;
 /// What a command has written, and its status.
 #[derive(Drop)]
 pub struct Said {
-    pub streams: Streams<Vec<u8>, Vec<u8>>,
+    pub out: Vec<u8>,
+    pub err: Vec<u8>,
     pub status: u8,
 }
 
@@ -24,12 +24,13 @@ pub fn ask<F: Files, S: Server>(
 ) -> io::Result<Said>
     requires { S.ready }
 {
-    let mut streams = Streams {
+    let mut said = Said {
         out: Vec::new(alloc),
         err: Vec::new(alloc),
+        status: 0,
     };
-    let status = command_with_helpers(alloc, words, files, server, &mut streams)?;
-    Ok(Said { streams, status })
+    said.status = command_with_helpers(alloc, words, files, server, &mut said.out, &mut said.err)?;
+    Ok(said)
 }
 
 /// Does what the words ask for, without a network, and tells its output, its status and its error.
@@ -45,8 +46,8 @@ pub fn tell_command<F: Files>(
 
 /// Tells what a command has written, and its status.
 fn tell_said(said: &Said, told: &mut Vec<u8>) -> io::Result<()> {
-    let Said { streams, status } = said;
-    told.write_all(&streams.out)?;
+    let Said { out, err, status } = said;
+    told.write_all(out)?;
     writeln!(told, "status {status}")?;
-    told.write_all(&streams.err)
+    told.write_all(err)
 }
