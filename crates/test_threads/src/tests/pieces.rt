@@ -82,7 +82,8 @@ fn take_block(
 fn take_vnode(alloc: Global, follower: &mut Follower, vnode: &mut Vnode) -> Result<(), Fail> {
     let id = vnode.id();
     let mut first: usize = 0;
-    for block in vnode.settle(&mut Vec::new(alloc)).0.blocks {
+    let (handout, _) = vnode.settle(&mut Vec::new(alloc));
+    for block in handout.blocks {
         take_block(follower, id, first, block)?;
         first = first.saturating_add(PIECES * PIECE);
     }
