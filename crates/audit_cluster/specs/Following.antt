@@ -1,6 +1,7 @@
 -- What is said of the journals of a gathered cluster that was followed while it served (this store's profile).
-use Rattle.std.specs.Prelude.{◌≡◌, ◌<◌, ◌≤◌, ◌+◌, ◌*◌, ◌⊎◌, ◌&&◌, ◌==◌, ℕ, Bool, true, false, IsTrue, List, [], ◌∷◌, ◌++◌, All, drop, filter, length, Some, None, Result, Ok, Err}
+use Rattle.std.specs.Prelude.{◌≡◌, ◌<◌, ◌≤◌, ◌+◌, ◌*◌, ◌⊎◌, ◌&&◌, ◌==◌, ℕ, zero, suc, Bool, true, false, IsTrue, List, [], ◌∷◌, ◌++◌, All, drop, filter, length, Option, Some, None, Result, Ok, Err}
 use Rattle.cluster_stamps.specs.declared.request.Request.TheVariants as request
+use Rattle.journal.specs.Blocks.{all_of}
 use Rattle.journal.specs.Entry.{Entry}
 use Rattle.journal.specs.Logs.{Log}
 use Rattle.cluster_stamps.specs.declared.view.News.{News}
@@ -17,6 +18,7 @@ use Rattle.audit_replay.specs.Wrong.{IsToldOf}
 use Rattle.audit_faults.specs.declared.fault.AuditFault.{AuditFault}
 use Rattle.audit_faults.specs.declared.fault.WatchFault.{WatchFault}
 use Rattle.audit_faults.specs.declared.fault.WatchFault.TheVariants.{Found, Lost, NoMemory}
+use Rattle.audit_cluster.specs.declared.watch.Left.{Left}
 
 -- of which of the last entries of each vnode answers are kept
 abbrev pub answers_kept : Recent
@@ -154,6 +156,28 @@ abbrev pub AreFronts : Taken → List Log → Type 0
 AreFronts taken logs =
     (index : ℕ) → index < length taken.followed → index < length logs → (log_at taken.followed index).vnode ≡ (log_at logs index).vnode
     → (rest : List Entry) × ((log_at logs index).entries ≡ all_taken taken index ++ rest)
+
+-- ---- what waits to be taken
+
+-- these wait, too, of the vnode with this index
+abbrev pub append_at : List (List Entry) → ℕ → List Entry → List (List Entry)
+append_at [] zero more = more ∷ []
+append_at [] (suc index) more = [] ∷ append_at [] index more
+append_at (queue ∷ queues) zero more = (queue ++ more) ∷ queues
+append_at (queue ∷ queues) (suc index) more = queue ∷ append_at queues index more
+
+-- what was taken, and these entries of the vnode with this index
+abbrev pub with_more : Taken → ℕ → List Entry → Taken
+with_more taken index more = record taken { waiting = append_at taken.waiting index more }
+
+-- what waits, and what was handed out and not taken yet
+abbrev pub waiting_with : List (List Entry) → Option Left → List (List Entry)
+waiting_with waiting None = waiting
+waiting_with waiting (Some left) = append_at waiting left.index (all_of left.blocks.items)
+
+-- what was taken, and what was handed out and not taken yet
+abbrev pub with_left : Taken → Option Left → Taken
+with_left taken left = record taken { waiting = waiting_with taken.waiting left }
 
 -- what was left of the first n of these journals was taken by a follower, too
 pub record IsTakenTo (old new : Taken) (logs : List Log) (n : ℕ) : Type 0 where
