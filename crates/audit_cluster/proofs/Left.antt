@@ -14,8 +14,11 @@ use Rattle.audit_replay.specs.declared.kept.Recent.{Recent}
 use Rattle.audit_follower.specs.Stops.{IsStop}
 use Rattle.audit_follower.specs.Waiting.{Taken, AreTakenAlike, IsNext, taken_at, waiting_at}
 use Rattle.audit_cluster.specs.declared.watch.Left.{Left}
-use Rattle.audit_cluster.specs.Following.{IsTakenMore, Watches, answers_kept, append_at, waiting_with, with_left, with_more}
-use Rattle.audit_cluster.proofs.Taken.{watches_followed}
+use Rattle.audit_cluster.specs.Following.{IsHandedAmiss, IsNotNext, IsTakenMore, Watches, answers_kept, append_at, waiting_with, with_left, with_more}
+use Rattle.cluster_stamps.specs.Rule.{hand_out_of}
+use Rattle.cluster_stamps.specs.declared.view.View.{View}
+use Rattle.cluster_vnode.specs.Calls.{IsHandedOut}
+use Rattle.audit_cluster.proofs.Taken.{watches_followed, watches_more}
 
 -- ---- more of one vnode
 
@@ -135,7 +138,7 @@ left_followed first n told old new left below r was recent alike none found stop
     watches_followed first n told (with_left old left) (with_left new left) below r was recent
     (on_ok_to r (AreTakenAlike old.followed old.waiting new.followed new.waiting) (AreTakenAlike old.followed (waiting_with old.waiting left) new.followed (waiting_with new.waiting left)) (left_alike old.followed old.waiting new.followed new.waiting left) alike) none found
     (λ is. if_err_to r (λ fault. IsStop old.fronts old.followed old.waiting below old.recent fault) (λ fault. IsStop old.fronts old.followed (waiting_with old.waiting left) below old.recent fault)
-        (λ fault h. left_stop old.fronts old.followed old.waiting below old.recent fault left h) (stop is))
+    (λ fault h. left_stop old.fronts old.followed old.waiting below old.recent fault left h) (stop is))
     (λ fault is. ((again fault is).0, ap (λ (t : Taken). with_left t left) (again fault is).1)) fronts
 
 -- after a fault it is let go
@@ -145,3 +148,16 @@ let_go first n told taken left found was = record {
   has = λ none. absurd (found none);
   stopped = λ fault is. was.stopped fault is;
 }
+
+-- what a vnode handed out is what is left, where nothing was
+pub heard_left : (first n : ℕ) (old_pass new_pass : View) (taken : Taken) (before : Option Left) (left : Left) (index id place : ℕ) (blocks : List (Vec Entry)) → Watches first n old_pass.told (with_left taken before) → before ≡ None → index < length taken.followed
+    → index < length taken.waiting → place ≡ taken_at taken index → left.index ≡ index → left.blocks.items ≡ blocks → id ≡ first + index → IsHandedOut old_pass new_pass id place blocks → Watches first n new_pass.told (with_left taken (Some left))
+heard_left first n old_pass new_pass taken before left index id place blocks was none inside waits at is_index is_blocks is out =
+    let now : Watches first n old_pass.told taken = subst (λ (l : Option Left). Watches first n old_pass.told (with_left taken l)) none was in
+    let same : with_left taken (Some left) ≡ with_more taken index (all_of blocks) = ap (λ (i : ℕ). with_more taken i (all_of left.blocks.items)) is_index ∙ ap (λ (bs : List (Vec Entry)). with_more taken index (all_of bs)) is_blocks in
+    let more : IsTakenMore taken (with_left taken (Some left)) index place (all_of blocks) = subst (λ (t : Taken). IsTakenMore taken t index place (all_of blocks)) (sym same) (more_left taken index place (all_of blocks) inside waits at) in
+    watches_more first n old_pass new_pass taken (with_left taken (Some left)) index id place blocks now refl refl more is out
+
+-- a hand-out that isn't what is next was told
+pub amiss : (vnode index place : ℕ) (taken : Taken) (blocks : List (Vec Entry)) (old_pass new_pass : View) (old : List Told) → IsHandedOut old_pass new_pass vnode place blocks → old_pass.told ≡ old → IsNotNext taken index place → IsHandedAmiss vnode index taken old new_pass.told
+amiss vnode index place taken blocks old_pass new_pass old (at, stamp, news, full, few) was next = (at, stamp, place, all_of blocks, news.0 ∙ ap (λ (ts : List Told). ts ++ hand_out_of vnode at stamp place (all_of blocks) ∷ []) was, next)

@@ -1,5 +1,5 @@
 -- What is said of the journals of a gathered cluster that was followed while it served (this store's profile).
-use Rattle.std.specs.Prelude.{◌≡◌, ◌<◌, ◌≤◌, ◌+◌, ◌*◌, ◌⊎◌, ◌&&◌, ◌==◌, ℕ, zero, suc, Bool, true, false, IsTrue, List, [], ◌∷◌, ◌++◌, All, drop, filter, length, Option, Some, None, Result, Ok, Err}
+use Rattle.std.specs.Prelude.{◌≡◌, ◌≢◌, ◌<◌, ◌≤◌, ◌+◌, ◌*◌, ◌⊎◌, ◌&&◌, ◌==◌, ℕ, zero, suc, Bool, true, false, IsTrue, List, [], ◌∷◌, ◌++◌, All, drop, filter, length, Option, Some, None, Result, Ok, Err}
 use Rattle.cluster_stamps.specs.declared.request.Request.TheVariants as request
 use Rattle.journal.specs.Blocks.{all_of}
 use Rattle.journal.specs.Entry.{Entry}
@@ -7,6 +7,7 @@ use Rattle.journal.specs.Logs.{Log}
 use Rattle.cluster_stamps.specs.declared.view.News.{News}
 use Rattle.cluster_stamps.specs.declared.view.News.TheVariants as news
 use Rattle.cluster_stamps.specs.declared.view.Told.{Told}
+use Rattle.cluster_stamps.specs.Rule.{hand_out_of}
 use Rattle.cluster_vnode.specs.Gathers.{IsGathered, AreInTurn, all_handed}
 use Rattle.audit_replay.specs.Faulty.{IsFaultless}
 use Rattle.audit_replay.specs.Interleaved.{IsInterleaving}
@@ -16,6 +17,7 @@ use Rattle.audit_follower.specs.Waiting.{IsNext, Taken, bytes_waiting, count_wai
 use Rattle.audit_replay.specs.declared.kept.Recent.{Recent}
 use Rattle.audit_replay.specs.Wrong.{IsToldOf}
 use Rattle.audit_faults.specs.declared.fault.AuditFault.{AuditFault}
+use Rattle.audit_faults.specs.declared.fault.TakeFault.{TakeFault}
 use Rattle.audit_faults.specs.declared.fault.WatchFault.{WatchFault}
 use Rattle.audit_faults.specs.declared.fault.WatchFault.TheVariants.{Found, Lost, NoMemory}
 use Rattle.audit_cluster.specs.declared.watch.Left.{Left}
@@ -111,10 +113,11 @@ pub record Watches (first vnodes : ℕ) (told : List Told) (taken : Taken) : Typ
   pub has : taken.fault ≡ None → HasTaken first told taken
   pub stopped : (fault : AuditFault) → taken.fault ≡ Some fault → HasStopped first vnodes told taken.fronts fault
 
--- what a watch was told, and what was taken
+-- what a watch was told, what was taken, and why nothing more can be taken, if so
 pub record Watched : Type 0 where
   pub told : List Told
   pub taken : Taken
+  pub lost : Option TakeFault
 
 -- a watch does nothing at vnodes but have them hand out and start again
 abbrev pub IsOfWatch : Told → Type 0
@@ -127,6 +130,14 @@ IsToldMore old new = (more : List Told) × (new ≡ old ++ more) × All IsOfWatc
 -- a pass was told this, and then of restarts of one vnode, so many at the most
 abbrev pub AreRestarts : ℕ → ℕ → List Told → List Told → Type 0
 AreRestarts vnode most old new = (more : List Told) × (new ≡ old ++ more) × All (λ t. (t.vnode ≡ vnode) × IsRestart t.news) more × (length more ≤ most)
+
+-- entries from this place on aren't the next ones of the vnode with this index: it isn't followed, or what was taken of it ended elsewhere
+abbrev pub IsNotNext : Taken → ℕ → ℕ → Type 0
+IsNotNext taken index first = (length taken.followed ≤ index) ⊎ (first ≢ taken_at taken index)
+
+-- a pass was told of one hand-out of a vnode, and that it isn't what is next of it
+abbrev pub IsHandedAmiss : ℕ → ℕ → Taken → List Told → List Told → Type 0
+IsHandedAmiss vnode index taken old new = (at : ℕ) × (stamp : ℕ) × (first : ℕ) × (more : List Entry) × (new ≡ old ++ hand_out_of vnode at stamp first more ∷ []) × IsNotNext taken index first
 
 -- this is of a vnode of which nothing waits
 abbrev pub IsIdle : ℕ → Taken → ℕ → Type 0

@@ -1,11 +1,11 @@
 //! A follower beside a cluster that serves.
 
-ghost use Rattle.std.specs.Prelude.{◌≡◌, ◌+◌, ◌<◌, ◌≤◌, ◌^◌, ◌↔◌, ℕ, [], None, All, IfOk, IfSome, IsTrue, MatchBool, length, vec_len};
+ghost use Rattle.std.specs.Prelude.{◌≡◌, ◌≢◌, ◌+◌, ◌<◌, ◌≤◌, ◌^◌, ◌↔◌, ℕ, [], None, All, IfOk, IfSome, IsTrue, MatchBool, OnErr, length, vec_len};
 ghost use Rattle.cluster_vnode.specs.Calls.{pass_view};
 ghost use Rattle.journal.specs.Blocks.{all_of};
 ghost use Rattle.audit_follower.specs.Waiting.{bytes_waiting, count_waiting, taken_at, waiting_at};
 ghost use Rattle.world.specs.Represents.{log_at};
-ghost use Rattle.audit_cluster.specs.Following.{AreRestarts, IsToldMore, Rouses, WaitsLittle, with_more};
+ghost use Rattle.audit_cluster.specs.Following.{AreRestarts, IsHandedAmiss, IsNotNext, IsToldMore, Rouses, WaitsLittle, with_more};
 
 use crate::limits::{MOST_BEHIND_BYTES, MOST_BEHIND_ENTRIES, RECENT, SHARED_AT_ONCE_BLOCKS};
 use audit_faults::{TakeFault, WatchFault};
@@ -75,7 +75,7 @@ impl<B: Room + Spot> Model for Watch<B> {
 
     ghost Value = { Watched };
 
-    ghost view = { λ w. record { told = w.pass.told; taken = w.follower } };
+    ghost view = { λ w. record { told = w.pass.told; taken = w.follower; lost = w.lost } };
 
     ghost invariant = { λ w. (w.first ≡ B.first) × (w.follower.recent ≡ answers_kept) × All IsOfWatch w.pass.told × (w.lost ≡ None → Watches B.first w.vnodes w.pass.told (with_left w.follower w.left)) };
 }
@@ -104,11 +104,7 @@ fn end_of(handout: &Handout) -> u64 {
 
 // Takes blocks of the vnode with an index, in turn, behind what was taken of it. Whether all were taken: those for which memory was
 // refused stay.
-fn take_blocks(
-    follower: &mut Follower,
-    index: usize,
-    blocks: &mut VecDeque<Vec<Entry>>,
-) -> bool
+fn take_blocks(follower: &mut Follower, index: usize, blocks: &mut VecDeque<Vec<Entry>>) -> bool
     ensures same { with_more follower.new index (all_of blocks.new.items) ≡ with_more follower.old index (all_of blocks.old.items) }
     ensures all { IsTrue result → (index < length follower.new.waiting) × (all_of blocks.new.items ≡ []) }
 {
@@ -126,7 +122,8 @@ fn take_blocks(
 
 // What the vnode with an index handed out, to be taken: it begins where the last that was taken of it ended.
 fn left_of(follower: &Follower, index: usize, handout: Handout) -> Result<Left, TakeFault>
-    ensures { IfOk result (λ left. (left.index ≡ index) × (left.blocks.items ≡ handout.blocks.items) × (index < length follower.now.followed) × (index < length follower.now.waiting) × (handout.first ≡ taken_at follower.now index)) }
+    ensures left { IfOk result (λ left. (left.index ≡ index) × (left.blocks.items ≡ handout.blocks.items) × (index < length follower.now.followed) × (index < length follower.now.waiting) × (handout.first ≡ taken_at follower.now index)) }
+    ensures err { OnErr result (IsNotNext follower.now index handout.first) }
 {
     if index >= follower.count() {
         return Err(TakeFault::Unknown);
@@ -246,6 +243,7 @@ impl<B: Room + Spot> Watch<B> {
     // Takes what was handed out and not taken yet, as far as there is memory. Where nothing is followed any more it is let go.
     pub(crate) fn take_left(&mut self)
         ensures told { self.new.told ≡ self.old.told }
+        ensures lost { self.new.lost ≡ self.old.lost }
     {
         if self.lost.is_some() || self.follower.fault().is_some() {
             self.left = None;
@@ -264,11 +262,13 @@ impl<B: Room + Spot> Watch<B> {
     }
 
     /// Has the vnode with an index hand out its full blocks, under its lock, and takes them. What was handed out before is taken first:
-    /// while there is no memory for it, nothing more is handed out. Where nothing is followed any more they are let go.
+    /// while there is no memory for it, nothing more is handed out. Where nothing is followed any more they are let go, and from a block on
+    /// that doesn't begin where the last one of its vnode ended nothing is followed any more.
     pub fn hear<R: Wait>(&mut self, rt: &R, cluster: &Cluster<B>, index: usize)
         requires first { cluster.now.first ≡ B.first }
         requires inside { index < cluster.now.vnodes }
         ensures told { IsToldMore self.old.told self.new.told }
+        ensures loses { self.old.lost ≡ None → self.new.lost ≢ None → IsHandedAmiss (B.first + index) index self.new.taken self.old.told self.new.told }
     {
         self.take_left();
         if self.left.is_some() {
@@ -284,10 +284,12 @@ impl<B: Room + Spot> Watch<B> {
             return;
         }
         match left_of(&self.follower, index, handout) {
-            Ok(left) => self.left = Some(left),
+            Ok(left) => {
+                self.left = Some(left);
+                self.take_left();
+            }
             Err(why) => self.lost = Some(why),
         }
-        self.take_left();
     }
 
     // The number below which all stamps were handed out.
