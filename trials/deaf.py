@@ -1,9 +1,10 @@
 """Clients that ask for long answers and take nothing of them: what the server holds for them has a bound, and nobody else waits.
 
 A key has 64 siblings of 65,536 bytes, so that an answer with all of them has 4.2 MB. Clients come that ask for it and read nothing,
-until long behind them pings are still answered soon by clients of both workers. What a worker holds for those that take nothing is at
-most 64 MiB and an answer or two; beyond that the one that holds most is closed. Once the clients have left, a client that reads has
-its answer whole.
+until long behind them pings are still answered soon by clients of both workers. Of every second one the system takes 64 KiB, so the
+server holds nearly all (`c/narrow.c`); of the others the system takes what it may, which is most. At most 64 MiB and an answer wait at a
+worker, in buffers of twice that at the most; beyond it the one that holds most is closed. Once the clients have left, a client that
+reads has its answer whole.
 """
 from __future__ import annotations
 
@@ -13,9 +14,10 @@ import time
 from dataclasses import dataclass
 from pathlib import Path
 
+import kept
 from crowd import raise_limit
 from server import MIB, Client, Server, request
-from trial import Findings, Result
+from trial import Findings, Result, library
 
 NAME = "deaf"
 PROMISES = "What clients leave untaken has a bound in memory, whoever they are, and nobody else waits."
@@ -41,8 +43,8 @@ KEY = "/buckets/b/keys/wide"
 ALL_SIBLINGS = request("GET", KEY, Accept="multipart/mixed")
 ANSWER_BYTES = SIBLINGS * VALUE_BYTES
 LIMIT_BYTES_A_WORKER = 64 * MIB
-# Beyond the limits: an answer that is being made for each worker and one that waits, buffers that have more room than they hold.
-MOST_BYTES = WORKERS * (LIMIT_BYTES_A_WORKER + 4 * ANSWER_BYTES)
+# Buffers hold up to twice what waits. Beyond that: an answer that is being made for each worker, and one that waits.
+MOST_BYTES = WORKERS * (2 * LIMIT_BYTES_A_WORKER + 4 * ANSWER_BYTES)
 SMALL_BUFFER_BYTES = 4_096
 SPARE_FILES = 100
 PAUSE_SECONDS = 0.05
@@ -78,10 +80,15 @@ def slowest_ping(server: Server, until: float) -> float:
     return worst
 
 
+def narrow_in(folder: Path) -> dict[str, str]:
+    """What has the system take little of the answers of every second connection."""
+    return {"LD_PRELOAD": str(library("narrow.c", folder / "narrow.so"))}
+
+
 def run(program: Path, seed: int, size: Size) -> Result:
     found = Findings()
     raise_limit(size.clients + SPARE_FILES)
-    with Server.serve(program, WORKERS) as server:
+    with kept.folders() as folder, Server.serve(program, WORKERS, environment=narrow_in(folder)) as server:
         put_siblings(server)
         with server.client(ALL_SIBLINGS) as client:
             whole = client.hear()

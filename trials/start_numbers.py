@@ -176,6 +176,7 @@ class Store:
         self.found.hold(least <= given.number <= least + 1, f"{what}: {given.number} in place of {least}")
 
     def try_last_of_earlier_form(self) -> None:
+        self.start("what the last earlier number stands behind")
         (self.folder / kept.NUMBER).write_bytes(earlier_form(MOST_NUMBER // NUMBERS_A_NUMBER))
         self.try_none_left("behind the last earlier number")
 

@@ -9,6 +9,8 @@
     wrong-bodies/try.py --texts [CRATE..]  proves nothing: says which texts no longer stand once in the file that they name
 
 Each crate is tried in a copy, over what `rt check` has kept of it and of the crates below (what isn't proved yet is proved first).
+Bodies of functions of different names are tried by one check: a function is proved over the contracts of others, so the goals of a
+function are refused for its own body. One that no goal of its own functions refuses is tried alone, and so is one of another text.
 A line a body goes to wrong-bodies/TABLE.md. The status is 0 where each body was refused at the goal that it names, or each text stands.
 """
 from __future__ import annotations
@@ -31,6 +33,7 @@ TABLE = FOLDER / "TABLE.md"
 # At which goals the bodies that the gate tries are refused: a line in a crate's folder would have all crates above it proved anew.
 GATE_GOALS = FOLDER / "must-fail.goals"
 CHECK_SECONDS = 3600
+MAX_TOGETHER = 12  # so many bodies are tried by one check
 HEAD = """# Wrong bodies, as they were tried last
 
 Made by `wrong-bodies/try.py`. A row says on which day the body was tried, at which goal of which function the prover
@@ -191,14 +194,44 @@ def fault_of(lines: list[str], changed: list[str]) -> str:
     return ""
 
 
+FUNCTION = re.compile(r"^ *(?:pub(?:\([a-z]+\))? )?(?:const )?fn (\w+)", re.M)
+
+
 def functions_in(body: Body, top: Path) -> list[str]:
-    """The names of the functions in which its texts stand."""
+    """The names of the functions in which its texts stand, or before which they do."""
     names = []
     for file, old, _ in body.pairs:
         text = (top / file).read_text(encoding="utf-8")
-        before = re.findall(r"^\s*(?:pub(?:\([a-z]+\))? )?(?:const )?fn (\w+)", text[: text.find(old) + len(old)], re.M)
-        names += before[-1:]
+        names += FUNCTION.findall(text[: text.find(old) + len(old)])[-1:]
     return names
+
+
+def is_inside(body: Body, top: Path) -> bool:
+    """Whether each of its texts stands between the braces of a function, so that the proofs of no other function can see it."""
+    for file, old, _ in body.pairs:
+        text = (top / file).read_text(encoding="utf-8")
+        place = text.find(old)
+        starts = [found.start() for found in FUNCTION.finditer(text, 0, max(place, 0))]
+        front = text[starts[-1] : place] if starts else ""
+        indent = front[: len(front) - len(front.lstrip(" "))]
+        if not re.search(r"\{\n", front) or re.search(f"^{indent}}}$", front, re.M):
+            return False
+    return bool(body.pairs)
+
+
+def groups_of(bodies: list[Body], top: Path) -> list[list[Body]]:
+    """Bodies that one check tells apart: each changes functions of other names. One that changes more than functions stands alone."""
+    groups: list[tuple[set[str], list[Body]]] = []
+    for body in bodies:
+        names = set(functions_in(body, top)) if is_inside(body, top) else set()
+        for taken, group in groups:
+            if names and taken and not names & taken and len(group) < MAX_TOGETHER:
+                taken |= names
+                group.append(body)
+                break
+        else:
+            groups.append((names, [body]))
+    return [group for _, group in groups]
 
 
 # A copy in which bodies are tried
@@ -290,9 +323,13 @@ def judged(body: Body, said: Said) -> Row:
         return Row(body, f"DIDN'T REACH THE PROVER: {fault[:200]}", 0, "", seconds, False)
     if not any(line.startswith("logic=not-proved") for line in lines):
         return Row(body, "PASSES", 0, "", seconds, False)
-    found = refusal_of(body.crate, lines)
+    return compared(body, refusal_of(body.crate, lines), seconds)
+
+
+def compared(body: Body, found: Refusal, seconds: float) -> Row:
+    """What was refused, beside the goals that a body names."""
     missed = [goal for goal in body.goals if goal not in found.goals]
-    best = body.goals[0] if body.goals and not missed else found.best(functions_in(body, own))
+    best = body.goals[0] if body.goals and not missed else found.best(functions_in(body, Path("crates") / body.crate))
     how = found.goals.get(best, "open")
     best = best or ", ".join(found.functions) or "nothing that is named"
     if missed:
@@ -300,19 +337,45 @@ def judged(body: Body, said: Said) -> Row:
     return Row(body, best, len(found.goals), how, seconds, bool(found.goals))
 
 
+def of_functions(found: Refusal, names: list[str]) -> Refusal:
+    """The part of a refusal that is of functions of these names."""
+    goals = {goal: how for goal, how in found.goals.items() if goal.partition(": ")[0].rpartition("::")[2] in names}
+    return Refusal(goals, [it for it in found.functions if it.rpartition("::")[2] in names])
+
+
+def checked(room: Room, bodies: list[Body]) -> Said | None:
+    """What the prover says where these bodies stand, or nothing where a text of one doesn't fit. What stood there stands there again."""
+    own = Path("crates") / room.crate
+    try:
+        for body in bodies:
+            room.write(body.texts(room.folder))
+        return room.check()
+    except ValueError:
+        return None
+    finally:
+        room.write({file: (own / file).read_text(encoding="utf-8") for body in bodies for file, _, _ in body.pairs if (own / file).is_file()})
+
+
 def tried(room: Room, body: Body) -> tuple[Row, list[str]]:
     """What came of a body, and what the prover said."""
-    own = Path("crates") / body.crate
     try:
-        texts = body.texts(own)
+        body.texts(room.folder)
     except ValueError as fault:
         return Row(body, f"BAD TEXT: {fault}", 0, "", 0, False), []
-    room.write(texts)
-    try:
-        said = room.check()
-    finally:
-        room.write({file: (own / file).read_text(encoding="utf-8") for file in texts})
+    said = checked(room, [body])
     return judged(body, said), said.lines
+
+
+def tried_together(room: Room, bodies: list[Body]) -> list[tuple[Row, list[str]]]:
+    """What came of each of the bodies that one check tells apart. One that isn't refused by goals of its own functions is tried alone."""
+    said = checked(room, bodies) if len(bodies) > 1 else None
+    if said is None or fault_of(said.lines, [file for body in bodies for file, _, _ in body.pairs]):
+        return [tried(room, body) for body in bodies]
+    found, told = refusal_of(room.crate, said.lines), []
+    for body in bodies:
+        row = compared(body, of_functions(found, functions_in(body, Path("crates") / room.crate)), said.seconds / len(bodies))
+        told.append((row, said.lines) if row.is_fine and row.how != WORST else tried(room, body))
+    return told
 
 
 PRINTING = Lock()
@@ -335,17 +398,23 @@ def try_crate(crate: str, bodies: list[Body], is_named: bool) -> bool:
             return False
         say(f"{crate}: {len(bodies)} bodies; the crate itself {said.seconds:.0f} s")
         rows = []
-        for body in bodies:
-            row, lines = tried(room, body)
-            rows.append(row)
-            with PRINTING:
-                write_table([row])
-            if not row.is_fine:
-                (rooms / f"{crate}-{body.name}.log").write_text("\n".join(lines), encoding="utf-8")
-            say(f"{'' if row.is_fine else 'NOT SO: '}{crate}/{body.name}: {row.at} ({row.count} goals, {row.how}), {row.seconds:.0f} s")
-            if is_named and row.is_fine and not body.goals and row.how != "weak":
-                body.write_goal(row.at)
+        for group in groups_of(bodies, Path("crates") / crate):
+            for row, lines in tried_together(room, group):
+                rows.append(row)
+                note(row, lines, rooms, is_named)
     return all(row.is_fine for row in rows)
+
+
+def note(row: Row, lines: list[str], rooms: Path, is_named: bool) -> None:
+    """Puts what came of a body into the table, and tells it. What the prover said is kept of one that isn't as it should be."""
+    body = row.body
+    with PRINTING:
+        write_table([row])
+    if not row.is_fine:
+        (rooms / f"{body.crate}-{body.name}.log").write_text("\n".join(lines), encoding="utf-8")
+    say(f"{'' if row.is_fine else 'NOT SO: '}{body.crate}/{body.name}: {row.at} ({row.count} goals, {row.how}), {row.seconds:.0f} s")
+    if is_named and row.is_fine and not body.goals and row.how != WORST:
+        body.write_goal(row.at)
 
 
 def write_table(rows: list[Row]) -> None:

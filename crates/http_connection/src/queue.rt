@@ -130,13 +130,15 @@ impl Queue {
         spare.put_back(mem::replace(&mut self.bytes, Vec::new(self.alloc)));
     }
 
-    // Gives up the room of what went, where that is no less than what waits: so the buffer holds no more than twice what waited at a time,
-    // however long some do.
-    fn give_up_gone(&mut self)
+    /// Gives up the room of what went, where that is no less than what waits: so the buffer holds no more than twice what waits, however
+    /// long some do.
+    pub(crate) fn give_up_gone(&mut self)
         ensures { waiting self.new ≡ waiting self.old }
     {
-        if self.bytes.len() - self.start <= self.start {
+        let waiting = self.bytes.len().saturating_sub(self.start);
+        if waiting > 0 && waiting <= self.start {
             self.close_up();
+            self.bytes.shrink_to_fit();
         }
     }
 

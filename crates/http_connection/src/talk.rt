@@ -132,6 +132,7 @@ impl Talk {
         ensures is_due { self.new.is_due ≡ self.old.is_due }
     {
         self.outbox.take(&mut desk.outgoing, n);
+        self.outbox.give_up_gone();
     }
 
     // What the bytes that wait come to. What is known of their head is kept while its body is missing.

@@ -59,7 +59,9 @@ fn is_above(later: Option<u32>, earlier: Option<u32>) -> bool {
 fn keep_some(alloc: Global, folder: &mut Memory, number: u32) -> Result<(), Fail> {
     let mut vnodes = Vec::new(alloc);
     for index in 0..3 {
-        let id = number * VNODES_PER_NUMBER + index;
+        let id = number
+            .saturating_mul(VNODES_PER_NUMBER)
+            .saturating_add(index);
         let mut state = KeyState::new(alloc);
         let nothing = KeyState::new(alloc);
         state.put(id, nothing.clock(), Content::Tombstone)?;
