@@ -1,6 +1,6 @@
 -- What was handed out and waits to be taken.
 use Rattle.std.proofs.Common.{◌≡◌, ◌≢◌, ℕ, zero, suc, ◌+◌, ◌<◌, List, [], ◌∷◌, ◌++◌, length, set, refl, sym, ap, subst, ◌∙◌, inl, inr, arith, append_assoc, Option, Some, None}
-use Rattle.std.specs.Prelude.{Result, Ok, Err, OnOk, IfErr, slice_get}
+use Rattle.std.specs.Prelude.{Result, Ok, Err, OnOk, IfErr, is_some, slice_get, true, false}
 use Rattle.std.specs.Global.{Vec}
 use Rattle.std.proofs.lemmas.Bool.{cases_eq}
 use Rattle.std.proofs.lemmas.List.{append-nil}
@@ -161,3 +161,20 @@ heard_left first n old_pass new_pass taken before left index id place blocks was
 -- a hand-out that isn't what is next was told
 pub amiss : (vnode index place : ℕ) (taken : Taken) (blocks : List (Vec Entry)) (old_pass new_pass : View) (old : List Told) → IsHandedOut old_pass new_pass vnode place blocks → old_pass.told ≡ old → IsNotNext taken index place → IsHandedAmiss vnode index taken old new_pass.told
 amiss vnode index place taken blocks old_pass new_pass old (at, stamp, news, full, few) was next = (at, stamp, place, all_of blocks, news.0 ∙ ap (λ (ts : List Told). ts ++ hand_out_of vnode at stamp place (all_of blocks) ∷ []) was, next)
+
+-- all that was left was taken
+pub left_taken : (first n : ℕ) (told : List Told) (old new : Taken) (before after : Option Left) (left : Left) (rest : List Entry) → Watches first n told (with_left old before) → before ≡ Some left → after ≡ None → left.index < length new.waiting → rest ≡ []
+    → with_more new left.index rest ≡ with_more old left.index (all_of left.blocks.items) → Watches first n told (with_left new after)
+left_taken first n told old new before after left rest was is none inside empty same =
+    let now : Watches first n told (with_left old (Some left)) = subst (λ (l : Option Left). Watches first n told (with_left old l)) is was in
+    let all : new ≡ with_left old (Some left) = all_taken_of (with_left old (Some left)) new left.index rest inside empty same in
+    subst (λ (l : Option Left). Watches first n told (with_left new l)) (sym none) (subst (λ (t : Taken). Watches first n told t) (sym all) now)
+
+-- what isn't some is none
+pub not_some : {T : Type 0} (o : Option T) → is_some o ≡ false → o ≡ None
+not_some None e = refl
+not_some (Some x) e = absurd (let clash : true ≡ false = e in cc)
+
+-- where nothing is left, all that was handed out was taken
+pub none_left : (first n : ℕ) (told : List Told) (taken : Taken) (left : Option Left) → Watches first n told (with_left taken left) → left ≡ None → Watches first n told taken
+none_left first n told taken left was none = subst (λ (l : Option Left). Watches first n told (with_left taken l)) none was

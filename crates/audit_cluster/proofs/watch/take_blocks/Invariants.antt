@@ -10,3 +10,6 @@ invariant-loop-block l = record {
   inside : l.index < length l.follower.followed;
   waits : l.index < length l.follower.waiting;
 }
+
+abbrev pub decreases-loop-block : goal.decreases-loop-block
+decreases-loop-block l = length l.blocks.items

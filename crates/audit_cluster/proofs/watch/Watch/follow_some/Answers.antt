@@ -1,6 +1,5 @@
 use Rattle.std.proofs.Common.{◌≡◌, ◌∙◌, None, subst, sym}
 use Rattle.std.specs.Prelude.{All}
-use Rattle.cluster_stamps.specs.declared.view.Told.{Told}
 use Rattle.audit_cluster.specs.Following.{IsOfWatch, Watches, answers_kept, with_left}
 use Rattle.audit_cluster.specs.declared.watch.Watch.TheInside.{Inside}
 use Rattle.audit_cluster.proofs.Left.{left_followed}
