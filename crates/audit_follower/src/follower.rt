@@ -252,9 +252,9 @@ impl Follower {
     /// the world that has led to the fronts, all is one run; where there is no front, from nothing on.
     ///
     /// The first fault is told, at the vnode and the place of its entry, which waits no longer. It is the last: from then on nothing is
-    /// followed, and it is told again. What was followed before stays, and of the fault's vnode one entry more may be counted. A merge that names an answer that is no longer kept is told as such, though it may be right. A bound
-    /// is to be one below which no stamp is drawn any more: an entry that comes later is told as late, and so is one that is behind its
-    /// front before all fronts are whole.
+    /// followed, and it is told again. What was followed before stays, and of the fault's vnode one entry more may be counted. A merge that
+    /// names an answer that is no longer kept is told as such, though it may be right. A bound is to be one below which no stamp is drawn
+    /// any more: an entry that comes later is told as late, and so is one that is behind its front before all fronts are whole.
     pub fn follow(&mut self, below: u64) -> Result<(), AuditFault>
         ensures yes { OnOk result (IsRunFrom self.old.fronts self.new.followed) }
         ensures alike { OnOk result (AreTakenAlike self.old.followed self.old.waiting self.new.followed self.new.waiting) }
