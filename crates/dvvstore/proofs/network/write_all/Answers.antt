@@ -5,8 +5,8 @@ use Rattle.dvvstore.proofs.network.write_all.Goals as goal
 pub returns-in-Ok-Some : goal.returns-in-Ok-Some
 returns-in-Ok-Some g c = record {
   put = put_all g.F.Folder.finds g.F.Folder.does c.args.number c.args.vnodes.now c.args.requests.now _ c.args.folder.now c.keep_number.new.folder c.keep_all.new.folder c.keep_all.result c.in_ok-keep_number.ensures.there
-      (rw c.in-Ok-Some.field-0-is at c.in-Ok-Some.ensures.some) c.keep_all.ensures.put;
+      (rw c.in-Ok-Some.field-0-is at c.in-Ok-Some.ensures.some) (rw c.deref.ensures.value at c.keep_all.ensures.put);
 }
 
-pub returns : goal.returns
-returns g c = record { put = none_put g.F.Folder.does c.args.vnodes.now c.keep_number.new.folder c.keep_all-2.new.folder _ c.keep_all-2.result c.keep_all-2.ensures.put }
+pub returns-in_default : goal.returns-in_default
+returns-in_default g c = record { put = none_put g.F.Folder.does c.args.vnodes.now c.keep_number.new.folder c.keep_all-2.new.folder _ c.keep_all-2.result c.keep_all-2.ensures.put }
