@@ -141,7 +141,7 @@ fn follow<B: Room + Spot, R: Wait>(
     let shared = floor.shared;
     let alarm = Aloud(shared.err);
     let mut watch = shared.watch.lock(rt);
-    watch.hear_all(floor.alloc, rt, floor.cluster);
+    watch.hear_all(rt, floor.cluster);
     let is_more = watch.follow_some(stamps, &alarm);
     let rests = pace.look(&watch, is_more);
     let is_trailing = keeps_snapshots_waiting(&watch, is_more);
