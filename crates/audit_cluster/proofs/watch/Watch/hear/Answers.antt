@@ -24,8 +24,8 @@ invariant_of-self-in-Ok g c = (
   c.self.invariant.1,
   still_own c.self.inside.pass.told c.hand_out.new.pass.told c.self.invariant.2 (told_handed c.self.inside.pass c.hand_out.new.pass c.self.inside.pass.told (c.args.cluster.now.first + c.args.index) c.in-Some.handout.first c.in-Some.handout.blocks.items c.in-Some.ensures.some refl),
   (let is = c.in-Ok.ensures.left in
-    λ lost. heard_left g.B.Spot.first c.self.inside.vnodes c.self.inside.pass c.hand_out.new.pass c.self.inside.follower c.self.inside.left c.in-Ok.left c.args.index (c.args.cluster.now.first + c.args.index) c.in-Some.handout.first c.in-Some.handout.blocks.items (c.self.invariant.3 lost)
-        (not_some c.self.inside.left (sym c.is_some.ensures ∙ c.if-is_some.false)) is.2 is.3 is.4 is.0 is.1 (ap (λ (n : ℕ). n + c.args.index) c.requires.first) c.in-Some.ensures.some),
+      λ lost. heard_left g.B.Spot.first c.self.inside.vnodes c.self.inside.pass c.hand_out.new.pass c.self.inside.follower c.self.inside.left c.in-Ok.left c.args.index (c.args.cluster.now.first + c.args.index) c.in-Some.handout.first c.in-Some.handout.blocks.items (c.self.invariant.3 lost)
+      (not_some c.self.inside.left (sym c.is_some.ensures ∙ c.if-is_some.false)) is.2 is.3 is.4 is.0 is.1 (ap (λ (n : ℕ). n + c.args.index) c.requires.first) c.in-Some.ensures.some),
 )
 
 pub invariant_of-self-in-Err : goal.invariant_of-self-in-Err
