@@ -512,7 +512,7 @@ def refused():
 
     yield spoiled("no context"), told(400, "K1")
     yield spoiled(""), told(400, "K4")
-    for version in 0, 3:
+    for version in 0, 4:
         yield spoiled(token([], version)), told(400, "K2")
     for version in 1, 2:
         yield spoiled(token([(0, 1)], version) + "="), told(400, "K1")
