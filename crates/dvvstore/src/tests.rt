@@ -2,8 +2,6 @@
 
 ghost use Rattle.std.specs.Prelude.{◌≡◌, IfOk, vec_len};
 
-mod keeping;
-mod memory;
 mod starting;
 
 use crate::host::Host;
