@@ -1,5 +1,6 @@
 mod Lists
 mod Counts
 mod Taken
+mod Left
 mod Ends
 pub mod Sent

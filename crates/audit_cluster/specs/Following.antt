@@ -1,11 +1,13 @@
 -- What is said of the journals of a gathered cluster that was followed while it served (this store's profile).
-use Rattle.std.specs.Prelude.{◌≡◌, ◌<◌, ◌≤◌, ◌+◌, ◌*◌, ◌⊎◌, ◌&&◌, ◌==◌, ℕ, Bool, true, false, IsTrue, List, [], ◌∷◌, ◌++◌, All, drop, filter, length, Some, None, Result, Ok, Err}
+use Rattle.std.specs.Prelude.{◌≡◌, ◌≢◌, ◌<◌, ◌≤◌, ◌+◌, ◌*◌, ◌⊎◌, ◌&&◌, ◌==◌, ℕ, zero, suc, Bool, true, false, IsTrue, List, [], ◌∷◌, ◌++◌, All, drop, filter, length, Option, Some, None, Result, Ok, Err}
 use Rattle.cluster_stamps.specs.declared.request.Request.TheVariants as request
+use Rattle.journal.specs.Blocks.{all_of}
 use Rattle.journal.specs.Entry.{Entry}
 use Rattle.journal.specs.Logs.{Log}
 use Rattle.cluster_stamps.specs.declared.view.News.{News}
 use Rattle.cluster_stamps.specs.declared.view.News.TheVariants as news
 use Rattle.cluster_stamps.specs.declared.view.Told.{Told}
+use Rattle.cluster_stamps.specs.Rule.{hand_out_of}
 use Rattle.cluster_vnode.specs.Gathers.{IsGathered, AreInTurn, all_handed}
 use Rattle.audit_replay.specs.Faulty.{IsFaultless}
 use Rattle.audit_replay.specs.Interleaved.{IsInterleaving}
@@ -15,8 +17,10 @@ use Rattle.audit_follower.specs.Waiting.{IsNext, Taken, bytes_waiting, count_wai
 use Rattle.audit_replay.specs.declared.kept.Recent.{Recent}
 use Rattle.audit_replay.specs.Wrong.{IsToldOf}
 use Rattle.audit_faults.specs.declared.fault.AuditFault.{AuditFault}
+use Rattle.audit_faults.specs.declared.fault.TakeFault.{TakeFault}
 use Rattle.audit_faults.specs.declared.fault.WatchFault.{WatchFault}
 use Rattle.audit_faults.specs.declared.fault.WatchFault.TheVariants.{Found, Lost, NoMemory}
+use Rattle.audit_cluster.specs.declared.watch.Left.{Left}
 
 -- of which of the last entries of each vnode answers are kept
 abbrev pub answers_kept : Recent
@@ -109,10 +113,11 @@ pub record Watches (first vnodes : ℕ) (told : List Told) (taken : Taken) : Typ
   pub has : taken.fault ≡ None → HasTaken first told taken
   pub stopped : (fault : AuditFault) → taken.fault ≡ Some fault → HasStopped first vnodes told taken.fronts fault
 
--- what a watch was told, and what was taken
+-- what a watch was told, what was taken, and why nothing more can be taken, if so
 pub record Watched : Type 0 where
   pub told : List Told
   pub taken : Taken
+  pub lost : Option TakeFault
 
 -- a watch does nothing at vnodes but have them hand out and start again
 abbrev pub IsOfWatch : Told → Type 0
@@ -125,6 +130,14 @@ IsToldMore old new = (more : List Told) × (new ≡ old ++ more) × All IsOfWatc
 -- a pass was told this, and then of restarts of one vnode, so many at the most
 abbrev pub AreRestarts : ℕ → ℕ → List Told → List Told → Type 0
 AreRestarts vnode most old new = (more : List Told) × (new ≡ old ++ more) × All (λ t. (t.vnode ≡ vnode) × IsRestart t.news) more × (length more ≤ most)
+
+-- entries from this place on aren't the next ones of the vnode with this index: it isn't followed, or what was taken of it ended elsewhere
+abbrev pub IsNotNext : Taken → ℕ → ℕ → Type 0
+IsNotNext taken index first = (length taken.followed ≤ index) ⊎ (first ≢ taken_at taken index)
+
+-- a pass was told of one hand-out of a vnode, and that it isn't what is next of it
+abbrev pub IsHandedAmiss : ℕ → ℕ → Taken → List Told → List Told → Type 0
+IsHandedAmiss vnode index taken old new = (at : ℕ) × (stamp : ℕ) × (first : ℕ) × (more : List Entry) × (new ≡ old ++ hand_out_of vnode at stamp first more ∷ []) × IsNotNext taken index first
 
 -- this is of a vnode of which nothing waits
 abbrev pub IsIdle : ℕ → Taken → ℕ → Type 0
@@ -154,6 +167,28 @@ abbrev pub AreFronts : Taken → List Log → Type 0
 AreFronts taken logs =
     (index : ℕ) → index < length taken.followed → index < length logs → (log_at taken.followed index).vnode ≡ (log_at logs index).vnode
     → (rest : List Entry) × ((log_at logs index).entries ≡ all_taken taken index ++ rest)
+
+-- ---- what waits to be taken
+
+-- these wait, too, of the vnode with this index
+abbrev pub append_at : List (List Entry) → ℕ → List Entry → List (List Entry)
+append_at [] zero more = more ∷ []
+append_at [] (suc index) more = [] ∷ append_at [] index more
+append_at (queue ∷ queues) zero more = (queue ++ more) ∷ queues
+append_at (queue ∷ queues) (suc index) more = queue ∷ append_at queues index more
+
+-- what was taken, and these entries of the vnode with this index
+abbrev pub with_more : Taken → ℕ → List Entry → Taken
+with_more taken index more = record taken { waiting = append_at taken.waiting index more }
+
+-- what waits, and what was handed out and not taken yet
+abbrev pub waiting_with : List (List Entry) → Option Left → List (List Entry)
+waiting_with waiting None = waiting
+waiting_with waiting (Some left) = append_at waiting left.index (all_of left.blocks.items)
+
+-- what was taken, and what was handed out and not taken yet
+abbrev pub with_left : Taken → Option Left → Taken
+with_left taken left = record taken { waiting = waiting_with taken.waiting left }
 
 -- what was left of the first n of these journals was taken by a follower, too
 pub record IsTakenTo (old new : Taken) (logs : List Log) (n : ℕ) : Type 0 where

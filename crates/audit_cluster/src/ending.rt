@@ -9,7 +9,7 @@ ghost use Rattle.world.specs.Represents.{log_at};
 ghost use Rattle.audit_cluster.specs.Following.{AreFronts, IsFollowedTo, IsLong, IsOfWatch, IsSaidOf, IsTakenTo, StopsIn, answers_kept};
 
 use crate::copying::rest_of;
-use crate::watch::{Spot, Watch};
+use crate::watch::{Left, Spot, Watch};
 use audit_faults::{Followed, TakeFault, WatchFault};
 use audit_follower::Follower;
 use cluster::{Cluster, Pass, Room, hand_outs_are_a_front};
@@ -73,7 +73,7 @@ pub fn close_watched<B: Room + Spot>(
     alloc: Global,
     cluster: Cluster<B>,
     mut passes: Vec<Pass<B>>,
-    watch: Watch<B>,
+    mut watch: Watch<B>,
     fronts: &[usize],
 ) -> Result<Closed, AllocError>
     requires back { cluster.passes ≤ vec_len passes + 1 }
@@ -84,14 +84,17 @@ pub fn close_watched<B: Room + Spot>(
     // Where nothing was there before, a yes is that of the journals from their first entries on.
     ensures followed { IfOk result (λ closed. fronts.now ≡ [] → IsFollowedTo (flat_map (λ p. p.told) passes.items ++ watch.told) cluster.vnodes closed.said) }
 {
+    watch.take_left();
     let Watch {
         pass,
         first,
         vnodes: count,
         mut follower,
+        left,
         lost,
         ..
     } = watch;
+    let lost = why_lost(lost, left);
     passes.push(pass)?;
     hand_outs_are_a_front();
     match cluster.gather(passes) {
@@ -105,6 +108,16 @@ pub fn close_watched<B: Room + Spot>(
             Ok(Closed { vnodes, said })
         }
         Err(_) => Err(AllocError),
+    }
+}
+
+// Why not all that was handed out was taken.
+fn why_lost(lost: Option<TakeFault>, left: Option<Left>) -> Option<TakeFault>
+    ensures { result ≡ None → (lost ≡ None) × (left ≡ None) }
+{
+    match left {
+        Some(_) => Some(TakeFault::NoMemory),
+        None => lost,
     }
 }
 
@@ -176,7 +189,10 @@ fn take_rest(alloc: Global, follower: &mut Follower, vnodes: &[Vnode]) -> Result
             return Err(WatchFault::Lost);
         }
         let journal = vnodes[index].journal();
-        follower.take_at(index, journal.first(), rest_of(alloc, journal)?)?;
+        let rest = rest_of(alloc, journal)?;
+        if let Err(untaken) = follower.take_at(index, journal.first(), rest) {
+            return Err(WatchFault::from(untaken.why));
+        }
     }
     Ok(())
 }

@@ -1,11 +1,11 @@
 //! A follower beside a cluster that serves.
 
-ghost use Rattle.std.specs.Prelude.{◌≡◌, ◌+◌, ◌<◌, ◌≤◌, ◌^◌, ◌↔◌, ℕ, [], None, All, IfOk, IfSome, IsTrue, MatchBool, OnOk, length, vec_len};
+ghost use Rattle.std.specs.Prelude.{◌≡◌, ◌≢◌, ◌+◌, ◌<◌, ◌≤◌, ◌^◌, ◌↔◌, ℕ, [], None, All, IfOk, IfSome, IsTrue, MatchBool, OnErr, length, vec_len};
 ghost use Rattle.cluster_vnode.specs.Calls.{pass_view};
 ghost use Rattle.journal.specs.Blocks.{all_of};
-ghost use Rattle.audit_follower.specs.Waiting.{bytes_waiting, count_waiting, waiting_at};
+ghost use Rattle.audit_follower.specs.Waiting.{bytes_waiting, count_waiting, taken_at, waiting_at};
 ghost use Rattle.world.specs.Represents.{log_at};
-ghost use Rattle.audit_cluster.specs.Following.{AreRestarts, IsTakenMore, IsToldMore, Rouses, WaitsLittle};
+ghost use Rattle.audit_cluster.specs.Following.{AreRestarts, IsHandedAmiss, IsNotNext, IsToldMore, Rouses, WaitsLittle, with_more};
 
 use crate::limits::{MOST_BEHIND_BYTES, MOST_BEHIND_ENTRIES, RECENT, SHARED_AT_ONCE_BLOCKS};
 use audit_faults::{TakeFault, WatchFault};
@@ -14,6 +14,7 @@ use cluster::{Cluster, Pass, Room};
 use cluster_stamps::Request;
 use journal::{BLOCK, Entry, Handout};
 use std::alloc::{AllocError, Global};
+use std::collections::VecDeque;
 use std::marker::{Brand, Model};
 use std::sync::Wait;
 use thiserror::Error;
@@ -45,6 +46,8 @@ pub trait Alarm {
 ///
 /// An entry is followed once all that comes before it was handed out, so a vnode at which nothing happens would hold the others up: where
 /// much waits, it is started again until it hands out, too.
+///
+/// Where memory is refused for what was handed out, it is kept, and taken before anything else is handed out.
 #[derive(Drop)]
 pub struct Watch<B: Room + Spot> {
     pub(crate) pass: Pass<B>,
@@ -58,7 +61,9 @@ pub struct Watch<B: Room + Spot> {
     next: Vec<Entry>,
     /// The number below which all was followed.
     reached: u64,
-    /// Why a block wasn't taken.
+    /// What was handed out and not taken yet.
+    pub(crate) left: Option<Left>,
+    /// Why a block can't be taken.
     pub(crate) lost: Option<TakeFault>,
     /// Whether it was told that nothing is followed any more.
     told: bool,
@@ -66,13 +71,24 @@ pub struct Watch<B: Room + Spot> {
 
 impl<B: Room + Spot> Model for Watch<B> {
     ghost use Rattle.std.specs.Prelude.{◌≡◌, All, None};
-    ghost use Rattle.audit_cluster.specs.Following.{IsOfWatch, Watched, Watches, answers_kept};
+    ghost use Rattle.audit_cluster.specs.Following.{IsOfWatch, Watched, Watches, answers_kept, with_left};
 
     ghost Value = { Watched };
 
-    ghost view = { λ w. record { told = w.pass.told; taken = w.follower } };
+    ghost view = { λ w. record { told = w.pass.told; taken = w.follower; lost = w.lost } };
 
-    ghost invariant = { λ w. (w.first ≡ B.first) × (w.follower.recent ≡ answers_kept) × All IsOfWatch w.pass.told × (w.lost ≡ None → Watches B.first w.vnodes w.pass.told w.follower) };
+    ghost invariant = { λ w. (w.first ≡ B.first) × (w.follower.recent ≡ answers_kept) × All IsOfWatch w.pass.told × (w.lost ≡ None → Watches B.first w.vnodes w.pass.told (with_left w.follower w.left)) };
+}
+
+/// Blocks that a vnode handed out, and that weren't taken yet: memory was refused.
+#[derive(Drop)]
+pub(crate) struct Left {
+    /// The index of the vnode.
+    pub(crate) index: usize,
+    /// The blocks, in turn.
+    pub(crate) blocks: VecDeque<Vec<Entry>>,
+    /// The number after the last stamp in them.
+    end: u64,
 }
 
 // The number after the stamp of the last entry that was handed out.
@@ -86,31 +102,38 @@ fn end_of(handout: &Handout) -> u64 {
     }
 }
 
-// Takes what the vnode with an index handed out.
-fn take_blocks(
-    alloc: Global,
-    follower: &mut Follower,
-    index: usize,
-    handout: Handout,
-) -> Result<(), TakeFault>
-    ensures taken { OnOk result (IsTakenMore follower.old follower.new index handout.first (all_of handout.blocks.items)) }
-    ensures fault { follower.new.fault ≡ follower.old.fault }
-    ensures recent { follower.new.recent ≡ follower.old.recent }
-    ensures fronts { follower.new.fronts ≡ follower.old.fronts }
+// Takes blocks of the vnode with an index, in turn, behind what was taken of it. Whether all were taken: those for which memory was
+// refused stay.
+fn take_blocks(follower: &mut Follower, index: usize, blocks: &mut VecDeque<Vec<Entry>>) -> bool
+    ensures same { with_more follower.new index (all_of blocks.new.items) ≡ with_more follower.old index (all_of blocks.old.items) }
+    ensures all { IsTrue result → (index < length follower.new.waiting) × (all_of blocks.new.items ≡ []) }
+{
+    if index >= follower.count() {
+        return false;
+    }
+    while let Some(block) = blocks.pop_front() {
+        if let Err(block) = follower.take_next(index, block) {
+            blocks.push_front_reserved(block);
+            return false;
+        }
+    }
+    true
+}
+
+// What the vnode with an index handed out, to be taken: it begins where the last that was taken of it ended.
+fn left_of(follower: &Follower, index: usize, handout: Handout) -> Result<Left, TakeFault>
+    ensures left { IfOk result (λ left. (left.index ≡ index) × (left.blocks.items ≡ handout.blocks.items) × (index < length follower.now.followed) × (index < length follower.now.waiting) × (handout.first ≡ taken_at follower.now index)) }
+    ensures err { OnErr result (IsNotNext follower.now index handout.first) }
 {
     if index >= follower.count() {
         return Err(TakeFault::Unknown);
     }
-    let Handout { first, blocks } = handout;
-    // The place is tested, even if there were no block.
-    follower.take_at(index, first, Vec::new(alloc))?;
-    let mut next = first;
-    for block in blocks {
-        let count = block.len();
-        follower.take_at(index, next, block)?;
-        next = next.saturating_add(count);
+    if handout.first != follower.taken(index) {
+        return Err(TakeFault::Gap);
     }
-    Ok(())
+    let end = end_of(&handout);
+    let blocks = VecDeque::from_vec(handout.blocks);
+    Ok(Left { index, blocks, end })
 }
 
 // Starts the vnode with an index again, under its lock, until it has more than a block of entries behind so many: so a block of them is
@@ -200,6 +223,7 @@ impl<B: Room + Spot> Watch<B> {
             ends,
             next: Vec::new(alloc),
             reached: 0,
+            left: None,
             lost: None,
             told: false,
         })
@@ -216,13 +240,40 @@ impl<B: Room + Spot> Watch<B> {
         }
     }
 
-    /// Has the vnode with an index hand out its full blocks, under its lock, and takes them. Where nothing is followed any more they are
-    /// let go.
-    pub fn hear<R: Wait>(&mut self, alloc: Global, rt: &R, cluster: &Cluster<B>, index: usize)
+    // Takes what was handed out and not taken yet, as far as there is memory. Where nothing is followed any more it is let go.
+    pub(crate) fn take_left(&mut self)
+        ensures told { self.new.told ≡ self.old.told }
+        ensures lost { self.new.lost ≡ self.old.lost }
+    {
+        if self.lost.is_some() || self.follower.fault().is_some() {
+            self.left = None;
+            return;
+        }
+        let Some(mut left) = self.left.take() else {
+            return;
+        };
+        if !take_blocks(&mut self.follower, left.index, &mut left.blocks) {
+            self.left = Some(left);
+            return;
+        }
+        if let Some(end) = self.ends.get_mut(left.index) {
+            *end = left.end;
+        }
+    }
+
+    /// Has the vnode with an index hand out its full blocks, under its lock, and takes them. What was handed out before is taken first:
+    /// while there is no memory for it, nothing more is handed out. Where nothing is followed any more they are let go, and from a block on
+    /// that doesn't begin where the last one of its vnode ended nothing is followed any more.
+    pub fn hear<R: Wait>(&mut self, rt: &R, cluster: &Cluster<B>, index: usize)
         requires first { cluster.now.first ≡ B.first }
         requires inside { index < cluster.now.vnodes }
         ensures told { IsToldMore self.old.told self.new.told }
+        ensures loses { self.old.lost ≡ None → self.new.lost ≢ None → IsHandedAmiss (B.first + index) index self.new.taken self.old.told self.new.told }
     {
+        self.take_left();
+        if self.left.is_some() {
+            return;
+        }
         // It is empty as it is. Where there is no memory the vnode asks for it itself, once it needs it.
         self.next.clear();
         let _ = self.next.reserve_exact(BLOCK);
@@ -232,12 +283,10 @@ impl<B: Room + Spot> Watch<B> {
         if self.lost.is_some() || self.follower.fault().is_some() {
             return;
         }
-        let below = end_of(&handout);
-        match take_blocks(alloc, &mut self.follower, index, handout) {
-            Ok(()) => {
-                if let Some(end) = self.ends.get_mut(index) {
-                    *end = below;
-                }
+        match left_of(&self.follower, index, handout) {
+            Ok(left) => {
+                self.left = Some(left);
+                self.take_left();
             }
             Err(why) => self.lost = Some(why),
         }
@@ -285,14 +334,14 @@ impl<B: Room + Spot> Watch<B> {
     /// Where 8,192 entries wait to be followed, or 32 MiB of contents, has each vnode of a cluster of which none waits fill its block: it
     /// is started again, at most 1,025 times, each an event of its journal. What it hands out then lets the others be followed.
     ///
-    /// Where nothing is followed any more, it does nothing.
+    /// Where nothing is followed any more, or memory was refused for what was handed out, it does nothing.
     pub fn rouse<R: Wait>(&mut self, rt: &R, cluster: &Cluster<B>)
         requires first { cluster.now.first ≡ B.first }
         ensures told { Rouses B.first self.old.taken self.old.told self.new.told }
         ensures little { WaitsLittle self.old.taken → self.new.told ≡ self.old.told }
         ensures taken { self.new.taken ≡ self.old.taken }
     {
-        if self.stopped().is_some() || !self.is_held_up() {
+        if self.stopped().is_some() || self.left.is_some() || !self.is_held_up() {
             return;
         }
         for index in 0..cluster.count().min(self.follower.count()) {
@@ -313,22 +362,22 @@ impl<B: Room + Spot> Watch<B> {
     }
 
     /// Has each vnode of a cluster hand out its full blocks: [`Watch::hear`] of each.
-    pub fn hear_each<R: Wait>(&mut self, alloc: Global, rt: &R, cluster: &Cluster<B>)
+    pub fn hear_each<R: Wait>(&mut self, rt: &R, cluster: &Cluster<B>)
         requires first { cluster.now.first ≡ B.first }
         ensures told { IsToldMore self.old.told self.new.told }
     {
         for index in 0..cluster.count() {
-            self.hear(alloc, rt, cluster, index);
+            self.hear(rt, cluster, index);
         }
     }
 
     /// Has each vnode of a cluster hand out its full blocks: [`Watch::hear_each`], and then [`Watch::rouse`]. Of the
     /// keys that were followed full blocks are then held once, by the vnode and the follower's.
-    pub fn hear_all<R: Wait>(&mut self, alloc: Global, rt: &R, cluster: &Cluster<B>)
+    pub fn hear_all<R: Wait>(&mut self, rt: &R, cluster: &Cluster<B>)
         requires first { cluster.now.first ≡ B.first }
         ensures told { IsToldMore self.old.told self.new.told }
     {
-        self.hear_each(alloc, rt, cluster);
+        self.hear_each(rt, cluster);
         self.rouse(rt, cluster);
         self.share_keys(rt, cluster);
     }
@@ -377,17 +426,11 @@ impl<B: Room + Spot> Watch<B> {
     }
 
     /// Has each vnode of a cluster hand out its full blocks, and follows all of them: [`Watch::hear_all`] and [`Watch::follow_some`].
-    pub fn turn<R: Wait, A: Alarm>(
-        &mut self,
-        alloc: Global,
-        rt: &R,
-        cluster: &Cluster<B>,
-        alarm: &A,
-    )
+    pub fn turn<R: Wait, A: Alarm>(&mut self, rt: &R, cluster: &Cluster<B>, alarm: &A)
         requires first { cluster.now.first ≡ B.first }
         ensures told { IsToldMore self.old.told self.new.told }
     {
-        self.hear_all(alloc, rt, cluster);
+        self.hear_all(rt, cluster);
         self.follow_some(u64::MAX, alarm);
     }
 }

@@ -168,6 +168,14 @@ impl Follower {
         self.run.rerun.happened(index)
     }
 
+    /// How many entries of the vnode with this index were taken: those that were followed, and those that wait.
+    pub fn taken(&self, index: usize) -> usize
+        requires inside { index < length self.now.followed }
+        ensures { result ≡ taken_at self.now index }
+    {
+        self.run.taken(index)
+    }
+
     /// How many entries of the vnode with this index wait for their turn.
     pub fn waiting(&self, index: usize) -> usize
         requires inside { index < length self.now.followed }

@@ -12,6 +12,7 @@ use Rattle.hook_registry.specs.Changes.{Change}
 use Rattle.hook_registry.specs.declared.fault.HookFault.{HookFault}
 use Rattle.hook_registry.specs.declared.fault.NameFault.{NameFault}
 use Rattle.hook_registry.specs.declared.fault.NotSeen.{NotSeen}
+use Rattle.kept_hooks.specs.Lists.{Listed}
 use Rattle.ring.specs.Places.{PlacementView}
 use Rattle.cluster_stamps.specs.declared.view.Size.{Size}
 use Rattle.server_one_thread.specs.Passes.{Passing}
@@ -21,33 +22,37 @@ use Rattle.dvvstore.proofs.VisitLemmas.{visits_gathered}
 use Rattle.dvvstore.specs.Asides.{AreGathered}
 use Rattle.dvvstore.specs.Crews.{by_digest}
 use Rattle.dvvstore.specs.Keeping.{HasServed, LeavesServed, left_as}
-use Rattle.dvvstore.specs.Visits.{AfterVisits, AreOfTables, AreStarts, IsLastHooked, IsOver}
+use Rattle.dvvstore.specs.Visits.{AfterVisits, AreBegun, AreOfTables, AreStarts, HaveBegun, IsLastBegun, IsOver}
 use Rattle.dvvstore.specs.declared.crew.running.Served.{Served}
 use Rattle.dvvstore.specs.declared.keeper.Unbegun.{Unbegun}
 use Rattle.dvvstore.specs.declared.session.Left.{Left}
 use Rattle.dvvstore.specs.declared.session.Left.TheVariants.{Kept, Lost}
 
--- the last of some stores has other hooks
-last_hooked : {H : Type 0} → (rest : List (StoreView Passing H)) (old : StoreView Passing H) (hooks : H) → IsLastHooked (rest ++ old ∷ []) (rest ++ record old { hooks = hooks } ∷ [])
-last_hooked [] old hooks = (hooks, refl)
-last_hooked (x ∷ []) old hooks = (_, refl, last_hooked [] old hooks)
-last_hooked (x ∷ y ∷ rest) old hooks = (_, refl, last_hooked (y ∷ rest) old hooks)
+-- what begins at the last of some seats has begun with the requests of a list
+last_begun : {H : Type 0} → (takes : H → Change → Result Unit HookFault → H → Type 0) (held : List ℕ) (rest : List (StoreView Passing H)) (old : StoreView Passing H) (requests : Listed) (hooks : H)
+    → HaveBegun takes old.listed held old.hooks requests hooks → IsLastBegun takes held requests (rest ++ old ∷ []) (rest ++ record old { hooks = hooks } ∷ [])
+last_begun takes held [] old requests hooks has = (hooks, refl, has)
+last_begun takes held (x ∷ []) old requests hooks has = (_, refl, last_begun takes held [] old requests hooks has)
+last_begun takes held (x ∷ y ∷ rest) old requests hooks has = (_, refl, last_begun takes held (y ∷ rest) old requests hooks has)
 
-pub last_changed : {H S : Type 0} → (of : S → StoreView Passing H) (before after rest : List S) (old new : S) (hooks : H)
-    → before ≡ rest ++ old ∷ [] → after ≡ rest ++ new ∷ [] → of new ≡ record (of old) { hooks = hooks } → IsLastHooked (map of before) (map of after)
-last_changed of before after rest old new hooks was is last =
+pub last_changed : {H S : Type 0} → (takes : H → Change → Result Unit HookFault → H → Type 0) (of : S → StoreView Passing H) (held : List ℕ) (before after rest : List S) (old new : S) (requests : Listed) (hooks : H)
+    → before ≡ rest ++ old ∷ [] → after ≡ rest ++ new ∷ [] → of new ≡ record (of old) { hooks = hooks } → HaveBegun takes (of old).listed held (of old).hooks requests hooks
+    → IsLastBegun takes held requests (map of before) (map of after)
+last_changed takes of held before after rest old new requests hooks was is last has =
     let old_starts : map of before ≡ map of rest ++ of old ∷ [] = ap (map of) was ∙ map-append of rest (old ∷ []) in
     let new_starts : map of after ≡ map of rest ++ record (of old) { hooks = hooks } ∷ [] =
     ap (map of) is ∙ (map-append of rest (new ∷ []) ∙ ap (λ v. map of rest ++ v ∷ []) last) in
-    subst (λ xs. IsLastHooked xs (map of after)) (sym old_starts) (subst (IsLastHooked (map of rest ++ of old ∷ [])) (sym new_starts) (last_hooked (map of rest) (of old) hooks))
+    subst (λ xs. IsLastBegun takes held requests xs (map of after)) (sym old_starts)
+    (subst (IsLastBegun takes held requests (map of rest ++ of old ∷ [])) (sym new_starts) (last_begun takes held (map of rest) (of old) requests hooks has))
 
--- where requests were held, the last of some stores has other hooks
-pub starts_where : {H T : Type 0} → (of : T → List ℕ) (given : Option T) (held : T) (starts now : List (StoreView Passing H)) → given ≡ Some held → IsLastHooked starts now → AreStarts (option_map of given) starts now
-starts_where {H} {T} of given held starts now is so = subst (λ (g : Option T). AreStarts (option_map of g) starts now) (sym is) so
+-- where a list was held, the hooks of the last of some stores have begun with its requests
+pub starts_where : {H T : Type 0} → (takes : H → Change → Result Unit HookFault → H → Type 0) (of : T → List ℕ) (given : Option T) (held : T) (requests : Listed) (starts now : List (StoreView Passing H)) → given ≡ Some held
+    → IsLastBegun takes (of held) requests starts now → AreBegun takes (option_map of given) requests starts now
+starts_where {H} {T} takes of given held requests starts now is so = subst (λ (g : Option T). AreBegun takes (option_map of g) requests starts now) (sym is) so
 
 -- the same, said of what a folder held
-pub starts_as : {H : Type 0} → (held other : Option (List ℕ)) (starts now : List (StoreView Passing H)) → held ≡ other → AreStarts held starts now → AreStarts other starts now
-starts_as held other starts now is are = subst (λ (h : Option (List ℕ)). AreStarts h starts now) is are
+pub starts_as : {H : Type 0} → (takes : H → Change → Result Unit HookFault → H → Type 0) (held other : Option (List ℕ)) (starts now : List (StoreView Passing H)) → held ≡ other → AreStarts takes held starts now → AreStarts takes other starts now
+starts_as takes held other starts now is are = subst (λ (h : Option (List ℕ)). AreStarts takes h starts now) is are
 
 module _ {H : Type 0} (finds : H → List ℕ → ImageKind → Result (Option Program) NotSeen → H → Type 0)
     (names : H → List ℕ → ImageKind → Result (Option (List ℕ)) NameFault → H → Type 0) (takes : H → Change → Result Unit HookFault → H → Type 0) where
@@ -57,9 +62,9 @@ module _ {H : Type 0} (finds : H → List ℕ → ImageKind → Result (Option P
   served_so Begins (Err why) so = tt
 
   -- what a crew leaves
-  pub served_from : {E B : Type 0} → (held : Option (List ℕ)) (starts now : List (StoreView Passing H)) (id vnodes : ℕ) (spares : Passes B) (served : Result Served E) → AreStarts held starts now → vnodes ≡ 3
+  pub served_from : {E B : Type 0} → (held : Option (List ℕ)) (starts now : List (StoreView Passing H)) (id vnodes : ℕ) (spares : Passes B) (served : Result Served E) → AreStarts takes held starts now → vnodes ≡ 3
       → IfOk served (λ s. AfterVisits finds names takes now (λ told. AreGathered id told spares s.closed.vnodes.items) × (vec_len s.closed.vnodes ≡ vnodes))
-      → IfOk served (HasServed finds names takes (AreStarts held starts))
+      → IfOk served (HasServed finds names takes (AreStarts takes held starts))
   served_from held starts now id vnodes spares (Ok s) are three (kept, many) = (now, are, visits_gathered finds names takes now id spares s.closed.vnodes.items kept, many ∙ three)
   served_from held starts now id vnodes spares (Err why) are three so = so
 

@@ -1,5 +1,5 @@
 -- What is left of a store, said of the same numbers and files.
-use Rattle.std.proofs.Common.{◌≡◌, ◌∙◌, ◌+◌, ◌<◌, ◌++◌, ℕ, zero, suc, List, Option, Result, Ok, Err, IfOk, [], ◌∷◌, arith, subst, sym}
+use Rattle.std.proofs.Common.{◌≡◌, ◌∙◌, ◌+◌, ◌/◌, ◌<◌, ◌++◌, ℕ, zero, suc, List, Option, Result, Ok, Err, IfOk, [], ◌∷◌, arith, subst, sym}
 use Rattle.std.specs.List.{All}
 use Rattle.std.specs.Prelude.{IsErrAnd}
 use Rattle.std.proofs.lemmas.List.{get_or_append_left, length-append}
@@ -8,9 +8,10 @@ use Rattle.journal.specs.Logs.{Log}
 use Rattle.cluster_stamps.specs.declared.view.View.{View}
 use Rattle.cluster_vnode.specs.Calls.{pass_view}
 use Rattle.kept_file.specs.Files.{records_at}
+use Rattle.kept_fold.specs.Folds.{AreFolded}
 use Rattle.kept_restore.specs.Beginnings.{BeginWithFiles, BeginsWith}
 use Rattle.audit_cluster.specs.Following.{IsSaidOf}
-use Rattle.dvvstore.specs.Keeping.{HasBegun, IsLeftFrom, Leaves, Tells, TellsBeginning, fronts_for, left_as}
+use Rattle.dvvstore.specs.Keeping.{HasBegun, IsLeftFrom, Leaves, LeavesFolded, Tells, TellsBeginning, fronts_for, left_as}
 use Rattle.dvvstore.specs.declared.crew.running.Served.{Served}
 use Rattle.dvvstore.specs.declared.keeper.Address.{Address}
 use Rattle.dvvstore.specs.declared.keeper.Door.{Door}
@@ -18,9 +19,18 @@ use Rattle.dvvstore.specs.declared.keeper.Door.TheVariants as door
 use Rattle.dvvstore.specs.declared.keeper.Unbegun.{Unbegun}
 use Rattle.dvvstore.specs.declared.keeper.Unbegun.TheVariants.{Unreadable}
 use Rattle.dvvstore.specs.declared.session.Left.{Left}
+use Rattle.dvvstore.specs.declared.session.Left.TheVariants.{Kept, Lost}
 
 pub leaves_as : {F : Type 0} → (folder : Option F) (first number : ℕ) (files : List KeptFile) (left : Result Left Unbegun) → first ≡ number → Leaves folder first files left → Leaves folder number files left
 leaves_as folder first number files left is so = subst (λ (n : ℕ). Leaves folder n files left) is so
+
+-- what begins with files whose keys are folded leaves what the folder held so
+pub leaves_folded : {F : Type 0} → (folder kept : Option F) (first number : ℕ) (held files : List KeptFile) (left : Result Left Unbegun) → number ≡ first / 256 → kept ≡ folder → AreFolded number held files
+    → Leaves kept first files left → LeavesFolded folder first held left
+leaves_folded folder kept first number held files (Ok (Kept served)) is same fold so =
+    (files, subst (λ (n : ℕ). AreFolded n held files) is fold, subst (λ f. IsLeftFrom f first files served) same so)
+leaves_folded folder kept first number held files (Ok Lost) is same fold so = tt
+leaves_folded folder kept first number held files (Err why) is same fold so = tt
 
 -- of passes that were told nothing those before the last were told nothing, either
 pub fresh_before : (passes rest : List View) (pass : View) → All (λ (p : View). p ≡ pass_view 0 []) passes → passes ≡ rest ++ pass ∷ [] → All (λ (p : View). p ≡ pass_view 0 []) rest

@@ -1,5 +1,5 @@
 -- What stands on the output when a store that is kept has ended (this store's profile).
-use Rattle.std.specs.Prelude.{◌≡◌, ◌+◌, ◌++◌, ◌∷◌, ℕ, List, [], MatchOption, Option, Some, None, Result, Ok, Err, true, codes, decimal, vec_len}
+use Rattle.std.specs.Prelude.{◌≡◌, ◌+◌, ◌/◌, ◌++◌, ◌∷◌, ℕ, List, [], MatchOption, Option, Some, None, Result, Ok, Err, true, codes, decimal, vec_len}
 use Rattle.bpf_image.specs.declared.image.ImageKind.{ImageKind}
 use Rattle.bpf_verifier.specs.Program.{Program}
 use Rattle.hook_registry.specs.Changes.{Change}
@@ -14,11 +14,13 @@ use Rattle.commands.specs.declared.server.Ended.TheVariants as ended
 use Rattle.audit_cluster.specs.Following.{IsSaidOf}
 use Rattle.kept_file.specs.declared.file.KeptFile.{KeptFile}
 use Rattle.kept_file.specs.Files.{records_at}
+use Rattle.kept_fold.specs.Folds.{AreFolded}
 use Rattle.kept_folder.specs.Numbers.{number_text}
 use Rattle.kept_folder.specs.Seals.{sealed}
 use Rattle.kept_folder.specs.Steps.{ArePut, AreFilesOf, IsPut, Put, Step}
 use Rattle.journal.specs.Logs.{Log}
 use Rattle.kept_hooks.specs.Lists.{Listed}
+use Rattle.kept_hooks.specs.Spelling.{all_spelled}
 use Rattle.kept_restore.specs.Beginnings.{BeginWithFiles, fronts_to}
 use Rattle.kept_restore.specs.Loads.{HasLoaded}
 use Rattle.cluster_stamps.specs.declared.view.View.{View}
@@ -85,6 +87,15 @@ Leaves folder first files (Ok (Kept served)) = IsLeftFrom folder first files ser
 Leaves folder first files (Ok Lost) = Unit {0}
 Leaves folder first files (Err why) = Unit {0}
 
+-- the same of what a folder held: the start that those numbers belong to has folded its keys
+abbrev pub IsLeftFolded : {F : Type 0} → Option F → ℕ → List KeptFile → Served → Type 0
+IsLeftFolded folder first held served = (files : List KeptFile) × AreFolded (first / 256) held files × IsLeftFrom folder first files served
+
+abbrev pub LeavesFolded : {F : Type 0} → Option F → ℕ → List KeptFile → Result Left Unbegun → Type 0
+LeavesFolded folder first held (Ok (Kept served)) = IsLeftFolded folder first held served
+LeavesFolded folder first held (Ok Lost) = Unit {0}
+LeavesFolded folder first held (Err why) = Unit {0}
+
 module _ {H : Type 0} (finds : H → List ℕ → ImageKind → Result (Option Program) NotSeen → H → Type 0)
     (names : H → List ℕ → ImageKind → Result (Option (List ℕ)) NameFault → H → Type 0) (takes : H → Change → Result Unit HookFault → H → Type 0) where
   -- What is left of a store whose workers began so: each had its visit, and in the journals of three vnodes stands what they were told, each of it once.
@@ -112,7 +123,7 @@ module _ {F : Type 0} (finds : F → List ℕ → Option (List ℕ) → Type 0) 
   ArePutOf number vnodes requests old new =
       (mid : F) × HasNumber number old mid × (requests.whole ≡ true)
       × ((files : List Put) × AreFilesOf 0 vnodes files
-      × ArePut does mid (files ++ record { name = codes "hooks.requests"; bytes = sealed requests.bytes } ∷ []) new)
+      × ArePut does mid (files ++ record { name = codes "hooks.requests"; bytes = sealed (all_spelled requests.requests) } ∷ []) new)
 
   -- so it is where all was kept
   abbrev pub Keeps : {V : Type 0} → ℕ → Served → F → F → Ended V → Type 0

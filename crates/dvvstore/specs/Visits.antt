@@ -1,5 +1,5 @@
 -- What the workers of a crew do to the vnodes, by the passes of their seats (this store's profile).
-use Rattle.std.specs.Prelude.{◌≡◌, ℕ, All, List, [], ◌∷◌, ◌++◌, Option, None, Some, Result, map, reverse}
+use Rattle.std.specs.Prelude.{◌≡◌, ℕ, All, List, [], ◌∷◌, ◌++◌, Option, None, Some, Result, map, reverse, true}
 use Rattle.bpf_image.specs.declared.image.ImageKind.{ImageKind}
 use Rattle.bpf_verifier.specs.Program.{Program}
 use Rattle.bpf_helpers.specs.declared.sig.Entry.{Entry}
@@ -9,6 +9,10 @@ use Rattle.hook_registry.specs.declared.fault.NameFault.{NameFault}
 use Rattle.hook_registry.specs.declared.fault.NotSeen.{NotSeen}
 use Rattle.http_request.specs.declared.ask.Call.{Call}
 use Rattle.http_response.specs.declared.reply.Reply.{Reply}
+use Rattle.http_connection.specs.Dialogue.{Completes}
+use Rattle.kept_hooks.specs.Alone.{Alone, AreTaken, Changes, alone_of}
+use Rattle.kept_hooks.specs.Lists.{Listed}
+use Rattle.kept_hooks.specs.Replays.{no_contents}
 use Rattle.http_connections.specs.Halls.{AllStand, HallStands, Log, all_parts}
 use Rattle.http_connections.specs.Sockets.{Sockets}
 use Rattle.http_connections.specs.declared.seat.Seat.{Seat}
@@ -41,17 +45,29 @@ module _ {B : Type 0} (gives : B → Call → Reply → B → Type 0) (copies : 
 abbrev pub HasAll : List Told → List JournalLog → Type 0
 HasAll told logs = (more : List Told) × IsGathered (told ++ more) logs
 
-module _ {H : Type 0} where
-  -- the same stores, but for the hooks of the last one
-  abbrev pub IsLastHooked : List (StoreView Passing H) → List (StoreView Passing H) → Type 0
-  IsLastHooked [] now = ⊥
-  IsLastHooked (start ∷ []) now = (hooks : H) × (now ≡ record start { hooks = hooks } ∷ [])
-  IsLastHooked (start ∷ next ∷ rest) now = (after : List (StoreView Passing H)) × (now ≡ start ∷ after) × IsLastHooked (next ∷ rest) after
+module _ {H : Type 0} (takes : H → Change → Result Unit HookFault → H → Type 0) where
+  -- Hooks have begun with the requests of a list, each of which was done; but that those which aren't let in any more have none of their names. These requests make
+  -- them what they are.
+  abbrev pub HaveBegun : List Entry → List ℕ → H → Listed → H → Type 0
+  HaveBegun sigs held old requests new =
+      (count : ℕ) × (served : Alone H)
+      × Completes (Changes takes sigs) 1 held (alone_of old (record { requests = []; whole = true }) []) served [] (Some (no_contents count)) count
+      × (requests ≡ served.listed) × AreTaken takes served.refused served.hooks new
 
-  -- so it is where a folder held requests of hooks, with which the last store's begin; else they are the same
+  -- the same stores, but that the last one's hooks have begun with the requests of a list; these requests make them what they are
+  abbrev pub IsLastBegun : List ℕ → Listed → List (StoreView Passing H) → List (StoreView Passing H) → Type 0
+  IsLastBegun held requests [] now = ⊥
+  IsLastBegun held requests (start ∷ []) now = (hooks : H) × (now ≡ record start { hooks = hooks } ∷ []) × HaveBegun start.listed held start.hooks requests hooks
+  IsLastBegun held requests (start ∷ next ∷ rest) now = (after : List (StoreView Passing H)) × (now ≡ start ∷ after) × IsLastBegun held requests (next ∷ rest) after
+
+  -- so it is where a folder held a list; else they are the same
+  abbrev pub AreBegun : Option (List ℕ) → Listed → List (StoreView Passing H) → List (StoreView Passing H) → Type 0
+  AreBegun None requests starts now = now ≡ starts
+  AreBegun (Some held) requests starts now = IsLastBegun held requests starts now
+
+  -- so it is with some requests
   abbrev pub AreStarts : Option (List ℕ) → List (StoreView Passing H) → List (StoreView Passing H) → Type 0
-  AreStarts None starts now = now ≡ starts
-  AreStarts (Some held) starts now = IsLastHooked starts now
+  AreStarts held starts now = (requests : Listed) × AreBegun held requests starts now
 
 -- a store is over these vnodes, where keys stand as their digests say
 abbrev pub IsOver : {H : Type 0} → Size → StoreView Passing H → Type 0
@@ -61,9 +77,9 @@ IsOver size start = (start.peers.size ≡ size) × (start.placement ≡ by_diges
 abbrev pub AreOfTables : {H : Type 0} → Size → List (List Entry) → List (StoreView Passing H) → Type 0
 AreOfTables size tables starts = (map (λ s. s.listed) starts ≡ reverse tables) × All (IsOver size) starts
 
--- so it is, but for the hooks of the last one, where a folder held requests with which they begin
-abbrev pub BeginOver : {H : Type 0} → Size → List (List Entry) → Option (List ℕ) → List (StoreView Passing H) → Type 0
-BeginOver {H} size tables held now = (starts : List (StoreView Passing H)) × AreOfTables size tables starts × AreStarts held starts now
+-- so it is, but that the last one's hooks have begun with the requests of a list, if a folder held one
+abbrev pub BeginOver : {H : Type 0} → (H → Change → Result Unit HookFault → H → Type 0) → Size → List (List Entry) → Option (List ℕ) → List (StoreView Passing H) → Type 0
+BeginOver {H} takes size tables held now = (starts : List (StoreView Passing H)) × AreOfTables size tables starts × AreStarts takes held starts now
 
 -- what passes had been told before, each with the calls of its visit behind it
 abbrev pub told_with : {H : Type 0} → List (StoreView Passing H) → List (List Told) → List Told

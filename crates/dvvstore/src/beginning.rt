@@ -13,7 +13,6 @@ use audit_cluster::Spot;
 use cluster::{Cluster, Room};
 use kept_file::KeptFile;
 use kept_restore::{Passes, Throttle, Unloaded, load_all};
-use std::alloc::Global;
 use std::sync::Wait;
 use std::sync::atomic::AtomicBool;
 use std::sync::atomic::Ordering::SeqCst;
@@ -77,7 +76,7 @@ pub fn begin<B: Room + Spot + Send + Sync, R: Threads + Wait + Sync>(
         rt,
         || -> ()
             requires { cluster.now.first ≡ B.first }
-        { follow_load(alloc, cluster, lookout, both) },
+        { follow_load(cluster, lookout, both) },
         || -> Result<Passes<B>, Unloaded>
             requires { cluster.now.vnodes ≡ 3 }
             ensures { IfOk result (λ back. HaveLoaded passes back cluster.entry.now.first files.entry.now) }
@@ -92,7 +91,6 @@ pub fn begin<B: Room + Spot + Send + Sync, R: Threads + Wait + Sync>(
 
 /// Follows what vnodes take over, until all of them have.
 fn follow_load<B: Room + Spot, R: Wait>(
-    alloc: Global,
     cluster: &Cluster<B>,
     lookout: &mut Lookout<B>,
     load: &Load<'_, R>,
@@ -106,7 +104,7 @@ fn follow_load<B: Room + Spot, R: Wait>(
         if load.is_over.load(SeqCst) {
             break;
         }
-        watch.hear_each(alloc, load.rt, cluster);
+        watch.hear_each(load.rt, cluster);
         let is_more = watch.follow_some(LOAD_PIECE_STAMPS, &alarm);
         load.is_behind
             .store(!watch.can_go_on(LOAD_AHEAD_ENTRIES), SeqCst);

@@ -3,8 +3,9 @@
 ghost use Rattle.std.specs.Prelude.{◌≡◌, ◌+◌, ◌<◌, ◌≤◌, ◌^◌, IfOk, OnOk, map, vec_len};
 ghost use Rattle.std.specs.Option.{option_map};
 ghost use Rattle.cluster_stamps.specs.declared.view.Size.{Size};
+ghost use Rattle.kept_fold.specs.Folds.{AreFolded};
 ghost use Rattle.dvvstore.specs.Keeping.{HasBegun, HasBegunWith, Leaves, LeavesServed, Tells, fronts_for, hooks_for, left_as};
-ghost use Rattle.dvvstore.specs.Visits.{AreStarts, begun};
+ghost use Rattle.dvvstore.specs.Visits.{AreBegun, AreStarts, HaveBegun, begun};
 
 use crate::crew;
 use crate::crew::{Crew, Lookout, Seat, Served};
@@ -17,16 +18,17 @@ use bpf_helpers::Sigs;
 use cluster::{Cluster, Room};
 use hook_registry::{HookChanges, Hooks};
 use kept_file::KeptFile;
+use kept_fold::fold_files;
 use kept_folder::{Folder, HOOKS, Held, Settings};
-use kept_hooks::{HooksAlone, Recorder, ReplayFault, Requests, replay};
+use kept_hooks::{BegunHooks, ReplayFault, Requests};
 use kept_restore::laws::loads_stand;
 use kept_restore::{Passes, Unloaded, fronts_of};
 use server_accept::{Bound, Lobby, Setup, open, tell_listening};
 use std::alloc::{AllocError, Global};
 use std::io;
-use std::io::{ErrorKind, Stderr, Stdin, Write};
+use std::io::{Eprint as _, ErrorKind, Stderr, Stdin, Write};
 use std::net::{Net, SocketAddr, TcpListener, TcpStream};
-use std::sync::{Mutex, Wait};
+use std::sync::Wait;
 use std::thread::Threads;
 use thiserror::Error;
 
@@ -123,7 +125,7 @@ pub struct Stay<'a, N, F> {
     pub err: Stderr,
 }
 
-impl<N, F> Stay<'_, N, F> {
+impl<N, F: Drop> Stay<'_, N, F> {
     /// How many of the first entries of each vnode were there before: none are named where no folder keeps the store.
     pub fn fronts(&self, alloc: Global) -> Result<Vec<usize>, AllocError>
         ensures { IfOk result (λ fronts. fronts.items ≡ fronts_for self.now.folder self.now.held.files.items) }
@@ -132,6 +134,41 @@ impl<N, F> Stay<'_, N, F> {
             Some(_) => fronts_of(alloc, &self.held.files, VNODES as usize),
             None => Ok(Vec::new(alloc)),
         }
+    }
+
+    /// The same, with the keys folded that many starts have written, by the start with a number.
+    pub fn folded(self, alloc: Global, number: u32) -> Result<Self, AllocError>
+        requires few { number ≤ 16777215 }
+        ensures folder { IfOk result (λ stay. stay.folder ≡ self.entry.folder) }
+        ensures hooks { IfOk result (λ stay. stay.held.hooks ≡ self.entry.held.hooks) }
+        ensures files { IfOk result (λ stay. AreFolded number self.entry.held.files.items stay.held.files.items) }
+        ensures door { IfOk result (λ stay. stay.door ≡ self.entry.door) }
+    {
+        let Stay {
+            folder,
+            held,
+            door,
+            err,
+        } = self;
+        let Held {
+            last,
+            settings,
+            hooks,
+            files,
+        } = held;
+        let files = fold_files(alloc, files, number)?;
+        let held = Held {
+            last,
+            settings,
+            hooks,
+            files,
+        };
+        Ok(Stay {
+            folder,
+            held,
+            door,
+            err,
+        })
     }
 }
 
@@ -171,7 +208,7 @@ pub fn live<
     requires numbers { staffed.begun.first + 3 ≤ 2 ^ 32 }
     ensures told { Tells stay.entry.door result (O.contents out.old) (O.contents out.new) }
     ensures kept { Leaves stay.entry.folder staffed.cluster.first stay.entry.held.files.items result }
-    ensures served { LeavesServed H.finds H.names H.takes (AreStarts (hooks_for stay.entry.folder stay.entry.held.hooks.items) (map (λ s. begun staffed.cluster s.pass s.hooking.hooks s.hooking.table.listed s.placement) staffed.seats.items)) result }
+    ensures served { LeavesServed H.finds H.names H.takes (AreStarts H.takes (hooks_for stay.entry.folder stay.entry.held.hooks.items) (map (λ s. begun staffed.cluster s.pass s.hooking.hooks s.hooking.table.listed s.placement) staffed.seats.items)) result }
 {
     let Stay {
         folder,
@@ -191,7 +228,12 @@ pub fn live<
         files,
         ..
     } = held;
-    begin_seats(host, &mut seats, &mut lookout, hooks_of(&folder, &hooks))?;
+    begin_seats(
+        host.alloc,
+        &mut seats,
+        &mut lookout,
+        hooks_of(&folder, &hooks),
+    )?;
     let loaded = loaded_in(&files);
     // Else each state would be kept until the end that a key had at the start.
     drop(files);
@@ -308,16 +350,16 @@ fn hooks_of<'a, F>(folder: &Option<F>, held: &'a [u8]) -> Option<&'a [u8]>
 }
 
 /// Has the hooks of the last of some seats begin with the requests that a folder held, if one did; the others come to know of them by their
-/// own look-ups. The requests are written down once more.
-fn begin_seats<B: Room + Spot, H: HookChanges + Drop, R: Wait>(
-    host: &Host<'_, R>,
+/// own look-ups. The requests are written down once more. What is refused of them is told on standard error.
+fn begin_seats<B: Room + Spot, H: HookChanges + Drop>(
+    alloc: Global,
     seats: &mut Vec<Seat<B, H>>,
     lookout: &mut Lookout<B>,
     held: Option<&[u8]>,
 ) -> Result<(), Unbegun>
     requires some { 0 < vec_len seats.old }
     ensures count { OnOk result (vec_len seats.new ≡ vec_len seats.old) }
-    ensures starts { OnOk result ((size : Size) → AreStarts (option_map (λ h. h.now) held.entry) (map (λ s. begun size s.pass s.hooking.hooks s.hooking.table.listed s.placement) seats.old.items)
+    ensures starts { OnOk result ((size : Size) → AreBegun H.takes (option_map (λ h. h.now) held.entry) lookout.new.requests (map (λ s. begun size s.pass s.hooking.hooks s.hooking.table.listed s.placement) seats.old.items)
         (map (λ s. begun size s.pass s.hooking.hooks s.hooking.table.listed s.placement) seats.new.items)) }
 {
     let Some(held) = held else {
@@ -327,26 +369,31 @@ fn begin_seats<B: Room + Spot, H: HookChanges + Drop, R: Wait>(
         unreachable!();
     };
     let table = &seat.hooking.table;
-    lookout.requests = begin_hooks(host, &table.listed, &mut seat.hooking.hooks, held)?;
+    let hooks = &mut seat.hooking.hooks;
+    lookout.requests = begin_hooks(alloc, &table.listed, hooks, held, lookout.err)?;
     seats.push_reserved(seat);
     Ok(())
 }
 
-/// Has hooks that may call helpers with these signatures begin with requests. The requests are written down once more.
-fn begin_hooks<H: HookChanges, R: Wait>(
-    host: &Host<'_, R>,
+/// Has hooks that may call helpers with these signatures begin with requests. Those of them that are refused are told, and the others are
+/// done.
+fn begin_hooks<H: HookChanges>(
+    alloc: Global,
     sigs: &Sigs,
     hooks: &mut H,
     held: &[u8],
-) -> Result<Requests, Unbegun> {
-    let (alloc, rt) = (host.alloc, host.rt);
-    let list = Mutex::new(Requests::new(alloc));
-    let mut recorder = Recorder::new(HooksAlone::new(alloc, sigs, hooks), &list, rt);
-    match replay(alloc, held, &mut recorder) {
-        Ok(_) => {}
+    err: Stderr,
+) -> Result<Requests, Unbegun>
+    ensures made { IfOk result (λ requests. HaveBegun H.takes sigs.now held.now hooks.old requests hooks.new) }
+{
+    let BegunHooks { requests, refused } = match kept_hooks::begin_hooks(alloc, sigs, hooks, held) {
+        Ok(begun) => begun,
         Err(ReplayFault::NoMemory) => return Err(Unbegun::NoMemory),
         Err(fault) => return Err(Unbegun::Hooks(fault)),
+    };
+    for hook in &refused {
+        // What can't be told is lost: the hook is refused all the same.
+        let _ = err.eprintln(format_args!("{HOOKS}: {hook}"));
     }
-    drop(recorder);
-    Ok(list.into_inner())
+    Ok(requests)
 }

@@ -246,7 +246,7 @@ fn lose<O: Write>(alloc: Global, out: &mut O) -> Result<Ended<Said>, Unserved>
 
 /// Writes what is left of a store into its folder, and the number of its start where that is lacking, and tells how many records that is,
 /// or why not all is written.
-fn finish<F: Folder, O: Write>(
+pub(crate) fn finish<F: Folder, O: Write>(
     alloc: Global,
     folder: &mut F,
     number: u32,
@@ -285,8 +285,8 @@ fn write_all<F: Folder>(
 {
     keep_number(alloc, folder, number)?;
     match requests.bytes() {
-        Some(held) => keep_all(alloc, folder, vnodes, Some(held)),
-        // One of them is lacking.
-        None => keep_all(alloc, folder, vnodes, None),
+        Ok(Some(requests)) => keep_all(alloc, folder, vnodes, Some(&requests)),
+        // One of them is lacking, or memory for them.
+        _ => keep_all(alloc, folder, vnodes, None),
     }
 }

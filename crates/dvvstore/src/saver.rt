@@ -185,7 +185,7 @@ impl<F: Folder + Copy + Send> Saver<F> {
     ) -> Result<usize, Unreplaced> {
         let number = self.shelf.number();
         let Shelf { alloc, folder, .. } = &mut self.shelf;
-        let requests = signs.requests(*alloc, rt).unwrap_or(None);
+        let requests = signs.requests(rt).unwrap_or(None);
         keep_requests(*alloc, folder, requests.as_deref())?;
         keep_number(*alloc, folder, number)?;
         Ok(keys)

@@ -7,7 +7,7 @@ ghost use Rattle.cluster_vnode.specs.Calls.{pass_view};
 ghost use Rattle.dvvstore.specs.Crews.{AreAllPlaced};
 ghost use Rattle.hook_readers.specs.Edits.{Finds, Names};
 ghost use Rattle.hook_sharing.specs.Taking.{Takes};
-ghost use Rattle.dvvstore.specs.Keeping.{HasBegunWith, Leaves, LeavesServed, Tells, hooks_for};
+ghost use Rattle.dvvstore.specs.Keeping.{HasBegunWith, Leaves, LeavesFolded, LeavesServed, Tells, hooks_for};
 ghost use Rattle.dvvstore.specs.Visits.{BeginOver};
 
 use crate::crew::{Lookout, Seat, Served};
@@ -19,6 +19,7 @@ use audit_cluster::{Spot, Start, Watch};
 use bpf_helpers::Table;
 use cluster::{Cluster, Pass, Room};
 use cluster_stamps::{Card, Size, Stamps};
+use dvv::VNODES_PER_NUMBER;
 use hook_readers::Naming;
 use hook_sharing::{Ground, HookReader, Installer, Opening, Rack, WorkerHooks, open};
 use kept_folder::Folder;
@@ -90,8 +91,9 @@ struct Hooked<'a, J: Naming, T: Rack<J> + Drop, R: Wait + Drop> {
 }
 
 /// Opens vnodes numbered from the first identifier on, and hooks that may call the helpers of the tables, has the vnodes begin with what a
-/// folder held, if one keeps the store, and has a worker for each table answer the connections that come, while what they do is followed.
-/// Answers what is left of the store. `NoMemory` where memory was refused before anything was told on `out`.
+/// folder held, if one keeps the store, its keys folded that many starts have written, and has a worker for each table answer the
+/// connections that come, while what they do is followed. Answers what is left of the store. `NoMemory` where memory was refused before
+/// anything was told on `out`.
 pub fn live<
     R: Threads + Wait + Sync,
     N: Net<Listener = TcpListener, Stream = TcpStream>,
@@ -107,8 +109,31 @@ pub fn live<
     requires some { 0 < vec_len tables }
     requires few { vec_len tables ≤ 16 }
     ensures told { Tells stay.entry.door result (O.contents out.old) (O.contents out.new) }
+    ensures kept { LeavesFolded stay.entry.folder making.first stay.entry.held.files.items result }
+    ensures served { LeavesServed Finds Names Takes (BeginOver Takes (record { first = making.first; vnodes = 3; passes = vec_len tables + 4 }) (map (λ t. t.listed) tables.items) (hooks_for stay.entry.folder stay.entry.held.hooks.items)) result }
+{
+    let stay = stay.folded(host.alloc, making.first / VNODES_PER_NUMBER)?;
+    over_files(host, making, tables, stay, out)
+}
+
+/// The same, over files of which no key is to be folded any more.
+fn over_files<
+    R: Threads + Wait + Sync,
+    N: Net<Listener = TcpListener, Stream = TcpStream>,
+    F: Folder + Copy + Send,
+    O: Write,
+>(
+    host: &Host<'_, R>,
+    making: Making,
+    tables: Vec<Table>,
+    stay: Stay<'_, N, F>,
+    out: &mut O,
+) -> Result<Left, Unbegun>
+    requires some { 0 < vec_len tables }
+    requires few { vec_len tables ≤ 16 }
+    ensures told { Tells stay.entry.door result (O.contents out.old) (O.contents out.new) }
     ensures kept { Leaves stay.entry.folder making.first stay.entry.held.files.items result }
-    ensures served { LeavesServed Finds Names Takes (BeginOver (record { first = making.first; vnodes = 3; passes = vec_len tables + 4 }) (map (λ t. t.listed) tables.items) (hooks_for stay.entry.folder stay.entry.held.hooks.items)) result }
+    ensures served { LeavesServed Finds Names Takes (BeginOver Takes (record { first = making.first; vnodes = 3; passes = vec_len tables + 4 }) (map (λ t. t.listed) tables.items) (hooks_for stay.entry.folder stay.entry.held.hooks.items)) result }
 {
     let size = Size {
         first: making.first,
@@ -150,7 +175,7 @@ fn over_stamps<
     requires card { undrawn.card.me ≡ (newcomer undrawn.stamps.table.shared.key, []) }
     ensures told { Tells stay.entry.door result (O.contents out.old) (O.contents out.new) }
     ensures kept { Leaves stay.entry.folder undrawn.making.first stay.entry.held.files.items result }
-    ensures served { LeavesServed Finds Names Takes (BeginOver (record { first = undrawn.making.first; vnodes = 3; passes = vec_len tables + 4 }) (map (λ t. t.listed) tables.items) (hooks_for stay.entry.folder stay.entry.held.hooks.items)) result }
+    ensures served { LeavesServed Finds Names Takes (BeginOver Takes (record { first = undrawn.making.first; vnodes = 3; passes = vec_len tables + 4 }) (map (λ t. t.listed) tables.items) (hooks_for stay.entry.folder stay.entry.held.hooks.items)) result }
 {
     let seed = undrawn.making.seed;
     let vnodes = begin(host, undrawn, tables.len(), &stay)?;
@@ -261,7 +286,7 @@ fn over_cluster<
     requires numbers { parts.vnodes.begun.first + 3 ≤ 2 ^ 32 }
     ensures told { Tells stay.entry.door result (O.contents out.old) (O.contents out.new) }
     ensures kept { Leaves stay.entry.folder parts.vnodes.cluster.first stay.entry.held.files.items result }
-    ensures served { LeavesServed Finds Names Takes (BeginOver parts.vnodes.cluster (map (λ t. t.listed) parts.tables.items) (hooks_for stay.entry.folder stay.entry.held.hooks.items)) result }
+    ensures served { LeavesServed Finds Names Takes (BeginOver Takes parts.vnodes.cluster (map (λ t. t.listed) parts.tables.items) (hooks_for stay.entry.folder stay.entry.held.hooks.items)) result }
 {
     over_ground(host, parts, opening.named::<J>(host.alloc), stay, out)
 }
@@ -293,7 +318,7 @@ fn over_ground<
     requires numbers { parts.vnodes.begun.first + 3 ≤ 2 ^ 32 }
     ensures told { Tells stay.entry.door result (O.contents out.old) (O.contents out.new) }
     ensures kept { Leaves stay.entry.folder parts.vnodes.cluster.first stay.entry.held.files.items result }
-    ensures served { LeavesServed Finds Names Takes (BeginOver parts.vnodes.cluster (map (λ t. t.listed) parts.tables.items) (hooks_for stay.entry.folder stay.entry.held.hooks.items)) result }
+    ensures served { LeavesServed Finds Names Takes (BeginOver Takes parts.vnodes.cluster (map (λ t. t.listed) parts.tables.items) (hooks_for stay.entry.folder stay.entry.held.hooks.items)) result }
 {
     match open(host.alloc, host.rt, ground, parts.tables.len()) {
         Ok((installer, readers)) => {
@@ -335,7 +360,7 @@ fn over_hooks<
     requires numbers { parts.vnodes.begun.first + 3 ≤ 2 ^ 32 }
     ensures told { Tells stay.entry.door result (O.contents out.old) (O.contents out.new) }
     ensures kept { Leaves stay.entry.folder parts.vnodes.cluster.first stay.entry.held.files.items result }
-    ensures served { LeavesServed Finds Names Takes (BeginOver parts.vnodes.cluster (map (λ t. t.listed) parts.tables.items) (hooks_for stay.entry.folder stay.entry.held.hooks.items)) result }
+    ensures served { LeavesServed Finds Names Takes (BeginOver Takes parts.vnodes.cluster (map (λ t. t.listed) parts.tables.items) (hooks_for stay.entry.folder stay.entry.held.hooks.items)) result }
 {
     let Parts { vnodes, tables } = parts;
     let Vnodes {

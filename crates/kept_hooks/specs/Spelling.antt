@@ -1,9 +1,12 @@
 -- Requests that change hooks, as a connection brings them (this store's profile of HTTP/1.1).
-use Rattle.std.specs.Prelude.{ℕ, Bool, true, false, ◌&&◌, if◌then◌else◌, List, [], ◌∷◌, ◌++◌, length, codes, decimal}
+use Rattle.std.specs.Prelude.{ℕ, List, [], ◌∷◌, ◌++◌, length, codes, decimal}
+use Rattle.std.specs.List.{flat_map}
 use Rattle.percent_encoding.specs.Percent.{percent_encode}
 use Rattle.percent_encoding.specs.declared.ascii_set.TheConstants.{NON_ALPHANUMERIC}
-use Rattle.http_request.specs.declared.ask.Change.{Change}
-use Rattle.http_request.specs.declared.ask.Change.TheVariants.{Kept, Unbound, Bound}
+use Rattle.kept_hooks.specs.declared.request.Request.{Request}
+use Rattle.kept_hooks.specs.declared.request.Request.TheVariants.{Install, Remove, Bind}
+use Rattle.kept_hooks.specs.declared.request.Phase.{Phase}
+use Rattle.kept_hooks.specs.declared.request.Phase.TheVariants.{PreCommit, Resolver}
 
 -- what stands behind a target
 abbrev pub head_end : List ℕ
@@ -21,27 +24,24 @@ install_request name image = codes "PUT /hooks/" ++ name ++ with_body image
 abbrev pub remove_request : List ℕ → List ℕ
 remove_request name = codes "DELETE /hooks/" ++ name ++ head_end ++ 13 ∷ 10 ∷ []
 
--- a property and what becomes of it, where it changes
-abbrev pub member_of : List ℕ → Change → List ℕ
-member_of named Kept = []
-member_of named Unbound = named ++ codes "null"
-member_of named (Bound name) = named ++ 34 ∷ name ++ 34 ∷ []
+-- the property that names the hook of a phase
+abbrev pub property_of : Phase → List ℕ
+property_of PreCommit = codes "precommit"
+property_of Resolver = codes "resolver"
 
-abbrev pub changes : Change → Bool
-changes Kept = false
-changes Unbound = true
-changes (Bound name) = true
+-- what is bound, as JSON: names of hooks have no character that JSON escapes
+abbrev pub props_of : Phase → List ℕ → List ℕ
+props_of phase name = codes "{\"props\":{\"" ++ property_of phase ++ codes "\":\"" ++ name ++ codes "\"}}"
 
--- what stands between two properties
-abbrev pub comma_of : Change → Change → List ℕ
-comma_of precommit resolver = if changes precommit && changes resolver then codes "," else []
+-- a bucket's hook of a phase is the one with a name
+abbrev pub bind_request : List ℕ → Phase → List ℕ → List ℕ
+bind_request bucket phase name = codes "PUT /buckets/" ++ percent_encode NON_ALPHANUMERIC bucket ++ codes "/props" ++ with_body (props_of phase name)
 
--- what changes, as JSON: names of hooks have no character that JSON escapes
-abbrev pub props_of : Change → Change → List ℕ
-props_of precommit resolver =
-    codes "{\"props\":{" ++ member_of (codes "\"precommit\":") precommit ++ comma_of precommit resolver ++ member_of (codes "\"resolver\":") resolver ++ codes "}}"
+abbrev pub spelled : Request → List ℕ
+spelled (Install name image) = install_request name image
+spelled (Remove name) = remove_request name
+spelled (Bind bucket phase name) = bind_request bucket phase name
 
--- what is bound to a bucket changes
-abbrev pub bind_request : List ℕ → Change → Change → List ℕ
-bind_request bucket precommit resolver =
-    codes "PUT /buckets/" ++ percent_encode NON_ALPHANUMERIC bucket ++ codes "/props" ++ with_body (props_of precommit resolver)
+-- requests, one behind another
+abbrev pub all_spelled : List Request → List ℕ
+all_spelled requests = flat_map spelled requests

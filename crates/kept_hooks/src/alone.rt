@@ -1,10 +1,14 @@
-//! Hooks without a store of keys.
+//! The hooks of a store that begins from a list, before it has keys.
 
-ghost use Rattle.std.specs.Prelude.{◌≡◌};
-ghost use Rattle.kept_hooks.specs.Alone.{Changes};
+ghost use Rattle.std.specs.Prelude.{◌≡◌, ◌++◌, ◌∷◌, [], true, Ok, OnOk};
+ghost use Rattle.hook_registry.specs.Changes.{Install};
+ghost use Rattle.kept_hooks.specs.Alone.{Changes, alone_of};
 
+use crate::list::Requests;
+use crate::refused::{RefusedHook, let_go, stand_in_of};
 use bpf_admission::{Refusal, admit_image};
 use bpf_helpers::Sigs;
+use bpf_verifier::Verified;
 use dvv::{Clock, Dot};
 use hook_registry::{HookChanges, HookFault, NameFault};
 use http_connection::Backend;
@@ -16,29 +20,42 @@ use server_store::bindings_of;
 use std::alloc::Global;
 use std::sync::Arc;
 
-/// The hooks of a store, before it has keys: they may be changed, and nothing is read or written.
+/// The hooks of a store, before it has keys: they may be changed, each change is written down, and nothing is read or written.
 #[derive(Drop)]
-pub struct HooksAlone<'a, H> {
+pub(crate) struct HooksAlone<'a, H> {
     alloc: Global,
     sigs: &'a Sigs,
-    hooks: &'a mut H,
+    pub(crate) hooks: &'a mut H,
+    /// The requests that make the hooks what they are.
+    pub(crate) requests: Requests,
+    /// The hooks among them that aren't let in. Their names have a stand-in, which lets requests bind them.
+    pub(crate) refused: Vec<RefusedHook>,
 }
 
 impl<'a, H> HooksAlone<'a, H> {
     /// Hooks that may call helpers with these signatures.
-    pub fn new(alloc: Global, sigs: &'a Sigs, hooks: &'a mut H) -> HooksAlone<'a, H>
+    pub(crate) fn new(alloc: Global, sigs: &'a Sigs, hooks: &'a mut H) -> HooksAlone<'a, H>
         ensures sigs { result.sigs.now ≡ sigs.now }
         ensures hooks { result.hooks.now ≡ hooks.entry.now }
         ensures lent { result.hooks.ghost_name ≡ hooks.entry.ghost_name }
+        ensures requests { result.requests ≡ record { requests = []; whole = true } }
+        ensures refused { result.refused.items ≡ [] }
     {
-        HooksAlone { alloc, sigs, hooks }
+        HooksAlone {
+            alloc,
+            sigs,
+            hooks,
+            requests: Requests::new(alloc),
+            refused: Vec::new(alloc),
+        }
     }
 }
 
 impl<H: HookChanges> Backend for HooksAlone<'_, H> {
     ghost use Rattle.std.specs.Prelude.{refl};
 
-    ghost gives = { λ old call reply new. Changes H.takes old.sigs.now old.hooks.now new.hooks.now call reply };
+    ghost gives = { λ old call reply new. (new.hooks.ghost_name ≡ old.hooks.ghost_name) × (new.sigs.now ≡ old.sigs.now)
+        × Changes H.takes old.sigs.now (alone_of old.hooks.now old.requests old.refused.items) call reply (alone_of new.hooks.now new.requests new.refused.items) };
 
     ghost copies = { λ s. 1 };
 
@@ -64,18 +81,28 @@ impl<H: HookChanges> Backend for HooksAlone<'_, H> {
     }
 
     fn install(&mut self, name: &Bytes, image: &Bytes) -> Result<(), Refusal> {
-        let verified = admit_image(self.alloc, image.as_slice(), self.sigs)?;
-        let (Ok(program), Ok(name)) = (Arc::new(self.alloc, verified), name.copy()) else {
-            return Err(Refusal::NoMemory);
-        };
-        match self.hooks.install(name, program) {
-            Ok(()) => Ok(()),
-            Err(_) => Err(Refusal::NoMemory),
+        match admit_image(self.alloc, image.as_slice(), self.sigs) {
+            Ok(verified) => {
+                give(self.alloc, self.hooks, name, verified)?;
+                let_go(&mut self.refused, name);
+            }
+            Err(Refusal::NoMemory) => return Err(Refusal::NoMemory),
+            Err(refusal) => {
+                let verified = stand_in_of(self.alloc, image, self.sigs)?;
+                give(self.alloc, self.hooks, name, verified)?;
+                let_go(&mut self.refused, name);
+                refuse(&mut self.refused, name, refusal)?;
+            }
         }
+        self.requests.install(name, image);
+        Ok(())
     }
 
     fn remove(&mut self, name: &Bytes) -> Result<(), HookFault> {
-        self.hooks.remove(name)
+        self.hooks.remove(name)?;
+        let_go(&mut self.refused, name);
+        self.requests.remove(name);
+        Ok(())
     }
 
     fn props(&mut self, _bucket: &Bytes) -> Result<Bound, NameFault> {
@@ -89,6 +116,39 @@ impl<H: HookChanges> Backend for HooksAlone<'_, H> {
         resolver: &Change,
     ) -> Result<(), HookFault> {
         let bindings = bindings_of(self.alloc, precommit, resolver)?;
-        self.hooks.bind(bucket, &bindings)
+        self.hooks.bind(bucket, &bindings)?;
+        self.requests.bind(bucket, precommit, resolver);
+        Ok(())
+    }
+}
+
+/// Gives a program a name.
+fn give<H: HookChanges>(
+    alloc: Global,
+    hooks: &mut H,
+    name: &Bytes,
+    verified: Verified,
+) -> Result<(), Refusal>
+    ensures { OnOk result (H.takes hooks.old (Install name.now verified) (Ok tt) hooks.new) }
+{
+    let (Ok(program), Ok(name)) = (Arc::new(alloc, verified), name.copy()) else {
+        return Err(Refusal::NoMemory);
+    };
+    match hooks.install(name, program) {
+        Ok(()) => Ok(()),
+        Err(_) => Err(Refusal::NoMemory),
+    }
+}
+
+/// Writes down that the hook of a name is refused.
+fn refuse(refused: &mut Vec<RefusedHook>, name: &Bytes, refusal: Refusal) -> Result<(), Refusal>
+    ensures { OnOk result (refused.new.items ≡ refused.old.items ++ record { name = name.now; refusal = refusal } ∷ []) }
+{
+    let Ok(name) = name.copy() else {
+        return Err(Refusal::NoMemory);
+    };
+    match refused.push(RefusedHook { name, refusal }) {
+        Ok(()) => Ok(()),
+        Err(_) => Err(Refusal::NoMemory),
     }
 }

@@ -1,21 +1,23 @@
-//! Requests, one behind another, as a connection brings them.
+//! The requests that make the hooks of a store what they are.
 
-ghost use Rattle.std.specs.Prelude.{◌≡◌, ◌++◌, [], true, false, IfOk, IfNone, IfSome, OnErr, OnOk};
-ghost use Rattle.kept_hooks.specs.Lists.{IsAdded};
-ghost use Rattle.kept_hooks.specs.Spelling as spec;
+ghost use Rattle.std.specs.Prelude.{◌≡◌, ◌||◌, ◌++◌, [], true, false, not, IfOk, IfNone, IfSome, OnOk};
+ghost use Rattle.std.specs.List.{list_any};
+ghost use Rattle.kept_hooks.specs.Lists.{IsAfter, installed, is_of_resolver, removed, bound};
+ghost use Rattle.kept_hooks.specs.Spelling.{all_spelled};
 
+use crate::request::{Phase, Request};
+use crate::standing;
 use http_request::Change;
-use itoa::Buffer;
 use key_state::Bytes;
-use percent_encoding::{NON_ALPHANUMERIC, percent_encode};
 use std::alloc::{AllocError, Global};
 use std::marker::Model;
 
-/// The requests that changed the hooks of a store, in order.
+/// The requests that make the hooks of a store what they are, in an order in which none is refused: the changes of the store's hooks without
+/// those that later ones replaced.
 #[derive(Drop)]
 pub struct Requests {
     alloc: Global,
-    bytes: Vec<u8>,
+    requests: Vec<Request>,
     is_whole: bool,
 }
 
@@ -24,71 +26,78 @@ impl Model for Requests {
 
     ghost Value = { Listed };
 
-    ghost view = { λ r. record { bytes = r.bytes.items; whole = r.is_whole } };
+    ghost view = { λ r. record { requests = r.requests.items; whole = r.is_whole } };
 }
 
 impl Requests {
     /// No request.
     pub fn new(alloc: Global) -> Requests
-        ensures { result ≡ record { bytes = []; whole = true } }
+        ensures { result ≡ record { requests = []; whole = true } }
     {
         Requests {
             alloc,
-            bytes: Vec::new(alloc),
+            requests: Vec::new(alloc),
             is_whole: true,
         }
     }
 
     /// A list that never has a request: none is written down.
     pub fn none(alloc: Global) -> Requests
-        ensures { result ≡ record { bytes = []; whole = false } }
+        ensures { result ≡ record { requests = []; whole = false } }
     {
         Requests {
             alloc,
-            bytes: Vec::new(alloc),
+            requests: Vec::new(alloc),
             is_whole: false,
         }
     }
 
-    /// The bytes of the requests, one behind another. None where one of them is lacking.
-    pub fn bytes(&self) -> Option<&[u8]>
-        ensures some { IfSome result (λ bytes. (self.now.whole ≡ true) × (bytes.now ≡ self.now.bytes)) }
-        ensures none { IfNone result (self.now.whole ≡ false) }
+    /// The bytes of the requests, one behind another, as a connection brings them. None where one of them is lacking. The error: memory was
+    /// refused.
+    pub fn bytes(&self) -> Result<Option<Vec<u8>>, AllocError>
+        ensures some { IfOk result (λ bytes. IfSome bytes (λ bytes. (self.now.whole ≡ true) × (bytes.items ≡ all_spelled self.now.requests))) }
+        ensures none { IfOk result (λ bytes. IfNone bytes (self.now.whole ≡ false)) }
     {
-        if self.is_whole {
-            Some(self.bytes.as_slice())
-        } else {
-            None
+        if !self.is_whole {
+            return Ok(None);
         }
+        Ok(Some(spelled(self.alloc, &self.requests)?))
     }
 
-    /// The request that gives the hook of an image a name.
+    /// Whether a resolver may be bound to a bucket: a request of the list binds one, or some are lacking.
+    pub(crate) fn may_bind_resolver(&self) -> bool
+        ensures { result ≡ (not self.now.whole || list_any is_of_resolver self.now.requests) }
+    {
+        !self.is_whole || standing::bind_resolver(&self.requests)
+    }
+
+    /// A name was given to the hook of an image.
     pub fn install(&mut self, name: &Bytes, image: &Bytes)
-        ensures { IsAdded self.old (spec.install_request name.now image.now) self.new }
+        ensures { IsAfter (installed name.now image.now) self.old self.new }
     {
         if self.is_whole {
-            let request = install_request(self.alloc, name, image);
-            self.add(request);
+            let done = standing::install(self.alloc, &mut self.requests, name, image);
+            self.is_whole = done.is_ok();
         }
     }
 
-    /// The request that takes a name from its hook.
+    /// A name was taken from its hook.
     pub fn remove(&mut self, name: &Bytes)
-        ensures { IsAdded self.old (spec.remove_request name.now) self.new }
+        ensures { IsAfter (removed name.now) self.old self.new }
     {
         if self.is_whole {
-            let request = remove_request(self.alloc, name);
-            self.add(request);
+            let done = standing::remove(&mut self.requests, name);
+            self.is_whole = done.is_ok();
         }
     }
 
-    /// The request that changes which hooks are bound to a bucket.
+    /// Which hooks are bound to a bucket was changed.
     pub fn bind(&mut self, bucket: &Bytes, precommit: &Change, resolver: &Change)
-        ensures { IsAdded self.old (spec.bind_request bucket.now precommit.now resolver.now) self.new }
+        ensures { IsAfter (bound bucket.now precommit.now resolver.now) self.old self.new }
     {
         if self.is_whole {
-            let request = bind_request(self.alloc, bucket, precommit, resolver);
-            self.add(request);
+            let done = bind_both(&mut self.requests, bucket, precommit, resolver);
+            self.is_whole = done.is_ok();
         }
     }
 
@@ -98,112 +107,28 @@ impl Requests {
     {
         self.is_whole = false;
     }
-
-    // Adds a request. Where memory is refused the list is not whole any more.
-    fn add(&mut self, request: Result<Vec<u8>, AllocError>)
-        ensures added { IfOk request (λ request. IsAdded self.old request.items self.new) }
-        ensures lacking { OnErr request (self.new.whole ≡ false) }
-    {
-        let added = match request {
-            Ok(request) => self.bytes.extend_from_slice(request.as_slice()).is_ok(),
-            Err(AllocError) => false,
-        };
-        if !added {
-            self.is_whole = false;
-        }
-    }
 }
 
-/// `PUT /hooks/NAME` with an image.
-fn install_request(alloc: Global, name: &Bytes, image: &Bytes) -> Result<Vec<u8>, AllocError>
-    ensures { IfOk result (λ request. request.items ≡ spec.install_request name.now image.now) }
-{
-    let mut out = Vec::new(alloc);
-    out.extend_from_slice(b"PUT /hooks/")?;
-    out.extend_from_slice(name.as_slice())?;
-    push_body(&mut out, image.as_slice())?;
-    Ok(out)
-}
-
-/// `DELETE /hooks/NAME`.
-fn remove_request(alloc: Global, name: &Bytes) -> Result<Vec<u8>, AllocError>
-    ensures { IfOk result (λ request. request.items ≡ spec.remove_request name.now) }
-{
-    let mut out = Vec::new(alloc);
-    out.extend_from_slice(b"DELETE /hooks/")?;
-    out.extend_from_slice(name.as_slice())?;
-    out.extend_from_slice(b" HTTP/1.1\r\nHost: kept\r\n\r\n")?;
-    Ok(out)
-}
-
-/// `PUT /buckets/BUCKET/props` with what changes.
-fn bind_request(
-    alloc: Global,
+// Which hooks of both phases are bound to a bucket was changed.
+fn bind_both(
+    requests: &mut Vec<Request>,
     bucket: &Bytes,
     precommit: &Change,
     resolver: &Change,
-) -> Result<Vec<u8>, AllocError>
-    ensures { IfOk result (λ request. request.items ≡ spec.bind_request bucket.now precommit.now resolver.now) }
+) -> Result<(), AllocError>
+    ensures { OnOk result (requests.new.items ≡ bound bucket.now precommit.now resolver.now requests.old.items) }
 {
-    let mut path = String::new(alloc);
-    percent_encode(bucket.as_slice(), NON_ALPHANUMERIC).append_to(&mut path)?;
-    let body = props_of(alloc, precommit, resolver)?;
-    let mut out = Vec::new(alloc);
-    out.extend_from_slice(b"PUT /buckets/")?;
-    out.extend_from_slice(path.as_bytes())?;
-    out.extend_from_slice(b"/props")?;
-    push_body(&mut out, body.as_slice())?;
-    Ok(out)
+    standing::bind(requests, bucket, Phase::PreCommit, precommit)?;
+    standing::bind(requests, bucket, Phase::Resolver, resolver)
 }
 
-/// What changes, as JSON: names of hooks have no character that JSON escapes.
-fn props_of(alloc: Global, precommit: &Change, resolver: &Change) -> Result<Vec<u8>, AllocError>
-    ensures { IfOk result (λ props. props.items ≡ spec.props_of precommit.now resolver.now) }
+// The bytes of requests, one behind another.
+fn spelled(alloc: Global, requests: &[Request]) -> Result<Vec<u8>, AllocError>
+    ensures { IfOk result (λ bytes. bytes.items ≡ all_spelled requests.now) }
 {
-    let mut out = Vec::new(alloc);
-    out.extend_from_slice(b"{\"props\":{")?;
-    push_change(&mut out, b"\"precommit\":", precommit)?;
-    if changes(precommit) && changes(resolver) {
-        out.extend_from_slice(b",")?;
+    let mut bytes = Vec::new(alloc);
+    for request in requests {
+        bytes.extend_from_slice(request.spelled(alloc)?.as_slice())?;
     }
-    push_change(&mut out, b"\"resolver\":", resolver)?;
-    out.extend_from_slice(b"}}")?;
-    Ok(out)
-}
-
-/// Whether a property changes.
-fn changes(change: &Change) -> bool
-    ensures { result ≡ spec.changes change.now }
-{
-    !matches!(change, Change::Kept)
-}
-
-/// A property's name and what becomes of it, where it changes.
-fn push_change(out: &mut Vec<u8>, named: &[u8], change: &Change) -> Result<(), AllocError>
-    ensures { OnOk result (out.new.items ≡ out.old.items ++ spec.member_of named.now change.now) }
-{
-    match change {
-        Change::Kept => Ok(()),
-        Change::Unbound => {
-            out.extend_from_slice(named)?;
-            out.extend_from_slice(b"null")
-        }
-        Change::Bound(name) => {
-            out.extend_from_slice(named)?;
-            out.extend_from_slice(b"\"")?;
-            out.extend_from_slice(name.as_slice())?;
-            out.extend_from_slice(b"\"")
-        }
-    }
-}
-
-/// What stands behind a target, where a body follows, and the body.
-fn push_body(out: &mut Vec<u8>, body: &[u8]) -> Result<(), AllocError>
-    ensures { OnOk result (out.new.items ≡ out.old.items ++ spec.with_body body.now) }
-{
-    out.extend_from_slice(b" HTTP/1.1\r\nHost: kept\r\nContent-Length: ")?;
-    let mut digits = Buffer::new();
-    out.extend_from_slice(digits.format(body.len()).as_bytes())?;
-    out.extend_from_slice(b"\r\n\r\n")?;
-    out.extend_from_slice(body)
+    Ok(bytes)
 }

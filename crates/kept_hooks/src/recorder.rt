@@ -1,8 +1,14 @@
-//! A store whose changes of hooks are written down.
+//! A store whose changes of hooks are written down, and whose writes are noted.
 
-ghost use Rattle.std.specs.Prelude.{◌≡◌};
+ghost use Rattle.std.specs.Prelude.{◌≡◌, IfErr, OnOk};
+ghost use Rattle.bpf_admission.specs.declared.refusal.Refusal.TheVariants as refusal;
+ghost use Rattle.hook_registry.specs.declared.fault.HookFault.TheVariants as fault;
+ghost use Rattle.http_request.specs.Fits.{Fits};
+ghost use Rattle.http_request.specs.declared.ask.Call.TheVariants as call;
+ghost use Rattle.http_response.specs.declared.reply.Reply.TheVariants as reply;
+ghost use Rattle.kept_hooks.specs.Recorded.{WhereBound};
 
-use crate::list::Requests;
+use crate::noting::{ChangeList, Notes};
 use bpf_admission::Refusal;
 use dvv::{Clock, Dot};
 use hook_registry::{HookChanges, HookFault, Hooks, NameFault};
@@ -14,68 +20,39 @@ use peers::Peers;
 use quorum::QuorumFault;
 use server_log::Noted;
 use server_store::NotingBackend;
-use std::sync::atomic::AtomicBool;
-use std::sync::atomic::Ordering::SeqCst;
 use std::sync::{Mutex, Wait};
 
-/// A store that writes down which requests changed its hooks, in a list that it shares with other stores of the same hooks.
+/// A store that writes down what changed its hooks, in a list that it shares with other stores of the same hooks, and notes once a call is
+/// done that may have written something: a key, by a resolver too, or which hooks there are, or are bound.
 ///
 /// The list stays locked while the change is made, so that it has the changes in their order. A change that was refused for want of memory
-/// may stand all the same: the list is not whole any more then.
+/// may stand all the same: that is written down, too. Who takes the note of a write and reads the store then has what was written, or finds
+/// another note later.
 #[derive(Drop)]
-pub struct Recorder<'a, K: Backend + Drop, R: Wait> {
+pub struct Recorder<'a, K: Backend + Drop, R: Wait, L: ChangeList + Drop, N: Notes> {
     /// The store.
     pub store: K,
-    list: &'a Mutex<Requests>,
+    list: &'a Mutex<L>,
+    notes: &'a N,
     rt: &'a R,
-    /// Where it is noted that something was written, if anybody asks.
-    written: Option<&'a AtomicBool>,
 }
 
-impl<'a, K: Backend + Drop, R: Wait> Recorder<'a, K, R> {
-    /// A store, and where its changes of hooks are written down.
-    pub fn new(store: K, list: &'a Mutex<Requests>, rt: &'a R) -> Recorder<'a, K, R>
+impl<'a, K: Backend + Drop, R: Wait, L: ChangeList + Drop, N: Notes> Recorder<'a, K, R, L, N> {
+    /// A store, where its changes of hooks are written down, and where its writes are noted.
+    pub fn new(store: K, list: &'a Mutex<L>, notes: &'a N, rt: &'a R) -> Recorder<'a, K, R, L, N>
         ensures { result.store ≡ store }
     {
         Recorder {
             store,
             list,
+            notes,
             rt,
-            written: None,
-        }
-    }
-
-    /// The same, where it is noted that something was written: a key, or which hooks there are, or are bound. It is noted once that is
-    /// done, so who takes the note and reads the store then has it, or finds another note later.
-    pub fn noting(self, written: &'a AtomicBool) -> Recorder<'a, K, R>
-        ensures { result.store ≡ self.entry.store }
-    {
-        let Recorder {
-            store,
-            list,
-            rt,
-            ..
-        } = self;
-        Recorder {
-            store,
-            list,
-            rt,
-            written: Some(written),
-        }
-    }
-
-    // Notes that something may have been written.
-    fn note(&self) {
-        if let Some(written) = self.written {
-            // Most often it is noted already: then the others' copies of it stay.
-            if !written.load(SeqCst) {
-                written.store(true, SeqCst);
-            }
         }
     }
 }
 
-impl<K: Backend + Drop, R: Wait> Backend for Recorder<'_, K, R> {
+impl<K: Backend + Drop, R: Wait, L: ChangeList + Drop, N: Notes> Backend
+    for Recorder<'_, K, R, L, N> {
     ghost gives = { λ old call reply new. K.gives old.store call reply new.store };
 
     ghost copies = { λ s. K.copies s.store };
@@ -86,8 +63,14 @@ impl<K: Backend + Drop, R: Wait> Backend for Recorder<'_, K, R> {
         self.store.copies()
     }
 
-    fn get(&mut self, key: &Key, r: u32, at: u32) -> Result<KeyState, QuorumFault> {
-        self.store.get(key, r, at)
+    fn get(&mut self, key: &Key, r: u32, at: u32) -> Result<KeyState, QuorumFault>
+        requires { Fits (K.copies self.old.store) (call.Get key.now r at) }
+        ensures given { K.gives self.old.store (call.Get key.now r at) (reply.Got result) self.new.store }
+        ensures noted { N.read_noted }
+    {
+        let got = self.store.get(key, r, at);
+        self.notes.note_read();
+        got
     }
 
     fn put(
@@ -97,13 +80,22 @@ impl<K: Backend + Drop, R: Wait> Backend for Recorder<'_, K, R> {
         content: &Content,
         w: u32,
         at: u32,
-    ) -> Result<Dot, QuorumFault> {
+    ) -> Result<Dot, QuorumFault>
+        requires { Fits (K.copies self.old.store) (call.Put key.now seen.now content.now w at) }
+        ensures given { K.gives self.old.store (call.Put key.now seen.now content.now w at) (reply.Stored result) self.new.store }
+        ensures noted { N.write_noted }
+    {
         let done = self.store.put(key, seen, content, w, at);
-        self.note();
+        self.notes.note();
         done
     }
 
-    fn install(&mut self, name: &Bytes, image: &Bytes) -> Result<(), Refusal> {
+    fn install(&mut self, name: &Bytes, image: &Bytes) -> Result<(), Refusal>
+        ensures given { K.gives self.old.store (call.Install name.now image.now) (reply.Installed result) self.new.store }
+        ensures listed { OnOk result (L.listed (call.Install name.now image.now)) }
+        ensures doubted { IfErr result (λ why. why ≡ refusal.NoMemory → L.doubted) }
+        ensures noted { N.write_noted }
+    {
         let mut list = self.list.lock(self.rt);
         let done = self.store.install(name, image);
         match &done {
@@ -111,11 +103,16 @@ impl<K: Backend + Drop, R: Wait> Backend for Recorder<'_, K, R> {
             Err(Refusal::NoMemory) => list.doubt(),
             Err(_) => {}
         }
-        self.note();
+        self.notes.note();
         done
     }
 
-    fn remove(&mut self, name: &Bytes) -> Result<(), HookFault> {
+    fn remove(&mut self, name: &Bytes) -> Result<(), HookFault>
+        ensures given { K.gives self.old.store (call.Remove name.now) (reply.Removed result) self.new.store }
+        ensures listed { OnOk result (L.listed (call.Remove name.now)) }
+        ensures doubted { IfErr result (λ why. why ≡ fault.NoMemory → L.doubted) }
+        ensures noted { N.write_noted }
+    {
         let mut list = self.list.lock(self.rt);
         let done = self.store.remove(name);
         match &done {
@@ -123,7 +120,7 @@ impl<K: Backend + Drop, R: Wait> Backend for Recorder<'_, K, R> {
             Err(HookFault::NoMemory) => list.doubt(),
             Err(_) => {}
         }
-        self.note();
+        self.notes.note();
         done
     }
 
@@ -136,7 +133,16 @@ impl<K: Backend + Drop, R: Wait> Backend for Recorder<'_, K, R> {
         bucket: &Bytes,
         precommit: &Change,
         resolver: &Change,
-    ) -> Result<(), HookFault> {
+    ) -> Result<(), HookFault>
+        ensures given { K.gives self.old.store (call.SetProps bucket.now precommit.now resolver.now) (reply.Set result) self.new.store }
+        ensures listed { OnOk result (L.listed (call.SetProps bucket.now precommit.now resolver.now)) }
+        ensures doubted { IfErr result (λ why. why ≡ fault.NoMemory → L.doubted) }
+        ensures resolver { WhereBound resolver.now N.resolver_noted }
+        ensures noted { N.write_noted }
+    {
+        if matches!(resolver, Change::Bound(_)) {
+            self.notes.note_resolver();
+        }
         let mut list = self.list.lock(self.rt);
         let done = self.store.set_props(bucket, precommit, resolver);
         match &done {
@@ -144,13 +150,19 @@ impl<K: Backend + Drop, R: Wait> Backend for Recorder<'_, K, R> {
             Err(HookFault::NoMemory) => list.doubt(),
             Err(_) => {}
         }
-        self.note();
+        self.notes.note();
         done
     }
 }
 
-impl<P: Peers, H: Hooks + HookChanges, K: NotingBackend<P, H> + Drop, R: Wait> NotingBackend<P, H>
-    for Recorder<'_, K, R> {
+impl<
+    P: Peers,
+    H: Hooks + HookChanges,
+    K: NotingBackend<P, H> + Drop,
+    R: Wait,
+    L: ChangeList + Drop,
+    N: Notes,
+> NotingBackend<P, H> for Recorder<'_, K, R, L, N> {
     ghost shows = { λ s. K.shows s.store };
 
     ghost as_shown = { λ old new call reply gives. K.as_shown old.store new.store call reply gives };

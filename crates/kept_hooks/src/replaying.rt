@@ -36,7 +36,11 @@ impl From<FrontFault> for ReplayFault {
 
 /// Has a store answer requests, all of which are at hand, as it answers those of a connection, and sees that each is answered by 204.
 /// Answers how many there were.
-pub fn replay<B: Backend>(alloc: Global, requests: &[u8], store: &mut B) -> Result<u64, ReplayFault>
+pub(crate) fn replay<B: Backend>(
+    alloc: Global,
+    requests: &[u8],
+    store: &mut B,
+) -> Result<u64, ReplayFault>
     ensures done { IfOk result (λ count. Completes B.gives (B.copies store.old) requests.now store.old store.new [] (Some (no_contents count)) count) }
 {
     let mut front = Front::new(alloc)?;

@@ -2,10 +2,10 @@
 
 ghost use Rattle.std.specs.Prelude.{◌≡◌, ◌&&◌, not};
 
-use kept_hooks::Requests;
+use kept_hooks::{Requests, Writes};
 use server_accept::Lobby;
 use server_sockets::Stance;
-use std::alloc::{AllocError, Global};
+use std::alloc::AllocError;
 use std::sync::atomic::AtomicBool;
 use std::sync::atomic::Ordering::SeqCst;
 use std::sync::{Mutex, Wait};
@@ -42,7 +42,7 @@ pub struct Signs<'a> {
     pub(crate) requests: &'a Mutex<Requests>,
     pub(crate) over: &'a AtomicBool,
     pub(crate) bell: &'a Parker,
-    pub(crate) written: &'a AtomicBool,
+    pub(crate) writes: &'a Writes,
     pub(crate) trailing: &'a AtomicBool,
     /// How long that goes on which is done by these signs.
     pub(crate) until: Until,
@@ -90,19 +90,20 @@ impl<'a> Signs<'a> {
 
     /// Whether something was written, as far as is noted.
     pub fn is_written(&self) -> bool {
-        self.written.load(SeqCst)
+        self.writes.is_noted()
     }
 
     /// Notes that something was written, or that all that was is known: what is written from now on is noted again.
     pub fn note_written(&self, written: bool) {
-        self.written.store(written, SeqCst);
+        if written {
+            self.writes.note();
+        } else {
+            self.writes.forget();
+        }
     }
 
-    /// A copy of the requests that changed the hooks so far. None where one of them is lacking.
-    pub fn requests<R: Wait>(&self, alloc: Global, rt: &R) -> Result<Option<Vec<u8>>, AllocError> {
-        match self.requests.lock(rt).bytes() {
-            Some(bytes) => Ok(Some(bytes.to_vec(alloc)?)),
-            None => Ok(None),
-        }
+    /// The requests that make the hooks what they are. None where one of them is lacking.
+    pub fn requests<R: Wait>(&self, rt: &R) -> Result<Option<Vec<u8>>, AllocError> {
+        self.requests.lock(rt).bytes()
     }
 }

@@ -17,7 +17,7 @@ use cluster::{Cluster, Pass, Room};
 use cluster_peers::ClusterPeers;
 use hook_registry::{HookChanges, Hooks};
 use http_connection::Backend;
-use kept_hooks::{Recorder, Requests};
+use kept_hooks::{Recorder, Requests, Writes};
 use peers::Peers;
 use quorum::Hooking;
 use ring::Placement;
@@ -81,7 +81,7 @@ pub(crate) struct Shared<B: Room + Spot> {
     /// What wakes who does something beside the workers, once they have ended.
     bell: Parker,
     /// Whether something was written since who does something beside the workers looked last.
-    written: AtomicBool,
+    writes: Writes,
 }
 
 impl<B: Room + Spot> Shared<B> {
@@ -91,6 +91,7 @@ impl<B: Room + Spot> Shared<B> {
             requests,
             err,
         } = lookout;
+        let writes = Writes::new(&requests);
         Shared {
             watch: Mutex::new(watch),
             requests: Mutex::new(requests),
@@ -101,7 +102,7 @@ impl<B: Room + Spot> Shared<B> {
             is_followed: AtomicBool::new(false),
             over: AtomicBool::new(false),
             bell: Parker::new(),
-            written: AtomicBool::new(false),
+            writes,
         }
     }
 
@@ -112,7 +113,7 @@ impl<B: Room + Spot> Shared<B> {
             requests: &self.requests,
             over: &self.over,
             bell: &self.bell,
-            written: &self.written,
+            writes: &self.writes,
             trailing: &self.is_trailing,
             until: Until::Stop,
         }
@@ -140,7 +141,7 @@ fn follow<B: Room + Spot, R: Wait>(
     let shared = floor.shared;
     let alarm = Aloud(shared.err);
     let mut watch = shared.watch.lock(rt);
-    watch.hear_all(floor.alloc, rt, floor.cluster);
+    watch.hear_all(rt, floor.cluster);
     let is_more = watch.follow_some(stamps, &alarm);
     let rests = pace.look(&watch, is_more);
     let is_trailing = keeps_snapshots_waiting(&watch, is_more);
@@ -327,8 +328,8 @@ fn visit<B: Room + Spot, H: Hooks + HookChanges + Drop, R: Wait>(
     exchanges_are_by_a_pass::<ClusterPeers<'_, B, R>, H>();
     let peers = ClusterPeers::new(floor.alloc, rt, floor.cluster, pass);
     let store = Store::new(floor.alloc, peers, hooking, placement);
-    let recorder = Recorder::new(store, &floor.shared.requests, rt);
-    let mut recorder = recorder.noting(&floor.shared.written);
+    let shared = floor.shared;
+    let mut recorder = Recorder::new(store, &shared.requests, &shared.writes, rt);
     stay::<B, ClusterPeers<'_, B, R>, H, _, R>(rt, floor, post, worker, &mut recorder);
     let Recorder { store, .. } = recorder;
     let Store { peers, .. } = store;

@@ -58,7 +58,7 @@ fn keep_busy<B: Room + Spot, R: Wait>(
     };
     for turn in 0..TURNS {
         read_much(rt, cluster, pass, &request)?;
-        watch.turn(alloc, rt, cluster, &Silent);
+        watch.turn(rt, cluster, &Silent);
         expect(watch.can_go_on(MOST), &turn)?;
     }
     let followed = watch.followed(0);

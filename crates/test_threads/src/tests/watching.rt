@@ -35,14 +35,13 @@ impl Alarm for Silent {
 /// Takes so many turns.
 fn watch_turns<B: Room + Spot, R: Wait>(
     rt: &R,
-    alloc: Global,
     cluster: &Cluster<B>,
     watch: &Mutex<Watch<B>>,
 )
     requires { cluster.now.first ≡ B.first }
 {
     for _ in 0..TURNS {
-        watch.lock(rt).turn(alloc, rt, cluster, &Silent);
+        watch.lock(rt).turn(rt, cluster, &Silent);
     }
 }
 
@@ -61,7 +60,7 @@ fn work_and_watch<B: Room + Spot + Send + Sync, R: Threads + Wait + Sync>(
         rt,
         ||
             requires { cluster.now.first ≡ B.first }
-        { watch_turns(rt, alloc, cluster, watch) },
+        { watch_turns(rt, cluster, watch) },
         || serve_all(alloc, rt, cluster, workers),
     );
     passes_of(alloc, done?)

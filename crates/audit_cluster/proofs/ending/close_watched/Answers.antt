@@ -9,6 +9,7 @@ use Rattle.cluster_vnode.specs.Gathers.{IsGathered}
 use Rattle.audit_faults.specs.declared.fault.WatchFault.{WatchFault}
 use Rattle.audit_cluster.specs.Following.{AreFronts, IsSaidOf, StopsIn, Watched}
 use Rattle.audit_cluster.proofs.Ends.{are_fronts, said_at_end, stopped_in, told_last}
+use Rattle.audit_cluster.proofs.Left.{none_left}
 use Rattle.audit_cluster.proofs.ending.close_watched.Goals as goal
 use Rattle.audit_cluster.proofs.ending.close_watched.Goals.{then-are_numbered, else-are_numbered}
 
@@ -19,7 +20,8 @@ say-said-requires-clause-fronts g c lost none =
     let before : List Told = flat_map (λ (p : View). p.told) c.args.passes.items in
     let all : List Told = flat_map (λ (p : View). p.told) c.push.new.self.items in
     let is : all ≡ before ++ told = told_last c.args.passes.items c.push.new.self.items c.watch.inside.pass told c.in_ok-push.ensures.items refl in
-    let watches = c.watch.invariant.3 lost in
+    let all_taken = c.why_lost-lost.ensures lost in
+    let watches = none_left g.B.Spot.first c.watch.inside.vnodes c.watch.inside.pass.told c.watch.inside.follower c.watch.inside.left (c.watch.invariant.3 all_taken.0) all_taken.1 in
     let logs = c.in-Ok.vnodes.items in
     let lent : c.deref-then-are_numbered.result.now ≡ logs = c.deref-then-are_numbered.ensures.value in
     let size : length c.deref-then-are_numbered.result.now ≡ c.watch.inside.vnodes =
@@ -34,7 +36,8 @@ say-said-requires-clause-stopped g c lost fault found =
     let before : List Told = flat_map (λ (p : View). p.told) c.args.passes.items in
     let all : List Told = flat_map (λ (p : View). p.told) c.push.new.self.items in
     let is : all ≡ before ++ told = told_last c.args.passes.items c.push.new.self.items c.watch.inside.pass told c.in_ok-push.ensures.items refl in
-    let watches = c.watch.invariant.3 lost in
+    let all_taken = c.why_lost-lost.ensures lost in
+    let watches = none_left g.B.Spot.first c.watch.inside.vnodes c.watch.inside.pass.told c.watch.inside.follower c.watch.inside.left (c.watch.invariant.3 all_taken.0) all_taken.1 in
     let logs = c.in-Ok.vnodes.items in
     let n = c.watch.inside.vnodes in
     let size : length logs ≡ n = subst (λ (ls : List Log). length ls ≡ n) c.deref.ensures.value (c.are_numbered.ensures.count c.if-are_numbered.true) in
@@ -52,7 +55,7 @@ returns-in-Ok-clause-followed g c none =
     let logs = c.in-Ok.vnodes.items in
     let told : List Told = flat_map (λ (p : View). p.told) passes ++ c.args.watch.told in
     let all : List Told = flat_map (λ (p : View). p.told) c.push.new.self.items in
-    let is : all ≡ told = told_last passes c.push.new.self.items c.watch.inside.pass c.args.watch.told c.in_ok-push.ensures.items (ap (λ (w : Watched). w.told) c.watch.view_is) in
+    let is : all ≡ told = told_last passes c.push.new.self.items c.watch.inside.pass c.args.watch.told c.in_ok-push.ensures.items (ap (λ (w : Watched). w.told) c.watch.view_is ∙ c.take_left.ensures.told) in
     let gathered : IsGathered told logs = subst (λ (ts : List Told). IsGathered ts logs) is c.in-Ok.ensures.ok.0 in
     let size : length logs ≡ c.args.cluster.vnodes = (let many = c.in-Ok.ensures.ok.1 in let long = c.in-Ok.vnodes.ok.0 in omega (arith, many, long)) in
     let says = λ (ns : List ℕ) (r : Result (Unit {0}) WatchFault). IsSaidOf ns logs r in

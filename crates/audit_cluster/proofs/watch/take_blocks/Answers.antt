@@ -1,18 +1,19 @@
-use Rattle.std.proofs.Common.{[], ◌∷◌, ◌++◌, ap, ◌∙◌}
+use Rattle.std.proofs.Common.{◌∙◌, ◌<◌, ℕ, ap, length, length-set, subst, sym}
 use Rattle.journal.specs.Blocks.{all_of}
 use Rattle.audit_follower.specs.Waiting.{Taken}
-use Rattle.audit_cluster.proofs.Taken.{more_taken, all_of-push}
+use Rattle.audit_cluster.specs.Following.{with_more}
+use Rattle.audit_cluster.proofs.Left.{block_taken}
 use Rattle.audit_cluster.proofs.watch.take_blocks.Goals as goal
 
 pub loop-block-preserved : goal.loop-block-preserved
 loop-block-preserved c =
-    let i = c.loop-block.invariant in
-    let is = c.in_ok-take_at-2.ensures.taken.1 in
+    let i = c.args.index in
+    let was = c.loop-block.follower in
+    let invariant = c.loop-block.invariant in
+    let taken = c.in_default-take_next.ensures.taken in
     record {
-      can = (tt, tt);
-      taken = more_taken c.take_at.new.self c.loop-block.follower c.take_at-in-loop-block.new.self c.args.index c.args.handout.first (all_of c.loop-block.yielded) c.in-Some.block.items (all_of (c.loop-block.yielded ++ c.in-Some.block ∷ [])) i.taken is
-          (all_of-push c.loop-block.yielded c.in-Some.block);
-      fault = ap (λ (t : Taken). t.fault) is ∙ i.fault;
-      recent = ap (λ (t : Taken). t.recent) is ∙ i.recent;
-      fronts = ap (λ (t : Taken). t.fronts) is ∙ i.fronts;
+      same = block_taken (with_more c.args.follower.now i (all_of c.args.blocks.now.items)) was c.take_next.new.self i (all_of c.loop-block.blocks.items) (all_of c.pop_front.new.self.items) c.in-Some.block.items invariant.waits invariant.same
+          (ap all_of c.in-Some.ensures.items) taken;
+      inside = subst (λ (n : ℕ). i < n) (sym (ap (λ (t : Taken). length t.followed) taken)) invariant.inside;
+      waits = subst (λ (n : ℕ). i < n) (sym (ap (λ (t : Taken). length t.waiting) taken ∙ length-set was.waiting i _)) invariant.waits;
     }

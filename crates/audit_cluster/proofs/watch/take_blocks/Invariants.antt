@@ -1,14 +1,15 @@
-use Rattle.std.proofs.Common.{◌≡◌}
+use Rattle.std.proofs.Common.{◌≡◌, ◌<◌, length}
 use Rattle.journal.specs.Blocks.{all_of}
-use Rattle.audit_cluster.specs.Following.{IsTakenMore}
+use Rattle.audit_cluster.specs.Following.{with_more}
 use Rattle.audit_cluster.proofs.watch.take_blocks.Given as goal
 
--- the blocks so far were taken
+-- what was taken of the blocks and what is left of them is all that they were
 abbrev pub invariant-loop-block : goal.invariant-loop-block
 invariant-loop-block l = record {
-  can : (goal.iterator-loop-block).can_next l.block-iterator × (goal.iterator-loop-block).is_finite l.block-iterator;
-  taken : IsTakenMore l.initial.follower l.follower l.index l.first (all_of l.yielded);
-  fault : l.follower.fault ≡ l.initial.follower.fault;
-  recent : l.follower.recent ≡ l.initial.follower.recent;
-  fronts : l.follower.fronts ≡ l.initial.follower.fronts;
+  same : with_more l.follower l.index (all_of l.blocks.items) ≡ with_more l.initial.follower l.index (all_of l.initial.blocks.items);
+  inside : l.index < length l.follower.followed;
+  waits : l.index < length l.follower.waiting;
 }
+
+abbrev pub decreases-loop-block : goal.decreases-loop-block
+decreases-loop-block l = length l.blocks.items

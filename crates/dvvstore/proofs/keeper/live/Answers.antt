@@ -47,9 +47,9 @@ returns-in-Open-clause-served g c =
     let now = map (λ s. begun size s.pass s.hooking.hooks s.hooking.table.listed s.placement) c.begin_seats.new.seats.items in
     let served = c.serve.result in
     let held = hooks_for c.args.stay.folder c.args.stay.held.hooks.items in
-    let are = starts_as _ held starts now (c.hooks_of.ensures ∙ ap (λ (hooks : List ℕ). hooks_for c.args.stay.folder hooks) c.deref.ensures.value) (c.in_ok-begin_seats.ensures.starts size) in
-    subst (λ (left : Result Left Unbegun). LeavesServed g.H.Hooks.finds g.H.Hooks.names g.H.HookChanges.takes (AreStarts held starts) left) (sym c.left_of.ensures)
-    (served_so g.H.Hooks.finds g.H.Hooks.names g.H.HookChanges.takes (AreStarts held starts) served
+    let are = starts_as g.H.HookChanges.takes _ held starts now (c.hooks_of.ensures ∙ ap (λ (hooks : List ℕ). hooks_for c.args.stay.folder hooks) c.deref.ensures.value) (c.begin_seats.new.lookout.requests, c.in_ok-begin_seats.ensures.starts size) in
+    subst (λ (left : Result Left Unbegun). LeavesServed g.H.Hooks.finds g.H.Hooks.names g.H.HookChanges.takes (AreStarts g.H.HookChanges.takes held starts) left) (sym c.left_of.ensures)
+    (served_so g.H.Hooks.finds g.H.Hooks.names g.H.HookChanges.takes (AreStarts g.H.HookChanges.takes held starts) served
     (served_from g.H.Hooks.finds g.H.Hooks.names g.H.HookChanges.takes held starts now size.first size.vnodes c.args.staffed.begun.spares served are c.requires.three c.serve.ensures.kept))
 
 pub returns-clause-served : goal.returns-clause-served
@@ -59,7 +59,7 @@ returns-clause-served g c =
     let now = map (λ s. begun size s.pass s.hooking.hooks s.hooking.table.listed s.placement) c.begin_seats.new.seats.items in
     let served = c.serve-in-Closed.result in
     let held = hooks_for c.args.stay.folder c.args.stay.held.hooks.items in
-    let are = starts_as _ held starts now (c.hooks_of.ensures ∙ ap (λ (hooks : List ℕ). hooks_for c.args.stay.folder hooks) c.deref.ensures.value) (c.in_ok-begin_seats.ensures.starts size) in
-    subst (λ (left : Result Left Unbegun). LeavesServed g.H.Hooks.finds g.H.Hooks.names g.H.HookChanges.takes (AreStarts held starts) left) (sym c.left_of-in-Closed.ensures)
-    (served_so g.H.Hooks.finds g.H.Hooks.names g.H.HookChanges.takes (AreStarts held starts) served
+    let are = starts_as g.H.HookChanges.takes _ held starts now (c.hooks_of.ensures ∙ ap (λ (hooks : List ℕ). hooks_for c.args.stay.folder hooks) c.deref.ensures.value) (c.begin_seats.new.lookout.requests, c.in_ok-begin_seats.ensures.starts size) in
+    subst (λ (left : Result Left Unbegun). LeavesServed g.H.Hooks.finds g.H.Hooks.names g.H.HookChanges.takes (AreStarts g.H.HookChanges.takes held starts) left) (sym c.left_of-in-Closed.ensures)
+    (served_so g.H.Hooks.finds g.H.Hooks.names g.H.HookChanges.takes (AreStarts g.H.HookChanges.takes held starts) served
     (served_from g.H.Hooks.finds g.H.Hooks.names g.H.HookChanges.takes held starts now size.first size.vnodes c.args.staffed.begun.spares served are c.requires.three c.serve-in-Closed.ensures.kept))

@@ -1,12 +1,14 @@
-use Rattle.std.proofs.Common.{ap, subst, sym}
+use Rattle.std.proofs.Common.{◌∙◌}
 use Rattle.dvvstore.proofs.Putting.{none_put, put_all}
 use Rattle.dvvstore.proofs.network.write_all.Goals as goal
 
-pub returns-in-Some : goal.returns-in-Some
-returns-in-Some g c = record {
-  put = put_all g.F.Folder.finds g.F.Folder.does c.args.number c.args.vnodes.now c.args.requests.now _ c.args.folder.now c.keep_number.new.folder c.keep_all.new.folder c.keep_all.result c.in_ok-keep_number.ensures.there
-      c.in-Some.ensures.some c.keep_all.ensures.put;
-}
+pub returns-in-Ok-Some : goal.returns-in-Ok-Some
+returns-in-Ok-Some g c =
+    let some = rw c.in-Ok-Some.field-0-is at c.in-Ok-Some.ensures.some in
+    record {
+      put = put_all g.F.Folder.finds g.F.Folder.does c.args.number c.args.vnodes.now c.args.requests.now c.deref.result.now c.args.folder.now c.keep_number.new.folder c.keep_all.new.folder c.keep_all.result c.in_ok-keep_number.ensures.there
+          (some.0, c.deref.ensures.value ∙ some.1) c.keep_all.ensures.put;
+    }
 
-pub returns-in-None : goal.returns-in-None
-returns-in-None g c = record { put = none_put g.F.Folder.does c.args.vnodes.now c.keep_number.new.folder c.keep_all-in-None.new.folder _ c.keep_all-in-None.result c.keep_all-in-None.ensures.put }
+pub returns-in_default : goal.returns-in_default
+returns-in_default g c = record { put = none_put g.F.Folder.does c.args.vnodes.now c.keep_number.new.folder c.keep_all-in_default.new.folder _ c.keep_all-in_default.result c.keep_all-in_default.ensures.put }

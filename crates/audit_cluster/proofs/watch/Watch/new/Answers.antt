@@ -1,9 +1,9 @@
 use Rattle.std.proofs.Common.{◌≡◌, ℕ, List, length, arith, ap, sym, subst, ◌∙◌}
-use Rattle.std.specs.Prelude.{All}
+use Rattle.std.specs.Prelude.{All, None}
 use Rattle.std.proofs.lemmas.List.Elements.{All-nil}
 use Rattle.cluster_stamps.specs.declared.view.Told.{Told}
 use Rattle.cluster_stamps.specs.declared.view.View.{View}
-use Rattle.audit_cluster.specs.Following.{IsOfWatch}
+use Rattle.audit_cluster.specs.Following.{IsOfWatch, with_left}
 use Rattle.audit_cluster.proofs.Taken.{AreNumbered, followed_long, last_untold, nothing_taken, watches_none}
 use Rattle.audit_cluster.proofs.watch.Watch.new.Goals as goal
 
@@ -18,8 +18,8 @@ invariant_of-result-2 g c =
       c.requires.first,
       c.in_ok-new.ensures.recent,
       subst (λ (ts : List Told). All IsOfWatch ts) (sym untold) (All-nil IsOfWatch),
-      λ lost. watches_none g.B.Spot.first c.args.vnodes _ taken c.in_ok-new.ensures.fault (followed_long ids taken c.in_ok-new.ensures.followed ∙ many)
-          (nothing_taken g.B.Spot.first _ ids taken are untold c.in_ok-new.ensures.followed c.in_ok-new.ensures.waiting),
+      λ lost. watches_none g.B.Spot.first c.args.vnodes _ (with_left taken None) c.in_ok-new.ensures.fault (followed_long ids (with_left taken None) c.in_ok-new.ensures.followed ∙ many)
+          (nothing_taken g.B.Spot.first _ ids (with_left taken None) are untold c.in_ok-new.ensures.followed c.in_ok-new.ensures.waiting),
     )
 
 pub returns-clause-told : goal.returns-clause-told

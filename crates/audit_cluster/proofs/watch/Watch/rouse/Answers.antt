@@ -1,14 +1,15 @@
-use Rattle.std.proofs.Common.{◌∙◌, ◌+◌, ◌<◌, ◌≤◌, ℕ, List, length, ap, refl, sym, subst, arith}
+use Rattle.std.proofs.Common.{◌∙◌, ◌+◌, ◌<◌, ◌≤◌, ℕ, List, Option, length, ap, refl, sym, subst, arith}
 use Rattle.cluster_stamps.specs.declared.view.Told.{Told}
 use Rattle.audit_follower.specs.Waiting.{Taken, waiting_at}
-use Rattle.audit_cluster.specs.Following.{Watched, Watches, IsIdle, Rouses}
+use Rattle.audit_cluster.specs.Following.{Watched, Watches, IsIdle, Rouses, with_left}
+use Rattle.audit_cluster.specs.declared.watch.Left.{Left}
 use Rattle.audit_cluster.specs.declared.watch.Watch.TheInside.{Inside}
 use Rattle.audit_cluster.proofs.Taken.{still_own, roused_own, RousesUpTo, nothing_waits, restarts_alone, rouses_all, rouses_more, rouses_none, rouses_on, watches_still}
 use Rattle.audit_cluster.proofs.watch.Watch.rouse.Goals as goal
 use Rattle.audit_cluster.proofs.watch.Watch.rouse.Goals.{then-waiting-eq0, else-waiting-eq0}
 
 pub loop-index-init : goal.loop-index-init
-loop-index-init g c = record { told = rouses_none 0 g.B.Spot.first c.self.inside.follower c.self.inside.pass.told; follower = refl; lost = refl; first = refl; vnodes = refl }
+loop-index-init g c = record { told = rouses_none 0 g.B.Spot.first c.self.inside.follower c.self.inside.pass.told; follower = refl; left = refl; lost = refl; first = refl; vnodes = refl }
 
 pub waiting-requires : goal.waiting-requires
 waiting-requires g c =
@@ -36,6 +37,7 @@ loop-index-preserved g c =
             told = subst (λ (ts : List Told). RousesUpTo (i + 1) first taken c.self.inside.pass.told ts) (sym pass)
                 (rouses_more i first taken c.self.inside.pass.told c.loop-index.self-inside.pass.told w.fill_block.new.pass.told (c.args.cluster.now.first + i) was.told w.fill_block.ensures idle);
             follower = ap (λ (s : Inside g.row.B.Denot). s.follower) w.self-inside-is ∙ was.follower;
+            left = ap (λ (s : Inside g.row.B.Denot). s.left) w.self-inside-is ∙ was.left;
             lost = ap (λ (s : Inside g.row.B.Denot). s.lost) w.self-inside-is ∙ was.lost;
             first = ap (λ (s : Inside g.row.B.Denot). s.first) w.self-inside-is ∙ was.first;
             vnodes = ap (λ (s : Inside g.row.B.Denot). s.vnodes) w.self-inside-is ∙ was.vnodes;
@@ -47,6 +49,7 @@ loop-index-preserved g c =
             told = subst (λ (ts : List Told). RousesUpTo (c.loop-index.index + 1) g.B.Spot.first c.self.inside.follower c.self.inside.pass.told ts) (sym pass)
                 (rouses_on c.loop-index.index g.B.Spot.first c.self.inside.follower c.self.inside.pass.told c.loop-index.self-inside.pass.told was.told);
             follower = ap (λ (s : Inside g.row.B.Denot). s.follower) w.self-inside-is ∙ was.follower;
+            left = ap (λ (s : Inside g.row.B.Denot). s.left) w.self-inside-is ∙ was.left;
             lost = ap (λ (s : Inside g.row.B.Denot). s.lost) w.self-inside-is ∙ was.lost;
             first = ap (λ (s : Inside g.row.B.Denot). s.first) w.self-inside-is ∙ was.first;
             vnodes = ap (λ (s : Inside g.row.B.Denot). s.vnodes) w.self-inside-is ∙ was.vnodes;
@@ -57,12 +60,15 @@ pub invariant_of-self : goal.invariant_of-self
 invariant_of-self g c =
     let told = c.loop-index.invariant.told in
     let same = c.loop-index.invariant.follower in
-    let was = c.self.inside.pass.told in (
+    let first = g.B.Spot.first in
+    let n = c.self.inside.vnodes in
+    let was = c.self.inside.pass.told in
+    let left = c.loop-index.self-inside.left in (
       c.loop-index.invariant.first ∙ c.self.invariant.0,
       ap (λ (t : Taken). t.recent) same ∙ c.self.invariant.1,
-      still_own was c.loop-index.self-inside.pass.told c.self.invariant.2 (told.0, told.1, roused_own g.B.Spot.first c.self.inside.follower told.0 told.2),
-      λ lost. subst (λ (n : ℕ). Watches g.B.Spot.first n c.loop-index.self-inside.pass.told c.loop-index.self-inside.follower) (sym c.loop-index.invariant.vnodes) (watches_still g.B.Spot.first c.self.inside.vnodes c.self.inside.pass.told c.loop-index.self-inside.pass.told told.0 c.loop-index.self-inside.follower
-          (subst (λ (t : Taken). Watches g.B.Spot.first c.self.inside.vnodes c.self.inside.pass.told t) (sym same) (c.self.invariant.3 (sym c.loop-index.invariant.lost ∙ lost)))
+      still_own was c.loop-index.self-inside.pass.told c.self.invariant.2 (told.0, told.1, roused_own first c.self.inside.follower told.0 told.2),
+      λ lost. subst (λ (m : ℕ). Watches first m c.loop-index.self-inside.pass.told (with_left c.loop-index.self-inside.follower left)) (sym c.loop-index.invariant.vnodes) (watches_still first n was c.loop-index.self-inside.pass.told told.0 (with_left c.loop-index.self-inside.follower left)
+          (subst (λ (t : Taken). Watches first n was (with_left t left)) (sym same) (subst (λ (l : Option Left). Watches first n was (with_left c.self.inside.follower l)) (sym c.loop-index.invariant.left) (c.self.invariant.3 (sym c.loop-index.invariant.lost ∙ lost))))
           told.1 (restarts_alone g.B.Spot.first c.self.inside.follower told.0 told.2)),
     )
 

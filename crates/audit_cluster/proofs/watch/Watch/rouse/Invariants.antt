@@ -7,6 +7,7 @@ abbrev pub invariant-loop-index : goal.invariant-loop-index
 invariant-loop-index g l = record {
   told : RousesUpTo l.index g.B.Spot.first l.initial.self-inside.follower l.initial.self-inside.pass.told l.self-inside.pass.told;
   follower : l.self-inside.follower ≡ l.initial.self-inside.follower;
+  left : l.self-inside.left ≡ l.initial.self-inside.left;
   lost : l.self-inside.lost ≡ l.initial.self-inside.lost;
   first : l.self-inside.first ≡ l.initial.self-inside.first;
   vnodes : l.self-inside.vnodes ≡ l.initial.self-inside.vnodes;

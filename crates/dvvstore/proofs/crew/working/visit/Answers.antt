@@ -7,12 +7,12 @@ use Rattle.dvvstore.proofs.crew.working.visit.Goals as goal
 pub returns : goal.returns
 returns g c = record {
   visited = λ none.
-      let is : c.noting-recorder.result.store ≡ c.new-store.result = c.noting-recorder.ensures ∙ c.new-recorder.ensures in
-      let peers : c.noting-recorder.result.store.peers ≡ c.new-peers.result = ap (λ r. r.peers) is ∙ c.new-store.ensures.peers in
+      let is : c.new-recorder.result.store ≡ c.new-store.result = c.new-recorder.ensures in
+      let peers : c.new-recorder.result.store.peers ≡ c.new-peers.result = ap (λ r. r.peers) is ∙ c.new-store.ensures.peers in
       let is_new = peers ∙ c.new-peers.ensures in
       visited_by g.H.Hooks.finds g.H.Hooks.names g.H.HookChanges.takes (λ old call new. PassStep old.size old.pass old.failures call new.pass new.failures 0 0 new.size)
       (λ p. record { size = p.size; pass = p.pass; failures = p.failures; origin = 0 })
-      (shown c.noting-recorder.result.store.peers c.noting-recorder.result.store.hooking.hooks c.noting-recorder.result.store.hooking.table.listed c.noting-recorder.result.store.placement [])
+      (shown c.new-recorder.result.store.peers c.new-recorder.result.store.hooking.hooks c.new-recorder.result.store.hooking.table.listed c.new-recorder.result.store.placement [])
       (shown c.stay.new.store.store.peers c.stay.new.store.store.hooking.hooks c.stay.new.store.store.hooking.table.listed c.stay.new.store.store.placement []) _ _
       (begun_as _ _ _ _ _ _ _ _ _ _ _ (ap (λ (p : Reach). p.size) is_new) (ap (λ (p : Reach). p.pass) is_new) (ap (λ (p : Reach). p.failures) is_new)
       (ap (λ r. r.hooking.hooks) is ∙ ap (λ k. k.hooks) c.new-store.ensures.hooking) (ap (λ r. r.hooking.table.listed) is ∙ ap (λ k. k.table.listed) c.new-store.ensures.hooking) (ap (λ r. r.placement) is ∙ c.new-store.ensures.placement))

@@ -1,4 +1,4 @@
-use Rattle.dvvstore.proofs.session.live.Given as goal
+use Rattle.dvvstore.proofs.session.over_files.Given as goal
 
 -- the word's own table
 abbrev pub ghosts-over_stamps-B-Room : goal.ghosts-over_stamps-B-Room

@@ -1,0 +1,23 @@
+use Rattle.std.proofs.Common.{◌∙◌, ◌+◌, ℕ, List, Option, ap, map, refl, subst, vec_len}
+use Rattle.hook_readers.specs.Edits.{Finds, Names}
+use Rattle.hook_sharing.specs.Taking.{Takes}
+use Rattle.dvvstore.specs.Keeping.{LeavesServed, Tells, hooks_for}
+use Rattle.dvvstore.specs.Visits.{BeginOver}
+use Rattle.dvvstore.specs.declared.keeper.Door.{Door}
+use Rattle.dvvstore.proofs.Staying.{leaves_folded}
+use Rattle.dvvstore.proofs.session.live.Goals as goal
+
+pub returns-clause-told : goal.returns-clause-told
+returns-clause-told g c =
+    subst (λ (d : Door _). Tells d c.over_files.result (g.O.Write.contents c.args.out.now) (g.O.Write.contents c.over_files.new.out)) c.in_ok-stay.ensures.door c.over_files.ensures.told
+
+pub returns-clause-kept : goal.returns-clause-kept
+returns-clause-kept g c =
+    leaves_folded c.args.stay.folder c.in_ok-stay.stay.folder c.args.making.first _ c.args.stay.held.files.items c.in_ok-stay.stay.held.files.items c.over_files.result refl c.in_ok-stay.ensures.folder
+    c.in_ok-stay.ensures.files c.over_files.ensures.kept
+
+pub returns-clause-served : goal.returns-clause-served
+returns-clause-served g c =
+    subst
+    (λ (hooks : Option (List ℕ)). LeavesServed Finds Names Takes (BeginOver Takes (record { first = c.args.making.first; vnodes = 3; passes = vec_len c.args.tables + 4 }) (map (λ t. t.listed) c.args.tables.items) hooks) c.over_files.result)
+    (ap (λ f. hooks_for f c.in_ok-stay.stay.held.hooks.items) c.in_ok-stay.ensures.folder ∙ ap (λ v. hooks_for c.args.stay.folder v.items) c.in_ok-stay.ensures.hooks) c.over_files.ensures.served

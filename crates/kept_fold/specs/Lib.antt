@@ -1,0 +1,3 @@
+pub mod Merging
+pub mod Stale
+pub mod Folds
