@@ -5,7 +5,7 @@ use Rattle.ring.specs.Places.{PlacementView}
 
 -- keys stand at three vnodes, each at the place that its digest names
 abbrev pub by_digest : PlacementView
-by_digest = record { vnodes = 3; first = None }
+by_digest = record { vnodes = 3; copies = 3; first = None }
 
 -- of all workers they do
 abbrev pub AreAllPlaced : List PlacementView → Type 0

@@ -13,7 +13,7 @@ use Rattle.http_connections.specs.Halls.{AllStand, HallStands, Log, all_parts}
 use Rattle.http_connections.specs.Sockets.{Sockets}
 use Rattle.http_connections.specs.declared.seat.Seat.{Seat}
 use Rattle.journal.specs.Logs.{Log as JournalLog}
-use Rattle.ring.specs.Places.{PlacementView, copies_of}
+use Rattle.ring.specs.Places.{PlacementView, copies_in}
 use Rattle.server_sockets.specs.Work.{seats_of, shows}
 use Rattle.server_sockets.specs.declared.worker.Worker.{Worker}
 use Rattle.cluster_stamps.specs.declared.view.Size.{Size}
@@ -80,7 +80,7 @@ module _ {H : Type 0} (finds : H → List ℕ → ImageKind → Result (Option P
     pub log : Log
     pub sockets : Sockets
     pub seats : ℕ → Option Seat
-    pub each : AllStand (copies_of start.placement.vnodes) log sockets seats
+    pub each : AllStand (copies_in start.placement) log sockets seats
     pub owns : List (List Told)
     pub end : StoreView Passing H
     pub made : AreCallsOf (GivesUnnoted PassCalls finds names takes) told_by start (all_parts log) owns end

@@ -25,7 +25,7 @@ use kept_folder::Folder;
 use kept_hooks::Requests;
 use kept_restore::Passes;
 use quorum::Hooking;
-use ring::Placement;
+use ring::{MAX_COPIES, Placement};
 use std::alloc::{AllocError, Global};
 use std::hash::BuildHasher as _;
 use std::io::Write;
@@ -384,7 +384,7 @@ fn seats_of<'a, B: Room, J: Naming, T: Rack<J> + Drop, R: Wait + Drop>(
         seats.push_reserved(Seat {
             pass,
             hooking: Hooking::new(alloc, hooks, table),
-            placement: Placement::by_digest(VNODES),
+            placement: Placement::by_digest(VNODES, MAX_COPIES),
             place: tables.len(),
         });
     }
