@@ -53,17 +53,17 @@ module _ {H : Type 0} where
   AreStarts None starts now = now ≡ starts
   AreStarts (Some held) starts now = IsLastHooked starts now
 
--- a store is over these vnodes, where keys stand as their digests say
-abbrev pub IsOver : {H : Type 0} → Size → StoreView Passing H → Type 0
-IsOver size start = (start.peers.size ≡ size) × (start.placement ≡ by_digest)
+-- a store is over these vnodes, where keys stand as their digests say, with so many copies
+abbrev pub IsOver : {H : Type 0} → Size → ℕ → StoreView Passing H → Type 0
+IsOver size copies start = (start.peers.size ≡ size) × (start.placement ≡ by_digest copies)
 
 -- there is a store over these vnodes for each table, whose hooks may call its helpers: that of the last table is the first
-abbrev pub AreOfTables : {H : Type 0} → Size → List (List Entry) → List (StoreView Passing H) → Type 0
-AreOfTables size tables starts = (map (λ s. s.listed) starts ≡ reverse tables) × All (IsOver size) starts
+abbrev pub AreOfTables : {H : Type 0} → Size → ℕ → List (List Entry) → List (StoreView Passing H) → Type 0
+AreOfTables size copies tables starts = (map (λ s. s.listed) starts ≡ reverse tables) × All (IsOver size copies) starts
 
 -- so it is, but for the hooks of the last one, where a folder held requests with which they begin
-abbrev pub BeginOver : {H : Type 0} → Size → List (List Entry) → Option (List ℕ) → List (StoreView Passing H) → Type 0
-BeginOver {H} size tables held now = (starts : List (StoreView Passing H)) × AreOfTables size tables starts × AreStarts held starts now
+abbrev pub BeginOver : {H : Type 0} → Size → ℕ → List (List Entry) → Option (List ℕ) → List (StoreView Passing H) → Type 0
+BeginOver {H} size copies tables held now = (starts : List (StoreView Passing H)) × AreOfTables size copies tables starts × AreStarts held starts now
 
 -- what passes had been told before, each with the calls of its visit behind it
 abbrev pub told_with : {H : Type 0} → List (StoreView Passing H) → List (List Told) → List Told
