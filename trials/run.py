@@ -45,6 +45,7 @@ NAMES = (
     "kills",
     "damages",
     "folders",
+    "copies",
     "full_device",
     "failing_calls",
     "refused_snapshots",

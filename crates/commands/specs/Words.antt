@@ -44,15 +44,34 @@ abbrev pub loaded_by : Bor (List ℕ) → Option ℕ → Bor (List ℕ) → Opti
 loaded_by file None script = None
 loaded_by file (Some incarnation) script = Some (Load file incarnation script)
 
--- to serve at an address, by so many workers, 16 at most
-abbrev pub served_by : Bor (List ℕ) → Option ℕ → Option ℕ → Option Request
-served_by addr None count = None
-served_by addr (Some workers) count = if nat_lt 16 workers then None else Some (Serve addr workers count)
+-- so many copies of each key, 3 at most
+abbrev pub as_copies : Option ℕ → Option ℕ
+as_copies None = None
+as_copies (Some n) = if nat_lt 3 n then None else Some n
+
+-- the copies that two words ask for
+abbrev pub copies_by : List ℕ → List ℕ → Option ℕ
+copies_by word number = if pointwise nat_eq word (codes "copies") then as_copies (count_of number) else None
+
+-- to serve at an address, by so many workers, 16 at most, with so many copies of each key
+abbrev pub served_by : Bor (List ℕ) → Option ℕ → Option ℕ → ℕ → Option Request
+served_by addr None count copies = None
+served_by addr (Some workers) count copies = if nat_lt 16 workers then None else Some (Serve addr workers count copies)
 
 -- the same, so many connections
-abbrev pub served_so_many : Bor (List ℕ) → Option ℕ → Option ℕ → Option Request
-served_so_many addr workers None = None
-served_so_many addr workers (Some count) = served_by addr workers (Some count)
+abbrev pub served_so_many : Bor (List ℕ) → Option ℕ → Option ℕ → ℕ → Option Request
+served_so_many addr workers None copies = None
+served_so_many addr workers (Some count) copies = served_by addr workers (Some count) copies
+
+-- the same, where words ask for so many copies
+abbrev pub served_with : Bor (List ℕ) → Option ℕ → Option ℕ → Option Request
+served_with addr workers None = None
+served_with addr workers (Some copies) = served_by addr workers None copies
+
+abbrev pub served_so_many_with : Bor (List ℕ) → Option ℕ → Option ℕ → Option ℕ → Option Request
+served_so_many_with addr workers None copies = None
+served_so_many_with addr workers (Some count) None = None
+served_so_many_with addr workers (Some count) (Some copies) = served_by addr workers (Some count) copies
 
 -- to keep a store in a folder and serve it at an address, by so many workers, 16 at most
 abbrev pub kept_by : Bor (List ℕ) → Bor (List ℕ) → Option ℕ → Option ℕ → Option Request
@@ -69,21 +88,24 @@ abbrev pub three_words_of : List ℕ → Bor (List ℕ) → Bor (List ℕ) → B
 three_words_of name first second third =
     if pointwise nat_eq name (codes "dump") then dumped_by first second (vnode_of third.now)
     else (if pointwise nat_eq name (codes "load") then loaded_by first (incarnation_of second.now) third
-    else (if pointwise nat_eq name (codes "serve") then served_so_many first (count_of second.now) (count_of third.now)
+    else (if pointwise nat_eq name (codes "serve") then served_so_many first (count_of second.now) (count_of third.now) 1
     else (if pointwise nat_eq name (codes "keep") then kept_by first second (count_of third.now) None else None)))
 
 -- what a name and four more words ask for
 abbrev pub four_words_of : List ℕ → Bor (List ℕ) → Bor (List ℕ) → List ℕ → List ℕ → Option Request
 four_words_of name first second third fourth =
-    if pointwise nat_eq name (codes "keep") then kept_so_many first second (count_of third) (count_of fourth) else None
+    if pointwise nat_eq name (codes "keep") then kept_so_many first second (count_of third) (count_of fourth)
+    else (if pointwise nat_eq name (codes "serve") then served_with first (count_of second.now) (copies_by third fourth) else None)
 
--- what words ask for
+-- what words ask for: one copy of each key, where they name none
 abbrev pub request_of : List (Bor (List ℕ)) → Option Request
+request_of (name ∷ first ∷ second ∷ third ∷ fourth ∷ fifth ∷ []) =
+    if pointwise nat_eq name.now (codes "serve") then served_so_many_with first (count_of second.now) (count_of third.now) (copies_by fourth.now fifth.now) else None
 request_of (name ∷ first ∷ second ∷ third ∷ fourth ∷ []) = four_words_of name.now first second third.now fourth.now
 request_of (name ∷ first ∷ second ∷ third ∷ []) = three_words_of name.now first second third
 request_of (name ∷ first ∷ second ∷ []) =
     if pointwise nat_eq name.now (codes "run") then Some (Run first second)
-    else (if pointwise nat_eq name.now (codes "serve") then served_by first (count_of second.now) None else None)
+    else (if pointwise nat_eq name.now (codes "serve") then served_by first (count_of second.now) None 1 else None)
 request_of (name ∷ file ∷ []) =
     if pointwise nat_eq name.now (codes "verify") then Some (Verify file)
     else (if pointwise nat_eq name.now (codes "explain") then Some (Explain file)

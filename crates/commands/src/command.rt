@@ -13,7 +13,7 @@ use crate::files::Files;
 use crate::help::help;
 use crate::load::load;
 use crate::run::run;
-use crate::server::{Ended, Says as _, Server, Site, Unserved};
+use crate::server::{Ended, Post, Says as _, Server, Site, Unserved};
 use crate::simulate::simulate;
 use crate::verify::verify;
 use crate::words::{Request, parse};
@@ -50,7 +50,7 @@ pub fn command<F: Files, S: Server, O: Write, E: Write>(
     ensures dumped { (file script : Bor (List ℕ)) (vnode : ℕ) → request_of words.now ≡ Some (Request.Dump file script vnode) → result < 2 → DumpedFile table.listed vnode (F.held files.old script.now) (F.held files.new file.now) (O.contents out.old) (O.contents out.new) result }
     ensures unwritten { (file script : Bor (List ℕ)) (vnode : ℕ) → request_of words.now ≡ Some (Request.Dump file script vnode) → result ≡ 1 → files.new ≡ files.old }
     ensures loaded { (file script : Bor (List ℕ)) (incarnation : ℕ) → request_of words.now ≡ Some (Request.Load file incarnation script) → result < 2 → LoadedFile table.listed incarnation (F.held files.old file.now) (F.held files.old script.now) (O.contents out.old) (O.contents out.new) result }
-    ensures served { (addr : Bor (List ℕ)) (workers : ℕ) (count : Option ℕ) → request_of words.now ≡ Some (Request.Serve addr workers count) → result < 2 → Served (O.contents out.old) (O.contents out.new) result }
+    ensures served { (addr : Bor (List ℕ)) (workers : ℕ) (count : Option ℕ) (copies : ℕ) → request_of words.now ≡ Some (Request.Serve addr workers count copies) → result < 2 → Served (O.contents out.old) (O.contents out.new) result }
     ensures kept { (folder addr : Bor (List ℕ)) (workers : ℕ) (count : Option ℕ) → request_of words.now ≡ Some (Request.Keep folder addr workers count) → result < 2 → KeptFolder (O.contents out.old) (O.contents out.new) result }
     ensures helped { request_of words.now ≡ Some Request.Help → result < 2 → Helped (O.contents out.old) (O.contents out.new) result }
     ensures wrong_words { request_of words.now ≡ None → result ≡ 2 }
@@ -87,7 +87,7 @@ fn done<F: Files, S: Server, O: Write, E: Write>(
     ensures dumped { (file script : Bor (List ℕ)) (vnode : ℕ) → request_of words.now ≡ Some (Request.Dump file script vnode) → IfOk result (λ status. status < 2 → DumpedFile table.listed vnode (F.held files.old script.now) (F.held files.new file.now) (O.contents out.old) (O.contents out.new) status) }
     ensures unwritten { (file script : Bor (List ℕ)) (vnode : ℕ) → request_of words.now ≡ Some (Request.Dump file script vnode) → IfOk result (λ status. status ≡ 1 → files.new ≡ files.old) }
     ensures loaded { (file script : Bor (List ℕ)) (incarnation : ℕ) → request_of words.now ≡ Some (Request.Load file incarnation script) → IfOk result (λ status. status < 2 → LoadedFile table.listed incarnation (F.held files.old file.now) (F.held files.old script.now) (O.contents out.old) (O.contents out.new) status) }
-    ensures served { (addr : Bor (List ℕ)) (workers : ℕ) (count : Option ℕ) → request_of words.now ≡ Some (Request.Serve addr workers count) → IfOk result (λ status. status < 2 → Served (O.contents out.old) (O.contents out.new) status) }
+    ensures served { (addr : Bor (List ℕ)) (workers : ℕ) (count : Option ℕ) (copies : ℕ) → request_of words.now ≡ Some (Request.Serve addr workers count copies) → IfOk result (λ status. status < 2 → Served (O.contents out.old) (O.contents out.new) status) }
     ensures kept { (folder addr : Bor (List ℕ)) (workers : ℕ) (count : Option ℕ) → request_of words.now ≡ Some (Request.Keep folder addr workers count) → IfOk result (λ status. status < 2 → KeptFolder (O.contents out.old) (O.contents out.new) status) }
     ensures helped { request_of words.now ≡ Some Request.Help → IfOk result (λ status. status < 2 → Helped (O.contents out.old) (O.contents out.new) status) }
     ensures wrong_words { request_of words.now ≡ None → IsErr result × (out.new ≡ out.old) }
@@ -112,8 +112,24 @@ fn done<F: Files, S: Server, O: Write, E: Write>(
                 script,
             },
         ) => load(alloc, &table, file, incarnation, script, files, out, err),
-        Some(Request::Serve { addr, count, .. }) => serve(
-            alloc, table, more, addr, count, server, out,
+        Some(
+            Request::Serve {
+                addr,
+                count,
+                copies,
+                ..
+            },
+        ) => serve(
+            alloc,
+            table,
+            more,
+            &Post {
+                addr,
+                count,
+                copies,
+            },
+            server,
+            out,
         ),
         Some(
             Request::Keep {
@@ -144,8 +160,7 @@ fn serve<S: Server, O: Write>(
     alloc: Global,
     table: Table,
     more: Vec<Table>,
-    addr: &str,
-    count: Option<u32>,
+    post: &Post<'_>,
     server: &mut S,
     out: &mut O,
 ) -> Result<u8, Failure>
@@ -154,7 +169,7 @@ fn serve<S: Server, O: Write>(
     ensures status { IfOk result (λ status. status ≤ 2) }
     ensures served { IfOk result (Served (O.contents out.old) (O.contents out.new)) }
 {
-    match server.serve(alloc, table, more, addr, count, out) {
+    match server.serve(alloc, table, more, post, out) {
         Ok(audited) => tell(audited.said(), out),
         Err(Unserved::NoMemory) => {
             out.write_all(b"E1\n")?;

@@ -49,6 +49,17 @@ pub enum Ended<V> {
     Unkept(V),
 }
 
+/// Where a store answers that is forgotten, and how many copies of a key it has.
+#[derive(Clone, Copy)]
+pub struct Post<'a> {
+    /// The address.
+    pub addr: &'a str,
+    /// How many connections are answered; any number where that isn't said.
+    pub count: Option<u32>,
+    /// How many copies of each key are wanted, 1 to 3: fewer count as 1, and more as 3.
+    pub copies: u32,
+}
+
 /// Where a store is kept, and where it answers.
 #[derive(Clone, Copy)]
 pub struct Site<'a> {
@@ -78,16 +89,15 @@ pub trait Server {
     /// What the types of the server have to meet, as that threads may share its handle.
     ghost ready: { Type 0 } = { Unit {0} };
 
-    /// Binds the address, tells on `out` which one it is, and answers connections, so many or without end, over a store whose hooks
-    /// may call the helpers of the tables: by one worker for each table, `table` and those of `more`. Answers what is said of the vnodes'
+    /// Binds the address, tells on `out` which one it is, and answers connections, so many or without end, over a store with so many
+    /// copies of each key, whose hooks may call the helpers of the tables: by one worker for each table, `table` and those of `more`. Answers what is said of the vnodes'
     /// journals then, which were followed meanwhile.
     fn serve<O: Write>(
         &mut self,
         alloc: Global,
         table: Table,
         more: Vec<Table>,
-        addr: &str,
-        count: Option<u32>,
+        post: &Post<'_>,
         out: &mut O,
     ) -> Result<Self::Said, Unserved>
         requires ready { ready }
@@ -121,8 +131,7 @@ pub trait Serving {
         alloc: Global,
         table: Table,
         more: Vec<Table>,
-        addr: &str,
-        count: Option<u32>,
+        post: &Post<'_>,
         out: &mut O,
     ) -> Result<Followed, Unserved>
         requires few { vec_len more < 16 }
@@ -142,11 +151,10 @@ impl<S: Serving> Server for ServesOnly<S> {
         alloc: Global,
         table: Table,
         more: Vec<Table>,
-        addr: &str,
-        count: Option<u32>,
+        post: &Post<'_>,
         out: &mut O,
     ) -> Result<Followed, Unserved> {
-        self.0.serve(alloc, table, more, addr, count, out)
+        self.0.serve(alloc, table, more, post, out)
     }
 
     fn keep<O: Write>(
@@ -173,8 +181,7 @@ impl Server for Offline {
         _alloc: Global,
         _table: Table,
         _more: Vec<Table>,
-        _addr: &str,
-        _count: Option<u32>,
+        _post: &Post<'_>,
         _out: &mut O,
     ) -> Result<Followed, Unserved> {
         Err(Unserved::Unreadable)

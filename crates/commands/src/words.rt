@@ -2,7 +2,7 @@
 ghost use Rattle.std.specs.Prelude.{◌≡◌};
 ghost use Rattle.std.specs.Char.{is_ascii_digit};
 ghost use Rattle.std.specs.List.{list_all};
-ghost use Rattle.commands.specs.Words.{count_of, four_words_of, incarnation_of, is_count, kept_by, number_of, request_of, served_by, three_words_of, vnode_of};
+ghost use Rattle.commands.specs.Words.{copies_by, count_of, four_words_of, incarnation_of, is_count, kept_by, number_of, request_of, served_by, three_words_of, vnode_of};
 
 /// What the words ask for.
 #[derive(Clone, Copy)]
@@ -39,11 +39,12 @@ pub enum Request<'a> {
         incarnation: u16,
         script: &'a str,
     },
-    /// To serve the store at an address, by 1 to 16 workers: so many connections, or without end.
+    /// To serve the store at an address, by 1 to 16 workers, with 1 to 3 copies of each key: so many connections, or without end.
     Serve {
         addr: &'a str,
         workers: u32,
         count: Option<u32>,
+        copies: u32,
     },
     /// The same of a store that is kept in the folder `folder`.
     Keep {
@@ -56,6 +57,12 @@ pub enum Request<'a> {
 
 /// The most workers.
 pub(crate) const MOST_WORKERS: u32 = 16;
+
+/// The most copies of a key.
+const MOST_COPIES: u32 = 3;
+
+/// How many copies of a key there are where no words ask for more.
+const USUAL_COPIES: u32 = 1;
 
 /// What the words ask for, where they are those of a command.
 pub fn parse<'a>(words: &[&'a str]) -> Option<Request<'a>>
@@ -77,11 +84,20 @@ pub fn parse<'a>(words: &[&'a str]) -> Option<Request<'a>>
                 image: first,
                 input: second,
             }),
-            "serve" => served(first, second, None),
+            "serve" => served(first, second, None, USUAL_COPIES),
             _ => None,
         },
         [name, first, second, third] => three_words(name, first, second, third),
         [name, first, second, third, fourth] => four_words(name, first, second, third, fourth),
+        [name, first, second, third, fourth, fifth] => match *name {
+            "serve" => served(
+                first,
+                second,
+                Some(count_in(third)?),
+                copies_in(fourth, fifth)?,
+            ),
+            _ => None,
+        },
         _ => None,
     }
 }
@@ -106,7 +122,7 @@ fn three_words<'a>(
             incarnation: incarnation_in(second)?,
             script: third,
         }),
-        "serve" => served(first, second, Some(count_in(third)?)),
+        "serve" => served(first, second, Some(count_in(third)?), USUAL_COPIES),
         "keep" => kept(first, second, third, None),
         _ => None,
     }
@@ -124,6 +140,7 @@ fn four_words<'a>(
 {
     match name {
         "keep" => kept(first, second, third, Some(count_in(fourth)?)),
+        "serve" => served(first, second, None, copies_in(third, fourth)?),
         _ => None,
     }
 }
@@ -149,9 +166,9 @@ fn kept<'a>(
     })
 }
 
-/// To serve at an address, where the word asks for so many workers as there may be.
-fn served<'a>(addr: &'a str, workers: &str, count: Option<u32>) -> Option<Request<'a>>
-    ensures { result ≡ served_by addr.entry (count_of workers.now) count }
+/// To serve at an address with so many copies of each key, where the word asks for so many workers as there may be.
+fn served<'a>(addr: &'a str, workers: &str, count: Option<u32>, copies: u32) -> Option<Request<'a>>
+    ensures { result ≡ served_by addr.entry (count_of workers.now) count copies }
 {
     let workers = count_in(workers)?;
     if workers > MOST_WORKERS {
@@ -161,6 +178,7 @@ fn served<'a>(addr: &'a str, workers: &str, count: Option<u32>) -> Option<Reques
         addr,
         workers,
         count,
+        copies,
     })
 }
 
@@ -187,6 +205,19 @@ fn count_in(word: &str) -> Option<u32>
         return None;
     }
     word.parse().ok()
+}
+
+/// How many copies of each key two words ask for, `copies` and a decimal of 1 to 3.
+fn copies_in(word: &str, number: &str) -> Option<u32>
+    ensures { result ≡ copies_by word.now number.now }
+{
+    if word != "copies" {
+        return None;
+    }
+    match count_in(number) {
+        Some(copies) if copies <= MOST_COPIES => Some(copies),
+        _ => None,
+    }
 }
 
 /// The number of 0 to `2^32 - 1` that a decimal without sign and leading zeros spells.

@@ -78,14 +78,14 @@ module _ {H : Type 0} (finds : H → List ℕ → ImageKind → Result (Option P
 -- ---- which stores these are
 
 -- each seat begins with a store over these vnodes, which has the helpers of its table
-seats_over : {H S : Type 0} → (size : Size) (of : S → StoreView Passing H) (helpers : S → List Entry) (place : S → PlacementView) → ((s : S) → (of s).listed ≡ helpers s)
-    → ((s : S) → (of s).peers.size ≡ size) → ((s : S) → (of s).placement ≡ place s) → (seats : List S) → All (λ (p : PlacementView). p ≡ by_digest) (map place seats)
-    → (map (λ (v : StoreView Passing H). v.listed) (map of seats) ≡ map helpers seats) × All (IsOver size) (map of seats)
-seats_over size of helpers place listed sizes places [] placed = (refl, All-nil (IsOver size))
-seats_over size of helpers place listed sizes places (s ∷ seats) placed =
-    let rest = seats_over size of helpers place listed sizes places seats (All-tail (λ (p : PlacementView). p ≡ by_digest) (place s) (map place seats) placed) in (
+seats_over : {H S : Type 0} → (size : Size) (of : S → StoreView Passing H) (helpers : S → List Entry) (place : S → PlacementView) (copies : ℕ) → ((s : S) → (of s).listed ≡ helpers s)
+    → ((s : S) → (of s).peers.size ≡ size) → ((s : S) → (of s).placement ≡ place s) → (seats : List S) → All (λ (p : PlacementView). p ≡ by_digest copies) (map place seats)
+    → (map (λ (v : StoreView Passing H). v.listed) (map of seats) ≡ map helpers seats) × All (IsOver size copies) (map of seats)
+seats_over size of helpers place copies listed sizes places [] placed = (refl, All-nil (IsOver size copies))
+seats_over size of helpers place copies listed sizes places (s ∷ seats) placed =
+    let rest = seats_over size of helpers place copies listed sizes places seats (All-tail (λ (p : PlacementView). p ≡ by_digest copies) (place s) (map place seats) placed) in (
       ap (λ (l : List Entry). l ∷ map (λ (v : StoreView Passing _). v.listed) (map of seats)) (listed s) ∙ ap (λ (ls : List (List Entry)). helpers s ∷ ls) rest.0,
-      All-cons (IsOver size) (of s) (map of seats) (sizes s, places s ∙ All-head (λ (p : PlacementView). p ≡ by_digest) (place s) (map place seats) placed) rest.1,
+      All-cons (IsOver size copies) (of s) (map of seats) (sizes s, places s ∙ All-head (λ (p : PlacementView). p ≡ by_digest copies) (place s) (map place seats) placed) rest.1,
     )
 
 -- tables that were handed out from the last on
@@ -96,11 +96,11 @@ reversed f (x ∷ xs) = ap (map f) (reverse-push x xs) ∙ (map-append f (revers
     reverse-push : {C : Type 0} (y : C) (ys : List C) → reverse (y ∷ ys) ≡ reverse ys ++ y ∷ []
     reverse-push y ys = reverse-append (y ∷ []) ys
 
-pub seats_begin : {H S T : Type 0} → (size : Size) (of : S → StoreView Passing H) (table : S → T) (listed : T → List Entry) (place : S → PlacementView) → ((s : S) → (of s).listed ≡ listed (table s))
+pub seats_begin : {H S T : Type 0} → (size : Size) (of : S → StoreView Passing H) (table : S → T) (listed : T → List Entry) (place : S → PlacementView) (copies : ℕ) → ((s : S) → (of s).listed ≡ listed (table s))
     → ((s : S) → (of s).peers.size ≡ size) → ((s : S) → (of s).placement ≡ place s) → (seats : List S) (tables : List T) → map table seats ≡ reverse tables
-    → All (λ (p : PlacementView). p ≡ by_digest) (map place seats) → AreOfTables size (map listed tables) (map of seats)
-seats_begin size of table listed place helpers sizes places seats tables handed placed =
-    let over = seats_over size of (λ s. listed (table s)) place helpers sizes places seats placed in
+    → All (λ (p : PlacementView). p ≡ by_digest copies) (map place seats) → AreOfTables size copies (map listed tables) (map of seats)
+seats_begin size of table listed place copies helpers sizes places seats tables handed placed =
+    let over = seats_over size of (λ s. listed (table s)) place copies helpers sizes places seats placed in
     (over.0 ∙ (sym (map-map listed table seats) ∙ (ap (map listed) handed ∙ reversed listed tables)), over.1)
 
 -- how many vnodes and passes there are

@@ -18,7 +18,7 @@ use Rattle.http_connections.proofs.LogLemmas.{all_parts-both}
 use Rattle.http_connections.proofs.TalkLemmas.{Runs-append}
 use Rattle.journal.specs.Logs.{Log as JournalLog}
 use Rattle.server_accept.specs.Waiting.{HasHadNone}
-use Rattle.ring.specs.Places.{PlacementView, copies_of}
+use Rattle.ring.specs.Places.{PlacementView, copies_in}
 use Rattle.server_sockets.specs.Work.{Stays, Works, seats_of, shows}
 use Rattle.server_sockets.specs.declared.worker.Worker.{Worker}
 use Rattle.cluster_stamps.specs.declared.view.Size.{Size}
@@ -138,7 +138,7 @@ module _ {H : Type 0} (finds : H → List ℕ → ImageKind → Result (Option P
 
   -- the visit of a worker whose calls have led a store on
   pub visited : (start end : StoreView Passing H) (back : View) (log : Log) (sockets : Sockets) (seats : ℕ → Option Seat) (copies : ℕ) → back ≡ end.peers.pass
-      → copies ≡ copies_of start.placement.vnodes → AllStand copies log sockets seats
+      → copies ≡ copies_in start.placement → AllStand copies log sockets seats
       → (owns : List (List Told)) × AreCallsOf (GivesUnnoted PassCalls finds names takes) told_by start (all_parts log) owns end → HasVisited finds names takes start back
   visited start end back log sockets seats copies is many each (owns, made) = (
     all_calls owns,
@@ -174,11 +174,11 @@ module _ {H : Type 0} (finds : H → List ℕ → ImageKind → Result (Option P
       → by_pass passing start ≡ begins → back ≡ (passing end.peers).pass
       → ((xs : List Exchange) (old new : StoreView P H) → Runs (GivesUnnoted happens finds names takes) old xs new
       → (owns : List (List Told)) × AreCallsOf (GivesUnnoted PassCalls finds names takes) told_by (by_pass passing old) xs owns (by_pass passing new))
-      → HasLed (GivesUnnoted happens finds names takes) (λ s. copies_of s.placement.vnodes) start end → HasVisited finds names takes begins back
+      → HasLed (GivesUnnoted happens finds names takes) (λ s. copies_in s.placement) start end → HasVisited finds names takes begins back
   visited_by happens passing start end begins back shows_it comes_back law (sockets, seats, stands) =
       let calls = law (all_parts stands.log) start end stands.runs in
       subst (λ (s : StoreView Passing H). HasVisited finds names takes s back) shows_it
-      (visited (by_pass passing start) (by_pass passing end) back stands.log sockets seats (copies_of start.placement.vnodes) comes_back refl stands.each calls)
+      (visited (by_pass passing start) (by_pass passing end) back stands.log sockets seats (copies_in start.placement) comes_back refl stands.each calls)
 
 -- ---- what was gathered
 

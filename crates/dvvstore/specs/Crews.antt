@@ -1,12 +1,12 @@
 -- Workers over one cluster: where their keys stand (this store's profile).
-use Rattle.std.specs.Prelude.{◌≡◌, List, None}
+use Rattle.std.specs.Prelude.{◌≡◌, ℕ, List, None}
 use Rattle.std.specs.List.{All}
 use Rattle.ring.specs.Places.{PlacementView}
 
--- keys stand at three vnodes, each at the place that its digest names
-abbrev pub by_digest : PlacementView
-by_digest = record { vnodes = 3; first = None }
+-- keys stand at three vnodes, each at the place that its digest names, with so many copies
+abbrev pub by_digest : ℕ → PlacementView
+by_digest copies = record { vnodes = 3; copies = copies; first = None }
 
 -- of all workers they do
-abbrev pub AreAllPlaced : List PlacementView → Type 0
-AreAllPlaced placements = All (λ placement. placement ≡ by_digest) placements
+abbrev pub AreAllPlaced : ℕ → List PlacementView → Type 0
+AreAllPlaced copies placements = All (λ placement. placement ≡ by_digest copies) placements

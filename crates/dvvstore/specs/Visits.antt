@@ -17,7 +17,7 @@ use Rattle.http_connections.specs.Halls.{AllStand, HallStands, Log, all_parts}
 use Rattle.http_connections.specs.Sockets.{Sockets}
 use Rattle.http_connections.specs.declared.seat.Seat.{Seat}
 use Rattle.journal.specs.Logs.{Log as JournalLog}
-use Rattle.ring.specs.Places.{PlacementView, copies_of}
+use Rattle.ring.specs.Places.{PlacementView, copies_in}
 use Rattle.server_sockets.specs.Work.{seats_of, shows}
 use Rattle.server_sockets.specs.declared.worker.Worker.{Worker}
 use Rattle.cluster_stamps.specs.declared.view.Size.{Size}
@@ -69,17 +69,17 @@ module _ {H : Type 0} (takes : H → Change → Result Unit HookFault → H → 
   abbrev pub AreStarts : Option (List ℕ) → List (StoreView Passing H) → List (StoreView Passing H) → Type 0
   AreStarts held starts now = (requests : Listed) × AreBegun held requests starts now
 
--- a store is over these vnodes, where keys stand as their digests say
-abbrev pub IsOver : {H : Type 0} → Size → StoreView Passing H → Type 0
-IsOver size start = (start.peers.size ≡ size) × (start.placement ≡ by_digest)
+-- a store is over these vnodes, where keys stand as their digests say, with so many copies
+abbrev pub IsOver : {H : Type 0} → Size → ℕ → StoreView Passing H → Type 0
+IsOver size copies start = (start.peers.size ≡ size) × (start.placement ≡ by_digest copies)
 
 -- there is a store over these vnodes for each table, whose hooks may call its helpers: that of the last table is the first
-abbrev pub AreOfTables : {H : Type 0} → Size → List (List Entry) → List (StoreView Passing H) → Type 0
-AreOfTables size tables starts = (map (λ s. s.listed) starts ≡ reverse tables) × All (IsOver size) starts
+abbrev pub AreOfTables : {H : Type 0} → Size → ℕ → List (List Entry) → List (StoreView Passing H) → Type 0
+AreOfTables size copies tables starts = (map (λ s. s.listed) starts ≡ reverse tables) × All (IsOver size copies) starts
 
 -- so it is, but that the last one's hooks have begun with the requests of a list, if a folder held one
-abbrev pub BeginOver : {H : Type 0} → (H → Change → Result Unit HookFault → H → Type 0) → Size → List (List Entry) → Option (List ℕ) → List (StoreView Passing H) → Type 0
-BeginOver {H} takes size tables held now = (starts : List (StoreView Passing H)) × AreOfTables size tables starts × AreStarts takes held starts now
+abbrev pub BeginOver : {H : Type 0} → (H → Change → Result Unit HookFault → H → Type 0) → Size → ℕ → List (List Entry) → Option (List ℕ) → List (StoreView Passing H) → Type 0
+BeginOver {H} takes size copies tables held now = (starts : List (StoreView Passing H)) × AreOfTables size copies tables starts × AreStarts takes held starts now
 
 -- what passes had been told before, each with the calls of its visit behind it
 abbrev pub told_with : {H : Type 0} → List (StoreView Passing H) → List (List Told) → List Told
@@ -96,7 +96,7 @@ module _ {H : Type 0} (finds : H → List ℕ → ImageKind → Result (Option P
     pub log : Log
     pub sockets : Sockets
     pub seats : ℕ → Option Seat
-    pub each : AllStand (copies_of start.placement.vnodes) log sockets seats
+    pub each : AllStand (copies_in start.placement) log sockets seats
     pub owns : List (List Told)
     pub end : StoreView Passing H
     pub made : AreCallsOf (GivesUnnoted PassCalls finds names takes) told_by start (all_parts log) owns end

@@ -1,13 +1,16 @@
 //! The network of the system.
 
-ghost use Rattle.std.specs.Prelude.{◌≡◌, ◌≢◌, ◌<◌, ◌++◌, ◌∷◌, [], ℕ, List, IfOk, IfErr, OnOk};
+ghost use Rattle.std.specs.Prelude.{◌≡◌, ◌≢◌, ◌<◌, ◌≤◌, ◌++◌, ◌∷◌, [], ℕ, List, IfOk, IfErr, OnOk};
 ghost use Rattle.std.specs.Io.KnownBytes.{Appends};
 ghost use Rattle.commands.specs.Command.{HasRefused};
+ghost use Rattle.kept_file.specs.Placed.{ArePlaced};
+ghost use Rattle.dvvstore.specs.Crews.{by_digest};
 ghost use Rattle.dvvstore.specs.Keeping.{ArePutOf, HasEnded, Keeps};
 
 use crate::crew::Served;
 use crate::host::Host;
 use crate::keeper::{Address, Door, Stay, Unbegun};
+use crate::limits::VNODES;
 use crate::reasons::bind;
 use crate::session;
 use crate::session::{Left, Making};
@@ -16,12 +19,14 @@ use crate::system_folder::{SystemFolder, take};
 use audit_cluster::{Closed, Verdict};
 use audit_faults::Followed;
 use bpf_helpers::Table;
-use commands::server::{Ended, Says, Server, Site, Unserved};
+use commands::server::{Ended, Post, Says, Server, Site, Unserved};
 use dvv::VNODES_PER_NUMBER;
+use kept_file::placed;
 use kept_folder::{Folder, Held, OpenFault, Opened, Unreplaced, keep_all, keep_number};
 use kept_hooks::Requests;
+use ring::{MAX_COPIES, Placement};
 use server_accept::{Bound, Setup, open, tell_listening};
-use std::alloc::Global;
+use std::alloc::{AllocError, Global};
 use std::fmt::Display;
 use std::io;
 use std::io::{ErrorKind, Stderr, Stdin, Write};
@@ -117,18 +122,17 @@ impl<
         alloc: Global,
         table: Table,
         mut more: Vec<Table>,
-        addr: &str,
-        count: Option<u32>,
+        post: &Post<'_>,
         out: &mut O,
     ) -> Result<Said, Unserved> {
         if more.push(table).is_err() {
             return Err(Unserved::NoMemory);
         }
         let seed = Seed::random(self.rt)?;
-        let Bound { listener, addr } = bind(self.rt, addr, self.err)?;
+        let Bound { listener, addr } = bind(self.rt, post.addr, self.err)?;
         let setup = Setup {
             listener,
-            count,
+            count: post.count,
             input: self.input,
             makes_snapshots: false,
             err: self.err,
@@ -144,6 +148,7 @@ impl<
         let making = Making {
             first: self.begin() * VNODES_PER_NUMBER,
             seed,
+            copies: copies_of(post.copies),
         };
         let stay = Stay {
             folder: None::<SystemFolder<'_>>,
@@ -182,9 +187,14 @@ impl<
             Err(why) => return Err(refused(alloc, out, &why)),
         };
         let Opened { number, held } = opened;
+        let copies = copies_of(held.settings.copies);
+        let Ok(held) = held_for(alloc, copies, held) else {
+            return Err(Unserved::NoMemory);
+        };
         let making = Making {
             first: number * VNODES_PER_NUMBER,
             seed,
+            copies,
         };
         let stay = Stay {
             folder: Some(folder),
@@ -205,6 +215,39 @@ impl<
             Err(why) => Err(refused(alloc, out, &why)),
         }
     }
+}
+
+/// How many copies of each key there are where so many are asked for: as many, one where none is, and three where more are.
+fn copies_of(asked: u32) -> u32
+    ensures some { 0 < result }
+    ensures few { result ≤ 3 }
+    ensures right { 0 < asked → asked ≤ 3 → result ≡ asked }
+{
+    asked.max(1).min(MAX_COPIES)
+}
+
+/// What a folder holds, with the records of each vnode where there are so many copies of each key: the folder may have been written where
+/// there were more, or fewer. What else it holds stays.
+fn held_for(alloc: Global, copies: u32, held: Held) -> Result<Held, AllocError>
+    requires some { 0 < copies }
+    requires few { copies ≤ 3 }
+    ensures placed { IfOk result (λ now. ArePlaced (by_digest copies) held.entry.files.items now.files.items) }
+    ensures settings { IfOk result (λ now. now.settings ≡ held.entry.settings) }
+    ensures hooks { IfOk result (λ now. now.hooks ≡ held.entry.hooks) }
+{
+    let Held {
+        last,
+        settings,
+        hooks,
+        files,
+    } = held;
+    let files = placed(alloc, &Placement::by_digest(VNODES, copies), &files)?;
+    Ok(Held {
+        last,
+        settings,
+        hooks,
+        files,
+    })
 }
 
 /// What is said of the journals of a store that was served.

@@ -43,7 +43,11 @@ pub struct Making {
     pub first: u32,
     /// What the hashes of their keys begin with.
     pub seed: Seed,
+    /// How many copies of each key are wanted, 1 to 3.
+    pub copies: u32,
     ghost numbers: { first + 3 ≤ 2 ^ 32 },
+    ghost some: { 0 < copies },
+    ghost few: { copies ≤ 3 },
 }
 
 /// What is left of a store.
@@ -75,11 +79,14 @@ struct Vnodes<B: Room + Spot> {
     begun: Begun<B>,
 }
 
-/// The parts of a store that has begun: its vnodes, and a table for each worker, who has a pass.
+/// The parts of a store that has begun: its vnodes, a table for each worker, who has a pass, and how many copies of each key are wanted.
 #[derive(Drop)]
 struct Parts<B: Room + Spot> {
     vnodes: Vnodes<B>,
     tables: Vec<Table>,
+    copies: u32,
+    ghost some: { 0 < copies },
+    ghost few: { copies ≤ 3 },
 }
 
 /// Where the hooks of workers come from: who changes them, and a reader of them for each.
@@ -133,7 +140,7 @@ fn over_files<
     requires few { vec_len tables ≤ 16 }
     ensures told { Tells stay.entry.door result (O.contents out.old) (O.contents out.new) }
     ensures kept { Leaves stay.entry.folder making.first stay.entry.held.files.items result }
-    ensures served { LeavesServed Finds Names Takes (BeginOver Takes (record { first = making.first; vnodes = 3; passes = vec_len tables + 4 }) (map (λ t. t.listed) tables.items) (hooks_for stay.entry.folder stay.entry.held.hooks.items)) result }
+    ensures served { LeavesServed Finds Names Takes (BeginOver Takes (record { first = making.first; vnodes = 3; passes = vec_len tables + 4 }) making.copies (map (λ t. t.listed) tables.items) (hooks_for stay.entry.folder stay.entry.held.hooks.items)) result }
 {
     let size = Size {
         first: making.first,
@@ -175,11 +182,15 @@ fn over_stamps<
     requires card { undrawn.card.me ≡ (newcomer undrawn.stamps.table.shared.key, []) }
     ensures told { Tells stay.entry.door result (O.contents out.old) (O.contents out.new) }
     ensures kept { Leaves stay.entry.folder undrawn.making.first stay.entry.held.files.items result }
-    ensures served { LeavesServed Finds Names Takes (BeginOver Takes (record { first = undrawn.making.first; vnodes = 3; passes = vec_len tables + 4 }) (map (λ t. t.listed) tables.items) (hooks_for stay.entry.folder stay.entry.held.hooks.items)) result }
+    ensures served { LeavesServed Finds Names Takes (BeginOver Takes (record { first = undrawn.making.first; vnodes = 3; passes = vec_len tables + 4 }) undrawn.making.copies (map (λ t. t.listed) tables.items) (hooks_for stay.entry.folder stay.entry.held.hooks.items)) result }
 {
-    let seed = undrawn.making.seed;
+    let Making { seed, copies, .. } = undrawn.making;
     let vnodes = begin(host, undrawn, tables.len(), &stay)?;
-    let parts = Parts { vnodes, tables };
+    let parts = Parts {
+        vnodes,
+        tables,
+        copies,
+    };
     let opening = Opening::seeded(seed.build_hasher());
     over_cluster::<B, Brand, R, N, F, O>(host, parts, opening, stay, out)
 }
@@ -210,7 +221,7 @@ fn begin<B: Room + Spot + Send + Sync, R: Threads + Wait + Sync, N, F: Copy>(
         stamps,
         card,
     } = undrawn;
-    let Making { first, seed } = making;
+    let Making { first, seed, .. } = making;
     let vnodes = VNODES as usize;
     let size = Size {
         first,
@@ -286,7 +297,7 @@ fn over_cluster<
     requires numbers { parts.vnodes.begun.first + 3 ≤ 2 ^ 32 }
     ensures told { Tells stay.entry.door result (O.contents out.old) (O.contents out.new) }
     ensures kept { Leaves stay.entry.folder parts.vnodes.cluster.first stay.entry.held.files.items result }
-    ensures served { LeavesServed Finds Names Takes (BeginOver Takes parts.vnodes.cluster (map (λ t. t.listed) parts.tables.items) (hooks_for stay.entry.folder stay.entry.held.hooks.items)) result }
+    ensures served { LeavesServed Finds Names Takes (BeginOver Takes parts.vnodes.cluster parts.copies (map (λ t. t.listed) parts.tables.items) (hooks_for stay.entry.folder stay.entry.held.hooks.items)) result }
 {
     over_ground(host, parts, opening.named::<J>(host.alloc), stay, out)
 }
@@ -318,7 +329,7 @@ fn over_ground<
     requires numbers { parts.vnodes.begun.first + 3 ≤ 2 ^ 32 }
     ensures told { Tells stay.entry.door result (O.contents out.old) (O.contents out.new) }
     ensures kept { Leaves stay.entry.folder parts.vnodes.cluster.first stay.entry.held.files.items result }
-    ensures served { LeavesServed Finds Names Takes (BeginOver Takes parts.vnodes.cluster (map (λ t. t.listed) parts.tables.items) (hooks_for stay.entry.folder stay.entry.held.hooks.items)) result }
+    ensures served { LeavesServed Finds Names Takes (BeginOver Takes parts.vnodes.cluster parts.copies (map (λ t. t.listed) parts.tables.items) (hooks_for stay.entry.folder stay.entry.held.hooks.items)) result }
 {
     match open(host.alloc, host.rt, ground, parts.tables.len()) {
         Ok((installer, readers)) => {
@@ -360,16 +371,20 @@ fn over_hooks<
     requires numbers { parts.vnodes.begun.first + 3 ≤ 2 ^ 32 }
     ensures told { Tells stay.entry.door result (O.contents out.old) (O.contents out.new) }
     ensures kept { Leaves stay.entry.folder parts.vnodes.cluster.first stay.entry.held.files.items result }
-    ensures served { LeavesServed Finds Names Takes (BeginOver Takes parts.vnodes.cluster (map (λ t. t.listed) parts.tables.items) (hooks_for stay.entry.folder stay.entry.held.hooks.items)) result }
+    ensures served { LeavesServed Finds Names Takes (BeginOver Takes parts.vnodes.cluster parts.copies (map (λ t. t.listed) parts.tables.items) (hooks_for stay.entry.folder stay.entry.held.hooks.items)) result }
 {
-    let Parts { vnodes, tables } = parts;
+    let Parts {
+        vnodes,
+        tables,
+        copies,
+    } = parts;
     let Vnodes {
         cluster,
         passes,
         lookout,
         begun,
     } = vnodes;
-    let seats = seats_of(host.alloc, passes, tables, hooked)?;
+    let seats = seats_of(host.alloc, passes, tables, hooked, copies)?;
     let staffed = Staffed {
         cluster,
         seats,
@@ -380,20 +395,23 @@ fn over_hooks<
 }
 
 /// A seat for each pass, with a table and a reader of hooks of its own: the last of those that are left. Keys stand where their digests
-/// say, at three vnodes.
+/// say, at three vnodes, with so many copies.
 fn seats_of<'a, B: Room, J: Naming, T: Rack<J> + Drop, R: Wait + Drop>(
     alloc: Global,
     passes: Vec<Pass<B>>,
     mut tables: Vec<Table>,
     hooked: Hooked<'a, J, T, R>,
+    copies: u32,
 ) -> Result<Vec<Seat<B, WorkerHooks<'a, J, T, R>>>, AllocError>
+    requires some { 0 < copies }
+    requires few { copies ≤ 3 }
     requires each { vec_len passes ≡ vec_len tables }
     requires readers { vec_len hooked.readers ≡ vec_len tables }
     ensures count { IfOk result (λ seats. vec_len seats ≡ vec_len passes) }
     ensures passes { IfOk result (λ seats. map (λ s. s.pass) seats.items ≡ passes.items) }
     ensures tables { IfOk result (λ seats. map (λ s. s.hooking.table) seats.items ≡ reverse tables.items) }
     ensures readers { IfOk result (λ seats. map (λ s. s.hooking.hooks) seats.items ≡ reverse hooked.entry.readers.items) }
-    ensures placed { IfOk result (λ seats. AreAllPlaced (map (λ s. s.placement) seats.items)) }
+    ensures placed { IfOk result (λ seats. AreAllPlaced copies (map (λ s. s.placement) seats.items)) }
 {
     let Hooked {
         installer,
@@ -409,7 +427,7 @@ fn seats_of<'a, B: Room, J: Naming, T: Rack<J> + Drop, R: Wait + Drop>(
         seats.push_reserved(Seat {
             pass,
             hooking: Hooking::new(alloc, hooks, table),
-            placement: Placement::by_digest(VNODES),
+            placement: Placement::by_digest(VNODES, copies),
             place: tables.len(),
         });
     }

@@ -197,6 +197,7 @@ fn two_workers(rt: HostRuntime) -> Result<(), Fail> {
                 let making = Making {
                     first: FIRST,
                     seed: Seed::fixed(),
+                    copies: 3,
                 };
                 let stay = Stay {
                     folder: None::<SystemFolder<'_>>,

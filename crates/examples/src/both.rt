@@ -11,7 +11,7 @@ use bpf_interpreter::{State, Stop, drive, padded, run};
 use bpf_semantics::Windows;
 use bpf_verifier::Verified;
 use commands::files::Files;
-use commands::server::{ServesOnly, Serving, Unserved};
+use commands::server::{Post, ServesOnly, Serving, Unserved};
 use std::alloc::{AllocError, Global};
 use std::io;
 use std::io::Write;
@@ -82,8 +82,7 @@ impl Serving for Both<'_> {
         alloc: Global,
         table: Table,
         _more: Vec<Table>,
-        _addr: &str,
-        _count: Option<u32>,
+        _post: &Post<'_>,
         _out: &mut O,
     ) -> Result<Followed, Unserved> {
         match is_alike(alloc, &table, self.program, self.input) {

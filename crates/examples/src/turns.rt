@@ -9,7 +9,7 @@ use crate::folder::{Folder, read_ending};
 use audit_faults::{Followed, WatchFault};
 use bpf_helpers::Table;
 use commands::files::Files;
-use commands::server::{ServesOnly, Serving, Unserved};
+use commands::server::{Post, ServesOnly, Serving, Unserved};
 use http_connection::Backend;
 use http_connections::Client;
 use server_one_thread::{Arrival, Delivery, answer_all};
@@ -61,13 +61,12 @@ impl Serving for Play<'_> {
         alloc: Global,
         table: Table,
         more: Vec<Table>,
-        addr: &str,
-        _count: Option<u32>,
+        post: &Post<'_>,
         out: &mut O,
     ) -> Result<Followed, Unserved> {
         drop(more);
         let mut store = open(alloc, table)?;
-        self.answer(alloc, &mut store, addr, out)
+        self.answer(alloc, &mut store, post.addr, out)
     }
 }
 

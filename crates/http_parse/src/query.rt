@@ -9,6 +9,7 @@ ghost use Rattle.http_parse.specs.Words.{AreWords, WordsLeadTo};
 ghost use Rattle.http_parse.specs.Views.{quorums, FitsAsked};
 
 use crate::number::plain_number;
+use http_request::MAX_COPIES;
 use std::alloc::{AllocError, Global};
 use std::borrow::CowStr;
 
@@ -135,24 +136,26 @@ fn place_of(word: Option<&str>, copies: u32) -> Option<u32>
     }
 }
 
-// A number of copies, if there are as many.
+// A number of copies, if a store may have as many. One above those that there are counts as all.
 fn counted(number: Option<u32>, copies: u32) -> Option<u32>
+    requires some { 1 ≤ copies }
     ensures counted { result ≡ numbers.counted copies number }
     ensures fits { IfSome result (λ n. (1 ≤ n) × (n ≤ copies)) }
 {
     match number {
-        Some(n) if 1 <= n && n <= copies => Some(n),
+        Some(n) if 1 <= n && n <= MAX_COPIES => Some(n.min(copies)),
         _ => None,
     }
 }
 
-// An index of a preference list, if it has as many vnodes.
+// An index of a preference list, if that of a store may have as many vnodes. One past the last counts as that.
 fn placed(number: Option<u32>, copies: u32) -> Option<u32>
+    requires some { 1 ≤ copies }
     ensures placed { result ≡ numbers.placed copies number }
     ensures fits { IfSome result (λ n. n < copies) }
 {
     match number {
-        Some(n) if n < copies => Some(n),
+        Some(n) if n < MAX_COPIES => Some(n.min(copies - 1)),
         _ => None,
     }
 }

@@ -13,6 +13,10 @@ most_lines = 64
 abbrev pub longest_body : ℕ
 longest_body = 65536
 
+-- the most copies that a store has of a key
+abbrev pub most_copies : ℕ
+most_copies = 3
+
 -- the most bytes of a hook's name
 abbrev pub longest_hook_name : ℕ
 longest_hook_name = 64

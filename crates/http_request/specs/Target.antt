@@ -1,5 +1,5 @@
 -- The parts of a target: names in its path, and its query (RFC 3986; URL Standard, section 5).
-use Rattle.std.specs.Prelude.{ℕ, ◌+◌, ◌/◌, Bool, ◌&&◌, ◌||◌, not, ◌==◌, if◌then◌else◌, nat_lt, nat_le, bytes_eq, List, [], ◌∷◌, length, map, codes, slice_get, slice_index, Option, Some, None, unwrap_or}
+use Rattle.std.specs.Prelude.{ℕ, ◌+◌, ◌-◌, ◌/◌, min, Bool, ◌&&◌, ◌||◌, not, ◌==◌, if◌then◌else◌, nat_lt, nat_le, bytes_eq, List, [], ◌∷◌, length, map, codes, slice_get, slice_index, Option, Some, None, unwrap_or}
 use Rattle.std.specs.List.{slice_split, list_all}
 use Rattle.std.specs.Char.{is_ascii_alphanumeric}
 use Rattle.std.specs.Str.Parse.{digits_value}
@@ -7,7 +7,7 @@ use Rattle.std.specs.Str.Lossy.{utf8_lossy}
 use Rattle.http_uri.specs.Grammar.{without_fragment, path_of, query_of}
 use Rattle.percent_encoding.specs.Percent.{percent_decode}
 use Rattle.form_urlencoded.specs.Form.{raw_pairs, decode}
-use Rattle.http_request.specs.Limits.{longest_hook_name}
+use Rattle.http_request.specs.Limits.{longest_hook_name, most_copies}
 use Rattle.http_request.specs.Fields.{is_number}
 
 -- the path of a target, without its query
@@ -43,20 +43,20 @@ asked_for name (pair ∷ pairs) = if bytes_eq pair.0 name then Some pair.1 else 
 abbrev pub is_plain_number : List ℕ → Bool
 is_plain_number text = is_number text && ((length text == 1) || not (slice_index text 0 == 48))
 
--- how many of n copies are asked for: one, all, a majority where nothing or `quorum` or `default` stands, or a number of 1 to n
+-- how many of n copies are asked for: one, all, a majority where nothing or `quorum` or `default` stands, or a number of 1 to 3, of which one above n counts as all
 abbrev pub copies_of : ℕ → Option (List ℕ) → Option ℕ
 copies_of n None = Some (n / 2 + 1)
 copies_of n (Some text) =
     if bytes_eq text (codes "quorum") || bytes_eq text (codes "default") then Some (n / 2 + 1)
     else (if bytes_eq text (codes "one") then Some 1
     else (if bytes_eq text (codes "all") then Some n
-    else (if is_plain_number text && nat_le 1 (digits_value 10 text) && nat_le (digits_value 10 text) n then Some (digits_value 10 text)
+    else (if is_plain_number text && nat_le 1 (digits_value 10 text) && nat_le (digits_value 10 text) most_copies then Some (min (digits_value 10 text) n)
     else None)))
 
--- the coordinator's place in the preference list: the first where nothing stands
+-- the coordinator's place in the preference list: the first where nothing stands, or an index of 0 to 2, of which one past the last of n counts as the last
 abbrev pub place_of : ℕ → Option (List ℕ) → Option ℕ
 place_of n None = Some 0
-place_of n (Some text) = if is_plain_number text && nat_lt (digits_value 10 text) n then Some (digits_value 10 text) else None
+place_of n (Some text) = if is_plain_number text && nat_lt (digits_value 10 text) most_copies then Some (min (digits_value 10 text) (n - 1)) else None
 
 -- what a query asks of a key: the copies to read and to write, and the coordinator
 pub record Quorums : Type 0 where

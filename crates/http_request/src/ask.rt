@@ -23,8 +23,8 @@ pub enum Refusal {
     NoRoute,
     /// The route has no such method.
     Method,
-    /// The query's `r` or `w` is no number of copies from 1 to all, nor `one`, `quorum`, `all` or `default`; or its `at` is
-    /// no index of a preference list.
+    /// The query's `r` or `w` is no number of copies that a store may have, 1 to 3, nor `one`, `quorum`, `all` or `default`; or
+    /// its `at` is no index of so many, 0 to 2.
     Query,
     /// A bucket, a key in it or a hook's name is not within its limits.
     BadName,

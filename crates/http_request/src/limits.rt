@@ -9,5 +9,8 @@ pub const MAX_LINES: usize = 64;
 /// The most bytes of a body, which may have none.
 pub const MAX_BODY_BYTES: usize = 65_536;
 
+/// The most copies that a store has of a key. It has one at least.
+pub const MAX_COPIES: u32 = 3;
+
 /// The most bytes of a hook's name. It has one at least.
 pub const MAX_HOOK_NAME_BYTES: usize = 64;

@@ -3,3 +3,4 @@ mod Made
 mod Ending
 mod Held
 mod Asked
+mod Standing

@@ -1,3 +1,4 @@
 pub mod Files
 pub mod Numbers
 pub mod Snapshots
+pub mod Placed

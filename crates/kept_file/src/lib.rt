@@ -1,14 +1,16 @@
-//! What outlives a process of the store, but for files: the file of a vnode's records, the number of the next start, and
-//! the records of a vnode that serves, or serves no more.
+//! What outlives a process of the store, but for files: the file of a vnode's records, the number of the next start, what vnodes
+//! begin with of such files, and the records of a vnode that serves, or serves no more.
 #![tactic(auto)]
 
 mod file;
 mod halves;
 mod number;
+mod placing;
 mod snapshot;
 mod whole;
 
 pub use file::{KeptFile, Unkept, read_file};
 pub use number::{MAX_NUMBER, Spent, next_number};
+pub use placing::placed;
 pub use snapshot::{Pace, SnapshotFault, Subject, write_snapshot};
 pub use whole::write_whole;

@@ -2,3 +2,4 @@ mod Seals
 mod Reading
 mod Putting
 mod Storing
+mod Setting

@@ -15,6 +15,9 @@ pub(crate) const NUMBER_WORD: &str = "number ";
 /// What a line begins with that has the seconds from a snapshot to the next.
 pub(crate) const SNAPSHOT_WORD: &str = "snapshot ";
 
+/// What a line begins with that has the number of copies.
+pub(crate) const COPIES_WORD: &str = "copies ";
+
 /// The requests that install and bind hooks.
 pub const HOOKS: &str = "hooks.requests";
 

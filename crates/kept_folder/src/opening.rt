@@ -52,7 +52,11 @@ impl Held {
     {
         Held {
             last: None,
-            settings: Settings { every: 0, least: 0 },
+            settings: Settings {
+                every: 0,
+                least: 0,
+                copies: 1,
+            },
             hooks: Vec::new(alloc),
             files: Vec::new(alloc),
         }
@@ -85,7 +89,7 @@ pub enum OpenFault {
         name: &'static str,
     },
     /// What is set can't be read.
-    #[error("{SETTINGS}: not lines `snapshot SECONDS` and `number N`")]
+    #[error("{SETTINGS}: not lines `snapshot SECONDS`, `number N` and `copies 1` to `copies 3`")]
     Unset,
     /// There are records, and no number of the start that they are of.
     #[error("{INCARNATION}: missing")]
@@ -125,7 +129,8 @@ pub fn open<F: Folder + Sync, R: Threads + Sync>(
     ensures least { IfOk result (λ opened. (opened.number ≡ max minute opened.held.settings.least)
         ⊎ ((number : ℕ) × IsNamed opened.held.last opened.held.files.items number × (opened.number ≡ number + 1))) }
     ensures few { IfOk result (λ opened. opened.number ≤ 16777215) }
-    ensures settings { IfOk result (λ opened. (found : Option (List ℕ)) × F.finds folder.old (codes "settings") found × IsSetBy found opened.held.settings.every opened.held.settings.least) }
+    ensures settings { IfOk result (λ opened. (found : Option (List ℕ)) × F.finds folder.old (codes "settings") found × IsSetBy found opened.held.settings) }
+    ensures copies { IfOk result (λ opened. (0 < opened.held.settings.copies) × (opened.held.settings.copies ≤ 3)) }
     ensures hooks { IfOk result (λ opened. IsHeldIn (F.finds folder.old) (codes "hooks.requests") opened.held.hooks.items) }
     ensures read { IfOk result (λ opened. (index : ℕ) → index < 3 → IsReadAt (F.finds folder.old) opened.held.files.items index) }
     ensures put { IfOk result (λ opened. IsPut F.does folder.old (codes "incarnation") (sealed (number_text opened.number)) folder.new) }
@@ -184,7 +189,7 @@ fn read_all<F: Folder + Sync, R: Threads + Sync>(
     folder: &F,
 ) -> Result<Held, OpenFault>
     ensures read { IfOk result (λ held. (index : ℕ) → index < 3 → IsReadAt (F.finds folder.now) held.files.items index) }
-    ensures settings { IfOk result (λ held. (found : Option (List ℕ)) × F.finds folder.now (codes "settings") found × IsSetBy found held.settings.every held.settings.least) }
+    ensures settings { IfOk result (λ held. (found : Option (List ℕ)) × F.finds folder.now (codes "settings") found × IsSetBy found held.settings) }
     ensures last { IfOk result (λ held. (found : Option (List ℕ)) × F.finds folder.now (codes "incarnation") found × IsLastIn found held.last) }
     ensures hooks { IfOk result (λ held. IsHeldIn (F.finds folder.now) (codes "hooks.requests") held.hooks.items) }
 {
@@ -205,7 +210,7 @@ fn read_all<F: Folder + Sync, R: Threads + Sync>(
 
 /// What is set.
 fn settings_of<F: Folder>(alloc: Global, folder: &F) -> Result<Settings, OpenFault>
-    ensures { IfOk result (λ settings. (found : Option (List ℕ)) × F.finds folder.now (codes "settings") found × IsSetBy found settings.every settings.least) }
+    ensures { IfOk result (λ settings. (found : Option (List ℕ)) × F.finds folder.now (codes "settings") found × IsSetBy found settings) }
 {
     let Some(bytes) = bytes_of(alloc, folder, SETTINGS)? else {
         return Ok(USUAL);

@@ -1,12 +1,15 @@
 //! What who runs a store has written into its folder.
 
-ghost use Rattle.std.specs.Prelude.{◌≡◌, ◌≤◌, ◌++◌, IfOk, IfSome, Some, length};
-ghost use Rattle.kept_folder.specs.Settings.{IsSetBy, text_of};
+ghost use Rattle.std.specs.Prelude.{◌≡◌, ◌≤◌, ◌<◌, ◌++◌, ◌∷◌, List, [], IfOk, IfSome, IsTrue, None, Some, length, unwrap_or};
+ghost use Rattle.std.specs.List.{flat_map};
+ghost use Rattle.kept_folder.specs.declared.settings.Line.{Line as OneLine};
+ghost use Rattle.kept_folder.specs.Settings.{AreLines, IsSetBy, MayStand, copies_in, every_in, least_in, text_of};
 
 use crate::limits::SNAPSHOT_INTERVAL_S;
 use crate::lines::number_in;
-use crate::names::{NUMBER_WORD, SNAPSHOT_WORD};
+use crate::names::{COPIES_WORD, NUMBER_WORD, SNAPSHOT_WORD};
 use kept_file::MAX_NUMBER;
+use ring::MAX_COPIES;
 use std::alloc::{AllocError, Global};
 
 /// What is set of a store that is kept.
@@ -16,12 +19,15 @@ pub struct Settings {
     pub every: u32,
     /// A start's number is no less than this, which is at most 16,777,215.
     pub least: u32,
+    /// So many copies of each key are wanted, 1 to 3.
+    pub copies: u32,
 }
 
 /// What is set where nothing is written.
 pub(crate) const USUAL: Settings = Settings {
     every: SNAPSHOT_INTERVAL_S,
     least: 0,
+    copies: 1,
 };
 
 /// A line of what is set.
@@ -31,28 +37,59 @@ pub(crate) enum Line {
     Snapshot(u32),
     /// The least number of a start.
     Number(u32),
+    /// How many copies of each key are wanted.
+    Copies(u32),
 }
 
-/// The settings that bytes are, if they are some: a line, or two of different kinds.
+/// What lines say: those of a kind once at most.
+#[derive(Clone, Copy)]
+struct Written {
+    every: Option<u32>,
+    least: Option<u32>,
+    copies: Option<u32>,
+}
+
+/// The settings that bytes are, if they are some: a line or more, each of another kind.
 pub(crate) fn settings_in(alloc: Global, bytes: &[u8]) -> Result<Option<Settings>, AllocError>
-    ensures { IfOk result (λ found. IfSome found (λ settings. IsSetBy (Some bytes.now) settings.every settings.least)) }
+    ensures { IfOk result (λ found. IfSome found (λ settings. IsSetBy (Some bytes.now) settings)) }
 {
-    let (front, rest) = bytes.split_at(line_end(bytes));
-    let Some(first) = line_in(alloc, front)? else {
+    if bytes.is_empty() {
         return Ok(None);
-    };
-    if rest.is_empty() {
-        return Ok(Some(set_by(first)));
     }
-    let Some(second) = line_in(alloc, rest)? else {
-        return Ok(None);
+    match written_in(alloc, bytes)? {
+        Some(written) => Ok(Some(written.settings())),
+        None => Ok(None),
+    }
+}
+
+/// What the lines say that bytes are, if they are lines of different kinds.
+fn written_in(alloc: Global, bytes: &[u8]) -> Result<Option<Written>, AllocError>
+    ensures { IfOk result (λ found. IfSome found (λ written. (lines : List OneLine) × (bytes.now ≡ flat_map text_of lines) × AreLines lines
+        × (written.every ≡ every_in lines) × (written.least ≡ least_in lines) × (written.copies ≡ copies_in lines))) }
+{
+    let mut written = Written {
+        every: None,
+        least: None,
+        copies: None,
     };
-    Ok(set_by_both(first, second))
+    let mut left = bytes;
+    while !left.is_empty() {
+        let (front, rest) = left.split_at(line_end(left));
+        let Some(line) = line_in(alloc, front)? else {
+            return Ok(None);
+        };
+        if !written.add(line) {
+            return Ok(None);
+        }
+        left = rest;
+    }
+    Ok(Some(written))
 }
 
 /// Where the first line of bytes ends; the end where no line does.
 fn line_end(bytes: &[u8]) -> usize
-    ensures { result ≤ length bytes.now }
+    ensures inside { result ≤ length bytes.now }
+    ensures some { 0 < length bytes.now → 0 < result }
 {
     for (place, byte) in bytes.iter().enumerate() {
         if *byte == b'\n' {
@@ -64,10 +101,14 @@ fn line_end(bytes: &[u8]) -> usize
 
 /// The line that bytes are, if they are one.
 fn line_in(alloc: Global, bytes: &[u8]) -> Result<Option<Line>, AllocError>
-    ensures { IfOk result (λ found. IfSome found (λ line. bytes.now ≡ text_of line)) }
+    ensures line { IfOk result (λ found. IfSome found (λ line. bytes.now ≡ text_of line)) }
+    ensures right { IfOk result (λ found. IfSome found (λ line. MayStand line [])) }
 {
     if let Some(every) = number_in(alloc, SNAPSHOT_WORD, bytes)? {
         return Ok(Some(Line::Snapshot(every)));
+    }
+    if let Some(copies) = number_in(alloc, COPIES_WORD, bytes)? {
+        return Ok(copies_line(copies));
     }
     match number_in(alloc, NUMBER_WORD, bytes)? {
         Some(least) if least <= MAX_NUMBER => Ok(Some(Line::Number(least))),
@@ -75,23 +116,51 @@ fn line_in(alloc: Global, bytes: &[u8]) -> Result<Option<Line>, AllocError>
     }
 }
 
-/// What is set by one line.
-fn set_by(line: Line) -> Settings
-    ensures { IsSetBy (Some (text_of line)) result.every result.least }
+/// The line that asks for so many copies, if there may be as many.
+fn copies_line(copies: u32) -> Option<Line>
+    ensures { IfSome result (λ line. (text_of line ≡ text_of (Line.Copies copies)) × MayStand line []) }
 {
-    match line {
-        Line::Snapshot(every) => Settings { every, ..USUAL },
-        Line::Number(least) => Settings { least, ..USUAL },
+    if 0 < copies && copies <= MAX_COPIES {
+        Some(Line::Copies(copies))
+    } else {
+        None
     }
 }
 
-/// What is set by two lines, one of each kind.
-fn set_by_both(first: Line, second: Line) -> Option<Settings>
-    ensures { IfSome result (λ settings. IsSetBy (Some (text_of first ++ text_of second)) settings.every settings.least) }
-{
-    match (first, second) {
-        (Line::Snapshot(every), Line::Number(least))
-        | (Line::Number(least), Line::Snapshot(every)) => Some(Settings { every, least }),
-        _ => None,
+impl Written {
+    /// Adds what a line says. Whether it is the first of its kind; else nothing is to be done with what is written.
+    fn add(&mut self, line: Line) -> bool
+        ensures { (lines : List OneLine) → MayStand line [] → self.old.every ≡ every_in lines → self.old.least ≡ least_in lines → self.old.copies ≡ copies_in lines → AreLines lines → IsTrue result
+            → AreLines (lines ++ line ∷ []) × (self.new.every ≡ every_in (lines ++ line ∷ [])) × (self.new.least ≡ least_in (lines ++ line ∷ [])) × (self.new.copies ≡ copies_in (lines ++ line ∷ [])) }
+    {
+        match line {
+            Line::Snapshot(every) => is_first(&mut self.every, every),
+            Line::Number(least) => is_first(&mut self.least, least),
+            Line::Copies(copies) => is_first(&mut self.copies, copies),
+        }
     }
+
+    /// What is set, with the usual where nothing is written.
+    fn settings(self) -> Settings
+        ensures every { result.every ≡ unwrap_or self.every 60 }
+        ensures least { result.least ≡ unwrap_or self.least 0 }
+        ensures copies { result.copies ≡ unwrap_or self.copies 1 }
+    {
+        Settings {
+            every: self.every.unwrap_or(USUAL.every),
+            least: self.least.unwrap_or(USUAL.least),
+            copies: self.copies.unwrap_or(USUAL.copies),
+        }
+    }
+}
+
+/// Has a number stand where none does yet.
+fn is_first(known: &mut Option<u32>, number: u32) -> bool
+    ensures { IsTrue result → (known.old ≡ None) × (known.new ≡ Some number) }
+{
+    if known.is_some() {
+        return false;
+    }
+    *known = Some(number);
+    true
 }

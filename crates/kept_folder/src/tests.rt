@@ -120,15 +120,23 @@ fn last_numbers_are_read(rt: HostRuntime) -> Result<(), Fail> {
     Ok(())
 }
 
-/// What may stand in `settings`, the seconds that it sets, and the number that a start takes by it.
-const SET: [(&[u8], Option<(u32, u32)>); 18] = [
-    (b"snapshot 60\n", Some((60, MINUTE))),
-    (b"snapshot 0\n", Some((0, MINUTE))),
-    (b"snapshot 4294967295\n", Some((4_294_967_295, MINUTE))),
-    (b"number 0\n", Some((60, MINUTE))),
-    (b"number 16777215\n", Some((60, 16_777_215))),
-    (b"number 9\nsnapshot 5\n", Some((5, 9))),
-    (b"snapshot 5\nnumber 9\n", Some((5, 9))),
+/// What may stand in `settings`, the seconds that it sets, the number that a start takes by it, and the copies that it asks for.
+const SET: [(&[u8], Option<(u32, u32, u32)>); 26] = [
+    (b"snapshot 60\n", Some((60, MINUTE, 1))),
+    (b"snapshot 0\n", Some((0, MINUTE, 1))),
+    (b"snapshot 4294967295\n", Some((4_294_967_295, MINUTE, 1))),
+    (b"number 0\n", Some((60, MINUTE, 1))),
+    (b"number 16777215\n", Some((60, 16_777_215, 1))),
+    (b"number 9\nsnapshot 5\n", Some((5, 9, 1))),
+    (b"snapshot 5\nnumber 9\n", Some((5, 9, 1))),
+    (b"copies 1\n", Some((60, MINUTE, 1))),
+    (b"copies 3\n", Some((60, MINUTE, 3))),
+    (b"number 9\ncopies 2\nsnapshot 5\n", Some((5, 9, 2))),
+    (b"snapshot 5\nnumber 9\ncopies 3\n", Some((5, 9, 3))),
+    (b"copies 0\n", None),
+    (b"copies 4\n", None),
+    (b"copies 2\nnumber 9\ncopies 2\n", None),
+    (b"copies 2\n\nnumber 9\n", None),
     (b"number 16777216\n", None),
     (b"snapshot 5\nsnapshot 5\n", None),
     (b"number 9\nsnapshot 5\nnumber 9\n", None),
@@ -142,16 +150,20 @@ const SET: [(&[u8], Option<(u32, u32)>); 18] = [
     (b"", None),
 ];
 
-/// The seconds that a start reads, and the number that it takes, if it isn't refused.
-fn set<R: Threads + Sync>(rt: &R, alloc: Global, folder: &mut Memory) -> Option<(u32, u32)> {
+/// The seconds that a start reads, the number that it takes, and the copies that are wanted, if it isn't refused.
+fn set<R: Threads + Sync>(rt: &R, alloc: Global, folder: &mut Memory) -> Option<(u32, u32, u32)> {
     let opened = begin(rt, alloc, folder, MINUTE)?;
-    Some((opened.held.settings.every, opened.number))
+    let settings = opened.held.settings;
+    Some((settings.every, opened.number, settings.copies))
 }
 
 #[test]
 fn settings_are_lines(rt: HostRuntime) -> Result<(), Fail> {
     let mut folder = Memory::new(rt.alloc(), MANY);
-    expect(set(&rt, rt.alloc(), &mut folder) == Some((60, MINUTE)), 0)?;
+    expect(
+        set(&rt, rt.alloc(), &mut folder) == Some((60, MINUTE, 1)),
+        0,
+    )?;
     for (place, (bytes, is_set)) in SET.iter().enumerate() {
         let place = place as u64;
         let mut folder = Memory::new(rt.alloc(), MANY);

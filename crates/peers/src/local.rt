@@ -8,7 +8,7 @@ ghost use Rattle.peers.specs.Locals.{Does, KeysIn, MergesPartIn, fresh, counted}
 use crate::{Answer, PartAnswer, PeerFault, Peers, SummaryAnswer};
 use dvv::{Clock, Dot};
 use key_state::{Content, Key, KeyState, Part};
-use ring::Placement;
+use ring::{MAX_COPIES, Placement};
 use std::alloc::{AllocError, Global};
 use std::marker::Model;
 use vnode::{PartFault, Vnode, VnodeFault};
@@ -105,16 +105,16 @@ impl Local {
         &self.vnodes
     }
 
-    /// Where keys stand among the vnodes.
+    /// Where keys stand among the vnodes, with as many copies of each as can be had.
     pub fn placement(&self) -> Placement
         requires some { 0 < length self.now.logs }
         requires few { length self.now.logs < 2 ^ 32 }
-        ensures { result ≡ record { vnodes = length self.now.logs; first = self.now.first } }
+        ensures { result ≡ record { vnodes = length self.now.logs; copies = 3; first = self.now.first } }
     {
         let vnodes = self.vnodes.len() as u32;
         match self.first {
-            Some(first) => Placement::at_one(vnodes, first),
-            None => Placement::by_digest(vnodes),
+            Some(first) => Placement::at_one(vnodes, first, MAX_COPIES),
+            None => Placement::by_digest(vnodes, MAX_COPIES),
         }
     }
 

@@ -1,14 +1,16 @@
 -- One vnode more of a put's ways.
 use Rattle.std.proofs.Common.{◌≡◌, ℕ, ◌+◌, ◌<◌, List, [], ◌∷◌, ◌++◌, length, get_or, refl, ap, sym, subst, arith, Result, Ok, Err, count_by, is_ok, cond, Bool, true, false, MatchBool}
+use Rattle.std.specs.Prelude.{nat_le, if◌then◌else◌}
 use Rattle.std.proofs.lemmas.List.Sums.{sum_by-append}
 use Rattle.dvv.specs.declared.Dot.{Dot}
 use Rattle.quorum.specs.declared.fault.QuorumFault.{QuorumFault}
+use Rattle.quorum.specs.declared.fault.QuorumFault.TheVariants.{TooFew}
 use Rattle.key_state.specs.declared.content.Content.{Content}
 use Rattle.key_state.specs.declared.content.Key.{Key}
 use Rattle.peers.specs.declared.peers.Answer.{Answer}
 use Rattle.peers.specs.declared.fault.PeerFault.{PeerFault}
 use Rattle.peers.specs.Calls.{Call, MergeAt, StateOf, Made}
-use Rattle.quorum.specs.Puts.{Brought, PassedOver, Merged, gathers, merges, copies, is_ahead, TriesAgain, AfterPut, AfterFirst}
+use Rattle.quorum.specs.Puts.{Brought, PassedOver, Merged, gathers, merges, copies, is_ahead, TriesAgain, AfterRead, AfterStored, AfterPut, AfterFirst}
 use Rattle.peers.proofs.CallLemmas.{made_end, made_append}
 
 merges_end : (key : Key) (answer : Answer) (vnodes : List ℕ) (backs : List (Result Bool PeerFault)) (back : Result Bool PeerFault) → length backs < length vnodes
@@ -66,6 +68,19 @@ copies_end backs back = at_end back (count_by is_ok (backs ++ back ∷ [])) (cou
     at_end : (back : Result Bool PeerFault) (m n : ℕ) → m ≡ n + count_by is_ok (back ∷ []) → 1 + m ≡ cond (is_ok back) ((1 + n) + 1) (1 + n)
     at_end (Ok x) m n h = omega arith
     at_end (Err e) m n h = omega arith
+
+-- a put whose copy is the only one
+pub alone : (coordinator : ℕ) (others : List ℕ) (key : Key) (w : ℕ) (dot : Dot) (result : Result Dot QuorumFault) → length others ≡ 0
+    → result ≡ (if nat_le w 1 then Ok dot else Err TooFew) → AfterStored coordinator others key w dot [] result
+alone coordinator [] key w dot result none is = (refl, is)
+alone coordinator (i ∷ others) key w dot result none is = absurd (omega arith)
+
+-- a put that goes to others
+pub not_alone : (coordinator : ℕ) (others : List ℕ) (key : Key) (w : ℕ) (dot : Dot) (calls : List Call) (result : Result Dot QuorumFault) → 0 < length others
+    → ((own : Result Answer PeerFault) × (rest : List Call) × (calls ≡ StateOf coordinator key own ∷ rest) × AfterRead coordinator others key w dot own rest result)
+    → AfterStored coordinator others key w dot calls result
+not_alone coordinator [] key w dot calls result some h = absurd (omega arith)
+not_alone coordinator (i ∷ others) key w dot calls result some h = h
 
 -- the calls that follow one, with it in front
 pub one_first : {S : Type 0} (happens : S → Call → S → Type 0) (start mid new : S) (call : Call) (calls : List Call) → happens start call mid → Made happens mid calls new → Made happens start (call ∷ calls) new

@@ -13,7 +13,7 @@ use Rattle.peers.specs.declared.fault.PeerFault.{PeerFault}
 use Rattle.peers.specs.Calls.{Call, PutAt, StateOf, Made}
 use Rattle.peers.specs.Counts.{has_failed, Counts, HasRisen}
 use Rattle.quorum.specs.Gets.{reads, answers}
-use Rattle.quorum.specs.Puts.{merges, copies, AfterRead, AfterPut, AfterFirst, IsPut}
+use Rattle.quorum.specs.Puts.{merges, copies, AfterStored, AfterPut, AfterFirst, IsPut}
 
 rises : (failed : Bool) (old new : ℕ) → new ≡ cond failed (min (old + 1) (2 ^ 64 - 1)) old → failed ≡ true → HasRisen old new
 rises false old new h f = cc
@@ -65,14 +65,17 @@ chose_few w stored dot h = by_test (nat_le w stored) refl h
     by_test true e h = cc
     by_test false e h = grind (arith, nat_tests)
 
+stored_failed : (coordinator : ℕ) (others : List ℕ) (key : Key) (w : ℕ) → w ≤ 1 + length others → (dot : Dot) (calls : List Call) → AfterStored coordinator others key w dot calls (Err TooFew) → list_any has_failed calls ≡ true
+stored_failed coordinator [] key w enough dot calls (none, few) = let lt = chose_few w 1 dot few in absurd (omega (arith, lt, enough))
+stored_failed coordinator (i ∷ others) key w enough dot calls (Err fault, rest, is, after) = ap (list_any has_failed) is
+stored_failed coordinator (i ∷ others) key w enough dot calls (Ok answer, rest, is, (backs, len, are, few)) =
+    let lt = chose_few w (copies backs) dot few in
+    ap (list_any has_failed) is ∙ ap (list_any has_failed) are ∙ merges_failed key answer (i ∷ others) backs len (omega arith)
+
 module _ (coordinator : ℕ) (others : List ℕ) (key : Key) (w : ℕ) (enough : w ≤ 1 + length others) where
   after_put_failed : (back : Result Dot PeerFault) (call : Call) (calls : List Call) → has_failed call ≡ is_err back → AfterPut coordinator others key w back calls (Err TooFew) → list_any has_failed (call ∷ calls) ≡ true
   after_put_failed (Err fault) call calls e h = ap (λ b. b || list_any has_failed calls) e
-  after_put_failed (Ok dot) call calls e (own, rest, is, after) = ap (λ b. b || list_any has_failed calls) e ∙ ap (list_any has_failed) is ∙ own_failed own rest after
-    where
-      own_failed : (own : Result Answer PeerFault) (rest : List Call) → AfterRead coordinator others key w dot own rest (Err TooFew) → list_any has_failed (StateOf coordinator key own ∷ rest) ≡ true
-      own_failed (Err fault) rest h = refl
-      own_failed (Ok answer) rest (backs, len, is, few) = let lt = chose_few w (copies backs) dot few in ap (list_any has_failed) is ∙ merges_failed key answer others backs len (omega arith)
+  after_put_failed (Ok dot) call calls e h = ap (λ b. b || list_any has_failed calls) e ∙ stored_failed coordinator others key w enough dot calls h
 
   pub few_put : (seen : List Dot) (content : Content) (calls : List Call) → IsPut coordinator others key w seen content calls (Err TooFew) → list_any has_failed calls ≡ true
   few_put seen content calls (first, rest, is, after) = ap (list_any has_failed) is ∙ by_first first after

@@ -12,7 +12,7 @@ use Rattle.peers.specs.declared.fault.PeerFault.{PeerFault}
 use Rattle.peers.specs.Calls.{Call, PutAt, StateOf, Made}
 use Rattle.quorum.specs.declared.fault.QuorumFault.{QuorumFault}
 use Rattle.quorum.specs.declared.fault.QuorumFault.TheVariants.{TooFew}
-use Rattle.quorum.specs.Puts.{gathers, merges, copies, is_ahead, AfterRead, AfterPut, TriesAgain, IsPut, StoresCopies}
+use Rattle.quorum.specs.Puts.{gathers, copies, is_ahead, AfterStored, AfterPut, HasSpread, TriesAgain, IsPut, StoresCopies}
 use Rattle.quorum.specs.Judged.{AfterSiblings, IsJudgedPut}
 
 chose_enough : (w stored : ℕ) (put dot : Dot) → ◌≡◌ {A = Result Dot QuorumFault} (Ok dot) (cond (nat_le w stored) (Ok put) (Err TooFew)) → (put ≡ dot) × (w ≤ stored)
@@ -22,27 +22,27 @@ chose_enough w stored put dot h = by_test (nat_le w stored) refl h
     by_test true e h = (cc, grind (arith, nat_tests))
     by_test false e h = absurd cc
 
+has_spread : (coordinator : ℕ) (others : List ℕ) (key : Key) (w : ℕ) (put dot : Dot) (calls : List Call) → AfterStored coordinator others key w put calls (Ok dot)
+    → (put ≡ dot) × HasSpread coordinator others key w calls
+has_spread coordinator [] key w put dot calls (none, told) = let enough = chose_enough w 1 put dot told in (enough.0, (none, enough.1))
+has_spread coordinator (i ∷ others) key w put dot calls (Err fault, rest, is, (none, told)) = absurd cc
+has_spread coordinator (i ∷ others) key w put dot calls (Ok answer, rest, is, (backs, len, are, told)) =
+    let enough = chose_enough w (copies backs) put dot told in
+    (enough.0, (answer, backs, is ∙ ap (λ (l : List Call). StateOf coordinator key (Ok answer) ∷ l) are, len, enough.1))
+
 module _ (coordinator : ℕ) (others : List ℕ) (key : Key) (w : ℕ) (seen : List Dot) where
   after_put : (content : Content) (before : List Call) (back : Result Dot PeerFault) (calls : List Call) (dot : Dot) → AfterPut coordinator others key w back calls (Ok dot)
       → StoresCopies coordinator others key w seen dot (before ++ PutAt coordinator key seen content back ∷ calls)
   after_put content before (Err fault) calls dot (none, told) = absurd cc
-  after_put content before (Ok put) calls dot (own, rest, is, after) = by_read own rest is after
-    where
-      by_read : (own : Result Answer PeerFault) (rest : List Call) → calls ≡ StateOf coordinator key own ∷ rest → AfterRead coordinator others key w put own rest (Ok dot)
-          → StoresCopies coordinator others key w seen dot (before ++ PutAt coordinator key seen content (Ok put) ∷ calls)
-      by_read (Err fault) rest is (none, told) = absurd cc
-      by_read (Ok answer) rest is (backs, len, are, told) =
-          let enough = chose_enough w (copies backs) put dot told in
-          record {
-            before = before;
-            content = content;
-            own = answer;
-            backs = backs;
-            parts = ap (λ (l : List Call). before ++ PutAt coordinator key seen content (Ok put) ∷ l) (is ∙ ap (λ (l : List Call). StateOf coordinator key (Ok answer) ∷ l) are)
-                ∙ ap (λ (d : Dot). before ++ PutAt coordinator key seen content (Ok d) ∷ StateOf coordinator key (Ok answer) ∷ merges key answer others backs) enough.0;
-            each = len;
-            enough = enough.1;
-          }
+  after_put content before (Ok put) calls dot h =
+      let spread = has_spread coordinator others key w put dot calls h in
+      record {
+        before = before;
+        content = content;
+        behind = calls;
+        parts = ap (λ (d : Dot). before ++ PutAt coordinator key seen content (Ok d) ∷ calls) spread.0;
+        spread = spread.1;
+      }
 
   after_first : (content : Content) (first : Result Dot PeerFault) (rest : List Call) (dot : Dot) (ahead : Bool)
       → MatchBool ahead (TriesAgain coordinator others key w seen content rest (Ok dot)) (AfterPut coordinator others key w first rest (Ok dot))
@@ -59,11 +59,9 @@ module _ (coordinator : ℕ) (others : List ℕ) (key : Key) (w : ℕ) (seen : L
   one_before call calls dot h = record {
     before = call ∷ h.before;
     content = h.content;
-    own = h.own;
-    backs = h.backs;
+    behind = h.behind;
     parts = ap (λ (l : List Call). call ∷ l) h.parts;
-    each = h.each;
-    enough = h.enough;
+    spread = h.spread;
   }
 
   module _ (listed : List Entry) (content : Content) where

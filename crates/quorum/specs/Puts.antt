@@ -51,9 +51,15 @@ module _ (coordinator : ℕ) (others : List ℕ) (key : Key) (w : ℕ) where
   AfterRead dot (Ok answer) calls result = (backs : List (Result Bool PeerFault)) × (length backs ≡ length others) × (calls ≡ merges key answer others backs) × (result ≡ (if nat_le w (copies backs) then Ok dot else Err TooFew))
   AfterRead dot (Err fault) calls result = (calls ≡ []) × (result ≡ Err (fault_of fault))
 
+-- what follows the put that a coordinator took: it reads its own state for the other vnodes, and where there is none its copy is the only one, and no call follows
+abbrev pub AfterStored : ℕ → List ℕ → Key → ℕ → Dot → List Call → Result Dot QuorumFault → Type 0
+AfterStored coordinator [] key w dot calls result = (calls ≡ []) × (result ≡ (if nat_le w 1 then Ok dot else Err TooFew))
+AfterStored coordinator (i ∷ others) key w dot calls result = (own : Result Answer PeerFault) × (rest : List Call) × (calls ≡ StateOf coordinator key own ∷ rest) × AfterRead coordinator (i ∷ others) key w dot own rest result
+
+module _ (coordinator : ℕ) (others : List ℕ) (key : Key) (w : ℕ) where
   -- what follows the coordinator's last put
   abbrev pub AfterPut : Result Dot PeerFault → List Call → Result Dot QuorumFault → Type 0
-  AfterPut (Ok dot) calls result = (own : Result Answer PeerFault) × (rest : List Call) × (calls ≡ StateOf coordinator key own ∷ rest) × AfterRead dot own rest result
+  AfterPut (Ok dot) calls result = AfterStored coordinator others key w dot calls result
   AfterPut (Err fault) calls result = (calls ≡ []) × (result ≡ Err (fault_of fault))
 
   module _ (seen : List Dot) (content : Content) where
@@ -70,13 +76,17 @@ module _ (coordinator : ℕ) (others : List ℕ) (key : Key) (w : ℕ) where
     abbrev pub IsPut : List Call → Result Dot QuorumFault → Type 0
     IsPut calls result = (first : Result Dot PeerFault) × (rest : List Call) × (calls ≡ PutAt coordinator key seen content first ∷ rest) × AfterFirst first rest result
 
--- the last calls of a put that went through: the coordinator stored it under this dot and answered its own state, which was then
--- merged into each other vnode; with the coordinator, at least w vnodes answered that they have a copy
+-- the calls behind the put that a coordinator took, where at least w vnodes answered that they have a copy, with the coordinator: it answered its own state, which
+-- was then merged into each other vnode; where there is none no call is made
+abbrev pub HasSpread : ℕ → List ℕ → Key → ℕ → List Call → Type 0
+HasSpread coordinator [] key w calls = (calls ≡ []) × (w ≤ 1)
+HasSpread coordinator (i ∷ others) key w calls = (own : Answer) × (backs : List (Result Bool PeerFault)) × (calls ≡ StateOf coordinator key (Ok own) ∷ merges key own (i ∷ others) backs)
+    × (length backs ≡ length (i ∷ others)) × (w ≤ copies backs)
+
+-- the last calls of a put that went through: the coordinator stored it under this dot, and it went to the other vnodes
 pub record StoresCopies (coordinator : ℕ) (others : List ℕ) (key : Key) (w : ℕ) (seen : List Dot) (dot : Dot) (calls : List Call) : Type 0 where
   pub before : List Call
   pub content : Content
-  pub own : Answer
-  pub backs : List (Result Bool PeerFault)
-  pub parts : calls ≡ before ++ PutAt coordinator key seen content (Ok dot) ∷ StateOf coordinator key (Ok own) ∷ merges key own others backs
-  pub each : length backs ≡ length others
-  pub enough : w ≤ copies backs
+  pub behind : List Call
+  pub parts : calls ≡ before ++ PutAt coordinator key seen content (Ok dot) ∷ behind
+  pub spread : HasSpread coordinator others key w behind

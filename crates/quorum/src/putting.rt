@@ -40,7 +40,7 @@ pub struct PutRequest<'a> {
 }
 
 /// Puts a content at the coordinator, as one who had seen what the request's clock counts, and brings its state to the other vnodes
-/// of the list. Where the context is ahead of the coordinator, the others' states are brought to it and the put is tried
+/// of the list; where there are none the put is the only call. Where the context is ahead of the coordinator, the others' states are brought to it and the put is tried
 /// once more. An Ok means that at least w vnodes answered that they have a copy, the coordinator among them. The coordinator
 /// and the others are different vnodes.
 ///
@@ -177,11 +177,14 @@ fn spread<P: Peers>(peers: &mut P, key: &Key, answer: &Answer, vnodes: &[usize])
     stored
 }
 
-// After the coordinator stored it: its state goes to the others.
+// After the coordinator stored it: its state goes to the others, if there are any.
 fn replicate<P: Peers>(peers: &mut P, request: PutRequest<'_>, dot: Dot) -> Result<Dot, QuorumFault>
     requires { length request.others.now < 2 ^ 32 }
     ensures { (calls : List Call) × Made P.happens peers.old calls peers.new × AfterPut request.entry.coordinator request.entry.others.now request.entry.key.now request.entry.w (Ok dot) calls result }
 {
+    if request.others.is_empty() {
+        return enough(request.w, 1, dot);
+    }
     match peers.state_of(request.coordinator, request.key) {
         Ok(answer) => enough(
             request.w,

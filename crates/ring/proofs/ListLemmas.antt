@@ -1,10 +1,10 @@
 -- The vnodes of a preference list differ.
-use Rattle.std.proofs.Common.{◌≡◌, ◌≢◌, ◌==◌, ℕ, zero, suc, ◌+◌, ◌-◌, ◌%◌, ◌<◌, ◌≤◌, ◌⊎◌, inl, inr, Bool, true, false, not, nat_lt, arith, refl, sym, ◌∙◌, ap, List, [], ◌∷◌, filter, get_or, length, map, min, take}
+use Rattle.std.proofs.Common.{◌≡◌, ◌≢◌, ◌==◌, ℕ, zero, suc, ◌+◌, ◌-◌, ◌%◌, ◌<◌, ◌≤◌, ◌⊎◌, inl, inr, Bool, true, false, not, nat_lt, arith, refl, sym, ◌∙◌, ap, List, [], ◌∷◌, filter, get_or, length, map, take}
 use Rattle.std.specs.List.{AllByRecursion, range_with_len}
 use Rattle.std.proofs.Math.Nat.{mod-eq_of_lt, add-mod_right}
 use Rattle.std.proofs.lemmas.Bool.Decides.{nat_tests}
 use Rattle.std.proofs.lemmas.List.FromFn.{take-map-range_with_len}
-use Rattle.ring.specs.Places.{AreDifferent, copies_of, vnode_at, preferred}
+use Rattle.ring.specs.Places.{AreDifferent, PlacementView, copies_in, vnode_at, preferred}
 
 -- below twice another, the rest is the number or the other less
 wraps : (x n : ℕ) → x < n + n → ((x < n) × (x % n ≡ x)) ⊎ ((n ≤ x) × (x % n + n ≡ x))
@@ -40,12 +40,13 @@ all_differ : (place vnodes from n : ℕ) → place < vnodes → from + n ≤ vno
 all_differ place vnodes from zero lt below = tt
 all_differ place vnodes from (suc n) lt below = (unlike_later place vnodes from (from + 1) n lt (omega arith) (omega arith), all_differ place vnodes (from + 1) n lt (omega arith))
 
-pub preferred_differ : (place vnodes : ℕ) → place < vnodes → AreDifferent (preferred place vnodes)
-preferred_differ place vnodes lt = all_differ place vnodes 0 (min 3 vnodes) lt (grind arith)
+pub preferred_differ : (placement : PlacementView) (place : ℕ) → place < placement.vnodes → AreDifferent (preferred placement place)
+preferred_differ placement place lt = all_differ place placement.vnodes 0 (copies_in placement) lt (grind arith)
 
 -- the front of three that follow each other
-pub front_preferred : (place vnodes : ℕ) → take (copies_of vnodes) (map (λ index. vnode_at place index vnodes) (range_with_len 0 3)) ≡ preferred place vnodes
-front_preferred place vnodes = take-map-range_with_len (λ index. vnode_at place index vnodes) 0 3 (min 3 vnodes) (grind arith)
+pub front_preferred : (placement : PlacementView) (place : ℕ) → copies_in placement ≤ 3
+    → take (copies_in placement) (map (λ index. vnode_at place index placement.vnodes) (range_with_len 0 3)) ≡ preferred placement place
+front_preferred placement place few = take-map-range_with_len (λ index. vnode_at place index placement.vnodes) 0 3 (copies_in placement) few
 
 -- vnodes at two different indexes differ
 unlike : (place vnodes i j : ℕ) → place < vnodes → (i < j) ⊎ (j < i) → i < vnodes → j < vnodes → vnode_at place i vnodes ≢ vnode_at place j vnodes

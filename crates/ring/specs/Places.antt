@@ -16,9 +16,10 @@ place_of bucket key vnodes = from_be_bytes w64 (take 8 (sha1 (hashed bucket key)
 abbrev pub ring_place : List ℕ → List ℕ → ℕ
 ring_place bucket key = place_of bucket key 3
 
--- how many vnodes there are, and where every key's place is set to one, that
+-- how many vnodes there are, how many copies of each key are wanted, and where every key's place is set to one, that
 pub record PlacementView : Type 0 where
   pub vnodes : ℕ
+  pub copies : ℕ
   pub first : Option ℕ
 
 -- where every key's place is set to one, there is a vnode
@@ -30,21 +31,21 @@ IsPlaced (Some first) vnodes = first < vnodes
 abbrev pub place_in : PlacementView → List ℕ → List ℕ → ℕ
 place_in placement bucket key = unwrap_or placement.first (place_of bucket key placement.vnodes)
 
--- how many vnodes a preference list has
-abbrev pub copies_of : ℕ → ℕ
-copies_of vnodes = min 3 vnodes
+-- how many vnodes a preference list has: as many as copies are wanted, or all where there are fewer
+abbrev pub copies_in : PlacementView → ℕ
+copies_in placement = min placement.copies placement.vnodes
 
 -- the vnode at an index of the preference list that begins at a place: past the last it goes on from 0
 abbrev pub vnode_at : ℕ → ℕ → ℕ → ℕ
 vnode_at place index vnodes = (place + index) % vnodes
 
 -- the preference list that begins at a place
-abbrev pub preferred : ℕ → ℕ → List ℕ
-preferred place vnodes = map (λ index. vnode_at place index vnodes) (range_with_len 0 (copies_of vnodes))
+abbrev pub preferred : PlacementView → ℕ → List ℕ
+preferred placement place = map (λ index. vnode_at place index placement.vnodes) (range_with_len 0 (copies_in placement))
 
 -- the preference list without the vnode at an index
-abbrev pub others : ℕ → ℕ → ℕ → List ℕ
-others place at vnodes = map (λ index. vnode_at place index vnodes) (filter (λ index. not (index == at)) (range_with_len 0 (copies_of vnodes)))
+abbrev pub others : PlacementView → ℕ → ℕ → List ℕ
+others placement place at = map (λ index. vnode_at place index placement.vnodes) (filter (λ index. not (index == at)) (range_with_len 0 (copies_in placement)))
 
 -- no vnode is named twice
 abbrev pub AreDifferent : List ℕ → Type 0

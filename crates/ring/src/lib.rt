@@ -2,17 +2,17 @@
 //! quorums; this store's profile).
 #![tactic(auto)]
 
-ghost use Rattle.std.specs.Prelude.{◌≡◌, ◌+◌, ◌/◌, ◌<◌, ◌≤◌, ◌^◌, ◌↔◌, length, IsTrue};
-ghost use Rattle.ring.specs.Places.{place_of, copies_of};
+ghost use Rattle.std.specs.Prelude.{◌≡◌, ◌+◌, ◌/◌, ◌<◌, ◌^◌, length};
+ghost use Rattle.ring.specs.Places.{place_of};
 
 mod list;
 mod placement;
 
-pub use list::{PreferenceList, others, preferred, vnode_at};
+pub use list::PreferenceList;
 pub use placement::Placement;
 use sha1::Sha1;
 
-/// The most copies of a key: the vnodes of its preference list.
+/// The most copies of a key that can be had: the vnodes of its preference list.
 pub const MAX_COPIES: u32 = 3;
 
 /// The place of a key: the vnode at which its preference list begins, 0 to below their number. It takes no memory. SHA-1
@@ -31,13 +31,6 @@ pub fn place(bucket: &[u8], key: &[u8], vnodes: u32) -> u32
     let [a, b, c, d, e, f, g, h, ..] = hasher.finalize();
     let front = u64::from_be_bytes([a, b, c, d, e, f, g, h]);
     (front % u64::from(vnodes)) as u32
-}
-
-/// How many vnodes a preference list has: three, or all where there are fewer.
-pub fn copies(vnodes: u32) -> u32
-    ensures { result ≡ copies_of vnodes }
-{
-    vnodes.min(MAX_COPIES)
 }
 
 /// How many of so many copies are a quorum: more than half.

@@ -20,7 +20,7 @@ use Rattle.peers.specs.declared.peers.Answer.{Answer}
 use Rattle.peers.specs.declared.fault.PeerFault.{PeerFault}
 use Rattle.peers.specs.Calls.{Call, PutAt, MergeAt, StateOf, Made}
 use Rattle.peers.specs.Locals.{PutsIn, MergesIn, LocalView, LocalStep}
-use Rattle.quorum.specs.Puts.{merges, StoresCopies}
+use Rattle.quorum.specs.Puts.{merges, HasSpread, StoresCopies}
 use Rattle.server_one_thread.specs.Journals.{AreJournals, GoesOn, GoOn}
 use Rattle.server_one_thread.specs.Writes.{IsPutAt, knows}
 use Rattle.server_one_thread.proofs.JournalLemmas.{goes_far, was_made, step_goes, made_goes}
@@ -146,26 +146,37 @@ module _ (more : (vnode : ℕ) (journal : List Entry) (e : Entry) → IsJournal 
         let later = made_goes more parts.2.0 new rest stored.0 parts.2.2 in
         (put_step parts.0 parts.2.0 began.1 parts.2.1 later.1).0
 
+  -- what follows a put whose copies were counted
+  spread_know : (stored new : LocalView) (coordinator : ℕ) (others : List ℕ) (key : Key) (w : ℕ) (dot : Dot) (calls : List Call) → AreJournals stored.logs → GoOn stored.logs new.logs → Made LocalStep stored calls new
+      → (log : Log) → slice_get stored.logs coordinator ≡ Some log → known_in log.entries key dot ≡ true → HasSpread coordinator others key w calls
+      → w ≤ count_by (λ i. knows key dot (slice_get new.logs i)) (coordinator ∷ others)
+  spread_know stored new coordinator [] key w dot calls are later made log there known (none, few) =
+      let known = knows_later key dot stored.logs new.logs coordinator log later there known in
+      let one = count_yes (λ i. knows key dot (slice_get new.logs i)) coordinator [] 0 known (omega arith) in
+      omega (arith, few, one)
+  spread_know stored new coordinator (i ∷ others) key w dot calls are later made log there known (own, backs, is, len, enough) =
+      let read = StateOf coordinator key (Ok own) in
+      let parts = subst (λ l. Made LocalStep stored l new) is made in
+      let came = read_answers key stored parts.0 coordinator own parts.1 in
+      let same = one_is came.0 log (sym came.1 ∙ there) in
+      let covered = came.2.clock dot ∙ ap (λ (l : Log). known_in l.entries key dot) same ∙ known in
+      let read_on = step_goes more stored read parts.0 are parts.1 in
+      let others_know = merges_know key dot own covered parts.0 new (i ∷ others) backs read_on.0 len parts.2 in
+      let known = knows_later key dot stored.logs new.logs coordinator log later there known in
+      let all = count_yes (λ i. knows key dot (slice_get new.logs i)) coordinator (i ∷ others) (count_by is_ok backs) known others_know in
+      let enough : w ≤ 1 + count_by is_ok backs = enough in
+      omega (arith, enough, all)
+
   -- a put whose copies were counted
   pub copies_know : (old new : LocalView) (coordinator : ℕ) (others : List ℕ) (key : Key) (w : ℕ) (seen : List Dot) (dot : Dot) (calls : List Call) → AreJournals old.logs → Made LocalStep old calls new
       → (h : StoresCopies coordinator others key w seen dot calls)
       → IsPutAt old.logs new.logs coordinator key seen h.content dot × (w ≤ count_by (λ i. knows key dot (slice_get new.logs i)) (coordinator ∷ others))
   copies_know old new coordinator others key w seen dot calls are made h =
       let put = PutAt coordinator key seen h.content (Ok dot) in
-      let read = StateOf coordinator key (Ok h.own) in
-      let spread = merges key h.own others h.backs in
-      let parts = made_split LocalStep old new h.before (put ∷ read ∷ spread) (subst (λ l. Made LocalStep old l new) h.parts made) in
+      let parts = made_split LocalStep old new h.before (put ∷ h.behind) (subst (λ l. Made LocalStep old l new) h.parts made) in
       let stored = parts.2.0 in
       let began = made_goes more old parts.0 h.before are parts.1 in
       let goes = step_goes more parts.0 put stored began.0 parts.2.1 in
-      let later = made_goes more stored new (read ∷ spread) goes.0 parts.2.2 in
+      let later = made_goes more stored new h.behind goes.0 parts.2.2 in
       let done = put_step old new coordinator key seen h.content dot are parts.0 stored began.1 parts.2.1 later.1 in
-      let came = read_answers key stored parts.2.2.0 coordinator h.own parts.2.2.1 in
-      let same = one_is came.0 done.1 (sym came.1 ∙ done.2) in
-      let covered = came.2.clock dot ∙ ap (λ (l : Log). known_in l.entries key dot) same ∙ done.3 in
-      let read_on = step_goes more stored read parts.2.2.0 goes.0 parts.2.2.1 in
-      let others_know = merges_know key dot h.own covered parts.2.2.0 new others h.backs read_on.0 h.each parts.2.2.2 in
-      let known = knows_later key dot stored.logs new.logs coordinator done.1 later.1 done.2 done.3 in
-      let all = count_yes (λ i. knows key dot (slice_get new.logs i)) coordinator others (count_by is_ok h.backs) known others_know in
-      let enough : w ≤ 1 + count_by is_ok h.backs = h.enough in
-      (done.0, omega (arith, enough, all))
+      (done.0, spread_know stored new coordinator others key w dot h.behind goes.0 later.1 parts.2.2 done.1 done.2 done.3 h.spread)

@@ -33,7 +33,7 @@ use Rattle.http_connections.specs.Sockets.{State as SocketState, not_yet, here, 
 use Rattle.http_connections.specs.Spoken.{BreaksOff, IsAnswered, IsOverAt, Rests, Speaks}
 use Rattle.http_connections.proofs.ClientLemmas.{none_is}
 use Rattle.http_connections.proofs.SpokenLemmas.{over_front, reads_front}
-use Rattle.ring.specs.Places.{copies_of}
+use Rattle.ring.specs.Places.{copies_in}
 use Rattle.server_one_thread.specs.Journals.{AreJournals}
 use Rattle.server_one_thread.specs.Past.{Now}
 use Rattle.server_one_thread.specs.Stores.{IsOfOneThread}
@@ -143,7 +143,7 @@ module _ (add : (changes : List Change) (change : Change) (old new : Shown) → 
       record { count = size; log = stands.log; after = lead.0; runs = lead.1; follows = lead.2; each = λ n c is. each n c is; nobody = λ n beyond. nobody n beyond }
     where
       many : ℕ
-      many = copies_of (now_of old).placement.vnodes
+      many = copies_in (now_of old).placement
 
       each : (n : ℕ) (c : Client) → slice_get people n ≡ Some c → IsTold many n deliveries c (part n stands.log)
       each n c is =

@@ -8,7 +8,7 @@ use Rattle.http_response.specs.declared.reply.Reply.{Reply}
 use Rattle.http_response.specs.declared.reply.Reply.TheVariants.{Got, Stored}
 use Rattle.http_connection.specs.Dialogue.{Completes, BreaksOff}
 use Rattle.peers.specs.Locals.{LocalStep}
-use Rattle.ring.specs.Places.{copies_of}
+use Rattle.ring.specs.Places.{copies_in}
 use Rattle.server_store.specs.Gives.{Gives}
 use Rattle.server_one_thread.specs.Hooks.{FindsAt, NamesAt, TakesAt}
 use Rattle.server_one_thread.specs.Journals.{AreJournals, GoOn}
@@ -40,9 +40,9 @@ pub record Follows (old new : Now) (changes after : List Change) : Type 0 where
 -- all requests of the bytes were answered, each by the changes and the journals so far
 abbrev pub Serves : List ℕ → Now → Now → List Change → List ℕ → Option (List ℕ) → ℕ → Type 0
 Serves bytes old new changes before written count =
-    (after : List Change) × Completes Answers (copies_of old.placement.vnodes) bytes (past old changes) (past new after) before written count × Follows old new changes after
+    (after : List Change) × Completes Answers (copies_in old.placement) bytes (past old changes) (past new after) before written count × Follows old new changes after
 
 -- the connection broke off: so were those of a front of the bytes, and a front of the answers was written
 abbrev pub ServesFront : List ℕ → Now → Now → List Change → List ℕ → Option (List ℕ) → Type 0
 ServesFront bytes old new changes before written =
-    (after : List Change) × BreaksOff Answers (copies_of old.placement.vnodes) bytes (past old changes) (past new after) before written × Follows old new changes after
+    (after : List Change) × BreaksOff Answers (copies_in old.placement) bytes (past old changes) (past new after) before written × Follows old new changes after

@@ -9,7 +9,7 @@ use Rattle.hook_registry.specs.Tables.{Shown, Takes, bound_in, hook_in}
 use Rattle.http_request.specs.declared.ask.Call.{Call}
 use Rattle.http_response.specs.declared.reply.Reply.{Reply}
 use Rattle.peers.specs.Locals.{LocalStep}
-use Rattle.ring.specs.Places.{copies_of}
+use Rattle.ring.specs.Places.{copies_in}
 use Rattle.server_store.specs.Gives.{Gives}
 use Rattle.server_one_thread.specs.Past.{Now}
 
@@ -23,4 +23,4 @@ NamesIn before bucket kind named after = (after ≡ before) × MatchResult named
 -- a store is one of one thread, as it is shown: its calls are those on the vnodes of one thread and on a registry
 pub record IsOfOneThread {B : Type 0} (gives : B → Call → Reply → B → Type 0) (copies : B → ℕ) (now : B → Now) : Type 0 where
   pub calls : (old new : B) (call : Call) (reply : Reply) → gives old call reply new → Gives LocalStep FindsIn NamesIn Takes (now old) (now new) call reply
-  pub counts : (store : B) → copies store ≡ copies_of (now store).placement.vnodes
+  pub counts : (store : B) → copies store ≡ copies_in (now store).placement

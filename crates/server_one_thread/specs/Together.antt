@@ -16,7 +16,7 @@ use Rattle.http_connections.specs.declared.socket_ring.Closing.TheVariants.{InOr
 use Rattle.http_connections.specs.Clients.{Shows}
 use Rattle.http_connections.specs.Halls.{HallStands, Log, all_parts, part, seat_at}
 use Rattle.http_connections.specs.Sockets.{Sockets}
-use Rattle.ring.specs.Places.{copies_of}
+use Rattle.ring.specs.Places.{copies_in}
 use Rattle.server_one_thread.specs.declared.together.Arrival.{Arrival}
 use Rattle.server_one_thread.specs.declared.together.Arrival.TheVariants as arrival
 use Rattle.server_one_thread.specs.declared.together.Delivery.{Delivery}
@@ -81,8 +81,8 @@ pub record ServesAll (clients : ℕ) (deliveries : List Delivery) (told : List C
   pub after : List Change
   pub runs : Runs Answers (past old changes) (all_parts log) (past new after)
   pub follows : Follows old new changes after
-  pub each : (n : ℕ) (client : Client) → slice_get told n ≡ Some client → IsTold (copies_of old.placement.vnodes) n deliveries client (part n log)
-  pub nobody : (n : ℕ) → clients ≤ n → (rest : List ℕ) × Talks (copies_of old.placement.vnodes) [] (part n log) rest
+  pub each : (n : ℕ) (client : Client) → slice_get told n ≡ Some client → IsTold (copies_in old.placement) n deliveries client (part n log)
+  pub nobody : (n : ℕ) → clients ≤ n → (rest : List ℕ) × Talks (copies_in old.placement) [] (part n log) rest
 
 -- ---- how it is seen that all was done
 

@@ -18,7 +18,7 @@ pub fn one_thread(alloc: Global, vnodes: Local, table: Table) -> Store<Local, Re
     ensures vnodes { result.peers ≡ vnodes }
     ensures hooks { Shows [] result.hooking.hooks }
     ensures table { result.hooking.table ≡ table }
-    ensures placement { result.placement ≡ record { vnodes = length vnodes.logs; first = vnodes.first } }
+    ensures placement { result.placement ≡ record { vnodes = length vnodes.logs; copies = 3; first = vnodes.first } }
     ensures noted { result.noted.kinds ≡ no_notes }
 {
     let placement = vnodes.placement();

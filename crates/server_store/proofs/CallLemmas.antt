@@ -28,14 +28,14 @@ use Rattle.server_store.specs.View.{StoreView}
 use Rattle.server_store.specs.Calls.{IsKept, place, list, coordinator, the_others, Gets, Puts}
 
 module _ {P H : Type 0} (old : StoreView P H) (key : Key) where
-  pub list_is : (l : List ℕ) (p n : ℕ) → l ≡ preferred p n → p ≡ place old key → n ≡ old.placement.vnodes → l ≡ list old key
-  list_is l p n is at many = is ∙ ap (λ x. preferred x n) at ∙ ap (λ x. preferred (place old key) x) many
+  pub list_is : (l : List ℕ) (p : ℕ) → l ≡ preferred old.placement p → p ≡ place old key → l ≡ list old key
+  list_is l p is at = is ∙ ap (λ x. preferred old.placement x) at
 
-  pub others_are : (l : List ℕ) (p n at : ℕ) → l ≡ others p at n → p ≡ place old key → n ≡ old.placement.vnodes → l ≡ the_others old key at
-  others_are l p n at is begins many = is ∙ ap (λ x. others x at n) begins ∙ ap (λ x. others (place old key) at x) many
+  pub others_are : (l : List ℕ) (p at : ℕ) → l ≡ others old.placement p at → p ≡ place old key → l ≡ the_others old key at
+  others_are l p at is begins = is ∙ ap (λ x. others old.placement x at) begins
 
-  pub coordinator_is : (c p n at : ℕ) → c ≡ vnode_at p at n → p ≡ place old key → n ≡ old.placement.vnodes → c ≡ coordinator old key at
-  coordinator_is c p n at is begins many = is ∙ ap (λ x. vnode_at x at n) begins ∙ ap (λ x. vnode_at (place old key) at x) many
+  pub coordinator_is : (c p at : ℕ) → c ≡ vnode_at p at old.placement.vnodes → p ≡ place old key → c ≡ coordinator old key at
+  coordinator_is c p at is begins = is ∙ ap (λ x. vnode_at x at old.placement.vnodes) begins
 
 pub noted_is : (new old : List Note) (t u : Option Trouble) (name bucket : List ℕ) → new ≡ noted_of old t name → t ≡ u → name ≡ bucket → new ≡ noted_of old u bucket
 noted_is new old t u name bucket is same at = is ∙ ap (λ t. noted_of old t name) same ∙ ap (λ l. noted_of old u l) at

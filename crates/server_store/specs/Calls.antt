@@ -35,13 +35,13 @@ module _ {P H : Type 0} (old : StoreView P H) (key : Key) where
 
   -- the list, its vnode at an index, and the others of that
   abbrev pub list : List ℕ
-  list = preferred place old.placement.vnodes
+  list = preferred old.placement place
 
   abbrev pub coordinator : ℕ → ℕ
   coordinator at = vnode_at place at old.placement.vnodes
 
   abbrev pub the_others : ℕ → List ℕ
-  the_others at = others place at old.placement.vnodes
+  the_others at = others old.placement place at
 
 module _ {P H : Type 0} (happens : P → Call → P → Type 0) (finds : H → List ℕ → ImageKind → Result (Option Program) NotSeen → H → Type 0) where
   -- what follows the reads of a get: read repair, then the bucket's resolver; what went wrong is noted, as its answer or the resolver's run shows it

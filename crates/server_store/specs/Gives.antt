@@ -14,7 +14,7 @@ use Rattle.hook_registry.specs.declared.fault.NameFault.{NameFault}
 use Rattle.hook_registry.specs.declared.fault.NotSeen.{NotSeen}
 use Rattle.hook_registry.specs.Changes as registry
 use Rattle.peers.specs.Calls.{Call as PeerCall}
-use Rattle.ring.specs.Places.{PlacementView, copies_of}
+use Rattle.ring.specs.Places.{PlacementView, copies_in}
 use Rattle.quorum.specs.declared.fault.QuorumFault.{QuorumFault}
 use Rattle.http_request.specs.declared.ask.Change.{Change}
 use Rattle.http_request.specs.declared.ask.Call.{Call}
@@ -48,8 +48,8 @@ module _ {P H : Type 0} (happens : P → PeerCall → P → Type 0) (finds : H �
   same : (old new : StoreView P H) → new ≡ old → new.placement ≡ old.placement
   same old new is = ap (λ (s : StoreView P H). s.placement) is
 
-  many : (old new : StoreView P H) → new.placement ≡ old.placement → copies_of new.placement.vnodes ≡ copies_of old.placement.vnodes
-  many old new is = ap (λ (p : PlacementView). copies_of p.vnodes) is
+  many : (old new : StoreView P H) → new.placement ≡ old.placement → copies_in new.placement ≡ copies_in old.placement
+  many old new is = ap (λ (p : PlacementView). copies_in p) is
 
   installs_keep : (old new : StoreView P H) (name image : List ℕ) (result : Result Unit Refusal) → Installs takes old name image result new → new.placement ≡ old.placement
   installs_keep old new name image (Ok done) h = h.3.1.1
@@ -67,7 +67,7 @@ module _ {P H : Type 0} (happens : P → PeerCall → P → Type 0) (finds : H �
   binds_keep old new bucket precommit resolver result (inr h) = same old new h.1
 
   -- no call changes how many copies of a key there are
-  pub gives_keep : (old new : StoreView P H) (call : Call) (reply : Reply) → Gives happens finds names takes old new call reply → copies_of new.placement.vnodes ≡ copies_of old.placement.vnodes
+  pub gives_keep : (old new : StoreView P H) (call : Call) (reply : Reply) → Gives happens finds names takes old new call reply → copies_in new.placement ≡ copies_in old.placement
   gives_keep old new call reply (gets key r at result h) = many old new h.6.1
   gives_keep old new call reply (puts key seen content w at result h) = many old new h.5.1
   gives_keep old new call reply (installs name image result h) = many old new (installs_keep old new name image result h)

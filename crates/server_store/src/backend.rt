@@ -1,6 +1,6 @@
 //! The store as the front calls it.
 
-ghost use Rattle.ring.specs.Places.{copies_of};
+ghost use Rattle.ring.specs.Places.{copies_in};
 ghost use Rattle.server_store.specs.View.{shown};
 ghost use Rattle.server_store.specs.Gives.{Gives};
 
@@ -21,7 +21,7 @@ impl<P: Peers, H: Hooks + HookChanges> Backend for Store<P, H> {
 
     ghost gives = { λ old call reply new. Gives P.happens H.finds H.names H.takes (shown old.peers old.hooking.hooks old.hooking.table.listed old.placement old.noted.kinds) (shown new.peers new.hooking.hooks new.hooking.table.listed new.placement new.noted.kinds) call reply };
 
-    ghost copies = { λ s. copies_of s.placement.vnodes };
+    ghost copies = { λ s. copies_in s.placement };
 
     ghost stays = { λ old new call reply h. gives_keep P.happens H.finds H.names H.takes (shown old.peers old.hooking.hooks old.hooking.table.listed old.placement old.noted.kinds) (shown new.peers new.hooking.hooks new.hooking.table.listed new.placement new.noted.kinds) call reply h };
 

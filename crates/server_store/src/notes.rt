@@ -2,7 +2,7 @@
 
 ghost use Rattle.std.specs.List.{list_any};
 ghost use Rattle.std.specs.Prelude.{◌≡◌, nat_lt};
-ghost use Rattle.ring.specs.Places.{copies_of};
+ghost use Rattle.ring.specs.Places.{copies_in};
 ghost use Rattle.server_store.specs.View.{shown};
 ghost use Rattle.server_log.specs.Notes.{no_notes};
 
@@ -35,7 +35,7 @@ pub trait NotingBackend<P: Peers, H: Hooks + HookChanges>: Backend {
     ghost as_shown: { (old new : Self) (call : Asked) (reply : Answered) → Self.gives old call reply new → Gives P.happens H.finds H.names H.takes (shows old) (shows new) call reply };
 
     /// It has as many copies of a key as a store that holds this.
-    ghost as_many: { (backend : Self) → Self.copies backend ≡ copies_of (shows backend).placement.vnodes };
+    ghost as_many: { (backend : Self) → Self.copies backend ≡ copies_in (shows backend).placement };
 }
 
 impl<P: Peers, H: Hooks + HookChanges> NotingBackend<P, H> for Store<P, H> {

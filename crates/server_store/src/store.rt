@@ -1,9 +1,9 @@
 //! The store, and the calls on its keys.
 
-ghost use Rattle.std.specs.Prelude.{◌≡◌, ◌<◌, ◌≤◌, ℕ, IsTrue, nat_lt};
+ghost use Rattle.std.specs.Prelude.{◌≡◌, ◌<◌, ◌≤◌, ℕ, IsTrue, List, nat_lt};
 ghost use Rattle.std.specs.List.{list_any};
 ghost use Rattle.key_state.specs.Limits.{IsKey};
-ghost use Rattle.ring.specs.Places.{copies_of, place_in, ring_place};
+ghost use Rattle.ring.specs.Places.{copies_in, place_in, ring_place};
 ghost use Rattle.server_store.specs.Calls.{Gets, Puts};
 ghost use Rattle.server_store.specs.Noting.{of_read};
 ghost use Rattle.server_store.specs.View.{shown};
@@ -15,7 +15,7 @@ use hook_registry::Hooks;
 use key_state::{Content, Key, KeyState};
 use peers::Peers;
 use quorum::{Hooking, PutRequest, QuorumFault, ResolveFault, Unfit};
-use ring::{Placement, others, preferred, vnode_at};
+use ring::{MAX_COPIES, Placement};
 use server_log::{Note, Noted};
 use std::alloc::Global;
 use std::mem;
@@ -86,11 +86,11 @@ impl<P, H> Store<P, H> {
 
     /// How many copies of a key there are, 1 to 3.
     pub fn copies(&self) -> u32
-        ensures copies { result ≡ copies_of self.now.placement.vnodes }
+        ensures copies { result ≡ copies_in self.now.placement }
         ensures some { 1 ≤ result }
         ensures few { result ≤ 3 }
     {
-        ring::copies(self.placement.vnodes())
+        self.placement.copies()
     }
 }
 
@@ -108,7 +108,16 @@ struct Stand {
     is_untold: bool,
 }
 
-// Where a key stands. Vnodes on a ring of three may have been told, and else its digest says it. Calls to come are about this key.
+// Whether vnodes are told where keys stand: on a ring of three, each with a copy of each key. With fewer copies the vnode that would be
+// told has most often not the key, and keeps nothing.
+fn are_told(placement: &Placement) -> bool
+    ensures { IsTrue result → (bucket key : List ℕ) → place_in placement.now bucket key ≡ ring_place bucket key }
+{
+    placement.copies() == MAX_COPIES && placement.is_ring_of_three()
+}
+
+// Where a key stands. Vnodes on a ring of three may have been told, where each of them has a copy, and else its digest says it. Calls to
+// come are about this key.
 fn stand_of<P: Peers>(peers: &mut P, placement: &Placement, key: &Key) -> Stand
     requires { IsKey key.now }
     ensures place { result.place ≡ place_in placement.now key.now.bucket key.now.key }
@@ -117,7 +126,7 @@ fn stand_of<P: Peers>(peers: &mut P, placement: &Placement, key: &Key) -> Stand
     ensures same { peers.new ≡ peers.old }
 {
     peers.expect(key);
-    let is_ring = placement.is_ring_of_three();
+    let is_ring = are_told(placement);
     if is_ring {
         if let Some(place) = peers.ring_place(key) {
             return Stand {
@@ -147,7 +156,7 @@ impl<P: Peers, H: Hooks> Store<P, H> {
     /// Reads a key as [`Store::read`] does.
     pub fn get(&mut self, key: &Key, r: u32, at: u32) -> Result<KeyState, QuorumFault>
         requires key { IsKey key.now }
-        requires at { at < copies_of self.old.placement.vnodes }
+        requires at { at < copies_in self.old.placement }
         ensures { Gets P.happens H.finds (shown self.old.peers self.old.hooking.hooks self.old.hooking.table.listed self.old.placement self.old.noted.kinds) key.now r at result (shown self.new.peers self.new.hooking.hooks self.new.hooking.table.listed self.new.placement self.new.noted.kinds) }
     {
         self.read(key, r, at).answer
@@ -160,15 +169,14 @@ impl<P: Peers, H: Hooks> Store<P, H> {
     /// and a resolver that decides nothing or whose choice isn't written.
     pub fn read(&mut self, key: &Key, r: u32, at: u32) -> Read
         requires key { IsKey key.now }
-        requires at { at < copies_of self.old.placement.vnodes }
+        requires at { at < copies_in self.old.placement }
         ensures gets { Gets P.happens H.finds (shown self.old.peers self.old.hooking.hooks self.old.hooking.table.listed self.old.placement self.old.noted.kinds) key.now r at result.answer (shown self.new.peers self.new.hooking.hooks self.new.hooking.table.listed self.new.placement self.new.noted.kinds) }
         // What is noted is what is answered here.
         ensures noted { self.new.noted.kinds ≡ noted_of self.old.noted.kinds (of_read result.answer result.cut result.unfit) key.now.bucket }
     {
-        let vnodes = self.placement.vnodes();
         let stand = stand_of(&mut self.peers, &self.placement, key);
-        let list = preferred(stand.place, vnodes);
-        let coordinator = vnode_at(stand.place, at, vnodes);
+        let list = self.placement.preferred(stand.place);
+        let coordinator = self.placement.vnode_at(stand.place, at);
         let read = quorum::get(
             self.alloc,
             &mut self.peers,
@@ -223,14 +231,13 @@ impl<P: Peers, H: Hooks> Store<P, H> {
         at: u32,
     ) -> Result<Dot, QuorumFault>
         requires key { IsKey key.now }
-        requires at { at < copies_of self.old.placement.vnodes }
+        requires at { at < copies_in self.old.placement }
         ensures { Puts P.happens H.finds (shown self.old.peers self.old.hooking.hooks self.old.hooking.table.listed self.old.placement self.old.noted.kinds) key.now seen.now content.now w at result (shown self.new.peers self.new.hooking.hooks self.new.hooking.table.listed self.new.placement self.new.noted.kinds) }
     {
-        let vnodes = self.placement.vnodes();
         let stand = stand_of(&mut self.peers, &self.placement, key);
-        let others = others(stand.place, at, vnodes);
+        let others = self.placement.others(stand.place, at);
         let request = PutRequest {
-            coordinator: vnode_at(stand.place, at, vnodes),
+            coordinator: self.placement.vnode_at(stand.place, at),
             others: others.as_slice(),
             key,
             seen,

@@ -2,7 +2,7 @@
 
 ghost use Rattle.std.specs.Prelude.{◌≡◌, IfOk, map, vec_len};
 ghost use Rattle.server_accept.specs.Waiting.{HasHadNone};
-ghost use Rattle.ring.specs.Places.{copies_of};
+ghost use Rattle.ring.specs.Places.{copies_in};
 ghost use Rattle.server_one_thread.specs.Passes.{GivesUnnoted, unnoted};
 ghost use Rattle.server_sockets.specs.Work.{Stays, Works};
 ghost use Rattle.server_store.specs.View.{StoreView};
@@ -281,8 +281,8 @@ fn take_turn<B: Room + Spot, P: Peers, H: Hooks + HookChanges, K: NotingBackend<
     shift: &mut Shift,
 ) -> bool
     ensures leads { (start : StoreView P H)
-        → Leads (GivesUnnoted P.happens H.finds H.names H.takes) (λ s. copies_of s.placement.vnodes) start worker.old (unnoted (K.shows store.old))
-        → Leads (GivesUnnoted P.happens H.finds H.names H.takes) (λ s. copies_of s.placement.vnodes) start worker.new (unnoted (K.shows store.new)) }
+        → Leads (GivesUnnoted P.happens H.finds H.names H.takes) (λ s. copies_in s.placement) start worker.old (unnoted (K.shows store.old))
+        → Leads (GivesUnnoted P.happens H.finds H.names H.takes) (λ s. copies_in s.placement) start worker.new (unnoted (K.shows store.new)) }
 {
     let worked = work_once(rt, floor, post, worker, store, shift);
     shed_if_asked(post, worker);
@@ -298,7 +298,7 @@ fn stay<B: Room + Spot, P: Peers, H: Hooks + HookChanges, K: NotingBackend<P, H>
     mut worker: Worker,
     store: &mut K,
 )
-    ensures led { HasHadNone worker → HasLed (GivesUnnoted P.happens H.finds H.names H.takes) (λ s. copies_of s.placement.vnodes) (unnoted (K.shows store.old)) (unnoted (K.shows store.new)) }
+    ensures led { HasHadNone worker → HasLed (GivesUnnoted P.happens H.finds H.names H.takes) (λ s. copies_in s.placement) (unnoted (K.shows store.old)) (unnoted (K.shows store.new)) }
 {
     let mut shift = Shift {
         timer: Timer::new(),

@@ -72,7 +72,11 @@ fn kept_store(rt: HostRuntime) -> Result<(), Fail> {
         folder: Some(SystemFolder::nowhere(&rt, alloc)),
         held: Held {
             last: Some(LAST),
-            settings: Settings { every: 0, least: 0 },
+            settings: Settings {
+                every: 0,
+                least: 0,
+                copies: 3,
+            },
             hooks: Vec::new(alloc),
             files,
         },
@@ -87,6 +91,7 @@ fn kept_store(rt: HostRuntime) -> Result<(), Fail> {
     let making = Making {
         first: BEFORE + VNODES_PER_NUMBER,
         seed: Seed::fixed(),
+        copies: 3,
     };
     let tables = two_tables(alloc)?;
     let host = Host { alloc, rt: &rt };

@@ -4,7 +4,7 @@ use audit_faults::{AuditFault, EntryFault, Followed, WatchFault};
 use bpf_helpers::Table;
 use commands::files::{Files, Part};
 use commands::own::command_with_helpers;
-use commands::server::{ServesOnly, Serving, Unserved};
+use commands::server::{Post, ServesOnly, Serving, Unserved};
 use std::alloc::Global;
 use std::io;
 use std::io::Write;
@@ -29,12 +29,12 @@ impl Files for Bare {
     }
 }
 
-/// A server that no connection comes to, where it has memory for a store. It keeps with how many tables of helpers, and for how many
-/// connections, it was asked to serve.
+/// A server that no connection comes to, where it has memory for a store. It keeps with how many tables of helpers, for how many
+/// connections, and with how many copies it was asked to serve.
 #[derive(Drop)]
 struct Deserted {
     says: Result<Followed, Unserved>,
-    asked: Option<(usize, Option<u32>)>,
+    asked: Option<(usize, Option<u32>, u32)>,
 }
 
 impl Serving for Deserted {
@@ -43,23 +43,22 @@ impl Serving for Deserted {
         _alloc: Global,
         _table: Table,
         more: Vec<Table>,
-        addr: &str,
-        count: Option<u32>,
+        post: &Post<'_>,
         out: &mut O,
     ) -> Result<Followed, Unserved> {
         let said = self.says?;
-        writeln!(out, "listening {addr}")?;
-        self.asked = Some((1 + more.len(), count));
+        writeln!(out, "listening {}", post.addr)?;
+        self.asked = Some((1 + more.len(), post.count, post.copies));
         Ok(said)
     }
 }
 
-/// Words, what is said of the journals then, with how many tables of helpers and for how many connections it was served, what is
-/// printed, and the status.
+/// Words, what is said of the journals then, with how many tables of helpers, for how many connections and with how many copies it was
+/// served, what is printed, and the status.
 type Row = (
     &'static [&'static str],
     Result<Followed, Unserved>,
-    Option<(usize, Option<u32>)>,
+    Option<(usize, Option<u32>, u32)>,
     &'static str,
     u8,
 );
@@ -70,7 +69,7 @@ const ALL_WELL: &str = "listening here\naudit ok\n";
 
 const FOUR: &[&str] = &["serve", "here", "4", "3"];
 
-const BY_FOUR: Option<(usize, Option<u32>)> = Some((4, Some(3)));
+const BY_FOUR: Option<(usize, Option<u32>, u32)> = Some((4, Some(3), 1));
 
 const ROWS: &[Row] = &[
     (
@@ -81,26 +80,53 @@ const ROWS: &[Row] = &[
         1,
     ),
     // As many workers serve as are asked for, each with a table of its own.
-    (&["serve", "here", "1"], FINE, Some((1, None)), ALL_WELL, 0),
     (
-        &["serve", "here", "2", "1"],
+        &["serve", "here", "1"],
         FINE,
-        Some((2, Some(1))),
+        Some((1, None, 1)),
         ALL_WELL,
         0,
     ),
-    (&["serve", "here", "9"], FINE, Some((9, None)), ALL_WELL, 0),
+    (
+        &["serve", "here", "2", "1"],
+        FINE,
+        Some((2, Some(1), 1)),
+        ALL_WELL,
+        0,
+    ),
+    (
+        &["serve", "here", "9"],
+        FINE,
+        Some((9, None, 1)),
+        ALL_WELL,
+        0,
+    ),
     (
         &["serve", "here", "15", "4294967295"],
         FINE,
-        Some((15, Some(4_294_967_295))),
+        Some((15, Some(4_294_967_295), 1)),
         ALL_WELL,
         0,
     ),
     (
         &["serve", "here", "16", "7"],
         FINE,
-        Some((16, Some(7))),
+        Some((16, Some(7), 1)),
+        ALL_WELL,
+        0,
+    ),
+    // So many copies as are asked for.
+    (
+        &["serve", "here", "1", "copies", "3"],
+        FINE,
+        Some((1, None, 3)),
+        ALL_WELL,
+        0,
+    ),
+    (
+        &["serve", "here", "2", "1", "copies", "2"],
+        FINE,
+        Some((2, Some(1), 2)),
         ALL_WELL,
         0,
     ),

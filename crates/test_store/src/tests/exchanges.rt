@@ -62,13 +62,13 @@ fn exchange_twice(alloc: Global, local: &mut Local) -> Result<Outcome, Fail> {
 }
 
 /// To vnode 1 go `b` and `o`; back come `b`, whose clock grew, and `t`; `o` is alike by then. Then each of the three keys is read on both
-/// sides, there and back, and no more. There were four entries in each journal.
+/// sides, there and back, and no more. There were two entries in each journal.
 #[test]
 fn brings_each_key_to_the_other_side(rt: HostRuntime) -> Result<(), Fail> {
     let mut local = vnodes_of(rt.alloc(), 2, 0)?;
     let outcome = exchange_twice(rt.alloc(), &mut local)?;
     expect(
-        outcome == ([((4, 0), [11, 11, 0]), ((0, 0), [17, 17, 0])], [true; 3]),
+        outcome == ([((4, 0), [9, 9, 0]), ((0, 0), [15, 15, 0])], [true; 3]),
         &4,
     )
 }

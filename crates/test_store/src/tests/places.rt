@@ -1,6 +1,6 @@
 //! Places of keys, preference lists and quorums.
 
-use ring::{Placement, copies, others, place, preferred, quorum};
+use ring::{Placement, place, quorum};
 use std::test::Fail;
 use test_support::expect;
 
@@ -32,54 +32,84 @@ fn places(_rt: HostRuntime) -> Result<(), Fail> {
         let some = bucket.len() <= 64 && vnodes > 0;
         expect(some && place(bucket, key, vnodes) == want, &want)?;
     }
-    let one = Placement::at_one(64, 7);
-    let by_digest = Placement::by_digest(64).place_of(b"b", b"k");
+    let one = Placement::at_one(64, 7, 3);
+    let by_digest = Placement::by_digest(64, 1).place_of(b"b", b"k");
     let told = (one.place_of(b"b", b"k"), one.vnodes(), by_digest);
     expect(told == (7, 64, 2), &64)
 }
 
-/// How many vnodes there are, how many copies, and how many of these are a quorum.
-const QUORUMS: &[[u32; 3]] = &[[1, 1, 1], [2, 2, 2], [3, 3, 2], [4, 3, 2], [255, 3, 2]];
-
-/// A place, how many vnodes there are, and the list that begins at it.
-const LISTS: &[(u32, u32, &[usize])] = &[
-    (0, 1, &[0]),
-    (1, 2, &[1, 0]),
-    (0, 3, &[0, 1, 2]),
-    (2, 3, &[2, 0, 1]),
-    (253, 255, &[253, 254, 0]),
-    (254, 255, &[254, 0, 1]),
-    (u32::MAX - 1, u32::MAX, &[4_294_967_294, 0, 1]),
+/// How many vnodes there are, how many copies are wanted, how many there are, and how many of these are a quorum.
+const QUORUMS: &[[u32; 4]] = &[
+    [1, 3, 1, 1],
+    [2, 3, 2, 2],
+    [3, 3, 3, 2],
+    [4, 3, 3, 2],
+    [255, 3, 3, 2],
+    [1, 1, 1, 1],
+    [3, 1, 1, 1],
+    [255, 2, 2, 2],
 ];
 
-/// A place, an index of the list that begins at it, how many vnodes there are, and the list without the vnode at the index.
-const OTHERS: &[(u32, u32, u32, &[usize])] = &[
-    (0, 0, 1, &[]),
-    (0, 1, 2, &[0]),
-    (2, 0, 3, &[0, 1]),
-    (2, 1, 3, &[2, 1]),
-    (2, 2, 3, &[2, 0]),
-    (254, 1, 255, &[254, 1]),
+/// A place, how many vnodes there are, how many copies are wanted, and the list that begins at the place.
+const LISTS: &[(u32, u32, u32, &[usize])] = &[
+    (0, 1, 3, &[0]),
+    (1, 2, 3, &[1, 0]),
+    (0, 3, 3, &[0, 1, 2]),
+    (2, 3, 3, &[2, 0, 1]),
+    (2, 3, 2, &[2, 0]),
+    (2, 3, 1, &[2]),
+    (253, 255, 3, &[253, 254, 0]),
+    (254, 255, 3, &[254, 0, 1]),
+    (u32::MAX - 1, u32::MAX, 3, &[4_294_967_294, 0, 1]),
 ];
+
+/// A place, an index of the list that begins at it, how many vnodes there are, how many copies are wanted, and the list without
+/// the vnode at the index.
+const OTHERS: &[(u32, u32, u32, u32, &[usize])] = &[
+    (0, 0, 1, 3, &[]),
+    (0, 1, 2, 3, &[0]),
+    (2, 0, 3, 3, &[0, 1]),
+    (2, 1, 3, 3, &[2, 1]),
+    (2, 2, 3, 3, &[2, 0]),
+    (2, 1, 3, 2, &[2]),
+    (1, 0, 3, 1, &[]),
+    (254, 1, 255, 3, &[254, 1]),
+];
+
+/// Keys at the places that their digests give, where the arguments are a placement's.
+fn placement_of(vnodes: u32, copies: u32) -> Result<Placement, Fail> {
+    if vnodes > 0 && copies > 0 && copies <= 3 {
+        Ok(Placement::by_digest(vnodes, copies))
+    } else {
+        Err(Fail::new("no placement"))
+    }
+}
 
 #[test]
 fn quorums_and_lists(_rt: HostRuntime) -> Result<(), Fail> {
     for row in QUORUMS {
-        let [vnodes, want, enough] = *row;
-        expect(copies(vnodes) == want && quorum(want) == enough, &vnodes)?;
+        let [vnodes, wanted, want, enough] = *row;
+        let placement = placement_of(vnodes, wanted)?;
+        expect(
+            placement.copies() == want && quorum(want) == enough,
+            &vnodes,
+        )?;
     }
     for row in LISTS {
-        let (first, vnodes, list) = *row;
+        let (first, vnodes, wanted, list) = *row;
+        let placement = placement_of(vnodes, wanted)?;
+        let inside = first < placement.vnodes();
         expect(
-            first < vnodes && preferred(first, vnodes).as_slice() == list,
+            inside && placement.preferred(first).as_slice() == list,
             &vnodes,
         )?;
     }
     for row in OTHERS {
-        let (first, at, vnodes, list) = *row;
-        let inside = first < vnodes && at < copies(vnodes);
+        let (first, at, vnodes, wanted, list) = *row;
+        let placement = placement_of(vnodes, wanted)?;
+        let inside = first < placement.vnodes() && at < placement.copies();
         expect(
-            inside && others(first, at, vnodes).as_slice() == list,
+            inside && placement.others(first, at).as_slice() == list,
             &vnodes,
         )?;
     }

@@ -179,7 +179,7 @@ fn puts_and_gets(rt: HostRuntime) -> Result<(), Fail> {
         Ok(Dot { vnode: 0, n: 1 }),
         Err(AHEAD),
     ];
-    expect(two == (brought, [3, 4, 0], true), &2)
+    expect(two == (brought, [3, 3, 0], true), &2)
 }
 
 /// What a put of `a` at vnode 0 answers of which one copy is asked for, the journals' lengths after it, and how many calls failed.

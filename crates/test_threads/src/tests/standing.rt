@@ -65,7 +65,7 @@ fn place_is_told<B: Room, R: Wait>(
     }
     let peers = ClusterPeers::new(alloc, rt, cluster, pass);
     let hooking = Hooking::new(alloc, Registry::new(alloc), Table::new(alloc));
-    let mut store = Store::new(alloc, peers, hooking, Placement::by_digest(3));
+    let mut store = Store::new(alloc, peers, hooking, Placement::by_digest(3, 3));
     let read = store.get(&key, 2, 0);
     let unheld = standing_of(rt, alloc, cluster, &key)?;
     let put = store.put(&key, &Clock::new(alloc), &Content::Tombstone, 2, 0);

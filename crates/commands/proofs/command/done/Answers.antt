@@ -11,7 +11,7 @@ returns-in-Some-Explain-clause-explained g c image asked =
     (g.O.Write.contents c.explain.new.out) c.explain.result (sym c.parse.ensures ∙ c.in-Some-Explain.is ∙ ap (λ (it : Request). Some it) c.in-Some-Explain.field-0-is) asked c.explain.ensures
 
 pub returns-in-Some-Serve-clause-served : goal.returns-in-Some-Serve-clause-served
-returns-in-Some-Serve-clause-served g c addr workers count asked = served_below (g.O.Write.contents c.args.out.now) (g.O.Write.contents c.serve.new.out) c.serve.result c.serve.ensures.served
+returns-in-Some-Serve-clause-served g c addr workers count copies asked = served_below (g.O.Write.contents c.args.out.now) (g.O.Write.contents c.serve.new.out) c.serve.result c.serve.ensures.served
 
 pub returns-in-Some-Keep-clause-kept : goal.returns-in-Some-Keep-clause-kept
 returns-in-Some-Keep-clause-kept g c folder addr workers count asked = kept_below (g.O.Write.contents c.args.out.now) (g.O.Write.contents c.keep.new.out) c.keep.result c.keep.ensures.kept

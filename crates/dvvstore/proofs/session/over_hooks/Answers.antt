@@ -13,6 +13,6 @@ returns-clause-served g c =
     let seats = c.in_ok-seats.seats.items in
     let held = hooks_for c.args.stay.folder c.args.stay.held.hooks.items in
     let starts = map (λ s. begun size s.pass s.hooking.hooks s.hooking.table.listed s.placement) seats in
-    let over = seats_begin size (λ s. begun size s.pass s.hooking.hooks s.hooking.table.listed s.placement) (λ s. s.hooking.table) (λ t. t.listed) (λ s. s.placement) (λ s. refl) (λ s. refl) (λ s. refl)
+    let over = seats_begin size (λ s. begun size s.pass s.hooking.hooks s.hooking.table.listed s.placement) (λ s. s.hooking.table) (λ t. t.listed) (λ s. s.placement) c.args.parts.copies (λ s. refl) (λ s. refl) (λ s. refl)
     seats tables c.in_ok-seats.ensures.tables c.in_ok-seats.ensures.placed in
-    served_as Finds Names Takes (AreStarts Takes held starts) (BeginOver Takes size (map (λ t. t.listed) tables) held) c.live.result (λ now are. (starts, over, are)) c.live.ensures.served
+    served_as Finds Names Takes (AreStarts Takes held starts) (BeginOver Takes size c.args.parts.copies (map (λ t. t.listed) tables) held) c.live.result (λ now are. (starts, over, are)) c.live.ensures.served

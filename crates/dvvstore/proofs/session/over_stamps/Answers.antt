@@ -17,4 +17,4 @@ returns-clause-served g c =
     let cluster = c.in_ok-vnodes.vnodes.cluster in
     let tables = c.args.tables in
     let size = size_as cluster c.args.undrawn.making.first 3 (vec_len tables + 4) c.in_ok-vnodes.ensures.first c.in_ok-vnodes.ensures.three (c.in_ok-vnodes.ensures.all ∙ ap (λ (n : ℕ). n + 4) c.len.ensures) in
-    subst (λ (s : Size). LeavesServed Finds Names Takes (BeginOver Takes s (map (λ t. t.listed) tables.items) (hooks_for c.args.stay.folder c.args.stay.held.hooks.items)) c.over_cluster.result) size c.over_cluster.ensures.served
+    subst (λ (s : Size). LeavesServed Finds Names Takes (BeginOver Takes s c.args.undrawn.making.copies (map (λ t. t.listed) tables.items) (hooks_for c.args.stay.folder c.args.stay.held.hooks.items)) c.over_cluster.result) size c.over_cluster.ensures.served

@@ -9,6 +9,6 @@ pub returns-in-Some-2 : goal.returns-in-Some-2
 returns-in-Some-2 g c = (
   Some c.in-Some.bytes.items,
   subst (λ f. g.F.Folder.finds c.args.folder.now (codes "settings") (bytes_in f)) c.in-Some.is c.in_ok-bytes.ensures,
-  subst (λ xs. IsSetBy (Some xs) c.in-Some-2.settings.every c.in-Some-2.settings.least) c.deref.ensures.value
-      (subst (λ (f : Option Settings). IfSome f (λ s. IsSetBy (Some c.deref.result.now) s.every s.least)) c.in-Some-2.is c.in_ok-settings.ensures),
+  subst (λ xs. IsSetBy (Some xs) c.in-Some-2.settings) c.deref.ensures.value
+      (subst (λ (f : Option Settings). IfSome f (λ s. IsSetBy (Some c.deref.result.now) s)) c.in-Some-2.is c.in_ok-settings.ensures),
 )

@@ -1,5 +1,5 @@
 use Rattle.server_accept.specs.Waiting.{HasHadNone}
-use Rattle.ring.specs.Places.{copies_of}
+use Rattle.ring.specs.Places.{copies_in}
 use Rattle.server_one_thread.specs.Passes.{GivesUnnoted, unnoted}
 use Rattle.dvvstore.specs.Visits.{Leads}
 use Rattle.dvvstore.proofs.crew.working.stay.Given as goal
@@ -8,5 +8,5 @@ use Rattle.dvvstore.proofs.crew.working.stay.Given as goal
 abbrev pub invariant-loop : goal.invariant-loop
 invariant-loop g l =
     HasHadNone l.initial.worker
-    → Leads (GivesUnnoted g.P.Peers.happens g.H.Hooks.finds g.H.Hooks.names g.H.HookChanges.takes) (λ s. copies_of s.placement.vnodes)
+    → Leads (GivesUnnoted g.P.Peers.happens g.H.Hooks.finds g.H.Hooks.names g.H.HookChanges.takes) (λ s. copies_in s.placement)
     (unnoted (g.K.NotingBackend.shows l.initial.store)) l.worker (unnoted (g.K.NotingBackend.shows l.store))

@@ -1,4 +1,4 @@
-use Rattle.ring.specs.Places.{copies_of}
+use Rattle.ring.specs.Places.{copies_in}
 use Rattle.server_one_thread.specs.Passes.{GivesUnnoted, unnoted}
 use Rattle.dvvstore.proofs.VisitLemmas.{leads_round}
 use Rattle.dvvstore.proofs.crew.working.take_turn.Goals as goal
@@ -6,7 +6,7 @@ use Rattle.dvvstore.proofs.crew.working.take_turn.Goals as goal
 pub returns : goal.returns
 returns g c = record {
   leads = λ start leads.
-      leads_round (GivesUnnoted g.P.Peers.happens g.H.Hooks.finds g.H.Hooks.names g.H.HookChanges.takes) (λ s. copies_of s.placement.vnodes)
+      leads_round (GivesUnnoted g.P.Peers.happens g.H.Hooks.finds g.H.Hooks.names g.H.HookChanges.takes) (λ s. copies_in s.placement)
       c.args.store.now c.work_once-worked.new.store g.K.Backend.gives g.K.Backend.copies (λ k. unnoted (g.K.NotingBackend.shows k))
       (λ old new call reply h. (_, _, g.met.K.NotingBackend.as_shown old new call reply h)) (λ k. g.met.K.NotingBackend.as_many k)
       start c.args.worker.now c.work_once-worked.new.worker c.shed_if_asked.new.worker _ c.tell_troubles.ensures.stays leads c.work_once-worked.ensures.works c.shed_if_asked.ensures.stays;

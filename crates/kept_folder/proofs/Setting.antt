@@ -1,0 +1,117 @@
+-- What lines set, with one more behind others.
+use Rattle.std.proofs.Common.{◌≡◌, ◌≢◌, ◌<◌, ◌≤◌, ℕ, List, [], ◌∷◌, ◌++◌, Option, None, Some, refl, sym, ap, subst, ◌∙◌, arith, append_assoc}
+use Rattle.std.specs.Prelude.{unwrap_or}
+use Rattle.std.specs.List.{flat_map}
+use Rattle.std.specs.Option.{option_or}
+use Rattle.std.proofs.lemmas.List.{append-nil}
+use Rattle.std.proofs.lemmas.List.Concat.{flat_map-append}
+use Rattle.kept_folder.specs.declared.settings.Line.{Line}
+use Rattle.kept_folder.specs.declared.settings.Line.TheVariants.{Snapshot, Number, Copies}
+use Rattle.kept_folder.specs.declared.settings.Settings.{Settings}
+use Rattle.kept_folder.specs.Settings.{AreLines, IsSetBy, MayStand, copies_in, every_in, least_in, text_of}
+
+pub every_both : (xs ys : List Line) → every_in (xs ++ ys) ≡ option_or (every_in xs) (every_in ys)
+every_both [] ys = refl
+every_both (Snapshot every ∷ xs) ys = refl
+every_both (Number least ∷ xs) ys = every_both xs ys
+every_both (Copies copies ∷ xs) ys = every_both xs ys
+
+pub least_both : (xs ys : List Line) → least_in (xs ++ ys) ≡ option_or (least_in xs) (least_in ys)
+least_both [] ys = refl
+least_both (Snapshot every ∷ xs) ys = least_both xs ys
+least_both (Number least ∷ xs) ys = refl
+least_both (Copies copies ∷ xs) ys = least_both xs ys
+
+pub copies_both : (xs ys : List Line) → copies_in (xs ++ ys) ≡ option_or (copies_in xs) (copies_in ys)
+copies_both [] ys = refl
+copies_both (Snapshot every ∷ xs) ys = copies_both xs ys
+copies_both (Number least ∷ xs) ys = copies_both xs ys
+copies_both (Copies copies ∷ xs) ys = refl
+
+or_none : (o : Option ℕ) → option_or o None ≡ o
+or_none None = refl
+or_none (Some n) = refl
+
+-- a line that may stand beside some, and beside others, may stand beside both
+stand_both : (l : Line) (xs ys : List Line) → MayStand l xs → MayStand l ys → MayStand l (xs ++ ys)
+stand_both (Snapshot every) xs ys p q = every_both xs ys ∙ ap (λ o. option_or o (every_in ys)) p ∙ q
+stand_both (Number least) xs ys p q = least_both xs ys ∙ ap (λ o. option_or o (least_in ys)) p ∙ q
+stand_both (Copies copies) xs ys (p, some, few) (q, some_too, few_too) = (copies_both xs ys ∙ ap (λ o. option_or o (copies_in ys)) p ∙ q, some, few)
+
+-- so may each beside the other
+apart : (l line : Line) (lines : List Line) → MayStand l lines → MayStand line (l ∷ lines) → MayStand l (line ∷ [])
+apart (Snapshot every) (Snapshot other) lines p h = absurd cc
+apart (Snapshot every) (Number least) lines p h = refl
+apart (Snapshot every) (Copies copies) lines p h = refl
+apart (Number least) (Snapshot every) lines p h = refl
+apart (Number least) (Number other) lines p h = absurd cc
+apart (Number least) (Copies copies) lines p h = refl
+apart (Copies copies) (Snapshot every) lines (p, some, few) h = (refl, some, few)
+apart (Copies copies) (Number least) lines (p, some, few) h = (refl, some, few)
+apart (Copies copies) (Copies other) lines (p, some, few) (h, some_too, few_too) = absurd cc
+
+-- a line may stand beside fewer
+fewer : (l line : Line) (lines : List Line) → MayStand line (l ∷ lines) → MayStand line lines
+fewer (Snapshot every) (Snapshot other) lines h = absurd cc
+fewer (Snapshot every) (Number least) lines h = h
+fewer (Snapshot every) (Copies copies) lines h = h
+fewer (Number least) (Snapshot every) lines h = h
+fewer (Number least) (Number other) lines h = absurd cc
+fewer (Number least) (Copies copies) lines h = h
+fewer (Copies copies) (Snapshot every) lines h = h
+fewer (Copies copies) (Number least) lines h = h
+fewer (Copies copies) (Copies other) lines (h, some, few) = absurd cc
+
+lines_end : (lines : List Line) (line : Line) → AreLines lines → MayStand line lines → AreLines (lines ++ line ∷ [])
+lines_end [] line are stand = (stand, tt)
+lines_end (l ∷ lines) line (first, are) stand = (stand_both l lines (line ∷ []) first (apart l line lines first stand), lines_end lines line are (fewer l line lines stand))
+
+-- what lines say with one more behind them
+pub snapshot_added : (lines : List Line) (e : ℕ) (every least copies : Option ℕ) → AreLines lines → None ≡ every_in lines → least ≡ least_in lines → copies ≡ copies_in lines → every ≡ Some e
+    → AreLines (lines ++ Snapshot e ∷ []) × (every ≡ every_in (lines ++ Snapshot e ∷ [])) × (least ≡ least_in (lines ++ Snapshot e ∷ [])) × (copies ≡ copies_in (lines ++ Snapshot e ∷ []))
+snapshot_added lines e every least copies are none l c is = (
+  lines_end lines (Snapshot e) are (sym none),
+  is ∙ ap (λ o. option_or o (Some e)) none ∙ sym (every_both lines (Snapshot e ∷ [])),
+  l ∙ sym (or_none (least_in lines)) ∙ sym (least_both lines (Snapshot e ∷ [])),
+  c ∙ sym (or_none (copies_in lines)) ∙ sym (copies_both lines (Snapshot e ∷ [])),
+)
+
+pub number_added : (lines : List Line) (n : ℕ) (every least copies : Option ℕ) → AreLines lines → every ≡ every_in lines → None ≡ least_in lines → copies ≡ copies_in lines → least ≡ Some n
+    → AreLines (lines ++ Number n ∷ []) × (every ≡ every_in (lines ++ Number n ∷ [])) × (least ≡ least_in (lines ++ Number n ∷ [])) × (copies ≡ copies_in (lines ++ Number n ∷ []))
+number_added lines n every least copies are e none c is = (
+  lines_end lines (Number n) are (sym none),
+  e ∙ sym (or_none (every_in lines)) ∙ sym (every_both lines (Number n ∷ [])),
+  is ∙ ap (λ o. option_or o (Some n)) none ∙ sym (least_both lines (Number n ∷ [])),
+  c ∙ sym (or_none (copies_in lines)) ∙ sym (copies_both lines (Number n ∷ [])),
+)
+
+pub copies_added : (lines : List Line) (n : ℕ) (every least copies : Option ℕ) → 0 < n → n ≤ 3 → AreLines lines → every ≡ every_in lines → least ≡ least_in lines → None ≡ copies_in lines → copies ≡ Some n
+    → AreLines (lines ++ Copies n ∷ []) × (every ≡ every_in (lines ++ Copies n ∷ [])) × (least ≡ least_in (lines ++ Copies n ∷ [])) × (copies ≡ copies_in (lines ++ Copies n ∷ []))
+copies_added lines n every least copies some few are e l none is = (
+  lines_end lines (Copies n) are (sym none, some, few),
+  e ∙ sym (or_none (every_in lines)) ∙ sym (every_both lines (Copies n ∷ [])),
+  l ∙ sym (or_none (least_in lines)) ∙ sym (least_both lines (Copies n ∷ [])),
+  is ∙ ap (λ o. option_or o (Some n)) none ∙ sym (copies_both lines (Copies n ∷ [])),
+)
+
+-- a line that bytes begin with is behind those before
+pub line_more : (lines : List Line) (line : Line) (bytes left front rest : List ℕ) → bytes ≡ flat_map text_of lines ++ left → left ≡ front ++ rest → front ≡ text_of line → bytes ≡ flat_map text_of (lines ++ line ∷ []) ++ rest
+line_more lines line bytes left front rest so parts is =
+    so ∙ ap (λ (l : List ℕ). flat_map text_of lines ++ l) (parts ∙ ap (λ (l : List ℕ). l ++ rest) is)
+    ∙ sym (append_assoc (flat_map text_of lines) (text_of line) rest)
+    ∙ ap (λ (l : List ℕ). l ++ rest) (ap (λ (l : List ℕ). flat_map text_of lines ++ l) (sym (append-nil (text_of line))) ∙ sym (flat_map-append text_of lines (line ∷ [])))
+
+-- lines that bytes are, of which there is one
+pub some_lines : (lines : List Line) (bytes : List ℕ) → bytes ≡ flat_map text_of lines → (bytes ≡ [] → ⊥) → lines ≢ []
+some_lines lines bytes is some none = some (is ∙ ap (λ l. flat_map text_of l) none)
+
+copies_of : (lines : List Line) → AreLines lines → (0 < unwrap_or (copies_in lines) 1) × (unwrap_or (copies_in lines) 1 ≤ 3)
+copies_of [] are = (omega arith, omega arith)
+copies_of (Snapshot every ∷ lines) (first, are) = copies_of lines are
+copies_of (Number least ∷ lines) (first, are) = copies_of lines are
+copies_of (Copies copies ∷ lines) ((none, some, few), are) = (some, few)
+
+-- so many copies are set
+pub copies_set : (found : Option (List ℕ)) (s : Settings) → IsSetBy found s → (0 < s.copies) × (s.copies ≤ 3)
+copies_set None s (every, least, copies) = (omega (arith, copies), omega (arith, copies))
+copies_set (Some bytes) s (lines, is, some, are, every, least, copies) = subst (λ n. (0 < n) × (n ≤ 3)) (sym copies) (copies_of lines are)
