@@ -117,7 +117,7 @@ pub fn live<
     requires few { vec_len tables ≤ 16 }
     ensures told { Tells stay.entry.door result (O.contents out.old) (O.contents out.new) }
     ensures kept { LeavesFolded stay.entry.folder making.first stay.entry.held.files.items result }
-    ensures served { LeavesServed Finds Names Takes (BeginOver Takes (record { first = making.first; vnodes = 3; passes = vec_len tables + 4 }) (map (λ t. t.listed) tables.items) (hooks_for stay.entry.folder stay.entry.held.hooks.items)) result }
+    ensures served { LeavesServed Finds Names Takes (BeginOver Takes (record { first = making.first; vnodes = 3; passes = vec_len tables + 4 }) making.copies (map (λ t. t.listed) tables.items) (hooks_for stay.entry.folder stay.entry.held.hooks.items)) result }
 {
     let stay = stay.folded(host.alloc, making.first / VNODES_PER_NUMBER)?;
     over_files(host, making, tables, stay, out)

@@ -19,5 +19,5 @@ returns-clause-kept g c =
 pub returns-clause-served : goal.returns-clause-served
 returns-clause-served g c =
     subst
-    (λ (hooks : Option (List ℕ)). LeavesServed Finds Names Takes (BeginOver Takes (record { first = c.args.making.first; vnodes = 3; passes = vec_len c.args.tables + 4 }) (map (λ t. t.listed) c.args.tables.items) hooks) c.over_files.result)
+    (λ (hooks : Option (List ℕ)). LeavesServed Finds Names Takes (BeginOver Takes (record { first = c.args.making.first; vnodes = 3; passes = vec_len c.args.tables + 4 }) c.args.making.copies (map (λ t. t.listed) c.args.tables.items) hooks) c.over_files.result)
     (ap (λ f. hooks_for f c.in_ok-stay.stay.held.hooks.items) c.in_ok-stay.ensures.folder ∙ ap (λ v. hooks_for c.args.stay.folder v.items) c.in_ok-stay.ensures.hooks) c.over_files.ensures.served
