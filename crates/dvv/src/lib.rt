@@ -17,6 +17,10 @@ pub const MAX_COUNTER: u64 = 1 << 62;
 /// The most entries of a clock, one for each vnode.
 pub const MAX_ENTRIES: usize = 1024;
 
+/// A vnode's identifier is the number of the start that made it times this, and its index, which is below this: of 32 bits the number has the
+/// upper 24, and the index the lower 8.
+pub const VNODES_PER_NUMBER: u32 = 256;
+
 /// One event: the n-th of a vnode, from 1. Dots are in order of vnode, then of n. The default has number 0, and is no event.
 #[derive(Clone, Copy, Default, PartialEq, Eq, PartialOrd, Ord)]
 pub struct Dot {
