@@ -3,6 +3,7 @@ use Rattle.std.proofs.Common.{◌≡◌, List, None, Err, Result, refl, sym, sub
 use Rattle.std.specs.Prelude.{◌≢◌, IfErr, MatchResult, OnOk}
 use Rattle.hook_abi.specs.declared.answer.Verdict.{Verdict}
 use Rattle.hook_run.specs.Lending.{HadWindows}
+use Rattle.bpf_semantics.specs.State.{Calls}
 use Rattle.bpf_helpers.specs.declared.sig.Entry.{Entry}
 use Rattle.bpf_verifier.specs.Program.{Program}
 use Rattle.key_state.specs.declared.content.Sibling.{Sibling}
@@ -10,14 +11,14 @@ use Rattle.hook_run.specs.declared.deciding.RunFault.{RunFault}
 use Rattle.hook_run.specs.declared.deciding.RunFault.TheVariants.{Disagrees, TooLarge, Bad, NoMemory}
 use Rattle.hook_run.specs.declared.resolving.Resolution.{Resolution}
 use Rattle.hook_run.specs.declared.resolving.Unresolved.{Unresolved}
-use Rattle.hook_run.specs.Decisions.{IsDecision}
-use Rattle.hook_run.specs.Resolving.{IsResolution, IsUnresolved, resolution_of}
+use Rattle.hook_run.specs.Decisions.{IsDecisionBy}
+use Rattle.hook_run.specs.Resolving.{IsResolutionBy, IsUnresolved, resolution_of}
 
-as_told : (listed : List Entry) (hook : Program) (siblings : List Sibling) (fault : RunFault) → IsDecision hook None siblings listed (Err fault) → MatchResult (resolution_of (Err fault)) (IsResolution listed hook siblings) (IsUnresolved listed hook siblings)
-as_told listed hook siblings Disagrees d = d
-as_told listed hook siblings TooLarge d = (Err TooLarge, d, refl)
-as_told listed hook siblings (Bad bad) d = (Err (Bad bad), d, refl)
-as_told listed hook siblings NoMemory d = d
+as_told : (calls : Calls) (listed : List Entry) (hook : Program) (siblings : List Sibling) (fault : RunFault) → IsDecisionBy calls hook None siblings listed (Err fault) → MatchResult (resolution_of (Err fault)) (IsResolutionBy calls listed hook siblings) (IsUnresolved listed hook siblings)
+as_told calls listed hook siblings Disagrees d = d
+as_told calls listed hook siblings TooLarge d = (Err TooLarge, d, refl)
+as_told calls listed hook siblings (Bad bad) d = (Err (Bad bad), d, refl)
+as_told calls listed hook siblings NoMemory d = d
 
 none_told : (fault : RunFault) (P : Type 0) → fault ≢ NoMemory → IfErr (resolution_of (Err fault)) (λ u. u ≡ Unresolved.NoMemory → P)
 none_told Disagrees P fits = λ e. cc
@@ -31,9 +32,9 @@ windows_told TooLarge P fits = fits tt
 windows_told (Bad bad) P fits = fits tt
 windows_told NoMemory P fits = tt
 
-pub came_to : (listed : List Entry) (hook : Program) (siblings : List Sibling) (fault : RunFault) (result : Result Resolution Unresolved) → result ≡ resolution_of (Err fault) → IsDecision hook None siblings listed (Err fault)
-    → MatchResult result (IsResolution listed hook siblings) (IsUnresolved listed hook siblings)
-came_to listed hook siblings fault result is d = subst (λ (r : Result Resolution Unresolved). MatchResult r (IsResolution listed hook siblings) (IsUnresolved listed hook siblings)) (sym is) (as_told listed hook siblings fault d)
+pub came_to : (calls : Calls) (listed : List Entry) (hook : Program) (siblings : List Sibling) (fault : RunFault) (result : Result Resolution Unresolved) → result ≡ resolution_of (Err fault) → IsDecisionBy calls hook None siblings listed (Err fault)
+    → MatchResult result (IsResolutionBy calls listed hook siblings) (IsUnresolved listed hook siblings)
+came_to calls listed hook siblings fault result is d = subst (λ (r : Result Resolution Unresolved). MatchResult r (IsResolutionBy calls listed hook siblings) (IsUnresolved listed hook siblings)) (sym is) (as_told calls listed hook siblings fault d)
 
 -- a room that fits: want of memory is not told
 pub bounded : (fault : RunFault) (P : Type 0) (result : Result Resolution Unresolved) → result ≡ resolution_of (Err fault) → fault ≢ NoMemory → IfErr result (λ u. u ≡ Unresolved.NoMemory → P)

@@ -14,7 +14,9 @@ use Rattle.hook_run.specs.declared.resolving.Resolution.{Resolution}
 use Rattle.hook_run.specs.declared.resolving.Resolution.TheVariants.{Keep, Take, Write, Delete, TooLarge, Bad}
 use Rattle.hook_run.specs.declared.resolving.Unresolved.{Unresolved}
 use Rattle.hook_run.specs.declared.resolving.Unresolved.TheVariants.{Disagrees, NoMemory}
-use Rattle.hook_run.specs.Decisions.{IsDecision}
+use Rattle.bpf_semantics.specs.State.{Calls}
+use Rattle.bpf_helpers.specs.Calls.{calls_of}
+use Rattle.hook_run.specs.Decisions.{IsDecision, IsDecisionBy}
 
 -- what a decision comes to: a written value is a content of the media type application/octet-stream; the verdicts of other kinds of hooks keep the siblings
 abbrev pub resolution_of : Result Meaning RunFault → Result Resolution Unresolved
@@ -47,16 +49,25 @@ abbrev pub IsWritten : Meaning → Type 0
 IsWritten (Wrote bytes) = Unit {0}
 IsWritten other = ⊥
 
+module _ (calls : Calls) (listed : List Entry) (hook : Program) (siblings : List Sibling) where
+  -- what a run of the hook on the siblings comes to, over a table of these helpers, where calls answer by a relation
+  abbrev pub IsResolutionBy : Resolution → Type 0
+  IsResolutionBy resolution = (decided : Result Meaning RunFault) × IsDecisionBy calls hook None siblings listed decided × (resolution_of decided ≡ Ok resolution)
+
+  -- the hook wrote a value, for which alone a resolver whose room fits wants memory
+  abbrev pub WritesValueBy : Type 0
+  WritesValueBy = (written : Meaning) × IsWritten written × IsDecisionBy calls hook None siblings listed (Ok written)
+
+-- the same by the Sigs alone: a helper's answer is some number of its Sig's range
 module _ (listed : List Entry) (hook : Program) (siblings : List Sibling) where
-  -- what a run of the hook on the siblings comes to, over a table of these helpers
   abbrev pub IsResolution : Resolution → Type 0
-  IsResolution resolution = (decided : Result Meaning RunFault) × IsDecision hook None siblings listed decided × (resolution_of decided ≡ Ok resolution)
+  IsResolution resolution = IsResolutionBy (calls_of hook.sigs) listed hook siblings resolution
 
   -- why it comes to nothing: the table lacks a helper of the hook, or memory ran out
   abbrev pub IsUnresolved : Unresolved → Type 0
   IsUnresolved Disagrees = IsDecision hook None siblings listed (Err fault.Disagrees)
   IsUnresolved NoMemory = IsDecision hook None siblings listed (Err fault.NoMemory)
 
-  -- the hook wrote a value, for which alone a resolver whose room fits wants memory
+  -- the hook wrote a value
   abbrev pub WritesValue : Type 0
-  WritesValue = (written : Meaning) × IsWritten written × IsDecision hook None siblings listed (Ok written)
+  WritesValue = WritesValueBy (calls_of hook.sigs) listed hook siblings

@@ -1,18 +1,19 @@
 //! A run of a hook on the siblings of a key, and its verdict.
 
-ghost use Rattle.std.specs.Prelude.{◌≡◌, ◌≢◌, ◌≤◌, ◌<◌, ◌⊎◌, length, take, vec_len, IsOk, IfOk, IfErr, OnOk, OnErr, MatchResult, Ok, Err};
+ghost use Rattle.std.specs.Prelude.{◌≡◌, ◌≢◌, ◌≤◌, ◌<◌, ◌⊎◌, length, max, take, vec_len, IsOk, IfOk, IfErr, OnOk, OnErr, MatchResult, Ok, Err};
 ghost use Rattle.std.specs.Borrow.{sem};
 ghost use Rattle.std.specs.Option.{option_copied};
 ghost use Rattle.bpf_semantics.specs.Step.{IsInput};
 ghost use Rattle.bpf_semantics.specs.Windows.{longest_window};
 ghost use Rattle.hook_abi.specs.Input.{contents_shown, used_by, window_of};
 ghost use Rattle.bpf_helpers.specs.Entries.{AgreesWith};
+ghost use Rattle.bpf_helpers.specs.Closures.{calls_told};
 ghost use Rattle.hook_abi.specs.Verdicts.{meaning_of, verdict_of};
-ghost use Rattle.hook_run.specs.Decisions.{HasRoom, IsDecision, IsRun, LacksRoom, told_of};
-ghost use Rattle.hook_run.specs.Rooms.{IsKept, HasRoomFor};
+ghost use Rattle.hook_run.specs.Decisions.{HasRoom, IsDecision, IsDecisionBy, IsRun, IsRunBy, LacksRoom, told_of};
+ghost use Rattle.hook_run.specs.Rooms.{IsKept, IsPartlyGrown, HasRoomFor, grown};
 ghost use Rattle.hook_run.specs.Lending.{LeavesRoom};
 
-use bpf_helpers::Table;
+use bpf_helpers::{Closures, Table};
 use bpf_image::ImageKind;
 use bpf_interpreter::run;
 use bpf_verifier::Verified;
@@ -62,9 +63,12 @@ impl Room {
         }
     }
 
-    /// Grows the windows that are shorter than a hook's, so that its runs want no memory. None shrinks.
+    /// Grows the windows that are shorter than a hook's, so that its runs want no memory. None shrinks. Where memory runs out, the
+    /// input's window may have grown, and the output's is as it was.
     pub fn fit(&mut self, hook: &Verified) -> Result<(), AllocError>
         ensures fits { OnOk result (HasRoomFor self.new hook.now) }
+        ensures grown { OnOk result (self.new ≡ grown self.old hook.now) }
+        ensures refused { OnErr result (IsPartlyGrown self.old hook.now self.new) }
         ensures kept { IsKept self.old self.new }
         ensures enough { HasRoomFor self.old hook.now → IsOk result }
     {
@@ -78,7 +82,8 @@ impl Room {
 /// on their layout; it borrows the output window.
 ///
 /// `Disagrees`, `TooLarge` and `Bad`, the first that stands; `NoMemory` where a window could not grow, and so never in a room that
-/// fits the hook. No window shrinks: once a run had windows, its room fits the hook from then on.
+/// fits the hook. No window shrinks: once a run had windows, its room fits the hook from then on. So the windows have grown to the
+/// hook's at `TooLarge` and `Bad` too; at `NoMemory` the input's may have, and at `Disagrees` the room is as it was.
 pub fn decide<'a>(
     room: &'a mut Room,
     hook: &Verified,
@@ -87,6 +92,7 @@ pub fn decide<'a>(
     siblings: &[Sibling],
 ) -> Result<Verdict<'a>, RunFault>
     ensures decision { MatchResult result (λ verdict. IsDecision hook.now (option_copied new.entry) siblings.now table.now.listed (Ok (meaning_of verdict))) (λ fault. IsDecision hook.now (option_copied new.entry) siblings.now table.now.listed (Err fault)) }
+    ensures told { let calls = calls_told (⟦<Table as Closures>⟧.tells table.now) hook.now.sigs in MatchResult result (λ verdict. IsDecisionBy calls hook.now (option_copied new.entry) siblings.now table.now.listed (Ok (meaning_of verdict))) (λ fault. IsDecisionBy calls hook.now (option_copied new.entry) siblings.now table.now.listed (Err fault)) }
     ensures enough { HasRoomFor room.old hook.now → IfErr result (λ fault. fault ≢ RunFault.NoMemory) }
     ensures* left { sem 𝓛 (LeavesRoom hook.now result room.entry) }
 {
@@ -111,6 +117,8 @@ pub fn decide<'a>(
 fn grow(buffer: &mut Vec<u8>, len: usize) -> Result<(), AllocError>
     ensures long { OnOk result (len ≤ vec_len buffer.new) }
     ensures kept { vec_len buffer.old ≤ vec_len buffer.new }
+    ensures grown { OnOk result (vec_len buffer.new ≡ max (vec_len buffer.old) len) }
+    ensures refused { OnErr result (vec_len buffer.new ≡ vec_len buffer.old) }
     ensures enough { len ≤ vec_len buffer.old → IsOk result }
 {
     if buffer.len() < len {
@@ -132,6 +140,7 @@ fn answer_of(
     requires input { hook.now.in_len ≤ length input.old }
     requires output { hook.now.out_len ≤ length output.old }
     ensures ran { IfOk result (λ answer. HasRoom hook.now (option_copied new.entry) siblings.now × IsRun hook.now (option_copied new.entry) siblings.now answer (take hook.now.out_len output.new)) }
+    ensures told { IfOk result (λ answer. IsRunBy (calls_told (⟦<Table as Closures>⟧.tells table.now) hook.now.sigs) hook.now (option_copied new.entry) siblings.now answer (take hook.now.out_len output.new)) }
     ensures large { IfErr result (λ fault. (fault ≡ RunFault.TooLarge) × LacksRoom hook.now (option_copied new.entry) siblings.now) }
 {
     let image = hook.image();

@@ -3,11 +3,12 @@
 ghost use Rattle.std.specs.Prelude.{◌≡◌, IfErr, IfOk, MatchResult, OnErr, OnOk, Ok, Err};
 ghost use Rattle.std.specs.Option.{option_copied};
 ghost use Rattle.hook_abi.specs.Verdicts.{meaning_of};
-ghost use Rattle.hook_run.specs.Resolving.{IsResolution, IsUnresolved, IsWritten, WritesValue, chosen_by, resolution_of};
-ghost use Rattle.hook_run.specs.Rooms.{HasRoomFor, IsKept};
+ghost use Rattle.bpf_helpers.specs.Closures.{calls_told};
+ghost use Rattle.hook_run.specs.Resolving.{IsResolution, IsResolutionBy, IsUnresolved, IsWritten, WritesValue, chosen_by, resolution_of};
+ghost use Rattle.hook_run.specs.Rooms.{HasRoomFor, IsKept, grown};
 
 use crate::deciding::{Room, RunFault, decide};
-use bpf_helpers::Table;
+use bpf_helpers::{Closures, Table};
 use bpf_verifier::Verified;
 use hook_abi::{BadAnswer, Verdict, octet_stream};
 use key_state::{Content, Sibling};
@@ -63,7 +64,9 @@ impl Resolution {
 ///
 /// `Disagrees` where the table lacks a helper of the hook; `NoMemory` where a window could not grow, or the value that the hook
 /// wrote could not be kept, and so in a room that fits the hook only where it wrote one. Nothing is copied but that value. No
-/// window shrinks, and the room of a resolution fits the hook from then on.
+/// window shrinks, and the room of a resolution, `TooLarge` and `Bad` among them, fits the hook from then on: its windows have grown
+/// to the hook's where they were shorter, and no further. At `Disagrees` the room is as it was; at `NoMemory` each window is, or has
+/// grown to the hook's.
 pub fn resolve(
     alloc: Global,
     room: &mut Room,
@@ -72,9 +75,12 @@ pub fn resolve(
     siblings: &[Sibling],
 ) -> Result<Resolution, Unresolved>
     ensures resolution { MatchResult result (IsResolution table.now.listed hook.now siblings.now) (IsUnresolved table.now.listed hook.now siblings.now) }
+    ensures told { let calls = calls_told (⟦<Table as Closures>⟧.tells table.now) hook.now.sigs in MatchResult result (IsResolutionBy calls table.now.listed hook.now siblings.now) (IsUnresolved table.now.listed hook.now siblings.now) }
     ensures enough { HasRoomFor room.old hook.now → IfErr result (λ unresolved. unresolved ≡ Unresolved.NoMemory → WritesValue table.now.listed hook.now siblings.now) }
     ensures kept { IsKept room.old room.new }
     ensures fits { OnOk result (HasRoomFor room.new hook.now) }
+    ensures grown { OnOk result (room.new ≡ grown room.old hook.now) }
+    ensures disagrees { IfErr result (λ unresolved. unresolved ≡ Unresolved.Disagrees → room.new ≡ room.old) }
 {
     match decide(room, hook, table, None, siblings) {
         Ok(verdict) => match resolved(alloc, verdict) {
