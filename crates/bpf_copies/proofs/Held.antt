@@ -37,6 +37,14 @@ joined_in waiting j k old new names at lt is =
     (λ other. held_other waiting j k new other ∙ sym (cond-false (eqb j k) (joined k (held_at waiting k) names) (held_at waiting k) (ne_eqb j k (λ e. other (sym e)))))
     (cases_eq k j)
 
+-- what is there stays
+pub kept_in : (waiting : Held) (j k : ℕ) (old new : Option (Box Names)) → slice_get waiting j ≡ Some old → j < length waiting → unboxed new ≡ unboxed old → held_at (set waiting j new) k ≡ held_at waiting k
+kept_in waiting j k old new at lt is =
+    ⊎_elim
+    (λ same. subst (λ n. held_at (set waiting j new) n ≡ held_at waiting n) (sym same) (held_same waiting j new lt ∙ is ∙ sym (ap held_in at)))
+    (λ other. held_other waiting j k new other)
+    (cases_eq k j)
+
 -- where none leads
 pub none_led : (k : ℕ) (target : Option ℤ) (names : Names) (before : Option Names) → is_slot k target ≡ false → before ≡ by_jump k target names before
 none_led k target names before f = sym (cond-false (is_slot k target) (joined k before names) before f)

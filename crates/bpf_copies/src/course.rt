@@ -1,6 +1,6 @@
 //! Names on the way through a program's slots.
 
-ghost use Rattle.std.specs.Prelude.{◌≡◌, ◌<◌, ◌≤◌, ◌+◌, ℕ, Some, None, IfOk, List, slice_get, vec_len};
+ghost use Rattle.std.specs.Prelude.{◌≡◌, ◌<◌, ◌≤◌, ◌+◌, ℕ, Some, None, IfOk, OnErr, List, slice_get, vec_len};
 ghost use Rattle.bpf_insn.specs.declared.Insn.{Insn};
 ghost use Rattle.bpf_copies.specs.Names.{joined, by_jump, by_next, come, goes_on};
 ghost use Rattle.bpf_copies.specs.Courses.{unboxed, held_at, Follows};
@@ -31,7 +31,8 @@ fn join_into(
     names: &[Name; 11],
 ) -> Result<(), AllocError>
     requires { slot ≤ 4096 }
-    ensures { IfOk result (λ _. unboxed kept.new ≡ joined slot (unboxed kept.old) names.now) }
+    ensures joined { IfOk result (λ _. unboxed kept.new ≡ joined slot (unboxed kept.old) names.now) }
+    ensures refused { OnErr result (unboxed kept.new ≡ unboxed kept.old) }
 {
     match kept {
         Some(old) => **old = join_names(slot, old, names),
@@ -50,6 +51,7 @@ fn join_target(
     requires { vec_len waiting.old ≤ 4097 }
     ensures long { IfOk result (λ _. vec_len waiting.new ≡ vec_len waiting.old) }
     ensures names { IfOk result (λ _. (k : ℕ) → k < vec_len waiting.old → held_at waiting.new.items k ≡ by_jump k target names.now (held_at waiting.old.items k)) }
+    ensures refused { OnErr result ((k : ℕ) → held_at waiting.new.items k ≡ held_at waiting.old.items k) }
 {
     if let Some(place) = place_of(target, waiting.len()) {
         join_into(place as u32, spare, &mut waiting[place], names)?;
@@ -99,10 +101,13 @@ impl Course {
     }
 
     /// Goes over the instruction of a slot to the next one. It is said within which bounds its operand is, where that is a register.
+    /// Where memory runs out, the names before the slot are as they were, and so are those that wait.
     pub fn advance(&mut self, at: usize, insn: Insn, known: Bounds) -> Result<(), AllocError>
         requires few { vec_len self.old.waiting ≤ 4097 }
         requires within { at + 1 < vec_len self.old.waiting }
-        ensures { IfOk result (λ _. (code : List Insn) (knows : ℕ → Bounds) → slice_get code at ≡ Some insn → knows at ≡ known → Follows code knows (vec_len self.old.waiting) at self.old → Follows code knows (vec_len self.old.waiting) (at + 1) self.new) }
+        ensures follows { IfOk result (λ _. (code : List Insn) (knows : ℕ → Bounds) → slice_get code at ≡ Some insn → knows at ≡ known → Follows code knows (vec_len self.old.waiting) at self.old → Follows code knows (vec_len self.old.waiting) (at + 1) self.new) }
+        ensures here { OnErr result (self.new.here ≡ self.old.here) }
+        ensures waiting { OnErr result ((k : ℕ) → held_at self.new.waiting.items k ≡ held_at self.old.waiting.items k) }
     {
         join_target(
             &mut self.spare,

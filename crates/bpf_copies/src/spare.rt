@@ -1,6 +1,6 @@
 //! Names that wait, and room for them.
 
-ghost use Rattle.std.specs.Prelude.{◌≡◌, IfOk};
+ghost use Rattle.std.specs.Prelude.{◌≡◌, IfOk, OnErr};
 
 use crate::name::Name;
 use std::alloc::{AllocError, Global};
@@ -21,9 +21,10 @@ impl Spare {
         Spare { alloc, room: None }
     }
 
-    /// A copy of names.
+    /// A copy of names. Where memory runs out there was no room, and there is none.
     pub fn boxed(&mut self, names: &[Name; 11]) -> Result<Box<[Name; 11]>, AllocError>
-        ensures { IfOk result (λ copy. copy.value ≡ names.now) }
+        ensures copy { IfOk result (λ copy. copy.value ≡ names.now) }
+        ensures refused { OnErr result (self.new ≡ self.old) }
     {
         match self.room.take() {
             Some(mut copy) => {

@@ -1,6 +1,6 @@
 //! Which sum is known at a slot, and what it tells of its numbers; and the names of the registers there, by the second profile.
 
-ghost use Rattle.std.specs.Prelude.{◌≡◌, ◌<◌, ◌+◌, ◌||◌, true, false, ℕ, Bool, if◌then◌else◌, IfOk, Some, None, List, slice_get, length, vec_len};
+ghost use Rattle.std.specs.Prelude.{◌≡◌, ◌<◌, ◌+◌, ◌||◌, true, false, ℕ, Bool, if◌then◌else◌, IfOk, OnErr, Some, None, List, slice_get, length, vec_len};
 ghost use Rattle.bpf_insn.specs.declared.Insn.{Insn};
 ghost use Rattle.bpf_alu.specs.declared.Cond.TheVariants.{LessEqual};
 ghost use Rattle.bpf_alu.specs.declared.Width.TheVariants.{W64};
@@ -13,6 +13,7 @@ ghost use Rattle.bpf_verifier.specs.Candidates.{program_in};
 ghost use Rattle.bpf_verifier.specs.Naming.{bounds_at};
 ghost use Rattle.bpf_verifier.specs.Table.{table, AreKinds};
 ghost use Rattle.bpf_copies.specs.Led.{is_slot};
+ghost use Rattle.bpf_copies.specs.Courses.{Follows, held_at};
 ghost use Rattle.bpf_verifier.specs.Sums.{is_operand, has_register, without, copied, is_copy, added, sum_of_op, sum_after, least, most, at_most, register_at_most, operand_at_most, told_by, told};
 ghost use Rattle.bpf_verifier.specs.Known.{AreSums};
 
@@ -182,6 +183,27 @@ fn named_slots(profile: Profile, slots: usize) -> usize
     }
 }
 
+/// Has names go on to the next slot, by the second profile. It is said within which bounds the operand is, where that is a register.
+/// Where memory runs out they are as they were.
+fn name_on(
+    names: &mut Course,
+    program: &Candidate,
+    at: usize,
+    known: Bounds,
+) -> Result<(), AllocError>
+    requires within { at < length program.now.image.code.items }
+    requires old { program.now.image.profile ≡ Second → Follows program.now.image.code.items (bounds_at (program_in program.now) (table (program_in program.now))) (length program.now.image.code.items + 1) at names.old }
+    requires known { program.now.image.profile ≡ Second → bounds_at (program_in program.now) (table (program_in program.now)) at ≡ known }
+    ensures follows { IfOk result (λ _. program.now.image.profile ≡ Second → Follows program.now.image.code.items (bounds_at (program_in program.now) (table (program_in program.now))) (length program.now.image.code.items + 1) (at + 1) names.new) }
+    ensures here { OnErr result (names.new.here ≡ names.old.here) }
+    ensures waiting { OnErr result ((k : ℕ) → held_at names.new.waiting.items k ≡ held_at names.old.waiting.items k) }
+{
+    match program.image.profile {
+        Profile::First => Ok(()),
+        Profile::Second => names.advance(at, program.image.code[at], known),
+    }
+}
+
 impl Sums {
     /// At the first of so many slots nothing is known.
     pub fn new(alloc: Global, profile: Profile, slots: usize) -> Result<Sums, AllocError>
@@ -196,7 +218,8 @@ impl Sums {
         })
     }
 
-    /// Goes on to the next slot. It is said within which bounds the operand is, where that is a register.
+    /// Goes on to the next slot. It is said within which bounds the operand is, where that is a register. Where memory runs out, all is
+    /// as it was.
     pub fn advance(
         &mut self,
         program: &Candidate,
@@ -206,15 +229,15 @@ impl Sums {
         requires within { at < length program.now.image.code.items }
         requires old { AreSums (program_in program.now) (length program.now.image.code.items + 1) at self.old }
         requires known { program.now.image.profile ≡ Second → bounds_at (program_in program.now) (table (program_in program.now)) at ≡ known }
-        ensures { IfOk result (λ _. AreSums (program_in program.now) (length program.now.image.code.items + 1) (at + 1) self.new) }
+        ensures on { IfOk result (λ _. AreSums (program_in program.now) (length program.now.image.code.items + 1) (at + 1) self.new) }
+        ensures sum { OnErr result ((self.new.sum ≡ self.old.sum) × (self.new.led.items ≡ self.old.led.items)) }
+        ensures names { OnErr result ((self.new.names.here ≡ self.old.names.here) × ((k : ℕ) → held_at self.new.names.waiting.items k ≡ held_at self.old.names.waiting.items k)) }
     {
+        name_on(&mut self.names, program, at, known)?;
         let insn = program.image.code[at];
         note(&mut self.led, target_of(at, insn));
         self.sum = sum_on(self.led[at + 1], insn, self.sum);
-        match program.image.profile {
-            Profile::First => Ok(()),
-            Profile::Second => self.names.advance(at, insn, known),
-        }
+        Ok(())
     }
 }
 

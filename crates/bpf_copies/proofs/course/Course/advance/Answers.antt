@@ -5,8 +5,8 @@ use Rattle.bpf_copies.specs.Courses.{unboxed, held_in, held_at}
 use Rattle.bpf_copies.proofs.Held.{here_on, behind_on, held_other}
 use Rattle.bpf_copies.proofs.course.Course.advance.Goals as goal
 
-pub returns : goal.returns
-returns c = λ code knows at said old.
+pub returns-clause-follows : goal.returns-clause-follows
+returns-clause-follows c = λ code knows at said old.
     let i = c.args.at in
     let x = c.args.insn in
     let names = c.args.self.now.here in

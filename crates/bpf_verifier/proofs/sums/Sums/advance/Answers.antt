@@ -1,17 +1,12 @@
-use Rattle.std.proofs.Common.{ℕ, ◌≡◌, ◌+◌, ◌<◌, ◌||◌, length, Some, sym, ap, ◌∙◌, subst, arith}
+use Rattle.std.proofs.Common.{ℕ, ◌≡◌, ◌+◌, ◌<◌, ◌||◌, length, Some, sym, ap, ◌∙◌, arith}
 use Rattle.std.specs.Prelude.{slice_get}
 use Rattle.std.proofs.lemmas.Option.{slice_get_read, same_Some}
-use Rattle.bpf_semantics.specs.declared.profile.Profile.TheVariants.{First, Second}
 use Rattle.bpf_copies.specs.Led.{is_slot, leads_before}
-use Rattle.bpf_copies.specs.Courses.{Follows}
-use Rattle.bpf_verifier.specs.Candidates.{program_in}
-use Rattle.bpf_verifier.specs.Naming.{bounds_at}
-use Rattle.bpf_verifier.specs.Table.{table}
-use Rattle.bpf_verifier.proofs.Noted.{led_on, sum_on, if_ok}
+use Rattle.bpf_verifier.proofs.Noted.{led_on, sum_on}
 use Rattle.bpf_verifier.proofs.sums.Sums.advance.Goals as goal
 
-pub returns-in-First : goal.returns-in-First
-returns-in-First c =
+pub returns-clause-on : goal.returns-clause-on
+returns-clause-on c =
     let code = c.args.program.now.image.code.items in
     let at = c.args.at in
     let x = c.index-insn.result.now in
@@ -22,26 +17,5 @@ returns-in-First c =
       long = omega (arith, c.note.ensures.long, c.requires.old.long);
       led = led;
       sum = c.sum_on-self.ensures ∙ sum_on code at x c.index.result.now c.args.self.now.sum insn here c.requires.old.sum;
-      names = λ is. let clash : First ≡ Second = sym c.in-First.is ∙ is in cc;
+      names = c.in_ok-name_on.ensures.follows;
     }
-
-pub returns-in-Second : goal.returns-in-Second
-returns-in-Second c =
-    let p = program_in c.args.program.now in
-    let code = c.args.program.now.image.code.items in
-    let at = c.args.at in
-    let x = c.index-insn.result.now in
-    let known = bounds_at p (table p) in
-    let insn = slice_get_read code c.args.program.now.image.code.len at x c.args.program.now.image.code.ok.0 (omega (arith, c.requires.within, c.args.program.now.image.code.ok.0)) c.index-insn.ensures in
-    let led : (k : ℕ) → k < length code + 1 → slice_get c.note.new.led.items k ≡ Some (leads_before code (at + 1) k) = λ k lt. c.note.ensures.noted k (leads_before code at k) (c.requires.old.led k lt) ∙ ap Some (ap (λ o. is_slot k o || leads_before code at k) c.target_of.ensures ∙ led_on code at k x insn) in
-    let here = same_Some _ _ (sym (slice_get_read c.note.new.led.items c.note.new.led.len (at + 1) c.index.result.now c.note.new.led.ok.0 (omega (arith, c.requires.within, c.note.ensures.long, c.requires.old.long)) c.index.ensures) ∙ led (at + 1) (omega (arith, c.requires.within))) in
-    if_ok _ _ c.advance.result
-    (λ _ on. record {
-      long = omega (arith, c.note.ensures.long, c.requires.old.long);
-      led = led;
-      sum = c.sum_on-self.ensures ∙ sum_on code at x c.index.result.now c.args.self.now.sum insn here c.requires.old.sum;
-      names = λ is.
-          let old = c.requires.old.names is in
-          subst (λ n. Follows code known n (at + 1) c.advance.new.self) old.long (on code known insn (c.requires.known is) (subst (λ n. Follows code known n at c.args.self.now.names) (sym old.long) old));
-    })
-    c.advance.ensures
