@@ -1,20 +1,23 @@
 //! A table with three helpers of a host: which it takes, with which Sigs it agrees, and what programs that call them come to, as the
 //! verifier tells and step by step. The written helpers, 16 to 19, stand in rows of the examples.
 
-ghost use Rattle.std.specs.Prelude.{◌≤◌};
+ghost use Rattle.std.specs.Prelude.{◌≤◌, length};
+ghost use Rattle.bpf_helpers.specs.Entries.{AgreesWith};
 
 use crate::tests::runs::Ending::{self, Answers, Faults};
 use crate::tests::runs::{NONE, ends_so};
 use crate::tests::verdicts::Told::{self, Accepted, Refused};
 use crate::tests::verdicts::is_told;
 use bpf_helpers::{ArgRule, Body, Helper, HelperFault, Sig, Sigs, Table};
+use bpf_interpreter::{Done, padded, run};
 use bpf_semantics::Fault;
+use bpf_verifier::{Verified, read_image, verify};
 use std::alloc::Global;
 use std::cell::Cell;
 use std::test::Fail;
 use test_support::Slot::{Added, Call, Copied, Exit, Put, Raised, StoreByte};
 use test_support::helpers::{ANY, ONE_NUMBER, UNUSED, modulo_8, octal};
-use test_support::{Slot, expect};
+use test_support::{Slot, expect, image_of};
 
 /// Adds the remainder by 8 as 64. Answers why it is handed back, if it is.
 fn add_modulo(alloc: Global, table: &mut Table) -> Result<Option<HelperFault>, Fail> {
@@ -79,6 +82,9 @@ const KEEP: Slot = Copied(6, 3);
 /// Adds an answer to the address that R6 keeps.
 const ADD: Slot = Added(6, 0);
 
+/// Calls the helper twice that counts its calls.
+const COUNTED: &[Slot] = &[Call(67), Call(67), Exit];
+
 /// Programs that call helpers, with windows of the input's length and of 8 bytes: the slots, the input, how a drive ends, and what the
 /// verifier tells.
 const CALLS: &[(&str, &[Slot], &[u8], Ending, Told)] = &[
@@ -126,7 +132,7 @@ const CALLS: &[(&str, &[Slot], &[u8], Ending, Told)] = &[
     ),
     (
         "a closure is called once a call",
-        &[Call(67), Call(67), Exit],
+        COUNTED,
         b"",
         Answers(2, 3),
         Accepted(3),
@@ -316,6 +322,47 @@ fn tell_calls(alloc: Global, table: &Table, sigs: &Sigs) -> Result<(), Fail> {
     Ok(())
 }
 
+/// What a run of a verified program gives on an input that has room in its window.
+fn run_verified(
+    alloc: Global,
+    table: &Table,
+    verified: &Verified,
+    input: &[u8],
+) -> Result<Done, Fail>
+    requires agrees { AgreesWith table.now.listed verified.now.sigs }
+    requires fits { length input.now ≤ verified.now.in_len }
+{
+    let image = verified.image();
+    let window = padded(alloc, input, image.in_len as usize)?;
+    let mut output = vec![in alloc; 0u8; image.out_len as usize]?;
+    let used = input.len() as u32;
+    Ok(run(verified, table, &window, used, &mut output))
+}
+
+/// What a run over lowered slots gives of a program that the verifier accepts.
+fn run_of(alloc: Global, table: &Table, slots: &[Slot], input: &[u8]) -> Result<Done, Fail> {
+    let Ok(image) = read_image(alloc, &image_of(alloc, 8, 8, slots)?) else {
+        return Err(Fail::new("no image"));
+    };
+    match verify(alloc, image, &table.listed) {
+        Ok(verified)
+            if table.agrees(verified.sigs()) && input.len() <= verified.image().in_len as usize => {
+            run_verified(alloc, table, &verified, input)
+        }
+        _ => Err(Fail::new("refused")),
+    }
+}
+
+/// What a run gives of the program that calls a counting closure twice, over a table whose closure nothing called before. Its answer
+/// is how often the closure was called.
+fn counted_run(alloc: Global) -> Result<Done, Fail> {
+    let mut table = Table::new(alloc);
+    if !add_counting(alloc, &mut table)? {
+        return Err(Fail::new("not taken up"));
+    }
+    run_of(alloc, &table, COUNTED, b"")
+}
+
 /// Whether a table takes up the three helpers, and no number twice, and agrees with its own Sigs and with the earlier ones.
 fn is_filled(alloc: Global, table: &mut Table) -> Result<bool, Fail> {
     let first = add_modulo(alloc, table)?;
@@ -332,5 +379,11 @@ fn host_helpers(rt: HostRuntime) -> Result<(), Fail> {
     assert!(rt; is_filled(rt.alloc(), &mut table)?);
     let sigs = table.sigs(rt.alloc())?;
     assert!(rt; table.agrees(&sigs));
-    tell_calls(rt.alloc(), &table, &sigs)
+    tell_calls(rt.alloc(), &table, &sigs)?;
+    let once = Done {
+        answer: 2,
+        steps: 3,
+    };
+    assert!(rt; counted_run(rt.alloc())? == once);
+    Ok(())
 }
