@@ -55,11 +55,11 @@ use Rattle.bpf_verifier.proofs.Fits.{IsWord, FitsRow, at_learn, SomeEdge}
 use Rattle.bpf_verifier.proofs.StackCells.{values_of, values, value_at, register_fits, written_register}
 use Rattle.bpf_verifier.proofs.CellSteps.{touched_fits, stored_fits, loaded_fits}
 use Rattle.bpf_verifier.specs.declared.cell_part.CellPart.{CellPart}
-use Rattle.bpf_verifier.specs.declared.sum.Sum.{Sum}
 use Rattle.bpf_verifier.specs.declared.pair.Pairs.{Pairs}
 use Rattle.bpf_verifier.proofs.Together.{HoldPairs}
 use Rattle.bpf_verifier.proofs.Refined.{refined_is_long, refined_kinds}
-use Rattle.bpf_verifier.proofs.SumSteps.{Holds, told_fits}
+use Rattle.bpf_verifier.specs.Sums.{KnownSums}
+use Rattle.bpf_verifier.proofs.SumSteps.{AllHold, told_fits}
 use Rattle.bpf_verifier.proofs.Shape.{target_edge_at}
 use Rattle.bpf_verifier.proofs.CallSteps.{given_fits, answered, row_fits}
 use Rattle.bpf_verifier.proofs.Places.{IsMemory, place_in, not_input, not_in_input, load_small, store_kept}
@@ -145,7 +145,7 @@ swapped_word : (sound : (profile : Profile) → IsSoundTable profile) (kind : Sw
 swapped_word sound kind n x =
     subst (λ (r : Range). r.hi < 2 ^ 64) (cond-true (eqb x x) (single (swapped kind n x)) (full (8 * byte_count n)) (eq-eqb x x refl)) ((sound First).swap_kind kind n (Num (number_of (single x)))).range.fits
 
-module _ (sound : (profile : Profile) → IsSoundTable profile) (p : Program) (i : ℕ) (row : Row) (s : State) (limits : HasLimits p) (kinds : AreKinds row) (long : IsLong p.profile row) (fits : FitsRow row (values p.profile s)) (at : s.slot ≡ pos i) (memory : IsMemory p s.memory) (sum : Option Sum) (holds : Holds sum s) (pairs : Pairs) (hold : HoldPairs pairs s) where
+module _ (sound : (profile : Profile) → IsSoundTable profile) (p : Program) (i : ℕ) (row : Row) (s : State) (limits : HasLimits p) (kinds : AreKinds row) (long : IsLong p.profile row) (fits : FitsRow row (values p.profile s)) (at : s.slot ≡ pos i) (memory : IsMemory p s.memory) (sums : KnownSums) (holds : AllHold sums s) (pairs : Pairs) (hold : HoldPairs pairs s) where
   -- ---- registers
   at_reg : (r : Register) → Admits (kind_at row r) (register s r) × IsWord (register s r)
   at_reg r = register_fits p.profile row s long fits r
@@ -232,12 +232,12 @@ module _ (sound : (profile : Profile) → IsSoundTable profile) (p : Program) (i
   -- ---- what follows
   -- an edge that admits the state, and a memory as it was laid out
   abbrev pub Lands : Insn → State → Type 0
-  Lands x t = SomeEdge t.slot (values p.profile t) (edges_from p.profile (callee_in p.sigs x) sum i row x) × IsMemory p t.memory
+  Lands x t = SomeEdge t.slot (values p.profile t) (edges_from p.profile (callee_in p.sigs x) sums i row x) × IsMemory p t.memory
 
   -- a number written into a register, whose kind is told by an edge to the next slot
-  written_lands : (x : Insn) (r : Register) (k : Kind) (v : ℕ) (t : State) → edges_from p.profile (callee_in p.sigs x) sum i row x ≡ (i + 1, with_kind row r k) ∷ [] → Admits k (Some v) → v < 2 ^ 64 → t ≡ advanced (with_register r v s) → Lands x t
+  written_lands : (x : Insn) (r : Register) (k : Kind) (v : ℕ) (t : State) → edges_from p.profile (callee_in p.sigs x) sums i row x ≡ (i + 1, with_kind row r k) ∷ [] → Admits k (Some v) → v < 2 ^ 64 → t ≡ advanced (with_register r v s) → Lands x t
   written_lands x r k v t es a w e =
-      let P : State → Type 0 = λ u. SomeEdge u.slot (values p.profile u) (edges_from p.profile (callee_in p.sigs x) sum i row x) × IsMemory p u.memory in
+      let P : State → Type 0 = λ u. SomeEdge u.slot (values p.profile u) (edges_from p.profile (callee_in p.sigs x) sums i row x) × IsMemory p u.memory in
       subst P (sym e) (subst (SomeEdge (s.slot +ℤ pos 1) (values_of p.profile (set s.registers (number r) (Some v)) s.memory.stack)) (sym es) (inl (one_on s.slot i at, written_register p.profile row s long fits r k (Some v) a w)), memory)
 
   alu_lands : (o : Op) (w : Width) (dst : Register) (src : Operand) (t : State) → AllNone (class_rules p Unknown pairs row (insn.Alu o w dst src)) → Does (calls_of p.sigs) (insn.Alu o w dst src) s t → Lands (insn.Alu o w dst src) t
@@ -295,7 +295,7 @@ module _ (sound : (profile : Profile) → IsSoundTable profile) (p : Program) (i
 
   store_lands : (size : Size) (r : Register) (offset : ℤ) (src : Operand) (t : State) → AllNone (class_rules p Unknown pairs row (insn.Store size r offset src)) → Does (calls_of p.sigs) (insn.Store size r offset src) s t → Lands (insn.Store size r offset src) t
   store_lands size r offset src t h d =
-      let P : State → Type 0 = λ u. SomeEdge u.slot (values p.profile u) (edges_from p.profile Unknown sum i row (insn.Store size r offset src)) × IsMemory p u.memory in
+      let P : State → Type 0 = λ u. SomeEdge u.slot (values p.profile u) (edges_from p.profile Unknown sums i row (insn.Store size r offset src)) × IsMemory p u.memory in
       let kept = store_fits size r offset src d.0 (part_at p.profile (kind_at row r) offset (size_bytes size)) (untold_not _ OutsideWindow h.0) d.1 refl in
       subst P (sym d.2) (inl (one_on s.slot i at, kept), store_kept p s.memory d.0 (address s r offset) size (operand_in s src) memory d.1)
 
@@ -340,22 +340,22 @@ module _ (sound : (profile : Profile) → IsSoundTable profile) (p : Program) (i
 
   branch_lands : (c : Cond) (w : Width) (left : Register) (right : Operand) (o : ℤ) (k : ℕ) (t : State) → landing i o ≡ pos k → any_unset row (left ∷ operand_reads right) ≡ false → Does (calls_of p.sigs) (insn.JumpIf c w left right o) s t → Lands (insn.JumpIf c w left right o) t
   branch_lands c w left right o k t e h d =
-      let P : State → Type 0 = λ u. SomeEdge u.slot (values p.profile u) (edges_from p.profile Unknown sum i row (insn.JumpIf c w left right o)) × IsMemory p u.memory in
+      let P : State → Type 0 = λ u. SomeEdge u.slot (values p.profile u) (edges_from p.profile Unknown sums i row (insn.JumpIf c w left right o)) × IsMemory p u.memory in
       subst P (sym d)
       (cond_both (condition c w (number_in s left) (operand_in s right)) (jumped o s) (advanced s) P
       (λ yes. (inr (jump_edge (landing i o) k (refined p.profile c w left right true row) (s.slot +ℤ pos 1 +ℤ o) e (landed o) (branch_fits c w left right true h yes)), memory))
-      (λ no. (inl (one_on s.slot i at, told_fits (sound Second) p.profile s (refined p.profile c w left right false row) (refined_is_long p.profile c w left right false row long) (refined_kinds p.profile (sound p.profile) c w left right false row kinds) (branch_fits c w left right false h no) (insn.JumpIf c w left right o) sum holds), memory)))
+      (λ no. (inl (one_on s.slot i at, told_fits (sound Second) p.profile s (refined p.profile c w left right false row) (refined_is_long p.profile c w left right false row long) (refined_kinds p.profile (sound p.profile) c w left right false row kinds) (branch_fits c w left right false h no) (insn.JumpIf c w left right o) sums holds), memory)))
 
   wide_lands : (dst : Register) (n : ℕ) (t : State) → n < 2 ^ 64 → Does (calls_of p.sigs) (insn.Wide dst n) s t → Lands (insn.Wide dst n) t
   wide_lands dst n t small d =
-      let P : State → Type 0 = λ u. SomeEdge u.slot (values p.profile u) (edges_from p.profile Unknown sum i row (insn.Wide dst n)) × IsMemory p u.memory in
+      let P : State → Type 0 = λ u. SomeEdge u.slot (values p.profile u) (edges_from p.profile Unknown sums i row (insn.Wide dst n)) × IsMemory p u.memory in
       let two : pos (i + 2) ≡ (s.slot +ℤ pos 1 +ℤ pos 1) = two_on s.slot i at in
       subst P (sym d) (inl (two, written_register p.profile row s long fits dst (one_number p.profile n) (Some n) ((sound p.profile).range (single n) n small (omega arith, omega arith)) small), memory)
 
   call_lands : (n : ℕ) (t : State) → AllNone (class_rules p (callee_of p.sigs n) pairs row (insn.Call n)) → Does (calls_of p.sigs) (insn.Call n) s t → Lands (insn.Call n) t
   call_lands n t h d =
       let callee = callee_of p.sigs n in
-      let P : State → Type 0 = λ u. SomeEdge u.slot (values p.profile u) (edges_from p.profile callee sum i row (insn.Call n)) × IsMemory p u.memory in
+      let P : State → Type 0 = λ u. SomeEdge u.slot (values p.profile u) (edges_from p.profile callee sums i row (insn.Call n)) × IsMemory p u.memory in
       let a = answered sound p row s limits long fits memory at_number pairs hold n callee d.0 d.1 d.2 in
       subst P (sym d.3) (inl (one_on s.slot i at, row_fits sound p row s limits long fits memory at_number pairs hold n callee d.0 d.1 (untold_not _ ArgumentRule h.1.0) d.2), a.2)
 

@@ -30,9 +30,9 @@ use Rattle.bpf_verifier.specs.Rules.{callee_in, refined}
 use Rattle.bpf_copies.specs.Led.{leads_before}
 use Rattle.bpf_copies.proofs.Modular.{moved}
 use Rattle.bpf_copies.proofs.Slots.{leads, slot_on, two_on}
-use Rattle.bpf_verifier.specs.Sums.{is_operand, sum_at, most, row_on}
+use Rattle.bpf_verifier.specs.Sums.{KnownSums, sum_in, sums_at, most, row_on}
 use Rattle.bpf_verifier.specs.Pairs.{no_pairs, is_in}
-use Rattle.bpf_verifier.specs.PairSteps.{pair_without, pairs_without, before, with_pair, partner, carried, carried_into, carried_from, pairs_of_sum, pairs_of_op, pair_over_call, pairs_over_call, pair_told, pairs_told, pairs_after, pairs_next, pairs_at}
+use Rattle.bpf_verifier.specs.PairSteps.{pair_without, pairs_without, before, with_pair, partner, carried, carried_into, carried_from, pairs_of_sum, pairs_of_op, pair_over_call, pairs_over_call, pair_told, pair_by, pairs_by_operand, pairs_told, pairs_after, pairs_next, pairs_at}
 use Rattle.bpf_verifier.specs.Table.{target_edge, edges_from, AreKinds}
 use Rattle.bpf_verifier.specs.declared.sum.Sum.{Sum}
 use Rattle.bpf_verifier.specs.declared.pair.Pair.{Pair}
@@ -40,8 +40,8 @@ use Rattle.bpf_verifier.specs.declared.pair.Pairs.{Pairs}
 use Rattle.bpf_verifier.proofs.Fits.{FitsRow, SomeEdge}
 use Rattle.bpf_verifier.proofs.StackCells.{values}
 use Rattle.bpf_verifier.proofs.Refined.{refined_is_long, refined_kinds}
-use Rattle.bpf_verifier.proofs.SumSteps.{Adds, Holds, told_long, told_kinds, most_of, most_word, le_from, at_register, at_operand, kind_operand, whole_sum}
-use Rattle.bpf_verifier.proofs.SumRuns.{Written, differ, no_not, operand_word, number_other, number_same}
+use Rattle.bpf_verifier.proofs.SumSteps.{Adds, Holds, AllHold, told_long, told_kinds, most_of, most_word, le_from, at_register, at_operand, kind_operand, whole_sum}
+use Rattle.bpf_verifier.proofs.SumRuns.{Written, all_same, differ, no_not, operand_word, number_other, number_same}
 use Rattle.bpf_verifier.proofs.Classes.{or_left, or_right}
 use Rattle.bpf_verifier.proofs.Together.{PairHolds, HoldPairs, same_number}
 
@@ -226,17 +226,17 @@ module _ (sound : IsSoundTable Second) (profile : Profile) (t : State) (on : Row
       omega (arith, is, zs))
       (λ _. tt)
 
-  told_holds : (c : Cond) (w : Width) (left : Register) (right : Operand) (o : ℤ) (which : Profile) (sum : Option Sum) (pairs : Pairs) → Holds sum t → HoldPairs pairs t → HoldPairs (pairs_told (insn.JumpIf c w left right o) which sum on pairs) t
-  told_holds c w left right o First sum pairs adds h = h
-  told_holds c w left right o Second None pairs adds h = h
-  told_holds c w left right o Second (Some sum) pairs adds h =
-      cond_both (eqb (number left) (number sum.of) || is_operand sum.of right) (with_pair (pair_told sum sum.right on) pairs) pairs (λ q. HoldPairs q t)
-      (λ _. with_pair_holds t (pair_told sum sum.right on) pairs (sum_told sum sum.right refl adds) h)
-      (λ _. h)
+  by_holds : (sum : Option Sum) → Holds sum t → PairHolds (pair_by sum on) t
+  by_holds None adds = tt
+  by_holds (Some sum) adds = sum_told sum sum.right refl adds
 
-same_sum : (sum : Option Sum) (s t : State) → t.registers ≡ s.registers → Holds sum s → Holds sum t
-same_sum None s t e h = tt
-same_sum (Some sum) s t e h = subst (λ rs. Holds (Some sum) (record s { registers = rs })) (sym e) h
+  operand_holds : (sums : KnownSums) (o : Operand) (pairs : Pairs) → AllHold sums t → HoldPairs pairs t → HoldPairs (pairs_by_operand sums o on pairs) t
+  operand_holds sums (operand.Register r) pairs adds h = with_pair_holds t (pair_by (sum_in sums r) on) pairs (by_holds (sum_in sums r) (adds r)) h
+  operand_holds sums (operand.Immediate n) pairs adds h = h
+
+  told_holds : (c : Cond) (w : Width) (left : Register) (right : Operand) (o : ℤ) (which : Profile) (sums : KnownSums) (pairs : Pairs) → AllHold sums t → HoldPairs pairs t → HoldPairs (pairs_told (insn.JumpIf c w left right o) which sums on pairs) t
+  told_holds c w left right o First sums pairs adds h = h
+  told_holds c w left right o Second sums pairs adds h = with_pair_holds t (pair_by (sum_in sums left) on) (pairs_by_operand sums right on pairs) (by_holds (sum_in sums left) (adds left)) (operand_holds sums right pairs adds h)
 
 -- ---- slots
 
@@ -249,25 +249,25 @@ jump_is (negsuc j) u vs row e = absurd e
 both_ways : (b : Bool) → b ≡ true → b ≡ false → ⊥
 both_ways b t f = cc
 
-module _ (sound : (profile : Profile) → IsSoundTable profile) (p : Program) (rows : List (Option Row)) (s : State) (i : ℕ) (at : s.slot ≡ pos i) (eleven : length s.registers ≡ 11) (words : (r : Register) → number_in s r < 2 ^ 64) (row : Row) (here : slice_get rows i ≡ Some (Some row)) (long : IsLong p.profile row) (kinds : AreKinds row) (fits : FitsRow row (values p.profile s)) (hold : HoldPairs (pairs_at p rows i) s) (adds : Holds (sum_at p.code i) s) (after_wide : (dst : Register) (n : ℕ) → slice_get p.code i ≡ Some (insn.Wide dst n) → slice_get p.code (i + 1) ≡ Some insn.Tail) where
+module _ (sound : (profile : Profile) → IsSoundTable profile) (p : Program) (rows : List (Option Row)) (s : State) (i : ℕ) (at : s.slot ≡ pos i) (eleven : length s.registers ≡ 11) (words : (r : Register) → number_in s r < 2 ^ 64) (row : Row) (here : slice_get rows i ≡ Some (Some row)) (long : IsLong p.profile row) (kinds : AreKinds row) (fits : FitsRow row (values p.profile s)) (hold : HoldPairs (pairs_at p rows i) s) (adds : AllHold (sums_at p.code i) s) (after_wide : (dst : Register) (n : ℕ) → slice_get p.code i ≡ Some (insn.Wide dst n) → slice_get p.code (i + 1) ≡ Some insn.Tail) where
   -- where a jump leads no pair is known
   led : (k : ℕ) (x : Insn) (t : State) → i < k → slice_get p.code i ≡ Some x → target_of i x ≡ Some (pos k) → HoldPairs (pairs_at p rows k) t
   led zero x t lt there to = none_hold t
-  led (suc k) x t lt there to = subst (λ b. HoldPairs (cond b no_pairs (pairs_next p (slice_get p.code k) (sum_at p.code k) (slice_get rows k) (pairs_at p rows k))) t) (sym (leads p.code (suc k) i (suc k) x lt there to)) (none_hold t)
+  led (suc k) x t lt there to = subst (λ b. HoldPairs (cond b no_pairs (pairs_next p (slice_get p.code k) (sums_at p.code k) (slice_get rows k) (pairs_at p rows k))) t) (sym (leads p.code (suc k) i (suc k) x lt there to)) (none_hold t)
 
   -- from one slot to the next
-  next : (k : ℕ) (x : Insn) (t : State) → k ≡ suc i → slice_get p.code i ≡ Some x → (leads_before p.code (suc i) (suc i) ≡ false → HoldPairs (pairs_after p.profile (callee_in p.sigs x) (sum_at p.code i) row x (pairs_at p rows i)) t) → HoldPairs (pairs_at p rows k) t
+  next : (k : ℕ) (x : Insn) (t : State) → k ≡ suc i → slice_get p.code i ≡ Some x → (leads_before p.code (suc i) (suc i) ≡ false → HoldPairs (pairs_after p.profile (callee_in p.sigs x) (sums_at p.code i) row x (pairs_at p rows i)) t) → HoldPairs (pairs_at p rows k) t
   next k x t e there h =
-      let sum = sum_at p.code i in
+      let sums = sums_at p.code i in
       let pairs = pairs_at p rows i in
       subst (λ n. HoldPairs (pairs_at p rows n) t) (sym e)
-      (cond_both (leads_before p.code (suc i) (suc i)) no_pairs (pairs_next p (slice_get p.code i) sum (slice_get rows i) pairs) (λ q. HoldPairs q t) (λ _. none_hold t)
-      (λ f. subst (λ o. HoldPairs (pairs_next p o sum (slice_get rows i) pairs) t) (sym there) (subst (λ o. HoldPairs (pairs_next p (Some x) sum o pairs) t) (sym here) (h f))))
+      (cond_both (leads_before p.code (suc i) (suc i)) no_pairs (pairs_next p (slice_get p.code i) sums (slice_get rows i) pairs) (λ q. HoldPairs q t) (λ _. none_hold t)
+      (λ f. subst (λ o. HoldPairs (pairs_next p o sums (slice_get rows i) pairs) t) (sym there) (subst (λ o. HoldPairs (pairs_next p (Some x) sums o pairs) t) (sym here) (h f))))
 
-  goes_on : (k : ℕ) (x : Insn) (t u : State) → slice_get p.code i ≡ Some x → t ≡ advanced u → u.slot ≡ s.slot → t.slot ≡ pos k → HoldPairs (pairs_after p.profile (callee_in p.sigs x) (sum_at p.code i) row x (pairs_at p rows i)) (advanced u) → HoldPairs (pairs_at p rows k) t
+  goes_on : (k : ℕ) (x : Insn) (t u : State) → slice_get p.code i ≡ Some x → t ≡ advanced u → u.slot ≡ s.slot → t.slot ≡ pos k → HoldPairs (pairs_after p.profile (callee_in p.sigs x) (sums_at p.code i) row x (pairs_at p rows i)) (advanced u) → HoldPairs (pairs_at p rows k) t
   goes_on k x t u there e same to h =
       let step : (s.slot +ℤ pos 1) ≡ pos k = ap (λ z. z +ℤ pos 1) (sym same) ∙ sym (ap (λ v. v.slot) e) ∙ to in
-      next k x t (slot_on s.slot i k at step) there (λ _. subst (HoldPairs (pairs_after p.profile (callee_in p.sigs x) (sum_at p.code i) row x (pairs_at p rows i))) (sym e) h)
+      next k x t (slot_on s.slot i k at step) there (λ _. subst (HoldPairs (pairs_after p.profile (callee_in p.sigs x) (sums_at p.code i) row x (pairs_at p rows i))) (sym e) h)
 
   goes_to : (k : ℕ) (x : Insn) (t : State) (o : ℤ) → i < k → slice_get p.code i ≡ Some x → target_of i x ≡ Some (landing i o) → (s.slot +ℤ pos 1 +ℤ o) ≡ pos k → HoldPairs (pairs_at p rows k) t
   goes_to k x t o lt there to slot = led k x t lt there (to ∙ ap Some (ap (λ z. z +ℤ pos 1 +ℤ o) (sym at) ∙ slot))
@@ -282,27 +282,27 @@ module _ (sound : (profile : Profile) → IsSoundTable profile) (p : Program) (r
   right_word o = most_word (kind_from Second row o) (kind_operand (sound Second) p.profile s row long kinds fits o)
 
   -- a condition that isn't taken, where no jump leads to the next slot: so it is the row on to it that admits the state
-  passed : (c : Cond) (w : Width) (left : Register) (right : Operand) (o : ℤ) → slice_get p.code i ≡ Some (insn.JumpIf c w left right o) → leads_before p.code (suc i) (suc i) ≡ false → SomeEdge (s.slot +ℤ pos 1) (values p.profile (advanced s)) (edges_from p.profile (callee_in p.sigs (insn.JumpIf c w left right o)) (sum_at p.code i) i row (insn.JumpIf c w left right o)) → HoldPairs (pairs_after p.profile (callee_in p.sigs (insn.JumpIf c w left right o)) (sum_at p.code i) row (insn.JumpIf c w left right o) (pairs_at p rows i)) (advanced s)
+  passed : (c : Cond) (w : Width) (left : Register) (right : Operand) (o : ℤ) → slice_get p.code i ≡ Some (insn.JumpIf c w left right o) → leads_before p.code (suc i) (suc i) ≡ false → SomeEdge (s.slot +ℤ pos 1) (values p.profile (advanced s)) (edges_from p.profile (callee_in p.sigs (insn.JumpIf c w left right o)) (sums_at p.code i) i row (insn.JumpIf c w left right o)) → HoldPairs (pairs_after p.profile (callee_in p.sigs (insn.JumpIf c w left right o)) (sums_at p.code i) row (insn.JumpIf c w left right o) (pairs_at p rows i)) (advanced s)
   passed c w left right o there free (inl e) =
       let x = insn.JumpIf c w left right o in
-      let sum = sum_at p.code i in
+      let sums = sums_at p.code i in
       let after = refined p.profile c w left right false row in
-      told_holds (sound Second) p.profile (advanced s) (row_on p.profile (callee_in p.sigs x) sum row x)
-      (told_long p.profile x sum after (refined_is_long p.profile c w left right false row long))
-      (told_kinds (sound Second) p.profile x sum after (refined_kinds p.profile (sound p.profile) c w left right false row kinds))
-      e.1 c w left right o p.profile sum (pairs_at p rows i) (same_sum sum s (advanced s) refl adds) (same_pairs (pairs_at p rows i) s (advanced s) refl hold)
+      told_holds (sound Second) p.profile (advanced s) (row_on p.profile (callee_in p.sigs x) sums row x)
+      (told_long p.profile x sums after (refined_is_long p.profile c w left right false row long))
+      (told_kinds (sound Second) p.profile x sums after (refined_kinds p.profile (sound p.profile) c w left right false row kinds))
+      e.1 c w left right o p.profile sums (pairs_at p rows i) (all_same sums s (advanced s) refl adds) (same_pairs (pairs_at p rows i) s (advanced s) refl hold)
   passed c w left right o there free (inr e) =
       let x = insn.JumpIf c w left right o in
       let on : (s.slot +ℤ pos 1) ≡ pos (suc i) = let h = ap (λ z. z +ℤ pos 1) at in omega (arith, ints, h) in
       let to = jump_is (landing i o) (s.slot +ℤ pos 1) _ _ e ∙ on in
       absurd (both_ways (leads_before p.code (suc i) (suc i)) (leads p.code (suc i) i (suc i) x (omega arith) there (ap Some to)) free)
 
-  tail_none : (sum : Option Sum) (o : Option (Option Row)) (pairs : Pairs) (t : State) → HoldPairs (pairs_next p (Some insn.Tail) sum o pairs) t
-  tail_none sum None pairs t = none_hold t
-  tail_none sum (Some None) pairs t = none_hold t
-  tail_none sum (Some (Some q)) pairs t = none_hold t
+  tail_none : (sums : KnownSums) (o : Option (Option Row)) (pairs : Pairs) (t : State) → HoldPairs (pairs_next p (Some insn.Tail) sums o pairs) t
+  tail_none sums None pairs t = none_hold t
+  tail_none sums (Some None) pairs t = none_hold t
+  tail_none sums (Some (Some q)) pairs t = none_hold t
 
-  pub pairs_held : (k : ℕ) (x : Insn) (t : State) → i < k → slice_get p.code i ≡ Some x → t.slot ≡ pos k → SomeEdge t.slot (values p.profile t) (edges_from p.profile (callee_in p.sigs x) (sum_at p.code i) i row x) → Does (calls_of p.sigs) x s t → HoldPairs (pairs_at p rows k) t
+  pub pairs_held : (k : ℕ) (x : Insn) (t : State) → i < k → slice_get p.code i ≡ Some x → t.slot ≡ pos k → SomeEdge t.slot (values p.profile t) (edges_from p.profile (callee_in p.sigs x) (sums_at p.code i) i row x) → Does (calls_of p.sigs) x s t → HoldPairs (pairs_at p rows k) t
   pairs_held k (insn.Alu o w dst src) t lt there to e d = goes_on k _ t (with_register dst (value o w (number_in s dst) (operand_in s src)) s) there d refl to (alu_holds s eleven words row left_most right_most right_word o w dst src (pairs_at p rows i) hold)
   pairs_held k (insn.Swap kind n dst) t lt there to e d = goes_on k _ t _ there d refl to (none_hold _)
   pairs_held k (insn.Load size extend dst r offset) t lt there to e d = goes_on k _ t (with_register dst _ s) there d.2 refl to (all_without s eleven words dst _ (pairs_at p rows i) hold)
@@ -311,7 +311,7 @@ module _ (sound : (profile : Profile) → IsSoundTable profile) (p : Program) (r
   pairs_held k (insn.Jump (distance.Far o)) t lt there to e d = goes_to k _ t o lt there refl (sym (ap (λ v. v.slot) d) ∙ to)
   pairs_held k (insn.JumpIf c w left right o) t lt there to e d =
       let x = insn.JumpIf c w left right o in
-      let P : State → Type 0 = λ u. u.slot ≡ pos k → SomeEdge u.slot (values p.profile u) (edges_from p.profile (callee_in p.sigs x) (sum_at p.code i) i row x) → HoldPairs (pairs_at p rows k) u in
+      let P : State → Type 0 = λ u. u.slot ≡ pos k → SomeEdge u.slot (values p.profile u) (edges_from p.profile (callee_in p.sigs x) (sums_at p.code i) i row x) → HoldPairs (pairs_at p rows k) u in
       subst P (sym d)
       (cond_both (condition c w (number_in s left) (operand_in s right)) (jumped o s) (advanced s) P
       (λ _ slot _. goes_to k x (jumped o s) o lt there refl slot)
@@ -323,6 +323,6 @@ module _ (sound : (profile : Profile) → IsSoundTable profile) (p : Program) (r
       let tail : slice_get p.code (suc i) ≡ Some insn.Tail = ap (slice_get p.code) (omega arith) ∙ after_wide dst n there in
       let two = two_on s.slot i k at (sym (ap (λ v. v.slot) d) ∙ to) in
       subst (λ m. HoldPairs (pairs_at p rows m) t) (sym two)
-      (cond_both (leads_before p.code (suc (suc i)) (suc (suc i))) no_pairs (pairs_next p (slice_get p.code (suc i)) (sum_at p.code (suc i)) (slice_get rows (suc i)) (pairs_at p rows (suc i))) (λ q. HoldPairs q t) (λ _. none_hold t)
-      (λ _. subst (λ o. HoldPairs (pairs_next p o (sum_at p.code (suc i)) (slice_get rows (suc i)) (pairs_at p rows (suc i))) t) (sym tail) (tail_none (sum_at p.code (suc i)) (slice_get rows (suc i)) (pairs_at p rows (suc i)) t)))
+      (cond_both (leads_before p.code (suc (suc i)) (suc (suc i))) no_pairs (pairs_next p (slice_get p.code (suc i)) (sums_at p.code (suc i)) (slice_get rows (suc i)) (pairs_at p rows (suc i))) (λ q. HoldPairs q t) (λ _. none_hold t)
+      (λ _. subst (λ o. HoldPairs (pairs_next p o (sums_at p.code (suc i)) (slice_get rows (suc i)) (pairs_at p rows (suc i))) t) (sym tail) (tail_none (sums_at p.code (suc i)) (slice_get rows (suc i)) (pairs_at p rows (suc i)) t)))
   pairs_held k insn.Tail t lt there to e d = absurd d

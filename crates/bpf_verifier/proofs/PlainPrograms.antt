@@ -28,7 +28,7 @@ use Rattle.bpf_helpers.specs.Calls.{Callee}
 use Rattle.bpf_verifier.specs.PairSteps.{pairs_at}
 use Rattle.bpf_verifier.specs.declared.pair.Pairs.{Pairs}
 use Rattle.bpf_verifier.specs.Rules.{callee_in, compares_pointer, is_frame, broken_if, bad_result, class_rules, rules_of, first_of, row_taken}
-use Rattle.bpf_verifier.specs.Sums.{sum_at, row_on}
+use Rattle.bpf_verifier.specs.Sums.{sums_at, row_on}
 use Rattle.bpf_verifier.specs.Naming.{names_in, named}
 use Rattle.bpf_verifier.specs.Table.{Edge, next_edge, target_edge, named_edges, join_rows, joined, into, edges_of, arrivals, table, broken_with, IsAccepted}
 use Rattle.bpf_verifier.specs.Plain.{IsIn, WrittenOn, SetAtStart, window_of, IsPlainInsn, IsPlain, InWindow, StaysInside, IsWellBehaved}
@@ -165,15 +165,15 @@ module _ (p : Program) (some : 1 ≤ length p.code) (formed : IsFormed p.code) (
   same_slot : (j k : ℕ) → pos k ≡ pos j → j ≡ k
   same_slot j k e = cc
 
-  edges_plain : (i : ℕ) (names : Names) (x : Insn) (row : Row) → slice_get p.code i ≡ Some x → slice_get (table p) i ≡ Some (Some row) → IsPlainAt p.profile p.code i row → AllPlain p.profile p.code (named_edges p.profile (callee_in p.sigs x) (sum_at p.code i) names i row x)
+  edges_plain : (i : ℕ) (names : Names) (x : Insn) (row : Row) → slice_get p.code i ≡ Some x → slice_get (table p) i ≡ Some (Some row) → IsPlainAt p.profile p.code i row → AllPlain p.profile p.code (named_edges p.profile (callee_in p.sigs x) (sums_at p.code i) names i row x)
   edges_plain i names x row at here is =
       let set = reads_set i x row at here is in
-      let on = row_on p.profile (callee_in p.sigs x) (sum_at p.code i) row x in
+      let on = row_on p.profile (callee_in p.sigs x) (sums_at p.code i) row x in
       let taken = row_taken p.profile row x in
       all_append p.profile p.code _ _
       (next_plain p.profile p.code (next_of i x) (named x p.profile names on) (λ k e. carried p.profile p.code i k x row (named x p.profile names on) at is (successor i k x at (inl e) (next_leads p.code i x k formed starts at e))
-      (named_long names x p.profile p.profile on (told_long p.profile x (sum_at p.code i) _ (after_is_long p.profile (callee_in p.sigs x) row x is.long)))
-      (named_follows p.profile row on x names (told_follows p.profile row _ x (sum_at p.code i) (after_follows p.profile (callee_in p.sigs x) row x is.long is.plain is.cells (plain i x at) set)))))
+      (named_long names x p.profile p.profile on (told_long p.profile x (sums_at p.code i) _ (after_is_long p.profile (callee_in p.sigs x) row x is.long)))
+      (named_follows p.profile row on x names (told_follows p.profile row _ x (sums_at p.code i) (after_follows p.profile (callee_in p.sigs x) row x is.long is.plain is.cells (plain i x at) set)))))
       (target_plain p.profile p.code (target_of i x) (named x p.profile names taken) (λ k e. let l = target_leads p.code i x (pos k) formed at e in
       carried p.profile p.code i k x row (named x p.profile names taken) at is (successor i k x at (inr e) (subst (Leads p.code i) (same_slot l.0 k l.1) l.2))
       (named_long names x p.profile p.profile taken (taken_is_long p.profile row x is.long))

@@ -20,7 +20,7 @@ use Rattle.bpf_ranges.specs.declared.range.Range.{Range}
 use Rattle.bpf_ranges.specs.Transfer.{address, pointer_left, kinds_left, refine_of}
 use Rattle.bpf_semantics.specs.declared.Region.{Region}
 use Rattle.bpf_verifier.specs.Registers.{Row, kind_at, one_number, kind_from}
-use Rattle.bpf_verifier.specs.Sums.{most, at_most, operand_at_most, told_by, told}
+use Rattle.bpf_verifier.specs.Sums.{KnownSums, most, at_most, operand_at_most, told_by, told}
 use Rattle.bpf_verifier.specs.declared.sum.Sum.{Sum}
 use Rattle.bpf_verifier.proofs.SumSteps.{told_keeps}
 use Rattle.bpf_verifier.proofs.PlainRows.{IsNum, IsNumOrUnset, PlainAt, num_or_unset, left_number, not_number, refined_numbers, cells_with_kind, Follows}
@@ -111,8 +111,8 @@ told_by_unset sum row r u =
     (λ _. operand_unset _ sum.right _ r (operand_unset _ (operand.Register sum.left) row r u))
     (λ _. u)
 
-pub told_unset : (profile : Profile) (x : Insn) (sum : Option Sum) (row : Row) (r : Register) → kind_at row r ≡ Unset → kind_at (told x profile sum row) r ≡ Unset
-told_unset profile x sum row r u = told_keeps (λ q. kind_at q r ≡ Unset) x profile sum row u (λ s _. told_by_unset s row r u)
+pub told_unset : (profile : Profile) (x : Insn) (sums : KnownSums) (row : Row) (r : Register) → kind_at row r ≡ Unset → kind_at (told x profile sums row) r ≡ Unset
+told_unset profile x sums row r u = told_keeps (λ q. kind_at q r ≡ Unset) x profile sums row u (λ s q e. told_by_unset s q r e)
 
 -- ---- a plain row stays plain
 
@@ -130,5 +130,5 @@ told_by_follows sum row next x f =
     (λ _. operand_follows _ sum.right row _ x (operand_follows _ (operand.Register sum.left) row next x f))
     (λ _. f)
 
-pub told_follows : (profile : Profile) (row next : Row) (x : Insn) (sum : Option Sum) → Follows row next x → Follows row (told x profile sum next) x
-told_follows profile row next x sum f = told_keeps (λ q. Follows row q x) x profile sum next f (λ s _. told_by_follows s row next x f)
+pub told_follows : (profile : Profile) (row next : Row) (x : Insn) (sums : KnownSums) → Follows row next x → Follows row (told x profile sums next) x
+told_follows profile row next x sums f = told_keeps (λ q. Follows row q x) x profile sums next f (λ s q g. told_by_follows s row q x g)

@@ -39,7 +39,7 @@ use Rattle.bpf_verifier.specs.PairSteps.{pairs_at}
 use Rattle.bpf_verifier.proofs.Together.{HoldPairs}
 use Rattle.bpf_verifier.proofs.PairRuns.{pairs_held}
 use Rattle.bpf_verifier.specs.Rules.{callee_in, loaded, row_after, row_taken, rules_of}
-use Rattle.bpf_verifier.specs.Sums.{least, most, sum_at, row_on}
+use Rattle.bpf_verifier.specs.Sums.{least, most, sums_at, row_on}
 use Rattle.bpf_verifier.specs.Naming.{bounds_of, bounds_at, names_in, named}
 use Rattle.bpf_verifier.specs.Table.{Edge, next_edge, target_edge, named_edges, edges_of, arrivals, table, broken_with, IsAccepted, AreKinds}
 use Rattle.bpf_verifier.proofs.Words.{wrapped_below, size_fits, bytes_zero}
@@ -47,8 +47,8 @@ use Rattle.bpf_verifier.proofs.RowSteps.{kinds_set, kinds_drop}
 use Rattle.bpf_verifier.proofs.StackCells.{values, has_eleven, stored_long, written_long, stored_kinds, written_kinds, read_kinds, zero_cells, zero_bytes}
 use Rattle.bpf_verifier.proofs.Fits.{FitsRow, IsRow, IsRowIfAny, AreRows, FitsSome, SomeEdge, into_is_row, into_old, into_new}
 use Rattle.bpf_verifier.proofs.Refined.{refined_is_long, refined_kinds}
-use Rattle.bpf_verifier.proofs.SumSteps.{Holds, told_long, told_kinds, least_of, most_of, at_register}
-use Rattle.bpf_verifier.proofs.SumRuns.{held_at}
+use Rattle.bpf_verifier.proofs.SumSteps.{AllHold, told_long, told_kinds, least_of, most_of, at_register}
+use Rattle.bpf_verifier.proofs.SumRuns.{none_hold, held_at}
 use Rattle.bpf_verifier.proofs.Shape.{IsPaired, Leads, AllLead, paired_starts, edges_lead, target_leads}
 use Rattle.bpf_verifier.proofs.Places.{IsMemory}
 use Rattle.bpf_verifier.proofs.Classes.{AllNone, none_each, result_is_kind, at_number, no_fault, lands}
@@ -151,12 +151,12 @@ IsRowAt profile None = Unit {0}
 IsRowAt profile (Some o) = IsRowIfAny profile o
 
 module _ (sound : (profile : Profile) → IsSoundTable profile) (p : Program) (limits : HasLimits p) (paired : IsPaired p.code) where
-  pub on_row : (i : ℕ) (row : Row) (x : Insn) → (x ≢ insn.Tail → IsInstruction x) → IsRow p.profile row → IsRow p.profile (row_on p.profile (callee_in p.sigs x) (sum_at p.code i) row x)
+  pub on_row : (i : ℕ) (row : Row) (x : Insn) → (x ≢ insn.Tail → IsInstruction x) → IsRow p.profile row → IsRow p.profile (row_on p.profile (callee_in p.sigs x) (sums_at p.code i) row x)
   on_row i row x is h =
       let after = row_after p.profile (callee_in p.sigs x) row x in
       record {
-        long = told_long p.profile x (sum_at p.code i) after (after_is_long p.profile (callee_in p.sigs x) row x h.long);
-        kinds = told_kinds (sound Second) p.profile x (sum_at p.code i) after (after_kinds p.profile (sound p.profile) (callee_in p.sigs x) row x is h.kinds);
+        long = told_long p.profile x (sums_at p.code i) after (after_is_long p.profile (callee_in p.sigs x) row x h.long);
+        kinds = told_kinds (sound Second) p.profile x (sums_at p.code i) after (after_kinds p.profile (sound p.profile) (callee_in p.sigs x) row x is h.kinds);
       }
 
   pub taken_row : (row : Row) (x : Insn) → IsRow p.profile row → IsRow p.profile (row_taken p.profile row x)
@@ -165,10 +165,10 @@ module _ (sound : (profile : Profile) → IsSoundTable profile) (p : Program) (l
   named_row : (names : Names) (x : Insn) (row : Row) → IsRow p.profile row → IsRow p.profile (named x p.profile names row)
   named_row names x row h = record { long = named_long names x p.profile p.profile row h.long; kinds = named_kinds (sound Second) names x p.profile row h.kinds }
 
-  edge_rows : (i : ℕ) (names : Names) (row : Row) (x : Insn) → (x ≢ insn.Tail → IsInstruction x) → IsRow p.profile row → AreRows p.profile (named_edges p.profile (callee_in p.sigs x) (sum_at p.code i) names i row x)
+  edge_rows : (i : ℕ) (names : Names) (row : Row) (x : Insn) → (x ≢ insn.Tail → IsInstruction x) → IsRow p.profile row → AreRows p.profile (named_edges p.profile (callee_in p.sigs x) (sums_at p.code i) names i row x)
   edge_rows i names row x is h =
       rows_append p.profile _ _
-      (next_rows p.profile (next_of i x) (named x p.profile names (row_on p.profile (callee_in p.sigs x) (sum_at p.code i) row x)) (named_row names x _ (on_row i row x is h)))
+      (next_rows p.profile (next_of i x) (named x p.profile names (row_on p.profile (callee_in p.sigs x) (sums_at p.code i) row x)) (named_row names x _ (on_row i row x is h)))
       (target_rows p.profile (target_of i x) (named x p.profile names (row_taken p.profile row x)) (named_row names x _ (taken_row row x h)))
 
   edges_are_rows : (i : ℕ) (names : Names) (x : Option Insn) (row : Option (Option Row)) → slice_get p.code i ≡ x → IsRowAt p.profile row → AreRows p.profile (edges_of p names i x row)
@@ -220,7 +220,7 @@ module _ (sound : (profile : Profile) → IsSoundTable profile) (p : Program) (l
 
   -- ---- an edge is joined into its slot's row
 
-  arrives : (i n k : ℕ) (x : Insn) (row : Row) (vs : List (Option ℕ)) → i < n → slice_get p.code i ≡ Some x → slice_get (table p) i ≡ Some (Some row) → SomeEdge (pos k) vs (named_edges p.profile (callee_in p.sigs x) (sum_at p.code i) (names_in p (table p) i) i row x) → FitsSome (arrivals p (table p) n k) vs
+  arrives : (i n k : ℕ) (x : Insn) (row : Row) (vs : List (Option ℕ)) → i < n → slice_get p.code i ≡ Some x → slice_get (table p) i ≡ Some (Some row) → SomeEdge (pos k) vs (named_edges p.profile (callee_in p.sigs x) (sums_at p.code i) (names_in p (table p) i) i row x) → FitsSome (arrivals p (table p) n k) vs
   arrives i zero k x row vs lt at here e = absurd (omega arith)
   arrives i (suc n) k x row vs lt at here e =
       let all : (m : ℕ) → IsRowAt p.profile (slice_get (table p) m) = λ m. table_rows (suc m) m (omega arith) in
@@ -230,7 +230,7 @@ module _ (sound : (profile : Profile) → IsSoundTable profile) (p : Program) (l
       (λ same. let at' = ap (slice_get p.code) (sym same) ∙ at in
       let here' = ap (slice_get (table p)) (sym same) ∙ here in
       into_new p.profile (sound p.profile) k _ _ vs edges before
-      (subst (λ o. SomeEdge (pos k) vs (edges_of p (names_in p (table p) n) n o (slice_get (table p) n))) (sym at') (subst (λ o. SomeEdge (pos k) vs (edges_of p (names_in p (table p) n) n (Some x) o)) (sym here') (subst (λ j. SomeEdge (pos k) vs (named_edges p.profile (callee_in p.sigs x) (sum_at p.code j) (names_in p (table p) j) j row x)) same e))))
+      (subst (λ o. SomeEdge (pos k) vs (edges_of p (names_in p (table p) n) n o (slice_get (table p) n))) (sym at') (subst (λ o. SomeEdge (pos k) vs (edges_of p (names_in p (table p) n) n (Some x) o)) (sym here') (subst (λ j. SomeEdge (pos k) vs (named_edges p.profile (callee_in p.sigs x) (sums_at p.code j) (names_in p (table p) j) j row x)) same e))))
       (λ other. into_old p.profile (sound p.profile) k _ _ vs edges before (arrives i n k x row vs (omega arith) at here e))
       (cases_eq i n)
 
@@ -246,7 +246,7 @@ pub record Stands (p : Program) (n : ℕ) (s : State) : Type 0 where
   pub row : Row
   pub kinds : slice_get (table p) at ≡ Some (Some row)
   pub fits : FitsRow row (values p.profile s)
-  pub holds : Holds (sum_at p.code at) s
+  pub holds : AllHold (sums_at p.code at) s
   pub together : HoldPairs (pairs_at p (table p) at) s
   pub names : Stand at (names_in p (table p) at) s
   pub memory : IsMemory p s.memory
@@ -281,15 +281,15 @@ module _ (sound : (profile : Profile) → IsSoundTable profile) (p : Program) (l
       none_there o x e h = cc
   faultless n s g f (inr e) =
       let same : e.0 ≡ g.here = same_Some _ _ (sym e.1 ∙ there n s g) in
-      no_fault sound p g.at g.row s limits (row_kinds sound p limits paired g.at g.row g.kinds) (row_long sound p limits paired g.at g.row g.kinds) g.fits g.slot g.memory (sum_at p.code g.at) g.holds (pairs_at p (table p) g.at) g.together e.0 (subst (λ x. AllNone (rules_of p (pairs_at p (table p) g.at) g.row x)) (sym same) (rules_kept n s g)) f e.2.stands
+      no_fault sound p g.at g.row s limits (row_kinds sound p limits paired g.at g.row g.kinds) (row_long sound p limits paired g.at g.row g.kinds) g.fits g.slot g.memory (sums_at p.code g.at) g.holds (pairs_at p (table p) g.at) g.together e.0 (subst (λ x. AllNone (rules_of p (pairs_at p (table p) g.at) g.row x)) (sym same) (rules_kept n s g)) f e.2.stands
 
-  goes_on : (n : ℕ) (s : State) (g : Stands p n s) (t : State) → SomeEdge t.slot (values p.profile t) (named_edges p.profile (callee_in p.sigs g.here) (sum_at p.code g.at) (names_in p (table p) g.at) g.at g.row g.here) → IsMemory p t.memory → ((k : ℕ) → g.at < k → t.slot ≡ pos k → Holds (sum_at p.code k) t) → ((k : ℕ) → g.at < k → t.slot ≡ pos k → HoldPairs (pairs_at p (table p) k) t) → ((k : ℕ) → g.at < k → t.slot ≡ pos k → Stand k (names_in p (table p) k) t) → Stands p (suc n) t
+  goes_on : (n : ℕ) (s : State) (g : Stands p n s) (t : State) → SomeEdge t.slot (values p.profile t) (named_edges p.profile (callee_in p.sigs g.here) (sums_at p.code g.at) (names_in p (table p) g.at) g.at g.row g.here) → IsMemory p t.memory → ((k : ℕ) → g.at < k → t.slot ≡ pos k → AllHold (sums_at p.code k) t) → ((k : ℕ) → g.at < k → t.slot ≡ pos k → HoldPairs (pairs_at p (table p) k) t) → ((k : ℕ) → g.at < k → t.slot ≡ pos k → Stand k (names_in p (table p) k) t) → Stands p (suc n) t
   goes_on n s g t e m held paired_up stand =
-      let to = lead_any p g.at (named_edges p.profile (callee_in p.sigs g.here) (sum_at p.code g.at) (names_in p (table p) g.at) g.at g.row g.here) t.slot (values p.profile t) (edges_lead p.profile (callee_in p.sigs g.here) (sum_at p.code g.at) (names_in p (table p) g.at) p.code g.at g.here g.row accepted.formed (paired_starts p.code paired) g.found) e in
+      let to = lead_any p g.at (named_edges p.profile (callee_in p.sigs g.here) (sums_at p.code g.at) (names_in p (table p) g.at) g.at g.row g.here) t.slot (values p.profile t) (edges_lead p.profile (callee_in p.sigs g.here) (sums_at p.code g.at) (names_in p (table p) g.at) p.code g.at g.here g.row accepted.formed (paired_starts p.code paired) g.found) e in
       let k = to.0 in
       let l = to.2 in
       let within = slice_get_within p.code k l.to l.there in
-      let arrived = arrives sound p limits paired g.at k k g.here g.row (values p.profile t) l.above g.found g.kinds (subst (λ z. SomeEdge z (values p.profile t) (named_edges p.profile (callee_in p.sigs g.here) (sum_at p.code g.at) (names_in p (table p) g.at) g.at g.row g.here)) to.1 e) in
+      let arrived = arrives sound p limits paired g.at k k g.here g.row (values p.profile t) l.above g.found g.kinds (subst (λ z. SomeEdge z (values p.profile t) (named_edges p.profile (callee_in p.sigs g.here) (sums_at p.code g.at) (names_in p (table p) g.at) g.at g.row g.here)) to.1 e) in
       let next = stand_at p k (arrivals p (table p) k k) (values p.profile t) (table_at p k within) arrived in
       record {
         at = k;
@@ -322,12 +322,12 @@ module _ (sound : (profile : Profile) → IsSoundTable profile) (p : Program) (l
       let same : d.0 ≡ g.here = same_Some _ _ (sym d.1 ∙ there n s g) in
       let row = subst (λ x. Row_of (calls_of p.sigs) x s t) same d.2.row in
       let long = row_long sound p limits paired g.at g.row g.kinds in
-      let number_word = at_number sound p g.at g.row s limits (row_kinds sound p limits paired g.at g.row g.kinds) long g.fits g.slot g.memory (sum_at p.code g.at) g.holds (pairs_at p (table p) g.at) g.together in
+      let number_word = at_number sound p g.at g.row s limits (row_kinds sound p limits paired g.at g.row g.kinds) long g.fits g.slot g.memory (sums_at p.code g.at) g.holds (pairs_at p (table p) g.at) g.together in
       let to : (z : ℤ) → target_of g.at g.here ≡ Some z → (k : ℕ) × (z ≡ pos k) = λ z e. let l = target_leads p.code g.at g.here z accepted.formed g.found e in (l.0, l.1) in
-      let l = lands sound p g.at g.row s limits (row_kinds sound p limits paired g.at g.row g.kinds) (row_long sound p limits paired g.at g.row g.kinds) g.fits g.slot g.memory (sum_at p.code g.at) g.holds (pairs_at p (table p) g.at) g.together g.here t (paired.instructions g.at g.here g.found g.starts) to (rules_kept n s g) row in
+      let l = lands sound p g.at g.row s limits (row_kinds sound p limits paired g.at g.row g.kinds) (row_long sound p limits paired g.at g.row g.kinds) g.fits g.slot g.memory (sums_at p.code g.at) g.holds (pairs_at p (table p) g.at) g.together g.here t (paired.instructions g.at g.here g.found g.starts) to (rules_kept n s g) row in
       let is_row : IsRow p.profile g.row = record { long = long; kinds = row_kinds sound p limits paired g.at g.row g.kinds } in
       goes_on n s g t
-      (named_lands (sound Second) p.profile (calls_of p.sigs) (callee_in p.sigs g.here) (sum_at p.code g.at) (names_in p (table p) g.at) g.at g.row s t g.names.named g.here row
+      (named_lands (sound Second) p.profile (calls_of p.sigs) (callee_in p.sigs g.here) (sums_at p.code g.at) (names_in p (table p) g.at) g.at g.row s t g.names.named g.here row
       (on_row sound p limits paired g.at g.row g.here (paired.instructions g.at g.here g.found) is_row) (taken_row sound p limits paired g.row g.here is_row) l.0)
       l.1
       (λ k above slot. held_at (calls_of p.sigs) p.code s g.at g.slot (has_eleven p.profile g.row s long g.fits) (λ r. (number_word r).1) g.holds (λ dst n. paired.after_wide g.at n dst) k g.here t above g.found slot row)
@@ -349,7 +349,7 @@ module _ (sound : (profile : Profile) → IsSoundTable profile) (p : Program) (l
         row = entry p;
         kinds = table_at p 0 some;
         fits = (tt, tt, ((omega (arith, ints), omega (arith, ints)), omega arith, ((sound p.profile).range (up_to p.in_len) used (omega arith) (omega arith, h.within), omega (arith, h.within), ((omega (arith, ints), omega (arith, ints)), omega arith, ((sound p.profile).range (single p.out_len) p.out_len (omega arith) (omega arith, omega arith), omega arith, (tt, tt, (tt, tt, (tt, tt, (tt, tt, (tt, tt, ((omega (arith, ints), omega (arith, ints)), omega arith, zero_cells (cell_count p.profile) (one_number p.profile 0) (replicate 512 0) ((sound p.profile).range (single 0) 0 (omega arith) (omega arith, omega arith)) (zero_bytes 512))))))))))));
-        holds = tt;
+        holds = none_hold (start input used p.out_len);
         together = record { first = tt; second = tt; third = tt; fourth = tt };
         names = new_stand 0 _;
         memory = record { stack_length = length-replicate {A = ℕ} 512 0; input_length = h.whole; output_length = length-replicate {A = ℕ} p.out_len 0; stack_bytes = bytes_zero 512; input_bytes = h.bytes; output_bytes = bytes_zero p.out_len };

@@ -1,5 +1,5 @@
 -- What sums tell: rows stay rows, and what they admit they still do.
-use Rattle.std.proofs.Common.{◌≡◌, ℕ, ℤ, pos, negsuc, ◌+◌, ◌-◌, ◌^◌, ◌<◌, ◌≤◌, true, Option, Some, None, refl, ap₂, ◌∙◌, subst, length-set, arith}
+use Rattle.std.proofs.Common.{◌≡◌, ℕ, ℤ, pos, negsuc, ◌+◌, ◌-◌, ◌^◌, ◌<◌, ◌≤◌, true, List, [], ◌∷◌, Option, Some, None, refl, ap₂, ◌∙◌, subst, length-set, arith}
 use Rattle.std.specs.Prelude.{◌≤ℤ◌, ◌+ℤ◌, int_lt, nat_le, unsigned_abs, unwrap_or}
 use Rattle.std.proofs.lemmas.Int.{ints}
 use Rattle.std.proofs.Math.Nat.{mod-eq_of_lt}
@@ -10,6 +10,7 @@ use Rattle.bpf_alu.specs.declared.Cond.TheVariants.{LessEqual}
 use Rattle.bpf_alu.specs.declared.Width.TheVariants.{W64}
 use Rattle.bpf_insn.specs.Encoding.{number}
 use Rattle.bpf_insn.specs.declared.Register.{Register}
+use Rattle.bpf_insn.specs.declared.Register.TheVariants.{R0, R1, R2, R3, R4, R5, R6, R7, R8, R9}
 use Rattle.bpf_insn.specs.declared.Operand.{Operand}
 use Rattle.bpf_insn.specs.declared.Operand.TheVariants as operand
 use Rattle.bpf_insn.specs.declared.Insn.{Insn}
@@ -27,7 +28,7 @@ use Rattle.bpf_ranges.specs.Numbers.{single}
 use Rattle.bpf_ranges.specs.Laws.{IsSoundTable}
 use Rattle.bpf_verifier.specs.Registers.{Row, IsLong, kind_at, one_number, kind_from}
 use Rattle.bpf_verifier.specs.Rows.{StartsZero}
-use Rattle.bpf_verifier.specs.Sums.{least, most, at_most, register_at_most, operand_at_most, told_by, told}
+use Rattle.bpf_verifier.specs.Sums.{KnownSums, sum_in, least, most, at_most, register_at_most, operand_at_most, told_by, told_one, told_each, told_all, told}
 use Rattle.bpf_verifier.specs.Table.{AreKinds}
 use Rattle.bpf_verifier.specs.declared.sum.Sum.{Sum}
 use Rattle.bpf_verifier.proofs.Words.{wrapped_below, wrapped_small}
@@ -43,6 +44,13 @@ Adds sum s = number_in s sum.of ≡ value Add W64 (number_in s sum.left) (operan
 abbrev pub Holds : Option Sum → State → Type 0
 Holds None s = Unit {0}
 Holds (Some sum) s = Adds sum s
+
+-- what each register is known to hold is so
+abbrev pub AllHold : KnownSums → State → Type 0
+AllHold sums s = (r : Register) → Holds (sum_in sums r) s
+
+abbrev sum_registers : List Register
+sum_registers = R0 ∷ R1 ∷ R2 ∷ R3 ∷ R4 ∷ R5 ∷ R6 ∷ R7 ∷ R8 ∷ R9 ∷ []
 
 -- ---- lengths and cells
 
@@ -66,26 +74,37 @@ told_by_zeros profile low sum row z =
     (λ _. zeros_at_most profile low _ sum.right _ (register_zeros profile low row sum.left _ z))
     (λ _. z)
 
--- what holds of a row, and of each that a sum tells, holds of what is told
-pub told_keeps : (P : Row → Type 0) (x : Insn) (profile : Profile) (sum : Option Sum) (row : Row) → P row → ((s : Sum) → sum ≡ Some s → P (told_by s row)) → P (told x profile sum row)
-told_keeps P (insn.JumpIf c w l r o) First sum row h g = h
-told_keeps P (insn.JumpIf c w l r o) Second None row h g = h
-told_keeps P (insn.JumpIf c w l r o) Second (Some s) row h g = g s refl
-told_keeps P (insn.Alu o w d src) profile sum row h g = h
-told_keeps P (insn.Swap k n d) profile sum row h g = h
-told_keeps P (insn.Load size e d b o) profile sum row h g = h
-told_keeps P (insn.Store size b o src) profile sum row h g = h
-told_keeps P (insn.Jump d) profile sum row h g = h
-told_keeps P (insn.Call n) profile sum row h g = h
-told_keeps P insn.Exit profile sum row h g = h
-told_keeps P (insn.Wide d n) profile sum row h g = h
-told_keeps P insn.Tail profile sum row h g = h
+-- what holds of a row, and stays so where a sum tells, holds where sums tell
+one_keeps : (P : Row → Type 0) (o : Option Sum) (row : Row) → ((s : Sum) (q : Row) → P q → P (told_by s q)) → P row → P (told_one o row)
+one_keeps P None row g h = h
+one_keeps P (Some s) row g h = g s row h
 
-pub told_long : (profile : Profile) (x : Insn) (sum : Option Sum) (row : Row) → IsLong profile row → IsLong profile (told x profile sum row)
-told_long profile x sum row h = told_keeps (IsLong profile) x profile sum row h (λ s _. told_by_long profile s row h)
+each_keeps : (P : Row → Type 0) (sums : KnownSums) (rs : List Register) (row : Row) → ((s : Sum) (q : Row) → P q → P (told_by s q)) → P row → P (told_each sums rs row)
+each_keeps P sums [] row g h = h
+each_keeps P sums (r ∷ rs) row g h = each_keeps P sums rs _ g (one_keeps P (sum_in sums r) row g h)
 
-pub told_zeros : (profile : Profile) (low : ℕ) (x : Insn) (sum : Option Sum) (row : Row) → StartsZero profile low row → StartsZero profile low (told x profile sum row)
-told_zeros profile low x sum row z = told_keeps (StartsZero profile low) x profile sum row z (λ s _. told_by_zeros profile low s row z)
+-- where none tells the row is as it was
+told_is : (P : Row → Type 0) (x : Insn) (profile : Profile) (sums : KnownSums) (row : Row) → P row → P (told_all sums row) → P (told x profile sums row)
+told_is P (insn.JumpIf c w l r o) First sums row h g = h
+told_is P (insn.JumpIf c w l r o) Second sums row h g = g
+told_is P (insn.Alu o w d src) profile sums row h g = h
+told_is P (insn.Swap k n d) profile sums row h g = h
+told_is P (insn.Load size e d b o) profile sums row h g = h
+told_is P (insn.Store size b o src) profile sums row h g = h
+told_is P (insn.Jump d) profile sums row h g = h
+told_is P (insn.Call n) profile sums row h g = h
+told_is P insn.Exit profile sums row h g = h
+told_is P (insn.Wide d n) profile sums row h g = h
+told_is P insn.Tail profile sums row h g = h
+
+pub told_keeps : (P : Row → Type 0) (x : Insn) (profile : Profile) (sums : KnownSums) (row : Row) → P row → ((s : Sum) (q : Row) → P q → P (told_by s q)) → P (told x profile sums row)
+told_keeps P x profile sums row h g = told_is P x profile sums row h (each_keeps P sums sum_registers row g h)
+
+pub told_long : (profile : Profile) (x : Insn) (sums : KnownSums) (row : Row) → IsLong profile row → IsLong profile (told x profile sums row)
+told_long profile x sums row h = told_keeps (IsLong profile) x profile sums row h (told_by_long profile)
+
+pub told_zeros : (profile : Profile) (low : ℕ) (x : Insn) (sums : KnownSums) (row : Row) → StartsZero profile low row → StartsZero profile low (told x profile sums row)
+told_zeros profile low x sums row z = told_keeps (StartsZero profile low) x profile sums row z (told_by_zeros profile low)
 
 -- ---- bounds
 
@@ -161,8 +180,8 @@ module _ (sound : IsSoundTable Second) where
       (λ _. operand_kinds _ sum.right _ (omega (arith, whole)) (register_kinds _ sum.left row (omega (arith, whole)) h))
       (λ _. h)
 
-  pub told_kinds : (profile : Profile) (x : Insn) (sum : Option Sum) (row : Row) → AreKinds row → AreKinds (told x profile sum row)
-  told_kinds profile x sum row h = told_keeps AreKinds x profile sum row h (λ s _. told_by_kinds s row h)
+  pub told_kinds : (profile : Profile) (x : Insn) (sums : KnownSums) (row : Row) → AreKinds row → AreKinds (told x profile sums row)
+  told_kinds profile x sums row h = told_keeps AreKinds x profile sums row h told_by_kinds
 
   -- ---- what is told is so
   at_most_value : (n : ℕ) (k : Kind) (v : Option ℕ) → n < 2 ^ 64 → IsKind k → unwrap_or v 0 ≤ n → Admits k v → Admits (at_most n k) v
@@ -237,5 +256,25 @@ module _ (sound : IsSoundTable Second) where
           (omega (arith, word)) (omega (arith, sum_is, zs, xl)))
           (λ _. fits)
 
-      pub told_fits : (x : Insn) (sum : Option Sum) → Holds sum s → FitsRow (told x profile sum row) (values profile s)
-      told_fits x sum h = told_keeps (λ q. FitsRow q (values profile s)) x profile sum row fits (λ one is. told_by_fits one (subst (λ o. Holds o s) is h))
+    -- a row that is as long as it should be, of kinds, and admits the state
+    record Stays (row : Row) : Type 0 where
+      long : IsLong profile row
+      kinds : AreKinds row
+      fits : FitsRow row (values profile s)
+
+    one_stays : (o : Option Sum) (row : Row) → Holds o s → Stays row → Stays (told_one o row)
+    one_stays None row h stays = stays
+    one_stays (Some sum) row h stays = record {
+      long = told_by_long profile sum row stays.long;
+      kinds = told_by_kinds sum row stays.kinds;
+      fits = told_by_fits row stays.long stays.kinds stays.fits sum h;
+    }
+
+    each_stays : (sums : KnownSums) (rs : List Register) (row : Row) → AllHold sums s → Stays row → Stays (told_each sums rs row)
+    each_stays sums [] row h stays = stays
+    each_stays sums (r ∷ rs) row h stays = each_stays sums rs (told_one (sum_in sums r) row) h (one_stays (sum_in sums r) row (h r) stays)
+
+    pub told_fits : (row : Row) → IsLong profile row → AreKinds row → FitsRow row (values profile s) → (x : Insn) (sums : KnownSums) → AllHold sums s → FitsRow (told x profile sums row) (values profile s)
+    told_fits row long kinds fits x sums h =
+        told_is (λ q. FitsRow q (values profile s)) x profile sums row fits
+        (each_stays sums sum_registers row h (record { long = long; kinds = kinds; fits = fits })).fits

@@ -22,8 +22,7 @@ use Rattle.bpf_verifier.specs.PairSteps.{pairs_over, pairs_told, pairs_next, pai
 use Rattle.bpf_verifier.specs.Pairs.{no_pairs}
 use Rattle.bpf_verifier.specs.declared.pair.Pairs.{Pairs}
 use Rattle.bpf_verifier.specs.Rules.{callee_in, broken_in, row_taken}
-use Rattle.bpf_verifier.specs.Sums.{sum_at, row_on}
-use Rattle.bpf_verifier.specs.declared.sum.Sum.{Sum}
+use Rattle.bpf_verifier.specs.Sums.{KnownSums, sums_at, row_on}
 use Rattle.bpf_verifier.specs.Rows.{row_at, pushed, Misses, IsPass}
 use Rattle.bpf_copies.specs.declared.bounds.Bounds.{Bounds}
 use Rattle.bpf_verifier.specs.Naming.{bounds_of, bounds_at, names_in, named}
@@ -53,10 +52,10 @@ same_named First insn.Exit names others row h = refl
 same_named First (insn.Wide d n) names others row h = refl
 same_named First insn.Tail names others row h = refl
 
-same_edges : (profile : Profile) (callee : Callee) (sum : Option Sum) (names others : Names) (i : ℕ) (row : Row) (x : Insn) → (profile ≡ Second → names ≡ others) → named_edges profile callee sum names i row x ≡ named_edges profile callee sum others i row x
-same_edges profile callee sum names others i row x h =
-    ap (λ r. next_edge (next_of i x) r ++ target_edge (target_of i x) (named x profile names (row_taken profile row x))) (same_named profile x names others (row_on profile callee sum row x) h)
-    ∙ ap (λ r. next_edge (next_of i x) (named x profile others (row_on profile callee sum row x)) ++ target_edge (target_of i x) r) (same_named profile x names others (row_taken profile row x) h)
+same_edges : (profile : Profile) (callee : Callee) (sums : KnownSums) (names others : Names) (i : ℕ) (row : Row) (x : Insn) → (profile ≡ Second → names ≡ others) → named_edges profile callee sums names i row x ≡ named_edges profile callee sums others i row x
+same_edges profile callee sums names others i row x h =
+    ap (λ r. next_edge (next_of i x) r ++ target_edge (target_of i x) (named x profile names (row_taken profile row x))) (same_named profile x names others (row_on profile callee sums row x) h)
+    ∙ ap (λ r. next_edge (next_of i x) (named x profile others (row_on profile callee sums row x)) ++ target_edge (target_of i x) r) (same_named profile x names others (row_taken profile row x) h)
 
 module _ (p : Program) (rows : List (Option Row)) (i : ℕ) (within : i < length p.code) where
   -- within which bounds its operand is
@@ -71,10 +70,10 @@ module _ (p : Program) (rows : List (Option Row)) (i : ℕ) (within : i < length
   none_pass pass = pass_all p rows None i [] pass within (no_edges p (names_in p (table p) i) i (slice_get p.code i) ∙ ap (edges_of p (names_in p (table p) i) i (slice_get p.code i)) (sym (row_here p rows None i pass within))) (row_at rows (i + 1)) (row_there rows (i + 1) (omega (arith, pass.long, within)))
 
   -- at the next one no pair is known
-  pub none_paired : IsPass p rows None i → (sum : Option Sum) (pairs : Pairs) → no_pairs ≡ pairs_next p (slice_get p.code i) sum (slice_get (table p) i) pairs
-  none_paired pass sum pairs = none_next (slice_get p.code i) ∙ ap (λ o. pairs_next p (slice_get p.code i) sum o pairs) (sym (row_here p rows None i pass within))
+  pub none_paired : IsPass p rows None i → (sums : KnownSums) (pairs : Pairs) → no_pairs ≡ pairs_next p (slice_get p.code i) sums (slice_get (table p) i) pairs
+  none_paired pass sums pairs = none_next (slice_get p.code i) ∙ ap (λ o. pairs_next p (slice_get p.code i) sums o pairs) (sym (row_here p rows None i pass within))
     where
-      none_next : (o : Option Insn) → no_pairs ≡ pairs_next p o sum (Some None) pairs
+      none_next : (o : Option Insn) → no_pairs ≡ pairs_next p o sums (Some None) pairs
       none_next None = refl
       none_next (Some x) = refl
 
@@ -84,29 +83,29 @@ module _ (p : Program) (rows : List (Option Row)) (i : ℕ) (within : i < length
     broken_here = let pairs = pairs_at p (table p) i in ap (λ o. broken_with p pairs o (slice_get (table p) i)) at ∙ ap (broken_with p pairs (Some x)) (row_here p rows (Some row) i pass within)
 
     -- the pairs that are known where it goes on to the next slot
-    pub paired_here : (callee : Callee) (sum : Option Sum) (pairs over next : Pairs) (after : Row) → callee ≡ callee_in p.sigs x → after ≡ row_on p.profile callee sum row x → over ≡ pairs_over x row pairs → next ≡ pairs_told x p.profile sum after over → next ≡ pairs_next p (slice_get p.code i) sum (slice_get (table p) i) pairs
-    paired_here callee sum pairs over next after called goes writes told =
+    pub paired_here : (callee : Callee) (sums : KnownSums) (pairs over next : Pairs) (after : Row) → callee ≡ callee_in p.sigs x → after ≡ row_on p.profile callee sums row x → over ≡ pairs_over x row pairs → next ≡ pairs_told x p.profile sums after over → next ≡ pairs_next p (slice_get p.code i) sums (slice_get (table p) i) pairs
+    paired_here callee sums pairs over next after called goes writes told =
         told
-        ∙ ap (pairs_told x p.profile sum after) writes
-        ∙ ap (λ r. pairs_told x p.profile sum r (pairs_over x row pairs)) goes
-        ∙ ap (λ y. pairs_told x p.profile sum (row_on p.profile y sum row x) (pairs_over x row pairs)) called
-        ∙ ap (λ o. pairs_next p (Some x) sum o pairs) (sym (row_here p rows (Some row) i pass within))
-        ∙ ap (λ o. pairs_next p o sum (slice_get (table p) i) pairs) (sym at)
+        ∙ ap (pairs_told x p.profile sums after) writes
+        ∙ ap (λ r. pairs_told x p.profile sums r (pairs_over x row pairs)) goes
+        ∙ ap (λ y. pairs_told x p.profile sums (row_on p.profile y sums row x) (pairs_over x row pairs)) called
+        ∙ ap (λ o. pairs_next p (Some x) sums o pairs) (sym (row_here p rows (Some row) i pass within))
+        ∙ ap (λ o. pairs_next p o sums (slice_get (table p) i) pairs) (sym at)
 
-    edges_here : named_edges p.profile (callee_in p.sigs x) (sum_at p.code i) (names_in p (table p) i) i row x ≡ edges_of p (names_in p (table p) i) i (slice_get p.code i) (slice_get (table p) i)
+    edges_here : named_edges p.profile (callee_in p.sigs x) (sums_at p.code i) (names_in p (table p) i) i row x ≡ edges_of p (names_in p (table p) i) i (slice_get p.code i) (slice_get (table p) i)
     edges_here =
         let names = names_in p (table p) i in
         ap (λ r. edges_of p names i (Some x) r) (sym (row_here p rows (Some row) i pass within)) ∙ ap (λ o. edges_of p names i o (slice_get (table p) i)) (sym at)
 
     -- its edges, of which the first is that of the next slot
-    module _ (callee : Callee) (sum : Option Sum) (names : Names) (after : Row) (fs : List Edge) (called : callee ≡ callee_in p.sigs x) (summed : sum ≡ sum_at p.code i) (given : p.profile ≡ Second → names ≡ names_in p (table p) i) (goes : after ≡ named x p.profile names (row_on p.profile callee sum row x)) (takes : fs ≡ target_edge (target_of i x) (named x p.profile names (row_taken p.profile row x))) where
-      edges_are : next_edge (next_of i x) after ++ fs ≡ named_edges p.profile (callee_in p.sigs x) (sum_at p.code i) (names_in p (table p) i) i row x
+    module _ (callee : Callee) (sums : KnownSums) (names : Names) (after : Row) (fs : List Edge) (called : callee ≡ callee_in p.sigs x) (summed : sums ≡ sums_at p.code i) (given : p.profile ≡ Second → names ≡ names_in p (table p) i) (goes : after ≡ named x p.profile names (row_on p.profile callee sums row x)) (takes : fs ≡ target_edge (target_of i x) (named x p.profile names (row_taken p.profile row x))) where
+      edges_are : next_edge (next_of i x) after ++ fs ≡ named_edges p.profile (callee_in p.sigs x) (sums_at p.code i) (names_in p (table p) i) i row x
       edges_are =
           ap (λ r. next_edge (next_of i x) r ++ fs) goes
-          ∙ ap (λ es. next_edge (next_of i x) (named x p.profile names (row_on p.profile callee sum row x)) ++ es) takes
-          ∙ ap (λ y. named_edges p.profile y sum names i row x) called
+          ∙ ap (λ es. next_edge (next_of i x) (named x p.profile names (row_on p.profile callee sums row x)) ++ es) takes
+          ∙ ap (λ y. named_edges p.profile y sums names i row x) called
           ∙ ap (λ y. named_edges p.profile (callee_in p.sigs x) y names i row x) summed
-          ∙ same_edges p.profile (callee_in p.sigs x) (sum_at p.code i) names (names_in p (table p) i) i row x given
+          ∙ same_edges p.profile (callee_in p.sigs x) (sums_at p.code i) names (names_in p (table p) i) i row x given
 
       pub all_here : (rows' : List (Option Row)) → rows' ≡ pushed p.profile rows (next_edge (next_of i x) after ++ fs) → IsPass p rows' (row_at rows' (i + 1)) (i + 1)
       all_here rows' are =

@@ -1,6 +1,6 @@
 -- Which pairs are known, from slot to slot: told where a condition on a sum isn't taken, and carried on through copies and sums as long as
 -- no jump leads there (this store's second profile).
-use Rattle.std.specs.Prelude.{ℕ, zero, suc, ◌+◌, ◌-◌, ◌^◌, ◌==◌, nat_le, not, ◌||◌, ◌&&◌, if◌then◌else◌, Option, None, Some, List, slice_get}
+use Rattle.std.specs.Prelude.{ℕ, zero, suc, ◌+◌, ◌-◌, ◌^◌, ◌==◌, nat_le, not, ◌&&◌, if◌then◌else◌, Option, None, Some, List, slice_get}
 use Rattle.bpf_alu.specs.declared.Op.{Op}
 use Rattle.bpf_alu.specs.declared.Op.TheVariants.{Mov, Add}
 use Rattle.bpf_alu.specs.declared.Width.{Width}
@@ -19,7 +19,7 @@ use Rattle.bpf_verifier.specs.Registers.{Row, kind_at, kind_from}
 use Rattle.bpf_verifier.specs.Rules.{callee_in}
 use Rattle.bpf_verifier.specs.Pairs.{no_pairs, is_in}
 use Rattle.bpf_copies.specs.Led.{leads_before}
-use Rattle.bpf_verifier.specs.Sums.{is_operand, sum_at, most, row_on}
+use Rattle.bpf_verifier.specs.Sums.{KnownSums, sum_in, sums_at, most, row_on}
 use Rattle.bpf_verifier.specs.declared.sum.Sum.{Sum}
 use Rattle.bpf_verifier.specs.declared.pair.Pair.{Pair}
 use Rattle.bpf_verifier.specs.declared.pair.Pairs.{Pairs}
@@ -112,23 +112,31 @@ abbrev pub pair_told : Sum → Operand → Row → Option Pair
 pair_told sum (operand.Register right) row = pair_of sum.left right (most (kind_at row sum.of)) row
 pair_told sum (operand.Immediate n) row = None
 
+-- that of the sum which a register holds, if one is known
+abbrev pub pair_by : Option Sum → Row → Option Pair
+pair_by None row = None
+pair_by (Some sum) row = pair_told sum sum.right row
+
+abbrev pub pairs_by_operand : KnownSums → Operand → Row → Pairs → Pairs
+pairs_by_operand sums (operand.Register r) row pairs = with_pair (pair_by (sum_in sums r) row) pairs
+pairs_by_operand sums (operand.Immediate n) row pairs = pairs
+
 -- by the second profile, and the row on to the next slot
-abbrev pub pairs_told : Insn → Profile → Option Sum → Row → Pairs → Pairs
-pairs_told (insn.JumpIf c w left right offset) Second (Some sum) row pairs =
-    if number left == number sum.of || is_operand sum.of right then with_pair (pair_told sum sum.right row) pairs else pairs
-pairs_told x profile sum row pairs = pairs
+abbrev pub pairs_told : Insn → Profile → KnownSums → Row → Pairs → Pairs
+pairs_told (insn.JumpIf c w left right offset) Second sums row pairs = with_pair (pair_by (sum_in sums left) row) (pairs_by_operand sums right row pairs)
+pairs_told x profile sums row pairs = pairs
 
 -- ---- slots
 
-abbrev pub pairs_after : Profile → Callee → Option Sum → Row → Insn → Pairs → Pairs
-pairs_after profile callee sum row x pairs = pairs_told x profile sum (row_on profile callee sum row x) (pairs_over x row pairs)
+abbrev pub pairs_after : Profile → Callee → KnownSums → Row → Insn → Pairs → Pairs
+pairs_after profile callee sums row x pairs = pairs_told x profile sums (row_on profile callee sums row x) (pairs_over x row pairs)
 
-abbrev pub pairs_next : Program → Option Insn → Option Sum → Option (Option Row) → Pairs → Pairs
-pairs_next p (Some x) sum (Some (Some row)) pairs = pairs_after p.profile (callee_in p.sigs x) sum row x pairs
-pairs_next p x sum row pairs = no_pairs
+abbrev pub pairs_next : Program → Option Insn → KnownSums → Option (Option Row) → Pairs → Pairs
+pairs_next p (Some x) sums (Some (Some row)) pairs = pairs_after p.profile (callee_in p.sigs x) sums row x pairs
+pairs_next p x sums row pairs = no_pairs
 
 -- the pairs that are known at a slot by the rows of lower ones: none where a jump leads there
 abbrev pub pairs_at : Program → List (Option Row) → ℕ → Pairs
 pairs_at p rows zero = no_pairs
 pairs_at p rows (suc i) =
-    if leads_before p.code (suc i) (suc i) then no_pairs else pairs_next p (slice_get p.code i) (sum_at p.code i) (slice_get rows i) (pairs_at p rows i)
+    if leads_before p.code (suc i) (suc i) then no_pairs else pairs_next p (slice_get p.code i) (sums_at p.code i) (slice_get rows i) (pairs_at p rows i)

@@ -1,6 +1,6 @@
--- What is known of one register beside its kind: that it holds the sum of a register and an operand (this store's profiles). It is known by
--- the code alone, from a move or an addition on, as long as no jump leads there and none of its registers is written.
-use Rattle.std.specs.Prelude.{ℕ, zero, suc, ◌-◌, ◌^◌, ◌==◌, pos, nat_le, int_lt, Bool, true, false, not, ◌||◌, ◌&&◌, if◌then◌else◌, Option, None, Some, List, slice_get}
+-- What is known of each register beside its kind: that it holds the sum of a register and an operand (this store's profiles). It is known
+-- by the code alone, from a move or an addition on, as long as no jump leads there, nothing is called and none of its registers is written.
+use Rattle.std.specs.Prelude.{ℕ, zero, suc, ◌-◌, ◌^◌, ◌==◌, pos, nat_le, int_lt, Bool, true, false, not, ◌||◌, ◌&&◌, if◌then◌else◌, Option, None, Some, List, [], ◌∷◌, replicate, slice_get, slice_index_or}
 use Rattle.bpf_alu.specs.declared.Op.{Op}
 use Rattle.bpf_alu.specs.declared.Op.TheVariants.{Mov, Add}
 use Rattle.bpf_alu.specs.declared.Cond.TheVariants.{LessEqual}
@@ -8,6 +8,7 @@ use Rattle.bpf_alu.specs.declared.Width.{Width}
 use Rattle.bpf_alu.specs.declared.Width.TheVariants.{W64}
 use Rattle.bpf_insn.specs.Encoding.{number}
 use Rattle.bpf_insn.specs.declared.Register.{Register}
+use Rattle.bpf_insn.specs.declared.Register.TheVariants.{R0, R1, R2, R3, R4, R5, R6, R7, R8, R9, R10}
 use Rattle.bpf_insn.specs.declared.Operand.{Operand}
 use Rattle.bpf_insn.specs.declared.Operand.TheVariants as operand
 use Rattle.bpf_insn.specs.declared.Insn.{Insn}
@@ -23,7 +24,17 @@ use Rattle.bpf_verifier.specs.Registers.{Row, kind_at, with_kind, one_number, ki
 use Rattle.bpf_verifier.specs.Rules.{row_after}
 use Rattle.bpf_verifier.specs.declared.sum.Sum.{Sum}
 
--- ---- which sum is known
+-- ---- which sums are known
+
+-- the sum that each of R0 to R10 is known to hold, if one is
+abbrev pub KnownSums : Type 0
+KnownSums = List (Option Sum)
+
+abbrev pub no_sums : KnownSums
+no_sums = replicate 11 None
+
+abbrev pub sum_in : KnownSums → Register → Option Sum
+sum_in sums r = slice_index_or sums (number r) None
 
 -- whether a register is an operand, and whether it is one of those of a sum
 abbrev pub is_operand : Register → Operand → Bool
@@ -38,11 +49,11 @@ abbrev pub without : Register → Option Sum → Option Sum
 without r None = None
 without r (Some sum) = if has_register r sum then None else Some sum
 
--- after a copy: the register and zero
-abbrev pub copied : Register → Operand → Option Sum → Option Sum
-copied dst (operand.Register src) sum =
+-- by a copy: the register and zero
+abbrev pub copied : Register → Operand → Option Sum
+copied dst (operand.Register src) =
     if number src == number dst then None else Some (record { of = dst; left = src; right = operand.Immediate (pos 0) })
-copied dst (operand.Immediate n) sum = without dst sum
+copied dst (operand.Immediate n) = None
 
 abbrev pub is_zero : Operand → Bool
 is_zero (operand.Immediate (pos zero)) = true
@@ -52,35 +63,46 @@ is_zero other = false
 abbrev pub is_copy : Register → Operand → Sum → Bool
 is_copy dst src sum = (number sum.of == number dst && is_zero sum.right) && (not (number sum.left == number dst) && not (is_operand dst src))
 
--- after an addition to a copy: the copied register and what is added
+-- by an addition to a copy: the copied register and what is added
 abbrev pub added : Register → Operand → Option Sum → Option Sum
 added dst src None = None
-added dst src (Some sum) =
-    if is_copy dst src sum then Some (record { of = dst; left = sum.left; right = src }) else without dst (Some sum)
+added dst src (Some sum) = if is_copy dst src sum then Some (record { of = dst; left = sum.left; right = src }) else None
 
+-- the sum that an operation gives its register, by the one that it held
 abbrev pub sum_of_op : Op → Width → Register → Operand → Option Sum → Option Sum
-sum_of_op Mov W64 dst src sum = copied dst src sum
+sum_of_op Mov W64 dst src sum = copied dst src
 sum_of_op Add W64 dst src sum = added dst src sum
-sum_of_op o w dst src sum = without dst sum
+sum_of_op o w dst src sum = None
 
--- the sum that is known after an instruction that goes on to the next slot
-abbrev pub sum_after : Insn → Option Sum → Option Sum
-sum_after (insn.Alu o w dst src) sum = sum_of_op o w dst src sum
-sum_after (insn.Load size extend dst base offset) sum = without dst sum
-sum_after (insn.Store size base offset src) sum = sum
-sum_after (insn.JumpIf c w left right offset) sum = sum
-sum_after other sum = None
+-- what a register is known to hold after a write to dst, which then holds a new sum, if one is known
+abbrev pub kept : Register → Option Sum → KnownSums → Register → Option Sum
+kept dst new sums r = if number r == number dst then new else without dst (sum_in sums r)
 
-abbrev pub sum_next : Option Insn → Option Sum → Option Sum
-sum_next None sum = None
-sum_next (Some x) sum = sum_after x sum
+abbrev pub renewed : Register → Option Sum → KnownSums → KnownSums
+renewed dst new sums =
+    kept dst new sums R0 ∷ kept dst new sums R1 ∷ kept dst new sums R2 ∷ kept dst new sums R3 ∷ kept dst new sums R4 ∷ kept dst new sums R5 ∷ kept dst new sums R6 ∷ kept dst new sums R7 ∷ kept dst new sums R8 ∷ kept dst new sums R9 ∷ kept dst new sums R10 ∷ []
 
--- the sum that is known at a slot: none where a jump leads there
-abbrev pub sum_at : List Insn → ℕ → Option Sum
-sum_at code zero = None
-sum_at code (suc i) = if leads_before code (suc i) (suc i) then None else sum_next (slice_get code i) (sum_at code i)
+-- the sums that are known after an instruction, on its way to the next slot: a wide one goes past its second slot
+abbrev pub sums_after : Insn → KnownSums → KnownSums
+sums_after (insn.Alu o w dst src) sums = renewed dst (sum_of_op o w dst src (sum_in sums dst)) sums
+sums_after (insn.Swap kind n dst) sums = renewed dst None sums
+sums_after (insn.Load size extend dst base offset) sums = renewed dst None sums
+sums_after (insn.Wide dst n) sums = renewed dst None sums
+sums_after (insn.Store size base offset src) sums = sums
+sums_after (insn.JumpIf c w left right offset) sums = sums
+sums_after insn.Tail sums = sums
+sums_after other sums = no_sums
 
--- ---- what it tells
+abbrev pub sums_next : Option Insn → KnownSums → KnownSums
+sums_next None sums = no_sums
+sums_next (Some x) sums = sums_after x sums
+
+-- the sums that are known at a slot: none where a jump leads there
+abbrev pub sums_at : List Insn → ℕ → KnownSums
+sums_at code zero = no_sums
+sums_at code (suc i) = if leads_before code (suc i) (suc i) then no_sums else sums_next (slice_get code i) (sums_at code i)
+
+-- ---- what they tell
 
 -- the least and the greatest number that a kind may be, a pointer by its address
 abbrev pub least : Kind → ℕ
@@ -117,11 +139,23 @@ told_by sum row =
     then operand_at_most (most whole - least left) sum.right (register_at_most (most whole - least right) sum.left row)
     else row
 
--- by the second profile, and where a condition was tested
-abbrev pub told : Insn → Profile → Option Sum → Row → Row
-told (insn.JumpIf c w left right offset) Second (Some sum) row = told_by sum row
-told x profile sum row = row
+abbrev pub told_one : Option Sum → Row → Row
+told_one None row = row
+told_one (Some sum) row = told_by sum row
 
--- the kinds where an instruction goes on to the next slot, with what a sum tells
-abbrev pub row_on : Profile → Callee → Option Sum → Row → Insn → Row
-row_on profile callee sum row x = told x profile sum (row_after profile callee row x)
+abbrev pub told_each : KnownSums → List Register → Row → Row
+told_each sums [] row = row
+told_each sums (r ∷ rs) row = told_each sums rs (told_one (sum_in sums r) row)
+
+-- one after the other: R10 is never written, so it holds none
+abbrev pub told_all : KnownSums → Row → Row
+told_all sums row = told_each sums (R0 ∷ R1 ∷ R2 ∷ R3 ∷ R4 ∷ R5 ∷ R6 ∷ R7 ∷ R8 ∷ R9 ∷ []) row
+
+-- by the second profile, and where a condition was tested
+abbrev pub told : Insn → Profile → KnownSums → Row → Row
+told (insn.JumpIf c w left right offset) Second sums row = told_all sums row
+told x profile sums row = row
+
+-- the kinds where an instruction goes on to the next slot, with what the sums tell
+abbrev pub row_on : Profile → Callee → KnownSums → Row → Insn → Row
+row_on profile callee sums row x = told x profile sums (row_after profile callee row x)

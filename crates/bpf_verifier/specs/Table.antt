@@ -11,10 +11,9 @@ use Rattle.bpf_verifier.specs.Program.{Program}
 use Rattle.bpf_verifier.specs.Registers.{Row, entry}
 use Rattle.bpf_helpers.specs.Calls.{Callee}
 use Rattle.bpf_verifier.specs.Rules.{callee_in, row_taken, broken_in}
-use Rattle.bpf_verifier.specs.Sums.{sum_at, row_on}
+use Rattle.bpf_verifier.specs.Sums.{KnownSums, sums_at, row_on}
 use Rattle.bpf_verifier.specs.Naming.{names_in, named}
 use Rattle.bpf_verifier.specs.PairSteps.{pairs_at}
-use Rattle.bpf_verifier.specs.declared.sum.Sum.{Sum}
 use Rattle.bpf_verifier.specs.declared.pair.Pairs.{Pairs}
 use Rattle.bpf_verifier.specs.declared.rule.KindRule.{KindRule}
 
@@ -33,16 +32,16 @@ target_edge None row = []
 target_edge (Some (pos k)) row = (k, row) ∷ []
 target_edge (Some (negsuc k)) row = []
 
--- the edges of an instruction at slot i, with what it calls, which a row of kinds reaches and a sum, if one is known: to the next slot,
+-- the edges of an instruction at slot i, with what it calls, which a row of kinds reaches and the sums that are known: to the next slot,
 -- and to the target of its jump
-abbrev pub edges_from : Profile → Callee → Option Sum → ℕ → Row → Insn → List Edge
-edges_from profile callee sum i row x =
-    next_edge (next_of i x) (row_on profile callee sum row x) ++ target_edge (target_of i x) (row_taken profile row x)
+abbrev pub edges_from : Profile → Callee → KnownSums → ℕ → Row → Insn → List Edge
+edges_from profile callee sums i row x =
+    next_edge (next_of i x) (row_on profile callee sums row x) ++ target_edge (target_of i x) (row_taken profile row x)
 
 -- and with what the names before it tell, on both ways
-abbrev pub named_edges : Profile → Callee → Option Sum → Names → ℕ → Row → Insn → List Edge
-named_edges profile callee sum names i row x =
-    next_edge (next_of i x) (named x profile names (row_on profile callee sum row x)) ++ target_edge (target_of i x) (named x profile names (row_taken profile row x))
+abbrev pub named_edges : Profile → Callee → KnownSums → Names → ℕ → Row → Insn → List Edge
+named_edges profile callee sums names i row x =
+    next_edge (next_of i x) (named x profile names (row_on profile callee sums row x)) ++ target_edge (target_of i x) (named x profile names (row_taken profile row x))
 
 -- ---- joins
 
@@ -64,7 +63,7 @@ into profile k (e ∷ es) before = into profile k es (if e.0 == k then joined pr
 
 -- the edges of slot i, if some row of kinds reaches it, with the names that are known there by the rows of lower slots
 abbrev pub edges_of : Program → Names → ℕ → Option Insn → Option (Option Row) → List Edge
-edges_of p names i (Some x) (Some (Some row)) = named_edges p.profile (callee_in p.sigs x) (sum_at p.code i) names i row x
+edges_of p names i (Some x) (Some (Some row)) = named_edges p.profile (callee_in p.sigs x) (sums_at p.code i) names i row x
 edges_of p names i x row = []
 
 -- the join over all edges into slot k from the first n slots of a table; slot 0 has the entry too

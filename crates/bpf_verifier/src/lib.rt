@@ -22,7 +22,7 @@ pub mod verifying;
 mod waiting;
 mod windows;
 
-// What the pass does at one slot: the rules on its instruction, the kinds after it, those that its jump takes along, and the sum, the names
+// What the pass does at one slot: the rules on its instruction, the kinds after it, those that its jump takes along, and the sums, the names
 // and the pairs that are known there.
 pub use bpf_image::{FormRule, Image, ImageFault, ImageKind, raw_image, read_image};
 pub use callee::{Called, callee_in};
@@ -37,6 +37,6 @@ pub use rule::{KindRule, Refused, Rule};
 pub use rules::advance;
 pub use span::Span;
 pub use sum::Sum;
-pub use sums::{Sums, tell};
+pub use sums::{KnownSums, Sums, tell};
 pub use verified::Verified;
 pub use verifying::{judge, pairs_before, row_before, verify};

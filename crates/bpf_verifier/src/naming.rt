@@ -19,7 +19,7 @@ use bpf_insn::{Insn, Operand, Register};
 use bpf_ranges::{Kind, Profile, refine, transfer};
 
 /// The registers that a program may write.
-const REGISTERS: [Register; 10] = [
+pub const REGISTERS: [Register; 10] = [
     Register::R0,
     Register::R1,
     Register::R2,

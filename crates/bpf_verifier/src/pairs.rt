@@ -4,12 +4,12 @@ ghost use Rattle.std.specs.Prelude.{◌≡◌, ◌<◌, ℕ, Bool, true, Some, L
 ghost use Rattle.bpf_semantics.specs.declared.profile.Profile.TheVariants.{Second};
 ghost use Rattle.bpf_verifier.specs.Table.{AreKinds};
 ghost use Rattle.bpf_verifier.specs.Pairs.{no_pairs, is_in, are_of, most_in, most_together, argument_ends};
-ghost use Rattle.bpf_verifier.specs.PairSteps.{pair_without, pairs_without, before, with_pair, partner, carried, carried_into, carried_from, pairs_of_sum, pairs_of_op, pair_over_call, pairs_over_call, pairs_over, pair_of, pair_told, pairs_told};
+ghost use Rattle.bpf_verifier.specs.PairSteps.{pair_without, pairs_without, before, with_pair, partner, carried, carried_into, carried_from, pairs_of_sum, pairs_of_op, pair_over_call, pairs_over_call, pairs_over, pair_of, pair_told, pair_by, pairs_by_operand, pairs_told};
 
 use crate::kinds::{kind_of, kind_of_operand};
 use crate::pair::{Pair, Pairs};
 use crate::sum::Sum;
-use crate::sums::{is_operand, most};
+use crate::sums::{KnownSums, most, sum_in};
 use bpf_alu::{Op, Width};
 use bpf_insn::{Insn, Operand, Register};
 use bpf_ranges::{Kind, Profile};
@@ -326,25 +326,44 @@ fn pair_told(sum: Sum, right: Operand, row: &[Kind]) -> Option<Pair>
     }
 }
 
+/// The pair that is told by the sum which a register holds, if one is known.
+fn pair_by(sum: Option<Sum>, row: &[Kind]) -> Option<Pair>
+    requires { AreKinds row.now }
+    ensures { result ≡ pair_by sum row.now }
+{
+    match sum {
+        Some(sum) => pair_told(sum, sum.right, row),
+        None => None,
+    }
+}
+
+/// One pair more, where an operand is a register that is known to hold a sum.
+fn pairs_by_operand(sums: &KnownSums, operand: Operand, row: &[Kind], pairs: Pairs) -> Pairs
+    requires { AreKinds row.now }
+    ensures { result ≡ pairs_by_operand sums.now operand row.now pairs }
+{
+    match operand {
+        Operand::Register(register) => with_pair(pair_by(sum_in(sums, register), row), pairs),
+        Operand::Immediate(_) => pairs,
+    }
+}
+
 /// The pairs that are known where a condition was tested, by the second profile, and the row on to the next slot.
 #[inline(always)]
 pub fn pairs_told(
     insn: Insn,
     profile: Profile,
-    sum: Option<Sum>,
+    sums: &KnownSums,
     row: &[Kind],
     pairs: Pairs,
 ) -> Pairs
     requires { AreKinds row.now }
-    ensures { result ≡ pairs_told insn profile sum row.now pairs }
+    ensures { result ≡ pairs_told insn profile sums.now row.now pairs }
 {
-    match (insn, profile, sum) {
-        (Insn::JumpIf { left, right, .. }, Profile::Second, Some(sum)) => {
-            if left.number() == sum.of.number() || is_operand(sum.of, right) {
-                with_pair(pair_told(sum, sum.right, row), pairs)
-            } else {
-                pairs
-            }
+    match (insn, profile) {
+        (Insn::JumpIf { left, right, .. }, Profile::Second) => {
+            let others = pairs_by_operand(sums, right, row, pairs);
+            with_pair(pair_by(sum_in(sums, left), row), others)
         }
         _ => pairs,
     }

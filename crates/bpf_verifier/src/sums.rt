@@ -1,6 +1,6 @@
-//! Which sum is known at a slot, and what it tells of its numbers; and the names of the registers there, by the second profile.
+//! Which sums are known at a slot, and what they tell of their numbers; and the names of the registers there, by the second profile.
 
-ghost use Rattle.std.specs.Prelude.{◌≡◌, ◌<◌, ◌+◌, ◌||◌, true, false, ℕ, Bool, if◌then◌else◌, IfOk, OnErr, Some, None, List, slice_get, length, vec_len};
+ghost use Rattle.std.specs.Prelude.{◌≡◌, ◌<◌, ◌+◌, ◌||◌, true, false, ℕ, Bool, if◌then◌else◌, IfOk, OnErr, Some, List, slice_get, length, vec_len};
 ghost use Rattle.bpf_insn.specs.declared.Insn.{Insn};
 ghost use Rattle.bpf_alu.specs.declared.Cond.TheVariants.{LessEqual};
 ghost use Rattle.bpf_alu.specs.declared.Width.TheVariants.{W64};
@@ -14,11 +14,12 @@ ghost use Rattle.bpf_verifier.specs.Naming.{bounds_at};
 ghost use Rattle.bpf_verifier.specs.Table.{table, AreKinds};
 ghost use Rattle.bpf_copies.specs.Led.{is_slot};
 ghost use Rattle.bpf_copies.specs.Courses.{Follows, held_at};
-ghost use Rattle.bpf_verifier.specs.Sums.{is_operand, has_register, without, copied, is_copy, added, sum_of_op, sum_after, least, most, at_most, register_at_most, operand_at_most, told_by, told};
+ghost use Rattle.bpf_verifier.specs.Sums.{no_sums, sum_in, is_operand, has_register, without, copied, is_copy, added, sum_of_op, kept, renewed, sums_after, least, most, at_most, register_at_most, operand_at_most, told_by, told_one, told_each, told_all, told};
 ghost use Rattle.bpf_verifier.specs.Known.{AreSums};
 
 use crate::candidate::Candidate;
 use crate::kinds::{kind_of, kind_of_operand, one_number, set_kind};
+use crate::naming::REGISTERS;
 use crate::sum::Sum;
 use bpf_alu::{Cond, Op, Width};
 use bpf_copies::{Bounds, Course, place_of};
@@ -28,7 +29,7 @@ use bpf_ranges::{Kind, Profile, refine};
 use std::alloc::{AllocError, Global};
 
 /// Whether a register is an operand.
-pub fn is_operand(register: Register, operand: Operand) -> bool
+fn is_operand(register: Register, operand: Operand) -> bool
     ensures { result ≡ is_operand register operand }
 {
     match operand {
@@ -46,7 +47,7 @@ fn has_register(register: Register, sum: Sum) -> bool
         || is_operand(register, sum.right)
 }
 
-/// The sum that is known after a write to a register.
+/// A sum, as far as it is known after a write to a register.
 fn without(register: Register, sum: Option<Sum>) -> Option<Sum>
     ensures { result ≡ without register sum }
 {
@@ -62,9 +63,9 @@ fn without(register: Register, sum: Option<Sum>) -> Option<Sum>
     }
 }
 
-/// The sum that is known after a move of 64 bits.
-fn copied(dst: Register, src: Operand, sum: Option<Sum>) -> Option<Sum>
-    ensures { result ≡ copied dst src sum }
+/// The sum that a move of 64 bits gives its register: what is copied, and zero.
+fn copied(dst: Register, src: Operand) -> Option<Sum>
+    ensures { result ≡ copied dst src }
 {
     match src {
         Operand::Register(src) => {
@@ -78,7 +79,7 @@ fn copied(dst: Register, src: Operand, sum: Option<Sum>) -> Option<Sum>
                 })
             }
         }
-        Operand::Immediate(_) => without(dst, sum),
+        Operand::Immediate(_) => None,
     }
 }
 
@@ -91,7 +92,7 @@ fn is_copy(dst: Register, src: Operand, sum: Sum) -> bool
     is_copied && is_other
 }
 
-/// The sum that is known after an addition of 64 bits.
+/// The sum that an addition of 64 bits gives its register, where that held a copy.
 fn added(dst: Register, src: Operand, sum: Option<Sum>) -> Option<Sum>
     ensures { result ≡ added dst src sum }
 {
@@ -104,27 +105,70 @@ fn added(dst: Register, src: Operand, sum: Option<Sum>) -> Option<Sum>
                     right: src,
                 })
             } else {
-                without(dst, sum)
+                None
             }
         }
         None => None,
     }
 }
 
-/// The sum that is known after an operation.
+/// The sum that an operation gives its register, by the one that it held.
 fn sum_of_op(op: Op, width: Width, dst: Register, src: Operand, sum: Option<Sum>) -> Option<Sum>
     ensures { result ≡ sum_of_op op width dst src sum }
 {
     match (op, width) {
-        (Op::Mov, Width::W64) => copied(dst, src, sum),
+        (Op::Mov, Width::W64) => copied(dst, src),
         (Op::Add, Width::W64) => added(dst, src, sum),
-        _ => without(dst, sum),
+        _ => None,
     }
 }
 
-/// The sum that is known after an instruction that goes on to the next slot.
-fn sum_after(insn: Insn, sum: Option<Sum>) -> Option<Sum>
-    ensures { result ≡ sum_after insn sum }
+/// The sum that each of R0 to R10 is known to hold, if one is.
+pub type KnownSums = [Option<Sum>; 11];
+
+/// No register is known to hold a sum.
+const NO_SUMS: KnownSums = [None; 11];
+
+/// The sum that a register is known to hold.
+pub fn sum_in(sums: &KnownSums, register: Register) -> Option<Sum>
+    ensures { result ≡ sum_in sums.now register }
+{
+    sums[register.number() as usize]
+}
+
+/// What a register is known to hold after a write to `dst`, which then holds a new sum, if one is known.
+fn kept(dst: Register, new: Option<Sum>, sums: &KnownSums, register: Register) -> Option<Sum>
+    ensures { result ≡ kept dst new sums.now register }
+{
+    if register.number() == dst.number() {
+        new
+    } else {
+        without(dst, sum_in(sums, register))
+    }
+}
+
+/// The sums that are known after a write to `dst`, which then holds a new sum, if one is known.
+fn renewed(dst: Register, new: Option<Sum>, sums: &KnownSums) -> KnownSums
+    ensures { result ≡ renewed dst new sums.now }
+{
+    [
+        kept(dst, new, sums, Register::R0),
+        kept(dst, new, sums, Register::R1),
+        kept(dst, new, sums, Register::R2),
+        kept(dst, new, sums, Register::R3),
+        kept(dst, new, sums, Register::R4),
+        kept(dst, new, sums, Register::R5),
+        kept(dst, new, sums, Register::R6),
+        kept(dst, new, sums, Register::R7),
+        kept(dst, new, sums, Register::R8),
+        kept(dst, new, sums, Register::R9),
+        kept(dst, new, sums, Register::R10),
+    ]
+}
+
+/// The sums that are known after an instruction, on its way to the next slot: a wide one goes past its second slot.
+fn sums_after(insn: Insn, sums: &KnownSums) -> KnownSums
+    ensures { result ≡ sums_after insn sums.now }
 {
     match insn {
         Insn::Alu {
@@ -132,18 +176,24 @@ fn sum_after(insn: Insn, sum: Option<Sum>) -> Option<Sum>
             width,
             dst,
             src,
-        } => sum_of_op(op, width, dst, src, sum),
-        Insn::Load { dst, .. } => without(dst, sum),
-        Insn::Store { .. } | Insn::JumpIf { .. } => sum,
-        _ => None,
+        } => renewed(dst, sum_of_op(op, width, dst, src, sum_in(sums, dst)), sums),
+        Insn::Load { dst, .. } | Insn::Swap { dst, .. } | Insn::Wide { dst, .. } => {
+            renewed(dst, None, sums)
+        }
+        Insn::Store { .. } | Insn::JumpIf { .. } | Insn::Tail => *sums,
+        Insn::Call { .. } | Insn::Jump { .. } | Insn::Exit => NO_SUMS,
     }
 }
 
-/// The sum that is known at the next slot: none where a jump leads there.
-fn sum_on(is_led: bool, insn: Insn, sum: Option<Sum>) -> Option<Sum>
-    ensures { result ≡ if is_led then None else sum_after insn sum }
+/// The sums that are known at the next slot: none where a jump leads there.
+fn sums_on(is_led: bool, insn: Insn, sums: &KnownSums) -> KnownSums
+    ensures { result ≡ if is_led then no_sums else sums_after insn sums.now }
 {
-    if is_led { None } else { sum_after(insn, sum) }
+    if is_led {
+        NO_SUMS
+    } else {
+        sums_after(insn, sums)
+    }
 }
 
 /// Notes where a jump leads, if there is one.
@@ -164,12 +214,12 @@ fn none_led(alloc: Global, slots: usize) -> Result<Vec<bool>, AllocError>
     vec![in alloc; false; slots]
 }
 
-/// The sum that is known at a slot, and to which slots jumps lead from before it; by the second profile the names of the registers there
-/// too, and those that wait for other slots.
+/// The sums that are known at a slot, and to which slots jumps lead from before it; by the second profile the names of the registers
+/// there too, and those that wait for other slots.
 #[derive(Drop)]
 pub struct Sums {
     pub led: Vec<bool>,
-    pub sum: Option<Sum>,
+    pub held: KnownSums,
     pub names: Course,
 }
 
@@ -213,7 +263,7 @@ impl Sums {
         let names = Course::new(alloc, named_slots(profile, slots))?;
         Ok(Sums {
             led,
-            sum: None,
+            held: NO_SUMS,
             names,
         })
     }
@@ -230,13 +280,13 @@ impl Sums {
         requires old { AreSums (program_in program.now) (length program.now.image.code.items + 1) at self.old }
         requires known { program.now.image.profile ≡ Second → bounds_at (program_in program.now) (table (program_in program.now)) at ≡ known }
         ensures on { IfOk result (λ _. AreSums (program_in program.now) (length program.now.image.code.items + 1) (at + 1) self.new) }
-        ensures sum { OnErr result ((self.new.sum ≡ self.old.sum) × (self.new.led.items ≡ self.old.led.items)) }
+        ensures held { OnErr result ((self.new.held ≡ self.old.held) × (self.new.led.items ≡ self.old.led.items)) }
         ensures names { OnErr result ((self.new.names.here ≡ self.old.names.here) × ((k : ℕ) → held_at self.new.names.waiting.items k ≡ held_at self.old.names.waiting.items k)) }
     {
         name_on(&mut self.names, program, at, known)?;
         let insn = program.image.code[at];
         note(&mut self.led, target_of(at, insn));
-        self.sum = sum_on(self.led[at + 1], insn, self.sum);
+        self.held = sums_on(self.led[at + 1], insn, &self.held);
         Ok(())
     }
 }
@@ -331,13 +381,39 @@ fn tell_by(sum: Sum, row: &mut [Kind])
     }
 }
 
-/// Narrows the numbers of the sum that is known where a condition was tested, by the second profile.
-pub fn tell(insn: Insn, profile: Profile, sum: Option<Sum>, row: &mut [Kind])
+/// Narrows the two numbers of a sum, if one is known.
+fn tell_one(sum: Option<Sum>, row: &mut [Kind])
     requires { AreKinds row.old }
-    ensures table { row.new ≡ told insn profile sum row.old }
+    ensures table { row.new ≡ told_one sum row.old }
     ensures kinds { AreKinds row.new }
 {
-    if let (Insn::JumpIf { .. }, Profile::Second, Some(sum)) = (insn, profile, sum) {
+    if let Some(sum) = sum {
         tell_by(sum, row);
+    }
+}
+
+/// Narrows the numbers of the sums that some registers are known to hold.
+fn tell_each(sums: &KnownSums, registers: &[Register], row: &mut [Kind])
+    requires { AreKinds row.old }
+    ensures table { row.new ≡ told_each sums.now registers.now row.old }
+    ensures kinds { AreKinds row.new }
+{
+    match registers {
+        [] => {},
+        [register, registers @ ..] => {
+            tell_one(sum_in(sums, *register), row);
+            tell_each(sums, registers, row);
+        }
+    }
+}
+
+/// Narrows the numbers of the sums that are known where a condition was tested, by the second profile.
+pub fn tell(insn: Insn, profile: Profile, sums: &KnownSums, row: &mut [Kind])
+    requires { AreKinds row.old }
+    ensures table { row.new ≡ told insn profile sums.now row.old }
+    ensures kinds { AreKinds row.new }
+{
+    if let (Insn::JumpIf { .. }, Profile::Second) = (insn, profile) {
+        tell_each(sums, &REGISTERS, row);
     }
 }

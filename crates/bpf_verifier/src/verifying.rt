@@ -7,7 +7,7 @@ ghost use Rattle.bpf_semantics.specs.declared.profile.Profile.TheVariants.{Secon
 ghost use Rattle.bpf_verifier.specs.Program.{program_of, IsSafeProgram};
 ghost use Rattle.bpf_verifier.specs.Candidates.{program_in};
 ghost use Rattle.bpf_verifier.specs.Registers.{cell_count, entry};
-ghost use Rattle.bpf_verifier.specs.Sums.{sum_at};
+ghost use Rattle.bpf_verifier.specs.Sums.{sums_at};
 ghost use Rattle.bpf_verifier.specs.Naming.{names_in};
 ghost use Rattle.bpf_verifier.specs.PairSteps.{pairs_next, pairs_at};
 ghost use Rattle.bpf_verifier.specs.Table.{IsAccepted, IsFirstRule, AreKinds, broken_at, table};
@@ -99,7 +99,7 @@ fn visit<const N: usize>(
     requires before { (k : ℕ) → k < at → broken_at (program_in program.now) k ≡ None }
     requires within { at < length program.now.image.code.items }
     requires pass { IsPass (program_in program.now) (waiting rows.old) here.old at }
-    requires sum { sums.now.sum ≡ sum_at program.now.image.code.items at }
+    requires held { sums.now.held ≡ sums_at program.now.image.code.items at }
     requires names { program.now.image.profile ≡ Second → sums.now.names.here ≡ names_in (program_in program.now) (table (program_in program.now)) at }
     requires pairs { pairs.old ≡ pairs_at (program_in program.now) (table (program_in program.now)) at }
     requires pool { IsPool program.now.image.profile rows.old }
@@ -111,7 +111,7 @@ fn visit<const N: usize>(
     ensures pool { IfOk result (λ _. IsPool program.now.image.profile rows.new) }
     ensures here { IfOk result (λ _. HasKinds program.now.image.profile rows.new.low here.new) }
     ensures taken { IfOk result (λ _. StartsZero program.now.image.profile rows.new.low taken.new) }
-    ensures pairs { IfOk result (λ _. pairs.new ≡ pairs_next (program_in program.now) (slice_get program.now.image.code.items at) sums.now.sum (slice_get (table (program_in program.now)) at) pairs.old) }
+    ensures pairs { IfOk result (λ _. pairs.new ≡ pairs_next (program_in program.now) (slice_get program.now.image.code.items at) sums.now.held (slice_get (table (program_in program.now)) at) pairs.old) }
 {
     let Some(row) = here else {
         *pairs = no_pairs();
@@ -130,8 +130,8 @@ fn visit<const N: usize>(
             slot: at as u32,
         });
     }
-    tell(insn, profile, sums.sum, row);
-    *pairs = pairs_told(insn, profile, sums.sum, row, over);
+    tell(insn, profile, &sums.held, row);
+    *pairs = pairs_told(insn, profile, &sums.held, row, over);
     tell_named(insn, profile, &sums.names.here, row);
     let Ok(on) = lead_on(profile, rows, at, row, insn, target, taken) else {
         return Err(no_memory());

@@ -61,7 +61,7 @@ loop-at-preserved g c = record {
       let p = program_in c.args.program.now in
       let next = c.loop-at.at + 1 in
       let led = c.in-Ok-advance.ensures.on.led next (omega (arith, c.loop-at-test.true, c.len-slots.ensures, c.args.program.now.image.code.ok.0)) in
-      pairs_on p (table p) c.loop-at.at (leads_before p.code next next) c.loop-at.sums.sum c.loop-at.pairs _ _ refl c.loop-at.invariant.sums.sum c.loop-at.invariant.pairs c.in_ok-visit.ensures.pairs (c.pairs_here-pairs.ensures (leads_before p.code next next) (ap (λ xs. slice_get xs next) c.deref.ensures.value ∙ led));
+      pairs_on p (table p) c.loop-at.at (leads_before p.code next next) c.loop-at.sums.held c.loop-at.pairs _ _ refl c.loop-at.invariant.sums.held c.loop-at.invariant.pairs c.in_ok-visit.ensures.pairs (c.pairs_here-pairs.ensures (leads_before p.code next next) (ap (λ xs. slice_get xs next) c.deref.ensures.value ∙ led));
   here = c.in_ok-visit.ensures.here;
   taken = c.in_ok-visit.ensures.taken;
   unbroken = one_more (λ k. broken_at (program_in c.args.program.now) k ≡ None) c.loop-at.at c.loop-at.invariant.unbroken c.in_ok-visit.ensures.unbroken;

@@ -2,7 +2,7 @@ use Rattle.std.proofs.Common.{ℕ, ◌≡◌, ◌+◌, ◌<◌, ◌||◌, length
 use Rattle.std.specs.Prelude.{slice_get}
 use Rattle.std.proofs.lemmas.Option.{slice_get_read, same_Some}
 use Rattle.bpf_copies.specs.Led.{is_slot, leads_before}
-use Rattle.bpf_verifier.proofs.Noted.{led_on, sum_on}
+use Rattle.bpf_verifier.proofs.Noted.{led_on, sums_on}
 use Rattle.bpf_verifier.proofs.sums.Sums.advance.Goals as goal
 
 pub returns-clause-on : goal.returns-clause-on
@@ -16,6 +16,6 @@ returns-clause-on c =
     record {
       long = omega (arith, c.note.ensures.long, c.requires.old.long);
       led = led;
-      sum = c.sum_on-self.ensures ∙ sum_on code at x c.index.result.now c.args.self.now.sum insn here c.requires.old.sum;
+      held = c.sums_on-self.ensures ∙ sums_on code at x c.index.result.now c.args.self.now.held insn here c.requires.old.held;
       names = c.in_ok-name_on.ensures.follows;
     }

@@ -10,6 +10,6 @@ returns c = λ p is.
     record {
       long = c.in_ok-led.ensures.long;
       led = c.in_ok-led.ensures.none;
-      sum = refl;
+      held = refl;
       names = λ second. subst (λ n. Follows p.code known n 0 c.in_ok-names.names) (c.named_slots.ensures (sym is ∙ second)) (c.in_ok-names.ensures p.code known);
     }
