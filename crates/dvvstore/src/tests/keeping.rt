@@ -15,11 +15,11 @@ use commands::server::{Ended, Says as _, Unserved};
 use dvv::VNODES_PER_NUMBER;
 use kept_folder::{HOOKS, Held, Opened};
 use server_accept::{Bound, Lobby, Setup, open};
-use std::alloc::Global;
+use std::io::Stderr;
 use std::net::{Net, SocketAddr, TcpListener, TcpStream};
 use std::sync::{Mutex, Wait};
 use std::test::Fail;
-use std::thread::Parker;
+use std::thread::{Parker, Threads};
 use std::time::Duration;
 use std::{io, thread};
 use test_support::expect;
@@ -116,6 +116,7 @@ struct Begun {
 struct Hall {
     lobby: Lobby,
     addr: SocketAddr,
+    err: Stderr,
 }
 
 /// Whether a client is told each line as it should be.
@@ -194,8 +195,8 @@ fn visit<R: Net<Listener = TcpListener, Stream = TcpStream> + Wait>(
 }
 
 /// A start that reads a folder.
-fn begin(rt: &HostRuntime, mut folder: Shared<'_, HostRuntime>) -> Result<Begun, Fail> {
-    let alloc = folder.alloc;
+fn begin<R: Threads + Wait + Sync>(mut folder: Shared<'_, R>) -> Result<Begun, Fail> {
+    let Shared { rt, alloc, .. } = folder;
     let Ok(Opened { number, held }) = kept_folder::open(alloc, rt, &mut folder, 0) else {
         return Err(Fail::from("not opened"));
     };
@@ -208,35 +209,32 @@ fn begin(rt: &HostRuntime, mut folder: Shared<'_, HostRuntime>) -> Result<Begun,
 }
 
 /// Opens a lobby over loopback.
-fn hall_of(rt: &HostRuntime, alloc: Global) -> Result<Hall, Fail> {
-    let Bound { listener, addr } = bind(rt, "127.0.0.1:0", rt.stderr())?;
+fn hall_of(rt: &HostRuntime) -> Result<Hall, Fail> {
+    let err = rt.stderr();
+    let Bound { listener, addr } = bind(rt, "127.0.0.1:0", err)?;
     let setup = Setup {
         listener,
         count: None,
         input: rt.stdin(),
         makes_snapshots: true,
-        err: rt.stderr(),
+        err,
     };
-    let lobby = open(alloc, rt, 2, setup)?;
-    Ok(Hall { lobby, addr })
+    let lobby = open(rt.alloc(), rt, 2, setup)?;
+    Ok(Hall { lobby, addr, err })
 }
 
 /// Serves what a folder held, until it is stopped. Each key has one copy.
-fn serve(
-    rt: &HostRuntime,
-    folder: Shared<'_, HostRuntime>,
+fn serve<R: Threads + Wait + Sync>(
+    folder: Shared<'_, R>,
     begun: Begun,
-    lobby: &Lobby,
+    hall: &Hall,
 ) -> Result<Left, Unbegun> {
+    let Shared { rt, alloc, .. } = folder;
     let Begun {
         number,
         held,
         tables,
     } = begun;
-    let host = Host {
-        alloc: folder.alloc,
-        rt,
-    };
     let making = Making {
         first: number * VNODES_PER_NUMBER,
         seed: Seed::fixed(),
@@ -245,29 +243,28 @@ fn serve(
     let stay = Stay {
         folder: Some(folder),
         held,
-        door: Door::<'_, HostRuntime>::Open(lobby),
-        err: rt.stderr(),
+        door: Door::<'_, HostRuntime>::Open(&hall.lobby),
+        err: hall.err,
     };
-    session::live(&host, making, tables, stay, &mut io::sink())
+    session::live(&Host { alloc, rt }, making, tables, stay, &mut io::sink())
 }
 
 /// Serves what a folder held while a client asks what a round asks.
-fn both(
-    rt: &HostRuntime,
-    folder: Shared<'_, HostRuntime>,
+fn both<R: Threads + Wait + Sync + Net<Listener = TcpListener, Stream = TcpStream>>(
+    folder: Shared<'_, R>,
     begun: Begun,
     hall: &Hall,
     round: Round,
 ) -> (io::Result<Seen>, Result<Left, Unbegun>) {
     thread::join(
-        rt,
+        folder.rt,
         || { visit(folder, hall, round) },
-        || { serve(rt, folder, begun, &hall.lobby) },
+        || { serve(folder, begun, hall) },
     )
 }
 
 /// Whether what is left of a store is kept in its folder, and its journals are one run.
-fn is_kept(mut folder: Shared<'_, HostRuntime>, number: u32, left: Result<Left, Unbegun>) -> bool {
+fn is_kept<R: Wait>(mut folder: Shared<'_, R>, number: u32, left: Result<Left, Unbegun>) -> bool {
     let Ok(Left::Kept(served)) = left else {
         return false;
     };
@@ -279,15 +276,14 @@ fn is_kept(mut folder: Shared<'_, HostRuntime>, number: u32, left: Result<Left, 
 }
 
 /// What a client saw of one start, where all that it saw is right, and what is left of the store is kept.
-fn round_over(
-    rt: &HostRuntime,
-    folder: Shared<'_, HostRuntime>,
+fn round_over<R: Threads + Wait + Sync + Net<Listener = TcpListener, Stream = TcpStream>>(
+    folder: Shared<'_, R>,
+    hall: &Hall,
     round: Round,
 ) -> Result<Pages, Fail> {
-    let begun = begin(rt, folder)?;
+    let begun = begin(folder)?;
     let number = begun.number;
-    let hall = hall_of(rt, folder.alloc)?;
-    let (seen, left) = both(rt, folder, begun, &hall, round);
+    let (seen, left) = both(folder, begun, hall, round);
     let Seen { is_right, snapshot } = seen?;
     expect(is_right, &"told")?;
     expect(is_kept(folder, number, left), &"kept")?;
@@ -298,16 +294,22 @@ fn round_over(
 /// begins from the last snapshot has the first key, and from the stop both; the hook judges in either.
 #[test]
 fn what_was_acknowledged(rt: HostRuntime) -> Result<(), Fail> {
-    let alloc = rt.alloc();
-    let rt = &rt;
+    let (lent, alloc) = (&rt, rt.alloc());
     let [first, snapped, stopped] = ROUNDS;
     let kept = Mutex::new(Pages::new(alloc));
-    kept.lock(rt).set("settings", b"snapshot 1\n")?;
-    let pages = &kept;
-    let folder = Shared { rt, alloc, pages };
-    let copied = Mutex::new(round_over(rt, folder, first)?);
-    let pages = &copied;
-    round_over(rt, Shared { rt, alloc, pages }, snapped)?;
-    round_over(rt, folder, stopped)?;
+    kept.lock(lent).set("settings", b"snapshot 1\n")?;
+    let folder = Shared {
+        rt: lent,
+        alloc,
+        pages: &kept,
+    };
+    let copied = Mutex::new(round_over(folder, &hall_of(lent)?, first)?);
+    let copy = Shared {
+        rt: lent,
+        alloc,
+        pages: &copied,
+    };
+    round_over(copy, &hall_of(lent)?, snapped)?;
+    round_over(folder, &hall_of(lent)?, stopped)?;
     Ok(())
 }
