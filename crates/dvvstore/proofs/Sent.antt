@@ -38,7 +38,7 @@ shared_sync B g h s = search (lock_sync, requests_sync, reporter.the_field_sync,
 
 -- a thread may be handed who follows
 pub lookout_send : (B : RattleType) (g : room.Ghosts B.Denot) (h : spot.Ghosts B.Denot) → IsSend B → IsSend (Lookout.the_row B g h)
-lookout_send B g h s = search (watch_send, requests.the_field_send, sendable, crosses) depth 40 fits 20000
+lookout_send B g h s = search (watch_send, requests.the_send, sendable, crosses) depth 40 fits 20000
 
 saver_alone : (F : RattleType) → IsSend F → IsSend (Saver.the_row F)
 saver_alone F s = search (saver.the_send, s, sendable, crosses) depth 40
