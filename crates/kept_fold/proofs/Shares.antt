@@ -1,6 +1,6 @@
 -- The clock of a merge has no more identifiers than those of its states together, each state once: one that is long comes of a record that is.
 use Rattle.std.proofs.Common.{◌≡◌, ℕ, zero, suc, ◌+◌, ◌*◌, ◌/◌, ◌<◌, ◌≤◌, ◌++◌, ◌⊎◌, inl, inr, ◌||◌, ◌&&◌, Bool, true, false, List, [], ◌∷◌, length, map, refl, sym, ap, subst, ◌∙◌, arith, if◌then◌else◌}
-use Rattle.std.specs.Prelude.{◌==◌, ◌↔◌, Contains, nat_eq, nat_lt, max}
+use Rattle.std.specs.Prelude.{◌==◌, Contains, nat_eq, nat_lt, max}
 use Rattle.std.specs.List.{AllByRecursion, IsDistinct, list_any}
 use Rattle.std.proofs.Math.Nat.{mul-div-le, mul-le-mul_right, suc-mul}
 use Rattle.std.proofs.lemmas.Bool.{eq-eqb, eqb-true, ltb-false, ltb-true, ne_eqb}
@@ -95,11 +95,11 @@ all_ids_length (s ∷ states) = let one = ids_before s.clock (all_ids states) in
 
 there : (q : ℕ) (states : List State) (s : State) → Contains states s → list_any (nat_eq q) (ids s.clock) ≡ true → list_any (nat_eq q) (all_ids states) ≡ true
 there q [] s c is = absurd (none s c)
-there q (t ∷ states) s c is = list_any-append (nat_eq q) (ids t.clock) (all_ids states) ∙ from (cases t states s c)
+there q (t ∷ states) s c is = list_any-append (nat_eq q) (ids t.clock) (all_ids states) ∙ from (cases t states s c) (λ rest. there q states s rest is)
   where
-    from : (t ≡ s) ⊎ Contains states s → (list_any (nat_eq q) (ids t.clock) || list_any (nat_eq q) (all_ids states)) ≡ true
-    from (inl same) = ap (λ (b : Bool). b || list_any (nat_eq q) (all_ids states)) (ap (λ (u : State). list_any (nat_eq q) (ids u.clock)) same ∙ is)
-    from (inr rest) = either (list_any (nat_eq q) (ids t.clock)) (list_any (nat_eq q) (all_ids states)) (there q states s rest is)
+    from : (t ≡ s) ⊎ Contains states s → (Contains states s → list_any (nat_eq q) (all_ids states) ≡ true) → (list_any (nat_eq q) (ids t.clock) || list_any (nat_eq q) (all_ids states)) ≡ true
+    from (inl same) others = ap (λ (b : Bool). b || list_any (nat_eq q) (all_ids states)) (ap (λ (u : State). list_any (nat_eq q) (ids u.clock)) same ∙ is)
+    from (inr rest) others = either (list_any (nat_eq q) (ids t.clock)) (list_any (nat_eq q) (all_ids states)) (others rest)
 
 -- ---- the clock of a merge
 
@@ -132,7 +132,7 @@ merged_short states different merged those merges =
     rising = rising_after states empty merged tt merges
 
     from : (q : ℕ) → (1 ≤ counter empty.clock q) ⊎ ((s : State) × Contains states s × (1 ≤ counter s.clock q)) → list_any (nat_eq q) (all_ids different) ≡ true
-    from q (inl no) = absurd (let e : 1 ≤ 0 = no in omega (arith, e))
+    from q (inl own) = absurd (let e : 1 ≤ 0 = own in omega (arith, e))
     from q (inr (s, c, at)) = there q different s (those s c) (member s.clock q at)
 
     among : (q : ℕ) → list_any (nat_eq q) (ids merged.clock) ≡ true → list_any (nat_eq q) (all_ids different) ≡ true
@@ -156,11 +156,11 @@ all_short n (r ∷ records) key is =
 
 each_short : (n : ℕ) (states : List State) → AllByRecursion (λ (s : State). length s.clock ≤ n) states → (s : State) → Contains states s → length s.clock ≤ n
 each_short n [] all s c = absurd (none s c)
-each_short n (t ∷ states) all s c = from (cases t states s c)
+each_short n (t ∷ states) all s c = from (cases t states s c) (each_short n states all.1 s)
   where
-    from : (t ≡ s) ⊎ Contains states s → length s.clock ≤ n
-    from (inl same) = subst (λ (u : State). length u.clock ≤ n) same all.0
-    from (inr rest) = each_short n states all.1 s rest
+    from : (t ≡ s) ⊎ Contains states s → (Contains states s → length s.clock ≤ n) → length s.clock ≤ n
+    from (inl same) others = subst (λ (u : State). length u.clock ≤ n) same all.0
+    from (inr rest) others = others rest
 
 together_short : (n : ℕ) (states : List State) → ((s : State) → Contains states s → length s.clock ≤ n) → together states ≤ length states * n
 together_short n [] all = omega arith
@@ -188,7 +188,7 @@ more_is_long files key merged (different, few, same) merges fold = record { merg
     by_test false is = absurd (
         let short : length merged.clock ≤ together different = merged_short (states_of (all_records files) key) different merged (λ s. (same s).0) merges in
         let all : together different ≤ length different * share (length files) = together_short (share (length files)) different
-            (λ s c. each_short (share (length files)) (states_of (all_records files) key) (all_short (share (length files)) (all_records files) key is) s ((same s).1 c)) in
+        (λ s c. each_short (share (length files)) (states_of (all_records files) key) (all_short (share (length files)) (all_records files) key is) s ((same s).1 c)) in
         let fits : length different * share (length files) ≤ length files * share (length files) = mul-le-mul_right (share (length files)) few in
         let most : length files * share (length files) ≤ 32 = shared_out (length files) in
         let many : 32 < length merged.clock = ltb-true most_former (length merged.clock) (and_left (nat_lt most_former (length merged.clock)) _ fold) in

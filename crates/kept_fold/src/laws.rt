@@ -1,6 +1,6 @@
 //! What holds of keys that are folded. Each of these functions does nothing: its contract is the law.
 
-ghost use Rattle.std.specs.Prelude.{◌≡◌, ◌≢◌, ℕ, ◌<◌, ◌≤◌, List, Contains, false, length, true};
+ghost use Rattle.std.specs.Prelude.{◌≡◌, ◌≢◌, ℕ, ◌<◌, ◌≤◌, List, Contains, false, true};
 ghost use Rattle.dvv.specs.declared.Dot.{Dot};
 ghost use Rattle.dvv.specs.Clock.{Covers, Within};
 ghost use Rattle.journal.specs.Replay.{IsMergeOf};

@@ -36,11 +36,11 @@ merges_tell k d (one_more stamp r es records merges) = ap (λ (b : Bool). (same_
 -- where some element passes a test, there is one
 some_of : {X : Type 0} (test : X → Bool) (xs : List X) → list_any test xs ≡ true → (x : X) × Contains xs x × (test x ≡ true)
 some_of test [] is = absurd (let e : false ≡ true = is in cc)
-some_of test (x ∷ xs) is = by_test (test x) refl is
+some_of {X} test (x ∷ xs) is = by_test (test x) refl is (some_of test xs)
   where
-    by_test : (b : Bool) → test x ≡ b → (b || list_any test xs) ≡ true → (y : _) × Contains (x ∷ xs) y × (test y ≡ true)
-    by_test true e is = (x, Contains-first x xs, e)
-    by_test false e is = let r = some_of test xs is in (r.0, Contains-later x xs r.0 r.1, r.2)
+    by_test : (b : Bool) → test x ≡ b → (b || list_any test xs) ≡ true → (list_any test xs ≡ true → (y : X) × Contains xs y × (test y ≡ true)) → (y : X) × Contains (x ∷ xs) y × (test y ≡ true)
+    by_test true e is others = (x, Contains-first x xs, e)
+    by_test false e is others = let r = others is in (r.0, Contains-later x xs r.0 r.1, r.2)
 
 -- ---- at a vnode of the key's list
 
@@ -61,7 +61,7 @@ module _ (placement : PlacementView) (files : List KeptFile) (file : KeptFile) (
       let one = some_of (record_tells key d) file.records.items (sym (merges_tell key d owned) ∙ known) in
       let parts = and_parts (same_key one.0.key key) (covers one.0.state.clock d) one.2 in
       subst (λ (k : Key). IsKey k → stands placement k vnode ≡ true → known_in (es ++ rest) k d ≡ true) (one_key one.0.key key parts.0)
-          (record_known one.0 d at among merges one.1 parts.1) is_key stands_there
+      (record_known one.0 d at among merges one.1 parts.1) is_key stands_there
 
   pub put_placed : (old own : List Entry) (stamp : ℕ) (key : Key) (seen : List Dot) (content : Content) (dot : Dot) → IsPlacedAt placement files vnode placed → Contains files file → AreMergesOf es placed
       → AreMergesOf own file.records.items → LeaveAlike old own key → IsKey key → stands placement key vnode ≡ true → Contains old (Put stamp key seen content dot) → known_in (es ++ rest) key dot ≡ true

@@ -16,4 +16,4 @@ returns-clause-contexts c = λ placement files file vnode placed old es rest bef
     let own : List Entry = merges_of 0 file.records.items in
     let owned = c.beginnings_are_merges.ensures 0 file.records.items in
     context_placed placement files file vnode placed es rest before after own key state at among merges owned
-        (subst (λ (xs : List Entry). LeaveAlike xs own key) split (c.records_carry_all.ensures old file.records.items own key legal all owned)) is_key stands left
+    (subst (λ (xs : List Entry). LeaveAlike xs own key) split (c.records_carry_all.ensures old file.records.items own key legal all owned)) is_key stands left
