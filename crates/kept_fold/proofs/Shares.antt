@@ -5,6 +5,7 @@ use Rattle.std.specs.List.{AllByRecursion, IsDistinct, list_any}
 use Rattle.std.proofs.Math.Nat.{mul-div-le, mul-le-mul_right, suc-mul}
 use Rattle.std.proofs.lemmas.Bool.{eq-eqb, eqb-true, ltb-false, ltb-true, ne_eqb}
 use Rattle.std.proofs.lemmas.Cmp.{nat_eq_equiv}
+use Rattle.std.proofs.lemmas.List.{length-append}
 use Rattle.std.proofs.lemmas.List.Folds.{list_any-append}
 use Rattle.std.proofs.lemmas.Map.Made.{length-le_from_is_member}
 use Rattle.dvv.specs.declared.Dot.{Dot}
@@ -16,6 +17,7 @@ use Rattle.kept_file.specs.declared.file.KeptFile.{KeptFile}
 use Rattle.record_codec.specs.declared.record.Record.{Record}
 use Rattle.kept_fold.specs.Merging.{AreMerged, HasFewStates, MergesInto, all_records, is_long, states_of}
 use Rattle.kept_fold.specs.Folds.{IsFold, is_foldable, most_former, share}
+use Rattle.kept_fold.proofs.Steps.{states_append}
 
 -- ---- identifiers of clocks
 
@@ -193,3 +195,20 @@ more_is_long files key merged (different, few, same) merges fold = record { merg
         let most : length files * share (length files) ≤ 32 = shared_out (length files) in
         let many : 32 < length merged.clock = ltb-true most_former (length merged.clock) (and_left (nat_lt most_former (length merged.clock)) _ fold) in
         omega (arith, short, all, fits, most, many))
+
+-- ---- files each of which has a key once at most
+
+abbrev AreOnce : List KeptFile → Key → Type 0
+AreOnce files key = AllByRecursion (λ (f : KeptFile). length (states_of f.records.items key) ≤ 1) files
+
+each_once : (files : List KeptFile) (key : Key) → AreOnce files key → length (states_of (all_records files) key) ≤ length files
+each_once [] key once = omega arith
+each_once (f ∷ files) key once =
+    let one : length (states_of f.records.items key) ≤ 1 = once.0 in
+    let rest : length (states_of (all_records files) key) ≤ length files = each_once files key once.1 in
+    let both : length (states_of (f.records.items ++ all_records files) key) ≡ length (states_of f.records.items key) + length (states_of (all_records files) key) =
+    ap (λ (states : List State). length states) (states_append f.records.items (all_records files) key) ∙ length-append (states_of f.records.items key) (states_of (all_records files) key) in
+    omega (arith, one, rest, both)
+
+pub once_is_few : (files : List KeptFile) (key : Key) → AreOnce files key → HasFewStates files key
+once_is_few files key once = (states_of (all_records files) key, each_once files key once, λ s. (λ c. c, λ c. c))

@@ -1,6 +1,6 @@
 //! What holds of keys that are folded. Each of these functions does nothing: its contract is the law.
 
-ghost use Rattle.std.specs.Prelude.{◌≡◌, ◌≢◌, ℕ, ◌<◌, ◌≤◌, List, Contains, false, true};
+ghost use Rattle.std.specs.Prelude.{◌≡◌, ◌≢◌, ℕ, ◌<◌, ◌≤◌, List, Contains, false, length, true};
 ghost use Rattle.dvv.specs.declared.Dot.{Dot};
 ghost use Rattle.dvv.specs.Clock.{Covers, Within};
 ghost use Rattle.journal.specs.Replay.{IsMergeOf};
@@ -8,6 +8,7 @@ ghost use Rattle.key_state.specs.State.{State};
 ghost use Rattle.key_state.specs.declared.content.Key.{Key};
 ghost use Rattle.key_state.specs.declared.content.Sibling.{Sibling};
 ghost use Rattle.kept_file.specs.declared.file.KeptFile.{KeptFile};
+ghost use Rattle.std.specs.List.{AllByRecursion};
 ghost use Rattle.record_codec.specs.declared.record.Record.{Record};
 ghost use Rattle.kept_fold.specs.Folds.{IsFold, anew, is_foldable};
 ghost use Rattle.kept_fold.specs.Merging.{AreMerged, HasFewStates, all_records, states_of};
@@ -26,7 +27,9 @@ pub fn merges_are_merges()
 /// 32 entries, and a sibling: none is passed over. So have it files each of which has the key once at most, as a store writes them, and also
 /// files of as many vnodes that such files were placed at, each of which may have the key once for each state.
 pub fn keys_of_more_entries_are_folded()
-    ensures { (files : List KeptFile) (key : Key) (merged : State) → HasFewStates files key
+    ensures few { (files : List KeptFile) (key : Key) (merged : State) → HasFewStates files key
+        → AreMerged (states_of (all_records files) key) merged → is_foldable merged ≡ true → IsFold files key merged }
+    ensures once { (files : List KeptFile) (key : Key) (merged : State) → AllByRecursion (λ (f : KeptFile). length (states_of f.records.items key) ≤ 1) files
         → AreMerged (states_of (all_records files) key) merged → is_foldable merged ≡ true → IsFold files key merged }
 {}
 
