@@ -1,22 +1,22 @@
--- The clock of a merge is no longer than those of its states together: one that is long comes of a record that is.
+-- The clock of a merge has no more identifiers than those of its states together, each state once: one that is long comes of a record that is.
 use Rattle.std.proofs.Common.{◌≡◌, ℕ, zero, suc, ◌+◌, ◌*◌, ◌/◌, ◌<◌, ◌≤◌, ◌++◌, ◌⊎◌, inl, inr, ◌||◌, ◌&&◌, Bool, true, false, List, [], ◌∷◌, length, map, refl, sym, ap, subst, ◌∙◌, arith, if◌then◌else◌}
-use Rattle.std.specs.Prelude.{◌==◌, nat_eq, nat_lt, max}
+use Rattle.std.specs.Prelude.{◌==◌, Contains, nat_eq, nat_lt, max}
 use Rattle.std.specs.List.{AllByRecursion, IsDistinct, list_any}
-use Rattle.std.proofs.Math.Nat.{mul-div-le, suc-mul}
+use Rattle.std.proofs.Math.Nat.{mul-div-le, mul-le-mul_right, suc-mul}
 use Rattle.std.proofs.lemmas.Bool.{eq-eqb, eqb-true, ltb-false, ltb-true, ne_eqb}
 use Rattle.std.proofs.lemmas.Cmp.{nat_eq_equiv}
+use Rattle.std.proofs.lemmas.List.{length-append}
 use Rattle.std.proofs.lemmas.List.Folds.{list_any-append}
 use Rattle.std.proofs.lemmas.Map.Made.{length-le_from_is_member}
 use Rattle.dvv.specs.declared.Dot.{Dot}
-use Rattle.dvv.specs.Clock.{AreRising, Covers, IsUnion, counter}
+use Rattle.dvv.specs.Clock.{AreRising, Covers, counter}
 use Rattle.key_state.specs.declared.content.Key.{Key}
 use Rattle.key_state.specs.State.{State, empty}
 use Rattle.journal.specs.Keys.{same_key}
 use Rattle.kept_file.specs.declared.file.KeptFile.{KeptFile}
 use Rattle.record_codec.specs.declared.record.Record.{Record}
-use Rattle.kept_fold.specs.Merging.{AreMerged, MergesInto, all_records, is_long, states_of}
+use Rattle.kept_fold.specs.Merging.{AreMerged, HasFewStates, MergesInto, all_records, is_long, states_of}
 use Rattle.kept_fold.specs.Folds.{IsFold, is_foldable, most_former, share}
-use Rattle.kept_fold.proofs.Longs.{long_append}
 use Rattle.kept_fold.proofs.Steps.{states_append}
 
 -- ---- identifiers of clocks
@@ -61,49 +61,90 @@ ids_length : (clock : List Dot) → length (ids clock) ≡ length clock
 ids_length [] = refl
 ids_length (e ∷ es) = ap suc (ids_length es)
 
-both_lengths : (a b : List Dot) → length (ids a ++ ids b) ≡ length a + length b
-both_lengths [] b = let e = ids_length b in omega (arith, e)
-both_lengths (e ∷ a) b = let rest = both_lengths a b in omega (arith, rest)
+-- ---- elements of lists
 
--- ---- the clock of a merge
+first : {X : Type 0} (x : X) (xs : List X) → Contains (x ∷ xs) x
+first x xs = (0, omega arith, refl)
 
-union_short : (a b c : List Dot) → AreRising 0 c → IsUnion a b c → length c ≤ length a + length b
-union_short a b c rising union =
-    let all : length (ids c) ≤ length (ids a ++ ids b) = length-le_from_is_member nat_eq_equiv (ids c) (ids a ++ ids b) (distinct c 0 rising) among in
-    let x = ids_length c in
-    let y = both_lengths a b in
-    omega (arith, all, x, y)
-  where
-    from : (q : ℕ) → Covers a (record { vnode = q; n = 1 }) ⊎ Covers b (record { vnode = q; n = 1 }) → (list_any (nat_eq q) (ids a) || list_any (nat_eq q) (ids b)) ≡ true
-    from q (inl covers) = ap (λ (t : Bool). t || list_any (nat_eq q) (ids b)) (member a q covers.1)
-    from q (inr covers) = either (list_any (nat_eq q) (ids a)) (list_any (nat_eq q) (ids b)) (member b q covers.1)
+later : {X : Type 0} (y : X) (xs : List X) (x : X) → Contains xs x → Contains (y ∷ xs) x
+later y xs x c = (suc c.0, omega (arith, c.1), c.2)
 
-    among : (q : ℕ) → list_any (nat_eq q) (ids c) ≡ true → list_any (nat_eq q) (ids a ++ ids b) ≡ true
-    among q is =
-        let one : 1 ≤ 1 = omega arith in
-        list_any-append (nat_eq q) (ids a) (ids b) ∙ from q ((union (record { vnode = q; n = 1 })).0 (one, counted c 0 q rising is))
+cases : {X : Type 0} (y : X) (xs : List X) (x : X) → Contains (y ∷ xs) x → (y ≡ x) ⊎ Contains xs x
+cases y xs x (zero, lt, is) = inl is
+cases y xs x (suc k, lt, is) = inr (k, omega arith, is)
+
+none : {X : Type 0} (x : X) → Contains [] x → ⊥
+none x (k, lt, is) = omega arith
+
+-- ---- the identifiers of several clocks
+
+abbrev all_ids : List State → List ℕ
+all_ids [] = []
+all_ids (s ∷ states) = ids s.clock ++ all_ids states
 
 -- how many entries the clocks of states have together
 abbrev together : List State → ℕ
 together [] = 0
 together (s ∷ states) = length s.clock + together states
 
-merged_short : (states : List State) (own last : State) → MergesInto own states last → length last.clock ≤ length own.clock + together states
-merged_short [] own last is = subst (λ (s : State). length s.clock ≤ length own.clock + 0) (sym is) (omega arith)
-merged_short (s ∷ states) own last (new, fits, merges, is, rest) =
-    let one : length new.clock ≤ length own.clock + length s.clock = union_short own.clock s.clock new.clock is.clock.rising merges.clock in
-    let more : length last.clock ≤ length new.clock + together states = merged_short states new last rest in
-    omega (arith, one, more)
+ids_before : (a : List Dot) (xs : List ℕ) → length (ids a ++ xs) ≡ length a + length xs
+ids_before [] xs = omega arith
+ids_before (e ∷ a) xs = let rest = ids_before a xs in omega (arith, rest)
+
+all_ids_length : (states : List State) → length (all_ids states) ≡ together states
+all_ids_length [] = refl
+all_ids_length (s ∷ states) = let one = ids_before s.clock (all_ids states) in let rest = all_ids_length states in omega (arith, one, rest)
+
+there : (q : ℕ) (states : List State) (s : State) → Contains states s → list_any (nat_eq q) (ids s.clock) ≡ true → list_any (nat_eq q) (all_ids states) ≡ true
+there q [] s c is = absurd (none s c)
+there q (t ∷ states) s c is = list_any-append (nat_eq q) (ids t.clock) (all_ids states) ∙ from (cases t states s c) (λ rest. there q states s rest is)
+  where
+    from : (t ≡ s) ⊎ Contains states s → (Contains states s → list_any (nat_eq q) (all_ids states) ≡ true) → (list_any (nat_eq q) (ids t.clock) || list_any (nat_eq q) (all_ids states)) ≡ true
+    from (inl same) others = ap (λ (b : Bool). b || list_any (nat_eq q) (all_ids states)) (ap (λ (u : State). list_any (nat_eq q) (ids u.clock)) same ∙ is)
+    from (inr rest) others = either (list_any (nat_eq q) (ids t.clock)) (list_any (nat_eq q) (all_ids states)) (others rest)
+
+-- ---- the clock of a merge
+
+rising_after : (states : List State) (own last : State) → AreRising 0 own.clock → MergesInto own states last → AreRising 0 last.clock
+rising_after [] own last rising is = subst (λ (s : State). AreRising 0 s.clock) (sym is) rising
+rising_after (s ∷ states) own last rising (new, fits, merges, is, rest) = rising_after states new last is.clock.rising rest
+
+-- what it counts comes of one of the states
+came : (states : List State) (own last : State) (q : ℕ) → MergesInto own states last → 1 ≤ counter last.clock q → (1 ≤ counter own.clock q) ⊎ ((s : State) × Contains states s × (1 ≤ counter s.clock q))
+came [] own last q is some = inl (subst (λ (s : State). 1 ≤ counter s.clock q) is some)
+came (s ∷ states) own last q (new, fits, merges, is, rest) some = from (came states new last q rest some)
+  where
+    of_two : Covers own.clock (record { vnode = q; n = 1 }) ⊎ Covers s.clock (record { vnode = q; n = 1 }) → (1 ≤ counter own.clock q) ⊎ ((t : State) × Contains (s ∷ states) t × (1 ≤ counter t.clock q))
+    of_two (inl covers) = inl covers.1
+    of_two (inr covers) = inr (s, first s states, covers.1)
+
+    from : (1 ≤ counter new.clock q) ⊎ ((t : State) × Contains states t × (1 ≤ counter t.clock q)) → (1 ≤ counter own.clock q) ⊎ ((t : State) × Contains (s ∷ states) t × (1 ≤ counter t.clock q))
+    from (inl at) = let one : 1 ≤ 1 = omega arith in of_two ((merges.clock (record { vnode = q; n = 1 })).0 (one, at))
+    from (inr (t, c, at)) = inr (t, later s states t c, at)
+
+-- so it has no more entries than the clocks of states together among which they all are
+merged_short : (states different : List State) (merged : State) → ((s : State) → Contains states s → Contains different s) → AreMerged states merged → length merged.clock ≤ together different
+merged_short states different merged those merges =
+    let all : length (ids merged.clock) ≤ length (all_ids different) = length-le_from_is_member nat_eq_equiv (ids merged.clock) (all_ids different) (distinct merged.clock 0 rising) among in
+    let x = ids_length merged.clock in
+    let y = all_ids_length different in
+    omega (arith, all, x, y)
+  where
+    rising : AreRising 0 merged.clock
+    rising = rising_after states empty merged tt merges
+
+    from : (q : ℕ) → (1 ≤ counter empty.clock q) ⊎ ((s : State) × Contains states s × (1 ≤ counter s.clock q)) → list_any (nat_eq q) (all_ids different) ≡ true
+    from q (inl own) = absurd (let e : 1 ≤ 0 = own in omega (arith, e))
+    from q (inr (s, c, at)) = there q different s (those s c) (member s.clock q at)
+
+    among : (q : ℕ) → list_any (nat_eq q) (ids merged.clock) ≡ true → list_any (nat_eq q) (all_ids different) ≡ true
+    among q is = from q (came states empty merged q merges (counted merged.clock 0 q rising is))
 
 -- ---- records none of which is long
 
 either_false : (b c : Bool) → (b || c) ≡ false → (b ≡ false) × (c ≡ false)
 either_false true c is = absurd (let e : true ≡ false = is in cc)
 either_false false c is = (refl, is)
-
-together_append : (xs ys : List State) → together (xs ++ ys) ≡ together xs + together ys
-together_append [] ys = omega arith
-together_append (x ∷ xs) ys = let e = together_append xs ys in omega (arith, e)
 
 all_short : (n : ℕ) (records : List Record) (key : Key) → is_long n records key ≡ false → AllByRecursion (λ (s : State). length s.clock ≤ n) (states_of records key)
 all_short n [] key is = tt
@@ -115,25 +156,21 @@ all_short n (r ∷ records) key is =
     by_test true short rest = (ltb-false n (length r.state.clock) short, rest)
     by_test false short rest = rest
 
-one_short : (n : ℕ) (states : List State) → length states ≤ 1 → AllByRecursion (λ (s : State). length s.clock ≤ n) states → together states ≤ n
-one_short n [] once all = omega arith
-one_short n (s ∷ []) once all = let le = all.0 in omega (arith, le)
-one_short n (s ∷ t ∷ states) once all = absurd (omega (arith, once))
+each_short : (n : ℕ) (states : List State) → AllByRecursion (λ (s : State). length s.clock ≤ n) states → (s : State) → Contains states s → length s.clock ≤ n
+each_short n [] all s c = absurd (none s c)
+each_short n (t ∷ states) all s c = from (cases t states s c) (each_short n states all.1 s)
+  where
+    from : (t ≡ s) ⊎ Contains states s → (Contains states s → length s.clock ≤ n) → length s.clock ≤ n
+    from (inl same) others = subst (λ (u : State). length u.clock ≤ n) same all.0
+    from (inr rest) others = others rest
 
--- each file has a key once at most
-abbrev AreOnce : List KeptFile → Key → Type 0
-AreOnce files key = AllByRecursion (λ (f : KeptFile). length (states_of f.records.items key) ≤ 1) files
-
-files_short : (n : ℕ) (files : List KeptFile) (key : Key) → AreOnce files key → is_long n (all_records files) key ≡ false → together (states_of (all_records files) key) ≤ length files * n
-files_short n [] key once is = omega arith
-files_short n (f ∷ files) key once is =
-    let e = either_false (is_long n f.records.items key) (is_long n (all_records files) key) (sym (long_append n f.records.items (all_records files) key) ∙ is) in
-    let one : together (states_of f.records.items key) ≤ n = one_short n (states_of f.records.items key) once.0 (all_short n f.records.items key e.0) in
-    let rest : together (states_of (all_records files) key) ≤ length files * n = files_short n files key once.1 e.1 in
-    let all : together (states_of (f.records.items ++ all_records files) key) ≡ together (states_of f.records.items key) + together (states_of (all_records files) key) =
-    ap together (states_append f.records.items (all_records files) key) ∙ together_append (states_of f.records.items key) (states_of (all_records files) key) in
-    let product : suc (length files) * n ≡ length files * n + n = suc-mul (length files) n in
-    omega (arith, one, rest, all, product)
+together_short : (n : ℕ) (states : List State) → ((s : State) → Contains states s → length s.clock ≤ n) → together states ≤ length states * n
+together_short n [] all = omega arith
+together_short n (s ∷ states) all =
+    let one : length s.clock ≤ n = all s (first s states) in
+    let rest : together states ≤ length states * n = together_short n states (λ t c. all t (later s states t c)) in
+    let product : suc (length states) * n ≡ length states * n + n = suc-mul (length states) n in
+    omega (arith, one, rest, product)
 
 -- ---- a key whose merge has more
 
@@ -145,14 +182,33 @@ and_left : (b c : Bool) → (b && c) ≡ true → b ≡ true
 and_left true c is = refl
 and_left false c is = is
 
-pub more_is_long : (files : List KeptFile) (key : Key) (merged : State) → AreOnce files key → AreMerged (states_of (all_records files) key) merged → is_foldable merged ≡ true → IsFold files key merged
-more_is_long files key merged once merges fold = record { merges = merges; foldable = fold; long = by_test (is_long (share (length files)) (all_records files) key) refl }
+pub more_is_long : (files : List KeptFile) (key : Key) (merged : State) → HasFewStates files key → AreMerged (states_of (all_records files) key) merged → is_foldable merged ≡ true → IsFold files key merged
+more_is_long files key merged (different, few, same) merges fold = record { merges = merges; foldable = fold; long = by_test (is_long (share (length files)) (all_records files) key) refl }
   where
     by_test : (b : Bool) → is_long (share (length files)) (all_records files) key ≡ b → is_long (share (length files)) (all_records files) key ≡ true
     by_test true is = is
     by_test false is = absurd (
-        let short : length merged.clock ≤ 0 + together (states_of (all_records files) key) = merged_short (states_of (all_records files) key) empty merged merges in
-        let few : together (states_of (all_records files) key) ≤ length files * share (length files) = files_short (share (length files)) files key once is in
+        let short : length merged.clock ≤ together different = merged_short (states_of (all_records files) key) different merged (λ s. (same s).0) merges in
+        let all : together different ≤ length different * share (length files) = together_short (share (length files)) different
+        (λ s c. each_short (share (length files)) (states_of (all_records files) key) (all_short (share (length files)) (all_records files) key is) s ((same s).1 c)) in
+        let fits : length different * share (length files) ≤ length files * share (length files) = mul-le-mul_right (share (length files)) few in
         let most : length files * share (length files) ≤ 32 = shared_out (length files) in
         let many : 32 < length merged.clock = ltb-true most_former (length merged.clock) (and_left (nat_lt most_former (length merged.clock)) _ fold) in
-        omega (arith, short, few, most, many))
+        omega (arith, short, all, fits, most, many))
+
+-- ---- files each of which has a key once at most
+
+abbrev AreOnce : List KeptFile → Key → Type 0
+AreOnce files key = AllByRecursion (λ (f : KeptFile). length (states_of f.records.items key) ≤ 1) files
+
+each_once : (files : List KeptFile) (key : Key) → AreOnce files key → length (states_of (all_records files) key) ≤ length files
+each_once [] key once = omega arith
+each_once (f ∷ files) key once =
+    let one : length (states_of f.records.items key) ≤ 1 = once.0 in
+    let rest : length (states_of (all_records files) key) ≤ length files = each_once files key once.1 in
+    let both : length (states_of (f.records.items ++ all_records files) key) ≡ length (states_of f.records.items key) + length (states_of (all_records files) key) =
+    ap (λ (states : List State). length states) (states_append f.records.items (all_records files) key) ∙ length-append (states_of f.records.items key) (states_of (all_records files) key) in
+    omega (arith, one, rest, both)
+
+pub once_is_few : (files : List KeptFile) (key : Key) → AreOnce files key → HasFewStates files key
+once_is_few files key once = (states_of (all_records files) key, each_once files key once, λ s. (λ c. c, λ c. c))

@@ -19,7 +19,8 @@ use Rattle.kept_fold.specs.Stale.{AreFresh, fold_id}
 abbrev pub most_former : ℕ
 most_former = 32
 
--- each file's share of these entries: where each of so many files has a key once, a clock of more entries comes only of one with more than its share
+-- each file's share of these entries: where a key's records have no more states that differ than there are files, a clock of more entries comes only of one with more than
+-- its share
 abbrev pub share : ℕ → ℕ
 share files = most_former / max files 1
 

@@ -1,5 +1,5 @@
 -- The states of a key's records, merged one after another (this store's profile).
-use Rattle.std.specs.Prelude.{◌≡◌, ℕ, ◌≤◌, ◌&&◌, nat_lt, Bool, if◌then◌else◌, List, [], ◌∷◌, ◌++◌, Option, None, Some, length}
+use Rattle.std.specs.Prelude.{◌≡◌, ◌↔◌, ℕ, ◌≤◌, ◌&&◌, Contains, nat_lt, Bool, if◌then◌else◌, List, [], ◌∷◌, ◌++◌, Option, None, Some, length}
 use Rattle.std.specs.List.{flat_map, list_any}
 use Rattle.dvv.specs.Clock.{vnodes_together, most_entries}
 use Rattle.key_state.specs.declared.content.Key.{Key}
@@ -23,6 +23,10 @@ states_of (r ∷ records) key = if same_key r.key key then r.state ∷ states_of
 abbrev pub MergesInto : State → List State → State → Type 0
 MergesInto own [] last = last ≡ own
 MergesInto own (s ∷ states) last = (new : State) × (vnodes_together own.clock s.clock ≤ most_entries) × Merges own s new × IsState new × MergesInto new states last
+
+-- a key's records have no more states that differ than there are files: of each file one at most, or of each file's some that others have, too
+abbrev pub HasFewStates : List KeptFile → Key → Type 0
+HasFewStates files key = (different : List State) × (length different ≤ length files) × ((s : State) → Contains (states_of (all_records files) key) s ↔ Contains different s)
 
 -- a state is the merge of some states, from nothing on
 abbrev pub AreMerged : List State → State → Type 0

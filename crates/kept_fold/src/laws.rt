@@ -11,7 +11,7 @@ ghost use Rattle.kept_file.specs.declared.file.KeptFile.{KeptFile};
 ghost use Rattle.std.specs.List.{AllByRecursion};
 ghost use Rattle.record_codec.specs.declared.record.Record.{Record};
 ghost use Rattle.kept_fold.specs.Folds.{IsFold, anew, is_foldable};
-ghost use Rattle.kept_fold.specs.Merging.{AreMerged, all_records, states_of};
+ghost use Rattle.kept_fold.specs.Merging.{AreMerged, HasFewStates, all_records, states_of};
 ghost use Rattle.kept_fold.specs.Stale.{fold_id, greatest, is_stale, last_fold, start_of};
 
 use journal::laws::merges_go_on;
@@ -23,10 +23,13 @@ pub fn merges_are_merges()
     merges_go_on();
 }
 
-/// Where each file has a key once at most, as each has that a store writes, a key is folded wherever the merge of its records has more than 32
-/// entries, and a sibling: none is passed over.
+/// Where a key's records have no more states that differ than there are files, a key is folded wherever the merge of its records has more than
+/// 32 entries, and a sibling: none is passed over. So have it files each of which has the key once at most, as a store writes them, and also
+/// files of as many vnodes that such files were placed at, each of which may have the key once for each state.
 pub fn keys_of_more_entries_are_folded()
-    ensures { (files : List KeptFile) (key : Key) (merged : State) → AllByRecursion (λ (f : KeptFile). length (states_of f.records.items key) ≤ 1) files
+    ensures few { (files : List KeptFile) (key : Key) (merged : State) → HasFewStates files key
+        → AreMerged (states_of (all_records files) key) merged → is_foldable merged ≡ true → IsFold files key merged }
+    ensures once { (files : List KeptFile) (key : Key) (merged : State) → AllByRecursion (λ (f : KeptFile). length (states_of f.records.items key) ≤ 1) files
         → AreMerged (states_of (all_records files) key) merged → is_foldable merged ≡ true → IsFold files key merged }
 {}
 

@@ -3,3 +3,4 @@ pub mod Reads
 pub mod Numbers
 pub mod Settings
 pub mod Steps
+pub mod Faults

@@ -1,7 +1,7 @@
 //! Replacing files: each is written beside the one that stands, forced to the device and renamed, so that one of both stands whole
 //! whenever the process or the system ends.
 
-ghost use Rattle.std.specs.Prelude.{◌≡◌, ℕ, List, [], ◌∷◌, ◌++◌, Option, IfOk, IsOk, OnOk, MatchOption, codes, length};
+ghost use Rattle.std.specs.Prelude.{◌≡◌, ℕ, List, [], ◌∷◌, ◌++◌, Option, IfErr, IfOk, IsOk, OnOk, MatchOption, codes, length};
 ghost use Rattle.std.specs.Global.{Vec as List_};
 ghost use Rattle.std.specs.Io.Buffered.{writer_contents};
 ghost use Rattle.std.specs.Io.KnownBytes.{Appends, Keeps};
@@ -11,6 +11,7 @@ ghost use Rattle.peers.specs.declared.peers.Answer.{Answer as OneAnswer};
 ghost use Rattle.peers.specs.Calls.{Call, Made};
 ghost use Rattle.kept_file.specs.Files.{IsFileOf};
 ghost use Rattle.kept_file.specs.Snapshots.{IsReadAt, records_read, snapshot_calls};
+ghost use Rattle.kept_folder.specs.Faults.{IsOfStop};
 ghost use Rattle.kept_folder.specs.Reads.{name_of};
 ghost use Rattle.kept_folder.specs.Seals.{sealed};
 ghost use Rattle.kept_folder.specs.Steps.{ArePut, AreFilesOf, Begun, IsFileOfAll, IsNamed, IsPut, Put, part_name};
@@ -38,18 +39,31 @@ pub enum WriteFault {
 }
 
 impl From<FileFault> for WriteFault {
+    ghost use Rattle.kept_folder.specs.declared.writing.WriteFault.TheVariants.{File};
+
+    ghost from_gives = { λ fault why. why ≡ File fault };
+
     fn from(fault: FileFault) -> WriteFault {
         WriteFault::File(fault)
     }
 }
 
 impl From<SnapshotFault> for WriteFault {
+    ghost use Rattle.kept_folder.specs.declared.writing.WriteFault.TheVariants.{Records};
+
+    ghost from_gives = { λ fault why. why ≡ Records fault };
+
     fn from(fault: SnapshotFault) -> WriteFault {
         WriteFault::Records(fault)
     }
 }
 
 impl From<AllocError> for WriteFault {
+    ghost use Rattle.kept_folder.specs.declared.files.FileFault.TheVariants.{NoMemory};
+    ghost use Rattle.kept_folder.specs.declared.writing.WriteFault.TheVariants.{File};
+
+    ghost from_gives = { λ _ why. why ≡ File NoMemory };
+
     fn from(_: AllocError) -> WriteFault {
         WriteFault::File(FileFault::NoMemory)
     }
@@ -63,6 +77,7 @@ pub(crate) fn replace<F: Folder>(
     bytes: &[u8],
 ) -> Result<(), WriteFault>
     ensures put { OnOk result (IsPut F.does folder.old name.now bytes.now folder.new) }
+    ensures why { IfErr result IsOfStop }
 {
     let beside = format!(in alloc; "{name}.part")?;
     let came = put_bytes(folder, bytes, &beside, name);
@@ -78,6 +93,7 @@ fn put_bytes<F: Folder>(
 ) -> Result<(), WriteFault>
     requires { beside.now ≡ part_name name.now }
     ensures put { OnOk result (IsPut F.does folder.old name.now bytes.now folder.new) }
+    ensures why { IfErr result IsOfStop }
 {
     let mut file = folder.create(beside)?;
     if file.write_all(bytes).is_err() {
@@ -109,6 +125,7 @@ pub fn keep_requests<F: Folder>(
     requests: Option<&[u8]>,
 ) -> Result<(), Unreplaced>
     ensures put { OnOk result (MatchOption requests.entry ⊥ (λ held. IsPut F.does folder.old (codes "hooks.requests") (sealed held.now) folder.new)) }
+    ensures why { IfErr result (λ u. IsOfStop u.fault) }
 {
     let done = match requests {
         Some(requests) => keep_hooks(alloc, folder, requests),
@@ -123,6 +140,7 @@ pub fn keep_requests<F: Folder>(
 /// The same of all of them.
 fn keep_hooks<F: Folder>(alloc: Global, folder: &mut F, requests: &[u8]) -> Result<(), WriteFault>
     ensures put { OnOk result (IsPut F.does folder.old (codes "hooks.requests") (sealed requests.now) folder.new) }
+    ensures why { IfErr result IsOfStop }
 {
     let bytes = seal(alloc, requests)?;
     replace(alloc, folder, HOOKS, &bytes)
@@ -148,6 +166,9 @@ pub fn keep_all<F: Folder>(
 ) -> Result<usize, Unreplaced>
     ensures put { IfOk result (λ count. (files : List Put) × AreFilesOf 0 vnodes.now files
         × MatchOption requests.entry ⊥ (λ held. ArePut F.does folder.old (files ++ record { name = codes "hooks.requests"; bytes = sealed held.now } ∷ []) folder.new)) }
+
+    // Nothing else holds it up: no call on a vnode, and no entry of a journal.
+    ensures why { IfErr result (λ u. IsOfStop u.fault) }
 {
     let kept = keep_vnodes(alloc, folder, vnodes);
     match keep_requests(alloc, folder, requests) {
@@ -163,6 +184,7 @@ fn keep_vnodes<F: Folder>(
     vnodes: &[Vnode],
 ) -> Result<usize, Unreplaced>
     ensures put { IfOk result (λ count. (files : List Put) × AreFilesOf 0 vnodes.now files × ArePut F.does folder.old files folder.new) }
+    ensures why { IfErr result (λ u. IsOfStop u.fault) }
 {
     let mut all = Ok(0usize);
     for (index, vnode) in vnodes.iter().enumerate() {
@@ -178,7 +200,8 @@ fn with_one_more(
     came: Result<usize, WriteFault>,
     index: usize,
 ) -> Result<usize, Unreplaced>
-    ensures { IsOk result → IsOk all × IsOk came }
+    ensures both { IsOk result → IsOk all × IsOk came }
+    ensures why { IfErr all (λ u. IsOfStop u.fault) → IfErr came IsOfStop → IfErr result (λ u. IsOfStop u.fault) }
 {
     match came {
         Ok(count) => Ok(all?.saturating_add(count)),
@@ -197,6 +220,7 @@ fn keep_whole<F: Folder>(
     index: usize,
 ) -> Result<usize, WriteFault>
     ensures put { IfOk result (λ count. (bytes : List ℕ) × IsFileOfAll vnode.now count bytes × IsPut F.does folder.old (name_of index) bytes folder.new) }
+    ensures why { IfErr result IsOfStop }
 {
     let name = name_of(index);
     let beside = format!(in alloc; "{name}.part")?;
@@ -214,6 +238,7 @@ fn put_whole<F: Folder>(
 ) -> Result<usize, WriteFault>
     requires { beside.now ≡ part_name name.now }
     ensures put { IfOk result (λ count. (bytes : List ℕ) × IsFileOfAll vnode.now count bytes × IsPut F.does folder.old name.now bytes folder.new) }
+    ensures why { IfErr result IsOfStop }
 {
     let mut out = begin(alloc, folder, beside)?;
     let count = write_whole(alloc, vnode, &mut out)?;
@@ -275,7 +300,8 @@ fn begin<F: Folder>(
     folder: &mut F,
     name: &str,
 ) -> Result<BufWriter<F::File>, WriteFault>
-    ensures { IfOk result (λ out. (first : Option (List ℕ)) × F.does folder.old (Begun name.now first) folder.new × Keeps first (writer_contents F.File.contents out)) }
+    ensures begun { IfOk result (λ out. (first : Option (List ℕ)) × F.does folder.old (Begun name.now first) folder.new × Keeps first (writer_contents F.File.contents out)) }
+    ensures why { IfErr result IsOfStop }
 {
     let file = folder.create(name)?;
     match BufWriter::with_capacity(alloc, WRITE_PIECE_BYTES, file) {
@@ -286,7 +312,8 @@ fn begin<F: Folder>(
 
 /// A file, once all of its blocks are written.
 fn whole<W: Write + Drop>(out: BufWriter<W>) -> Result<W, WriteFault>
-    ensures { IfOk result (λ file. Keeps (writer_contents W.contents out) (W.contents file)) }
+    ensures kept { IfOk result (λ file. Keeps (writer_contents W.contents out) (W.contents file)) }
+    ensures why { IfErr result IsOfStop }
 {
     match out.into_inner() {
         Ok(file) => Ok(file),
@@ -296,7 +323,8 @@ fn whole<W: Write + Drop>(out: BufWriter<W>) -> Result<W, WriteFault>
 
 /// Puts a file that is written whole in its place.
 fn put<F: Folder>(folder: &mut F, file: F::File, beside: &str, name: &str) -> Result<(), WriteFault>
-    ensures { OnOk result (IsNamed F.does folder.old (F.File.contents file) beside.now name.now folder.new) }
+    ensures named { OnOk result (IsNamed F.does folder.old (F.File.contents file) beside.now name.now folder.new) }
+    ensures why { IfErr result IsOfStop }
 {
     folder.force(file)?;
     folder.rename(beside, name)?;

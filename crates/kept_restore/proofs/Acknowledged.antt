@@ -20,7 +20,7 @@ or-true true = refl
 or-true false = refl
 
 -- a test that an element passes is passed by some
-any_from : {X : Type 0} (test : X → Bool) (xs : List X) (x : X) → Contains xs x → test x ≡ true → list_any test xs ≡ true
+pub any_from : {X : Type 0} (test : X → Bool) (xs : List X) (x : X) → Contains xs x → test x ≡ true → list_any test xs ≡ true
 any_from test [] x c t = absurd (Contains-nil x c)
 any_from test (y ∷ ys) x c t = elim (Contains-cases y ys x c) [
   | inl is ↦ rw (ap test is ∙ t) refl
@@ -28,11 +28,11 @@ any_from test (y ∷ ys) x c t = elim (Contains-cases y ys x c) [
 ]
 
 -- what entries tell of is known with others before or behind them
-known_front : (es rest : List Entry) (k : Key) (d : Dot) → known_in es k d ≡ true → known_in (es ++ rest) k d ≡ true
+pub known_front : (es rest : List Entry) (k : Key) (d : Dot) → known_in es k d ≡ true → known_in (es ++ rest) k d ≡ true
 known_front es rest k d t = list_any-append (λ e. tells e k d) es rest ∙ ap (λ (b : Bool). b || list_any (λ e. tells e k d) rest) t
 
 -- a put's own dot is known
-put_known : (es : List Entry) (stamp : ℕ) (key : Key) (seen : List Dot) (content : Content) (dot : Dot) → Contains es (Put stamp key seen content dot) → known_in es key dot ≡ true
+pub put_known : (es : List Entry) (stamp : ℕ) (key : Key) (seen : List Dot) (content : Content) (dot : Dot) → Contains es (Put stamp key seen content dot) → known_in es key dot ≡ true
 put_known es stamp key seen content dot among = any_from (λ e. tells e key dot) es (Put stamp key seen content dot) among (rw (same_itself key) (is_dot-same dot dot refl))
 
 pub put_stays : (old es rest : List Entry) (stamp : ℕ) (key : Key) (seen : List Dot) (content : Content) (dot : Dot) → LeaveAlike old es key → Contains old (Put stamp key seen content dot) → known_in (es ++ rest) key dot ≡ true

@@ -2,4 +2,5 @@ mod Loading
 mod Fronts
 mod Standing
 mod Acknowledged
+mod Placed
 pub mod Sent

@@ -2,15 +2,17 @@
 
 ghost use Rattle.std.specs.Prelude.{◌≡◌, ◌<◌, length, IfOk};
 ghost use Rattle.http_connections.specs.Spoken.{FitsHeard, FitsTold};
+ghost use Rattle.server_sockets.specs.Streams.{GivesBytes, TakesBytes};
 
 use crate::limits::{BUSY_BYTES, DROPPED_BYTES, DROPPING_READS};
 use crate::outcome::{Unmade, heard_by, told_by};
 use crate::watch::Watch;
 use http_connection::Failed;
 use http_connections::{Heard, Standing, Told};
+use mio::event::Source;
 use mio::net::TcpStream;
 use mio::{Interest, Registry, Token};
-use std::io::{ErrorKind, Read as _, Write as _};
+use std::io::{ErrorKind, Read, Write};
 use std::mem;
 use std::net::Shutdown;
 
@@ -45,10 +47,10 @@ enum Inflow {
     Closing,
 }
 
-/// One connection's socket.
+/// One connection's socket, over any stream: so it is said which bytes reads and writes move, where a stream's are known.
 #[derive(Drop)]
-pub(crate) struct Line {
-    stream: TcpStream,
+pub(crate) struct Line<S> {
+    stream: S,
     inflow: Inflow,
     pub(crate) course: Course,
     /// For how long its client has kept it waiting.
@@ -65,8 +67,8 @@ pub(crate) struct Line {
     pub(crate) moves_much: bool,
 }
 
-impl Line {
-    pub(crate) fn new(stream: TcpStream, now: u64) -> Line {
+impl Line<TcpStream> {
+    pub(crate) fn new(stream: TcpStream, now: u64) -> Line<TcpStream> {
         // Where the system knows none of this, answers are slower.
         let _ = stream.set_nodelay(true);
         Line {
@@ -82,6 +84,14 @@ impl Line {
         }
     }
 
+    /// Tells the client that no more comes. Whether what it still sends is to be dropped.
+    pub(crate) fn hang_up(&mut self) -> bool {
+        self.course = Course::Drains(DROPPED_BYTES);
+        self.stream.shutdown(Shutdown::Write).is_ok()
+    }
+}
+
+impl<S: Read + Write + Source> Line<S> {
     /// Has it reported under a number.
     pub(crate) fn register(&mut self, registry: &Registry, number: u64) -> Result<(), Failed> {
         let both = Interest::READABLE | Interest::WRITABLE;
@@ -93,11 +103,9 @@ impl Line {
     }
 
     /// Has it reported once more, if it is ready.
-    pub(crate) fn register_again(
-        &mut self,
-        registry: &Registry,
-        number: u64,
-    ) -> Result<(), Failed> {
+    pub(crate) fn register_again(&mut self, registry: &Registry, number: u64) -> Result<(), Failed>
+        ensures { S.keeps self.old.stream self.new.stream }
+    {
         let both = Interest::READABLE | Interest::WRITABLE;
         let token = Token(number as usize);
         if registry.reregister(&mut self.stream, token, both).is_err() {
@@ -124,6 +132,7 @@ impl Line {
     ) -> Result<Heard, Failed>
         requires { 0 < length buf.old }
         ensures fits { IfOk result (FitsHeard (length buf.new)) }
+        ensures given { IfOk result (GivesBytes S.remaining S.keeps self.old.stream self.new.stream buf.new) }
     {
         if self.inflow == Inflow::Dry {
             return Ok(Heard::NotNow);
@@ -142,7 +151,9 @@ impl Line {
     }
 
     // A read came to that, with so much room. One that left room has read all that was there.
-    fn note_heard(&mut self, heard: Heard, room: usize) {
+    fn note_heard(&mut self, heard: Heard, room: usize)
+        ensures { self.new.stream ≡ self.old.stream }
+    {
         if let Heard::Bytes(n) = heard {
             if n < room && self.inflow == Inflow::Ready {
                 self.inflow = Inflow::Dry;
@@ -160,6 +171,7 @@ impl Line {
     ) -> Result<Told, Failed>
         requires { 0 < length bytes.now }
         ensures fits { IfOk result (FitsTold (length bytes.now)) }
+        ensures taken { IfOk result (TakesBytes S.contents S.keeps self.old.stream self.new.stream bytes.now) }
     {
         match told_by(self.stream.write(bytes)) {
             Ok(told) => {
@@ -175,7 +187,9 @@ impl Line {
     }
 
     // A write came to that.
-    fn note_told(&mut self, told: Told) {
+    fn note_told(&mut self, told: Told)
+        ensures { self.new.stream ≡ self.old.stream }
+    {
         if let Told::Bytes(n) = told {
             self.has_taken = true;
             self.moved = self.moved.saturating_add(n);
@@ -194,12 +208,6 @@ impl Line {
         let moved = mem::replace(&mut self.moved, 0);
         self.moves_much = moved >= BUSY_BYTES;
         moved
-    }
-
-    /// Tells the client that no more comes. Whether what it still sends is to be dropped.
-    pub(crate) fn hang_up(&mut self) -> bool {
-        self.course = Course::Drains(DROPPED_BYTES);
-        self.stream.shutdown(Shutdown::Write).is_ok()
     }
 
     /// Reads and drops what the client sends.

@@ -3,6 +3,7 @@
 ghost use Rattle.std.specs.Prelude.{◌≡◌, ◌≢◌, ◌<◌, ◌≤◌, ℕ, Ok, Err, Some, None, IfOk, IfErr};
 ghost use Rattle.std.specs.IoError.{error_kind};
 ghost use Rattle.http_connections.specs.Spoken.{FitsHeard, FitsTold};
+ghost use Rattle.server_sockets.specs.Streams.{IsHeardAs, IsToldAs};
 
 use http_connections::{Heard, Told};
 use std::io;
@@ -24,6 +25,7 @@ pub(crate) fn heard_by(came: io::Result<usize>) -> Result<Heard, Unmade>
     ensures not_now { IfErr came (λ error. error_kind error ≡ ErrorKind.WouldBlock → result ≡ Ok Heard.NotNow) }
     ensures interrupted { IfErr came (λ error. error_kind error ≡ ErrorKind.Interrupted → result ≡ Err Unmade.Interrupted) }
     ensures failed { IfErr came (λ error. error_kind error ≢ ErrorKind.WouldBlock → error_kind error ≢ ErrorKind.Interrupted → result ≡ Err Unmade.Failed) }
+    ensures moved { IfOk result (IsHeardAs came) }
     ensures fits { (room : ℕ) → IfOk came (λ n. n ≤ room) → IfOk result (FitsHeard room) }
 {
     match came {
@@ -43,6 +45,7 @@ pub(crate) fn told_by(came: io::Result<usize>) -> Result<Told, Unmade>
     ensures not_now { IfErr came (λ error. error_kind error ≡ ErrorKind.WouldBlock → result ≡ Ok Told.NotNow) }
     ensures interrupted { IfErr came (λ error. error_kind error ≡ ErrorKind.Interrupted → result ≡ Err Unmade.Interrupted) }
     ensures failed { IfErr came (λ error. error_kind error ≢ ErrorKind.WouldBlock → error_kind error ≢ ErrorKind.Interrupted → result ≡ Err Unmade.Failed) }
+    ensures moved { IfOk result (IsToldAs came) }
     ensures fits { (len : ℕ) → IfOk came (λ n. n ≤ len) → IfOk result (FitsTold len) }
 {
     match came {

@@ -34,7 +34,7 @@ pub(crate) struct Sockets {
     poll: Poll,
     /// How often it is looked for something to do before the next sleep.
     looks: Looks,
-    lines: BTreeMap<u64, Line>,
+    lines: BTreeMap<u64, Line<TcpStream>>,
     /// No connection had this number, or a greater one.
     next: u64,
     /// The connection that waits to be taken.
@@ -342,7 +342,7 @@ impl Sockets {
 }
 
 // Whether the client of a connection has kept it waiting for too long.
-fn is_overdue(line: &Line, stopped: Option<u64>, now: u64) -> bool
+fn is_overdue(line: &Line<TcpStream>, stopped: Option<u64>, now: u64) -> bool
     ensures drains { line.now.course ≢ Course.Served → result ≡ false }
     ensures served { line.now.course ≡ Course.Served → result ≡ is_too_slow line.now.watch line.now.is_held stopped now }
 {
@@ -350,7 +350,7 @@ fn is_overdue(line: &Line, stopped: Option<u64>, now: u64) -> bool
 }
 
 // Whether a connection is between two requests.
-fn is_idle(line: &Line) -> bool
+fn is_idle(line: &Line<TcpStream>) -> bool
     ensures { IsTrue result ↔ ((line.now.course ≡ Course.Served) × (line.now.watch.standing ≡ Standing.Idle)) }
 {
     line.course == Course::Served && line.watch.standing == Standing::Idle

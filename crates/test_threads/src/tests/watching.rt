@@ -33,11 +33,7 @@ impl Alarm for Silent {
 }
 
 /// Takes so many turns.
-fn watch_turns<B: Room + Spot, R: Wait>(
-    rt: &R,
-    cluster: &Cluster<B>,
-    watch: &Mutex<Watch<B>>,
-)
+fn watch_turns<B: Room + Spot, R: Wait>(rt: &R, cluster: &Cluster<B>, watch: &Mutex<Watch<B>>)
     requires { cluster.now.first ≡ B.first }
 {
     for _ in 0..TURNS {
