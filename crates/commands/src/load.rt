@@ -1,6 +1,8 @@
 //! The command `load FILE INCARNATION SCRIPT`.
-ghost use Rattle.std.specs.Prelude.{◌≡◌, ◌≤◌, List, ℕ, IfOk};
+ghost use Rattle.std.specs.Prelude.{◌≡◌, ◌≤◌, ◌++◌, List, ℕ, IfOk, codes, decimal};
+ghost use Rattle.std.specs.Io.KnownBytes.{Appends};
 ghost use Rattle.commands.specs.Dumped.{Loads, LoadedFile};
+ghost use Rattle.commands.specs.Outcome.{line};
 ghost use Rattle.record_codec.specs.Lists.{AreSpelledBy};
 
 use crate::failure::Failure;
@@ -54,15 +56,22 @@ pub fn load<F: Files, O: Write, E: Write>(
             run_loaded(alloc, table, loaded, &script, &images, streams)
         }
         Err(Unread::Faulty { place, fault }) => {
-            let fault = fault_number(fault);
-            write!(streams.out, "refused {fault} {place}\n")?;
-            Ok(1)
+            tell_refused(fault_number(fault), place, &mut streams.out)
         }
         Err(Unread::NoMemory) => {
             streams.out.write_all(b"E1\n")?;
             Ok(1)
         }
     }
+}
+
+/// Tells why a record isn't taken, and which, by its number from 0. The status is 1.
+fn tell_refused<O: Write>(why: &str, place: usize, out: &mut O) -> Result<u8, Failure>
+    ensures status { IfOk result (λ status. status ≡ 1) }
+    ensures told { IfOk result (λ _. Appends (O.contents out.old) (O.contents out.new) (line (codes "refused " ++ why.now ++ codes " " ++ decimal place))) }
+{
+    write!(out, "refused {why} {place}\n")?;
+    Ok(1)
 }
 
 /// Tells where records name the incarnation of the vnode that begins with them. What can't be told is lost: the lines run as they do.
@@ -107,9 +116,7 @@ fn run_loaded<I: Images, O: Write, E: Write>(
             }
         }
         Err(BeginFault::Record { place, fault }) => {
-            let fault = refusal_number(fault);
-            write!(streams.out, "refused {fault} {place}\n")?;
-            Ok(1)
+            tell_refused(refusal_number(fault), place, &mut streams.out)
         }
         Err(BeginFault::NoMemory) => {
             streams.out.write_all(b"E1\n")?;
