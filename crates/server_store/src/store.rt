@@ -111,7 +111,9 @@ struct Stand {
 // Whether vnodes are told where keys stand: on a ring of three, each with a copy of each key. With fewer copies the vnode that would be
 // told has most often not the key, and keeps nothing.
 fn are_told(placement: &Placement) -> bool
-    ensures { IsTrue result → (bucket key : List ℕ) → place_in placement.now bucket key ≡ ring_place bucket key }
+    ensures three { IsTrue result → placement.now.vnodes ≡ 3 }
+    ensures few { copies_in placement.now ≤ 3 }
+    ensures places { IsTrue result → (bucket key : List ℕ) → place_in placement.now bucket key ≡ ring_place bucket key }
 {
     placement.copies() == MAX_COPIES && placement.is_ring_of_three()
 }
@@ -123,6 +125,7 @@ fn stand_of<P: Peers>(peers: &mut P, placement: &Placement, key: &Key) -> Stand
     ensures place { result.place ≡ place_in placement.now key.now.bucket key.now.key }
     ensures within { result.place < placement.now.vnodes }
     ensures untold { IsTrue result.is_untold → result.place ≡ ring_place key.now.bucket key.now.key }
+    ensures few { copies_in placement.now ≤ 3 }
     ensures same { peers.new ≡ peers.old }
 {
     peers.expect(key);
