@@ -1,8 +1,9 @@
 """Keys that are written in many starts: their contexts don't grow with starts, all values stay, and nothing comes back.
 
-A folder is started many times in a row. Each start reads three keys, one of one value, one of two siblings, and one that is deleted,
-finds what the last one left, and writes each by all three vnodes. No context may count more than 32 vnodes of former starts. Where a
-start has folded a key, a context of the start before is refused; where it hasn't, the context is what it was. No tag comes twice.
+A folder is started many times in a row, with three copies of each key. Each start reads three keys, one of one value, one of two
+siblings, and one that is deleted, finds what the last one left, and writes each by all three vnodes. No context may count more than 32
+vnodes of former starts. Where a start has folded a key, a context of the start before is refused; where it hasn't, the context is what
+it was. No tag comes twice.
 
 Once a start has folded keys, and written them anew, some of its files are put back as they were before it, as where a server is killed
 while it replaces them: each such folder has to start with what that start wrote, and nothing besides.
@@ -32,6 +33,7 @@ class Size:
 
 FULL, SHORT = Size(starts=60), Size(starts=14)
 
+THREE_COPIES = b"copies 3\n"
 MOST_FORMER_ENTRIES = 32
 FOLD_INDEX = 254
 KEYS = ("one", "pair", "gone")
@@ -148,7 +150,7 @@ def try_torn(found: Findings, program: Path, folder: Path, book: Book, before: d
 
 def run(program: Path, seed: int, size: Size) -> Result:
     found, book, mixed = Findings(), Book(), 0
-    with kept.folders(**{kept.SETTINGS: kept.NO_SNAPSHOTS_BY_ITSELF}) as folder:
+    with kept.folders(**{kept.SETTINGS: kept.NO_SNAPSHOTS_BY_ITSELF + THREE_COPIES}) as folder:
         for start in range(size.starts):
             before = kept.contents(folder) if book.is_to_be_folded() and not mixed else None
             one_start(found, program, folder, book, start)

@@ -21,17 +21,24 @@ use Rattle.dvvstore.proofs.saver.Side.TheSendSync as side
 use Rattle.dvvstore.specs.contracts.crew.signs.Signs as Signs
 use Rattle.dvvstore.specs.contracts.beginning.Load as Load
 use Rattle.dvvstore.proofs.beginning.Load.TheSendSync as load
+use Rattle.kept_hooks.specs.contracts.list.Requests as Requests
+use Rattle.kept_hooks.proofs.list.Requests.TheSendSync as requests
+use Rattle.kept_hooks.proofs.writes.Writes.TheSendSync as writes
 use Rattle.server_accept.proofs.Sent.{lobby_sync}
 
 lock_sync : (B : RattleType) (g : room.Ghosts B.Denot) (h : spot.Ghosts B.Denot) → IsSend B → IsSync (Mutex.the_row (Watch.the_row B g h))
 lock_sync B g h s = search (watch_send, sendable, crosses) depth 40
 
+-- so may requests that make hooks what they are
+requests_sync : IsSync (Mutex.the_row Requests.the_row)
+requests_sync = search (requests.the_send, sendable, crosses) depth 40
+
 pub shared_sync : (B : RattleType) (g : room.Ghosts B.Denot) (h : spot.Ghosts B.Denot) → IsSend B → IsSync (Shared.the_row B g h)
-shared_sync B g h s = search (lock_sync, reporter.the_field_sync, sendable, crosses) depth 60
+shared_sync B g h s = search (lock_sync, requests_sync, reporter.the_field_sync, writes.the_field_sync, sendable, crosses) depth 60 fits 20000
 
 -- a thread may be handed who follows
 pub lookout_send : (B : RattleType) (g : room.Ghosts B.Denot) (h : spot.Ghosts B.Denot) → IsSend B → IsSend (Lookout.the_row B g h)
-lookout_send B g h s = search (watch_send, sendable, crosses) depth 40
+lookout_send B g h s = search (watch_send, requests.the_send, sendable, crosses) depth 40 fits 20000
 
 saver_alone : (F : RattleType) → IsSend F → IsSend (Saver.the_row F)
 saver_alone F s = search (saver.the_send, s, sendable, crosses) depth 40
@@ -48,7 +55,7 @@ pub side_send : (B F : RattleType) (g : room.Ghosts B.Denot) → IsSend B → Is
 side_send B F g b f = search (side.the_send, sendable, crosses) depth 40
 
 pub signs_sync : (l : _) → IsSync (Signs.the_row l)
-signs_sync l = search (lobby_sync, sendable, crosses) depth 60
+signs_sync l = search (lobby_sync, requests_sync, writes.the_sync, sendable, crosses) depth 60 fits 20000
 
 -- those who take records over may share what they and who follows tell each other
 pub load_sync : (l : _) (R : RattleType) → IsSync R → IsSync (Load.the_row l R)

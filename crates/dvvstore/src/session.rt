@@ -85,8 +85,6 @@ struct Parts<B: Room + Spot> {
     vnodes: Vnodes<B>,
     tables: Vec<Table>,
     copies: u32,
-    ghost some: { 0 < copies },
-    ghost few: { copies ≤ 3 },
 }
 
 /// Where the hooks of workers come from: who changes them, and a reader of them for each.
@@ -288,6 +286,8 @@ fn over_cluster<
 ) -> Result<Left, Unbegun>
     requires list { list_of opening ≡ J.book }
     requires some { 0 < vec_len parts.tables }
+    requires copied { 0 < parts.copies }
+    requires most { parts.copies ≤ 3 }
     requires few { vec_len parts.tables ≤ 16 }
     requires each { vec_len parts.vnodes.passes ≡ vec_len parts.tables }
     requires all { parts.vnodes.cluster.passes ≡ vec_len parts.tables + 4 }
@@ -320,6 +320,8 @@ fn over_ground<
 ) -> Result<Left, Unbegun>
     requires ground { (ground.front ≡ []) × (T.state ground.first ≡ []) × (T.state ground.second ≡ []) }
     requires some { 0 < vec_len parts.tables }
+    requires copied { 0 < parts.copies }
+    requires most { parts.copies ≤ 3 }
     requires few { vec_len parts.tables ≤ 16 }
     requires each { vec_len parts.vnodes.passes ≡ vec_len parts.tables }
     requires all { parts.vnodes.cluster.passes ≡ vec_len parts.tables + 4 }
@@ -363,6 +365,8 @@ fn over_hooks<
 ) -> Result<Left, Unbegun>
     requires readers { vec_len hooked.readers ≡ vec_len parts.tables }
     requires some { 0 < vec_len parts.tables }
+    requires copied { 0 < parts.copies }
+    requires most { parts.copies ≤ 3 }
     requires each { vec_len parts.vnodes.passes ≡ vec_len parts.tables }
     requires all { parts.vnodes.cluster.passes ≡ vec_len parts.tables + 4 }
     requires spot { parts.vnodes.cluster.first ≡ B.first }

@@ -2,6 +2,8 @@
 
 ghost use Rattle.std.specs.Prelude.{◌≡◌, IfOk, vec_len};
 
+mod keeping;
+mod memory;
 mod starting;
 
 use crate::host::Host;

@@ -94,6 +94,18 @@ copies_added lines n every least copies some few are e l none is = (
   is ∙ ap (λ o. option_or o (Some n)) none ∙ sym (copies_both lines (Copies n ∷ [])),
 )
 
+-- these lines are of different kinds, and this is what they say
+abbrev pub Says : List Line → Option ℕ → Option ℕ → Option ℕ → Type 0
+Says lines every least copies = AreLines lines × (every ≡ every_in lines) × (least ≡ least_in lines) × (copies ≡ copies_in lines)
+
+-- so it is where the last line is one of a kind
+pub says_as : (lines : List Line) (line same : Line) (every least copies : Option ℕ) → line ≡ same → Says (lines ++ same ∷ []) every least copies → Says (lines ++ line ∷ []) every least copies
+says_as lines line same every least copies is says = subst (λ (x : Line). Says (lines ++ x ∷ []) every least copies) (sym is) says
+
+-- a line of copies says how many, 1 to 3
+pub right_copies : (line : Line) (n : ℕ) → line ≡ Copies n → MayStand line [] → (0 < n) × (n ≤ 3)
+right_copies line n is right = let (none, some, few) = subst (λ (x : Line). MayStand x []) is right in (some, few)
+
 -- a line that bytes begin with is behind those before
 pub line_more : (lines : List Line) (line : Line) (bytes left front rest : List ℕ) → bytes ≡ flat_map text_of lines ++ left → left ≡ front ++ rest → front ≡ text_of line → bytes ≡ flat_map text_of (lines ++ line ∷ []) ++ rest
 line_more lines line bytes left front rest so parts is =

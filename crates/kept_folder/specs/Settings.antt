@@ -1,5 +1,5 @@
 -- What who runs a store has written into its folder (this store's profile).
-use Rattle.std.specs.Prelude.{◌≡◌, ◌≢◌, ◌++◌, ◌<◌, ◌≤◌, ℕ, List, [], ◌∷◌, Option, None, Some, codes, unwrap_or}
+use Rattle.std.specs.Prelude.{◌≡◌, ◌≢◌, ◌<◌, ◌≤◌, ℕ, List, [], ◌∷◌, Option, None, Some, codes, unwrap_or}
 use Rattle.std.specs.List.{flat_map}
 use Rattle.kept_folder.specs.Numbers.{line_of, number_text}
 use Rattle.kept_folder.specs.declared.settings.Line.{Line}

@@ -1,6 +1,7 @@
 use Rattle.std.proofs.Common.{◌≡◌, ℕ, ◌+◌, ◌⊎◌, arith, inl, inr, refl, subst, sym}
 use Rattle.std.specs.Prelude.{◌/◌, Contains}
 use Rattle.kept_file.specs.Numbers.{IsNamed, all_ids}
+use Rattle.kept_folder.proofs.Setting.{copies_set}
 use Rattle.kept_folder.proofs.opening.open.Goals as goal
 
 pub returns-in-Ok-take-clause-above : goal.returns-in-Ok-take-clause-above
@@ -19,3 +20,6 @@ pub returns-in-Ok-take-clause-least : goal.returns-in-Ok-take-clause-least
 returns-in-Ok-take-clause-least g c =
     subst (λ m. (c.in-Ok.number ≡ m) ⊎ ((x : ℕ) × IsNamed c.in_ok-held.held.last c.in_ok-held.held.files.items x × (c.in-Ok.number ≡ x + 1))) c.max-least.ensures
     (subst (λ xs. (c.in-Ok.number ≡ c.max-least.result) ⊎ ((x : ℕ) × IsNamed c.in_ok-held.held.last xs x × (c.in-Ok.number ≡ x + 1))) c.deref.ensures.value c.in-Ok.ensures.least)
+
+pub returns-in-Ok-take-clause-copies : goal.returns-in-Ok-take-clause-copies
+returns-in-Ok-take-clause-copies g c = let (found, finds, set) = c.in_ok-held.ensures.settings in copies_set found c.in_ok-held.held.settings set

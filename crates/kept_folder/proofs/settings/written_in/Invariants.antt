@@ -5,8 +5,8 @@ use Rattle.kept_folder.specs.Settings.{AreLines, copies_in, every_in, least_in, 
 use Rattle.kept_folder.proofs.settings.written_in.Given as goal
 
 -- the lines before were added
-abbrev pub invariant-loop : goal.invariant-loop
-invariant-loop l = (lines : List Line) × (l.bytes ≡ flat_map text_of lines ++ l.left) × AreLines lines × (l.written.every ≡ every_in lines) × (l.written.least ≡ least_in lines) × (l.written.copies ≡ copies_in lines)
+abbrev pub invariant-loop-left : goal.invariant-loop-left
+invariant-loop-left l = (lines : List Line) × (l.bytes ≡ flat_map text_of lines ++ l.left) × AreLines lines × (l.written.every ≡ every_in lines) × (l.written.least ≡ least_in lines) × (l.written.copies ≡ copies_in lines)
 
-abbrev pub decreases-loop : goal.decreases-loop
-decreases-loop l = length l.left
+abbrev pub decreases-loop-left : goal.decreases-loop-left
+decreases-loop-left l = length l.left
