@@ -32,14 +32,17 @@ loaded_up_to sigs listed incarnation records bytes script text why reason P befo
 pub told_loaded : (before after : Option (List ℕ)) (n : ℕ) (text : List ℕ) → Appends before after (codes "loaded " ++ (decimal n ++ (codes "\n" ++ text))) → Appends before after (line (codes "loaded " ++ decimal n) ++ text)
 told_loaded before after n text told = subst (λ (ns : List ℕ). Appends before after (codes "loaded " ++ ns)) (sym (append_assoc (decimal n) (10 ∷ []) text)) told
 
--- why a record is refused, and which
-pub told_refused : (before after : Option (List ℕ)) (number why : List ℕ) (place : ℕ) → number ≡ why → Appends before after (codes "refused " ++ (number ++ (codes " " ++ (decimal place ++ codes "\n"))))
+-- what was told, if it could be
+pub told_then : {A : Type 0} {P : ℕ → Type 0} (told : Result ℕ Failure) → IfOk told (λ status. status ≡ 1) → IfOk told (λ _. A) → ((status : ℕ) → status ≡ 1 → A → P status) → IfOk told P
+told_then (Ok status) one is then_ = then_ status one is
+told_then (Err why) one is then_ = tt
+
+-- which record isn't taken, and why, by the number of its fault
+pub told_named : (before after : Option (List ℕ)) (number why : List ℕ) (given place : ℕ) → number ≡ why → given ≡ place → Appends before after (line (codes "refused " ++ number ++ codes " " ++ decimal given))
     → Appends before after (line (codes "refused " ++ why ++ codes " " ++ decimal place))
-told_refused before after number why place is told =
-    let same : number ++ (32 ∷ (decimal place ++ (10 ∷ []))) ≡ ((number ++ (32 ∷ [])) ++ decimal place) ++ (10 ∷ []) =
-    sym (append_assoc (number ++ (32 ∷ [])) (decimal place) (10 ∷ []) ∙ append_assoc number (32 ∷ []) (decimal place ++ (10 ∷ []))) in
-    subst (λ (ns : List ℕ). Appends before after (line (codes "refused " ++ ns ++ codes " " ++ decimal place))) is
-    (subst (λ (ns : List ℕ). Appends before after (codes "refused " ++ ns)) same told)
+told_named before after number why given place is same told =
+    subst (λ (n : ℕ). Appends before after (line (codes "refused " ++ why ++ codes " " ++ decimal n))) same
+    (subst (λ (ns : List ℕ). Appends before after (line (codes "refused " ++ ns ++ codes " " ++ decimal given))) is told)
 
 -- the bytes and the script are those of files
 pub loaded_file : (sigs : List Entry) (incarnation : ℕ) (bytes file lines script : List ℕ) (given records : List Record) (held_file held_script before after : Option (List ℕ)) (told : Result ℕ Failure)
@@ -56,13 +59,16 @@ loaded_file sigs incarnation bytes file lines script given records held_file hel
 loaded_file sigs incarnation bytes file lines script given records held_file held_script before after (Err why) same read are from_file from_script spelt loads = tt
 
 -- a record in the file has a fault
-pub faulty_file : (sigs : List Entry) (incarnation : ℕ) (bytes file script number : List ℕ) (held_file held_script before after : Option (List ℕ)) (given place : ℕ) (fault : WireFault) (why : Unread)
+pub faulty_file : (sigs : List Entry) (incarnation : ℕ) (bytes file script number : List ℕ) (held_file held_script before after : Option (List ℕ)) (given place : ℕ) (fault : WireFault) (why : Unread) (told : Result ℕ Failure)
     → why ≡ unread.Faulty place fault → IsUnread bytes why → bytes ≡ file → IfSome held_file (λ known. file ≡ known) → IfSome held_script (λ known. script ≡ known) → number ≡ fault_text fault → given ≡ place
-    → Appends before after (codes "refused " ++ (number ++ (codes " " ++ (decimal given ++ codes "\n")))) → LoadedFile sigs incarnation held_file held_script before after 1
-faulty_file sigs incarnation bytes file script number held_file held_script before after given place fault why is told_why read from_file from_script named same told = record {
-  file = file;
-  script = script;
-  from_file = from_file;
-  from_script = from_script;
-  loads = faulty place fault refl (subst (λ (bs : List ℕ). FaultAt bs place fault) read (subst (IsUnread bytes) is told_why)) (subst (λ (n : ℕ). Appends before after (line (codes "refused " ++ fault_text fault ++ codes " " ++ decimal n))) same (told_refused before after number (fault_text fault) given named told));
-}
+    → IfOk told (λ status. status ≡ 1) → IfOk told (λ _. Appends before after (line (codes "refused " ++ number ++ codes " " ++ decimal given)))
+    → IfOk told (LoadedFile sigs incarnation held_file held_script before after)
+faulty_file sigs incarnation bytes file script number held_file held_script before after given place fault why told is told_why read from_file from_script named same one refused =
+    told_then told one refused (λ status is_one appended. record {
+      file = file;
+      script = script;
+      from_file = from_file;
+      from_script = from_script;
+      loads = faulty place fault is_one (subst (λ (bs : List ℕ). FaultAt bs place fault) read (subst (IsUnread bytes) is told_why))
+          (told_named before after number (fault_text fault) given place named same appended);
+    })

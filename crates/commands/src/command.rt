@@ -9,15 +9,16 @@ use crate::audited::tell;
 use crate::dump::dump;
 use crate::explained::explain;
 use crate::failure::Failure;
-use crate::files::Files;
+use crate::files::{Files, Paths};
 use crate::help::help;
 use crate::load::load;
 use crate::run::run;
 use crate::server::{Ended, Post, Says as _, Server, Site, Unserved};
 use crate::simulate::simulate;
+use crate::streams::Streams;
+use crate::tables::Tables;
 use crate::verify::verify;
 use crate::words::{Request, parse};
-use bpf_helpers::Table;
 use std::alloc::Global;
 use std::io::Write;
 
@@ -29,38 +30,36 @@ const FAILED: u8 = 2;
 
 /// Does what the words ask for. Gives the status of the program: 0 where it is done, 1 where it was refused, and 2 after a bad line of a
 /// script, which is told on `out` and why on `err`, or a [`Failure`], whose name is then all that stands on `err`. Programs that are run
-/// may call the helpers of `table`; where the store is served, `more` are the tables of further workers.
+/// may call the helpers of the first of the tables; where the store is served, the others are those of further workers.
 pub fn command<F: Files, S: Server, O: Write, E: Write>(
     alloc: Global,
-    table: Table,
-    more: Vec<Table>,
+    tables: Tables,
     words: &[&str],
     files: &mut F,
     server: &mut S,
-    out: &mut O,
-    err: &mut E,
+    streams: &mut Streams<O, E>,
 ) -> u8
     requires ready { S.ready }
-    requires few { vec_len more < 16 }
+    requires few { vec_len tables.more < 16 }
     ensures status { result ≤ 2 }
-    ensures ran { (image input : Bor (List ℕ)) → request_of words.now ≡ Some (Request.Run image input) → result < 2 → Ran table.listed (F.held files.old image.now) (F.held files.old input.now) (O.contents out.old) (O.contents out.new) result }
-    ensures judged { (image : Bor (List ℕ)) → request_of words.now ≡ Some (Request.Verify image) → result < 2 → Judged table.listed (F.held files.old image.now) (O.contents out.old) (O.contents out.new) result }
-    ensures explained { (image : Bor (List ℕ)) → request_of words.now ≡ Some (Request.Explain image) → result < 2 → Explained table.listed (F.held files.old image.now) (O.contents out.old) (O.contents out.new) result }
-    ensures simulated { (script : Bor (List ℕ)) → request_of words.now ≡ Some (Request.Sim script) → result < 2 → SimulatedFile table.listed (F.held files.old script.now) (O.contents out.old) (O.contents out.new) result }
-    ensures dumped { (file script : Bor (List ℕ)) (vnode : ℕ) → request_of words.now ≡ Some (Request.Dump file script vnode) → result < 2 → DumpedFile table.listed vnode (F.held files.old script.now) (F.held files.new file.now) (O.contents out.old) (O.contents out.new) result }
+    ensures ran { (image input : Bor (List ℕ)) → request_of words.now ≡ Some (Request.Run image input) → result < 2 → Ran tables.first.listed (F.held files.old image.now) (F.held files.old input.now) (O.contents streams.old.out) (O.contents streams.new.out) result }
+    ensures judged { (image : Bor (List ℕ)) → request_of words.now ≡ Some (Request.Verify image) → result < 2 → Judged tables.first.listed (F.held files.old image.now) (O.contents streams.old.out) (O.contents streams.new.out) result }
+    ensures explained { (image : Bor (List ℕ)) → request_of words.now ≡ Some (Request.Explain image) → result < 2 → Explained tables.first.listed (F.held files.old image.now) (O.contents streams.old.out) (O.contents streams.new.out) result }
+    ensures simulated { (script : Bor (List ℕ)) → request_of words.now ≡ Some (Request.Sim script) → result < 2 → SimulatedFile tables.first.listed (F.held files.old script.now) (O.contents streams.old.out) (O.contents streams.new.out) result }
+    ensures dumped { (file script : Bor (List ℕ)) (vnode : ℕ) → request_of words.now ≡ Some (Request.Dump file script vnode) → result < 2 → DumpedFile tables.first.listed vnode (F.held files.old script.now) (F.held files.new file.now) (O.contents streams.old.out) (O.contents streams.new.out) result }
     ensures unwritten { (file script : Bor (List ℕ)) (vnode : ℕ) → request_of words.now ≡ Some (Request.Dump file script vnode) → result ≡ 1 → files.new ≡ files.old }
-    ensures loaded { (file script : Bor (List ℕ)) (incarnation : ℕ) → request_of words.now ≡ Some (Request.Load file incarnation script) → result < 2 → LoadedFile table.listed incarnation (F.held files.old file.now) (F.held files.old script.now) (O.contents out.old) (O.contents out.new) result }
-    ensures served { (addr : Bor (List ℕ)) (workers : ℕ) (count : Option ℕ) (copies : ℕ) → request_of words.now ≡ Some (Request.Serve addr workers count copies) → result < 2 → Served (O.contents out.old) (O.contents out.new) result }
-    ensures kept { (folder addr : Bor (List ℕ)) (workers : ℕ) (count : Option ℕ) → request_of words.now ≡ Some (Request.Keep folder addr workers count) → result < 2 → KeptFolder (O.contents out.old) (O.contents out.new) result }
-    ensures helped { request_of words.now ≡ Some Request.Help → result < 2 → Helped (O.contents out.old) (O.contents out.new) result }
+    ensures loaded { (file script : Bor (List ℕ)) (incarnation : ℕ) → request_of words.now ≡ Some (Request.Load file incarnation script) → result < 2 → LoadedFile tables.first.listed incarnation (F.held files.old file.now) (F.held files.old script.now) (O.contents streams.old.out) (O.contents streams.new.out) result }
+    ensures served { (addr : Bor (List ℕ)) (workers : ℕ) (count : Option ℕ) (copies : ℕ) → request_of words.now ≡ Some (Request.Serve addr workers count copies) → result < 2 → Served (O.contents streams.old.out) (O.contents streams.new.out) result }
+    ensures kept { (folder addr : Bor (List ℕ)) (workers : ℕ) (count : Option ℕ) → request_of words.now ≡ Some (Request.Keep folder addr workers count) → result < 2 → KeptFolder (O.contents streams.old.out) (O.contents streams.new.out) result }
+    ensures helped { request_of words.now ≡ Some Request.Help → result < 2 → Helped (O.contents streams.old.out) (O.contents streams.new.out) result }
     ensures wrong_words { request_of words.now ≡ None → result ≡ 2 }
-    ensures untouched { request_of words.now ≡ None → out.new ≡ out.old }
+    ensures untouched { request_of words.now ≡ None → streams.new.out ≡ streams.old.out }
 {
-    match done(alloc, table, more, words, files, server, out, err) {
+    match done(alloc, tables, words, files, server, streams) {
         Ok(status) => status,
         Err(failure) => {
             // A failure that cannot be told leaves the status alone to tell of it.
-            let _ = writeln!(err, "{failure}");
+            let _ = writeln!(streams.err, "{failure}");
             FAILED
         }
     }
@@ -69,49 +68,75 @@ pub fn command<F: Files, S: Server, O: Write, E: Write>(
 /// Does what the words ask for, and gives the status. The error is not told yet.
 fn done<F: Files, S: Server, O: Write, E: Write>(
     alloc: Global,
-    table: Table,
-    more: Vec<Table>,
+    tables: Tables,
     words: &[&str],
     files: &mut F,
     server: &mut S,
-    out: &mut O,
-    err: &mut E,
+    streams: &mut Streams<O, E>,
 ) -> Result<u8, Failure>
     requires ready { S.ready }
-    requires few { vec_len more < 16 }
+    requires few { vec_len tables.more < 16 }
     ensures status { IfOk result (λ status. status ≤ 2) }
-    ensures ran { (image input : Bor (List ℕ)) → request_of words.now ≡ Some (Request.Run image input) → IfOk result (λ status. status < 2 → Ran table.listed (F.held files.old image.now) (F.held files.old input.now) (O.contents out.old) (O.contents out.new) status) }
-    ensures judged { (image : Bor (List ℕ)) → request_of words.now ≡ Some (Request.Verify image) → IfOk result (λ status. status < 2 → Judged table.listed (F.held files.old image.now) (O.contents out.old) (O.contents out.new) status) }
-    ensures explained { (image : Bor (List ℕ)) → request_of words.now ≡ Some (Request.Explain image) → IfOk result (λ status. status < 2 → Explained table.listed (F.held files.old image.now) (O.contents out.old) (O.contents out.new) status) }
-    ensures simulated { (script : Bor (List ℕ)) → request_of words.now ≡ Some (Request.Sim script) → IfOk result (λ status. status < 2 → SimulatedFile table.listed (F.held files.old script.now) (O.contents out.old) (O.contents out.new) status) }
-    ensures dumped { (file script : Bor (List ℕ)) (vnode : ℕ) → request_of words.now ≡ Some (Request.Dump file script vnode) → IfOk result (λ status. status < 2 → DumpedFile table.listed vnode (F.held files.old script.now) (F.held files.new file.now) (O.contents out.old) (O.contents out.new) status) }
+    ensures ran { (image input : Bor (List ℕ)) → request_of words.now ≡ Some (Request.Run image input) → IfOk result (λ status. status < 2 → Ran tables.first.listed (F.held files.old image.now) (F.held files.old input.now) (O.contents streams.old.out) (O.contents streams.new.out) status) }
+    ensures judged { (image : Bor (List ℕ)) → request_of words.now ≡ Some (Request.Verify image) → IfOk result (λ status. status < 2 → Judged tables.first.listed (F.held files.old image.now) (O.contents streams.old.out) (O.contents streams.new.out) status) }
+    ensures explained { (image : Bor (List ℕ)) → request_of words.now ≡ Some (Request.Explain image) → IfOk result (λ status. status < 2 → Explained tables.first.listed (F.held files.old image.now) (O.contents streams.old.out) (O.contents streams.new.out) status) }
+    ensures simulated { (script : Bor (List ℕ)) → request_of words.now ≡ Some (Request.Sim script) → IfOk result (λ status. status < 2 → SimulatedFile tables.first.listed (F.held files.old script.now) (O.contents streams.old.out) (O.contents streams.new.out) status) }
+    ensures dumped { (file script : Bor (List ℕ)) (vnode : ℕ) → request_of words.now ≡ Some (Request.Dump file script vnode) → IfOk result (λ status. status < 2 → DumpedFile tables.first.listed vnode (F.held files.old script.now) (F.held files.new file.now) (O.contents streams.old.out) (O.contents streams.new.out) status) }
     ensures unwritten { (file script : Bor (List ℕ)) (vnode : ℕ) → request_of words.now ≡ Some (Request.Dump file script vnode) → IfOk result (λ status. status ≡ 1 → files.new ≡ files.old) }
-    ensures loaded { (file script : Bor (List ℕ)) (incarnation : ℕ) → request_of words.now ≡ Some (Request.Load file incarnation script) → IfOk result (λ status. status < 2 → LoadedFile table.listed incarnation (F.held files.old file.now) (F.held files.old script.now) (O.contents out.old) (O.contents out.new) status) }
-    ensures served { (addr : Bor (List ℕ)) (workers : ℕ) (count : Option ℕ) (copies : ℕ) → request_of words.now ≡ Some (Request.Serve addr workers count copies) → IfOk result (λ status. status < 2 → Served (O.contents out.old) (O.contents out.new) status) }
-    ensures kept { (folder addr : Bor (List ℕ)) (workers : ℕ) (count : Option ℕ) → request_of words.now ≡ Some (Request.Keep folder addr workers count) → IfOk result (λ status. status < 2 → KeptFolder (O.contents out.old) (O.contents out.new) status) }
-    ensures helped { request_of words.now ≡ Some Request.Help → IfOk result (λ status. status < 2 → Helped (O.contents out.old) (O.contents out.new) status) }
-    ensures wrong_words { request_of words.now ≡ None → IsErr result × (out.new ≡ out.old) }
+    ensures loaded { (file script : Bor (List ℕ)) (incarnation : ℕ) → request_of words.now ≡ Some (Request.Load file incarnation script) → IfOk result (λ status. status < 2 → LoadedFile tables.first.listed incarnation (F.held files.old file.now) (F.held files.old script.now) (O.contents streams.old.out) (O.contents streams.new.out) status) }
+    ensures served { (addr : Bor (List ℕ)) (workers : ℕ) (count : Option ℕ) (copies : ℕ) → request_of words.now ≡ Some (Request.Serve addr workers count copies) → IfOk result (λ status. status < 2 → Served (O.contents streams.old.out) (O.contents streams.new.out) status) }
+    ensures kept { (folder addr : Bor (List ℕ)) (workers : ℕ) (count : Option ℕ) → request_of words.now ≡ Some (Request.Keep folder addr workers count) → IfOk result (λ status. status < 2 → KeptFolder (O.contents streams.old.out) (O.contents streams.new.out) status) }
+    ensures helped { request_of words.now ≡ Some Request.Help → IfOk result (λ status. status < 2 → Helped (O.contents streams.old.out) (O.contents streams.new.out) status) }
+    ensures wrong_words { request_of words.now ≡ None → IsErr result × (streams.new.out ≡ streams.old.out) }
 {
     match parse(words) {
-        Some(Request::Help) => help(out),
-        Some(Request::Run { image, input }) => run(alloc, &table, image, input, files, out),
-        Some(Request::Verify { image }) => verify(alloc, &table, image, files, out),
-        Some(Request::Explain { image }) => explain(alloc, &table, image, files, out),
-        Some(Request::Sim { script }) => simulate(alloc, &table, script, files, out, err),
+        Some(Request::Help) => help(&mut streams.out),
+        Some(Request::Run { image, input }) => {
+            run(alloc, &tables.first, image, input, files, &mut streams.out)
+        }
+        Some(Request::Verify { image }) => verify(
+            alloc,
+            &tables.first,
+            image,
+            files,
+            &mut streams.out,
+        ),
+        Some(Request::Explain { image }) => explain(
+            alloc,
+            &tables.first,
+            image,
+            files,
+            &mut streams.out,
+        ),
+        Some(Request::Sim { script }) => simulate(alloc, &tables.first, script, files, streams),
         Some(
             Request::Dump {
                 file,
                 script,
                 vnode,
             },
-        ) => dump(alloc, &table, file, script, vnode, files, out, err),
+        ) => dump(
+            alloc,
+            &tables.first,
+            Paths { file, script },
+            vnode,
+            files,
+            streams,
+        ),
         Some(
             Request::Load {
                 file,
                 incarnation,
                 script,
             },
-        ) => load(alloc, &table, file, incarnation, script, files, out, err),
+        ) => load(
+            alloc,
+            &tables.first,
+            Paths { file, script },
+            incarnation,
+            files,
+            streams,
+        ),
         Some(
             Request::Serve {
                 addr,
@@ -121,15 +146,14 @@ fn done<F: Files, S: Server, O: Write, E: Write>(
             },
         ) => serve(
             alloc,
-            table,
-            more,
+            tables,
             &Post {
                 addr,
                 count,
                 copies,
             },
             server,
-            out,
+            &mut streams.out,
         ),
         Some(
             Request::Keep {
@@ -140,15 +164,14 @@ fn done<F: Files, S: Server, O: Write, E: Write>(
             },
         ) => keep(
             alloc,
-            table,
-            more,
+            tables,
             &Site {
                 folder,
                 addr,
                 count,
             },
             server,
-            out,
+            &mut streams.out,
         ),
         None => Err(Failure::Usage),
     }
@@ -158,18 +181,18 @@ fn done<F: Files, S: Server, O: Write, E: Write>(
 /// on `out`.
 fn serve<S: Server, O: Write>(
     alloc: Global,
-    table: Table,
-    more: Vec<Table>,
+    tables: Tables,
     post: &Post<'_>,
     server: &mut S,
     out: &mut O,
 ) -> Result<u8, Failure>
     requires ready { S.ready }
-    requires few { vec_len more < 16 }
+    requires few { vec_len tables.more < 16 }
     ensures status { IfOk result (λ status. status ≤ 2) }
     ensures served { IfOk result (Served (O.contents out.old) (O.contents out.new)) }
 {
-    match server.serve(alloc, table, more, post, out) {
+    let Tables { first, more } = tables;
+    match server.serve(alloc, first, more, post, out) {
         Ok(audited) => tell(audited.said(), out),
         Err(Unserved::NoMemory) => {
             out.write_all(b"E1\n")?;
@@ -183,18 +206,18 @@ fn serve<S: Server, O: Write>(
 /// told is told on `out`.
 fn keep<S: Server, O: Write>(
     alloc: Global,
-    table: Table,
-    more: Vec<Table>,
+    tables: Tables,
     site: &Site<'_>,
     server: &mut S,
     out: &mut O,
 ) -> Result<u8, Failure>
     requires ready { S.ready }
-    requires few { vec_len more < 16 }
+    requires few { vec_len tables.more < 16 }
     ensures status { IfOk result (λ status. status ≤ 2) }
     ensures kept { IfOk result (KeptFolder (O.contents out.old) (O.contents out.new)) }
 {
-    match server.keep(alloc, table, more, site, out) {
+    let Tables { first, more } = tables;
+    match server.keep(alloc, first, more, site, out) {
         Ok(Ended::Kept(audited)) => tell(audited.said(), out),
         Ok(Ended::Unkept(audited)) => {
             tell(audited.said(), out)?;

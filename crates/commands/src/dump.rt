@@ -5,9 +5,10 @@ ghost use Rattle.world.specs.declared.event.Reply.{Reply as OneReply};
 ghost use Rattle.commands.specs.Dumped.{Dumps, DumpedFile, EndsWith, Wrote, WroteCopies};
 
 use crate::failure::Failure;
-use crate::files::Files;
+use crate::files::{Files, Paths};
 use crate::records::spelled;
 use crate::simulate::FileImages;
+use crate::streams::Streams;
 use bpf_helpers::Table;
 use record_codec::Unspelled;
 use script_replies::refusal_number;
@@ -16,39 +17,39 @@ use std::alloc::Global;
 use std::io::Write;
 use world::{Copies, Reply};
 
-/// Runs the script in the file `script`, tells on `out` what its lines print and on `err` why a line is bad, and then makes the file `file`
+/// Runs the script of the paths, tells on `out` what its lines print and on `err` why a line is bad, and then makes the file of the paths
 /// hold the records of what the vnode at an index knows. Gives the status. No file is written behind a bad line, nor where the dump is
 /// refused, which is told on `out`.
 pub fn dump<F: Files, O: Write, E: Write>(
     alloc: Global,
     table: &Table,
-    file: &str,
-    script: &str,
+    paths: Paths<'_>,
     vnode: u32,
     files: &mut F,
-    out: &mut O,
-    err: &mut E,
+    streams: &mut Streams<O, E>,
 ) -> Result<u8, Failure>
     ensures status { IfOk result (λ status. status ≤ 2) }
-    ensures dumped { IfOk result (DumpedFile table.now.listed vnode (F.held files.old script.now) (F.held files.new file.now) (O.contents out.old) (O.contents out.new)) }
+    ensures dumped { IfOk result (DumpedFile table.now.listed vnode (F.held files.old paths.entry.script.now) (F.held files.new paths.entry.file.now) (O.contents streams.old.out) (O.contents streams.new.out)) }
     ensures unwritten { IfOk result (λ status. 0 < status → files.new ≡ files.old) }
 {
-    let script = files.read(alloc, script)?;
+    let script = files.read(alloc, paths.script)?;
     let images = FileImages {
         files: &*files,
         sigs: &table.listed,
     };
     let Ok((text, dumping)) = run_and_dump(alloc, &script, vnode as usize, table, &images) else {
-        out.write_all(b"E1\n")?;
+        streams.out.write_all(b"E1\n")?;
         return Ok(1);
     };
-    out.write_all(text.as_bytes())?;
+    streams.out.write_all(text.as_bytes())?;
     match dumping {
-        Dumping::Done(world) => write_last(alloc, file, world.replies(), files, out),
+        Dumping::Done(world) => {
+            write_last(alloc, paths.file, world.replies(), files, &mut streams.out)
+        },
         Dumping::NoVnode => Err(Failure::Usage),
         Dumping::BadLine(why) => {
             // A reason that can't be told leaves the output alone to tell of the line.
-            let _ = writeln!(err, "{why}");
+            let _ = writeln!(streams.err, "{why}");
             Ok(2)
         }
     }

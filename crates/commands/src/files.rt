@@ -14,6 +14,15 @@ pub struct Part {
     pub len: u64,
 }
 
+/// The names of two files that go together.
+#[derive(Clone, Copy)]
+pub struct Paths<'a> {
+    /// The file of a dump's records.
+    pub file: &'a str,
+    /// The file of the script that is run before they are written, or behind them.
+    pub script: &'a str,
+}
+
 /// Reads and writes files.
 pub trait Files {
     // What the file of a name holds, where that is known.

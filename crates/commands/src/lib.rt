@@ -15,6 +15,7 @@ pub mod records;
 pub mod run;
 pub mod server;
 pub mod simulate;
-mod tables;
+pub mod streams;
+pub mod tables;
 pub mod verify;
 pub mod words;

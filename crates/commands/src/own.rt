@@ -16,6 +16,7 @@ ghost use Rattle.commands.specs.Words.{request_of};
 use crate::command::command;
 use crate::files::Files;
 use crate::server::Server;
+use crate::streams::Streams;
 use crate::tables::OwnTables;
 use crate::words::{MOST_WORKERS, Request, parse};
 use bpf_helpers::{
@@ -59,23 +60,22 @@ pub fn command_with_helpers<F: Files, S: Server, O: Write, E: Write>(
     words: &[&str],
     files: &mut F,
     server: &mut S,
-    out: &mut O,
-    err: &mut E,
+    streams: &mut Streams<O, E>,
 ) -> Result<u8, AllocError>
     requires ready { S.ready }
     ensures status { IfOk result (λ status. status ≤ 2) }
-    ensures ran { (image input : Bor (List ℕ)) → request_of words.now ≡ Some (Request.Run image input) → IfOk result (λ status. status < 2 → (sigs : List Entry) × (shapes_of sigs ≡ own_shapes) × Ran sigs (F.held files.old image.now) (F.held files.old input.now) (O.contents out.old) (O.contents out.new) status) }
-    ensures judged { (image : Bor (List ℕ)) → request_of words.now ≡ Some (Request.Verify image) → IfOk result (λ status. status < 2 → (sigs : List Entry) × (shapes_of sigs ≡ own_shapes) × Judged sigs (F.held files.old image.now) (O.contents out.old) (O.contents out.new) status) }
-    ensures explained { (image : Bor (List ℕ)) → request_of words.now ≡ Some (Request.Explain image) → IfOk result (λ status. status < 2 → (sigs : List Entry) × (shapes_of sigs ≡ own_shapes) × Explained sigs (F.held files.old image.now) (O.contents out.old) (O.contents out.new) status) }
-    ensures simulated { (script : Bor (List ℕ)) → request_of words.now ≡ Some (Request.Sim script) → IfOk result (λ status. status < 2 → (sigs : List Entry) × (shapes_of sigs ≡ own_shapes) × SimulatedFile sigs (F.held files.old script.now) (O.contents out.old) (O.contents out.new) status) }
-    ensures dumped { (file script : Bor (List ℕ)) (vnode : ℕ) → request_of words.now ≡ Some (Request.Dump file script vnode) → IfOk result (λ status. status < 2 → (sigs : List Entry) × (shapes_of sigs ≡ own_shapes) × DumpedFile sigs vnode (F.held files.old script.now) (F.held files.new file.now) (O.contents out.old) (O.contents out.new) status) }
+    ensures ran { (image input : Bor (List ℕ)) → request_of words.now ≡ Some (Request.Run image input) → IfOk result (λ status. status < 2 → (sigs : List Entry) × (shapes_of sigs ≡ own_shapes) × Ran sigs (F.held files.old image.now) (F.held files.old input.now) (O.contents streams.old.out) (O.contents streams.new.out) status) }
+    ensures judged { (image : Bor (List ℕ)) → request_of words.now ≡ Some (Request.Verify image) → IfOk result (λ status. status < 2 → (sigs : List Entry) × (shapes_of sigs ≡ own_shapes) × Judged sigs (F.held files.old image.now) (O.contents streams.old.out) (O.contents streams.new.out) status) }
+    ensures explained { (image : Bor (List ℕ)) → request_of words.now ≡ Some (Request.Explain image) → IfOk result (λ status. status < 2 → (sigs : List Entry) × (shapes_of sigs ≡ own_shapes) × Explained sigs (F.held files.old image.now) (O.contents streams.old.out) (O.contents streams.new.out) status) }
+    ensures simulated { (script : Bor (List ℕ)) → request_of words.now ≡ Some (Request.Sim script) → IfOk result (λ status. status < 2 → (sigs : List Entry) × (shapes_of sigs ≡ own_shapes) × SimulatedFile sigs (F.held files.old script.now) (O.contents streams.old.out) (O.contents streams.new.out) status) }
+    ensures dumped { (file script : Bor (List ℕ)) (vnode : ℕ) → request_of words.now ≡ Some (Request.Dump file script vnode) → IfOk result (λ status. status < 2 → (sigs : List Entry) × (shapes_of sigs ≡ own_shapes) × DumpedFile sigs vnode (F.held files.old script.now) (F.held files.new file.now) (O.contents streams.old.out) (O.contents streams.new.out) status) }
     ensures unwritten { (file script : Bor (List ℕ)) (vnode : ℕ) → request_of words.now ≡ Some (Request.Dump file script vnode) → IfOk result (λ status. status ≡ 1 → files.new ≡ files.old) }
-    ensures loaded { (file script : Bor (List ℕ)) (incarnation : ℕ) → request_of words.now ≡ Some (Request.Load file incarnation script) → IfOk result (λ status. status < 2 → (sigs : List Entry) × (shapes_of sigs ≡ own_shapes) × LoadedFile sigs incarnation (F.held files.old file.now) (F.held files.old script.now) (O.contents out.old) (O.contents out.new) status) }
-    ensures served { (addr : Bor (List ℕ)) (workers : ℕ) (count : Option ℕ) (copies : ℕ) → request_of words.now ≡ Some (Request.Serve addr workers count copies) → IfOk result (λ status. status < 2 → Served (O.contents out.old) (O.contents out.new) status) }
-    ensures kept { (folder addr : Bor (List ℕ)) (workers : ℕ) (count : Option ℕ) → request_of words.now ≡ Some (Request.Keep folder addr workers count) → IfOk result (λ status. status < 2 → KeptFolder (O.contents out.old) (O.contents out.new) status) }
-    ensures helped { request_of words.now ≡ Some Request.Help → IfOk result (λ status. status < 2 → Helped (O.contents out.old) (O.contents out.new) status) }
+    ensures loaded { (file script : Bor (List ℕ)) (incarnation : ℕ) → request_of words.now ≡ Some (Request.Load file incarnation script) → IfOk result (λ status. status < 2 → (sigs : List Entry) × (shapes_of sigs ≡ own_shapes) × LoadedFile sigs incarnation (F.held files.old file.now) (F.held files.old script.now) (O.contents streams.old.out) (O.contents streams.new.out) status) }
+    ensures served { (addr : Bor (List ℕ)) (workers : ℕ) (count : Option ℕ) (copies : ℕ) → request_of words.now ≡ Some (Request.Serve addr workers count copies) → IfOk result (λ status. status < 2 → Served (O.contents streams.old.out) (O.contents streams.new.out) status) }
+    ensures kept { (folder addr : Bor (List ℕ)) (workers : ℕ) (count : Option ℕ) → request_of words.now ≡ Some (Request.Keep folder addr workers count) → IfOk result (λ status. status < 2 → KeptFolder (O.contents streams.old.out) (O.contents streams.new.out) status) }
+    ensures helped { request_of words.now ≡ Some Request.Help → IfOk result (λ status. status < 2 → Helped (O.contents streams.old.out) (O.contents streams.new.out) status) }
     ensures wrong_words { request_of words.now ≡ None → IfOk result (λ status. status ≡ 2) }
-    ensures untouched { request_of words.now ≡ None → out.new ≡ out.old }
+    ensures untouched { request_of words.now ≡ None → streams.new.out ≡ streams.old.out }
 {
     let mut own = OwnTables::new(alloc);
     for _ in 0..tables_for(words) {
@@ -129,8 +129,8 @@ pub fn command_with_helpers<F: Files, S: Server, O: Write, E: Write>(
         add(&mut table, 65, one_number((0, 8)), body)?;
         own.keep(table)?;
     }
-    let (table, more) = own.split();
-    Ok(command(alloc, table, more, words, files, server, out, err))
+    let tables = own.split();
+    Ok(command(alloc, tables, words, files, server, streams))
 }
 
 /// How many tables what the words ask for takes: one for each worker that serves, else one.

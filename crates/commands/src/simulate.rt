@@ -5,6 +5,7 @@ ghost use Rattle.commands.specs.Command.{SimulatedFile};
 
 use crate::failure::Failure;
 use crate::files::{Files, read_program};
+use crate::streams::Streams;
 use bpf_admission::admit_hook;
 use bpf_helpers::{Sigs, Table};
 use bpf_image::ImageKind;
@@ -38,16 +39,16 @@ pub fn simulate<F: Files, O: Write, E: Write>(
     table: &Table,
     script: &str,
     files: &F,
-    out: &mut O,
-    err: &mut E,
+    streams: &mut Streams<O, E>,
 ) -> Result<u8, Failure>
     ensures status { IfOk result (λ status. status ≤ 2) }
-    ensures simulated { IfOk result (SimulatedFile table.now.listed (F.held files.now script.now) (O.contents out.old) (O.contents out.new)) }
+    ensures simulated { IfOk result (SimulatedFile table.now.listed (F.held files.now script.now) (O.contents streams.old.out) (O.contents streams.new.out)) }
 {
     let script = files.read(alloc, script)?;
     let images = FileImages {
         files,
         sigs: &table.listed,
     };
+    let Streams { out, err } = streams;
     Ok(sim(alloc, &script, table, &images, out, err)?)
 }

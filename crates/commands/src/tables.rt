@@ -7,6 +7,15 @@ ghost use Rattle.commands.specs.Own.{shapes_of, own_shapes};
 use bpf_helpers::Table;
 use std::alloc::{AllocError, Global};
 
+/// Tables of helpers: one for who runs a program, and one for each further worker that serves.
+#[derive(Drop)]
+pub struct Tables {
+    /// That of the first.
+    pub first: Table,
+    /// Those of the others.
+    pub more: Vec<Table>,
+}
+
 /// Tables of the program's helpers.
 #[derive(Drop)]
 pub(crate) struct OwnTables {
@@ -34,14 +43,14 @@ impl OwnTables {
     }
 
     /// One of them, and the others.
-    pub(crate) fn split(self) -> (Table, Vec<Table>)
+    pub(crate) fn split(self) -> Tables
         requires { 0 < vec_len self.made }
-        ensures own { shapes_of result.0.listed ≡ own_shapes }
-        ensures others { vec_len result.1 + 1 ≡ vec_len self.made }
+        ensures own { shapes_of result.first.listed ≡ own_shapes }
+        ensures others { vec_len result.more + 1 ≡ vec_len self.made }
     {
         let OwnTables { mut made } = self;
         match made.pop() {
-            Some(table) => (table, made),
+            Some(first) => Tables { first, more: made },
             None => unreachable!(),
         }
     }

@@ -19,6 +19,7 @@ mod tests;
 use crate::disk::Disk;
 use crate::network::Network;
 use commands::own::command_with_helpers;
+use commands::streams::Streams;
 use std::alloc::{AllocError, Global};
 use std::env::Args;
 use std::io::Write as _;
@@ -77,14 +78,11 @@ fn main(rt: HostRuntime) -> io::Result<ExitCode> {
         input: rt.stdin(),
         err: rt.stderr(),
     };
-    match command_with_helpers(
-        alloc,
-        &words,
-        &mut disk,
-        &mut network,
-        &mut rt.stdout(),
-        &mut rt.stderr(),
-    ) {
+    let mut streams = Streams {
+        out: rt.stdout(),
+        err: rt.stderr(),
+    };
+    match command_with_helpers(alloc, &words, &mut disk, &mut network, &mut streams) {
         Ok(status) => Ok(ExitCode::from(status)),
         Err(AllocError) => refused(&rt),
     }

@@ -3,6 +3,7 @@
 use commands::files::Files;
 use commands::own::command_with_helpers;
 use commands::server::{Offline, Server};
+use commands::streams::Streams;
 use std::alloc::Global;
 use std::io;
 use std::io::Write;
@@ -10,8 +11,7 @@ use std::io::Write;
 /// What a command has written, and its status.
 #[derive(Drop)]
 pub struct Said {
-    pub out: Vec<u8>,
-    pub err: Vec<u8>,
+    pub streams: Streams<Vec<u8>, Vec<u8>>,
     pub status: u8,
 }
 
@@ -24,13 +24,12 @@ pub fn ask<F: Files, S: Server>(
 ) -> io::Result<Said>
     requires { S.ready }
 {
-    let mut said = Said {
+    let mut streams = Streams {
         out: Vec::new(alloc),
         err: Vec::new(alloc),
-        status: 0,
     };
-    said.status = command_with_helpers(alloc, words, files, server, &mut said.out, &mut said.err)?;
-    Ok(said)
+    let status = command_with_helpers(alloc, words, files, server, &mut streams)?;
+    Ok(Said { streams, status })
 }
 
 /// Does what the words ask for, without a network, and tells its output, its status and its error.
@@ -46,8 +45,8 @@ pub fn tell_command<F: Files>(
 
 /// Tells what a command has written, and its status.
 fn tell_said(said: &Said, told: &mut Vec<u8>) -> io::Result<()> {
-    let Said { out, err, status } = said;
-    told.write_all(out)?;
+    let Said { streams, status } = said;
+    told.write_all(&streams.out)?;
     writeln!(told, "status {status}")?;
-    told.write_all(err)
+    told.write_all(&streams.err)
 }

@@ -176,7 +176,7 @@ fn prints_so<F: Files>(
 ) -> io::Result<(bool, u8)> {
     let said = ask(alloc, words, files, &mut Offline)?;
     Ok((
-        said.out.as_slice() == want && said.err.is_empty(),
+        said.streams.out.as_slice() == want && said.streams.err.is_empty(),
         said.status,
     ))
 }

@@ -5,6 +5,7 @@ use bpf_helpers::Table;
 use commands::files::{Files, Part};
 use commands::own::command_with_helpers;
 use commands::server::{Post, ServesOnly, Serving, Unserved};
+use commands::streams::Streams;
 use std::alloc::Global;
 use std::io;
 use std::io::Write;
@@ -238,12 +239,15 @@ fn comes_to(alloc: Global, row: &Row) -> bool {
         says: *says,
         asked: None,
     });
-    let (mut out, mut err) = (Vec::new(alloc), Vec::new(alloc));
-    let done = command_with_helpers(alloc, words, &mut Bare, &mut server, &mut out, &mut err);
+    let mut streams = Streams {
+        out: Vec::new(alloc),
+        err: Vec::new(alloc),
+    };
+    let done = command_with_helpers(alloc, words, &mut Bare, &mut server, &mut streams);
     done == Ok(*status)
         && server.0.asked == *asked
-        && out.as_slice() == told.as_bytes()
-        && err.is_empty()
+        && streams.out.as_slice() == told.as_bytes()
+        && streams.err.is_empty()
 }
 
 #[test]

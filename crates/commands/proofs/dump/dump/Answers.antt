@@ -8,11 +8,11 @@ write_last-requires g c = last_reply c.args.table.now.listed c.deref.result.now 
 pub returns-in-Done-clause-dumped : goal.returns-in-Done-clause-dumped
 returns-in-Done-clause-dumped g c =
     all_written c.args.table.now.listed c.deref.result.now c.in_ok-script.script.items c.args.vnode c.in-Ok.text.bytes.items c.in-Ok.dumping c.in-Done.world c.replies.result.now
-    (g.F.Files.held c.args.files.now c.args.script.now) (g.F.Files.held c.write_last.new.files c.args.file.now) (g.O.Write.contents c.args.out.now) (g.O.Write.contents c.write_all-2.new.self) (g.O.Write.contents c.write_last.new.out)
+    (g.F.Files.held c.args.files.now c.args.paths.script.now) (g.F.Files.held c.write_last.new.files c.args.paths.file.now) (g.O.Write.contents c.args.streams.now.out) (g.O.Write.contents c.write_all-2.new.self) (g.O.Write.contents c.write_last.new.out)
     c.write_last.result c.in-Done.is c.in-Ok.ensures c.deref.ensures.value c.in_ok-script.ensures (search rules) c.replies.ensures c.write_last.ensures.wrote
 
 pub returns-clause-dumped : goal.returns-clause-dumped
 returns-clause-dumped g c =
     up_to_bad c.args.table.now.listed c.deref.result.now c.in_ok-script.script.items c.args.vnode c.in-Ok.text.bytes.items c.in-Ok.dumping c.in-BadLine.why
-    (g.F.Files.held c.args.files.now c.args.script.now) (g.F.Files.held c.args.files.now c.args.file.now) (g.O.Write.contents c.args.out.now) (g.O.Write.contents c.write_all-2.new.self)
+    (g.F.Files.held c.args.files.now c.args.paths.script.now) (g.F.Files.held c.args.files.now c.args.paths.file.now) (g.O.Write.contents c.args.streams.now.out) (g.O.Write.contents c.write_all-2.new.self)
     c.in-BadLine.is c.in-Ok.ensures c.deref.ensures.value c.in_ok-script.ensures (search rules)
