@@ -1050,6 +1050,11 @@ SUMS = [
     ("a sum where a jump leads", byte_where([copied(6, 7), raised(6, 1), jump(0)]), TWO, comes_to(9, 9), refused(23, 6)),
     ("a sum that may pass 2^64", [load(7, 1, 0), *byte_where([copied(6, 7), raised(6, 1)])[1:]], TWO, refused(23, 5), refused(23, 5)),
     ("a sum raised again", byte_where([copied(6, 7), raised(6, 1), raised(6, 1)]), TWO, comes_to(9, 9), refused(23, 6)),
+    # what other registers hold ends none
+    ("an index and a length, past a wide constant", [load_word(8, 4), CLEAR, fields(0x15, 8, 0, 9, 0), *byte_where([copied(6, 7), added(6, 8), wide(9, 5)])], TWO, comes_to(9, 12), refused(23, 10)),
+    ("an index and a length, past a byte swap", [load_word(8, 4), CLEAR, fields(0x15, 8, 0, 8, 0), *byte_where([copied(6, 7), added(6, 8), fields(0xD4, 4, 0, 0, 16)])], TWO, comes_to(9, 12), refused(23, 9)),
+    ("an index and a length, past a copy", [load_word(8, 4), CLEAR, fields(0x15, 8, 0, 8, 0), *byte_where([copied(6, 7), added(6, 8), copied(9, 7)])], TWO, comes_to(9, 12), refused(23, 9)),
+    ("an index and a length, read anew past a copy", [load_word(8, 4), CLEAR, fields(0x15, 8, 0, 9, 0), *byte_where([copied(6, 7), added(6, 8), copied(9, 7), load_word(7, 4)])], TWO, refused(24, 11), refused(23, 10)),
 ]
 
 
