@@ -1123,6 +1123,13 @@ PAIRS = [
     ("bytes from an index on, the length read anew", bytes_where([load_byte(8, 1, 4), *ALIKE]), TWO, refused(28, 10), refused(23, 7)),
     ("bytes from an index on where a jump leads", bytes_where([added(1, 7), jump(0), *ALIKE[1:]]), TWO, refused(28, 10), refused(23, 6)),
     ("bytes from an index on, another number tested", bytes_where(ALIKE, WHOLE, fields(0x2D, 7, 2, 0, 0)), TWO, refused(28, 9), refused(28, 9)),
+    # the sum of a pair
+    ("the last byte from an index on", bytes_where([fields(0x15, 8, 0, 3, 0), added(1, 7), added(1, 8), load_byte(0, 1, -1)]), TWO, comes_to(11, 11), refused(23, 7)),
+    ("the last byte from an index on, one further", bytes_where([fields(0x15, 8, 0, 3, 0), added(1, 7), added(1, 8), load_byte(0, 1, 0)]), TWO, refused(24, 9), refused(23, 7)),
+    ("the last byte from an index on, by a copy", bytes_where([fields(0x15, 8, 0, 4, 0), copied(9, 7), added(9, 8), added(1, 9), load_byte(0, 1, -1)]), TWO, comes_to(11, 12), refused(23, 9)),
+    ("the last byte from an index on, added in 32 bits", bytes_where([fields(0x15, 8, 0, 4, 0), copied(9, 7), fields(0x0C, 9, 8, 0, 0), added(1, 9), load_byte(0, 1, -1)]), TWO, refused(24, 10), refused(23, 9)),
+    ("the last byte from an index on, where a jump leads", bytes_where([fields(0x15, 8, 0, 4, 0), jump(0), added(1, 7), added(1, 8), load_byte(0, 1, -1)]), TWO, refused(24, 10), refused(23, 8)),
+    ("the last byte from an index on, the length read anew", bytes_where([load_byte(8, 1, 4), fields(0x15, 8, 0, 3, 0), added(1, 7), added(1, 8), load_byte(0, 1, -1)]), TWO, refused(24, 10), refused(23, 8)),
 ]
 
 
