@@ -238,4 +238,4 @@ module _ (profile : Profile) where
   range_sound r n f h = left_sound _ _ (settled_sound profile r nothing n f nothing_fits h (nothing_sound n))
 
   pub range_kind : (r : Range) → r.lo ≤ r.hi → r.hi < 2 ^ 64 → IsKind (kind_in profile r)
-  range_kind r le f = left_is_kind _ (settled_is_number profile r nothing f le nothing_fits)
+  range_kind r le f = left_is_kind _ (settled_is_number profile r nothing f (λ _. le) nothing_fits)

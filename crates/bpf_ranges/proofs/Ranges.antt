@@ -1,12 +1,12 @@
 -- The range of a result admits every value that the operands' ranges allow.
-use Rattle.std.proofs.Common.{◌≡◌, ℕ, zero, suc, ◌+◌, ◌-◌, ◌*◌, ◌/◌, ◌%◌, ◌^◌, ◌<◌, ◌≤◌, true, ◌&&◌, eqb, ltb, leb, max, refl, sym, ap, ◌∙◌, subst, arith}
+use Rattle.std.proofs.Common.{◌≡◌, ℕ, zero, suc, ◌+◌, ◌-◌, ◌*◌, ◌/◌, ◌%◌, ◌^◌, ◌<◌, ◌≤◌, Bool, true, false, cond, ◌&&◌, eqb, ltb, leb, max, refl, sym, ap, ◌∙◌, subst, arith}
 use Rattle.std.specs.Prelude.{bit_and, bit_or, bit_xor}
-use Rattle.std.proofs.Math.Nat.{mod-eq_of_lt, mod-lt, div-le_self, mod-le, mul-div-le, add-mul-mod_self_right, div-zero, mod-zero}
+use Rattle.std.proofs.Math.Nat.{mod-eq_of_lt, mod-lt, div-le_self, mod-le, mul-div-le, add-mul-mod_self_right, div-zero, mod-zero, mul_comm}
 use Rattle.std.proofs.lemmas.Nat.{and_le_l, and_le_r, or_lt, xor_lt, pow_pos, leading_length, le-div, mod_below, mul-le, div-add-mod'}
-use Rattle.std.proofs.lemmas.Bool.{cond_both, ltb-true, leb-true, lt-ltb, eqb-true, and_parts}
+use Rattle.std.proofs.lemmas.Bool.{cond_both, ltb-true, leb-true, lt-ltb, le-ltb, eqb-true, and_parts}
 use Rattle.std.specs.Int.{w64, leading_zeros}
 use Rattle.std.proofs.Math.Pow.{pow_mono}
-use Rattle.std.specs.Prelude.{ℤ, pos, negsuc, ◌-ℤ◌}
+use Rattle.std.specs.Prelude.{ℤ, pos, negsuc, ◌-ℤ◌, ◌*ℤ◌, int_div}
 use Rattle.std.proofs.lemmas.Int.{ints, int_rem_euclid_is}
 use Rattle.std.specs.Prelude.{unsigned_abs}
 use Rattle.bpf_alu.specs.declared.Op.{Op}
@@ -21,7 +21,7 @@ use Rattle.bpf_alu.specs.Value.{bits, wrapped, signed, quotient, remainder, exac
 use Rattle.bpf_semantics.specs.declared.profile.Profile.{Profile}
 use Rattle.bpf_semantics.specs.declared.profile.Profile.TheVariants.{First, Second}
 use Rattle.bpf_ranges.specs.declared.range.Range.{Range}
-use Rattle.bpf_ranges.specs.Numbers.{InRange, single, full, is_single, cut, are_single, range_else, shifted_right, wrapped_range, range_by, range_result, swapped_range}
+use Rattle.bpf_ranges.specs.Numbers.{InRange, single, full, is_single, cut, low_range, cut_by, are_single, range_else, shifted_right, shifted_left, are_positive, difference_range, signed_range_of, extended, wrapped_range, range_by, range_result, swapped_range}
 
 -- a quotient grows with the dividend and falls with the divisor
 pub div_mono : (a b m n : ℕ) → a ≤ b → 0 < n → n ≤ m → a / m ≤ b / n
@@ -50,6 +50,10 @@ wrapped_small k n h = mod-eq_of_lt h
 pub wrapped_difference : (k a b : ℕ) → b < 2 ^ k → wrapped k (pos a -ℤ pos b) ≡ (a + (2 ^ k - b)) % 2 ^ k
 wrapped_difference k a b h =
     ap unsigned_abs (int_rem_euclid_is (pos a -ℤ pos b) (pos (2 ^ k)) (2 ^ k) 1 (a + (2 ^ k - b)) (pow_pos k) refl (omega (arith, ints)))
+
+wrapped_negative : (k m b : ℕ) → b ≤ 2 ^ k → wrapped k (pos m -ℤ pos b) ≡ (m + (2 ^ k - b)) % 2 ^ k
+wrapped_negative k m b h =
+    ap unsigned_abs (int_rem_euclid_is (pos m -ℤ pos b) (pos (2 ^ k)) (2 ^ k) 1 (m + (2 ^ k - b)) (pow_pos k) refl (omega (arith, ints)))
 
 -- a difference of 64 bits
 pub value_sub : (x y : ℕ) → x < 2 ^ 64 → y < 2 ^ 64 → value Sub W64 x y ≡ (x + (2 ^ 64 - y)) % 2 ^ 64
@@ -106,6 +110,44 @@ wrapped_sound k lo hi n p q =
     let sh : n / m * m ≡ hi / m * m = ap (λ d. d * m) eh in
     (omega (arith, div-add-mod' n m, div-add-mod' lo m), omega (arith, div-add-mod' n m, div-add-mod' hi m)))
     (λ _. in_full k _ (mod-lt n pos))
+
+-- what low bits keep of a range fits them, and has what they keep of its numbers
+pub low_range_fits : (k : ℕ) (r : Range) → (low_range k r).hi < 2 ^ k
+low_range_fits k r =
+    cond_both (ltb r.hi (2 ^ k)) r (wrapped_range k r.lo r.hi) (λ (c : Range). c.hi < 2 ^ k)
+    (λ t. ltb-true _ _ t)
+    (λ _. cond_both (eqb (r.lo / 2 ^ k) (r.hi / 2 ^ k)) _ _ (λ (c : Range). c.hi < 2 ^ k) (λ _. mod-lt r.hi (pow_pos k)) (λ _. omega (arith, pow_pos k)))
+
+pub low_sound : (k : ℕ) (r : Range) (x : ℕ) → InRange r x → InRange (low_range k r) (x % 2 ^ k)
+low_sound k r x p =
+    cond_both (ltb r.hi (2 ^ k)) _ _ (λ c. InRange c (x % 2 ^ k))
+    (λ t. let lt = ltb-true _ _ t in
+    let small : x < 2 ^ k = omega arith in
+    rw (mod-eq_of_lt small) p)
+    (λ _. wrapped_sound k r.lo r.hi x p.0 p.1)
+
+pub low_ordered : (k : ℕ) (r : Range) → r.lo ≤ r.hi → (low_range k r).lo ≤ (low_range k r).hi
+low_ordered k r h = let s = low_sound k r r.lo (omega arith, h) in omega (arith, s.0, s.1)
+
+-- ---- signed numbers
+
+signed_small : (k x : ℕ) → x < 2 ^ (k - 1) → signed k x ≡ pos x
+signed_small k x h = rw (lt-ltb x (2 ^ (k - 1)) h) refl
+
+signed_large : (k x : ℕ) → 2 ^ (k - 1) ≤ x → signed k x ≡ pos x -ℤ pos (2 ^ k)
+signed_large k x h = rw (le-ltb x (2 ^ (k - 1)) h) refl
+
+-- quotients and remainders without a sign
+either_positive : (c : Bool) (n : ℕ) → cond c (pos 0) (pos n) ≡ pos (cond c 0 n)
+either_positive true n = refl
+either_positive false n = refl
+
+left_over : (x m q r : ℕ) → q * m + r ≡ x → (pos x -ℤ pos (m * q)) ≡ pos r
+left_over x m q r e = let f : m * q ≡ q * m = mul_comm m q in omega (arith, ints)
+
+positive_rest : (c : Bool) (x y : ℕ) → (pos x -ℤ pos y *ℤ cond c (pos 0) (pos (x / y))) ≡ pos (cond c x (x % y))
+positive_rest true x y = left_over x y 0 x (omega arith)
+positive_rest false x y = left_over x y (x / y) (x % y) (div-add-mod' x y)
 
 module _ (k : ℕ) (a b : Range) (x y : ℕ) (px : InRange a x) (py : InRange b y) (fa : a.hi < 2 ^ k) (fb : b.hi < 2 ^ k) (wide : k ≤ 64) where
   below : x < 2 ^ k
@@ -229,15 +271,95 @@ module _ (k : ℕ) (a b : Range) (x y : ℕ) (px : InRange a x) (py : InRange b 
   sound_wrapped_sub =
       as_plain _ (wrapped_difference k x y (omega arith)) (wrapped_sound k (a.lo + (2 ^ k - b.hi)) (a.hi + (2 ^ k - b.lo)) (x + (2 ^ k - y)) (omega arith) (omega arith))
 
-  sound_by : (profile : Profile) (op : Op) → InRange (range_by profile op k a b) (wrapped k (exact op k x y))
-  sound_by First op = sound_else op
-  sound_by Second Add = wrapped_sound k (a.lo + b.lo) (a.hi + b.hi) (x + y) (omega arith) (omega arith)
-  sound_by Second Sub = sound_wrapped_sub
-  sound_by Second op = sound_else op
+  sound_wrapped_neg : InRange (range_by Second Neg k a b) (wrapped k (exact Neg k x y))
+  sound_wrapped_neg =
+      as_plain _ (wrapped_difference k 0 x below) (wrapped_sound k (0 + (2 ^ k - a.hi)) (0 + (2 ^ k - a.lo)) (0 + (2 ^ k - x)) (omega arith) (omega arith))
+
+  sound_wide_shift : InRange (range_by Second Lsh k a b) (wrapped k (exact Lsh k x y))
+  sound_wide_shift =
+      cond_both (ltb b.hi k && ltb (a.hi * 2 ^ b.hi) (2 ^ k)) _ _ (λ r. InRange r ((x * 2 ^ (y % k)) % 2 ^ k))
+      (λ t. let parts = and_parts (ltb b.hi k) _ t in
+      let less = ltb-true b.hi k parts.0 in
+      let lt = ltb-true _ _ parts.1 in
+      let count : y % k ≡ y = mod-eq_of_lt (omega arith) in
+      let up : 2 ^ y ≤ 2 ^ b.hi = pow_mono py.1 in
+      let down : 2 ^ b.lo ≤ 2 ^ y = pow_mono py.0 in
+      let high = mul-le x (2 ^ y) a.hi (2 ^ b.hi) px.1 up in
+      let low = mul-le a.lo (2 ^ b.lo) x (2 ^ y) px.0 down in
+      let small : x * 2 ^ y < 2 ^ k = omega arith in
+      rw (count, mod-eq_of_lt small) (low, high))
+      (λ _. sound_shift_left)
+
+  -- operands without a sign
+  both_plain : are_positive k a b ≡ true → (signed k x ≡ pos x) × (signed k y ≡ pos y)
+  both_plain t =
+      let parts = and_parts (ltb a.hi (2 ^ (k - 1))) _ t in
+      let la = ltb-true _ _ parts.0 in
+      let lb = ltb-true _ _ parts.1 in
+      (signed_small k x (omega arith), signed_small k y (omega arith))
+
+  plain_signed_div : are_positive k a b ≡ true → wrapped k (exact SignedDiv k x y) ≡ wrapped k (exact Div k x y)
+  plain_signed_div t =
+      let e = both_plain t in
+      ap (λ (z : ℤ). wrapped k (cond (eqb y 0) (pos 0) (int_div z (signed k y)))) e.0
+      ∙ ap (λ (z : ℤ). wrapped k (cond (eqb y 0) (pos 0) (int_div (pos x) z))) e.1
+      ∙ ap (wrapped k) (either_positive (eqb y 0) (x / y))
+
+  sound_signed_div : InRange (range_by Second SignedDiv k a b) (wrapped k (exact SignedDiv k x y))
+  sound_signed_div =
+      cond_both (are_positive k a b) _ _ (λ r. InRange r (wrapped k (exact SignedDiv k x y)))
+      (λ t. as_plain _ (plain_signed_div t) sound_div)
+      (λ _. sound_full SignedDiv)
+
+  plain_signed_mod : are_positive k a b ≡ true → wrapped k (exact SignedMod k x y) ≡ wrapped k (exact Mod k x y)
+  plain_signed_mod t =
+      let e = both_plain t in
+      ap (λ (z : ℤ). wrapped k (z -ℤ signed k y *ℤ cond (eqb y 0) (pos 0) (int_div z (signed k y)))) e.0
+      ∙ ap (λ (z : ℤ). wrapped k (pos x -ℤ z *ℤ cond (eqb y 0) (pos 0) (int_div (pos x) z))) e.1
+      ∙ ap (wrapped k) (positive_rest (eqb y 0) x y)
+
+  sound_signed_mod : InRange (range_by Second SignedMod k a b) (wrapped k (exact SignedMod k x y))
+  sound_signed_mod =
+      cond_both (are_positive k a b) _ _ (λ r. InRange r (wrapped k (exact SignedMod k x y)))
+      (λ t. as_plain _ (plain_signed_mod t) sound_mod)
+      (λ _. sound_full SignedMod)
+
+  sound_extended : (n : ℕ) → n ≤ k → InRange (extended n k b) (wrapped k (signed n (y % 2 ^ n)))
+  sound_extended n le =
+      let r = low_range n b in
+      let m = y % 2 ^ n in
+      let within = low_sound n b y py in
+      let fits = low_range_fits n b in
+      let sizes : 2 ^ n ≤ 2 ^ k = pow_mono le in
+      cond_both (ltb r.hi (2 ^ (n - 1))) _ _ (λ s. InRange s (wrapped k (signed n m)))
+      (λ t. let lt = ltb-true _ _ t in
+      as_plain r (ap (wrapped k) (signed_small n m (omega arith)) ∙ wrapped_small k m (omega arith)) within)
+      (λ _. cond_both (leb (2 ^ (n - 1)) r.lo) _ _ (λ s. InRange s (wrapped k (signed n m)))
+      (λ t. let le_half = leb-true _ _ t in
+      let small : m + (2 ^ k - 2 ^ n) < 2 ^ k = omega arith in
+      as_plain _ (ap (wrapped k) (signed_large n m (omega arith)) ∙ wrapped_negative k m (2 ^ n) sizes ∙ mod-eq_of_lt small) (omega arith, omega arith))
+      (λ _. in_full k _ (wrapped_below k (signed n m))))
+
+  sound_by : (profile : Profile) (op : Op) → 32 ≤ k → InRange (range_by profile op k a b) (wrapped k (exact op k x y))
+  sound_by First op h = sound_else op
+  sound_by Second Add h = wrapped_sound k (a.lo + b.lo) (a.hi + b.hi) (x + y) (omega arith) (omega arith)
+  sound_by Second Sub h = sound_wrapped_sub
+  sound_by Second Neg h = sound_wrapped_neg
+  sound_by Second Lsh h = sound_wide_shift
+  sound_by Second SignedDiv h = sound_signed_div
+  sound_by Second SignedMod h = sound_signed_mod
+  sound_by Second Movsx8 h = sound_extended 8 (omega arith)
+  sound_by Second Movsx16 h = sound_extended 16 (omega arith)
+  sound_by Second Movsx32 h = sound_extended 32 h
+  sound_by Second op h = sound_else op
 
 pub bits_wide : (w : Width) → bits w ≤ 64
 bits_wide W32 = omega arith
 bits_wide W64 = omega arith
+
+pub bits_least : (w : Width) → 32 ≤ bits w
+bits_least W32 = omega arith
+bits_least W64 = omega arith
 
 -- an operand, cut, is within the cut range, and that range fits
 pub cut_sound : (w : Width) (r : Range) (x : ℕ) → InRange r x → InRange (cut (bits w) r) (x % 2 ^ bits w) × ((cut (bits w) r).hi < 2 ^ bits w)
@@ -252,6 +374,13 @@ cut_sound w r x p =
     let e : x ≡ r.lo = omega arith in
     (rw e (omega arith, omega arith), mod-lt r.lo (pow_pos k)))
     (λ _. (in_full k _ (mod-lt x (pow_pos k)), omega (arith, pow_pos k))))
+
+pub cut_by_sound : (profile : Profile) (w : Width) (r : Range) (x : ℕ) → InRange r x → InRange (cut_by profile (bits w) r) (x % 2 ^ bits w) × ((cut_by profile (bits w) r).hi < 2 ^ bits w)
+cut_by_sound First w r x p = cut_sound w r x p
+cut_by_sound Second w r x p = (low_sound (bits w) r x p, low_range_fits (bits w) r)
+
+pub cut_by_fits : (profile : Profile) (w : Width) (r : Range) → r.lo ≤ r.hi → (cut_by profile (bits w) r).hi < 2 ^ bits w
+cut_by_fits profile w r h = (cut_by_sound profile w r r.lo (omega arith, h)).1
 
 in_single : (n m : ℕ) → m ≡ n → InRange (single m) n
 in_single n m e = (omega arith, omega arith)
@@ -298,11 +427,13 @@ single_sound SignedMod w a b x y px py t = both_single SignedMod w a b x y px py
 pub range_sound : (profile : Profile) (op : Op) (w : Width) (a b : Range) (x y : ℕ) → InRange a x → InRange b y → InRange (range_result profile op w a b) (value op w x y)
 range_sound profile op w a b x y px py =
     let k = bits w in
-    let ca = cut_sound w a x px in
-    let cb = cut_sound w b y py in
-    cond_both (are_single op (cut k a) (cut k b)) _ _ (λ r. InRange r (value op w x y))
-    (single_sound op w (cut k a) (cut k b) x y ca.0 cb.0)
-    (λ _. sound_by k (cut k a) (cut k b) (x % 2 ^ k) (y % 2 ^ k) ca.0 cb.0 ca.1 cb.1 (bits_wide w) profile op)
+    let ca = cut_by_sound profile w a x px in
+    let cb = cut_by_sound profile w b y py in
+    let l = cut_by profile k a in
+    let r = cut_by profile k b in
+    cond_both (are_single op l r) _ _ (λ r. InRange r (value op w x y))
+    (single_sound op w l r x y ca.0 cb.0)
+    (λ _. sound_by k l r (x % 2 ^ k) (y % 2 ^ k) ca.0 cb.0 ca.1 cb.1 (bits_wide w) profile op (bits_least w))
 
 -- a result has the bits of the width
 pub value_fits : (op : Op) (w : Width) (x y : ℕ) → value op w x y < 2 ^ 64
@@ -345,15 +476,31 @@ bytes_fit B16 = omega arith
 bytes_fit B32 = omega arith
 bytes_fit B64 = omega arith
 
-pub swapped_sound : (kind : SwapKind) (n : SwapBits) (a : Range) (x : ℕ) → InRange a x → InRange (swapped_range kind n a) (swapped kind n x)
-swapped_sound kind n a x p =
+swapped_turned : (kind : SwapKind) (n : SwapBits) (a : Range) (x : ℕ) → InRange a x → InRange (swapped_range First kind n a) (swapped kind n x)
+swapped_turned kind n a x p =
     cond_both (is_single a) _ _ (λ r. InRange r (swapped kind n x))
     (λ t. in_single _ _ (ap (swapped kind n) (of_single a x p t)))
     (λ _. in_full (8 * byte_count n) _ (rw (← bytes_are_bits n) (swapped_below kind n x)))
 
-pub swapped_fits : (kind : SwapKind) (n : SwapBits) (a : Range) → ((swapped_range kind n a).lo ≤ (swapped_range kind n a).hi) × ((swapped_range kind n a).hi < 2 ^ 64)
-swapped_fits kind n a =
+pub swapped_sound : (profile : Profile) (kind : SwapKind) (n : SwapBits) (a : Range) (x : ℕ) → InRange a x → InRange (swapped_range profile kind n a) (swapped kind n x)
+swapped_sound First kind n a x p = swapped_turned kind n a x p
+swapped_sound Second ToLittle n a x p = rw (bytes_are_bits n) (low_sound (8 * byte_count n) a x p)
+swapped_sound Second ToBig n a x p = swapped_turned ToBig n a x p
+swapped_sound Second Swap n a x p = swapped_turned Swap n a x p
+
+turned_fits : (kind : SwapKind) (n : SwapBits) (a : Range) → (swapped_range First kind n a).hi < 2 ^ 64
+turned_fits kind n a =
     let small : 2 ^ (8 * byte_count n) ≤ 2 ^ 64 = bytes_fit n in
-    cond_both (is_single a) (single (swapped kind n a.lo)) (full (8 * byte_count n)) (λ r. (r.lo ≤ r.hi) × (r.hi < 2 ^ 64))
-    (λ _. (omega arith, omega (arith, swapped_below kind n a.lo, bytes_are_bits n)))
-    (λ _. (omega arith, omega (arith, pow_pos (8 * byte_count n))))
+    cond_both (is_single a) (single (swapped kind n a.lo)) (full (8 * byte_count n)) (λ r. r.hi < 2 ^ 64)
+    (λ _. omega (arith, swapped_below kind n a.lo, bytes_are_bits n))
+    (λ _. omega (arith, pow_pos (8 * byte_count n)))
+
+pub swapped_ordered : (kind : SwapKind) (n : SwapBits) (a : Range) → (swapped_range First kind n a).lo ≤ (swapped_range First kind n a).hi
+swapped_ordered kind n a =
+    cond_both (is_single a) (single (swapped kind n a.lo)) (full (8 * byte_count n)) (λ r. r.lo ≤ r.hi) (λ _. omega arith) (λ _. omega arith)
+
+pub swapped_fits : (profile : Profile) (kind : SwapKind) (n : SwapBits) (a : Range) → (swapped_range profile kind n a).hi < 2 ^ 64
+swapped_fits First kind n a = turned_fits kind n a
+swapped_fits Second ToLittle n a = omega (arith, low_range_fits (8 * byte_count n) a, bytes_fit n)
+swapped_fits Second ToBig n a = turned_fits ToBig n a
+swapped_fits Second Swap n a = turned_fits Swap n a

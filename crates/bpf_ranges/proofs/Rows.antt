@@ -7,7 +7,7 @@ use Rattle.std.proofs.Math.Pow.{pow_mono}
 use Rattle.std.proofs.lemmas.Nat.{and_le_l, or_lt, pow_pos}
 use Rattle.std.proofs.lemmas.Bool.{cond_both, ltb-true, and_parts}
 use Rattle.bpf_alu.specs.declared.Op.{Op}
-use Rattle.bpf_alu.specs.declared.Op.TheVariants.{Add, Sub, Mul, Div, Or, And, Xor, Lsh, Rsh, Arsh, Mod, Mov}
+use Rattle.bpf_alu.specs.declared.Op.TheVariants.{Add, Sub, Mul, Div, SignedDiv, SignedMod, Neg, Movsx8, Movsx16, Movsx32, Or, And, Xor, Lsh, Rsh, Arsh, Mod, Mov}
 use Rattle.bpf_alu.specs.declared.Width.{Width}
 use Rattle.bpf_alu.specs.declared.Width.TheVariants.{W32, W64}
 use Rattle.bpf_alu.specs.declared.SwapKind.{SwapKind}
@@ -19,8 +19,8 @@ use Rattle.bpf_semantics.specs.declared.profile.Profile.{Profile}
 use Rattle.bpf_semantics.specs.declared.profile.Profile.TheVariants.{First, Second}
 use Rattle.bpf_ranges.specs.declared.number.Number.{Number}
 use Rattle.bpf_ranges.specs.KnownBits.{HasBits, IsBits, nothing, common, moved_left, moved_right, cut_bits, low_bits_of}
-use Rattle.bpf_ranges.specs.Numbers.{InRange, IsNumber, IsOf, is_single, are_single, swapped_range, swapped_number, joined_numbers, least_over, cut, full, range_else, range_by, range_result, wrapped_range, shifted_right, ones_above, bits_right, bits_after, cut_number, numbers}
-use Rattle.bpf_ranges.proofs.Ranges.{bits_wide, range_ordered, value_fits, cut_sound, range_sound, swapped_sound, swapped_fits, plain_and, plain_or, plain_xor, plain_shift_right, plain_arithmetic_shift, wrapped_small, of_single}
+use Rattle.bpf_ranges.specs.Numbers.{InRange, IsNumber, IsOf, is_single, are_single, swapped_range, swapped_number, joined_numbers, least_over, cut_by, low_range, full, range_else, range_by, range_result, wrapped_range, shifted_right, are_positive, extended, ones_above, bits_right, bits_after, cut_number, numbers}
+use Rattle.bpf_ranges.proofs.Ranges.{bits_wide, range_ordered, value_fits, cut_sound, cut_by_sound, low_range_fits, range_sound, swapped_sound, swapped_fits, swapped_ordered, plain_and, plain_or, plain_xor, plain_shift_right, plain_arithmetic_shift, wrapped_small, of_single}
 use Rattle.bpf_ranges.proofs.KnownBits.{nothing_sound, both_set_sound, either_set_sound, one_set_sound, cut_bits_sound, moved_left_sound, moved_right_sound, sum_sound, difference_sound, common_left, common_right}
 use Rattle.bpf_ranges.proofs.Settled.{Leaves, nothing_fits, settled_sound, settled_is_number}
 
@@ -112,17 +112,37 @@ module _ (k : ℕ) (a b : Range) (fa : a.hi < 2 ^ k) (fb : b.hi < 2 ^ k) (wide :
   wrapped_fits : (lo hi : ℕ) → Fits (wrapped_range k lo hi)
   wrapped_fits lo hi = cond_both (eqb (lo / 2 ^ k) (hi / 2 ^ k)) _ _ Fits (λ _. omega (arith, mod-lt hi (pow_pos k))) (λ _. full_fits)
 
+  extended_fits : (n : ℕ) → n ≤ 64 → Fits (extended n k b)
+  extended_fits n short =
+      let r = low_range n b in
+      let small = low_range_fits n b in
+      let sizes : 2 ^ n ≤ 2 ^ 64 = pow_mono short in
+      cond_both (ltb r.hi (2 ^ (n - 1))) _ _ Fits
+      (λ _. omega arith)
+      (λ _. cond_both (leb (2 ^ (n - 1)) r.lo) _ _ Fits (λ _. omega arith) (λ _. full_fits))
+
   by_fits : (profile : Profile) (op : Op) → Fits (range_by profile op k a b)
   by_fits First op = else_fits op
   by_fits Second Add = wrapped_fits (a.lo + b.lo) (a.hi + b.hi)
   by_fits Second Sub = wrapped_fits (a.lo + (2 ^ k - b.hi)) (a.hi + (2 ^ k - b.lo))
+  by_fits Second Neg = wrapped_fits (0 + (2 ^ k - a.hi)) (0 + (2 ^ k - a.lo))
+  by_fits Second Lsh =
+      cond_both (ltb b.hi k && ltb (a.hi * 2 ^ b.hi) (2 ^ k)) _ _ Fits
+      (λ t. let lt = ltb-true _ _ (and_parts (ltb b.hi k) _ t).1 in omega arith) (λ _. else_fits Lsh)
+  by_fits Second SignedDiv = cond_both (are_positive k a b) _ _ Fits (λ _. else_fits Div) (λ _. full_fits)
+  by_fits Second SignedMod = cond_both (are_positive k a b) _ _ Fits (λ _. else_fits Mod) (λ _. full_fits)
+  by_fits Second Movsx8 = extended_fits 8 (omega arith)
+  by_fits Second Movsx16 = extended_fits 16 (omega arith)
+  by_fits Second Movsx32 = extended_fits 32 (omega arith)
   by_fits Second op = else_fits op
 
 result_fits : (profile : Profile) (op : Op) (w : Width) (a b : Range) (x y : ℕ) → InRange a x → InRange b y → Fits (range_result profile op w a b)
 result_fits profile op w a b x y p q =
     let k = bits w in
-    cond_both (are_single op (cut k a) (cut k b)) _ _ Fits (λ _. value_fits op w (cut k a).lo (cut k b).lo)
-    (λ _. by_fits k (cut k a) (cut k b) (cut_sound w a x p).1 (cut_sound w b y q).1 (pow_mono (bits_wide w)) profile op)
+    let l = cut_by profile k a in
+    let r = cut_by profile k b in
+    cond_both (are_single op l r) _ _ Fits (λ _. value_fits op w l.lo r.lo)
+    (λ _. by_fits k l r (cut_by_sound profile w a x p).1 (cut_by_sound profile w b y q).1 (pow_mono (bits_wide w)) profile op)
 
 cut_fits : (k : ℕ) (b : Bits) → k ≤ 64 → IsBits b → IsBits (cut_bits k b)
 cut_fits k b wide f =
@@ -200,7 +220,7 @@ pub numbers_are_numbers : (profile : Profile) (op : Op) (w : Width) (a b : Numbe
 numbers_are_numbers profile op w a b ka kb =
     settled_is_number profile (range_result profile op w a.range b.range) (bits_after op w (cut_number w a) (cut_number w b))
     (result_fits profile op w a.range b.range a.range.lo b.range.lo (omega arith, ka.range.ordered) (omega arith, kb.range.ordered))
-    (range_ordered profile op w a.range b.range ka.range.ordered kb.range.ordered)
+    (λ _. range_ordered profile op w a.range b.range ka.range.ordered kb.range.ordered)
     (bits_fit op w (cut_number w a) (cut_number w b) (cut_fits (bits w) a.bits (bits_wide w) ka.bits) (cut_fits (bits w) b.bits (bits_wide w) kb.bits))
 
 -- ---- byte swaps and joins
@@ -208,11 +228,12 @@ numbers_are_numbers profile op w a b ka kb =
 module _ (profile : Profile) where
   pub swapped_number_sound : (kind : SwapKind) (n : SwapBits) (a : Number) (x : ℕ) → IsOf a x → Leaves (swapped kind n x) (swapped_number profile kind n a)
   swapped_number_sound kind n a x p =
-      settled_sound profile (swapped_range kind n a.range) nothing (swapped kind n x) (swapped_fits kind n a.range).1 nothing_fits (swapped_sound kind n a.range x p.within) (nothing_sound (swapped kind n x))
+      settled_sound profile (swapped_range profile kind n a.range) nothing (swapped kind n x) (swapped_fits profile kind n a.range) nothing_fits (swapped_sound profile kind n a.range x p.within) (nothing_sound (swapped kind n x))
 
   pub swapped_is_number : (kind : SwapKind) (n : SwapBits) (a : Number) → IfSome (swapped_number profile kind n a) IsNumber
   swapped_is_number kind n a =
-      let f = swapped_fits kind n a.range in settled_is_number profile (swapped_range kind n a.range) nothing f.1 f.0 nothing_fits
+      settled_is_number profile (swapped_range profile kind n a.range) nothing (swapped_fits profile kind n a.range)
+      (λ first. subst (λ q. (swapped_range q kind n a.range).lo ≤ (swapped_range q kind n a.range).hi) (sym first) (swapped_ordered kind n a.range)) nothing_fits
 
   pub joined_left : (a b : Number) (n : ℕ) → IsNumber a → IsNumber b → IsOf a n → Leaves n (joined_numbers profile a b)
   joined_left a b n ka kb h =
@@ -229,4 +250,4 @@ module _ (profile : Profile) where
       let fa = ka.range.fits in
       let fb = kb.range.fits in
       let le = ka.range.ordered in
-      settled_is_number profile (least_over a.range b.range) (common a.bits b.bits) (omega arith) (omega arith) (common_fits a.bits b.bits ka.bits)
+      settled_is_number profile (least_over a.range b.range) (common a.bits b.bits) (omega arith) (λ _. omega arith) (common_fits a.bits b.bits ka.bits)

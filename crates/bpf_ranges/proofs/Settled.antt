@@ -1,5 +1,5 @@
 -- What is tightened still stands for what was known.
-use Rattle.std.proofs.Common.{◌≡◌, ℕ, ◌&&◌, ◌-◌, ◌^◌, ◌<◌, ◌≤◌, true, eqb, leb, sym, ap, ◌∙◌, subst, arith, Option}
+use Rattle.std.proofs.Common.{◌≡◌, refl, ℕ, ◌&&◌, ◌-◌, ◌^◌, ◌<◌, ◌≤◌, true, eqb, leb, sym, ap, ◌∙◌, subst, arith, Option}
 use Rattle.std.specs.Prelude.{bit_and, IsSomeAnd, IfSome}
 use Rattle.std.specs.Int.{w64, leading_zeros}
 use Rattle.std.proofs.lemmas.Nat.{and_le_l, and_comm, and_assoc, and-not, or_lt, pow_pos}
@@ -107,6 +107,6 @@ tightened_is_number r b f g =
     let c = bits_within r b in
     possible_is_number (range_with c r) c (omega arith) (record { zeros = or_lt 64 b.zeros (above r.hi) g.zeros (above_fits r.hi); ones = g.ones })
 
-pub settled_is_number : (profile : Profile) (r : Range) (b : Bits) → r.hi < 2 ^ 64 → r.lo ≤ r.hi → IsBits b → IfSome (settled profile r b) IsNumber
-settled_is_number First r b f h g = record { range = record { ordered = h; fits = f }; bits = nothing_fits }
+pub settled_is_number : (profile : Profile) (r : Range) (b : Bits) → r.hi < 2 ^ 64 → (profile ≡ First → r.lo ≤ r.hi) → IsBits b → IfSome (settled profile r b) IsNumber
+settled_is_number First r b f h g = record { range = record { ordered = h refl; fits = f }; bits = nothing_fits }
 settled_is_number Second r b f h g = tightened_is_number r b f g

@@ -6,6 +6,7 @@ use Rattle.bpf_alu.specs.declared.Width.{Width}
 use Rattle.bpf_alu.specs.declared.Op.{Op}
 use Rattle.bpf_alu.specs.declared.Op.TheVariants.{Add, Sub, Mul, Div, SignedDiv, Or, And, Xor, Lsh, Rsh, Arsh, Neg, Mod, SignedMod, Mov, Movsx8, Movsx16, Movsx32}
 use Rattle.bpf_alu.specs.declared.SwapKind.{SwapKind}
+use Rattle.bpf_alu.specs.declared.SwapKind.TheVariants.{ToLittle}
 use Rattle.bpf_alu.specs.declared.SwapBits.{SwapBits}
 use Rattle.bpf_ranges.specs.declared.range.Range.{Range}
 use Rattle.bpf_ranges.specs.declared.bits.Bits.{Bits}
@@ -109,6 +110,14 @@ settled Second r b = tightened r b
 abbrev pub cut : ℕ → Range → Range
 cut k r = if nat_lt r.hi (2 ^ k) then r else (if is_single r then single (r.lo % 2 ^ k) else full k)
 
+-- by the second profile the numbers of any other wrap
+abbrev pub low_range : ℕ → Range → Range
+low_range k r = if nat_lt r.hi (2 ^ k) then r else wrapped_range k r.lo r.hi
+
+abbrev pub cut_by : Profile → ℕ → Range → Range
+cut_by First k r = cut k r
+cut_by Second k r = low_range k r
+
 -- which operands an operation reads: a move the second alone, a negation the first alone
 abbrev pub reads_first : Op → Bool
 reads_first Mov = false
@@ -151,10 +160,43 @@ range_else Movsx8 k a b = full k
 range_else Movsx16 k a b = full k
 range_else Movsx32 k a b = full k
 
--- the second profile wraps sums and differences
+-- ---- what the second profile makes of operations
+
+-- a difference of k bits, which wraps
+abbrev pub difference_range : ℕ → Range → Range → Range
+difference_range k a b = wrapped_range k (a.lo + (2 ^ k - b.hi)) (a.hi + (2 ^ k - b.lo))
+
+-- a shift to the left by fewer than k of which none passes 2 ^ k; by one count it is that of the first profile
+abbrev pub shifted_left : ℕ → Range → Range → Range
+shifted_left k a b =
+    if nat_lt b.hi k && nat_lt (a.hi * 2 ^ b.hi) (2 ^ k) then range (a.lo * 2 ^ b.lo) (a.hi * 2 ^ b.hi) else range_else Lsh k a b
+
+-- whether no number of two ranges is a negative one of k bits
+abbrev pub are_positive : ℕ → Range → Range → Bool
+are_positive k a b = nat_lt a.hi (2 ^ (k - 1)) && nat_lt b.hi (2 ^ (k - 1))
+
+-- numbers of n bits, of one sign, as signed numbers of k bits
+abbrev pub signed_range_of : ℕ → ℕ → Range → Range
+signed_range_of n k r =
+    if nat_lt r.hi (2 ^ (n - 1)) then r
+    else (if nat_le (2 ^ (n - 1)) r.lo then range (r.lo + (2 ^ k - 2 ^ n)) (r.hi + (2 ^ k - 2 ^ n)) else full k)
+
+-- the low n bits of an operand, with their sign extended to k bits
+abbrev pub extended : ℕ → ℕ → Range → Range
+extended n k r = signed_range_of n k (low_range n r)
+
+-- The second profile wraps sums, differences and negations; it shifts by a range; numbers without sign it divides as such, also where the
+-- operation has signs; and it extends signs.
 abbrev pub range_by : Profile → Op → ℕ → Range → Range → Range
 range_by Second Add k a b = wrapped_range k (a.lo + b.lo) (a.hi + b.hi)
-range_by Second Sub k a b = wrapped_range k (a.lo + (2 ^ k - b.hi)) (a.hi + (2 ^ k - b.lo))
+range_by Second Sub k a b = difference_range k a b
+range_by Second Neg k a b = difference_range k (single 0) a
+range_by Second Lsh k a b = shifted_left k a b
+range_by Second SignedDiv k a b = if are_positive k a b then range_else Div k a b else full k
+range_by Second SignedMod k a b = if are_positive k a b then range_else Mod k a b else full k
+range_by Second Movsx8 k a b = extended 8 k b
+range_by Second Movsx16 k a b = extended 16 k b
+range_by Second Movsx32 k a b = extended 32 k b
 range_by profile op k a b = range_else op k a b
 
 -- the range of a result, of operands of the operation's width: single operands give the single value
@@ -162,7 +204,7 @@ abbrev pub range_of : Profile → Op → Width → Range → Range → Range
 range_of profile op w a b = if are_single op a b then single (value op w a.lo b.lo) else range_by profile op (bits w) a b
 
 abbrev pub range_result : Profile → Op → Width → Range → Range → Range
-range_result profile op w a b = range_of profile op w (cut (bits w) a) (cut (bits w) b)
+range_result profile op w a b = range_of profile op w (cut_by profile (bits w) a) (cut_by profile (bits w) b)
 
 -- ---- the bits of operations
 
@@ -193,12 +235,13 @@ numbers profile op w a b =
 
 -- ---- byte swaps and joins
 
--- what a byte swap leaves: a number of the bytes that it works on
-abbrev pub swapped_range : SwapKind → SwapBits → Range → Range
-swapped_range kind n a = if is_single a then single (swapped kind n a.lo) else full (8 * byte_count n)
+-- what a byte swap leaves: a number of the bytes that it works on; by the second profile the low bytes, where it only cuts
+abbrev pub swapped_range : Profile → SwapKind → SwapBits → Range → Range
+swapped_range Second ToLittle n a = low_range (8 * byte_count n) a
+swapped_range profile kind n a = if is_single a then single (swapped kind n a.lo) else full (8 * byte_count n)
 
 abbrev pub swapped_number : Profile → SwapKind → SwapBits → Number → Option Number
-swapped_number profile kind n a = settled profile (swapped_range kind n a.range) nothing
+swapped_number profile kind n a = settled profile (swapped_range profile kind n a.range) nothing
 
 -- what is known of a number that is one of two: the least range over both, and the bits that they share
 abbrev pub joined_numbers : Profile → Number → Number → Option Number

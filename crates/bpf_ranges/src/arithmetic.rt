@@ -1,10 +1,10 @@
 //! Numbers through an operation: one function for each row of the table.
 
 ghost use Rattle.std.specs.Prelude.{◌≡◌, ◌<◌, ◌≤◌, ◌^◌, ◌-◌, ◌*◌, ◌+◌, ◌%◌, min, max, IfSome};
-ghost use Rattle.bpf_alu.specs.Value.{bits};
-ghost use Rattle.bpf_ranges.specs.Numbers.{IsRange, IsNumber, up_to, full, cut, range_else, ones_above, shifted_right, are_single, range_by, range_result, cut_number, bits_right, bits_after, numbers, swapped_range, swapped_number};
+ghost use Rattle.bpf_alu.specs.Value.{bits, byte_count};
+ghost use Rattle.bpf_ranges.specs.Numbers.{IsRange, IsNumber, up_to, full, cut, cut_by, range_else, ones_above, shifted_right, are_single, difference_range, shifted_left, are_positive, signed_range_of, extended, range_by, range_result, cut_number, bits_right, bits_after, numbers, swapped_range, swapped_number};
 
-use crate::bits::Bits;
+use crate::bits::{Bits, low_ones};
 use crate::number::{Number, ones};
 use crate::range::Range;
 use bpf_alu::{Op, SwapBits, SwapKind, Width, eval, swap};
@@ -50,6 +50,16 @@ fn cut_to(width: Width, r: Range) -> Range
         Range::single(low_bits(width, r.lo))
     } else {
         Range::full(width)
+    }
+}
+
+/// An operand, cut to the width by a profile.
+fn cut_by_profile(profile: Profile, width: Width, r: Range) -> Range
+    ensures { result ≡ cut_by profile (bits width) r }
+{
+    match profile {
+        Profile::First => cut_to(width, r),
+        Profile::Second => r.low(bits_of(width)),
     }
 }
 
@@ -191,7 +201,7 @@ fn wrapped_sum_of(width: Width, a: Range, b: Range) -> Range
 fn wrapped_difference_of(width: Width, a: Range, b: Range) -> Range
     requires left { b.lo ≤ 2 ^ bits width }
     requires right { b.hi ≤ 2 ^ bits width }
-    ensures { result ≡ range_by Profile.Second Op.Sub (bits width) a b }
+    ensures { result ≡ difference_range (bits width) a b }
 {
     let size: u128 = match width {
         Width::W32 => 1 << 32,
@@ -200,6 +210,88 @@ fn wrapped_difference_of(width: Width, a: Range, b: Range) -> Range
     let lo = u128::from(a.lo) + (size - u128::from(b.hi));
     let hi = u128::from(a.hi) + (size - u128::from(b.lo));
     Range::wrapped(width, lo, hi)
+}
+
+/// A number that is shifted to the left, and fits.
+fn moved_up(n: u64, count: u64) -> u64
+    requires short { count < 64 }
+    requires fits { n * 2 ^ count < 2 ^ 64 }
+    ensures { result ≡ n * 2 ^ count }
+{
+    n << count
+}
+
+/// By the second profile the count of a shift to the left may be a range.
+fn wide_left_shift_of(width: Width, a: Range, b: Range) -> Range
+    requires left { IsRange a }
+    requires right { IsRange b }
+    ensures { result ≡ shifted_left (bits width) a b }
+{
+    if b.hi >= bits_of(width) {
+        return left_shift_of(width, a, b);
+    }
+    match a.hi.checked_mul(1 << b.hi) {
+        Some(hi) if hi <= greatest(width) => Range {
+            lo: moved_up(a.lo, b.lo),
+            hi,
+        },
+        _ => left_shift_of(width, a, b),
+    }
+}
+
+/// Whether no number of two ranges is a negative one.
+fn are_positive(width: Width, a: Range, b: Range) -> bool
+    ensures { result ≡ are_positive (bits width) a b }
+{
+    let half = greatest(width) / 2;
+    a.hi <= half && b.hi <= half
+}
+
+/// By the second profile numbers without a sign are divided as such.
+fn signed_quotient_of(width: Width, a: Range, b: Range) -> Range
+    requires left { IsRange a }
+    requires right { IsRange b }
+    ensures { result ≡ range_by Profile.Second Op.SignedDiv (bits width) a b }
+{
+    if are_positive(width, a, b) {
+        quotient_of(width, a, b)
+    } else {
+        Range::full(width)
+    }
+}
+
+fn signed_remainder_of(width: Width, a: Range, b: Range) -> Range
+    requires left { IsRange a }
+    requires right { IsRange b }
+    ensures { result ≡ range_by Profile.Second Op.SignedMod (bits width) a b }
+{
+    if are_positive(width, a, b) {
+        remainder_of(width, a, b)
+    } else {
+        Range::full(width)
+    }
+}
+
+/// The low `count` bits of an operand, with their sign extended, where they have one sign.
+fn extended_of(count: u64, width: Width, b: Range) -> Range
+    requires some { 1 ≤ count }
+    requires short { count ≤ 32 }
+    requires operand { IsRange b }
+    ensures { result ≡ extended count (bits width) b }
+{
+    let low = b.low(count);
+    let half = 1 << (count - 1);
+    if low.hi < half {
+        low
+    } else if low.lo >= half {
+        let ones = greatest(width) - low_ones(count);
+        Range {
+            lo: low.lo + ones,
+            hi: low.hi + ones,
+        }
+    } else {
+        Range::full(width)
+    }
 }
 
 /// The range of a result, of operands that were cut to the width and are not all single numbers.
@@ -240,12 +332,20 @@ fn reads_single(op: Op, a: Range, b: Range) -> bool
 fn range_by_profile(profile: Profile, op: Op, width: Width, a: Range, b: Range) -> Range
     requires left { IsRange a }
     requires right { IsRange b }
+    requires left_fits { a.hi < 2 ^ bits width }
     requires fits { b.hi < 2 ^ bits width }
     ensures { result ≡ range_by profile op (bits width) a b }
 {
     match (profile, op) {
         (Profile::Second, Op::Add) => wrapped_sum_of(width, a, b),
         (Profile::Second, Op::Sub) => wrapped_difference_of(width, a, b),
+        (Profile::Second, Op::Neg) => wrapped_difference_of(width, Range::single(0), a),
+        (Profile::Second, Op::Lsh) => wide_left_shift_of(width, a, b),
+        (Profile::Second, Op::SignedDiv) => signed_quotient_of(width, a, b),
+        (Profile::Second, Op::SignedMod) => signed_remainder_of(width, a, b),
+        (Profile::Second, Op::Movsx8) => extended_of(8, width, b),
+        (Profile::Second, Op::Movsx16) => extended_of(16, width, b),
+        (Profile::Second, Op::Movsx32) => extended_of(32, width, b),
         _ => range_of_op(op, width, a, b),
     }
 }
@@ -256,8 +356,8 @@ fn result_range(profile: Profile, op: Op, width: Width, a: Range, b: Range) -> R
     requires right { IsRange b }
     ensures { result ≡ range_result profile op width a b }
 {
-    let a = cut_to(width, a);
-    let b = cut_to(width, b);
+    let a = cut_by_profile(profile, width, a);
+    let b = cut_by_profile(profile, width, b);
     if reads_single(op, a, b) {
         Range::single(eval(op, width, a.lo, b.lo))
     } else {
@@ -312,9 +412,20 @@ fn result_bits(op: Op, width: Width, a: Number, b: Number) -> Bits
     bits_of_op(op, width, cut_number_to(width, a), cut_number_to(width, b))
 }
 
-/// The range of what a byte swap leaves.
-fn range_swapped(kind: SwapKind, bits: SwapBits, a: Range) -> Range
-    ensures { result ≡ swapped_range kind bits a }
+/// How many bits a byte swap works on.
+fn swapped_bits(bits: SwapBits) -> u64
+    ensures { result ≡ 8 * byte_count bits }
+{
+    match bits {
+        SwapBits::B16 => 16,
+        SwapBits::B32 => 32,
+        SwapBits::B64 => 64,
+    }
+}
+
+/// The range of what a byte swap leaves, by the first profile.
+fn range_turned(kind: SwapKind, bits: SwapBits, a: Range) -> Range
+    ensures { result ≡ swapped_range Profile.First kind bits a }
 {
     if a.is_single() {
         return Range::single(swap(kind, bits, a.lo));
@@ -323,6 +434,16 @@ fn range_swapped(kind: SwapKind, bits: SwapBits, a: Range) -> Range
         SwapBits::B16 => Range::up_to(0xffff),
         SwapBits::B32 => Range::up_to(0xffff_ffff),
         SwapBits::B64 => Range::up_to(u64::MAX),
+    }
+}
+
+/// The range of what a byte swap leaves.
+fn range_swapped(profile: Profile, kind: SwapKind, bits: SwapBits, a: Range) -> Range
+    ensures { result ≡ swapped_range profile kind bits a }
+{
+    match (profile, kind) {
+        (Profile::Second, SwapKind::ToLittle) => a.low(swapped_bits(bits)),
+        _ => range_turned(kind, bits, a),
     }
 }
 
@@ -343,7 +464,7 @@ impl Number {
         ensures table { result ≡ swapped_number profile kind bits self }
         ensures number { IfSome result IsNumber }
     {
-        let range = range_swapped(kind, bits, self.range);
+        let range = range_swapped(profile, kind, bits, self.range);
         Number::settled(profile, range, Bits::nothing())
     }
 }

@@ -140,7 +140,7 @@ fn low_known_of(a: Bits, b: Bits) -> u64
 }
 
 /// A number of `count` ones.
-fn low_ones(count: u64) -> u64
+pub fn low_ones(count: u64) -> u64
     requires { count ≤ 64 }
     ensures { result ≡ 2 ^ count - 1 }
 {

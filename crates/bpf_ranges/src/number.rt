@@ -1,6 +1,7 @@
 //! What is known of a number: a range and bits, of which each tells of the other.
 
 ghost use Rattle.std.specs.Prelude.{◌≡◌, ◌≤◌, IfSome};
+ghost use Rattle.bpf_semantics.specs.declared.profile.Profile.TheVariants.{First};
 ghost use Rattle.bpf_ranges.specs.Numbers.{IsNumber, ones_above, above, has_bits, known_number, number_of, tightened, settled, joined_numbers};
 
 use crate::bits::Bits;
@@ -76,9 +77,9 @@ impl Number {
         }
     }
 
-    /// What a profile keeps of a range and bits: the first one the range alone.
+    /// What a profile keeps of a range and bits: the first one the range alone, which is not empty.
     pub fn settled(profile: Profile, range: Range, bits: Bits) -> Option<Number>
-        requires { range.lo ≤ range.hi }
+        requires { profile ≡ First → range.lo ≤ range.hi }
         ensures table { result ≡ settled profile range bits }
         ensures number { IfSome result IsNumber }
     {

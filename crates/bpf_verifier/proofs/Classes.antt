@@ -1,5 +1,5 @@
 -- Each class of instructions: where no rule is broken it does not fault, and what follows is admitted by an edge.
-use Rattle.std.proofs.Common.{◌≡◌, ◌≢◌, ℕ, ℤ, pos, ◌+◌, ◌-◌, ◌*◌, ◌%◌, ◌^◌, ◌<◌, Bool, true, false, not, ◌||◌, eqb, List, [], ◌∷◌, length, set, Option, Some, None, Result, Ok, Err, refl, sym, ap, ◌∙◌, subst, inl, inr, arith}
+use Rattle.std.proofs.Common.{◌≡◌, ◌≢◌, ℕ, ℤ, pos, ◌+◌, ◌-◌, ◌*◌, ◌%◌, ◌^◌, ◌<◌, Bool, true, false, not, ◌||◌, eqb, List, [], ◌∷◌, length, set, Option, Some, None, Result, Ok, Err, refl, sym, ap, ◌∙◌, subst, inl, inr, arith, length-set}
 use Rattle.std.specs.Prelude.{IfOk, ◌+ℤ◌, unwrap_or}
 use Rattle.std.proofs.Math.Nat.{mod-lt, mod-eq_of_lt}
 use Rattle.std.proofs.lemmas.Nat.{pow_pos}
@@ -52,11 +52,13 @@ use Rattle.bpf_verifier.specs.Table.{target_edge, edges_from, AreKinds}
 use Rattle.bpf_verifier.proofs.SameReads.{reads_called}
 use Rattle.bpf_verifier.proofs.Words.{wrapped_below, cut_word, size_fits, some_bytes, bytes_low, length_low}
 use Rattle.bpf_verifier.proofs.Fits.{IsWord, FitsRow, at_learn, SomeEdge}
-use Rattle.bpf_verifier.proofs.StackCells.{values_of, values, value_at, register_fits, written_register}
+use Rattle.bpf_verifier.proofs.StackCells.{values_of, values, value_at, register_fits, written_register, has_eleven}
 use Rattle.bpf_verifier.proofs.CellSteps.{touched_fits, stored_fits, loaded_fits}
 use Rattle.bpf_verifier.specs.declared.cell_part.CellPart.{CellPart}
 use Rattle.bpf_verifier.specs.declared.pair.Pairs.{Pairs}
 use Rattle.bpf_verifier.proofs.Together.{HoldPairs}
+use Rattle.bpf_verifier.proofs.Summed.{summed_fits}
+use Rattle.bpf_verifier.proofs.RowSteps.{kinds_set}
 use Rattle.bpf_verifier.proofs.Refined.{refined_is_long, refined_kinds}
 use Rattle.bpf_verifier.specs.Sums.{KnownSums}
 use Rattle.bpf_verifier.proofs.SumSteps.{AllHold, told_fits}
@@ -232,12 +234,12 @@ module _ (sound : (profile : Profile) → IsSoundTable profile) (p : Program) (i
   -- ---- what follows
   -- an edge that admits the state, and a memory as it was laid out
   abbrev pub Lands : Insn → State → Type 0
-  Lands x t = SomeEdge t.slot (values p.profile t) (edges_from p.profile (callee_in p.sigs x) sums i row x) × IsMemory p t.memory
+  Lands x t = SomeEdge t.slot (values p.profile t) (edges_from p.profile (callee_in p.sigs x) sums pairs i row x) × IsMemory p t.memory
 
   -- a number written into a register, whose kind is told by an edge to the next slot
-  written_lands : (x : Insn) (r : Register) (k : Kind) (v : ℕ) (t : State) → edges_from p.profile (callee_in p.sigs x) sums i row x ≡ (i + 1, with_kind row r k) ∷ [] → Admits k (Some v) → v < 2 ^ 64 → t ≡ advanced (with_register r v s) → Lands x t
+  written_lands : (x : Insn) (r : Register) (k : Kind) (v : ℕ) (t : State) → edges_from p.profile (callee_in p.sigs x) sums pairs i row x ≡ (i + 1, with_kind row r k) ∷ [] → Admits k (Some v) → v < 2 ^ 64 → t ≡ advanced (with_register r v s) → Lands x t
   written_lands x r k v t es a w e =
-      let P : State → Type 0 = λ u. SomeEdge u.slot (values p.profile u) (edges_from p.profile (callee_in p.sigs x) sums i row x) × IsMemory p u.memory in
+      let P : State → Type 0 = λ u. SomeEdge u.slot (values p.profile u) (edges_from p.profile (callee_in p.sigs x) sums pairs i row x) × IsMemory p u.memory in
       subst P (sym e) (subst (SomeEdge (s.slot +ℤ pos 1) (values_of p.profile (set s.registers (number r) (Some v)) s.memory.stack)) (sym es) (inl (one_on s.slot i at, written_register p.profile row s long fits r k (Some v) a w)), memory)
 
   alu_lands : (o : Op) (w : Width) (dst : Register) (src : Operand) (t : State) → AllNone (class_rules p Unknown pairs row (insn.Alu o w dst src)) → Does (calls_of p.sigs) (insn.Alu o w dst src) s t → Lands (insn.Alu o w dst src) t
@@ -247,7 +249,16 @@ module _ (sound : (profile : Profile) → IsSoundTable profile) (p : Program) (i
       let m = number_in s dst in
       let n = operand_in s src in
       let admitted = (sound p.profile).operation o w (kind_at row dst) (kind_from p.profile row src) m n (at_kind dst) (operand_kind src) (number_fits _ a.1) b.1 (λ _. admits_number _ _ a.0) (λ _. b.0) in
-      written_lands (insn.Alu o w dst src) dst (result_kind (transfer_of p.profile o w (kind_at row dst) (kind_from p.profile row src))) (value o w m n) t refl (ok_result _ (Some (value o w m n)) h.0 admitted) (value_word o w m n) d
+      let x = insn.Alu o w dst src in
+      let v = value o w m n in
+      let k = result_kind (transfer_of p.profile o w (kind_at row dst) (kind_from p.profile row src)) in
+      let after = with_kind row dst k in
+      let long' : IsLong p.profile after = length-set _ _ _ ∙ long in
+      let kinds' : AreKinds after = kinds_set row (number dst) k kinds (result_is_kind (transfer_of p.profile o w (kind_at row dst) (kind_from p.profile row src)) ((sound p.profile).operation_kind o w (kind_at row dst) (kind_from p.profile row src) (at_kind dst) (operand_kind src))) in
+      let wrote : FitsRow after (values p.profile (advanced (with_register dst v s))) = written_register p.profile row s long fits dst k (Some v) (ok_result _ (Some v) h.0 admitted) (value_word o w m n) in
+      let P : State → Type 0 = λ u. SomeEdge u.slot (values p.profile u) (edges_from p.profile (callee_in p.sigs x) sums pairs i row x) × IsMemory p u.memory in
+      subst P (sym d)
+      (inl (one_on s.slot i at, summed_fits (sound Second) p.profile (calls_of p.sigs) s (advanced (with_register dst v s)) (has_eleven p.profile row s long fits) after long' kinds' wrote x pairs hold refl), memory)
 
   swap_lands : (kind : SwapKind) (n : SwapBits) (dst : Register) (t : State) → AllNone (class_rules p Unknown pairs row (insn.Swap kind n dst)) → Does (calls_of p.sigs) (insn.Swap kind n dst) s t → Lands (insn.Swap kind n dst) t
   swap_lands kind n dst t h d =
@@ -295,7 +306,7 @@ module _ (sound : (profile : Profile) → IsSoundTable profile) (p : Program) (i
 
   store_lands : (size : Size) (r : Register) (offset : ℤ) (src : Operand) (t : State) → AllNone (class_rules p Unknown pairs row (insn.Store size r offset src)) → Does (calls_of p.sigs) (insn.Store size r offset src) s t → Lands (insn.Store size r offset src) t
   store_lands size r offset src t h d =
-      let P : State → Type 0 = λ u. SomeEdge u.slot (values p.profile u) (edges_from p.profile Unknown sums i row (insn.Store size r offset src)) × IsMemory p u.memory in
+      let P : State → Type 0 = λ u. SomeEdge u.slot (values p.profile u) (edges_from p.profile Unknown sums pairs i row (insn.Store size r offset src)) × IsMemory p u.memory in
       let kept = store_fits size r offset src d.0 (part_at p.profile (kind_at row r) offset (size_bytes size)) (untold_not _ OutsideWindow h.0) d.1 refl in
       subst P (sym d.2) (inl (one_on s.slot i at, kept), store_kept p s.memory d.0 (address s r offset) size (operand_in s src) memory d.1)
 
@@ -340,7 +351,7 @@ module _ (sound : (profile : Profile) → IsSoundTable profile) (p : Program) (i
 
   branch_lands : (c : Cond) (w : Width) (left : Register) (right : Operand) (o : ℤ) (k : ℕ) (t : State) → landing i o ≡ pos k → any_unset row (left ∷ operand_reads right) ≡ false → Does (calls_of p.sigs) (insn.JumpIf c w left right o) s t → Lands (insn.JumpIf c w left right o) t
   branch_lands c w left right o k t e h d =
-      let P : State → Type 0 = λ u. SomeEdge u.slot (values p.profile u) (edges_from p.profile Unknown sums i row (insn.JumpIf c w left right o)) × IsMemory p u.memory in
+      let P : State → Type 0 = λ u. SomeEdge u.slot (values p.profile u) (edges_from p.profile Unknown sums pairs i row (insn.JumpIf c w left right o)) × IsMemory p u.memory in
       subst P (sym d)
       (cond_both (condition c w (number_in s left) (operand_in s right)) (jumped o s) (advanced s) P
       (λ yes. (inr (jump_edge (landing i o) k (refined p.profile c w left right true row) (s.slot +ℤ pos 1 +ℤ o) e (landed o) (branch_fits c w left right true h yes)), memory))
@@ -348,14 +359,14 @@ module _ (sound : (profile : Profile) → IsSoundTable profile) (p : Program) (i
 
   wide_lands : (dst : Register) (n : ℕ) (t : State) → n < 2 ^ 64 → Does (calls_of p.sigs) (insn.Wide dst n) s t → Lands (insn.Wide dst n) t
   wide_lands dst n t small d =
-      let P : State → Type 0 = λ u. SomeEdge u.slot (values p.profile u) (edges_from p.profile Unknown sums i row (insn.Wide dst n)) × IsMemory p u.memory in
+      let P : State → Type 0 = λ u. SomeEdge u.slot (values p.profile u) (edges_from p.profile Unknown sums pairs i row (insn.Wide dst n)) × IsMemory p u.memory in
       let two : pos (i + 2) ≡ (s.slot +ℤ pos 1 +ℤ pos 1) = two_on s.slot i at in
       subst P (sym d) (inl (two, written_register p.profile row s long fits dst (one_number p.profile n) (Some n) ((sound p.profile).range (single n) n small (omega arith, omega arith)) small), memory)
 
   call_lands : (n : ℕ) (t : State) → AllNone (class_rules p (callee_of p.sigs n) pairs row (insn.Call n)) → Does (calls_of p.sigs) (insn.Call n) s t → Lands (insn.Call n) t
   call_lands n t h d =
       let callee = callee_of p.sigs n in
-      let P : State → Type 0 = λ u. SomeEdge u.slot (values p.profile u) (edges_from p.profile callee sums i row (insn.Call n)) × IsMemory p u.memory in
+      let P : State → Type 0 = λ u. SomeEdge u.slot (values p.profile u) (edges_from p.profile callee sums pairs i row (insn.Call n)) × IsMemory p u.memory in
       let a = answered sound p row s limits long fits memory at_number pairs hold n callee d.0 d.1 d.2 in
       subst P (sym d.3) (inl (one_on s.slot i at, row_fits sound p row s limits long fits memory at_number pairs hold n callee d.0 d.1 (untold_not _ ArgumentRule h.1.0) d.2), a.2)
 

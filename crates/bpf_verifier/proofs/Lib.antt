@@ -14,6 +14,7 @@ pub mod Touches
 pub mod Refined
 pub mod SumSteps
 pub mod Together
+pub mod Summed
 pub mod CallSteps
 pub mod Classes
 pub mod NamedRows

@@ -19,6 +19,7 @@ use Rattle.bpf_verifier.specs.Rules.{row_taken}
 use Rattle.bpf_verifier.specs.Sums.{KnownSums, row_on}
 use Rattle.bpf_verifier.specs.Naming.{named}
 use Rattle.bpf_verifier.specs.Table.{Edge, next_edge, target_edge, edges_from, named_edges}
+use Rattle.bpf_verifier.specs.declared.pair.Pairs.{Pairs}
 use Rattle.bpf_verifier.proofs.Fits.{FitsRow, IsRow, SomeEdge}
 use Rattle.bpf_verifier.proofs.StackCells.{values}
 use Rattle.bpf_copies.specs.Names.{Names, name_at, AreNamed}
@@ -43,24 +44,24 @@ same_names names s t e h a b same =
     ∙ h a b same
     ∙ sym (ap (λ rs. value Add W64 (unwrap_or (unwrap_or (slice_get rs (number b)) None) 0) (name_at names a).distance) e)
 
-module _ (sound : IsSoundTable Second) (profile : Profile) (calls : Calls) (callee : Callee) (sums : KnownSums) (names : Names) (i : ℕ) (row : Row) (s t : State) (are : AreNamed names s) where
+module _ (sound : IsSoundTable Second) (profile : Profile) (calls : Calls) (callee : Callee) (sums : KnownSums) (pairs : Pairs) (names : Names) (i : ℕ) (row : Row) (s t : State) (are : AreNamed names s) where
   abbrev Edges : Insn → Type 0
-  Edges x = SomeEdge t.slot (values profile t) (edges_from profile callee sums i row x)
+  Edges x = SomeEdge t.slot (values profile t) (edges_from profile callee sums pairs i row x)
 
   abbrev NamedEdges : Insn → Type 0
-  NamedEdges x = SomeEdge t.slot (values profile t) (named_edges profile callee sums names i row x)
+  NamedEdges x = SomeEdge t.slot (values profile t) (named_edges profile callee sums pairs names i row x)
 
-  tested : (x : Insn) → t.registers ≡ s.registers → IsRow profile (row_on profile callee sums row x) → IsRow profile (row_taken profile row x) → Edges x → NamedEdges x
+  tested : (x : Insn) → t.registers ≡ s.registers → IsRow profile (row_on profile callee sums pairs row x) → IsRow profile (row_taken profile row x) → Edges x → NamedEdges x
   tested x e on taken edges =
       let there = same_names names s t e are in
-      next_still t.slot (values profile t) (next_of i x) (row_on profile callee sums row x) (named x profile names (row_on profile callee sums row x)) _ _
-      (λ f. (named_fits sound profile t names there x (row_on profile callee sums row x) (record { long = on.long; kinds = on.kinds; fits = f })).fits)
+      next_still t.slot (values profile t) (next_of i x) (row_on profile callee sums pairs row x) (named x profile names (row_on profile callee sums pairs row x)) _ _
+      (λ f. (named_fits sound profile t names there x (row_on profile callee sums pairs row x) (record { long = on.long; kinds = on.kinds; fits = f })).fits)
       (target_still t.slot (values profile t) (target_of i x) (row_taken profile row x) (named x profile names (row_taken profile row x))
       (λ f. (named_fits sound profile t names there x (row_taken profile row x) (record { long = taken.long; kinds = taken.kinds; fits = f })).fits))
       edges
 
   -- names that hold before an instruction change no edge but to one that still admits what a run finds there
-  pub named_lands : (x : Insn) → Does calls x s t → IsRow profile (row_on profile callee sums row x) → IsRow profile (row_taken profile row x) → Edges x → NamedEdges x
+  pub named_lands : (x : Insn) → Does calls x s t → IsRow profile (row_on profile callee sums pairs row x) → IsRow profile (row_taken profile row x) → Edges x → NamedEdges x
   named_lands (insn.JumpIf c w l r o) d on taken edges =
       tested (insn.JumpIf c w l r o)
       (ap (λ u. u.registers) d ∙ cond_both (condition c w (number_in s l) (operand_in s r)) (jumped o s) (advanced s) (λ u. u.registers ≡ s.registers) (λ _. refl) (λ _. refl))

@@ -282,12 +282,12 @@ module _ (sound : (profile : Profile) → IsSoundTable profile) (p : Program) (r
   right_word o = most_word (kind_from Second row o) (kind_operand (sound Second) p.profile s row long kinds fits o)
 
   -- a condition that isn't taken, where no jump leads to the next slot: so it is the row on to it that admits the state
-  passed : (c : Cond) (w : Width) (left : Register) (right : Operand) (o : ℤ) → slice_get p.code i ≡ Some (insn.JumpIf c w left right o) → leads_before p.code (suc i) (suc i) ≡ false → SomeEdge (s.slot +ℤ pos 1) (values p.profile (advanced s)) (edges_from p.profile (callee_in p.sigs (insn.JumpIf c w left right o)) (sums_at p.code i) i row (insn.JumpIf c w left right o)) → HoldPairs (pairs_after p.profile (callee_in p.sigs (insn.JumpIf c w left right o)) (sums_at p.code i) row (insn.JumpIf c w left right o) (pairs_at p rows i)) (advanced s)
+  passed : (c : Cond) (w : Width) (left : Register) (right : Operand) (o : ℤ) → slice_get p.code i ≡ Some (insn.JumpIf c w left right o) → leads_before p.code (suc i) (suc i) ≡ false → SomeEdge (s.slot +ℤ pos 1) (values p.profile (advanced s)) (edges_from p.profile (callee_in p.sigs (insn.JumpIf c w left right o)) (sums_at p.code i) (pairs_at p rows i) i row (insn.JumpIf c w left right o)) → HoldPairs (pairs_after p.profile (callee_in p.sigs (insn.JumpIf c w left right o)) (sums_at p.code i) row (insn.JumpIf c w left right o) (pairs_at p rows i)) (advanced s)
   passed c w left right o there free (inl e) =
       let x = insn.JumpIf c w left right o in
       let sums = sums_at p.code i in
       let after = refined p.profile c w left right false row in
-      told_holds (sound Second) p.profile (advanced s) (row_on p.profile (callee_in p.sigs x) sums row x)
+      told_holds (sound Second) p.profile (advanced s) (row_on p.profile (callee_in p.sigs x) sums (pairs_at p rows i) row x)
       (told_long p.profile x sums after (refined_is_long p.profile c w left right false row long))
       (told_kinds (sound Second) p.profile x sums after (refined_kinds p.profile (sound p.profile) c w left right false row kinds))
       e.1 c w left right o p.profile sums (pairs_at p rows i) (all_same sums s (advanced s) refl adds) (same_pairs (pairs_at p rows i) s (advanced s) refl hold)
@@ -302,7 +302,7 @@ module _ (sound : (profile : Profile) → IsSoundTable profile) (p : Program) (r
   tail_none sums (Some None) pairs t = none_hold t
   tail_none sums (Some (Some q)) pairs t = none_hold t
 
-  pub pairs_held : (k : ℕ) (x : Insn) (t : State) → i < k → slice_get p.code i ≡ Some x → t.slot ≡ pos k → SomeEdge t.slot (values p.profile t) (edges_from p.profile (callee_in p.sigs x) (sums_at p.code i) i row x) → Does (calls_of p.sigs) x s t → HoldPairs (pairs_at p rows k) t
+  pub pairs_held : (k : ℕ) (x : Insn) (t : State) → i < k → slice_get p.code i ≡ Some x → t.slot ≡ pos k → SomeEdge t.slot (values p.profile t) (edges_from p.profile (callee_in p.sigs x) (sums_at p.code i) (pairs_at p rows i) i row x) → Does (calls_of p.sigs) x s t → HoldPairs (pairs_at p rows k) t
   pairs_held k (insn.Alu o w dst src) t lt there to e d = goes_on k _ t (with_register dst (value o w (number_in s dst) (operand_in s src)) s) there d refl to (alu_holds s eleven words row left_most right_most right_word o w dst src (pairs_at p rows i) hold)
   pairs_held k (insn.Swap kind n dst) t lt there to e d = goes_on k _ t _ there d refl to (none_hold _)
   pairs_held k (insn.Load size extend dst r offset) t lt there to e d = goes_on k _ t (with_register dst _ s) there d.2 refl to (all_without s eleven words dst _ (pairs_at p rows i) hold)
@@ -311,7 +311,7 @@ module _ (sound : (profile : Profile) → IsSoundTable profile) (p : Program) (r
   pairs_held k (insn.Jump (distance.Far o)) t lt there to e d = goes_to k _ t o lt there refl (sym (ap (λ v. v.slot) d) ∙ to)
   pairs_held k (insn.JumpIf c w left right o) t lt there to e d =
       let x = insn.JumpIf c w left right o in
-      let P : State → Type 0 = λ u. u.slot ≡ pos k → SomeEdge u.slot (values p.profile u) (edges_from p.profile (callee_in p.sigs x) (sums_at p.code i) i row x) → HoldPairs (pairs_at p rows k) u in
+      let P : State → Type 0 = λ u. u.slot ≡ pos k → SomeEdge u.slot (values p.profile u) (edges_from p.profile (callee_in p.sigs x) (sums_at p.code i) (pairs_at p rows i) i row x) → HoldPairs (pairs_at p rows k) u in
       subst P (sym d)
       (cond_both (condition c w (number_in s left) (operand_in s right)) (jumped o s) (advanced s) P
       (λ _ slot _. goes_to k x (jumped o s) o lt there refl slot)

@@ -40,7 +40,8 @@ use Rattle.bpf_verifier.proofs.SameReads.{reads_plain}
 use Rattle.bpf_verifier.proofs.Tables.{length_rows, table_at}
 use Rattle.bpf_verifier.proofs.SumSteps.{told_long}
 use Rattle.bpf_verifier.proofs.NamedRows.{named_long}
-use Rattle.bpf_verifier.proofs.PlainSums.{told_follows}
+use Rattle.bpf_verifier.proofs.PlainSums.{told_follows, summed_follows}
+use Rattle.bpf_verifier.proofs.Summed.{summed_long}
 use Rattle.bpf_verifier.proofs.PlainNames.{named_follows}
 use Rattle.bpf_verifier.proofs.PlainRows.{plain_number, IsNum, IsNumOrUnset, num_held, left_number, not_number, PlainAt, PlainRow, AllNum, PlainCells, readable, join_cells, GivesNumber, operand_number, register_number, alu_number, swap_result, Follows, after_follows, taken_follows, join_plain, unset_of_one}
 
@@ -165,25 +166,25 @@ module _ (p : Program) (some : 1 ≤ length p.code) (formed : IsFormed p.code) (
   same_slot : (j k : ℕ) → pos k ≡ pos j → j ≡ k
   same_slot j k e = cc
 
-  edges_plain : (i : ℕ) (names : Names) (x : Insn) (row : Row) → slice_get p.code i ≡ Some x → slice_get (table p) i ≡ Some (Some row) → IsPlainAt p.profile p.code i row → AllPlain p.profile p.code (named_edges p.profile (callee_in p.sigs x) (sums_at p.code i) names i row x)
-  edges_plain i names x row at here is =
+  edges_plain : (i : ℕ) (names : Names) (pairs : Pairs) (x : Insn) (row : Row) → slice_get p.code i ≡ Some x → slice_get (table p) i ≡ Some (Some row) → IsPlainAt p.profile p.code i row → AllPlain p.profile p.code (named_edges p.profile (callee_in p.sigs x) (sums_at p.code i) pairs names i row x)
+  edges_plain i names pairs x row at here is =
       let set = reads_set i x row at here is in
-      let on = row_on p.profile (callee_in p.sigs x) (sums_at p.code i) row x in
+      let on = row_on p.profile (callee_in p.sigs x) (sums_at p.code i) pairs row x in
       let taken = row_taken p.profile row x in
       all_append p.profile p.code _ _
       (next_plain p.profile p.code (next_of i x) (named x p.profile names on) (λ k e. carried p.profile p.code i k x row (named x p.profile names on) at is (successor i k x at (inl e) (next_leads p.code i x k formed starts at e))
-      (named_long names x p.profile p.profile on (told_long p.profile x (sums_at p.code i) _ (after_is_long p.profile (callee_in p.sigs x) row x is.long)))
-      (named_follows p.profile row on x names (told_follows p.profile row _ x (sums_at p.code i) (after_follows p.profile (callee_in p.sigs x) row x is.long is.plain is.cells (plain i x at) set)))))
+      (named_long names x p.profile p.profile on (told_long p.profile x (sums_at p.code i) _ (summed_long p.profile x pairs _ (after_is_long p.profile (callee_in p.sigs x) row x is.long))))
+      (named_follows p.profile row on x names (told_follows p.profile row _ x (sums_at p.code i) (summed_follows p.profile row _ x pairs (after_follows p.profile (callee_in p.sigs x) row x is.long is.plain is.cells (plain i x at) set))))))
       (target_plain p.profile p.code (target_of i x) (named x p.profile names taken) (λ k e. let l = target_leads p.code i x (pos k) formed at e in
       carried p.profile p.code i k x row (named x p.profile names taken) at is (successor i k x at (inr e) (subst (Leads p.code i) (same_slot l.0 k l.1) l.2))
       (named_long names x p.profile p.profile taken (taken_is_long p.profile row x is.long))
       (named_follows p.profile row taken x names (taken_follows p.profile row x (pos k) i e is.long is.plain is.cells (plain i x at) set))))
 
-  edges_of_plain : (i : ℕ) (names : Names) (x : Option Insn) (o : Option (Option Row)) → slice_get p.code i ≡ x → slice_get (table p) i ≡ o → PlainSlot p.profile p.code i o → AllPlain p.profile p.code (edges_of p names i x o)
-  edges_of_plain i names None o at here h = tt
-  edges_of_plain i names (Some x) None at here h = tt
-  edges_of_plain i names (Some x) (Some None) at here h = tt
-  edges_of_plain i names (Some x) (Some (Some row)) at here h = edges_plain i names x row at here h
+  edges_of_plain : (i : ℕ) (names : Names) (pairs : Pairs) (x : Option Insn) (o : Option (Option Row)) → slice_get p.code i ≡ x → slice_get (table p) i ≡ o → PlainSlot p.profile p.code i o → AllPlain p.profile p.code (edges_of p names pairs i x o)
+  edges_of_plain i names pairs None o at here h = tt
+  edges_of_plain i names pairs (Some x) None at here h = tt
+  edges_of_plain i names pairs (Some x) (Some None) at here h = tt
+  edges_of_plain i names pairs (Some x) (Some (Some row)) at here h = edges_plain i names pairs x row at here h
 
   first_plain : (k : ℕ) → PlainIfAny p.profile p.code k (cond (eqb k 0) (Some (entry p)) None)
   first_plain k = cond_both (eqb k 0) _ _ (PlainIfAny p.profile p.code k) (λ t. entry_at p k (eqb-true k 0 t)) (λ _. tt)
@@ -191,7 +192,7 @@ module _ (p : Program) (some : 1 ≤ length p.code) (formed : IsFormed p.code) (
   arrivals_plain : (n k : ℕ) → ((i : ℕ) → i < n → PlainSlot p.profile p.code i (slice_get (table p) i)) → PlainIfAny p.profile p.code k (arrivals p (table p) n k)
   arrivals_plain zero k h = first_plain k
   arrivals_plain (suc n) k h =
-      into_plain p.profile p.code k _ _ (edges_of_plain n (names_in p (table p) n) (slice_get p.code n) (slice_get (table p) n) refl refl (h n (omega arith))) (arrivals_plain n k (λ i lt. h i (omega arith)))
+      into_plain p.profile p.code k _ _ (edges_of_plain n (names_in p (table p) n) (pairs_at p (table p) n) (slice_get p.code n) (slice_get (table p) n) refl refl (h n (omega arith))) (arrivals_plain n k (λ i lt. h i (omega arith)))
 
   pub table_plain : (n k : ℕ) → k < n → PlainSlot p.profile p.code k (slice_get (table p) k)
   table_plain zero k h = absurd (omega arith)

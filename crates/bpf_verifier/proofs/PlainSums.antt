@@ -20,7 +20,9 @@ use Rattle.bpf_ranges.specs.declared.range.Range.{Range}
 use Rattle.bpf_ranges.specs.Transfer.{address, pointer_left, kinds_left, refine_of}
 use Rattle.bpf_semantics.specs.declared.Region.{Region}
 use Rattle.bpf_verifier.specs.Registers.{Row, kind_at, one_number, kind_from}
-use Rattle.bpf_verifier.specs.Sums.{KnownSums, most, at_most, operand_at_most, told_by, told}
+use Rattle.bpf_verifier.specs.Sums.{KnownSums, most, at_most, operand_at_most, told_by, told, summed}
+use Rattle.bpf_verifier.specs.declared.pair.Pairs.{Pairs}
+use Rattle.bpf_verifier.proofs.Summed.{summed_keeps}
 use Rattle.bpf_verifier.specs.declared.sum.Sum.{Sum}
 use Rattle.bpf_verifier.proofs.SumSteps.{told_keeps}
 use Rattle.bpf_verifier.proofs.PlainRows.{IsNum, IsNumOrUnset, PlainAt, num_or_unset, left_number, not_number, refined_numbers, cells_with_kind, Follows}
@@ -132,3 +134,11 @@ told_by_follows sum row next x f =
 
 pub told_follows : (profile : Profile) (row next : Row) (x : Insn) (sums : KnownSums) → Follows row next x → Follows row (told x profile sums next) x
 told_follows profile row next x sums f = told_keeps (λ q. Follows row q x) x profile sums next f (λ s q g. told_by_follows s row q x g)
+
+-- ---- and by what pairs tell
+
+pub summed_unset : (profile : Profile) (x : Insn) (pairs : Pairs) (row : Row) (r : Register) → kind_at row r ≡ Unset → kind_at (summed x profile pairs row) r ≡ Unset
+summed_unset profile x pairs row r u = summed_keeps (λ q. kind_at q r ≡ Unset) x profile pairs row u (λ n q _. operand_unset n (operand.Register q) row r u)
+
+pub summed_follows : (profile : Profile) (row next : Row) (x : Insn) (pairs : Pairs) → Follows row next x → Follows row (summed x profile pairs next) x
+summed_follows profile row next x pairs f = summed_keeps (λ q. Follows row q x) x profile pairs next f (λ n r _. operand_follows n (operand.Register r) row next x f)

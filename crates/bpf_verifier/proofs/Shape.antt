@@ -16,6 +16,7 @@ use Rattle.bpf_helpers.specs.Calls.{Callee}
 use Rattle.bpf_verifier.specs.Registers.{Row}
 use Rattle.bpf_verifier.specs.Rules.{row_taken}
 use Rattle.bpf_verifier.specs.Sums.{KnownSums, row_on}
+use Rattle.bpf_verifier.specs.declared.pair.Pairs.{Pairs}
 use Rattle.bpf_verifier.specs.Rows.{LeadBelow}
 use Rattle.bpf_copies.specs.Names.{Names}
 use Rattle.bpf_verifier.specs.Naming.{named}
@@ -155,9 +156,9 @@ target_all code i (Some (pos k)) row h = let l = h (pos k) refl in (subst (Leads
 target_all code i (Some (negsuc k)) row h = tt
 
 -- every edge of an instruction leads to a higher slot that starts one
-pub edges_lead : (profile : Profile) (callee : Callee) (sums : KnownSums) (names : Names) (code : List Insn) (i : ℕ) (x : Insn) (row : Row) → IsFormed code → NextStarts code → slice_get code i ≡ Some x → AllLead code i (named_edges profile callee sums names i row x)
-edges_lead profile callee sums names code i x row formed starts at =
-    all_append code i _ _ (next_all code i (next_of i x) (named x profile names (row_on profile callee sums row x)) (λ k e. next_leads code i x k formed starts at e)) (target_all code i (target_of i x) (named x profile names (row_taken profile row x)) (λ z e. target_leads code i x z formed at e))
+pub edges_lead : (profile : Profile) (callee : Callee) (sums : KnownSums) (pairs : Pairs) (names : Names) (code : List Insn) (i : ℕ) (x : Insn) (row : Row) → IsFormed code → NextStarts code → slice_get code i ≡ Some x → AllLead code i (named_edges profile callee sums pairs names i row x)
+edges_lead profile callee sums pairs names code i x row formed starts at =
+    all_append code i _ _ (next_all code i (next_of i x) (named x profile names (row_on profile callee sums pairs row x)) (λ k e. next_leads code i x k formed starts at e)) (target_all code i (target_of i x) (named x profile names (row_taken profile row x)) (λ z e. target_leads code i x z formed at e))
 
 pub target_edge_at : (z : ℤ) (k : ℕ) (row : Row) → z ≡ pos k → target_edge (Some z) row ≡ (k, row) ∷ []
 target_edge_at z k row e = ap (λ y. target_edge (Some y) row) e

@@ -48,7 +48,9 @@ use Rattle.bpf_verifier.proofs.StackCells.{values, has_eleven, stored_long, writ
 use Rattle.bpf_verifier.proofs.Fits.{FitsRow, IsRow, IsRowIfAny, AreRows, FitsSome, SomeEdge, into_is_row, into_old, into_new}
 use Rattle.bpf_verifier.proofs.Refined.{refined_is_long, refined_kinds}
 use Rattle.bpf_verifier.proofs.SumSteps.{AllHold, told_long, told_kinds, least_of, most_of, at_register}
+use Rattle.bpf_verifier.specs.declared.pair.Pairs.{Pairs}
 use Rattle.bpf_verifier.proofs.SumRuns.{none_hold, held_at}
+use Rattle.bpf_verifier.proofs.Summed.{summed_long, summed_kinds}
 use Rattle.bpf_verifier.proofs.Shape.{IsPaired, Leads, AllLead, paired_starts, edges_lead, target_leads}
 use Rattle.bpf_verifier.proofs.Places.{IsMemory}
 use Rattle.bpf_verifier.proofs.Classes.{AllNone, none_each, result_is_kind, at_number, no_fault, lands}
@@ -151,12 +153,12 @@ IsRowAt profile None = Unit {0}
 IsRowAt profile (Some o) = IsRowIfAny profile o
 
 module _ (sound : (profile : Profile) → IsSoundTable profile) (p : Program) (limits : HasLimits p) (paired : IsPaired p.code) where
-  pub on_row : (i : ℕ) (row : Row) (x : Insn) → (x ≢ insn.Tail → IsInstruction x) → IsRow p.profile row → IsRow p.profile (row_on p.profile (callee_in p.sigs x) (sums_at p.code i) row x)
-  on_row i row x is h =
+  pub on_row : (pairs : Pairs) (i : ℕ) (row : Row) (x : Insn) → (x ≢ insn.Tail → IsInstruction x) → IsRow p.profile row → IsRow p.profile (row_on p.profile (callee_in p.sigs x) (sums_at p.code i) pairs row x)
+  on_row pairs i row x is h =
       let after = row_after p.profile (callee_in p.sigs x) row x in
       record {
-        long = told_long p.profile x (sums_at p.code i) after (after_is_long p.profile (callee_in p.sigs x) row x h.long);
-        kinds = told_kinds (sound Second) p.profile x (sums_at p.code i) after (after_kinds p.profile (sound p.profile) (callee_in p.sigs x) row x is h.kinds);
+        long = told_long p.profile x (sums_at p.code i) _ (summed_long p.profile x pairs after (after_is_long p.profile (callee_in p.sigs x) row x h.long));
+        kinds = told_kinds (sound Second) p.profile x (sums_at p.code i) _ (summed_kinds (sound Second) p.profile x pairs after (after_kinds p.profile (sound p.profile) (callee_in p.sigs x) row x is h.kinds));
       }
 
   pub taken_row : (row : Row) (x : Insn) → IsRow p.profile row → IsRow p.profile (row_taken p.profile row x)
@@ -165,17 +167,17 @@ module _ (sound : (profile : Profile) → IsSoundTable profile) (p : Program) (l
   named_row : (names : Names) (x : Insn) (row : Row) → IsRow p.profile row → IsRow p.profile (named x p.profile names row)
   named_row names x row h = record { long = named_long names x p.profile p.profile row h.long; kinds = named_kinds (sound Second) names x p.profile row h.kinds }
 
-  edge_rows : (i : ℕ) (names : Names) (row : Row) (x : Insn) → (x ≢ insn.Tail → IsInstruction x) → IsRow p.profile row → AreRows p.profile (named_edges p.profile (callee_in p.sigs x) (sums_at p.code i) names i row x)
-  edge_rows i names row x is h =
+  edge_rows : (i : ℕ) (names : Names) (pairs : Pairs) (row : Row) (x : Insn) → (x ≢ insn.Tail → IsInstruction x) → IsRow p.profile row → AreRows p.profile (named_edges p.profile (callee_in p.sigs x) (sums_at p.code i) pairs names i row x)
+  edge_rows i names pairs row x is h =
       rows_append p.profile _ _
-      (next_rows p.profile (next_of i x) (named x p.profile names (row_on p.profile (callee_in p.sigs x) (sums_at p.code i) row x)) (named_row names x _ (on_row i row x is h)))
+      (next_rows p.profile (next_of i x) (named x p.profile names (row_on p.profile (callee_in p.sigs x) (sums_at p.code i) pairs row x)) (named_row names x _ (on_row pairs i row x is h)))
       (target_rows p.profile (target_of i x) (named x p.profile names (row_taken p.profile row x)) (named_row names x _ (taken_row row x h)))
 
-  edges_are_rows : (i : ℕ) (names : Names) (x : Option Insn) (row : Option (Option Row)) → slice_get p.code i ≡ x → IsRowAt p.profile row → AreRows p.profile (edges_of p names i x row)
-  edges_are_rows i names None row at h = tt
-  edges_are_rows i names (Some x) None at h = tt
-  edges_are_rows i names (Some x) (Some None) at h = tt
-  edges_are_rows i names (Some x) (Some (Some row)) at h = edge_rows i names row x (paired.instructions i x at) h
+  edges_are_rows : (i : ℕ) (names : Names) (pairs : Pairs) (x : Option Insn) (row : Option (Option Row)) → slice_get p.code i ≡ x → IsRowAt p.profile row → AreRows p.profile (edges_of p names pairs i x row)
+  edges_are_rows i names pairs None row at h = tt
+  edges_are_rows i names pairs (Some x) None at h = tt
+  edges_are_rows i names pairs (Some x) (Some None) at h = tt
+  edges_are_rows i names pairs (Some x) (Some (Some row)) at h = edge_rows i names pairs row x (paired.instructions i x at) h
 
   entry_is_row : IsRow p.profile (entry p)
   entry_is_row = record { long = let e = length-replicate {A = Kind} (cell_count p.profile) (one_number p.profile 0) in omega (arith, e); kinds = from }
@@ -202,7 +204,7 @@ module _ (sound : (profile : Profile) → IsSoundTable profile) (p : Program) (l
   arrival_rows : (rows : List (Option Row)) (n k : ℕ) → ((i : ℕ) → i < n → IsRowAt p.profile (slice_get rows i)) → IsRowIfAny p.profile (arrivals p rows n k)
   arrival_rows rows zero k h = cond_both (eqb k 0) _ _ (IsRowIfAny p.profile) (λ _. entry_is_row) (λ _. tt)
   arrival_rows rows (suc n) k h =
-      into_is_row p.profile (sound p.profile) k _ _ (edges_are_rows n (names_in p rows n) (slice_get p.code n) (slice_get rows n) refl (h n (omega arith))) (arrival_rows rows n k (λ i lt. h i (omega arith)))
+      into_is_row p.profile (sound p.profile) k _ _ (edges_are_rows n (names_in p rows n) (pairs_at p rows n) (slice_get p.code n) (slice_get rows n) refl (h n (omega arith))) (arrival_rows rows n k (λ i lt. h i (omega arith)))
 
   table_rows : (n k : ℕ) → k < n → IsRowAt p.profile (slice_get (table p) k)
   table_rows zero k h = absurd (omega arith)
@@ -220,17 +222,17 @@ module _ (sound : (profile : Profile) → IsSoundTable profile) (p : Program) (l
 
   -- ---- an edge is joined into its slot's row
 
-  arrives : (i n k : ℕ) (x : Insn) (row : Row) (vs : List (Option ℕ)) → i < n → slice_get p.code i ≡ Some x → slice_get (table p) i ≡ Some (Some row) → SomeEdge (pos k) vs (named_edges p.profile (callee_in p.sigs x) (sums_at p.code i) (names_in p (table p) i) i row x) → FitsSome (arrivals p (table p) n k) vs
+  arrives : (i n k : ℕ) (x : Insn) (row : Row) (vs : List (Option ℕ)) → i < n → slice_get p.code i ≡ Some x → slice_get (table p) i ≡ Some (Some row) → SomeEdge (pos k) vs (named_edges p.profile (callee_in p.sigs x) (sums_at p.code i) (pairs_at p (table p) i) (names_in p (table p) i) i row x) → FitsSome (arrivals p (table p) n k) vs
   arrives i zero k x row vs lt at here e = absurd (omega arith)
   arrives i (suc n) k x row vs lt at here e =
       let all : (m : ℕ) → IsRowAt p.profile (slice_get (table p) m) = λ m. table_rows (suc m) m (omega arith) in
-      let edges = edges_are_rows n (names_in p (table p) n) (slice_get p.code n) (slice_get (table p) n) refl (all n) in
+      let edges = edges_are_rows n (names_in p (table p) n) (pairs_at p (table p) n) (slice_get p.code n) (slice_get (table p) n) refl (all n) in
       let before = arrival_rows (table p) n k (λ m _. all m) in
       ⊎_elim
       (λ same. let at' = ap (slice_get p.code) (sym same) ∙ at in
       let here' = ap (slice_get (table p)) (sym same) ∙ here in
       into_new p.profile (sound p.profile) k _ _ vs edges before
-      (subst (λ o. SomeEdge (pos k) vs (edges_of p (names_in p (table p) n) n o (slice_get (table p) n))) (sym at') (subst (λ o. SomeEdge (pos k) vs (edges_of p (names_in p (table p) n) n (Some x) o)) (sym here') (subst (λ j. SomeEdge (pos k) vs (named_edges p.profile (callee_in p.sigs x) (sums_at p.code j) (names_in p (table p) j) j row x)) same e))))
+      (subst (λ o. SomeEdge (pos k) vs (edges_of p (names_in p (table p) n) (pairs_at p (table p) n) n o (slice_get (table p) n))) (sym at') (subst (λ o. SomeEdge (pos k) vs (edges_of p (names_in p (table p) n) (pairs_at p (table p) n) n (Some x) o)) (sym here') (subst (λ j. SomeEdge (pos k) vs (named_edges p.profile (callee_in p.sigs x) (sums_at p.code j) (pairs_at p (table p) j) (names_in p (table p) j) j row x)) same e))))
       (λ other. into_old p.profile (sound p.profile) k _ _ vs edges before (arrives i n k x row vs (omega arith) at here e))
       (cases_eq i n)
 
@@ -283,13 +285,13 @@ module _ (sound : (profile : Profile) → IsSoundTable profile) (p : Program) (l
       let same : e.0 ≡ g.here = same_Some _ _ (sym e.1 ∙ there n s g) in
       no_fault sound p g.at g.row s limits (row_kinds sound p limits paired g.at g.row g.kinds) (row_long sound p limits paired g.at g.row g.kinds) g.fits g.slot g.memory (sums_at p.code g.at) g.holds (pairs_at p (table p) g.at) g.together e.0 (subst (λ x. AllNone (rules_of p (pairs_at p (table p) g.at) g.row x)) (sym same) (rules_kept n s g)) f e.2.stands
 
-  goes_on : (n : ℕ) (s : State) (g : Stands p n s) (t : State) → SomeEdge t.slot (values p.profile t) (named_edges p.profile (callee_in p.sigs g.here) (sums_at p.code g.at) (names_in p (table p) g.at) g.at g.row g.here) → IsMemory p t.memory → ((k : ℕ) → g.at < k → t.slot ≡ pos k → AllHold (sums_at p.code k) t) → ((k : ℕ) → g.at < k → t.slot ≡ pos k → HoldPairs (pairs_at p (table p) k) t) → ((k : ℕ) → g.at < k → t.slot ≡ pos k → Stand k (names_in p (table p) k) t) → Stands p (suc n) t
+  goes_on : (n : ℕ) (s : State) (g : Stands p n s) (t : State) → SomeEdge t.slot (values p.profile t) (named_edges p.profile (callee_in p.sigs g.here) (sums_at p.code g.at) (pairs_at p (table p) g.at) (names_in p (table p) g.at) g.at g.row g.here) → IsMemory p t.memory → ((k : ℕ) → g.at < k → t.slot ≡ pos k → AllHold (sums_at p.code k) t) → ((k : ℕ) → g.at < k → t.slot ≡ pos k → HoldPairs (pairs_at p (table p) k) t) → ((k : ℕ) → g.at < k → t.slot ≡ pos k → Stand k (names_in p (table p) k) t) → Stands p (suc n) t
   goes_on n s g t e m held paired_up stand =
-      let to = lead_any p g.at (named_edges p.profile (callee_in p.sigs g.here) (sums_at p.code g.at) (names_in p (table p) g.at) g.at g.row g.here) t.slot (values p.profile t) (edges_lead p.profile (callee_in p.sigs g.here) (sums_at p.code g.at) (names_in p (table p) g.at) p.code g.at g.here g.row accepted.formed (paired_starts p.code paired) g.found) e in
+      let to = lead_any p g.at (named_edges p.profile (callee_in p.sigs g.here) (sums_at p.code g.at) (pairs_at p (table p) g.at) (names_in p (table p) g.at) g.at g.row g.here) t.slot (values p.profile t) (edges_lead p.profile (callee_in p.sigs g.here) (sums_at p.code g.at) (pairs_at p (table p) g.at) (names_in p (table p) g.at) p.code g.at g.here g.row accepted.formed (paired_starts p.code paired) g.found) e in
       let k = to.0 in
       let l = to.2 in
       let within = slice_get_within p.code k l.to l.there in
-      let arrived = arrives sound p limits paired g.at k k g.here g.row (values p.profile t) l.above g.found g.kinds (subst (λ z. SomeEdge z (values p.profile t) (named_edges p.profile (callee_in p.sigs g.here) (sums_at p.code g.at) (names_in p (table p) g.at) g.at g.row g.here)) to.1 e) in
+      let arrived = arrives sound p limits paired g.at k k g.here g.row (values p.profile t) l.above g.found g.kinds (subst (λ z. SomeEdge z (values p.profile t) (named_edges p.profile (callee_in p.sigs g.here) (sums_at p.code g.at) (pairs_at p (table p) g.at) (names_in p (table p) g.at) g.at g.row g.here)) to.1 e) in
       let next = stand_at p k (arrivals p (table p) k k) (values p.profile t) (table_at p k within) arrived in
       record {
         at = k;
@@ -327,8 +329,8 @@ module _ (sound : (profile : Profile) → IsSoundTable profile) (p : Program) (l
       let l = lands sound p g.at g.row s limits (row_kinds sound p limits paired g.at g.row g.kinds) (row_long sound p limits paired g.at g.row g.kinds) g.fits g.slot g.memory (sums_at p.code g.at) g.holds (pairs_at p (table p) g.at) g.together g.here t (paired.instructions g.at g.here g.found g.starts) to (rules_kept n s g) row in
       let is_row : IsRow p.profile g.row = record { long = long; kinds = row_kinds sound p limits paired g.at g.row g.kinds } in
       goes_on n s g t
-      (named_lands (sound Second) p.profile (calls_of p.sigs) (callee_in p.sigs g.here) (sums_at p.code g.at) (names_in p (table p) g.at) g.at g.row s t g.names.named g.here row
-      (on_row sound p limits paired g.at g.row g.here (paired.instructions g.at g.here g.found) is_row) (taken_row sound p limits paired g.row g.here is_row) l.0)
+      (named_lands (sound Second) p.profile (calls_of p.sigs) (callee_in p.sigs g.here) (sums_at p.code g.at) (pairs_at p (table p) g.at) (names_in p (table p) g.at) g.at g.row s t g.names.named g.here row
+      (on_row sound p limits paired (pairs_at p (table p) g.at) g.at g.row g.here (paired.instructions g.at g.here g.found) is_row) (taken_row sound p limits paired g.row g.here is_row) l.0)
       l.1
       (λ k above slot. held_at (calls_of p.sigs) p.code s g.at g.slot (has_eleven p.profile g.row s long g.fits) (λ r. (number_word r).1) g.holds (λ dst n. paired.after_wide g.at n dst) k g.here t above g.found slot row)
       (λ k above slot. pairs_held sound p (table p) s g.at g.slot (has_eleven p.profile g.row s long g.fits) (λ r. (number_word r).1) g.row g.kinds long (row_kinds sound p limits paired g.at g.row g.kinds) g.fits g.together g.holds (λ dst n. paired.after_wide g.at n dst) k g.here t above g.found slot l.0 row)

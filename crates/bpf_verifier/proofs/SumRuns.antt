@@ -26,6 +26,7 @@ use Rattle.bpf_verifier.specs.Sums.{KnownSums, no_sums, sum_in, is_operand, has_
 use Rattle.bpf_verifier.specs.declared.sum.Sum.{Sum}
 use Rattle.bpf_verifier.proofs.Words.{wrapped_below, wrapped_small}
 use Rattle.bpf_verifier.proofs.SumSteps.{Holds, AllHold, whole_sum}
+use Rattle.bpf_verifier.proofs.Summed.{number_written}
 use Rattle.bpf_verifier.proofs.Classes.{or_left, or_right}
 
 -- ---- one register is written
@@ -94,9 +95,7 @@ module _ (s : State) (eleven : length s.registers ≡ 11) (words : (r : Register
       (unwrap_or-slice_get (set s.registers (number dst) (Some v)) (number r) None ∙ get_or-set_other s.registers (number dst) (number r) (Some v) None ne ∙ sym (unwrap_or-slice_get s.registers (number r) None))
 
   pub number_same : (dst : Register) (v : ℕ) → number_in (Written dst v) dst ≡ v
-  number_same dst v =
-      ap (λ o. unwrap_or o 0)
-      (unwrap_or-slice_get (set s.registers (number dst) (Some v)) (number dst) None ∙ get_or-set_same s.registers (number dst) (Some v) None (omega (arith, eleven, number_small dst)))
+  number_same dst v = number_written s eleven dst v
 
   operand_other : (dst : Register) (o : Operand) (v : ℕ) → is_operand dst o ≡ false → operand_in (Written dst v) o ≡ operand_in s o
   operand_other dst (operand.Register r) v f = number_other dst r v (differ (number r) (number dst) f)

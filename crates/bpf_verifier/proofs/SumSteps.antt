@@ -166,7 +166,7 @@ module _ (sound : IsSoundTable Second) where
   at_most_kind n (Ptr q lo hi) lt h =
       cond_both (int_lt lo hi) _ _ IsKind (λ _. (sound.comparison_kind LessEqual W64 (Ptr q lo hi) (one_number Second n) true h (sound.range_kind (single n) (omega arith) lt)).0) (λ _. h)
 
-  register_kinds : (n : ℕ) (r : Register) (row : Row) → n < 2 ^ 64 → AreKinds row → AreKinds (register_at_most n r row)
+  pub register_kinds : (n : ℕ) (r : Register) (row : Row) → n < 2 ^ 64 → AreKinds row → AreKinds (register_at_most n r row)
   register_kinds n r row lt h = kinds_set row (number r) _ h (at_most_kind n (kind_at row r) lt (h (number r)))
 
   operand_kinds : (n : ℕ) (o : Operand) (row : Row) → n < 2 ^ 64 → AreKinds row → AreKinds (operand_at_most n o row)
@@ -198,7 +198,7 @@ module _ (sound : IsSoundTable Second) where
       (λ _. h)
 
   module _ (profile : Profile) (s : State) where
-    register_stays : (n : ℕ) (r : Register) (row : Row) → IsLong profile row → AreKinds row → FitsRow row (values profile s) → n < 2 ^ 64 → number_in s r ≤ n → FitsRow (register_at_most n r row) (values profile s)
+    pub register_stays : (n : ℕ) (r : Register) (row : Row) → IsLong profile row → AreKinds row → FitsRow row (values profile s) → n < 2 ^ 64 → number_in s r ≤ n → FitsRow (register_at_most n r row) (values profile s)
     register_stays n r row long kinds fits lt le =
         let v = register_fits profile row s long fits r in
         at_learn row (values profile s) (number r) _ fits (subst (Admits _) (value_at profile row s long fits r) (at_most_value n (kind_at row r) (register s r) lt (kinds (number r)) le v.0))

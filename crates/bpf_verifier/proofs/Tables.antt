@@ -10,6 +10,10 @@ use Rattle.bpf_verifier.specs.Registers.{Row, entry}
 use Rattle.bpf_verifier.specs.Rows.{row_at, push_one, pushed, Misses, HasKinds, AreRowKinds, IsPass}
 use Rattle.bpf_copies.proofs.Held.{names_below}
 use Rattle.bpf_verifier.specs.Naming.{bounds_of, bounds_at, names_in}
+use Rattle.bpf_copies.specs.Led.{leads_before}
+use Rattle.bpf_verifier.specs.Sums.{sums_at}
+use Rattle.bpf_verifier.specs.Pairs.{no_pairs}
+use Rattle.bpf_verifier.specs.PairSteps.{pairs_next, pairs_at}
 use Rattle.bpf_verifier.specs.Table.{Edge, joined, into, edges_of, arrivals, rows_before, table}
 
 -- ---- the table's rows
@@ -40,13 +44,21 @@ at_rows p (suc n) m h =
     (cases_lt m n)
 
 -- what the rows above say is not read
+pairs_below : (p : Program) (rows rows' : List (Option Row)) (n : ℕ) → ((m : ℕ) → m < n → slice_get rows m ≡ slice_get rows' m) → pairs_at p rows n ≡ pairs_at p rows' n
+pairs_below p rows rows' zero h = refl
+pairs_below p rows rows' (suc n) h =
+    let led = leads_before p.code (suc n) (suc n) in
+    ap (λ o. cond led no_pairs (pairs_next p (slice_get p.code n) (sums_at p.code n) o (pairs_at p rows n))) (h n (omega arith))
+    ∙ ap (λ q. cond led no_pairs (pairs_next p (slice_get p.code n) (sums_at p.code n) (slice_get rows' n) q)) (pairs_below p rows rows' n (λ m lt. h m (omega arith)))
+
 same_below : (p : Program) (rows rows' : List (Option Row)) (n k : ℕ) → ((m : ℕ) → m < n → slice_get rows m ≡ slice_get rows' m) → arrivals p rows n k ≡ arrivals p rows' n k
 same_below p rows rows' zero k h = refl
 same_below p rows rows' (suc n) k h =
     let names = names_below p.code (bounds_at p rows) (bounds_at p rows') n (λ m lt. ap (bounds_of (slice_get p.code m)) (h m (omega (arith, lt)))) in
-    ap (λ r. into p.profile k (edges_of p (names_in p rows n) n (slice_get p.code n) r) (arrivals p rows n k)) (h n (omega arith))
-    ∙ ap (λ q. into p.profile k (edges_of p q n (slice_get p.code n) (slice_get rows' n)) (arrivals p rows n k)) names
-    ∙ ap (into p.profile k (edges_of p (names_in p rows' n) n (slice_get p.code n) (slice_get rows' n))) (same_below p rows rows' n k (λ m lt. h m (omega arith)))
+    ap (λ r. into p.profile k (edges_of p (names_in p rows n) (pairs_at p rows n) n (slice_get p.code n) r) (arrivals p rows n k)) (h n (omega arith))
+    ∙ ap (λ q. into p.profile k (edges_of p q (pairs_at p rows n) n (slice_get p.code n) (slice_get rows' n)) (arrivals p rows n k)) names
+    ∙ ap (λ q. into p.profile k (edges_of p (names_in p rows' n) q n (slice_get p.code n) (slice_get rows' n)) (arrivals p rows n k)) (pairs_below p rows rows' n (λ m lt. h m (omega arith)))
+    ∙ ap (into p.profile k (edges_of p (names_in p rows' n) (pairs_at p rows' n) n (slice_get p.code n) (slice_get rows' n))) (same_below p rows rows' n k (λ m lt. h m (omega arith)))
 
 pub table_at : (p : Program) (k : ℕ) → k < length p.code → slice_get (table p) k ≡ Some (arrivals p (table p) k k)
 table_at p k h =
@@ -105,7 +117,7 @@ missed profile k [] o m = refl
 missed profile k (e ∷ es) o m = ap (into profile k es) (cond-false (eqb e.0 k) (joined profile o e.1) o (ne_eqb e.0 k m.0)) ∙ missed profile k es o m.1
 
 -- one slot more
-module _ (p : Program) (rows : List (Option Row)) (here : Option Row) (i : ℕ) (es : List Edge) (h : IsPass p rows here i) (lt : i < length p.code) (is : es ≡ edges_of p (names_in p (table p) i) i (slice_get p.code i) (slice_get (table p) i)) where
+module _ (p : Program) (rows : List (Option Row)) (here : Option Row) (i : ℕ) (es : List Edge) (h : IsPass p rows here i) (lt : i < length p.code) (is : es ≡ edges_of p (names_in p (table p) i) (pairs_at p (table p) i) i (slice_get p.code i) (slice_get (table p) i)) where
   arrive : (k : ℕ) → into p.profile k es (arrivals p (table p) i k) ≡ arrivals p (table p) (i + 1) k
   arrive k = let one : suc i ≡ i + 1 = omega arith in ap (λ xs. into p.profile k xs (arrivals p (table p) i k)) is ∙ ap (λ n. arrivals p (table p) n k) one
 

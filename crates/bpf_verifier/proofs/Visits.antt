@@ -34,9 +34,9 @@ no_rule : (p : Program) (pairs : Pairs) (o : Option Insn) → broken_with p pair
 no_rule p pairs None = refl
 no_rule p pairs (Some x) = refl
 
-no_edges : (p : Program) (names : Names) (i : ℕ) (o : Option Insn) → [] ≡ edges_of p names i o (Some None)
-no_edges p names i None = refl
-no_edges p names i (Some x) = refl
+no_edges : (p : Program) (names : Names) (pairs : Pairs) (i : ℕ) (o : Option Insn) → [] ≡ edges_of p names pairs i o (Some None)
+no_edges p names pairs i None = refl
+no_edges p names pairs i (Some x) = refl
 
 -- names tell nothing by the first profile
 same_named : (profile : Profile) (x : Insn) (names others : Names) (row : Row) → (profile ≡ Second → names ≡ others) → named x profile names row ≡ named x profile others row
@@ -52,10 +52,10 @@ same_named First insn.Exit names others row h = refl
 same_named First (insn.Wide d n) names others row h = refl
 same_named First insn.Tail names others row h = refl
 
-same_edges : (profile : Profile) (callee : Callee) (sums : KnownSums) (names others : Names) (i : ℕ) (row : Row) (x : Insn) → (profile ≡ Second → names ≡ others) → named_edges profile callee sums names i row x ≡ named_edges profile callee sums others i row x
-same_edges profile callee sums names others i row x h =
-    ap (λ r. next_edge (next_of i x) r ++ target_edge (target_of i x) (named x profile names (row_taken profile row x))) (same_named profile x names others (row_on profile callee sums row x) h)
-    ∙ ap (λ r. next_edge (next_of i x) (named x profile others (row_on profile callee sums row x)) ++ target_edge (target_of i x) r) (same_named profile x names others (row_taken profile row x) h)
+same_edges : (profile : Profile) (callee : Callee) (sums : KnownSums) (pairs : Pairs) (names others : Names) (i : ℕ) (row : Row) (x : Insn) → (profile ≡ Second → names ≡ others) → named_edges profile callee sums pairs names i row x ≡ named_edges profile callee sums pairs others i row x
+same_edges profile callee sums pairs names others i row x h =
+    ap (λ r. next_edge (next_of i x) r ++ target_edge (target_of i x) (named x profile names (row_taken profile row x))) (same_named profile x names others (row_on profile callee sums pairs row x) h)
+    ∙ ap (λ r. next_edge (next_of i x) (named x profile others (row_on profile callee sums pairs row x)) ++ target_edge (target_of i x) r) (same_named profile x names others (row_taken profile row x) h)
 
 module _ (p : Program) (rows : List (Option Row)) (i : ℕ) (within : i < length p.code) where
   -- within which bounds its operand is
@@ -67,7 +67,7 @@ module _ (p : Program) (rows : List (Option Row)) (i : ℕ) (within : i < length
   none_unbroken pass = let pairs = pairs_at p (table p) i in ap (broken_with p pairs (slice_get p.code i)) (row_here p rows None i pass within) ∙ no_rule p pairs (slice_get p.code i)
 
   pub none_pass : IsPass p rows None i → IsPass p rows (row_at rows (i + 1)) (i + 1)
-  none_pass pass = pass_all p rows None i [] pass within (no_edges p (names_in p (table p) i) i (slice_get p.code i) ∙ ap (edges_of p (names_in p (table p) i) i (slice_get p.code i)) (sym (row_here p rows None i pass within))) (row_at rows (i + 1)) (row_there rows (i + 1) (omega (arith, pass.long, within)))
+  none_pass pass = pass_all p rows None i [] pass within (no_edges p (names_in p (table p) i) (pairs_at p (table p) i) i (slice_get p.code i) ∙ ap (edges_of p (names_in p (table p) i) (pairs_at p (table p) i) i (slice_get p.code i)) (sym (row_here p rows None i pass within))) (row_at rows (i + 1)) (row_there rows (i + 1) (omega (arith, pass.long, within)))
 
   -- at the next one no pair is known
   pub none_paired : IsPass p rows None i → (sums : KnownSums) (pairs : Pairs) → no_pairs ≡ pairs_next p (slice_get p.code i) sums (slice_get (table p) i) pairs
@@ -83,29 +83,31 @@ module _ (p : Program) (rows : List (Option Row)) (i : ℕ) (within : i < length
     broken_here = let pairs = pairs_at p (table p) i in ap (λ o. broken_with p pairs o (slice_get (table p) i)) at ∙ ap (broken_with p pairs (Some x)) (row_here p rows (Some row) i pass within)
 
     -- the pairs that are known where it goes on to the next slot
-    pub paired_here : (callee : Callee) (sums : KnownSums) (pairs over next : Pairs) (after : Row) → callee ≡ callee_in p.sigs x → after ≡ row_on p.profile callee sums row x → over ≡ pairs_over x row pairs → next ≡ pairs_told x p.profile sums after over → next ≡ pairs_next p (slice_get p.code i) sums (slice_get (table p) i) pairs
+    pub paired_here : (callee : Callee) (sums : KnownSums) (pairs over next : Pairs) (after : Row) → callee ≡ callee_in p.sigs x → after ≡ row_on p.profile callee sums pairs row x → over ≡ pairs_over x row pairs → next ≡ pairs_told x p.profile sums after over → next ≡ pairs_next p (slice_get p.code i) sums (slice_get (table p) i) pairs
     paired_here callee sums pairs over next after called goes writes told =
         told
         ∙ ap (pairs_told x p.profile sums after) writes
         ∙ ap (λ r. pairs_told x p.profile sums r (pairs_over x row pairs)) goes
-        ∙ ap (λ y. pairs_told x p.profile sums (row_on p.profile y sums row x) (pairs_over x row pairs)) called
+        ∙ ap (λ y. pairs_told x p.profile sums (row_on p.profile y sums pairs row x) (pairs_over x row pairs)) called
         ∙ ap (λ o. pairs_next p (Some x) sums o pairs) (sym (row_here p rows (Some row) i pass within))
         ∙ ap (λ o. pairs_next p o sums (slice_get (table p) i) pairs) (sym at)
 
-    edges_here : named_edges p.profile (callee_in p.sigs x) (sums_at p.code i) (names_in p (table p) i) i row x ≡ edges_of p (names_in p (table p) i) i (slice_get p.code i) (slice_get (table p) i)
+    edges_here : named_edges p.profile (callee_in p.sigs x) (sums_at p.code i) (pairs_at p (table p) i) (names_in p (table p) i) i row x ≡ edges_of p (names_in p (table p) i) (pairs_at p (table p) i) i (slice_get p.code i) (slice_get (table p) i)
     edges_here =
         let names = names_in p (table p) i in
-        ap (λ r. edges_of p names i (Some x) r) (sym (row_here p rows (Some row) i pass within)) ∙ ap (λ o. edges_of p names i o (slice_get (table p) i)) (sym at)
+        let pairs = pairs_at p (table p) i in
+        ap (λ r. edges_of p names pairs i (Some x) r) (sym (row_here p rows (Some row) i pass within)) ∙ ap (λ o. edges_of p names pairs i o (slice_get (table p) i)) (sym at)
 
     -- its edges, of which the first is that of the next slot
-    module _ (callee : Callee) (sums : KnownSums) (names : Names) (after : Row) (fs : List Edge) (called : callee ≡ callee_in p.sigs x) (summed : sums ≡ sums_at p.code i) (given : p.profile ≡ Second → names ≡ names_in p (table p) i) (goes : after ≡ named x p.profile names (row_on p.profile callee sums row x)) (takes : fs ≡ target_edge (target_of i x) (named x p.profile names (row_taken p.profile row x))) where
-      edges_are : next_edge (next_of i x) after ++ fs ≡ named_edges p.profile (callee_in p.sigs x) (sums_at p.code i) (names_in p (table p) i) i row x
+    module _ (callee : Callee) (sums : KnownSums) (pairs : Pairs) (names : Names) (after : Row) (fs : List Edge) (called : callee ≡ callee_in p.sigs x) (told : sums ≡ sums_at p.code i) (paired : pairs ≡ pairs_at p (table p) i) (given : p.profile ≡ Second → names ≡ names_in p (table p) i) (goes : after ≡ named x p.profile names (row_on p.profile callee sums pairs row x)) (takes : fs ≡ target_edge (target_of i x) (named x p.profile names (row_taken p.profile row x))) where
+      edges_are : next_edge (next_of i x) after ++ fs ≡ named_edges p.profile (callee_in p.sigs x) (sums_at p.code i) (pairs_at p (table p) i) (names_in p (table p) i) i row x
       edges_are =
           ap (λ r. next_edge (next_of i x) r ++ fs) goes
-          ∙ ap (λ es. next_edge (next_of i x) (named x p.profile names (row_on p.profile callee sums row x)) ++ es) takes
-          ∙ ap (λ y. named_edges p.profile y sums names i row x) called
-          ∙ ap (λ y. named_edges p.profile (callee_in p.sigs x) y names i row x) summed
-          ∙ same_edges p.profile (callee_in p.sigs x) (sums_at p.code i) names (names_in p (table p) i) i row x given
+          ∙ ap (λ es. next_edge (next_of i x) (named x p.profile names (row_on p.profile callee sums pairs row x)) ++ es) takes
+          ∙ ap (λ y. named_edges p.profile y sums pairs names i row x) called
+          ∙ ap (λ y. named_edges p.profile (callee_in p.sigs x) y pairs names i row x) told
+          ∙ ap (λ y. named_edges p.profile (callee_in p.sigs x) (sums_at p.code i) y names i row x) paired
+          ∙ same_edges p.profile (callee_in p.sigs x) (sums_at p.code i) (pairs_at p (table p) i) names (names_in p (table p) i) i row x given
 
       pub all_here : (rows' : List (Option Row)) → rows' ≡ pushed p.profile rows (next_edge (next_of i x) after ++ fs) → IsPass p rows' (row_at rows' (i + 1)) (i + 1)
       all_here rows' are =

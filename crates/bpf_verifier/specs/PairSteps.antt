@@ -129,7 +129,7 @@ pairs_told x profile sums row pairs = pairs
 -- ---- slots
 
 abbrev pub pairs_after : Profile → Callee → KnownSums → Row → Insn → Pairs → Pairs
-pairs_after profile callee sums row x pairs = pairs_told x profile sums (row_on profile callee sums row x) (pairs_over x row pairs)
+pairs_after profile callee sums row x pairs = pairs_told x profile sums (row_on profile callee sums pairs row x) (pairs_over x row pairs)
 
 abbrev pub pairs_next : Program → Option Insn → KnownSums → Option (Option Row) → Pairs → Pairs
 pairs_next p (Some x) sums (Some (Some row)) pairs = pairs_after p.profile (callee_in p.sigs x) sums row x pairs

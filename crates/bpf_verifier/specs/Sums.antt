@@ -1,6 +1,6 @@
 -- What is known of each register beside its kind: that it holds the sum of a register and an operand (this store's profiles). It is known
 -- by the code alone, from a move or an addition on, as long as no jump leads there, nothing is called and none of its registers is written.
-use Rattle.std.specs.Prelude.{ℕ, zero, suc, ◌-◌, ◌^◌, ◌==◌, pos, nat_le, int_lt, Bool, true, false, not, ◌||◌, ◌&&◌, if◌then◌else◌, Option, None, Some, List, [], ◌∷◌, replicate, slice_get, slice_index_or}
+use Rattle.std.specs.Prelude.{ℕ, zero, suc, ◌-◌, ◌^◌, ◌==◌, pos, nat_le, int_lt, Bool, true, false, not, ◌||◌, ◌&&◌, if◌then◌else◌, Option, None, Some, List, [], ◌∷◌, replicate, slice_get, slice_index_or, min}
 use Rattle.bpf_alu.specs.declared.Op.{Op}
 use Rattle.bpf_alu.specs.declared.Op.TheVariants.{Mov, Add}
 use Rattle.bpf_alu.specs.declared.Cond.TheVariants.{LessEqual}
@@ -22,7 +22,9 @@ use Rattle.bpf_copies.specs.Led.{leads_before}
 use Rattle.bpf_helpers.specs.Calls.{Callee}
 use Rattle.bpf_verifier.specs.Registers.{Row, kind_at, with_kind, one_number, kind_from}
 use Rattle.bpf_verifier.specs.Rules.{row_after}
+use Rattle.bpf_verifier.specs.Pairs.{most_together}
 use Rattle.bpf_verifier.specs.declared.sum.Sum.{Sum}
+use Rattle.bpf_verifier.specs.declared.pair.Pairs.{Pairs}
 
 -- ---- which sums are known
 
@@ -156,6 +158,18 @@ abbrev pub told : Insn → Profile → KnownSums → Row → Row
 told (insn.JumpIf c w left right offset) Second sums row = told_all sums row
 told x profile sums row = row
 
--- the kinds where an instruction goes on to the next slot, with what the sums tell
-abbrev pub row_on : Profile → Callee → KnownSums → Row → Insn → Row
-row_on profile callee sums row x = told x profile sums (row_after profile callee row x)
+-- ---- what a pair tells of a sum
+
+-- what is left of a register that holds the sum of two, which are at most so much together
+abbrev pub sum_at_most : Option ℕ → Register → Row → Row
+sum_at_most None dst row = row
+sum_at_most (Some n) dst row = register_at_most (min n (2 ^ 64 - 1)) dst row
+
+-- by the second profile, after a 64-bit addition of two registers
+abbrev pub summed : Insn → Profile → Pairs → Row → Row
+summed (insn.Alu Add W64 dst (operand.Register src)) Second pairs row = sum_at_most (most_together pairs dst src) dst row
+summed x profile pairs row = row
+
+-- the kinds where an instruction goes on to the next slot, with what the sums and the pairs before it tell
+abbrev pub row_on : Profile → Callee → KnownSums → Pairs → Row → Insn → Row
+row_on profile callee sums pairs row x = told x profile sums (summed x profile pairs (row_after profile callee row x))

@@ -32,16 +32,16 @@ target_edge None row = []
 target_edge (Some (pos k)) row = (k, row) ∷ []
 target_edge (Some (negsuc k)) row = []
 
--- the edges of an instruction at slot i, with what it calls, which a row of kinds reaches and the sums that are known: to the next slot,
--- and to the target of its jump
-abbrev pub edges_from : Profile → Callee → KnownSums → ℕ → Row → Insn → List Edge
-edges_from profile callee sums i row x =
-    next_edge (next_of i x) (row_on profile callee sums row x) ++ target_edge (target_of i x) (row_taken profile row x)
+-- the edges of an instruction at slot i, with what it calls, which a row of kinds reaches, and the sums and pairs that are known: to the
+-- next slot, and to the target of its jump
+abbrev pub edges_from : Profile → Callee → KnownSums → Pairs → ℕ → Row → Insn → List Edge
+edges_from profile callee sums pairs i row x =
+    next_edge (next_of i x) (row_on profile callee sums pairs row x) ++ target_edge (target_of i x) (row_taken profile row x)
 
 -- and with what the names before it tell, on both ways
-abbrev pub named_edges : Profile → Callee → KnownSums → Names → ℕ → Row → Insn → List Edge
-named_edges profile callee sums names i row x =
-    next_edge (next_of i x) (named x profile names (row_on profile callee sums row x)) ++ target_edge (target_of i x) (named x profile names (row_taken profile row x))
+abbrev pub named_edges : Profile → Callee → KnownSums → Pairs → Names → ℕ → Row → Insn → List Edge
+named_edges profile callee sums pairs names i row x =
+    next_edge (next_of i x) (named x profile names (row_on profile callee sums pairs row x)) ++ target_edge (target_of i x) (named x profile names (row_taken profile row x))
 
 -- ---- joins
 
@@ -61,15 +61,15 @@ into profile k (e ∷ es) before = into profile k es (if e.0 == k then joined pr
 
 -- ---- the table
 
--- the edges of slot i, if some row of kinds reaches it, with the names that are known there by the rows of lower slots
-abbrev pub edges_of : Program → Names → ℕ → Option Insn → Option (Option Row) → List Edge
-edges_of p names i (Some x) (Some (Some row)) = named_edges p.profile (callee_in p.sigs x) (sums_at p.code i) names i row x
-edges_of p names i x row = []
+-- the edges of slot i, if some row of kinds reaches it, with the names and the pairs that are known there by the rows of lower slots
+abbrev pub edges_of : Program → Names → Pairs → ℕ → Option Insn → Option (Option Row) → List Edge
+edges_of p names pairs i (Some x) (Some (Some row)) = named_edges p.profile (callee_in p.sigs x) (sums_at p.code i) pairs names i row x
+edges_of p names pairs i x row = []
 
 -- the join over all edges into slot k from the first n slots of a table; slot 0 has the entry too
 abbrev pub arrivals : Program → List (Option Row) → ℕ → ℕ → Option Row
 arrivals p rows zero k = if k == 0 then Some (entry p) else None
-arrivals p rows (suc n) k = into p.profile k (edges_of p (names_in p rows n) n (slice_get p.code n) (slice_get rows n)) (arrivals p rows n k)
+arrivals p rows (suc n) k = into p.profile k (edges_of p (names_in p rows n) (pairs_at p rows n) n (slice_get p.code n) (slice_get rows n)) (arrivals p rows n k)
 
 -- the rows of the first n slots: each is the join over all edges into its slot, which come from lower ones
 abbrev pub rows_before : Program → ℕ → List (Option Row)

@@ -3,13 +3,14 @@
 ghost use Rattle.std.specs.Prelude.{◌≡◌, ◌<◌, ℕ, Bool, true, Some, List, length, slice_get, if◌then◌else◌};
 ghost use Rattle.bpf_semantics.specs.declared.profile.Profile.TheVariants.{Second};
 ghost use Rattle.bpf_verifier.specs.Table.{AreKinds};
+ghost use Rattle.bpf_verifier.specs.Sums.{sum_at_most, summed, told};
 ghost use Rattle.bpf_verifier.specs.Pairs.{no_pairs, is_in, are_of, most_in, most_together, argument_ends};
 ghost use Rattle.bpf_verifier.specs.PairSteps.{pair_without, pairs_without, before, with_pair, partner, carried, carried_into, carried_from, pairs_of_sum, pairs_of_op, pair_over_call, pairs_over_call, pairs_over, pair_of, pair_told, pair_by, pairs_by_operand, pairs_told};
 
 use crate::kinds::{kind_of, kind_of_operand};
 use crate::pair::{Pair, Pairs};
 use crate::sum::Sum;
-use crate::sums::{KnownSums, most, sum_in};
+use crate::sums::{KnownSums, most, narrow_register, sum_in, tell};
 use bpf_alu::{Op, Width};
 use bpf_insn::{Insn, Operand, Register};
 use bpf_ranges::{Kind, Profile};
@@ -376,4 +377,45 @@ pub fn pairs_here(led: &[bool], at: usize, pairs: Pairs) -> Pairs
     ensures { (here : Bool) → slice_get led.now at ≡ Some here → result ≡ (if here then no_pairs else pairs) }
 {
     if led[at] { no_pairs() } else { pairs }
+}
+
+/// Narrows a register that holds the sum of two, if it is known what they are at most together.
+fn narrow_sum(most: Option<u64>, register: Register, row: &mut [Kind])
+    requires { AreKinds row.old }
+    ensures table { row.new ≡ sum_at_most most register row.old }
+    ensures kinds { AreKinds row.new }
+{
+    if let Some(most) = most {
+        narrow_register(most, register, row);
+    }
+}
+
+/// Narrows the register that holds the sum of two after a 64-bit addition, by the pairs before it and the second profile.
+fn tell_sum(insn: Insn, profile: Profile, pairs: Pairs, row: &mut [Kind])
+    requires { AreKinds row.old }
+    ensures table { row.new ≡ summed insn profile pairs row.old }
+    ensures kinds { AreKinds row.new }
+{
+    match (insn, profile) {
+        (
+            Insn::Alu {
+                op: Op::Add,
+                width: Width::W64,
+                dst,
+                src: Operand::Register(src),
+            },
+            Profile::Second,
+        ) => narrow_sum(most_together(pairs, dst, src), dst, row),
+        _ => {},
+    }
+}
+
+/// Narrows what the pairs and the sums before an instruction tell of the row behind it, by the second profile.
+pub fn tell_on(insn: Insn, profile: Profile, sums: &KnownSums, pairs: Pairs, row: &mut [Kind])
+    requires { AreKinds row.old }
+    ensures table { row.new ≡ told insn profile sums.now (summed insn profile pairs row.old) }
+    ensures kinds { AreKinds row.new }
+{
+    tell_sum(insn, profile, pairs, row);
+    tell(insn, profile, sums, row);
 }

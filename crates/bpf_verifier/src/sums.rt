@@ -345,7 +345,7 @@ fn at_most(n: u64, kind: Kind) -> Kind
 }
 
 /// Narrows a register that holds a number of at most `n`.
-fn narrow_register(n: u64, register: Register, row: &mut [Kind])
+pub fn narrow_register(n: u64, register: Register, row: &mut [Kind])
     requires { AreKinds row.old }
     ensures table { row.new ≡ register_at_most n register row.old }
     ensures kinds { AreKinds row.new }

@@ -24,11 +24,11 @@ use crate::edges::{lead_on, named_edge, take_waiting};
 use crate::kinds::one_number;
 use crate::naming::{bounds_here, tell_named};
 use crate::pair::Pairs;
-use crate::pairs::{no_pairs, pairs_here, pairs_over, pairs_told};
+use crate::pairs::{no_pairs, pairs_here, pairs_over, pairs_told, tell_on};
 use crate::rule::{KindRule, Refused, Rule};
 use crate::rules::advance;
 use crate::slots::lower_slot;
-use crate::sums::{Sums, tell};
+use crate::sums::Sums;
 use crate::verified::Verified;
 use crate::waiting::Waiting;
 use bpf_helpers::Sigs;
@@ -130,7 +130,7 @@ fn visit<const N: usize>(
             slot: at as u32,
         });
     }
-    tell(insn, profile, &sums.held, row);
+    tell_on(insn, profile, &sums.held, *pairs, row);
     *pairs = pairs_told(insn, profile, &sums.held, row, over);
     tell_named(insn, profile, &sums.names.here, row);
     let Ok(on) = lead_on(profile, rows, at, row, insn, target, taken) else {

@@ -981,6 +981,22 @@ NUMBERS = [
     ("code for longer inputs", [CLEAR, copied(6, 2), fields(0xA5, 6, 0, 3, 300), fields(0x77, 6, 0, 0, 1), added(1, 6), load_byte(0, 1, 0), EXIT], PLACES, comes_to(0, 4), comes_to(0, 4)),
     ("an access by a dead number", [put(6, 5), fields(0x15, 6, 0, 2, 6), CLEAR, EXIT, load_byte(0, 6, 0), EXIT], b"", refused(24, 4), refused(24, 4)),
     ("a narrow condition on a wide number", [CLEAR, load(6, 1, 0), fields(0x26, 6, 0, 2, 255), added(1, 6), load_byte(0, 1, 0), EXIT], PLACES, refused(23, 3), refused(23, 3)),
+    # negations, shifts by a range, extended signs, signed divisions and low parts
+    ("a negated number", [load_byte(6, 1, 0), masked(6, 7), raised(6, 1), fields(0x87, 6, 0, 0, 0), copied(7, 10), added(7, 6), load_byte(0, 7, 0), EXIT], bytes([6]), comes_to(0, 8), refused(23, 5)),
+    ("a negated number that may be 0", [load_byte(6, 1, 0), masked(6, 7), fields(0x87, 6, 0, 0, 0), copied(7, 10), added(7, 6), load_byte(0, 7, 0), EXIT], bytes([6]), refused(23, 4), refused(23, 4)),
+    ("a bit by its number", [load_byte(6, 1, 0), masked(6, 7), put(7, 1), fields(0x6F, 7, 6, 0, 0), added(1, 7), load_byte(0, 1, 0), EXIT], bytes([3]) + PLACES[1:], comes_to(8, 7), refused(23, 4)),
+    ("a bit by its number, one further", [load_byte(6, 1, 0), masked(6, 8), put(7, 1), fields(0x6F, 7, 6, 0, 0), added(1, 7), load_byte(0, 1, 0), EXIT], bytes([3]) + PLACES[1:], refused(24, 5), refused(23, 4)),
+    ("a small number with its sign extended", [load_byte(6, 1, 0), masked(6, 127), fields(0xBF, 6, 6, 8, 0), added(1, 6), load_byte(0, 1, 0), EXIT], bytes([9]) + PLACES[1:], comes_to(9, 6), refused(23, 3)),
+    ("a byte with its sign extended", [load_byte(6, 1, 0), fields(0xBF, 6, 6, 8, 0), added(1, 6), load_byte(0, 1, 0), EXIT], bytes([9]) + PLACES[1:], refused(23, 2), refused(23, 2)),
+    ("a byte with a half's sign extended", [load_byte(6, 1, 0), fields(0xBF, 6, 6, 16, 0), added(1, 6), load_byte(0, 1, 0), EXIT], bytes([9]) + PLACES[1:], comes_to(9, 5), refused(23, 2)),
+    ("a signed remainder", [load_byte(6, 1, 0), fields(0x97, 6, 0, 1, 16), added(1, 6), load_byte(0, 1, 0), EXIT], bytes([25]) + PLACES[1:], comes_to(9, 5), refused(23, 2)),
+    ("a signed remainder by a number below 0", [load_byte(6, 1, 0), fields(0x97, 6, 0, 1, -16), added(1, 6), load_byte(0, 1, 0), EXIT], bytes([25]) + PLACES[1:], refused(23, 2), refused(23, 2)),
+    ("a signed remainder of any number", [load(6, 1, 0), fields(0x97, 6, 0, 1, 16), added(1, 6), load_byte(0, 1, 0), EXIT], PLACES, refused(23, 2), refused(23, 2)),
+    ("a signed quotient", [load_byte(6, 1, 0), fields(0x37, 6, 0, 1, 2), added(1, 6), load_byte(0, 1, 0), EXIT], bytes([18]) + PLACES[1:], comes_to(9, 5), refused(23, 2)),
+    ("the low bytes of a byte", [load_byte(6, 1, 0), fields(0xD4, 6, 0, 0, 16), added(1, 6), load_byte(0, 1, 0), EXIT], bytes([9]) + PLACES[1:], comes_to(9, 5), refused(24, 3)),
+    ("the bytes of a byte, turned", [load_byte(6, 1, 0), fields(0xDC, 6, 0, 0, 16), added(1, 6), load_byte(0, 1, 0), EXIT], bytes([9]) + PLACES[1:], refused(24, 3), refused(24, 3)),
+    ("the low half of a number past 2^32", [load_byte(7, 1, 0), wide(6, 2**32), added(6, 7), fields(0xBC, 6, 6, 0, 0), added(1, 6), load_byte(0, 1, 0), EXIT], bytes([9]) + PLACES[1:], comes_to(9, 7), refused(23, 5)),
+    ("the low half of a number about 2^32", [load_byte(7, 1, 0), wide(6, 2**32 - 1), added(6, 7), fields(0xBC, 6, 6, 0, 0), added(1, 6), load_byte(0, 1, 0), EXIT], bytes([9]) + PLACES[1:], refused(24, 6), refused(23, 5)),
 ]
 
 # R7 is the address of the byte of the input that its first byte names: 0 to 255 bytes from its first.
@@ -1050,6 +1066,11 @@ SUMS = [
     ("a sum where a jump leads", byte_where([copied(6, 7), raised(6, 1), jump(0)]), TWO, comes_to(9, 9), refused(23, 6)),
     ("a sum that may pass 2^64", [load(7, 1, 0), *byte_where([copied(6, 7), raised(6, 1)])[1:]], TWO, refused(23, 5), refused(23, 5)),
     ("a sum raised again", byte_where([copied(6, 7), raised(6, 1), raised(6, 1)]), TWO, comes_to(9, 9), refused(23, 6)),
+    # what other registers hold ends none
+    ("an index and a length, past a wide constant", [load_word(8, 4), CLEAR, fields(0x15, 8, 0, 9, 0), *byte_where([copied(6, 7), added(6, 8), wide(9, 5)])], TWO, comes_to(9, 12), refused(23, 10)),
+    ("an index and a length, past a byte swap", [load_word(8, 4), CLEAR, fields(0x15, 8, 0, 8, 0), *byte_where([copied(6, 7), added(6, 8), fields(0xD4, 4, 0, 0, 16)])], TWO, comes_to(9, 12), refused(23, 9)),
+    ("an index and a length, past a copy", [load_word(8, 4), CLEAR, fields(0x15, 8, 0, 8, 0), *byte_where([copied(6, 7), added(6, 8), copied(9, 7)])], TWO, comes_to(9, 12), refused(23, 9)),
+    ("an index and a length, read anew past a copy", [load_word(8, 4), CLEAR, fields(0x15, 8, 0, 9, 0), *byte_where([copied(6, 7), added(6, 8), copied(9, 7), load_word(7, 4)])], TWO, refused(24, 11), refused(23, 10)),
 ]
 
 
@@ -1102,6 +1123,13 @@ PAIRS = [
     ("bytes from an index on, the length read anew", bytes_where([load_byte(8, 1, 4), *ALIKE]), TWO, refused(28, 10), refused(23, 7)),
     ("bytes from an index on where a jump leads", bytes_where([added(1, 7), jump(0), *ALIKE[1:]]), TWO, refused(28, 10), refused(23, 6)),
     ("bytes from an index on, another number tested", bytes_where(ALIKE, WHOLE, fields(0x2D, 7, 2, 0, 0)), TWO, refused(28, 9), refused(28, 9)),
+    # the sum of a pair
+    ("the last byte from an index on", bytes_where([fields(0x15, 8, 0, 3, 0), added(1, 7), added(1, 8), load_byte(0, 1, -1)]), TWO, comes_to(11, 11), refused(23, 7)),
+    ("the last byte from an index on, one further", bytes_where([fields(0x15, 8, 0, 3, 0), added(1, 7), added(1, 8), load_byte(0, 1, 0)]), TWO, refused(24, 9), refused(23, 7)),
+    ("the last byte from an index on, by a copy", bytes_where([fields(0x15, 8, 0, 4, 0), copied(9, 7), added(9, 8), added(1, 9), load_byte(0, 1, -1)]), TWO, comes_to(11, 12), refused(23, 9)),
+    ("the last byte from an index on, added in 32 bits", bytes_where([fields(0x15, 8, 0, 4, 0), copied(9, 7), fields(0x0C, 9, 8, 0, 0), added(1, 9), load_byte(0, 1, -1)]), TWO, refused(24, 10), refused(23, 9)),
+    ("the last byte from an index on, where a jump leads", bytes_where([fields(0x15, 8, 0, 4, 0), jump(0), added(1, 7), added(1, 8), load_byte(0, 1, -1)]), TWO, refused(24, 10), refused(23, 8)),
+    ("the last byte from an index on, the length read anew", bytes_where([load_byte(8, 1, 4), fields(0x15, 8, 0, 3, 0), added(1, 7), added(1, 8), load_byte(0, 1, -1)]), TWO, refused(24, 10), refused(23, 8)),
 ]
 
 

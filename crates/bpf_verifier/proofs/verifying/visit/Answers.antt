@@ -5,7 +5,7 @@ use Rattle.bpf_verifier.specs.CallKinds.{callee_from}
 use Rattle.bpf_verifier.specs.Rows.{LeadBelow, StartsZero, IsKnown, HasKinds, edge_list, IsPass}
 use Rattle.bpf_verifier.specs.Rules.{first_of, rules_by, row_taken}
 use Rattle.bpf_verifier.specs.Waiting.{waiting}
-use Rattle.bpf_verifier.specs.Sums.{told}
+use Rattle.bpf_verifier.specs.Sums.{told, summed}
 use Rattle.bpf_verifier.specs.Naming.{named}
 use Rattle.bpf_verifier.specs.PairSteps.{pairs_at}
 use Rattle.bpf_verifier.specs.Table.{table}
@@ -13,6 +13,7 @@ use Rattle.bpf_verifier.specs.Cells.{span_written}
 use Rattle.bpf_verifier.proofs.Zeros.{Ends, fewer_zeros, known_below, rows_below, after_zeros}
 use Rattle.bpf_verifier.proofs.Waits.{zeros_below}
 use Rattle.bpf_verifier.proofs.SumSteps.{told_zeros}
+use Rattle.bpf_verifier.proofs.Summed.{summed_zeros}
 use Rattle.bpf_verifier.proofs.NamedRows.{named_zeros}
 use Rattle.bpf_verifier.proofs.Shape.{next_within, target_within, target_below}
 use Rattle.bpf_verifier.proofs.Visits.{none_unbroken, none_pass, none_paired, broken_here, paired_here, all_here, alone_here, here_taken}
@@ -97,7 +98,7 @@ lead_on-requires g c =
     let zeros : StartsZero profile low row = fewer_zeros profile c.args.rows.now.low low row c.lowered-rows.ensures.lower known.zeros in
     let ends : Ends low (span_written callee row x) = subst (Ends low) c.span_written.ensures c.lowered-rows.ensures.before in
     let long : 11 ≤ length row = omega (arith, c.requires.long) in
-    let told_row : StartsZero profile low c.tell.new.row = subst (StartsZero profile low) (sym (c.tell.ensures.table ∙ ap (told x profile c.args.sums.now.held) c.in_default-advance.ensures.row)) (told_zeros profile low x c.args.sums.now.held _ (after_zeros profile low callee row x long ends zeros)) in
+    let told_row : StartsZero profile low c.tell_on.new.row = subst (StartsZero profile low) (sym (c.tell_on.ensures.table ∙ ap (λ q. told x profile c.args.sums.now.held (summed x profile c.args.pairs.now q)) c.in_default-advance.ensures.row)) (told_zeros profile low x c.args.sums.now.held _ (summed_zeros profile low x c.args.pairs.now _ (after_zeros profile low callee row x long ends zeros))) in
     let after : IsKnown profile low c.tell_named.new.row = record { kinds = c.tell_named.ensures.kinds; zeros = subst (StartsZero profile low) (sym c.tell_named.ensures.table) (named_zeros c.args.sums.now.names.here x profile profile low _ told_row) } in
     let few = c.args.program.now.image.few_slots in (
       search rules,
@@ -142,7 +143,7 @@ returns-then-not-on-clause-pass g c =
     let rows = waiting c.args.rows.now in
     let insn = slice_get_read c.args.program.now.image.code.items c.args.program.now.image.code.len c.args.at c.index-insn.result.now c.args.program.now.image.code.ok.0 (omega (arith, c.requires.within, c.args.program.now.image.code.ok.0)) c.index-insn.ensures in
     here_taken p (waiting c.lead_on.new.rows) (waiting c.take_waiting-then-not-on.new.rows) c.take_waiting-then-not-on.new.here (c.args.at + 1)
-    (all_here p rows c.args.at c.requires.within c.in-Some.row c.index-insn.result.now (subst (λ o. IsPass p rows o c.args.at) c.in-Some.is c.requires.pass) insn (callee_from c.callee_in-callee.result) c.args.sums.now.held c.args.sums.now.names.here c.tell_named.new.row (edge_list c.named_edge-target.result c.named_edge-target.new.taken) c.callee_in-callee.ensures c.requires.held c.requires.names (c.tell_named.ensures.table ∙ ap (named c.index-insn.result.now c.args.program.now.image.profile c.args.sums.now.names.here) (c.tell.ensures.table ∙ ap (told c.index-insn.result.now c.args.program.now.image.profile c.args.sums.now.held) c.in_default-advance.ensures.row)) c.named_edge-target.ensures.edge (waiting c.lead_on.new.rows) (c.in-Ok.ensures.all c.if-not-on.true))
+    (all_here p rows c.args.at c.requires.within c.in-Some.row c.index-insn.result.now (subst (λ o. IsPass p rows o c.args.at) c.in-Some.is c.requires.pass) insn (callee_from c.callee_in-callee.result) c.args.sums.now.held c.args.pairs.now c.args.sums.now.names.here c.tell_named.new.row (edge_list c.named_edge-target.result c.named_edge-target.new.taken) c.callee_in-callee.ensures c.requires.held c.requires.pairs c.requires.names (c.tell_named.ensures.table ∙ ap (named c.index-insn.result.now c.args.program.now.image.profile c.args.sums.now.names.here) (c.tell_on.ensures.table ∙ ap (λ q. told c.index-insn.result.now c.args.program.now.image.profile c.args.sums.now.held (summed c.index-insn.result.now c.args.program.now.image.profile c.args.pairs.now q)) c.in_default-advance.ensures.row)) c.named_edge-target.ensures.edge (waiting c.lead_on.new.rows) (c.in-Ok.ensures.all c.if-not-on.true))
     c.take_waiting-then-not-on.ensures.here c.take_waiting-then-not-on.ensures.rows
 
 pub returns-then-not-on-clause-pool : goal.returns-then-not-on-clause-pool
@@ -159,7 +160,7 @@ returns-then-not-on-clause-pairs g c =
     let p = program_in c.args.program.now in
     let rows = waiting c.args.rows.now in
     let insn = slice_get_read c.args.program.now.image.code.items c.args.program.now.image.code.len c.args.at c.index-insn.result.now c.args.program.now.image.code.ok.0 (omega (arith, c.requires.within, c.args.program.now.image.code.ok.0)) c.index-insn.ensures in
-    paired_here p rows c.args.at c.requires.within c.in-Some.row c.index-insn.result.now (subst (λ o. IsPass p rows o c.args.at) c.in-Some.is c.requires.pass) insn (callee_from c.callee_in-callee.result) c.args.sums.now.held c.args.pairs.now c.pairs_over-over.result c.pairs_told.result c.tell.new.row c.callee_in-callee.ensures (c.tell.ensures.table ∙ ap (told c.index-insn.result.now c.args.program.now.image.profile c.args.sums.now.held) c.in_default-advance.ensures.row) c.pairs_over-over.ensures c.pairs_told.ensures
+    paired_here p rows c.args.at c.requires.within c.in-Some.row c.index-insn.result.now (subst (λ o. IsPass p rows o c.args.at) c.in-Some.is c.requires.pass) insn (callee_from c.callee_in-callee.result) c.args.sums.now.held c.args.pairs.now c.pairs_over-over.result c.pairs_told.result c.tell_on.new.row c.callee_in-callee.ensures (c.tell_on.ensures.table ∙ ap (λ q. told c.index-insn.result.now c.args.program.now.image.profile c.args.sums.now.held (summed c.index-insn.result.now c.args.program.now.image.profile c.args.pairs.now q)) c.in_default-advance.ensures.row) c.pairs_over-over.ensures c.pairs_told.ensures
 
 pub returns-else-not-on-clause-unbroken : goal.returns-else-not-on-clause-unbroken
 returns-else-not-on-clause-unbroken g c =
@@ -174,7 +175,7 @@ returns-else-not-on-clause-pass g c =
     let rows = waiting c.args.rows.now in
     let insn = slice_get_read c.args.program.now.image.code.items c.args.program.now.image.code.len c.args.at c.index-insn.result.now c.args.program.now.image.code.ok.0 (omega (arith, c.requires.within, c.args.program.now.image.code.ok.0)) c.index-insn.ensures in
     let on = c.if-not-on.false in
-    alone_here p rows c.args.at c.requires.within c.in-Some.row c.index-insn.result.now (subst (λ o. IsPass p rows o c.args.at) c.in-Some.is c.requires.pass) insn (callee_from c.callee_in-callee.result) c.args.sums.now.held c.args.sums.now.names.here c.tell_named.new.row (edge_list c.named_edge-target.result c.named_edge-target.new.taken) c.callee_in-callee.ensures c.requires.held c.requires.names (c.tell_named.ensures.table ∙ ap (named c.index-insn.result.now c.args.program.now.image.profile c.args.sums.now.names.here) (c.tell.ensures.table ∙ ap (told c.index-insn.result.now c.args.program.now.image.profile c.args.sums.now.held) c.in_default-advance.ensures.row)) c.named_edge-target.ensures.edge (waiting c.lead_on.new.rows) c.lead_on.new.row (c.in-Ok.ensures.rest on) (c.in-Ok.ensures.on on) (c.in-Ok.ensures.joined on) (c.in-Ok.ensures.misses on)
+    alone_here p rows c.args.at c.requires.within c.in-Some.row c.index-insn.result.now (subst (λ o. IsPass p rows o c.args.at) c.in-Some.is c.requires.pass) insn (callee_from c.callee_in-callee.result) c.args.sums.now.held c.args.pairs.now c.args.sums.now.names.here c.tell_named.new.row (edge_list c.named_edge-target.result c.named_edge-target.new.taken) c.callee_in-callee.ensures c.requires.held c.requires.pairs c.requires.names (c.tell_named.ensures.table ∙ ap (named c.index-insn.result.now c.args.program.now.image.profile c.args.sums.now.names.here) (c.tell_on.ensures.table ∙ ap (λ q. told c.index-insn.result.now c.args.program.now.image.profile c.args.sums.now.held (summed c.index-insn.result.now c.args.program.now.image.profile c.args.pairs.now q)) c.in_default-advance.ensures.row)) c.named_edge-target.ensures.edge (waiting c.lead_on.new.rows) c.lead_on.new.row (c.in-Ok.ensures.rest on) (c.in-Ok.ensures.on on) (c.in-Ok.ensures.joined on) (c.in-Ok.ensures.misses on)
 
 pub returns-else-not-on-clause-taken : goal.returns-else-not-on-clause-taken
 returns-else-not-on-clause-taken g c = subst (λ l. StartsZero c.args.program.now.image.profile l c.named_edge-target.new.taken) (sym c.lead_on.ensures.low) c.named_edge-target.ensures.zeros
@@ -184,4 +185,4 @@ returns-else-not-on-clause-pairs g c =
     let p = program_in c.args.program.now in
     let rows = waiting c.args.rows.now in
     let insn = slice_get_read c.args.program.now.image.code.items c.args.program.now.image.code.len c.args.at c.index-insn.result.now c.args.program.now.image.code.ok.0 (omega (arith, c.requires.within, c.args.program.now.image.code.ok.0)) c.index-insn.ensures in
-    paired_here p rows c.args.at c.requires.within c.in-Some.row c.index-insn.result.now (subst (λ o. IsPass p rows o c.args.at) c.in-Some.is c.requires.pass) insn (callee_from c.callee_in-callee.result) c.args.sums.now.held c.args.pairs.now c.pairs_over-over.result c.pairs_told.result c.tell.new.row c.callee_in-callee.ensures (c.tell.ensures.table ∙ ap (told c.index-insn.result.now c.args.program.now.image.profile c.args.sums.now.held) c.in_default-advance.ensures.row) c.pairs_over-over.ensures c.pairs_told.ensures
+    paired_here p rows c.args.at c.requires.within c.in-Some.row c.index-insn.result.now (subst (λ o. IsPass p rows o c.args.at) c.in-Some.is c.requires.pass) insn (callee_from c.callee_in-callee.result) c.args.sums.now.held c.args.pairs.now c.pairs_over-over.result c.pairs_told.result c.tell_on.new.row c.callee_in-callee.ensures (c.tell_on.ensures.table ∙ ap (λ q. told c.index-insn.result.now c.args.program.now.image.profile c.args.sums.now.held (summed c.index-insn.result.now c.args.program.now.image.profile c.args.pairs.now q)) c.in_default-advance.ensures.row) c.pairs_over-over.ensures c.pairs_told.ensures

@@ -5,7 +5,7 @@ use super::joins::{Joined, are_joined};
 use super::known::Known::{Bits, Dead, Num, One, Stack, Unset};
 use super::known::{FULL, Known};
 use super::operations::{Row, Swapped, leave, tell_swaps};
-use super::{HALF, HALF_32, MAX, MAX_32};
+use super::{HALF, HALF_32, MAX, MAX_32, PAST_32};
 use bpf_alu::Cond::*;
 use bpf_alu::Op;
 use bpf_alu::Op::*;
@@ -39,6 +39,8 @@ const MOVES: &[Row] = &[
     (W64, Unset, EIGHTS, Ok(EIGHTS)),
     (W32, Unset, FULL, Ok(WORD)),
     (W32, Unset, EIGHTS, Ok(Bits(0, MAX_32 - 7, HIGH | 7, 0))),
+    (W32, Unset, Num(PAST_32, PAST_32 + 255), Ok(BYTE)),
+    (W32, Unset, Num(MAX_32, PAST_32), Ok(WORD)),
     (W64, One(1), Dead, Ok(Dead)),
 ];
 
@@ -47,6 +49,7 @@ const SUMS: &[Row] = &[
     (W64, Bits(0, 4, !7, 0), One(MAX), Ok(FULL)),
     (W64, EIGHTS, One(5), Ok(Bits(5, MAX - 2, 2, 5))),
     (W32, Bits(1, 4, !7, 0), One(MAX_32), Ok(Bits(0, 3, !3, 0))),
+    (W32, Num(PAST_32, PAST_32 + 1), One(0), Ok(Bits(0, 1, !1, 0))),
     (W64, Dead, BYTE, Ok(Dead)),
     (W64, Stack(0, 0), Dead, Ok(Stack(0, 0))),
     (W64, Stack(-256, -256), NIBBLES, Ok(Stack(-256, -16))),
@@ -100,6 +103,16 @@ const LEFT_SHIFTS: &[Row] = &[
     (W64, BYTE, One(4), Ok(Bits(0, 0xff0, !0xff0, 0))),
     (W64, FULL, One(4), Ok(Bits(0, MAX - 15, 15, 0))),
     (W64, BYTE, BYTE, Ok(FULL)),
+    (W64, One(1), Bits(0, 3, !3, 0), Ok(Bits(1, 8, !15, 0))),
+    (W64, BYTE, Bits(0, 56, !63, 0), Ok(Num(0, 255 << 56))),
+    (W64, BYTE, Bits(0, 57, !63, 0), Ok(FULL)),
+    (
+        W32,
+        One(1),
+        Bits(0, 31, !31, 0),
+        Ok(Bits(1, HALF_32, HIGH, 0)),
+    ),
+    (W32, One(1), Bits(0, 32, !63, 0), Ok(WORD)),
     (
         W32,
         BYTE,
@@ -125,19 +138,96 @@ const QUOTIENTS: &[Row] = &[
 
 const REMAINDERS: &[Row] = &[(W64, FULL, One(10), Ok(Bits(0, 9, !15, 0)))];
 
-/// Of signed quotients and remainders, and of numbers whose sign is extended, no bits are known but by their width.
-const SIGNED: &[Row] = &[(W64, BYTE, BYTE, Ok(FULL)), (W32, BYTE, BYTE, Ok(WORD))];
+/// The numbers of 64 bits that have no sign, and those of 32.
+const POSITIVE: Known = Bits(0, HALF - 1, HALF, 0);
+
+const POSITIVE_32: Known = Bits(0, HALF_32 - 1, !(HALF_32 - 1), 0);
+
+const SIGNED_QUOTIENTS: &[Row] = &[
+    (W64, BYTE, BYTE, Ok(BYTE)),
+    (W64, BYTE, One(16), Ok(Bits(0, 15, !15, 0))),
+    (W64, POSITIVE, One(1), Ok(POSITIVE)),
+    (W64, Num(0, HALF), One(2), Ok(FULL)),
+    (W64, BYTE, One(HALF - 1), Ok(One(0))),
+    (W64, BYTE, One(HALF), Ok(FULL)),
+    (
+        W32,
+        POSITIVE_32,
+        One(2),
+        Ok(Bits(0, HALF_32 / 2 - 1, !(HALF_32 / 2 - 1), 0)),
+    ),
+    (W32, WORD, One(2), Ok(WORD)),
+];
+
+const SIGNED_REMAINDERS: &[Row] = &[
+    (W64, BYTE, BYTE, Ok(BYTE)),
+    (W64, BYTE, One(16), Ok(Bits(0, 15, !15, 0))),
+    (W64, BYTE, Bits(1, 4, !7, 0), Ok(Bits(0, 3, !3, 0))),
+    (W64, FULL, One(16), Ok(FULL)),
+    (W64, BYTE, One(MAX - 2), Ok(FULL)),
+    (W32, BYTE, One(16), Ok(Bits(0, 15, !15, 0))),
+    (W32, WORD, One(16), Ok(WORD)),
+];
+
+const BYTES_EXTENDED: &[Row] = &[
+    (W64, Unset, BYTE, Ok(FULL)),
+    (W64, Unset, Bits(0, 127, !127, 0), Ok(Bits(0, 127, !127, 0))),
+    (W64, Unset, Bits(0, 128, !255, 0), Ok(FULL)),
+    (
+        W64,
+        Unset,
+        Bits(128, 255, !255, 0),
+        Ok(Num(MAX - 127, MAX)),
+    ),
+    (W64, Unset, Num(261, 265), Ok(Bits(5, 9, !15, 0))),
+    (W64, Unset, Num(250, 260), Ok(FULL)),
+    (W32, Unset, BYTE, Ok(WORD)),
+    (
+        W32,
+        Unset,
+        Bits(128, 255, !255, 0),
+        Ok(Bits(MAX_32 - 127, MAX_32, HIGH, 0)),
+    ),
+];
+
+const HALVES_EXTENDED: &[Row] = &[
+    (W64, Unset, BYTE, Ok(BYTE)),
+    (
+        W64,
+        Unset,
+        Bits(0, 0x7fff, !0x7fff, 0),
+        Ok(Bits(0, 0x7fff, !0x7fff, 0)),
+    ),
+    (W64, Unset, Bits(0, 0x8000, !0xffff, 0), Ok(FULL)),
+    (W32, Unset, BYTE, Ok(BYTE)),
+];
 
 /// A word whose sign is extended, which an instruction of 64 bits alone does.
 const WORDS_EXTENDED: &[Row] = &[
-    (W64, Unset, BYTE, Ok(FULL)),
+    (W64, Unset, BYTE, Ok(BYTE)),
+    (W64, Unset, POSITIVE_32, Ok(POSITIVE_32)),
+    (W64, Unset, WORD, Ok(FULL)),
+    (
+        W64,
+        Unset,
+        Bits(HALF_32, MAX_32, HIGH, 0),
+        Ok(Num(MAX - HALF_32 + 1, MAX)),
+    ),
     (W64, Unset, One(HALF_32), Ok(One(MAX - HALF_32 + 1))),
     (W64, Unset, Dead, Ok(Dead)),
 ];
 
 const NEGATIONS: &[Row] = &[
     (W64, BYTE, Unset, Ok(FULL)),
+    (W64, Bits(1, 8, !15, 0), Unset, Ok(Num(MAX - 7, MAX))),
+    (W64, Num(MAX - 7, MAX), Unset, Ok(Bits(1, 8, !15, 0))),
     (W32, BYTE, Unset, Ok(WORD)),
+    (
+        W32,
+        Bits(1, 8, !15, 0),
+        Unset,
+        Ok(Bits(MAX_32 - 7, MAX_32, HIGH, 0)),
+    ),
     (W64, Dead, Unset, Ok(Dead)),
 ];
 
@@ -155,17 +245,31 @@ const OPERATIONS: &[(Op, &[Row])] = &[
     (Arsh, SIGNED_SHIFTS),
     (Div, QUOTIENTS),
     (Mod, REMAINDERS),
-    (SignedDiv, SIGNED),
-    (SignedMod, SIGNED),
-    (Movsx8, SIGNED),
-    (Movsx16, SIGNED),
+    (SignedDiv, SIGNED_QUOTIENTS),
+    (SignedMod, SIGNED_REMAINDERS),
+    (Movsx8, BYTES_EXTENDED),
+    (Movsx16, HALVES_EXTENDED),
     (Movsx32, WORDS_EXTENDED),
     (Neg, NEGATIONS),
 ];
 
 const SWAPS: &[Swapped] = &[
     (ToBig, B16, BYTE, Ok(Bits(0, 0xffff, !0xffff, 0))),
-    (ToLittle, B32, BYTE, Ok(WORD)),
+    (ToLittle, B16, BYTE, Ok(BYTE)),
+    (
+        ToLittle,
+        B16,
+        Num(0x1_0005, 0x1_0009),
+        Ok(Bits(5, 9, !15, 0)),
+    ),
+    (
+        ToLittle,
+        B16,
+        Bits(0, 0x1_0000, !0x1_ffff, 0),
+        Ok(Bits(0, 0xffff, !0xffff, 0)),
+    ),
+    (ToLittle, B32, BYTE, Ok(BYTE)),
+    (ToLittle, B64, EIGHTS, Ok(Num(0, MAX - 7))),
     (Swap, B64, BYTE, Ok(FULL)),
     (ToBig, B64, One(1), Ok(One(1 << 56))),
     (ToBig, B16, Dead, Ok(Dead)),
@@ -182,8 +286,6 @@ fn wider_operations(_rt: HostRuntime) -> Result<(), Fail> {
 const NONE: Pair = (Dead, Dead);
 
 const ANY: Pair = (FULL, One(10));
-
-const POSITIVE: Known = Bits(0, HALF - 1, HALF, 0);
 
 /// The even numbers, and the odd ones.
 const PARITIES: Pair = (Bits(0, MAX - 1, 1, 0), Bits(1, MAX, 0, 1));

@@ -6,4 +6,4 @@ use Rattle.bpf_ranges.proofs.number.Number.operated.Goals as goal
 pub settled-requires : goal.settled-requires
 settled-requires c =
     let P : Range → Type 0 = λ r. r.lo ≤ r.hi in
-    subst P (sym c.result_range-range.ensures) (range_ordered c.args.profile c.args.op c.args.width c.args.a.range c.args.b.range c.requires.left.range.ordered c.requires.right.range.ordered)
+    λ _. subst P (sym c.result_range-range.ensures) (range_ordered c.args.profile c.args.op c.args.width c.args.a.range c.args.b.range c.requires.left.range.ordered c.requires.right.range.ordered)
