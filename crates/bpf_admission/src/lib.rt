@@ -55,10 +55,10 @@ pub fn admit_program(alloc: Global, bytes: &[u8], sigs: &Sigs) -> Result<Verifie
 }
 
 /// How many bytes the longest image has: its head and 4,096 slots.
-const LONGEST: u64 = 16 + 8 * 4096;
+const MAX_IMAGE_BYTES: u64 = 16 + 8 * 4096;
 
 /// At most how many bytes of a file have to be read to judge it as a program: [`enough`] is never more.
-pub const MOST: usize = 16 + 8 * 4097;
+pub const MAX_READ_BYTES: usize = 16 + 8 * 4097;
 
 /// How many first bytes of a file of `len` bytes are read as all of them are, as an image and as a program: all of a file that is no
 /// longer than the longest image, and of another the longest image's and 1 to 8 more, so that what is left out is whole slots. For code
@@ -67,8 +67,8 @@ pub fn enough(len: u64) -> usize
     ensures few { result ≤ 32792 }
     ensures alike { (bytes : List ℕ) → length bytes ≡ len → AreReadAlike (take result bytes) bytes }
 {
-    match len.checked_sub(LONGEST + 1) {
+    match len.checked_sub(MAX_IMAGE_BYTES + 1) {
         None => len as usize,
-        Some(past) => (LONGEST + 1 + past % 8) as usize,
+        Some(past) => (MAX_IMAGE_BYTES + 1 + past % 8) as usize,
     }
 }

@@ -15,7 +15,7 @@ use bpf_alu::Op;
 use bpf_helpers::{ARGUMENT_REGISTERS, ArgRule};
 use bpf_insn::{Insn, Operand, Register};
 use bpf_ranges::Kind;
-use bpf_semantics::{MAX_WINDOW, Region};
+use bpf_semantics::{MAX_WINDOW_BYTES, Region};
 use bpf_verifier::{Called, KindRule, Pair, Pairs, Span, is_touched, kind_of, span_given, span_of};
 use std::alloc::AllocError;
 
@@ -125,7 +125,10 @@ fn own_touches(row: &[Kind], address: Register, place: u32) -> bool
     ensures { result ≡ own_touches row.now address place }
 {
     let len = kind_of(row, Register::R3);
-    touches(span_given(MAX_WINDOW, kind_of(row, address), len), place)
+    touches(
+        span_given(MAX_WINDOW_BYTES, kind_of(row, address), len),
+        place,
+    )
 }
 
 /// The first kind of some.

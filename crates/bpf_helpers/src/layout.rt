@@ -4,10 +4,10 @@ ghost use Rattle.std.specs.Prelude.{◌≡◌, ◌+◌, ◌*◌, ◌<◌, ◌≤
 ghost use Rattle.bpf_helpers.specs.Layout.{field_at, row_at, rows_from, rows_of, is_newer, is_newest, newest_of};
 
 /// The length of a layout's head, in bytes.
-const HEAD: usize = 16;
+const HEAD_BYTES: usize = 16;
 
 /// The length of a row, in bytes.
-const ROW: usize = 24;
+const ROW_BYTES: usize = 24;
 
 /// The most rows of a layout.
 const MAX_ROWS: u32 = 64;
@@ -35,7 +35,7 @@ impl Row {
         requires { 16 + 24 * (index + 1) ≤ length layout.now }
         ensures { result ≡ row_at layout.now index }
     {
-        let start = HEAD + ROW * index;
+        let start = HEAD_BYTES + ROW_BYTES * index;
         Row {
             vnode: word_at(layout, start),
             n: number_at(layout, start + 8),
@@ -73,7 +73,7 @@ fn count_rows(layout: &[u8]) -> Option<usize>
     ensures some { IfSome result (λ count. (rows_of layout.now ≡ rows_from layout.now 0 count) × (16 + 24 * count ≤ length layout.now) × (count ≤ 64)) }
     ensures none { IfNone result (rows_of layout.now ≡ []) }
 {
-    if layout.len() < HEAD {
+    if layout.len() < HEAD_BYTES {
         return None;
     }
     let count = word_at(layout, 4);
@@ -81,7 +81,7 @@ fn count_rows(layout: &[u8]) -> Option<usize>
         return None;
     }
     let count = count as usize;
-    if layout.len() < HEAD + ROW * count {
+    if layout.len() < HEAD_BYTES + ROW_BYTES * count {
         return None;
     }
     Some(count)

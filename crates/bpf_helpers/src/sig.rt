@@ -4,7 +4,7 @@ ghost use Rattle.std.specs.Prelude.{◌≡◌, ◌<◌, ◌≤◌, ◌^◌, ◌�
 ghost use Rattle.bpf_helpers.specs.Rules.{are_laid_out, is_signature, is_helper_number};
 
 use bpf_insn::Register;
-use bpf_semantics::MAX_WINDOW;
+use bpf_semantics::MAX_WINDOW_BYTES;
 
 /// The registers of the arguments of a call, in order.
 pub const ARGUMENT_REGISTERS: [Register; 5] = [
@@ -47,14 +47,15 @@ pub struct Entry {
     pub sig: Sig,
 }
 
-/// Whether each Read is followed by a Len and each Len stands after a Read, no Read allows more than [`MAX_WINDOW`] bytes
+/// Whether each Read is followed by a Len and each Len stands after a Read, no Read allows more than [`MAX_WINDOW_BYTES`] bytes
 /// and no range of a number is empty.
 fn has_layout(args: &[ArgRule]) -> bool
     ensures { result ≡ are_laid_out args.now }
 {
     match args {
         [] => true,
-        [ArgRule::Read { max }, ArgRule::Len, rest @ ..] => *max <= MAX_WINDOW && has_layout(rest),
+        [ArgRule::Read { max }, ArgRule::Len, rest @ ..] => *max <= MAX_WINDOW_BYTES
+            && has_layout(rest),
         [ArgRule::Num { lo, hi }, rest @ ..] => *lo <= *hi && has_layout(rest),
         [ArgRule::Unused, rest @ ..] => has_layout(rest),
         _ => false,
@@ -65,7 +66,7 @@ impl Sig {
     ghost use Rattle.bpf_helpers.specs.Shapes.{shape_of};
 
     /// The Sig of these rules and this range of answers. None where a Read is not followed by a Len, a Len stands after
-    /// no Read, there are more than two Reads, a Read allows more than [`MAX_WINDOW`] bytes, or a range is empty.
+    /// no Read, there are more than two Reads, a Read allows more than [`MAX_WINDOW_BYTES`] bytes, or a range is empty.
     pub fn new(args: [ArgRule; 5], ret: (u64, u64)) -> Option<Sig>
         ensures some { IsSome result ↔ IsTrue (is_signature args ret.0 ret.1) }
         ensures value { IfSome result (λ sig. (sig.args ≡ args) × (sig.lo ≡ ret.0) × (sig.hi ≡ ret.1)) }

@@ -9,17 +9,17 @@ ghost use Rattle.bpf_image.specs.Image.{kind_number, version_number, number_at, 
 use crate::image::{Image, ImageFault, ImageKind};
 use bpf_insn::decode::decode;
 use bpf_insn::{DecodeFault, Refusal};
-use bpf_semantics::{MAX_WINDOW, Profile};
+use bpf_semantics::{MAX_WINDOW_BYTES, Profile};
 use std::alloc::Global;
 
 /// How many bytes stand before the code.
-const HEAD: usize = 16;
+const HEAD_BYTES: usize = 16;
 
 /// The mark with which an image begins.
 const MARK: &[u8; 4] = b"RBPF";
 
 /// How many bytes each window of raw code has.
-const RAW_WINDOW: u32 = 4096;
+const RAW_WINDOW_BYTES: u32 = 4096;
 
 /// What a head says.
 #[derive(Clone, Copy)]
@@ -56,7 +56,7 @@ fn read_head(bytes: &[u8]) -> Result<Head, ImageFault>
     ensures small { IfOk result (λ head. (16 ≤ length bytes.now) × (head.in_len ≤ longest_window) × (head.out_len ≤ longest_window)) }
     ensures refused { IfErr result (λ fault. IsFirstFault bytes.now fault × (rank fault < 5)) }
 {
-    if bytes.len() < HEAD {
+    if bytes.len() < HEAD_BYTES {
         return Err(ImageFault::Short);
     }
     if &bytes[..4] != MARK.as_slice() {
@@ -71,7 +71,7 @@ fn read_head(bytes: &[u8]) -> Result<Head, ImageFault>
     };
     let in_len = read_number(bytes, 8);
     let out_len = read_number(bytes, 12);
-    if in_len > MAX_WINDOW || out_len > MAX_WINDOW {
+    if in_len > MAX_WINDOW_BYTES || out_len > MAX_WINDOW_BYTES {
         return Err(ImageFault::Window);
     }
     Ok(Head {
@@ -87,7 +87,7 @@ fn after_head(bytes: &[u8]) -> &[u8]
     requires { 16 ≤ length bytes.now }
     ensures { result.now ≡ drop 16 bytes.now }
 {
-    &bytes[HEAD..]
+    &bytes[HEAD_BYTES..]
 }
 
 /// Why an image's code is not read.
@@ -132,8 +132,8 @@ pub fn raw_image(alloc: Global, bytes: &[u8]) -> Result<Image, ImageFault>
         Ok(code) => Ok(Image {
             kind: ImageKind::Plain,
             profile: Profile::Second,
-            in_len: RAW_WINDOW,
-            out_len: RAW_WINDOW,
+            in_len: RAW_WINDOW_BYTES,
+            out_len: RAW_WINDOW_BYTES,
             code,
         }),
         Err(fault) => Err(code_fault(fault)),

@@ -17,7 +17,7 @@ use crate::parts::{first_place, numbers, part, second_place};
 use crate::state::State;
 use bpf_helpers::{ARGUMENT_REGISTERS, ArgRule, Call, Table, fits};
 use bpf_insn::Register;
-use bpf_semantics::{Fault, MAX_WINDOW, Region};
+use bpf_semantics::{Fault, MAX_WINDOW_BYTES, Region};
 
 impl<'a> State<'a> {
     /// The number in a register, 0 where it is unset.
@@ -46,7 +46,7 @@ impl<'a> State<'a> {
         ensures ok { IfOk result (λ place. Spans (memory_of self.now.windows) place.0 address n × (place.1 ≡ address - base place.0)) }
         ensures err { IfErr result (λ f. (f ≡ Fault.Helper) × ((region : Region) → ¬ Spans (memory_of self.now.windows) region address n)) }
     {
-        if n > u64::from(MAX_WINDOW) {
+        if n > u64::from(MAX_WINDOW_BYTES) {
             return Err(Fault::Helper);
         }
         self.windows

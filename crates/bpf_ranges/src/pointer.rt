@@ -11,18 +11,18 @@ use crate::range::Range;
 use bpf_semantics::{Profile, Region};
 
 /// How far a pointer may be from its region by the first profile, in bytes on either side (this store's profile).
-const FAR: i128 = 1 << 20;
+const FAR_BYTES: i128 = 1 << 20;
 
 /// And by the second one: as far as two numbers of 32 bits lead.
-const FAR_SECOND: i128 = 1 << 33;
+const FAR_SECOND_BYTES: i128 = 1 << 33;
 
 /// Whether an offset is near enough.
 fn is_near(profile: Profile, offset: i128) -> bool
     ensures { result ≡ is_near profile offset }
 {
     match profile {
-        Profile::First => -FAR <= offset && offset <= FAR,
-        Profile::Second => -FAR_SECOND <= offset && offset <= FAR_SECOND,
+        Profile::First => -FAR_BYTES <= offset && offset <= FAR_BYTES,
+        Profile::Second => -FAR_SECOND_BYTES <= offset && offset <= FAR_SECOND_BYTES,
     }
 }
 

@@ -12,13 +12,13 @@ ghost use Rattle.bpf_semantics.specs.Step.{Step, Runs};
 ghost use Rattle.bpf_semantics.specs.Windows.{Memory, IsPlaced, Covers, base, longest_window, read, written, byte_at};
 ghost use Rattle.bpf_semantics.specs.declared.Region.{Region};
 
-use crate::{MAX_WINDOW, Region};
+use crate::{MAX_WINDOW_BYTES, Region};
 use bpf_alu::{Op, Width};
 use bpf_insn::{Insn, Operand, Register};
 
 /// The greatest window, as a number.
 pub fn limits()
-    ensures { MAX_WINDOW ≡ longest_window }
+    ensures { MAX_WINDOW_BYTES ≡ longest_window }
 {}
 
 /// Memory is a partial map from addresses to bytes, defined on three intervals that lie apart. What `read` gives of a place are

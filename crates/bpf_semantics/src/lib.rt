@@ -17,7 +17,7 @@ pub use profile::Profile;
 use std::fmt;
 
 /// The most bytes of a window that a program is given, and of a range that a call of its reads or writes.
-pub const MAX_WINDOW: u32 = 65_536;
+pub const MAX_WINDOW_BYTES: u32 = 65_536;
 
 /// A window of memory.
 #[derive(Clone, Copy, PartialEq, Eq)]

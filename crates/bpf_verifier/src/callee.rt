@@ -19,7 +19,7 @@ use crate::windows::is_inside;
 use bpf_helpers::{ARGUMENT_REGISTERS, ArgRule, Sig, Sigs};
 use bpf_insn::{Insn, Register};
 use bpf_ranges::{Kind, Profile, Range, kind_in};
-use bpf_semantics::{MAX_WINDOW, Region};
+use bpf_semantics::{MAX_WINDOW_BYTES, Region};
 
 /// What a call's number stands for.
 #[derive(Clone, Copy)]
@@ -202,7 +202,7 @@ fn is_read(program: &Candidate, pairs: Pairs, row: &[Kind], address: Register) -
 {
     let end = most_together(pairs, address, Register::R3);
     let len = kind_of(row, Register::R3);
-    reaches(program, MAX_WINDOW, kind_of(row, address), len, end)
+    reaches(program, MAX_WINDOW_BYTES, kind_of(row, address), len, end)
 }
 
 /// Whether a call of the machine's own may write there.

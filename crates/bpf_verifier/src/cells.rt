@@ -16,7 +16,7 @@ use crate::span::Span;
 use bpf_helpers::ArgRule;
 use bpf_insn::{Extend, Insn, Register};
 use bpf_ranges::{Kind, Part, Profile, Range, kind_in};
-use bpf_semantics::{MAX_WINDOW, Region};
+use bpf_semantics::{MAX_WINDOW_BYTES, Region};
 
 /// The place on the stack, counted from its lowest byte, at an offset from an offset that counts from its end.
 fn place_of(at: i64, offset: i16) -> i64
@@ -412,7 +412,7 @@ fn own_numbers(row: &[Kind], address: Kind) -> bool
 {
     has_numbers(
         row,
-        span_given(MAX_WINDOW, address, kind_of(row, Register::R3)),
+        span_given(MAX_WINDOW_BYTES, address, kind_of(row, Register::R3)),
     )
 }
 
@@ -441,7 +441,7 @@ fn span_by_call(callee: &Called, row: &[Kind]) -> Option<Span>
     match callee {
         Called::Copy | Called::Fill => {
             let len = kind_of(row, Register::R3);
-            span_given(MAX_WINDOW, kind_of(row, Register::R1), len)
+            span_given(MAX_WINDOW_BYTES, kind_of(row, Register::R1), len)
         }
         Called::Same | Called::Helper(_) | Called::Unknown => None,
     }

@@ -46,7 +46,7 @@ pub trait Files {
 pub fn read_program<F: Files>(files: &F, alloc: Global, name: &str) -> io::Result<Vec<u8>>
     ensures { IfOk result (λ bytes. IfSome (F.held files.now name.now) (λ known. AreReadAlike bytes.items known)) }
 {
-    let mut part = files.read_part(alloc, name, bpf_admission::MOST)?;
+    let mut part = files.read_part(alloc, name, bpf_admission::MAX_READ_BYTES)?;
     part.bytes.truncate(bpf_admission::enough(part.len));
     Ok(part.bytes)
 }

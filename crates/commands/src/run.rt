@@ -15,13 +15,13 @@ use crate::outcome::{Outcome, up_to_last_set};
 use bpf_admission::admit_program;
 use bpf_helpers::Table;
 use bpf_interpreter::{Done, padded, run as run_verified};
-use bpf_semantics::MAX_WINDOW;
+use bpf_semantics::MAX_WINDOW_BYTES;
 use bpf_verifier::Verified;
 use std::alloc::{AllocError, Global};
 use std::io::Write;
 
 /// At most how many bytes of an input are read: those of the longest window, and one that has no room there.
-const MOST_INPUT: usize = MAX_WINDOW as usize + 1;
+const MOST_INPUT_BYTES: usize = MAX_WINDOW_BYTES as usize + 1;
 
 /// Runs the program in the file `image` on the bytes of the file `input`, tells on `out` what it came to, and gives the status.
 pub fn run<F: Files, O: Write>(
@@ -35,7 +35,7 @@ pub fn run<F: Files, O: Write>(
     ensures { IfOk result (Ran table.now.listed (F.held files.now image.now) (F.held files.now input.now) (O.contents out.old) (O.contents out.new)) }
 {
     let image = read_program(files, alloc, image)?;
-    let input = files.read_part(alloc, input, MOST_INPUT)?.bytes;
+    let input = files.read_part(alloc, input, MOST_INPUT_BYTES)?.bytes;
     let outcome = outcome_of(alloc, table, &image, &input);
     write!(out, "{outcome}")?;
     Ok(outcome.status())

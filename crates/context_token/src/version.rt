@@ -15,7 +15,7 @@ pub(crate) const SECOND_MARK: u8 = 2;
 pub(crate) const THIRD_MARK: u8 = 3;
 
 // The bytes of the longest entry.
-pub(crate) const MAX_ENTRY_LEN: usize = 12;
+pub(crate) const MAX_ENTRY_BYTES: usize = 12;
 
 // In version 2 a vnode's index is below this, and its identifier is this many times its incarnation, and its index.
 const INDEXES: u32 = 1 << 16;

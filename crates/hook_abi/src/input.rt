@@ -13,10 +13,10 @@ use key_state::{Content, MAX_SIBLINGS, Sibling};
 use thiserror::Error;
 
 /// The bytes of an input's head: kind, number of rows, used length and a zero, 4 bytes each.
-const HEAD_LEN: usize = 16;
+const HEAD_BYTES: usize = 16;
 
 /// The bytes of a row: vnode and flag (4 each), counter (8), and the value's offset and length (4 each).
-const ROW_LEN: usize = 24;
+const ROW_BYTES: usize = 24;
 
 /// The dot of a content that has none yet.
 const NO_DOT: Dot = Dot { vnode: 0, n: 0 };
@@ -72,7 +72,7 @@ fn used_length(new: Option<&Content>, siblings: &[Sibling], len: usize) -> Optio
     requires { length siblings.now ≤ most_siblings }
     ensures { SomeIff result (used_by (contents_shown (option_copied new.entry) siblings.now) ≤ len) (used_by (contents_shown (option_copied new.entry) siblings.now)) }
 {
-    let room = len.checked_sub(HEAD_LEN + ROW_LEN * row_count(new, siblings))?;
+    let room = len.checked_sub(HEAD_BYTES + ROW_BYTES * row_count(new, siblings))?;
     let room = room.checked_sub(new_shown(new).len())?;
     let room = room_after(siblings, room)?;
     Some(len - room)
@@ -103,7 +103,7 @@ fn write_used(
     ensures { Writes writer.old writer.new (layout kind (contents_shown (option_copied new.entry) siblings.now)) }
 {
     let count = row_count(new, siblings) as u32;
-    let first = HEAD_LEN as u32 + ROW_LEN as u32 * count;
+    let first = HEAD_BYTES as u32 + ROW_BYTES as u32 * count;
     write_head(writer, kind, count, used);
     write_new_row(writer, first, new);
     write_rows(writer, first + new_shown(new).len() as u32, siblings);
@@ -113,7 +113,7 @@ fn write_used(
 
 /// Writes a head.
 fn write_head(writer: &mut Writer, kind: ImageKind, count: u32, used: u32)
-    requires { writer.old.at + HEAD_LEN ≤ length writer.old.window.now }
+    requires { writer.old.at + HEAD_BYTES ≤ length writer.old.window.now }
     ensures { Writes writer.old writer.new (head kind count used) }
 {
     writer.word(u32::from(kind.number()));
@@ -124,7 +124,7 @@ fn write_head(writer: &mut Writer, kind: ImageKind, count: u32, used: u32)
 
 /// Writes the row of the new content, where there is one.
 fn write_new_row(writer: &mut Writer, offset: u32, new: Option<&Content>)
-    requires room { writer.old.at + ROW_LEN * length (contents_shown (option_copied new) []) ≤ length writer.old.window.now }
+    requires room { writer.old.at + ROW_BYTES * length (contents_shown (option_copied new) []) ≤ length writer.old.window.now }
     requires short { length (new_shown (option_copied new)) < 2 ^ 32 }
     ensures { Writes writer.old writer.new (rows offset (contents_shown (option_copied new.entry) [])) }
 {
@@ -135,7 +135,7 @@ fn write_new_row(writer: &mut Writer, offset: u32, new: Option<&Content>)
 
 /// Writes one row.
 fn write_row(writer: &mut Writer, offset: u32, dot: Dot, content: &Content)
-    requires room { writer.old.at + ROW_LEN ≤ length writer.old.window.now }
+    requires room { writer.old.at + ROW_BYTES ≤ length writer.old.window.now }
     requires short { length (shown content.now) < 2 ^ 32 }
     ensures { Writes writer.old writer.new (row offset (record { dot = dot; content = content.now })) }
 {
@@ -148,7 +148,7 @@ fn write_row(writer: &mut Writer, offset: u32, dot: Dot, content: &Content)
 
 /// Writes the rows of siblings whose values stand one after another from an offset on.
 fn write_rows(writer: &mut Writer, first: u32, siblings: &[Sibling])
-    requires room { writer.old.at + ROW_LEN * length siblings.now ≤ length writer.old.window.now }
+    requires room { writer.old.at + ROW_BYTES * length siblings.now ≤ length writer.old.window.now }
     requires short { first + length (values siblings.now) < 2 ^ 32 }
     ensures { Writes writer.old writer.new (rows first siblings.now) }
 {

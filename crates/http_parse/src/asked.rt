@@ -26,7 +26,7 @@ use crate::whole::Request;
 use context_token::TokenFault;
 use dvv::Clock;
 use http_request::{Ask, Call, Form, Refusal, Route};
-use key_state::{Bytes, Content, Key, MAX_BUCKET, MAX_MEDIA};
+use key_state::{Bytes, Content, Key, MAX_BUCKET_BYTES, MAX_MEDIA_BYTES};
 use std::alloc::{AllocError, Global};
 
 impl Request<'_> {
@@ -213,7 +213,7 @@ impl Request<'_> {
             .fields
             .content_type
             .unwrap_or(b"application/octet-stream");
-        if !is_name(MAX_MEDIA, media) {
+        if !is_name(MAX_MEDIA_BYTES, media) {
             return Ok(None);
         }
         let media = self.types.bytes_of(alloc, media)?;
@@ -257,7 +257,7 @@ impl Request<'_> {
             return Ok(Ask::Refused(Refusal::Method));
         }
         let bucket = name_at(alloc, self.path, 2)?;
-        if !is_name(MAX_BUCKET, bucket.as_slice()) {
+        if !is_name(MAX_BUCKET_BYTES, bucket.as_slice()) {
             return Ok(Ask::Refused(Refusal::BadName));
         }
         if get {

@@ -30,7 +30,7 @@ pub enum Refusal {
     BadName,
     /// The context is no token.
     Token(TokenFault),
-    /// The media type of a value is empty or longer than [`MAX_MEDIA`](key_state::MAX_MEDIA) bytes.
+    /// The media type of a value is empty or longer than [`MAX_MEDIA_BYTES`](key_state::MAX_MEDIA_BYTES) bytes.
     BadType,
     /// The body is no JSON that sets properties.
     BadProps,

@@ -9,12 +9,12 @@ use std::marker::Model;
 use std::sync::Arc;
 
 /// So many bytes lie beside the count of their owners.
-const SHORT: usize = 16;
+const SHORT_BYTES: usize = 16;
 
 /// Bytes that never change, seen as the list of them. A copy shares them with its original.
 #[derive(Drop)]
 pub struct Bytes {
-    shared: Arc<SmallVec<u8, SHORT>>,
+    shared: Arc<SmallVec<u8, SHORT_BYTES>>,
 }
 
 impl Model for Bytes {

@@ -4,7 +4,7 @@ ghost use Rattle.std.specs.Prelude.{◌≡◌, ◌↔◌, IfOk, IsTrue};
 ghost use Rattle.key_state.specs.Limits.{IsKey};
 
 use crate::bytes::Bytes;
-use crate::limits::{MAX_BUCKET, MAX_KEY};
+use crate::limits::{MAX_BUCKET_BYTES, MAX_KEY_BYTES};
 use crate::names::Names;
 use dvv::Dot;
 use smallvec::SmallVec;
@@ -156,7 +156,7 @@ impl Key {
         ensures { IsTrue result ↔ IsKey self.now }
     {
         let (bucket, key) = (self.bucket().len(), self.key().len());
-        1 <= bucket && bucket <= MAX_BUCKET && 1 <= key && key <= MAX_KEY
+        1 <= bucket && bucket <= MAX_BUCKET_BYTES && 1 <= key && key <= MAX_KEY_BYTES
     }
 
     /// The same key, its bytes shared with this one.

@@ -10,15 +10,17 @@ ghost use Rattle.key_state.specs.Parts.{Summarized, HoldsLeftOut, summary_of, pa
 ghost use Rattle.key_state.specs.Limits.{most_siblings, longest_bucket, longest_key, longest_media, longest_value};
 ghost use Rattle.key_state.specs.Known.{Write, write_of, IsCurrent, InContext, Shows, AreUnique, NoneSawItself, current_among, context_of, ShowsKnown};
 
-use crate::limits::{MAX_BUCKET, MAX_KEY, MAX_MEDIA, MAX_SIBLINGS, MAX_VALUE};
+use crate::limits::{
+    MAX_BUCKET_BYTES, MAX_KEY_BYTES, MAX_MEDIA_BYTES, MAX_SIBLINGS, MAX_VALUE_BYTES,
+};
 
 /// The constants are the limits' numbers.
 pub fn limits()
     ensures siblings { MAX_SIBLINGS ≡ most_siblings }
-    ensures bucket { MAX_BUCKET ≡ longest_bucket }
-    ensures key { MAX_KEY ≡ longest_key }
-    ensures media { MAX_MEDIA ≡ longest_media }
-    ensures value { MAX_VALUE ≡ longest_value }
+    ensures bucket { MAX_BUCKET_BYTES ≡ longest_bucket }
+    ensures key { MAX_KEY_BYTES ≡ longest_key }
+    ensures media { MAX_MEDIA_BYTES ≡ longest_media }
+    ensures value { MAX_VALUE_BYTES ≡ longest_value }
 {}
 
 /// A put keeps what a state shows: the current writes and the context of what is known.

@@ -22,7 +22,7 @@ pub use bytes::Bytes;
 pub use content::{Content, Key, Sibling};
 pub use fault::{MergeFault, PartFault, PutFault, PutRefusal};
 pub use held::{Held, Stored};
-pub use limits::{MAX_BUCKET, MAX_KEY, MAX_MEDIA, MAX_SIBLINGS, MAX_VALUE};
+pub use limits::{MAX_BUCKET_BYTES, MAX_KEY_BYTES, MAX_MEDIA_BYTES, MAX_SIBLINGS, MAX_VALUE_BYTES};
 pub use part::{Part, PartSibling, Summary};
 pub use prepared::PreparedPart;
 pub use shared::Shared;

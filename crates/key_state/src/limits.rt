@@ -4,13 +4,13 @@
 pub const MAX_SIBLINGS: usize = 64;
 
 /// The most bytes of a bucket. It has one at least.
-pub const MAX_BUCKET: usize = 64;
+pub const MAX_BUCKET_BYTES: usize = 64;
 
 /// The most bytes of a key's name in its bucket. It has one at least.
-pub const MAX_KEY: usize = 255;
+pub const MAX_KEY_BYTES: usize = 255;
 
 /// The most bytes of a media type. It has one at least.
-pub const MAX_MEDIA: usize = 127;
+pub const MAX_MEDIA_BYTES: usize = 127;
 
 /// The most bytes of a value, which may have none.
-pub const MAX_VALUE: usize = 65_536;
+pub const MAX_VALUE_BYTES: usize = 65_536;

@@ -10,7 +10,7 @@ use std::marker::Model;
 use std::mem::size_of;
 
 /// So many bytes of a key's names lie beside the count of their owners.
-const SHORT: usize = 29;
+const SHORT_NAME_BYTES: usize = 29;
 
 // A bucket's name and that of a key in it. Their bytes lie in one slice, the bucket's before those of the key. Contracts see the two.
 #[derive(Drop)]
@@ -27,7 +27,7 @@ enum Kept {
     Short {
         split: u8,
         len: u8,
-        bytes: [u8; SHORT],
+        bytes: [u8; SHORT_NAME_BYTES],
     },
     // Names of more bytes, of which `split` are the bucket's.
     Long {
@@ -56,8 +56,8 @@ impl Names {
     {
         let split = bucket.len();
         let len = split + key.len();
-        if len <= SHORT {
-            let mut bytes = [0; SHORT];
+        if len <= SHORT_NAME_BYTES {
+            let mut bytes = [0; SHORT_NAME_BYTES];
             bytes[..split].copy_from_slice(bucket);
             bytes[split..len].copy_from_slice(key);
             return Ok(Names {

@@ -11,7 +11,10 @@ use crate::read::read_record;
 use crate::record::Record;
 use crate::sharing::{from_key, share, share_media};
 use crate::write::{has_record, write_record};
-use key_state::{Content, Key, KeyState, MAX_BUCKET, MAX_KEY, MAX_MEDIA, MAX_VALUE, Sibling};
+use key_state::{
+    Content, Key, KeyState, MAX_BUCKET_BYTES, MAX_KEY_BYTES, MAX_MEDIA_BYTES, MAX_VALUE_BYTES,
+    Sibling,
+};
 use std::alloc::{AllocError, Global};
 
 /// Why bytes are not read as records.
@@ -66,7 +69,7 @@ fn is_key(key: &Key) -> bool
 {
     let bucket = key.bucket().len();
     let name = key.key().len();
-    1 <= bucket && bucket <= MAX_BUCKET && 1 <= name && name <= MAX_KEY
+    1 <= bucket && bucket <= MAX_BUCKET_BYTES && 1 <= name && name <= MAX_KEY_BYTES
 }
 
 /// Whether the contents of siblings are within their limits.
@@ -88,7 +91,7 @@ fn is_content(content: &Content) -> bool
     match content {
         Content::Value { media, bytes } => {
             let media = media.as_slice().len();
-            1 <= media && media <= MAX_MEDIA && bytes.as_slice().len() <= MAX_VALUE
+            1 <= media && media <= MAX_MEDIA_BYTES && bytes.as_slice().len() <= MAX_VALUE_BYTES
         }
         Content::Tombstone => true,
     }

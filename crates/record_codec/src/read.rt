@@ -13,10 +13,11 @@ ghost use Rattle.record_codec.specs.declared.record.Record.{Record as OneRecord}
 use crate::fault::WireFault;
 use crate::form::{FIRST_WIDE, Form};
 use crate::record::Record;
-use crate::write::{DIGEST_LEN, HEAD_LEN, TOMBSTONE, VALUE};
+use crate::write::{DIGEST_BYTES, HEAD_BYTES, TOMBSTONE, VALUE};
 use dvv::{Clock, Dot, MAX_COUNTER, MAX_ENTRIES};
 use key_state::{
-    Bytes, Content, Key, KeyState, MAX_BUCKET, MAX_KEY, MAX_MEDIA, MAX_VALUE, Sibling,
+    Bytes, Content, Key, KeyState, MAX_BUCKET_BYTES, MAX_KEY_BYTES, MAX_MEDIA_BYTES,
+    MAX_VALUE_BYTES, Sibling,
 };
 use sha1::Sha1;
 use std::alloc::{AllocError, Global};
@@ -86,8 +87,8 @@ fn long_text_at(bytes: &[u8], most: usize) -> Result<(&[u8], &[u8]), WireFault>
 fn key_at(alloc: Global, bytes: &[u8]) -> Result<(Key, &[u8]), WireFault>
     ensures { Gives (λ x. (x.0, x.1.now)) result (key_at bytes.now) }
 {
-    let (bucket, rest) = short_text_at(bytes, MAX_BUCKET)?;
-    let (key, rest) = short_text_at(rest, MAX_KEY)?;
+    let (bucket, rest) = short_text_at(bytes, MAX_BUCKET_BYTES)?;
+    let (key, rest) = short_text_at(rest, MAX_KEY_BYTES)?;
     Ok((Key::new(alloc, bucket, key)?, rest))
 }
 
@@ -104,8 +105,8 @@ fn dot_at(bytes: &[u8]) -> Result<(Dot, &[u8]), WireFault>
 fn value_at(alloc: Global, bytes: &[u8]) -> Result<(Content, &[u8]), WireFault>
     ensures { Gives (λ x. (x.0, x.1.now)) result (value_at bytes.now) }
 {
-    let (media, rest) = short_text_at(bytes, MAX_MEDIA)?;
-    let (bytes, rest) = long_text_at(rest, MAX_VALUE)?;
+    let (media, rest) = short_text_at(bytes, MAX_MEDIA_BYTES)?;
+    let (bytes, rest) = long_text_at(rest, MAX_VALUE_BYTES)?;
     Ok((value_of(alloc, media, bytes)?, rest))
 }
 
@@ -326,7 +327,7 @@ fn frame_at(bytes: &[u8]) -> Result<Frame<'_>, WireFault>
         return Err(WireFault::Mark);
     };
     let len = u32::from_be_bytes(*len) as usize;
-    if rest.len() < len + DIGEST_LEN {
+    if rest.len() < len + DIGEST_BYTES {
         return Err(WireFault::Cut);
     }
     let (body, rest) = rest.split_at(len);
@@ -338,7 +339,7 @@ fn frame_at(bytes: &[u8]) -> Result<Frame<'_>, WireFault>
 fn length_around(body: &[u8]) -> usize
     ensures { result ≡ 28 + length body.now }
 {
-    HEAD_LEN + body.len() + DIGEST_LEN
+    HEAD_BYTES + body.len() + DIGEST_BYTES
 }
 
 /// How long the record at the front of the input is, as its head says it. None where the input doesn't begin with a mark, or ends before

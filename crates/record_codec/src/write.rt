@@ -16,13 +16,13 @@ use sha1::Sha1;
 use std::alloc::{AllocError, Global};
 
 /// The bytes before the body: the mark, and the body's length.
-pub(crate) const HEAD_LEN: usize = 8;
+pub(crate) const HEAD_BYTES: usize = 8;
 
 /// The bytes of a SHA-1.
-pub(crate) const DIGEST_LEN: usize = 20;
+pub(crate) const DIGEST_BYTES: usize = 20;
 
 /// The bytes of a dot.
-const DOT_LEN: usize = 12;
+const DOT_BYTES: usize = 12;
 
 /// What stands before a content: a tombstone or a value.
 pub(crate) const TOMBSTONE: u8 = 0;
@@ -30,7 +30,7 @@ pub(crate) const TOMBSTONE: u8 = 0;
 pub(crate) const VALUE: u8 = 1;
 
 /// A body's length is below this.
-const BODY_LIMIT: usize = 1 << 32;
+const BODY_LIMIT_BYTES: usize = 1 << 32;
 
 /// Whether a key's state has a record that names this place: whether its body would be below 4,294,967,296 bytes.
 pub fn has_record(key: &Key, at: u64, state: &KeyState) -> bool
@@ -59,10 +59,10 @@ pub fn write_record(
     let Some(len) = body_len(key, at, state) else {
         unreachable!();
     };
-    let mut out = Vec::with_capacity(alloc, HEAD_LEN + len + DIGEST_LEN)?;
+    let mut out = Vec::with_capacity(alloc, HEAD_BYTES + len + DIGEST_BYTES)?;
     put_head(&mut out, Form::of(at), len as u32)?;
     put_body(&mut out, key, from, at, state)?;
-    let digest = Sha1::digest(&out[HEAD_LEN..]);
+    let digest = Sha1::digest(&out[HEAD_BYTES..]);
     out.extend_from_slice(&digest)?;
     Ok(out)
 }
@@ -112,12 +112,12 @@ fn body_len(key: &Key, at: u64, state: &KeyState) -> Option<usize>
     ensures { (from : ℕ) → SomeIff result (length (body (record { key = key.now; from = from; at = at; state = state.now })) < 2 ^ 32) (length (body (record { key = key.now; from = from; at = at; state = state.now }))) }
 {
     let fixed = 2 * 2 + 4 + Form::of(at).place_len() + 2 + 4;
-    let mut room = BODY_LIMIT - 1 - fixed;
+    let mut room = BODY_LIMIT_BYTES - 1 - fixed;
     room = room.checked_sub(key.bucket().len())?;
     room = room.checked_sub(key.key().len())?;
-    room = room.checked_sub(DOT_LEN * state.clock().entries().len())?;
+    room = room.checked_sub(DOT_BYTES * state.clock().entries().len())?;
     room = room_after(state.siblings(), room)?;
-    Some(BODY_LIMIT - 1 - room)
+    Some(BODY_LIMIT_BYTES - 1 - room)
 }
 
 /// What is left of so many bytes after siblings, where these fit.
@@ -135,7 +135,7 @@ fn room_after(siblings: &[Sibling], room: usize) -> Option<usize>
 fn room_after_sibling(one: &Sibling, room: usize) -> Option<usize>
     ensures { SomeIff result (length (sibling one.now) ≤ room) (room - length (sibling one.now)) }
 {
-    let room = room.checked_sub(DOT_LEN)?;
+    let room = room.checked_sub(DOT_BYTES)?;
     match &one.content {
         Content::Value { media, bytes } => {
             let room = room.checked_sub(1 + 2 + 4)?;

@@ -9,4 +9,4 @@ mod words;
 pub use bad::{BadLine, Misspelling};
 pub use cut::first_line;
 pub use line::{Context, Line, Question, Spelling, line_of};
-pub use words::{MAX_WORD, is_word, number};
+pub use words::{MAX_WORD_BYTES, is_word, number};

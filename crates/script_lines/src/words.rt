@@ -6,7 +6,7 @@ ghost use Rattle.std.specs.Char.{digit_value, is_ascii_alphanumeric, is_ascii_di
 ghost use Rattle.script_lines.specs.Lines.{is_decimal, is_number, is_word};
 
 /// The most bytes of a key, a value or a name.
-pub const MAX_WORD: usize = 64;
+pub const MAX_WORD_BYTES: usize = 64;
 
 /// The number that a decimal without sign and leading zeros spells; none for other words, and past `usize::MAX`.
 pub fn number(word: &[u8]) -> Option<usize>
@@ -62,7 +62,7 @@ fn worth(digit: u8) -> usize
 pub fn is_word(word: &[u8]) -> bool
     ensures { result ≡ is_word word.now }
 {
-    if word.is_empty() || word.len() > MAX_WORD {
+    if word.is_empty() || word.len() > MAX_WORD_BYTES {
         return false;
     }
     are_letters_or_digits(word)

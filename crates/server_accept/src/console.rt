@@ -17,7 +17,7 @@ const STOP: &[u8] = b"stop";
 const SNAPSHOT: &[u8] = b"snapshot";
 
 /// No line that says something is longer.
-const LONGEST: usize = SNAPSHOT.len();
+const MAX_LINE_BYTES: usize = SNAPSHOT.len();
 
 /// What lines said: how many were `stop`, `snapshot`, and something else.
 #[derive(Clone, Copy, Debug, PartialEq, Eq)]
@@ -58,7 +58,7 @@ impl Said {
 #[derive(Clone, Copy, Debug)]
 struct Line {
     /// Its first bytes.
-    front: [u8; LONGEST],
+    front: [u8; MAX_LINE_BYTES],
     /// How many bytes it has.
     len: usize,
 }
@@ -69,7 +69,7 @@ impl Line {
         ensures { result.len ≡ 0 }
     {
         Line {
-            front: [0; LONGEST],
+            front: [0; MAX_LINE_BYTES],
             len: 0,
         }
     }

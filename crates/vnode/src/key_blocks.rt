@@ -13,12 +13,12 @@ use std::mem;
 use std::sync::Arc;
 
 /// How many keys a block holds, or states: few, since a list of a vnode's keys copies those of each shard's last block.
-pub(crate) const BLOCK: usize = 128;
+pub(crate) const BLOCK_KEYS: usize = 128;
 
 /// A full block of a vnode's keys, which the vnode shares.
 #[derive(Drop)]
 pub struct KeyBlock {
-    keys: Arc<[Key; BLOCK]>,
+    keys: Arc<[Key; BLOCK_KEYS]>,
 }
 
 impl KeyBlock {
@@ -38,7 +38,7 @@ impl KeyBlock {
 pub(crate) struct KeyBlocks {
     alloc: Global,
     /// Full blocks.
-    full: Vec<Arc<[Key; BLOCK]>>,
+    full: Vec<Arc<[Key; BLOCK_KEYS]>>,
     /// The block that keys are added to.
     last: Vec<Key>,
     /// How many of the full blocks were compared with another vnode's.
@@ -74,9 +74,9 @@ impl KeyBlocks {
         requires { i < length self.now.keys }
         ensures { slice_get self.now.keys i ≡ Some result.now }
     {
-        match self.full.get(i / BLOCK) {
-            Some(block) => &block[i % BLOCK],
-            None => &self.last[i % BLOCK],
+        match self.full.get(i / BLOCK_KEYS) {
+            Some(block) => &block[i % BLOCK_KEYS],
+            None => &self.last[i % BLOCK_KEYS],
         }
     }
 
@@ -93,7 +93,7 @@ impl KeyBlocks {
         ensures room { OnOk result (0 < self.new.room) }
         ensures same { self.new.keys ≡ self.old.keys }
     {
-        if self.last.len() == BLOCK {
+        if self.last.len() == BLOCK_KEYS {
             close_block(self.alloc, &mut self.full, &mut self.last)?;
         }
         self.last.try_reserve(1)?;
@@ -151,7 +151,7 @@ impl KeyBlocks {
 // Puts the last block, which is full, behind the others, and an empty one in its place.
 fn close_block(
     alloc: Global,
-    full: &mut Vec<Arc<[Key; BLOCK]>>,
+    full: &mut Vec<Arc<[Key; BLOCK_KEYS]>>,
     last: &mut Vec<Key>,
 ) -> Result<(), AllocError>
     requires full { length last.old.items ≡ 128 }
@@ -161,8 +161,8 @@ fn close_block(
     ensures err { OnErr result ((full.new.items ≡ full.old.items) × (last.new.items ≡ last.old.items)) }
 {
     full.try_reserve(1)?;
-    let empty = Vec::with_capacity(alloc, BLOCK)?;
-    let Ok(keys) = <[Key; BLOCK]>::try_from(mem::replace(last, empty)) else {
+    let empty = Vec::with_capacity(alloc, BLOCK_KEYS)?;
+    let Ok(keys) = <[Key; BLOCK_KEYS]>::try_from(mem::replace(last, empty)) else {
         unreachable!();
     };
     match Arc::new(alloc, keys) {
@@ -178,7 +178,7 @@ fn close_block(
 }
 
 // Takes keys, for which there is room.
-fn refill(last: &mut Vec<Key>, keys: [Key; BLOCK])
+fn refill(last: &mut Vec<Key>, keys: [Key; BLOCK_KEYS])
     requires { (last.old.items ≡ []) × (128 ≤ vec_capacity last.old) }
     ensures { last.new.items ≡ keys }
 {

@@ -3,7 +3,7 @@
 ghost use Rattle.std.specs.Prelude.{◌≡◌, ◌-◌, ◌^◌, ◌++◌, [], OnOk, IfOk, length, min};
 ghost use Rattle.vnode.specs.Names.{run_keys};
 
-use crate::key_blocks::BLOCK;
+use crate::key_blocks::BLOCK_KEYS;
 use key_state::Key;
 use std::alloc::{AllocError, Global};
 use std::marker::Model;
@@ -13,7 +13,7 @@ use std::sync::Arc;
 #[derive(Drop)]
 pub(crate) enum KeyRun {
     /// A full block, which the vnode keeps, too.
-    Full(Arc<[Key; BLOCK]>),
+    Full(Arc<[Key; BLOCK_KEYS]>),
     /// Copies of those behind the full blocks.
     Rest(Vec<Key>),
 }

@@ -3,7 +3,7 @@
 ghost use Rattle.std.specs.Prelude.{◌≡◌, ◌<◌, ◌≤◌, ◌⊎◌, ℕ, [], IfSome, OnOk, Some, length, max, slice_get};
 ghost use Rattle.vnode.specs.RingPlaces.{number};
 
-use crate::key_blocks::BLOCK;
+use crate::key_blocks::BLOCK_KEYS;
 use std::alloc::{AllocError, Global};
 use std::marker::Model;
 use std::mem::size_of;
@@ -98,7 +98,7 @@ impl RingPlaces {
     {
         let more = keys - self.told.len();
         if self.told.capacity() < keys {
-            let growth = more.max(BLOCK).max(self.told.len() / 8);
+            let growth = more.max(BLOCK_KEYS).max(self.told.len() / 8);
             self.told.reserve_exact(growth)?;
         }
         self.told.resize(keys, RingPlace::Untold)

@@ -2,7 +2,7 @@
 
 ghost use Rattle.std.specs.Prelude.{◌≡◌, ◌<◌, ◌++◌, ◌∷◌, [], OnOk, Some, length, slice_get, slice_set};
 
-use crate::key_blocks::BLOCK;
+use crate::key_blocks::BLOCK_KEYS;
 use key_state::Stored;
 use std::alloc::{AllocError, Global};
 use std::marker::Model;
@@ -46,9 +46,9 @@ impl StateBlocks {
         requires { i < length self.now.states }
         ensures { slice_get self.now.states i ≡ Some result.now }
     {
-        match self.full.get(i / BLOCK) {
-            Some(block) => &block[i % BLOCK],
-            None => &self.last[i % BLOCK],
+        match self.full.get(i / BLOCK_KEYS) {
+            Some(block) => &block[i % BLOCK_KEYS],
+            None => &self.last[i % BLOCK_KEYS],
         }
     }
 
@@ -57,9 +57,9 @@ impl StateBlocks {
         requires { i < length self.old.states }
         ensures { self.new.states ≡ slice_set self.old.states i state }
     {
-        match self.full.get_mut(i / BLOCK) {
-            Some(block) => block[i % BLOCK] = state,
-            None => self.last[i % BLOCK] = state,
+        match self.full.get_mut(i / BLOCK_KEYS) {
+            Some(block) => block[i % BLOCK_KEYS] = state,
+            None => self.last[i % BLOCK_KEYS] = state,
         }
     }
 
@@ -68,9 +68,9 @@ impl StateBlocks {
         ensures room { OnOk result (0 < self.new.room) }
         ensures same { self.new.states ≡ self.old.states }
     {
-        if self.last.len() == BLOCK {
+        if self.last.len() == BLOCK_KEYS {
             self.full.try_reserve(1)?;
-            let empty = Vec::with_capacity(self.alloc, BLOCK)?;
+            let empty = Vec::with_capacity(self.alloc, BLOCK_KEYS)?;
             let _ = self.full.push(mem::replace(&mut self.last, empty));
         }
         self.last.try_reserve(1)?;
