@@ -11,5 +11,5 @@ filled bucket key first second zeros rest p q = rw (p, q, take-append_seam bucke
 cut_joined : (bucket key bytes : List ℕ) → bytes ≡ bucket ++ key → cut (length bucket) bytes ≡ record { bucket = bucket; key = key }
 cut_joined bucket key bytes e = rw (e, take-append_seam bucket key, drop-append_seam bucket key)
 
-pub returns-then-len-le-SHORT : goal.returns-then-len-le-SHORT
-returns-then-len-le-SHORT c = cut_joined c.args.bucket.now c.args.key.now _ (filled c.args.bucket.now c.args.key.now _ _ _ _ c.copy_from_slice.ensures.after c.copy_from_slice-then-len-le-SHORT.ensures.after)
+pub returns-then-len-le-SHORT_NAME_BYTES : goal.returns-then-len-le-SHORT_NAME_BYTES
+returns-then-len-le-SHORT_NAME_BYTES c = cut_joined c.args.bucket.now c.args.key.now _ (filled c.args.bucket.now c.args.key.now _ _ _ _ c.copy_from_slice.ensures.after c.copy_from_slice-then-len-le-SHORT_NAME_BYTES.ensures.after)
