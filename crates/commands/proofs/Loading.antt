@@ -1,5 +1,5 @@
 -- What a script that begins with records comes to.
-use Rattle.std.proofs.Common.{◌≡◌, ℕ, List, [], ◌∷◌, ◌++◌, length, refl, sym, subst, append_assoc, ◌∙◌}
+use Rattle.std.proofs.Common.{◌≡◌, ℕ, List, [], ◌∷◌, ◌++◌, length, refl, sym, subst, append_assoc}
 use Rattle.std.specs.Prelude.{codes, decimal, Option, Some, None, MatchOption, Result, Ok, Err, IfOk, IfSome}
 use Rattle.std.specs.Io.KnownBytes.{Appends}
 use Rattle.bpf_helpers.specs.declared.sig.Entry.{Entry}

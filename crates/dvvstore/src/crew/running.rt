@@ -82,7 +82,7 @@ fn run<
         || -> Result<Vec<Pass<B>>, AllocError>
             requires { lent.now.first ≡ B.first }
             ensures { IfOk result (λ passes. (vec_len passes ≡ vec_len seats) × HaveVisited H.finds H.names H.takes (map (λ s. begun lent.entry.now s.pass s.hooking.hooks s.hooking.table.listed s.placement) seats.items) passes.items) }
-        { work_attended(alloc, rt, lent, seats, lobby, both) },
+        { work_attended(&Host { alloc, rt }, lent, seats, lobby, both) },
     );
     let Shared {
         watch,

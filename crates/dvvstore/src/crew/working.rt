@@ -11,6 +11,7 @@ ghost use Rattle.dvvstore.specs.Visits.{HasLed, HasVisited, HaveVisited, Leads, 
 use crate::crew::pace::{Next, Pace, keeps_snapshots_waiting};
 use crate::crew::reporter::{Aloud, Reporter};
 use crate::crew::signs::{Signs, Until};
+use crate::host::Host;
 use crate::limits::{FOLLOWED_PIECE_STAMPS, WORKER_NAP_MS, WORKER_WAIT_MS};
 use audit_cluster::{Spot, Watch};
 use cluster::{Cluster, Pass, Room};
@@ -46,6 +47,16 @@ pub struct Seat<B: Room, H> {
     pub placement: Placement,
     /// The place of its worker among the lobby's.
     pub place: usize,
+}
+
+impl<B: Room, H: Drop> Seat<B, H> {
+    /// What is left of a seat whose worker doesn't come.
+    fn leave(self) -> Pass<B>
+        ensures pass { result ≡ self.pass }
+    {
+        let Seat { pass, .. } = self;
+        pass
+    }
 }
 
 /// A follower, and where it tells what can't wait.
@@ -179,7 +190,9 @@ fn tell<R: Wait>(rt: &R, reporter: &Reporter, noted: &Noted, lacks: u32) {
 
 /// What a worker goes by from turn to turn.
 #[derive(Clone, Copy)]
-struct Shift {
+struct Shift<'a> {
+    /// Where it is offered connections.
+    post: &'a Post,
     timer: Timer,
     pace: Pace,
     /// Whether its next turn may be its last.
@@ -200,13 +213,13 @@ struct Worked {
 fn work_once<B: Room + Spot, K: Backend, R: Wait>(
     rt: &R,
     floor: &Floor<'_, B>,
-    post: &Post,
     worker: &mut Worker,
     store: &mut K,
-    shift: &mut Shift,
+    shift: &mut Shift<'_>,
 ) -> Worked
     ensures works { Works K.gives K.copies worker.old worker.new store.old store.new }
 {
+    let post = shift.post;
     let ending = &floor.lobby.roster.ending;
     let is_alone = !floor.shared.is_followed.load(SeqCst);
     let orders = Orders {
@@ -275,17 +288,16 @@ fn tell_troubles<P: Peers, H: Hooks + HookChanges, K: NotingBackend<P, H>, R: Wa
 fn take_turn<B: Room + Spot, P: Peers, H: Hooks + HookChanges, K: NotingBackend<P, H>, R: Wait>(
     rt: &R,
     floor: &Floor<'_, B>,
-    post: &Post,
     worker: &mut Worker,
     store: &mut K,
-    shift: &mut Shift,
+    shift: &mut Shift<'_>,
 ) -> bool
     ensures leads { (start : StoreView P H)
         → Leads (GivesUnnoted P.happens H.finds H.names H.takes) (λ s. copies_in s.placement) start worker.old (unnoted (K.shows store.old))
         → Leads (GivesUnnoted P.happens H.finds H.names H.takes) (λ s. copies_in s.placement) start worker.new (unnoted (K.shows store.new)) }
 {
-    let worked = work_once(rt, floor, post, worker, store, shift);
-    shed_if_asked(post, worker);
+    let worked = work_once(rt, floor, worker, store, shift);
+    shed_if_asked(shift.post, worker);
     tell_troubles::<P, H, K, R>(rt, &floor.shared.reporter, store, worked);
     worked.goes_on
 }
@@ -301,30 +313,35 @@ fn stay<B: Room + Spot, P: Peers, H: Hooks + HookChanges, K: NotingBackend<P, H>
     ensures led { HasHadNone worker → HasLed (GivesUnnoted P.happens H.finds H.names H.takes) (λ s. copies_in s.placement) (unnoted (K.shows store.old)) (unnoted (K.shows store.new)) }
 {
     let mut shift = Shift {
+        post,
         timer: Timer::new(),
         pace: Pace::new(),
         is_last: false,
     };
     for _ in rt.forever() {
-        if !take_turn::<B, P, H, K, R>(rt, floor, post, &mut worker, store, &mut shift) {
+        if !take_turn::<B, P, H, K, R>(rt, floor, &mut worker, store, &mut shift) {
             break;
         }
     }
 }
 
 /// Has a worker, to which no connection came before, answer its connections until it ends, over the vnodes of the floor, which are called
-/// by a pass. The pass is handed back.
+/// by a seat's pass. The pass is handed back.
 fn visit<B: Room + Spot, H: Hooks + HookChanges + Drop, R: Wait>(
     rt: &R,
     floor: &Floor<'_, B>,
     post: &Post,
     worker: Worker,
-    pass: Pass<B>,
-    hooking: Hooking<H>,
-    placement: Placement,
+    seat: Seat<B, H>,
 ) -> Pass<B>
-    ensures visited { HasHadNone worker → HasVisited H.finds H.names H.takes (begun floor.now.cluster.now pass hooking.hooks hooking.table.listed placement) result }
+    ensures visited { HasHadNone worker → HasVisited H.finds H.names H.takes (begun floor.now.cluster.now seat.pass seat.hooking.hooks seat.hooking.table.listed seat.placement) result }
 {
+    let Seat {
+        pass,
+        hooking,
+        placement,
+        ..
+    } = seat;
     exchanges_are_by_a_pass::<ClusterPeers<'_, B, R>, H>();
     let peers = ClusterPeers::new(floor.alloc, rt, floor.cluster, pass);
     let store = Store::new(floor.alloc, peers, hooking, placement);
@@ -345,20 +362,14 @@ fn work<B: Room + Spot, H: Hooks + HookChanges + Drop, R: Wait>(
 ) -> Pass<B>
     ensures visited { HasVisited H.finds H.names H.takes (begun floor.now.cluster.now seat.pass seat.hooking.hooks seat.hooking.table.listed seat.placement) result }
 {
-    let Seat {
-        pass,
-        hooking,
-        placement,
-        place,
-    } = seat;
-    let Some(post) = floor.lobby.roster.posts.get(place) else {
-        return pass;
+    let Some(post) = floor.lobby.roster.posts.get(seat.place) else {
+        return seat.leave();
     };
     let Some(worker) = post.take_worker(rt) else {
-        return pass;
+        return seat.leave();
     };
     post.inlet.begin();
-    let pass = visit(rt, floor, post, worker, pass, hooking, placement);
+    let pass = visit(rt, floor, post, worker, seat);
     post.inlet.end();
     pass
 }
@@ -370,8 +381,7 @@ fn work_all<
     H: Hooks + HookChanges + Send + Drop,
     R: Threads + Wait + Sync,
 >(
-    alloc: Global,
-    rt: &R,
+    host: &Host<'_, R>,
     cluster: &Cluster<B>,
     seats: Vec<Seat<B, H>>,
     lobby: &Lobby,
@@ -381,6 +391,7 @@ fn work_all<
     ensures count { IfOk result (λ passes. vec_len passes ≡ vec_len seats) }
     ensures visited { IfOk result (λ passes. HaveVisited H.finds H.names H.takes (map (λ s. begun cluster.now s.pass s.hooking.hooks s.hooking.table.listed s.placement) seats.items) passes.items) }
 {
+    let (alloc, rt) = (host.alloc, host.rt);
     let back = thread::map_vec(
         rt,
         seats,
@@ -410,8 +421,7 @@ pub(crate) fn work_attended<
     H: Hooks + HookChanges + Send + Drop,
     R: Threads + Wait + Sync,
 >(
-    alloc: Global,
-    rt: &R,
+    host: &Host<'_, R>,
     cluster: &Cluster<B>,
     seats: Vec<Seat<B, H>>,
     lobby: &Lobby,
@@ -421,6 +431,7 @@ pub(crate) fn work_attended<
     ensures count { IfOk result (λ passes. vec_len passes ≡ vec_len seats) }
     ensures visited { IfOk result (λ passes. HaveVisited H.finds H.names H.takes (map (λ s. begun cluster.now s.pass s.hooking.hooks s.hooking.table.listed s.placement) seats.items) passes.items) }
 {
+    let (alloc, rt) = (host.alloc, host.rt);
     let (_, back) = thread::join(
         rt,
         ||
@@ -437,7 +448,7 @@ pub(crate) fn work_attended<
         || -> Result<Vec<Pass<B>>, AllocError>
             requires { cluster.now.first ≡ B.first }
             ensures { IfOk result (λ passes. (vec_len passes ≡ vec_len seats) × HaveVisited H.finds H.names H.takes (map (λ s. begun cluster.entry.now s.pass s.hooking.hooks s.hooking.table.listed s.placement) seats.items) passes.items) }
-        { work_all(alloc, rt, cluster, seats, lobby, shared) },
+        { work_all(&Host { alloc, rt }, cluster, seats, lobby, shared) },
     );
     back
 }
