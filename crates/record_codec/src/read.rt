@@ -331,7 +331,7 @@ fn frame_at(bytes: &[u8]) -> Result<Frame<'_>, WireFault>
         return Err(WireFault::Cut);
     }
     let (body, rest) = rest.split_at(len);
-    let digest = &rest[..DIGEST_LEN];
+    let digest = &rest[..DIGEST_BYTES];
     Ok(Frame { form, body, digest })
 }
 
