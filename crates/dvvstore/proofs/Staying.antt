@@ -11,13 +11,17 @@ use Rattle.kept_file.specs.Files.{records_at}
 use Rattle.kept_fold.specs.Folds.{AreFolded}
 use Rattle.kept_restore.specs.Beginnings.{BeginWithFiles, BeginsWith}
 use Rattle.audit_cluster.specs.Following.{IsSaidOf}
-use Rattle.dvvstore.specs.Keeping.{HasBegun, IsLeftFrom, Leaves, LeavesFolded, Tells, TellsBeginning, fronts_for, left_as}
+use Rattle.commands.specs.Command.{HasRefused}
+use Rattle.commands.specs.declared.server.Unserved.{Unserved}
+use Rattle.commands.specs.declared.server.Unserved.TheVariants.{Refused}
+use Rattle.commands.specs.declared.server.Unserved.TheVariants as unserved
+use Rattle.dvvstore.specs.Keeping.{HasBegun, IsLeftFrom, IsRefusal, Leaves, LeavesFolded, Tells, TellsBeginning, TellsNothing, fronts_for, left_as}
 use Rattle.dvvstore.specs.declared.crew.running.Served.{Served}
 use Rattle.dvvstore.specs.declared.keeper.Address.{Address}
 use Rattle.dvvstore.specs.declared.keeper.Door.{Door}
 use Rattle.dvvstore.specs.declared.keeper.Door.TheVariants as door
 use Rattle.dvvstore.specs.declared.keeper.Unbegun.{Unbegun}
-use Rattle.dvvstore.specs.declared.keeper.Unbegun.TheVariants.{Unreadable}
+use Rattle.dvvstore.specs.declared.keeper.Unbegun.TheVariants.{Records, Hooks, Unreadable, NoMemory}
 use Rattle.dvvstore.specs.declared.session.Left.{Left}
 use Rattle.dvvstore.specs.declared.session.Left.TheVariants.{Kept, Lost}
 
@@ -78,3 +82,20 @@ pub left_from : {F E : Type 0} → (folder : Option F) (first : ℕ) (files : Li
     → IfOk served (λ s. BeginWithFiles s.closed.vnodes.items first files 3) → IfOk served (λ s. IsSaidOf fronts s.closed.vnodes.items s.closed.said) → IfOk served (IsLeftFrom folder first files)
 left_from folder first files fronts (Ok s) is begin said = (begin, subst (λ (fs : List ℕ). IsSaidOf fs s.closed.vnodes.items s.closed.said) is said)
 left_from folder first files fronts (Err why) is begin said = begin
+
+-- nothing was told of a store that didn't begin
+untold_so : (why : Unbegun) (before mid : Option (List ℕ)) → IsRefusal why → TellsNothing why before mid → mid ≡ before
+untold_so Unreadable before mid is told = absurd is
+untold_so NoMemory before mid is told = absurd is
+untold_so (Records unloaded) before mid is told = told
+untold_so (Hooks fault) before mid is told = told
+
+-- but why it didn't, where what the folder held isn't taken
+pub refused_so : (why : Unbegun) (before mid after : Option (List ℕ)) (result : Unserved) → TellsNothing why before mid → (result ≡ Refused → IsRefusal why × HasRefused mid after) → result ≡ Refused → HasRefused before after
+refused_so why before mid after result told says is =
+    let (refusal, has) = says is in subst (λ (b : Option (List ℕ)). HasRefused b after) (untold_so why before mid refusal told) has
+
+-- and nothing where memory was refused
+pub unserved_so : (why : Unbegun) (before mid after : Option (List ℕ)) (result : Unserved) → TellsNothing why before mid → (result ≡ unserved.NoMemory → (why ≡ NoMemory) × (after ≡ mid)) → result ≡ unserved.NoMemory → after ≡ before
+unserved_so why before mid after result told says is =
+    let (none, same) = says is in same ∙ subst (λ (w : Unbegun). TellsNothing w before mid) none told

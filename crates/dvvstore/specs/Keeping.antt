@@ -45,13 +45,24 @@ abbrev pub TellsBeginning : {N : Type 0} → Door N → Option (List ℕ) → Op
 TellsBeginning (door.Open lobby) before after = Unit {0}
 TellsBeginning (door.Closed address) before after = HasBegun before after
 
+-- nothing where a store didn't begin, but that the output may be unwritable
+abbrev pub TellsNothing : Unbegun → Option (List ℕ) → Option (List ℕ) → Type 0
+TellsNothing Unreadable before after = Unit {0}
+TellsNothing NoMemory before after = after ≡ before
+TellsNothing (Records unloaded) before after = after ≡ before
+TellsNothing (Hooks fault) before after = after ≡ before
+
 -- how a store began, or nothing where it didn't
 abbrev pub Tells : {N : Type 0} → Door N → Result Left Unbegun → Option (List ℕ) → Option (List ℕ) → Type 0
 Tells door (Ok left) before after = TellsBeginning door before after
-Tells door (Err Unreadable) before after = Unit {0}
-Tells door (Err NoMemory) before after = after ≡ before
-Tells door (Err (Records unloaded)) before after = after ≡ before
-Tells door (Err (Hooks fault)) before after = after ≡ before
+Tells door (Err why) before after = TellsNothing why before after
+
+-- what a folder held isn't taken: its records, or the requests of its hooks
+abbrev pub IsRefusal : Unbegun → Type 0
+IsRefusal Unreadable = ⊥
+IsRefusal NoMemory = ⊥
+IsRefusal (Records unloaded) = Unit {0}
+IsRefusal (Hooks fault) = Unit {0}
 
 -- how it ended was told: how many records were written, or why they weren't
 abbrev pub HasEnded : {V : Type 0} → Option (List ℕ) → Option (List ℕ) → Ended V → Type 0

@@ -5,7 +5,7 @@ ghost use Rattle.std.specs.Io.KnownBytes.{Appends};
 ghost use Rattle.commands.specs.Command.{HasRefused};
 ghost use Rattle.kept_file.specs.Placed.{ArePlaced};
 ghost use Rattle.dvvstore.specs.Crews.{by_digest};
-ghost use Rattle.dvvstore.specs.Keeping.{ArePutOf, HasEnded, Keeps};
+ghost use Rattle.dvvstore.specs.Keeping.{ArePutOf, HasEnded, IsRefusal, Keeps};
 
 use crate::crew::Served;
 use crate::host::Host;
@@ -210,9 +210,7 @@ impl<
         match session::live(&self.host(alloc), making, more, stay, out) {
             Ok(Left::Kept(served)) => finish(alloc, &mut folder, number, served, out),
             Ok(Left::Lost) => lose(alloc, out),
-            Err(Unbegun::Unreadable) => Err(Unserved::Unreadable),
-            Err(Unbegun::NoMemory) => Err(Unserved::NoMemory),
-            Err(why) => Err(refused(alloc, out, &why)),
+            Err(why) => Err(unserved(alloc, out, why)),
         }
     }
 }
@@ -231,9 +229,9 @@ fn copies_of(asked: u32) -> u32
 fn held_for(alloc: Global, copies: u32, held: Held) -> Result<Held, AllocError>
     requires some { 0 < copies }
     requires few { copies ≤ 3 }
-    ensures placed { IfOk result (λ now. ArePlaced (by_digest copies) held.entry.files.items now.files.items) }
-    ensures settings { IfOk result (λ now. now.settings ≡ held.entry.settings) }
-    ensures hooks { IfOk result (λ now. now.hooks ≡ held.entry.hooks) }
+    ensures placed { IfOk result (λ now. ArePlaced (by_digest copies) held.files.items now.files.items) }
+    ensures settings { IfOk result (λ now. now.settings ≡ held.settings) }
+    ensures hooks { IfOk result (λ now. now.hooks ≡ held.hooks) }
 {
     let Held {
         last,
@@ -275,6 +273,19 @@ fn refused<O: Write, D: Display>(alloc: Global, out: &mut O, why: &D) -> Unserve
     match tell(alloc, out, "refused", why) {
         Ok(()) => Unserved::Refused,
         Err(_) => Unserved::Unreadable,
+    }
+}
+
+/// Why a store isn't served that doesn't begin: where what its folder held isn't taken, that is told.
+fn unserved<O: Write>(alloc: Global, out: &mut O, why: Unbegun) -> Unserved
+    ensures refused { result ≡ Unserved.Refused → IsRefusal why × HasRefused (O.contents out.old) (O.contents out.new) }
+    ensures memory { result ≡ Unserved.NoMemory → (why ≡ Unbegun.NoMemory) × (O.contents out.new ≡ O.contents out.old) }
+{
+    match why {
+        Unbegun::Unreadable => Unserved::Unreadable,
+        Unbegun::NoMemory => Unserved::NoMemory,
+        Unbegun::Records(_) => refused(alloc, out, &why),
+        Unbegun::Hooks(_) => refused(alloc, out, &why),
     }
 }
 
