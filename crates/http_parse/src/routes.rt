@@ -41,7 +41,8 @@ fn add_routes(router: &mut Router<Route>) -> Result<(), AllocError>
     add_route(router, "/ping", Route::Ping)?;
     add_route(router, "/buckets/{bucket}/keys/{key}", Route::Key)?;
     add_route(router, "/hooks/{name}", Route::Hook)?;
-    add_route(router, "/buckets/{bucket}/props", Route::Props)
+    add_route(router, "/buckets/{bucket}/props", Route::Props)?;
+    add_route(router, "/", Route::Root)
 }
 
 // The table's routes read well and differ, so want of memory is the only error.

@@ -5,7 +5,7 @@ use Rattle.httparse.specs.Grammar.{RequestHead, Field, crlf, trim_ows}
 use Rattle.matchit.specs.Seek.{seek, param_step}
 use Rattle.matchit.specs.Route.{scan}
 use Rattle.serde_json.proofs.OnLiterals.{serde_json_on_literals}
-use Rattle.http_request.specs.declared.ask.Refusal.TheVariants.{Coding, BadLength, NoLength, Large, Query, BadName, BadType}
+use Rattle.http_request.specs.declared.ask.Refusal.TheVariants.{Coding, BadLength, NoLength, Large, Method, Query, BadName, BadType}
 use Rattle.http_request.specs.declared.route.Route.TheVariants as route
 use Rattle.http_request.specs.Table.{routes, route_of}
 use Rattle.http_request.specs.Fields.{fields_fault, fault_among, body_length, is_last, has_element}
@@ -13,8 +13,8 @@ use Rattle.key_state.specs.declared.content.Content.TheVariants.{Value}
 use Rattle.http_request.specs.declared.ask.Change.TheVariants.{Kept, Bound}
 use Rattle.http_request.specs.declared.ask.Form.TheVariants.{Text, Parts}
 use Rattle.http_request.specs.declared.ask.Call.TheVariants.{Put}
-use Rattle.http_request.specs.declared.ask.Ask.TheVariants.{Call, Refused}
-use Rattle.http_request.specs.Ask.{asked_named, form_of, request}
+use Rattle.http_request.specs.declared.ask.What.TheVariants.{Resources, Options, Call, Refused}
+use Rattle.http_request.specs.Ask.{asked_named, asked_at, asked_by_method, form_of, request}
 use Rattle.http_request.specs.Target.{quorums_of}
 use Rattle.http_request.specs.Props.{changes_of}
 use Rattle.serde_json.specs.Find.{get}
@@ -35,6 +35,10 @@ ping_route = refl
 key_route : route_of (codes "/buckets/b/keys/k%2f") ≡ Some route.Key
 unfolding routes seek param_step scan
 key_route = refl
+
+root_route : route_of (codes "/") ≡ Some route.Root
+unfolding routes seek param_step scan
+root_route = refl
 
 no_route : route_of (codes "/buckets//keys/k") ≡ None
 unfolding routes seek param_step scan
@@ -110,3 +114,16 @@ key_in_order = (refl, refl, refl)
 in_parts : form_of None (has_element (codes "accept") (codes "multipart/mixed") ((codes "ACCEPT", codes "text/plain, Multipart/Mixed;q=1") ∷ [])) ≡ Parts
 unfolding trim_ows
 in_parts = refl
+
+-- HEAD asks for what GET asks, and for no more of the answer than its head
+by_head :
+    (asked_by_method (codes "HEAD") (asked_at 3 (Some route.Root) (request (codes "HEAD") (codes "/") [] [])) ≡ record { what = Resources; head_only = true })
+    × (asked_by_method (codes "GET") (asked_at 3 (Some route.Root) (request (codes "GET") (codes "/") [] [])) ≡ record { what = Resources; head_only = false })
+by_head = (refl, refl)
+
+-- other methods: which ones there are, or none
+by_others :
+    (asked_at 3 (Some route.Hook) (request (codes "OPTIONS") (codes "/hooks/h") [] []) ≡ Options route.Hook)
+    × (asked_at 3 (Some route.Hook) (request (codes "HEAD") (codes "/hooks/h") [] []) ≡ Refused (Method route.Hook))
+    × (asked_at 3 (Some route.Ping) (request (codes "PUT") (codes "/ping") [] []) ≡ Refused (Method route.Ping))
+by_others = (refl, refl, refl)

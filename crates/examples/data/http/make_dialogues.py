@@ -37,6 +37,14 @@ PHRASES = {
 TEXT = "text/plain"
 OCTETS = "application/octet-stream"
 JSON = "application/json"
+# The methods of each route.
+METHODS = {
+    "root": "GET, HEAD, OPTIONS",
+    "ping": "GET, HEAD, OPTIONS",
+    "key": "GET, HEAD, PUT, POST, DELETE, OPTIONS",
+    "hook": "PUT, DELETE, OPTIONS",
+    "props": "GET, HEAD, PUT, OPTIONS",
+}
 NOTHING = b""  # in place of an answer, where the connection has ended or the request is cut
 SEPARATOR = b"\x1e"
 NEXT = SEPARATOR, SEPARATOR  # in place of an exchange, where another connection begins
@@ -118,7 +126,7 @@ def seen(clock, version=2):
 # Answers
 
 
-def answer(status, media=None, clock=None, dot=None, closes=False, body=None):
+def answer(status, media=None, clock=None, dot=None, closes=False, body=None, allow=None):
     """An answer: its fields in their order, each where it applies. An empty clock is not told."""
     lines = [f"HTTP/1.1 {status} {PHRASES[status]}"]
     if media is not None:
@@ -131,7 +139,14 @@ def answer(status, media=None, clock=None, dot=None, closes=False, body=None):
         lines.append("Connection: close")
     if body is not None:
         lines.append(f"Content-Length: {len(body)}")
+    if allow is not None:
+        lines.append(f"Allow: {allow}")
     return "\r\n".join([*lines, "", ""]).encode() + as_bytes(body or "")
+
+
+def head_of(answered):
+    """An answer without its body, as to HEAD: its head ends with the first empty line."""
+    return answered[: answered.index(b"\r\n\r\n") + 4]
 
 
 def done():
@@ -142,8 +157,24 @@ def written(vnode, counter):
     return answer(204, dot=(vnode, counter))
 
 
-def told(status, word, closes=False):
-    return answer(status, TEXT, closes=closes, body=f"{word}\n")
+def told(status, word, allow=None, closes=False):
+    return answer(status, TEXT, closes=closes, body=f"{word}\n", allow=allow)
+
+
+def resources():
+    """Where the resources lie."""
+    names = {"buckets": "/buckets", "object": "/buckets", "ping": "/ping", "props": "/buckets"}
+    members = ",".join(f'"riak_kv_wm_{name}":"{path}"' for name, path in names.items())
+    return answer(200, JSON, body=f"{{{members}}}")
+
+
+def options(route):
+    return answer(204, allow=METHODS[route])
+
+
+def no_method(route):
+    """A fault: the route has no such method."""
+    return 405, "method", METHODS[route]
 
 
 def value(clock, text, media=TEXT):
@@ -496,10 +527,10 @@ def refused():
 
     yield request("GET /none"), told(404, "no route")
     yield request("GET /buckets/b/keys"), told(404, "no route")
-    yield request("HEAD /ping"), told(405, "method")
-    yield request(f"PATCH {key.target}"), told(405, "method")
-    yield request("GET /hooks/digits"), told(405, "method")
-    yield request("DELETE /buckets/b/props"), told(405, "method")
+    yield request("PUT /ping", body=""), told(*no_method("ping"))
+    yield request(f"PATCH {key.target}"), told(*no_method("key"))
+    yield request("GET /hooks/digits"), told(*no_method("hook"))
+    yield request("DELETE /buckets/b/props"), told(*no_method("props"))
     for query in ["r=0", "r=4", "r=01", "r=most", "w=0", "w=-1", "at=3", "at=", "r=1&at=00"]:
         yield request(f"GET {key.target}?{query}"), told(400, "bad query")
     yield request(f"GET /buckets/{'b' * 65}/keys/k"), told(400, "bad name")
@@ -571,7 +602,6 @@ BAD_LENGTH = 400, "bad length"
 NO_LENGTH = 411, "length"
 LARGE = 413, "large"
 NO_ROUTE = 404, "no route"
-METHOD = 405, "method"
 QUERY = 400, "bad query"
 BAD_NAME = 400, "bad name"
 BAD_TYPE = 400, "bad type"
@@ -614,7 +644,7 @@ BROKEN = [
 
 # Requests after whose answer the connection goes on: heads without their length line and the empty line, and bodies.
 REFUSED = [
-    ("GET / HTTP/1.1", "", NO_ROUTE),
+    ("GET // HTTP/1.1", "", NO_ROUTE),
     ("GET /ping/ HTTP/1.1", "", NO_ROUTE),
     ("GET /Ping HTTP/1.1", "", NO_ROUTE),
     ("GET /hooks/a/b HTTP/1.1", "", NO_ROUTE),
@@ -622,16 +652,16 @@ REFUSED = [
     ("GET /buckets/b/keys/ HTTP/1.1", "", NO_ROUTE),
     # no route, and a method of none
     ("BREW /pong?r=0 HTTP/1.1", "", NO_ROUTE),
-    ("POST /ping HTTP/1.1", "", METHOD),
-    ("HEAD /ping HTTP/1.1", "", METHOD),
-    ("get /ping HTTP/1.1", "", METHOD),
-    ("GET /hooks/a HTTP/1.1", "", METHOD),
-    ("POST /hooks/a HTTP/1.1", "", METHOD),
-    ("DELETE /buckets/b/props HTTP/1.1", "", METHOD),
-    ("POST /buckets/b/props HTTP/1.1", "{", METHOD),
+    ("POST /ping HTTP/1.1", "", no_method("ping")),
+    ("head /ping HTTP/1.1", "", no_method("ping")),
+    ("get / HTTP/1.1", "", no_method("root")),
+    ("GET /hooks/a HTTP/1.1", "", no_method("hook")),
+    ("POST /hooks/a HTTP/1.1", "", no_method("hook")),
+    ("DELETE /buckets/b/props HTTP/1.1", "", no_method("props")),
+    ("POST /buckets/b/props HTTP/1.1", "{", no_method("props")),
     # a method and the query, and a method and a name
-    ("PATCH /buckets/b/keys/k?r=0 HTTP/1.1", "", METHOD),
-    ("GET /hooks/a.b HTTP/1.1", "", METHOD),
+    ("PATCH /buckets/b/keys/k?r=0 HTTP/1.1", "", no_method("key")),
+    ("GET /hooks/a.b HTTP/1.1", "", no_method("hook")),
     ("GET /buckets/b/keys/k?r=0 HTTP/1.1", "", QUERY),
     ("GET /buckets/b/keys/k?r=4 HTTP/1.1", "", QUERY),
     ("GET /buckets/b/keys/k?r=01 HTTP/1.1", "", QUERY),
@@ -692,11 +722,74 @@ def broken():
         (b"GET /ping HTTP/1.0\r\n\r\n", pong(closes=True)),
         (ping("Connection: keep-alive, CLOSE"), pong(closes=True)),
         (b"GET /ping HTTP/1.1\r\nConnection: closed\r\nConnection: close\r\n\r\n", pong(closes=True)),
-        (request("HEAD /ping", "connection: close"), told(*METHOD, closes=True)),
+        (request("PUT /ping", "connection: close", body=""), told(*no_method("ping"), closes=True)),
     ]:
         yield NEXT
         yield bytes_sent, answered
         yield ping(), NOTHING
+
+
+def methods():
+    """HEAD wherever GET is, whose answers have no body; the methods of each route; and the list of resources."""
+    key, none = Key("b", "k"), Key("b", "none")
+    one, two = key.vnode(0), key.vnode(1)
+
+    def by_head(target, *fields):
+        return request(f"HEAD {target}", *fields)
+
+    yield request("GET /"), resources()
+    yield by_head("/"), head_of(resources())
+    yield request("GET /?x=y", "Accept: text/html"), resources()
+    yield by_head("/ping"), head_of(pong())
+    yield by_head(none.target), head_of(not_found())
+    # A value, siblings as a list and as parts, and one of them. What HEAD tells as a length isn't there: the next answer follows at once.
+    yield request(f"PUT {key.target}", typed(TEXT), body="a"), written(one, 1)
+    yield by_head(key.target), head_of(value({one: 1}, "a"))
+    yield request(f"GET {key.target}"), value({one: 1}, "a")
+    yield request(f"PUT {key.target}?at=1", typed(TEXT), body="b"), written(two, 1)
+    both = {one: 1, two: 1}
+    yield by_head(key.target), head_of(choices(both, (one, 1), (two, 1)))
+    yield by_head(key.target, "Accept: multipart/mixed"), head_of(parts(both, {(one, 1): "a", (two, 1): "b"}))
+    yield by_head(f"{key.target}?vtag={tag((two, 1))}"), head_of(value(both, "b"))
+    yield by_head("/buckets/b/props"), head_of(properties(None, None))
+    # A body that comes with HEAD is passed over.
+    yield request("HEAD /ping", body="GET /ping HTTP/1.1\r\n\r\n"), head_of(pong())
+    # Refused, and without a body too.
+    for target, fault in [
+        (f"{key.target}?r=0", QUERY),
+        (f"/buckets/{'b' * 65}/props", BAD_NAME),
+        ("/none", NO_ROUTE),
+        ("/hooks/a", no_method("hook")),
+    ]:
+        yield by_head(target), head_of(told(*fault))
+        yield ping(), pong()
+    # The methods of a route, whatever its names and the query are.
+    for target, route in [
+        ("/", "root"),
+        ("/ping?r=0", "ping"),
+        (f"{key.target}?r=0", "key"),
+        (f"/buckets/{'b' * 65}/keys/k", "key"),
+        ("/hooks/a.b", "hook"),
+        ("/buckets/b/props", "props"),
+    ]:
+        yield request(f"OPTIONS {target}"), options(route)
+        yield request(f"options {target}"), told(*no_method(route))
+    yield request("OPTIONS /none"), told(*NO_ROUTE)
+    yield request("POST /", body=""), told(*no_method("root"))
+    # The last request of a connection, by its version and by a fault.
+    for bytes_sent, answered in [
+        (b"HEAD /ping HTTP/1.0\r\n\r\n", pong(closes=True)),
+        (request("OPTIONS /ping", "Connection: close"), answer(204, closes=True, allow=METHODS["ping"])),
+        (b"HEAD /ping HTTP/1.1\r\nContent-Length: x\r\n\r\n", told(*BAD_LENGTH, closes=True)),
+        (b"HEAD /ping HTTP/1.1\r\nContent-Length: 65537\r\n\r\n", told(*LARGE, closes=True)),
+    ]:
+        yield NEXT
+        yield bytes_sent, head_of(answered)
+        yield ping(), NOTHING
+    # Of a head that is none no method is known.
+    yield NEXT
+    yield b"HEAD ping HTTP/1.1\r\n\r\n", told(*BAD_HEAD, closes=True)
+    yield ping(), NOTHING
 
 
 def limits():
@@ -1031,6 +1124,7 @@ DIALOGUES = {
     "hooks": hooks,
     "images": images,
     "limits": limits,
+    "methods": methods,
     "parts": in_parts,
     "reads": reads,
     "refused": refused,
