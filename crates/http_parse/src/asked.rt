@@ -17,7 +17,7 @@ ghost use Rattle.http_request.specs.Fits.{FitsAsk, FitsWhat};
 ghost use Rattle.key_state.specs.Limits.{IsKey};
 ghost use Rattle.context_token.specs.Token.{Gives};
 
-use crate::fields::has_element;
+use crate::fields::accepts;
 use crate::names::{decoded_at, has_names, is_hook_name, is_name, name_at};
 use crate::props::changes_in;
 use crate::query::{Asked, quorums_of, text_of, words_of};
@@ -190,7 +190,7 @@ impl Request<'_> {
         tag: Option<&str>,
     ) -> Result<What, AllocError>
         ensures asked { IfOk result (λ what. what ≡ asks.Call (calls.Get key asked.read asked.at)
-            (spec.form_of (option_copied tag.entry) (fields.has_element (codes "accept") (codes "multipart/mixed") (request self.entry).pairs))) }
+            (spec.form_of (option_copied tag.entry) (fields.accepts (codes "accept") (codes "multipart/mixed") (request self.entry).pairs))) }
         ensures fits { (copies : ℕ) → IsKey key → FitsAsked copies asked → IfOk result (FitsWhat copies) }
     {
         let form = self.form(alloc, tag)?;
@@ -242,12 +242,12 @@ impl Request<'_> {
 
     // How a read is shown.
     fn form(self, alloc: Global, tag: Option<&str>) -> Result<Form, AllocError>
-        ensures { IfOk result (λ form. form ≡ spec.form_of (option_copied tag.entry) (fields.has_element (codes "accept") (codes "multipart/mixed") (request self.entry).pairs)) }
+        ensures { IfOk result (λ form. form ≡ spec.form_of (option_copied tag.entry) (fields.accepts (codes "accept") (codes "multipart/mixed") (request self.entry).pairs)) }
     {
         if let Some(tag) = tag {
             return Ok(Form::One(Bytes::from_slice(alloc, tag.as_bytes())?));
         }
-        if has_element(self.fields.accept, b"multipart/mixed") {
+        if accepts(self.fields.accept, b"multipart/mixed") {
             Ok(Form::Parts)
         } else {
             Ok(Form::Text)

@@ -8,7 +8,7 @@ use Rattle.serde_json.proofs.OnLiterals.{serde_json_on_literals}
 use Rattle.http_request.specs.declared.ask.Refusal.TheVariants.{Coding, BadLength, NoLength, Large, Method, Query, BadName, BadType}
 use Rattle.http_request.specs.declared.route.Route.TheVariants as route
 use Rattle.http_request.specs.Table.{routes, route_of}
-use Rattle.http_request.specs.Fields.{fields_fault, fault_among, body_length, is_last, has_element}
+use Rattle.http_request.specs.Fields.{fields_fault, fault_among, body_length, is_last, accepts, is_no_weight}
 use Rattle.key_state.specs.declared.content.Content.TheVariants.{Value}
 use Rattle.http_request.specs.declared.ask.Change.TheVariants.{Kept, Bound}
 use Rattle.http_request.specs.declared.ask.Form.TheVariants.{Text, Parts}
@@ -111,7 +111,7 @@ key_in_order :
     × (asked_named (quorums_of 3 []) (record { bucket = codes "b"; key = codes "k" }) (request (codes "PUT") (codes "/buckets/b/keys/k") ((codes "Content-Type", []) ∷ []) []) ≡ Refused BadType)
 key_in_order = (refl, refl, refl)
 
-in_parts : form_of None (has_element (codes "accept") (codes "multipart/mixed") ((codes "ACCEPT", codes "text/plain, Multipart/Mixed;q=1") ∷ [])) ≡ Parts
+in_parts : form_of None (accepts (codes "accept") (codes "multipart/mixed") ((codes "ACCEPT", codes "text/plain, Multipart/Mixed;q=1") ∷ [])) ≡ Parts
 unfolding trim_ows
 in_parts = refl
 
@@ -127,3 +127,16 @@ by_others :
     × (asked_at 3 (Some route.Hook) (request (codes "HEAD") (codes "/hooks/h") [] []) ≡ Refused (Method route.Hook))
     × (asked_at 3 (Some route.Ping) (request (codes "PUT") (codes "/ping") [] []) ≡ Refused (Method route.Ping))
 by_others = (refl, refl, refl)
+
+-- a weight of nothing is a no, and an element of the same name with a weight is a yes
+not_in_parts : form_of None (accepts (codes "accept") (codes "multipart/mixed") ((codes "Accept", codes "multipart/mixed; Q=0.0, text/plain") ∷ [])) ≡ Text
+unfolding trim_ows
+not_in_parts = refl
+
+twice_in_parts : form_of None (accepts (codes "accept") (codes "multipart/mixed") ((codes "Accept", codes "multipart/mixed;q=0,multipart/mixed;q=0.001") ∷ [])) ≡ Parts
+unfolding trim_ows
+twice_in_parts = refl
+
+no_weights : (is_no_weight (codes " q=0.000 ") ≡ true) × (is_no_weight (codes "q=0.0000") ≡ false) × (is_no_weight (codes "q=00") ≡ false) × (is_no_weight (codes "q=") ≡ false)
+unfolding trim_ows
+no_weights = (refl, refl, refl, refl)

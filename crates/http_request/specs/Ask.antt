@@ -8,7 +8,7 @@ use Rattle.context_token.specs.declared.fault.TokenFault.{TokenFault}
 use Rattle.context_token.specs.Token.{read_text}
 use Rattle.key_state.specs.Limits.{longest_bucket, longest_key, longest_media}
 use Rattle.http_request.specs.Head.{BeginsHead, IsBadHead, IsHeadUnfinished, IsOriginTarget}
-use Rattle.http_request.specs.Fields.{Pair, pairs_of, value_of, has_element, is_last, fields_fault, body_length}
+use Rattle.http_request.specs.Fields.{Pair, pairs_of, value_of, accepts, is_last, fields_fault, body_length}
 use Rattle.http_request.specs.Table.{route_of}
 use Rattle.http_request.specs.Target.{path_at, query_at, texts_of, name_at, is_name, is_hook_name, asked_for, Quorums, quorums_of}
 use Rattle.http_request.specs.Props.{changes_in}
@@ -83,7 +83,7 @@ asked_delete key n (Ok seen) = Call (Put key seen Tombstone n.write n.at) Text
 abbrev pub asked_key : Key → Quorums → Request → What
 asked_key key n q =
     if is_read q
-    then Call (Get key n.read n.at) (form_of (asked_for (codes "vtag") (texts_of q.query)) (has_element (codes "accept") (codes "multipart/mixed") q.pairs))
+    then Call (Get key n.read n.at) (form_of (asked_for (codes "vtag") (texts_of q.query)) (accepts (codes "accept") (codes "multipart/mixed") q.pairs))
     else (if is_method q (codes "DELETE") then asked_delete key n (context_of q.pairs)
     else asked_write key n q (context_of q.pairs))
 

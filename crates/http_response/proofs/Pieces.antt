@@ -5,9 +5,9 @@ use Rattle.std.proofs.Common.{◌≡◌, ◌∙◌, ap, ℕ, List, ◌++◌, app
 pub both_pieces : (l l' x x' : List ℕ) → l ≡ l' → x ≡ x' → l ++ x ≡ l' ++ x'
 both_pieces l l' x x' e d = ap (λ a. a ++ x) e ∙ ap (λ a. l' ++ a) d
 
-pub answer_grouped : (o s m v t k l a e y : List ℕ)
-    → (((((((o ++ s) ++ m) ++ v) ++ t) ++ k) ++ l) ++ (a ++ e)) ++ y ≡ o ++ ((((((((s ++ m) ++ v) ++ t) ++ k) ++ l) ++ a) ++ e) ++ y)
-answer_grouped o s m v t k l a e y = simp append_assoc
+pub answer_grouped : (o s m v t k l a f e y : List ℕ)
+    → (((((((o ++ s) ++ m) ++ v) ++ t) ++ k) ++ l) ++ ((a ++ f) ++ e)) ++ y ≡ o ++ (((((((((s ++ m) ++ v) ++ t) ++ k) ++ l) ++ a) ++ f) ++ e) ++ y)
+answer_grouped o s m v t k l a f e y = simp append_assoc
 
 pub part_grouped : (o e d k t b : List ℕ)
     → ((((o ++ (e ++ d)) ++ e) ++ k) ++ (t ++ e)) ++ b ≡ o ++ (((((e ++ (d ++ e)) ++ k) ++ t) ++ e) ++ b)

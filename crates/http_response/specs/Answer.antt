@@ -56,6 +56,10 @@ or_nothing (Some body) = body
 abbrev pub closing : Bool → Option (List ℕ)
 closing ends = if ends then Some (codes "close") else None
 
+-- the fields of each answer: no browser is to take a value for another type than it has (Fetch Standard, 3.6), and who answers (RFC 9110, 10.2.4)
+abbrev pub own_fields : List ℕ
+own_fields = line (codes "X-Content-Type-Options: nosniff") ++ line (codes "Server: dvvstore")
+
 -- what is shown of a body: nothing, where the head alone is asked for (RFC 9110, 9.3.2)
 abbrev pub shown_body : Bool → Option (List ℕ) → List ℕ
 shown_body head_only body = if head_only then [] else or_nothing body
@@ -66,7 +70,8 @@ print_answer a how =
     line (codes "HTTP/1.1 " ++ a.status)
     ++ field_line (codes "Content-Type") a.media ++ field_line (codes "X-Riak-Vclock") a.vclock
     ++ field_line (codes "X-Riak-Tag") a.tag ++ field_line (codes "Connection") (closing how.ends)
-    ++ field_line (codes "Content-Length") (length_of a.body) ++ field_line (codes "Allow") a.allow ++ line [] ++ shown_body how.head_only a.body
+    ++ field_line (codes "Content-Length") (length_of a.body) ++ field_line (codes "Allow") a.allow ++ own_fields ++ line []
+    ++ shown_body how.head_only a.body
 
 -- a status and a text
 abbrev pub told : List ℕ → List ℕ → Answer

@@ -117,12 +117,12 @@ fn push_length(out: &mut Vec<u8>, body: Option<&[u8]>) -> Result<(), AllocError>
     }
 }
 
-// Adds the methods, where they are told, and the empty line.
+// Adds the methods, where they are told, the fields of each answer, and the empty line.
 fn push_head_end(out: &mut Vec<u8>, allow: Option<&[u8]>) -> Result<(), AllocError>
     ensures { OnOk result (out.new.items ≡ out.old.items ++ head_end (option_copied allow.entry)) }
 {
     push_field(out, b"Allow", allow)?;
-    out.extend_from_slice(b"\r\n")
+    out.extend_from_slice(b"X-Content-Type-Options: nosniff\r\nServer: dvvstore\r\n\r\n")
 }
 
 // Adds the body, where there is one and more than the head is asked for.

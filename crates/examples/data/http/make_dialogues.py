@@ -141,6 +141,7 @@ def answer(status, media=None, clock=None, dot=None, closes=False, body=None, al
         lines.append(f"Content-Length: {len(body)}")
     if allow is not None:
         lines.append(f"Allow: {allow}")
+    lines += ["X-Content-Type-Options: nosniff", "Server: dvvstore"]
     return "\r\n".join([*lines, "", ""]).encode() + as_bytes(body or "")
 
 
@@ -230,6 +231,11 @@ def cart():
     yield request(f"GET {ann.target}"), choices(both, (one, 3), (two, 1))
     siblings = {(one, 3): "milk, bread, eggs", (two, 1): "milk, rye --s0"}
     yield request(f"GET {ann.target}?r=all", "Accept: text/html, Multipart/Mixed;q=1"), parts(both, siblings)
+    # A weight of nothing is a no.
+    for accepted in "multipart/mixed;q=0", "multipart/mixed ; Q=0.000, text/plain", "multipart/mixed;a=b;q=0.;c=d":
+        yield request(f"GET {ann.target}", f"Accept: {accepted}"), choices(both, (one, 3), (two, 1))
+    for accepted in "multipart/mixed;q=0.001", "multipart/mixed;q=0, multipart/mixed", "multipart/mixed;q=00", "multipart/mixed;qq=0":
+        yield request(f"GET {ann.target}", f"Accept: {accepted}"), parts(both, siblings)
     yield request(f"GET {ann.target}?vtag={tag((two, 1))}"), value(both, "milk, rye --s0")
     yield request(f"GET {ann.target}?vtag={tag((one, 2))}"), not_found(both)
 

@@ -1,7 +1,7 @@
 use Rattle.std.proofs.Common.{ap, ◌∙◌, ◌++◌, []}
 use Rattle.std.specs.Prelude.{codes}
 use Rattle.std.specs.Option.{option_copied}
-use Rattle.http_response.specs.Answer.{closing, length_of, shown_body}
+use Rattle.http_response.specs.Answer.{closing, length_of, own_fields, shown_body}
 use Rattle.http_response.specs.Parts.{line, field_line}
 use Rattle.http_response.specs.View.{head_end, context_of}
 use Rattle.http_response.proofs.Pieces.{answer_grouped}
@@ -26,4 +26,4 @@ returns c =
     ∙ ap (λ x. x ++ t) (c.in_ok-push_context.ensures
     ∙ ap (λ x. x ++ v) (c.in_ok-push_field.ensures
     ∙ ap (λ x. x ++ m) c.in_ok-push_status.ensures))))))
-    ∙ answer_grouped c.args.out.now.items s m v t k l (field_line (codes "Allow") (option_copied a.allow)) (line []) b)
+    ∙ answer_grouped c.args.out.now.items s m v t k l (field_line (codes "Allow") (option_copied a.allow)) own_fields (line []) b)
