@@ -94,8 +94,24 @@ fn is_weighed(part: &[u8], element: &[u8]) -> bool
 fn has_no_weight(part: &[u8]) -> bool
     ensures { result ≡ list_any spec.is_no_weight (slice_split (λ b. b == 59) part.now) }
 {
-    part.split(|b| *b == b';')
-        .any(|parameter| is_no_weight(parameter))
+    let mut rest = part;
+    while let Some(at) = semicolon_in(rest) {
+        if is_no_weight(&rest[..at]) {
+            return true;
+        }
+        rest = &rest[at + 1..];
+    }
+    is_no_weight(rest)
+}
+
+// Where the first semicolon stands.
+fn semicolon_in(text: &[u8]) -> Option<usize>
+    ensures found { IfSome result (λ at. (at < length text.now) × (slice_split (λ b. b == 59) text.now
+        ≡ take at text.now ∷ slice_split (λ b. b == 59) (drop (at + 1) text.now))) }
+    ensures none { IfNone result (slice_split (λ b. b == 59) text.now ≡ text.now ∷ []) }
+    ensures fits { length text.now < 2 ^ 64 }
+{
+    memchr(b';', text)
 }
 
 // Whether it is a weight of nothing.

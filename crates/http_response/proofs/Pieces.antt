@@ -18,3 +18,6 @@ clock_grouped o x t e = simp append_assoc
 
 pub tag_grouped : (o x t e : List ℕ) → ((o ++ x) ++ t) ++ (e ++ e) ≡ o ++ (((x ++ t) ++ e) ++ e)
 tag_grouped o x t e = simp append_assoc
+
+pub end_grouped : (o a f e : List ℕ) → (o ++ a) ++ (f ++ e) ≡ o ++ ((a ++ f) ++ e)
+end_grouped o a f e = simp append_assoc

@@ -65,7 +65,7 @@ abbrev pub shown_body : Bool → Option (List ℕ) → List ℕ
 shown_body head_only body = if head_only then [] else or_nothing body
 
 -- the bytes of an answer
-abbrev pub print_answer : Answer → Telling → List ℕ
+unfoldable pub print_answer : Answer → Telling → List ℕ
 print_answer a how =
     line (codes "HTTP/1.1 " ++ a.status)
     ++ field_line (codes "Content-Type") a.media ++ field_line (codes "X-Riak-Vclock") a.vclock

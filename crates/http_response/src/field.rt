@@ -1,8 +1,8 @@
 //! The pieces of an answer.
 
-ghost use Rattle.std.specs.Prelude.{◌≡◌, ◌++◌, OnOk, codes, decimal};
+ghost use Rattle.std.specs.Prelude.{◌≡◌, ◌++◌, OnOk, [], codes, decimal};
 ghost use Rattle.std.specs.Option.{option_copied};
-ghost use Rattle.http_response.specs.Answer.{closing, length_of, print_answer, shown_body, vclock_of};
+ghost use Rattle.http_response.specs.Answer.{closing, length_of, own_fields, print_answer, shown_body, vclock_of};
 ghost use Rattle.http_response.specs.Parts.{line, field_line, tag_of};
 ghost use Rattle.http_response.specs.View.{parts_of, context_of, head_end};
 
@@ -122,6 +122,14 @@ fn push_head_end(out: &mut Vec<u8>, allow: Option<&[u8]>) -> Result<(), AllocErr
     ensures { OnOk result (out.new.items ≡ out.old.items ++ head_end (option_copied allow.entry)) }
 {
     push_field(out, b"Allow", allow)?;
+    push_own_end(out)?;
+    Ok(())
+}
+
+// Adds the fields of each answer, and the empty line.
+fn push_own_end(out: &mut Vec<u8>) -> Result<(), AllocError>
+    ensures { OnOk result (out.new.items ≡ out.old.items ++ (own_fields ++ line [])) }
+{
     out.extend_from_slice(b"X-Content-Type-Options: nosniff\r\nServer: dvvstore\r\n\r\n")
 }
 

@@ -1,13 +1,14 @@
 use Rattle.std.proofs.Common.{ap, ◌∙◌, ◌++◌, []}
 use Rattle.std.specs.Prelude.{codes}
 use Rattle.std.specs.Option.{option_copied}
-use Rattle.http_response.specs.Answer.{closing, length_of, own_fields, shown_body}
+use Rattle.http_response.specs.Answer.{closing, length_of, own_fields, print_answer, shown_body}
 use Rattle.http_response.specs.Parts.{line, field_line}
 use Rattle.http_response.specs.View.{head_end, context_of}
 use Rattle.http_response.proofs.Pieces.{answer_grouped}
 use Rattle.http_response.proofs.field.push_parts.Goals as goal
 
 pub returns : goal.returns
+unfolding print_answer
 returns c =
     let a = c.args.answer.now in
     let s = line (codes "HTTP/1.1 " ++ a.status.now) in
