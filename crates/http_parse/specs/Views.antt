@@ -13,6 +13,7 @@ use Rattle.http_request.specs.declared.ask.What.{What}
 use Rattle.http_request.specs.Ask as spec
 use Rattle.http_parse.specs.declared.query.Asked.{Asked}
 use Rattle.http_parse.specs.declared.whole.Request.{Request}
+use Rattle.http_parse.specs.declared.asked.KeyAt.{KeyAt}
 
 abbrev pub quorums : Asked → Quorums
 quorums a = record { read = a.read; write = a.write; at = a.at }
@@ -30,9 +31,9 @@ request r = record {
   body = r.body.now;
 }
 
--- the key that a path names
-abbrev pub key_at : List ℕ → Key
-key_at path = record { bucket = name_at 2 path; key = name_at 4 path }
+-- the key that a path names, by the places of its pieces
+abbrev pub key_at : KeyAt → List ℕ → Key
+key_at at path = record { bucket = name_at at.bucket path; key = name_at at.key path }
 
 -- what a request writes
 abbrev pub content_of : spec.Request → Option Content

@@ -7,7 +7,7 @@ ghost use Rattle.http_request.specs.Target as target;
 ghost use Rattle.http_request.specs.Fields as fields;
 ghost use Rattle.http_request.specs.Target.{texts_of};
 ghost use Rattle.http_request.specs.Ask as spec;
-ghost use Rattle.http_request.specs.Ask.{asked_of, asked_at, asked_by_method, asked_else, asked_named, asked_props, is_method, is_read, context_of};
+ghost use Rattle.http_request.specs.Ask.{asked_of, asked_at, asked_at_key, asked_at_bucket, asked_by_method, asked_else, asked_named, asked_props, is_method, is_read, context_of};
 ghost use Rattle.http_request.specs.Props as props;
 ghost use Rattle.http_request.specs.declared.ask.What.TheVariants as asks;
 ghost use Rattle.http_request.specs.declared.ask.Call.TheVariants as calls;
@@ -28,6 +28,32 @@ use dvv::Clock;
 use http_request::{Ask, Call, Form, Refusal, Route, What};
 use key_state::{Bytes, Content, Key, MAX_BUCKET, MAX_MEDIA};
 use std::alloc::{AllocError, Global};
+
+/// A route of a key, and where the names of its bucket and of the key in it stand, among the pieces of its paths.
+#[derive(Clone, Copy)]
+pub(crate) struct KeyAt {
+    pub(crate) route: Route,
+    pub(crate) bucket: usize,
+    pub(crate) key: usize,
+}
+
+const KEY: KeyAt = KeyAt {
+    route: Route::Key,
+    bucket: 2,
+    key: 4,
+};
+
+const TYPED_KEY: KeyAt = KeyAt {
+    route: Route::TypedKey,
+    bucket: 4,
+    key: 6,
+};
+
+const OLD_KEY: KeyAt = KeyAt {
+    route: Route::OldKey,
+    bucket: 2,
+    key: 3,
+};
 
 // What a method asks for: `HEAD` alone asks for no more than the head of its answer.
 pub(crate) fn asked_by(method: &[u8], what: What) -> Ask
@@ -62,9 +88,12 @@ impl Request<'_> {
             None => Ok(What::Refused(Refusal::NoRoute)),
             Some(Route::Root) => Ok(self.ask_of_root()),
             Some(Route::Ping) => Ok(self.ask_of_ping()),
-            Some(Route::Key) => self.ask_of_key(alloc, copies),
+            Some(Route::Key) => self.ask_of_key(alloc, copies, KEY),
+            Some(Route::TypedKey) => self.ask_of_key(alloc, copies, TYPED_KEY),
+            Some(Route::OldKey) => self.ask_of_key(alloc, copies, OLD_KEY),
             Some(Route::Hook) => self.ask_of_hook(alloc),
-            Some(Route::Props) => self.ask_of_bucket(alloc),
+            Some(Route::Props) => self.ask_of_bucket(alloc, Route::Props, 2),
+            Some(Route::TypedProps) => self.ask_of_bucket(alloc, Route::TypedProps, 4),
         }
     }
 
@@ -115,16 +144,17 @@ impl Request<'_> {
         }
     }
 
-    fn ask_of_key(self, alloc: Global, copies: u32) -> Result<What, AllocError>
+    // What its method asks of a key.
+    fn ask_of_key(self, alloc: Global, copies: u32, at: KeyAt) -> Result<What, AllocError>
         requires some { 1 ≤ copies }
         requires few { copies ≤ 3 }
-        ensures asked { IfOk result (λ what. what ≡ asked_at copies (Some route.Key) (request self.entry)) }
+        ensures asked { IfOk result (λ what. what ≡ asked_at_key copies at.route at.bucket at.key (request self.entry)) }
         ensures fits { IfOk result (FitsWhat copies) }
     {
         if self.is_of_key() {
-            self.ask_of_query(alloc, copies)
+            self.ask_of_query(alloc, copies, at)
         } else {
-            Ok(self.ask_else(Route::Key))
+            Ok(self.ask_else(at.route))
         }
     }
 
@@ -137,15 +167,15 @@ impl Request<'_> {
     }
 
     // What is asked of a key by one of its methods.
-    fn ask_of_query(self, alloc: Global, copies: u32) -> Result<What, AllocError>
+    fn ask_of_query(self, alloc: Global, copies: u32, at: KeyAt) -> Result<What, AllocError>
         requires some { 1 ≤ copies }
         requires few { copies ≤ 3 }
-        ensures asked { IfOk result (λ what. what ≡ asked_named (target.quorums_of copies (texts_of self.entry.query.now)) (key_at self.entry.path.now) (request self.entry)) }
+        ensures asked { IfOk result (λ what. what ≡ asked_named (target.quorums_of copies (texts_of self.entry.query.now)) (key_at at self.entry.path.now) (request self.entry)) }
         ensures fits { IfOk result (FitsWhat copies) }
     {
         let words = words_of(alloc, self.query.as_bytes())?;
         match quorums_of(&words, copies) {
-            Some(asked) => self.ask_of_names(alloc, asked, text_of(&words.vtag)),
+            Some(asked) => self.ask_of_names(alloc, at, asked, text_of(&words.vtag)),
             None => Ok(What::Refused(Refusal::Query)),
         }
     }
@@ -154,14 +184,15 @@ impl Request<'_> {
     fn ask_of_names(
         self,
         alloc: Global,
+        at: KeyAt,
         asked: Asked,
         tag: Option<&str>,
     ) -> Result<What, AllocError>
         requires { option_copied tag ≡ target.asked_for (codes "vtag") (texts_of self.query.now) }
-        ensures asked { IfOk result (λ what. what ≡ asked_named (Some (quorums asked)) (key_at self.entry.path.now) (request self.entry)) }
+        ensures asked { IfOk result (λ what. what ≡ asked_named (Some (quorums asked)) (key_at at self.entry.path.now) (request self.entry)) }
         ensures fits { (copies : ℕ) → FitsAsked copies asked → IfOk result (FitsWhat copies) }
     {
-        let key = self.key(alloc)?;
+        let key = self.key(alloc, at)?;
         if !has_names(&key) {
             return Ok(What::Refused(Refusal::BadName));
         }
@@ -173,11 +204,11 @@ impl Request<'_> {
     }
 
     // The key that the path names.
-    fn key(self, alloc: Global) -> Result<Key, AllocError>
-        ensures { IfOk result (λ key. key ≡ key_at self.entry.path.now) }
+    fn key(self, alloc: Global, at: KeyAt) -> Result<Key, AllocError>
+        ensures { IfOk result (λ key. key ≡ key_at at self.entry.path.now) }
     {
-        let bucket = decoded_at(alloc, self.path, 2)?;
-        let key = decoded_at(alloc, self.path, 4)?;
+        let bucket = decoded_at(alloc, self.path, at.bucket)?;
+        let key = decoded_at(alloc, self.path, at.key)?;
         Key::new(alloc, bucket.as_slice(), key.as_slice())
     }
 
@@ -310,15 +341,16 @@ impl Request<'_> {
         Ok(What::Call(Call::Install { name, image }, Form::Text))
     }
 
-    fn ask_of_bucket(self, alloc: Global) -> Result<What, AllocError>
-        ensures asked { (copies : ℕ) → IfOk result (λ what. what ≡ asked_at copies (Some route.Props) (request self.entry)) }
+    // What its method asks of the bucket at a piece of the path.
+    fn ask_of_bucket(self, alloc: Global, route: Route, piece: usize) -> Result<What, AllocError>
+        ensures asked { IfOk result (λ what. what ≡ asked_at_bucket route piece (request self.entry)) }
         ensures fits { (copies : ℕ) → IfOk result (FitsWhat copies) }
     {
         let read = self.is_read();
         if !(read || self.is(b"PUT")) {
-            return Ok(self.ask_else(Route::Props));
+            return Ok(self.ask_else(route));
         }
-        let bucket = name_at(alloc, self.path, 2)?;
+        let bucket = name_at(alloc, self.path, piece)?;
         if !is_name(MAX_BUCKET, bucket.as_slice()) {
             return Ok(What::Refused(Refusal::BadName));
         }

@@ -40,6 +40,18 @@ root_route : route_of (codes "/") ≡ Some route.Root
 unfolding routes seek param_step scan
 root_route = refl
 
+typed_key_route : route_of (codes "/types/default/buckets/b/keys/k") ≡ Some route.TypedKey
+unfolding routes seek param_step scan
+typed_key_route = refl
+
+typed_props_route : route_of (codes "/types/default/buckets/b/props") ≡ Some route.TypedProps
+unfolding routes seek param_step scan
+typed_props_route = refl
+
+old_key_route : route_of (codes "/riak/b/k") ≡ Some route.OldKey
+unfolding routes seek param_step scan
+old_key_route = refl
+
 no_route : route_of (codes "/buckets//keys/k") ≡ None
 unfolding routes seek param_step scan
 no_route = refl

@@ -118,21 +118,32 @@ asked_by_method method what = record { what = what; head_only = bytes_eq method 
 abbrev pub asked_by_none : Ask
 asked_by_none = record { what = Refused BadHead; head_only = false }
 
+-- what the method asks of a bucket, whose name is the i-th piece of the path
+abbrev pub asked_at_bucket : Route → ℕ → Request → What
+asked_at_bucket at i q =
+    if is_read q || is_method q (codes "PUT") then asked_bucket (name_at i q.path) q else asked_else at q
+
 -- n is the number of copies of a key
 module _ (n : ℕ) where
+  -- what the method asks of a key, whose bucket and name are the i-th and the j-th piece of the path
+  abbrev pub asked_at_key : Route → ℕ → ℕ → Request → What
+  asked_at_key at i j q =
+      if is_read q || is_method q (codes "PUT") || is_method q (codes "POST") || is_method q (codes "DELETE")
+      then asked_named (quorums_of n (texts_of q.query)) (record { bucket = name_at i q.path; key = name_at j q.path }) q
+      else asked_else at q
+
   -- what the method asks of the route
   abbrev pub asked_at : Option Route → Request → What
   asked_at None q = Refused NoRoute
   asked_at (Some route.Root) q = if is_read q then Resources else asked_else route.Root q
   asked_at (Some route.Ping) q = if is_read q then Ping else asked_else route.Ping q
-  asked_at (Some route.Key) q =
-      if is_read q || is_method q (codes "PUT") || is_method q (codes "POST") || is_method q (codes "DELETE")
-      then asked_named (quorums_of n (texts_of q.query)) (record { bucket = name_at 2 q.path; key = name_at 4 q.path }) q
-      else asked_else route.Key q
+  asked_at (Some route.Key) q = asked_at_key route.Key 2 4 q
+  asked_at (Some route.TypedKey) q = asked_at_key route.TypedKey 4 6 q
+  asked_at (Some route.OldKey) q = asked_at_key route.OldKey 2 3 q
   asked_at (Some route.Hook) q =
       if is_method q (codes "PUT") || is_method q (codes "DELETE") then asked_hook (name_at 2 q.path) q else asked_else route.Hook q
-  asked_at (Some route.Props) q =
-      if is_read q || is_method q (codes "PUT") then asked_bucket (name_at 2 q.path) q else asked_else route.Props q
+  asked_at (Some route.Props) q = asked_at_bucket route.Props 2 q
+  asked_at (Some route.TypedProps) q = asked_at_bucket route.TypedProps 4 q
 
   -- what a request asks for
   abbrev pub asked_of : Request → What

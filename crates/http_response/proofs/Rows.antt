@@ -101,6 +101,6 @@ unfolding digits whole print_answer
 no_method = refl
 
 resources : answer 3 (by_head Resources) Nothing false
-    ≡ line (codes "HTTP/1.1 200 OK") ++ line (codes "Content-Type: application/json") ++ line (codes "Content-Length: 120") ++ own_fields ++ line []
+    ≡ line (codes "HTTP/1.1 200 OK") ++ line (codes "Content-Type: application/json") ++ line (codes "Content-Length: 179") ++ own_fields ++ line []
 unfolding digits by_head print_answer
 resources = refl

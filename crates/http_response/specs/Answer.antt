@@ -89,8 +89,11 @@ abbrev pub methods_of : Route → List ℕ
 methods_of route.Root = codes "GET, HEAD, OPTIONS"
 methods_of route.Ping = codes "GET, HEAD, OPTIONS"
 methods_of route.Key = codes "GET, HEAD, PUT, POST, DELETE, OPTIONS"
+methods_of route.TypedKey = codes "GET, HEAD, PUT, POST, DELETE, OPTIONS"
+methods_of route.OldKey = codes "GET, HEAD, PUT, POST, DELETE, OPTIONS"
 methods_of route.Hook = codes "PUT, DELETE, OPTIONS"
 methods_of route.Props = codes "GET, HEAD, PUT, OPTIONS"
+methods_of route.TypedProps = codes "GET, HEAD, PUT, OPTIONS"
 
 abbrev pub options_answer : Route → Answer
 options_answer at = record empty_answer { allow = Some (methods_of at) }
@@ -98,7 +101,7 @@ options_answer at = record empty_answer { allow = Some (methods_of at) }
 -- where the resources lie (Riak KV, HTTP API, list resources, as JSON)
 abbrev pub resources_answer : Answer
 resources_answer = record (told (codes "200 OK")
-    (codes "{\"riak_kv_wm_buckets\":\"/buckets\",\"riak_kv_wm_object\":\"/buckets\",\"riak_kv_wm_ping\":\"/ping\",\"riak_kv_wm_props\":\"/buckets\"}"))
+    (codes "{\"riak_kv_wm_bucket_type\":\"/types\",\"riak_kv_wm_buckets\":\"/buckets\",\"riak_kv_wm_object\":\"/buckets\",\"riak_kv_wm_ping\":\"/ping\",\"riak_kv_wm_props\":\"/buckets\",\"riak_kv_wm_raw\":\"/riak\"}"))
     { media = Some (codes "application/json") }
 
 abbrev pub bad_request : List ℕ

@@ -39,7 +39,7 @@ pub(crate) const HERE: Line<'static> = Line {
 
 /// Where the resources lie.
 pub(crate) const RESOURCES: &[u8] =
-    b"{\"riak_kv_wm_buckets\":\"/buckets\",\"riak_kv_wm_object\":\"/buckets\",\"riak_kv_wm_ping\":\"/ping\",\"riak_kv_wm_props\":\"/buckets\"}";
+    b"{\"riak_kv_wm_bucket_type\":\"/types\",\"riak_kv_wm_buckets\":\"/buckets\",\"riak_kv_wm_object\":\"/buckets\",\"riak_kv_wm_ping\":\"/ping\",\"riak_kv_wm_props\":\"/buckets\",\"riak_kv_wm_raw\":\"/riak\"}";
 
 /// What want of memory is told as.
 pub(crate) const NO_MEMORY: Line<'static> = Line {
@@ -130,9 +130,9 @@ pub(crate) fn methods_of(route: Route) -> &'static [u8]
 {
     match route {
         Route::Root | Route::Ping => b"GET, HEAD, OPTIONS",
-        Route::Key => b"GET, HEAD, PUT, POST, DELETE, OPTIONS",
+        Route::Key | Route::TypedKey | Route::OldKey => b"GET, HEAD, PUT, POST, DELETE, OPTIONS",
         Route::Hook => b"PUT, DELETE, OPTIONS",
-        Route::Props => b"GET, HEAD, PUT, OPTIONS",
+        Route::Props | Route::TypedProps => b"GET, HEAD, PUT, OPTIONS",
     }
 }
 

@@ -164,7 +164,14 @@ def told(status, word, allow=None, closes=False):
 
 def resources():
     """Where the resources lie."""
-    names = {"buckets": "/buckets", "object": "/buckets", "ping": "/ping", "props": "/buckets"}
+    names = {
+        "bucket_type": "/types",
+        "buckets": "/buckets",
+        "object": "/buckets",
+        "ping": "/ping",
+        "props": "/buckets",
+        "raw": "/riak",
+    }
     members = ",".join(f'"riak_kv_wm_{name}":"{path}"' for name, path in names.items())
     return answer(200, JSON, body=f"{{{members}}}")
 
@@ -781,6 +788,23 @@ def methods():
         yield request(f"OPTIONS {target}"), options(route)
         yield request(f"options {target}"), told(*no_method(route))
     yield request("OPTIONS /none"), told(*NO_ROUTE)
+    # The same routes with Riak's type `default`, and its old route of a key. No other type is there.
+    typed_key, old_key = f"/types/default{key.target}", "/riak/b/k"
+    yield request(f"GET {typed_key}?vtag={tag((one, 1))}"), value(both, "a")
+    yield request(f"POST {old_key}", typed(TEXT), seen(both), body="c"), written(one, 2)
+    yield by_head(old_key), head_of(value({one: 2, two: 1}, "c"))
+    yield request(f"PUT {typed_key}", typed(TEXT), seen({one: 2, two: 1}), body="d"), written(one, 3)
+    yield request(f"DELETE {old_key}", seen({one: 3, two: 1})), written(one, 4)
+    yield request(f"GET {key.target}"), not_found({one: 4, two: 1})
+    yield request("PUT /types/default/buckets/b/props", body='{"props":{}}'), done()
+    yield request("GET /types/default/buckets/b/props"), properties(None, None)
+    yield request(f"GET {typed_key}?r=0"), told(*QUERY)
+    yield request(f"GET /riak/{'b' * 65}/k"), told(*BAD_NAME)
+    yield request(f"PATCH {old_key}"), told(*no_method("key"))
+    yield request(f"OPTIONS {typed_key}"), options("key")
+    yield request("DELETE /types/default/buckets/b/props"), told(*no_method("props"))
+    for path in ["/types/maps/buckets/b/keys/k", "/types/default", "/types/default/props", "/types/Default/buckets/b/props", "/riak/b", "/riak/b/k/l"]:
+        yield request(f"GET {path}"), told(*NO_ROUTE)
     yield request("POST /", body=""), told(*no_method("root"))
     # The last request of a connection, by its version and by a fault.
     for bytes_sent, answered in [
