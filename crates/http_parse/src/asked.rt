@@ -92,8 +92,8 @@ impl Request<'_> {
             Some(Route::TypedKey) => self.ask_of_key(alloc, copies, TYPED_KEY),
             Some(Route::OldKey) => self.ask_of_key(alloc, copies, OLD_KEY),
             Some(Route::Hook) => self.ask_of_hook(alloc),
-            Some(Route::Props) => self.ask_of_bucket(alloc, Route::Props, 2),
-            Some(Route::TypedProps) => self.ask_of_bucket(alloc, Route::TypedProps, 4),
+            Some(Route::Props) => self.ask_of_bucket(alloc, copies, Route::Props, 2),
+            Some(Route::TypedProps) => self.ask_of_bucket(alloc, copies, Route::TypedProps, 4),
         }
     }
 
@@ -342,9 +342,15 @@ impl Request<'_> {
     }
 
     // What its method asks of the bucket at a piece of the path.
-    fn ask_of_bucket(self, alloc: Global, route: Route, piece: usize) -> Result<What, AllocError>
-        ensures asked { IfOk result (λ what. what ≡ asked_at_bucket route piece (request self.entry)) }
-        ensures fits { (copies : ℕ) → IfOk result (FitsWhat copies) }
+    fn ask_of_bucket(
+        self,
+        alloc: Global,
+        copies: u32,
+        route: Route,
+        piece: usize,
+    ) -> Result<What, AllocError>
+        ensures asked { IfOk result (λ what. what ≡ asked_at_bucket copies route piece (request self.entry)) }
+        ensures fits { IfOk result (FitsWhat copies) }
     {
         let read = self.is_read();
         if !(read || self.is(b"PUT")) {
@@ -357,16 +363,16 @@ impl Request<'_> {
         if read {
             Ok(What::Call(Call::ReadProps { bucket }, Form::Text))
         } else {
-            self.set_props(alloc, bucket)
+            self.set_props(alloc, copies, bucket)
         }
     }
 
     // What sets the properties of a bucket.
-    fn set_props(self, alloc: Global, bucket: Bytes) -> Result<What, AllocError>
-        ensures { IfOk result (λ what. what ≡ asked_props bucket (props.changes_in self.entry.body.now)) }
+    fn set_props(self, alloc: Global, copies: u32, bucket: Bytes) -> Result<What, AllocError>
+        ensures { IfOk result (λ what. what ≡ asked_props bucket (props.changes_in copies self.entry.body.now)) }
     {
-        match changes_in(alloc, self.body)? {
-            Some((precommit, resolver)) => {
+        match changes_in(alloc, copies, self.body)? {
+            Ok((precommit, resolver)) => {
                 let call = Call::SetProps {
                     bucket,
                     precommit,
@@ -374,7 +380,7 @@ impl Request<'_> {
                 };
                 Ok(What::Call(call, Form::Text))
             }
-            None => Ok(What::Refused(Refusal::BadProps)),
+            Err(refusal) => Ok(What::Refused(refusal)),
         }
     }
 }

@@ -1,22 +1,23 @@
 -- The worked requests, computed by the definitions.
-use Rattle.std.proofs.Common.{◌≡◌, ℕ, List, [], ◌∷◌, Some, None, refl, true, false}
+use Rattle.std.proofs.Common.{◌≡◌, ℕ, List, [], ◌∷◌, Some, None, Ok, Err, refl, true, false}
 use Rattle.std.specs.Prelude.{codes}
 use Rattle.httparse.specs.Grammar.{RequestHead, Field, crlf, trim_ows}
 use Rattle.matchit.specs.Seek.{seek, param_step}
 use Rattle.matchit.specs.Route.{scan}
 use Rattle.serde_json.proofs.OnLiterals.{serde_json_on_literals}
-use Rattle.http_request.specs.declared.ask.Refusal.TheVariants.{Coding, BadLength, NoLength, Large, Method, Query, BadName, BadType}
+use Rattle.http_request.specs.declared.ask.Refusal.TheVariants.{Coding, BadLength, NoLength, Large, Method, Query, BadName, BadType, FixedProperty}
 use Rattle.http_request.specs.declared.route.Route.TheVariants as route
 use Rattle.http_request.specs.Table.{routes, route_of}
 use Rattle.http_request.specs.Fields.{fields_fault, fault_among, body_length, is_last, accepts, is_no_weight}
 use Rattle.key_state.specs.declared.content.Content.TheVariants.{Value}
 use Rattle.http_request.specs.declared.ask.Change.TheVariants.{Kept, Bound}
+use Rattle.http_request.specs.declared.ask.Property.TheVariants.{AllowMult, LastWriteWins, NVal, PostCommit}
 use Rattle.http_request.specs.declared.ask.Form.TheVariants.{Text, Parts}
 use Rattle.http_request.specs.declared.ask.Call.TheVariants.{Put}
 use Rattle.http_request.specs.declared.ask.What.TheVariants.{Resources, Options, Call, Refused}
 use Rattle.http_request.specs.Ask.{asked_named, asked_at, asked_by_method, form_of, request}
 use Rattle.http_request.specs.Target.{quorums_of}
-use Rattle.http_request.specs.Props.{changes_of}
+use Rattle.http_request.specs.Props.{changes_at}
 use Rattle.serde_json.specs.Find.{get}
 use Rattle.serde_json.specs.Read.{read as read_json}
 use Rattle.std.specs.Prelude.{option_and_then}
@@ -94,14 +95,22 @@ unfolding trim_ows field head
 stays = refl
 
 -- properties
-props_members : option_and_then changes_of (option_and_then (get (codes "props")) (read_json (codes "{\"props\":{\"precommit\":\"no\"}}")))
-    ≡ Some (Bound (codes "no"), Kept)
+props_members : changes_at 3 (option_and_then (get (codes "props")) (read_json (codes "{\"props\":{\"precommit\":\"no\",\"n_val\":3}}")))
+    ≡ Ok (Bound (codes "no"), Kept)
 unfolding serde_json_on_literals
 props_members = refl
 
-props_mult : option_and_then changes_of (option_and_then (get (codes "props")) (read_json (codes "{\"props\":{\"allow_mult\":false}}"))) ≡ None
+props_mult : changes_at 3 (option_and_then (get (codes "props")) (read_json (codes "{\"props\":{\"allow_mult\":false}}"))) ≡ Err (FixedProperty AllowMult)
 unfolding serde_json_on_literals
 props_mult = refl
+
+-- properties that are as they are, in their order, before what is bound
+props_fixed : (changes_at 3 (option_and_then (get (codes "props")) (read_json (codes "{\"props\":{\"n_val\":4,\"last_write_wins\":true}}"))) ≡ Err (FixedProperty LastWriteWins))
+    × (changes_at 3 (option_and_then (get (codes "props")) (read_json (codes "{\"props\":{\"n_val\":4,\"precommit\":1}}"))) ≡ Err (FixedProperty NVal))
+    × (changes_at 3 (option_and_then (get (codes "props")) (read_json (codes "{\"props\":{\"postcommit\":[{}]}}"))) ≡ Err (FixedProperty PostCommit))
+    × (changes_at 3 (option_and_then (get (codes "props")) (read_json (codes "{\"props\":{\"postcommit\":null,\"last_write_wins\":false}}"))) ≡ Ok (Kept, Kept))
+unfolding serde_json_on_literals
+props_fixed = (refl, refl, refl, refl)
 
 -- a query's words
 bad_numbers : (quorums_of 3 ((codes "r", codes "04") ∷ []) ≡ None) × (quorums_of 3 ((codes "w", codes "4") ∷ []) ≡ None) × (quorums_of 3 ((codes "at", codes "3") ∷ []) ≡ None)

@@ -22,7 +22,7 @@ use Rattle.http_request.specs.declared.ask.What.TheVariants.{Ping, Resources, Op
 use Rattle.http_request.specs.declared.route.Route.{Route}
 use Rattle.http_request.specs.declared.route.Route.TheVariants as route
 use Rattle.http_request.specs.declared.ask.Refusal.{Refusal}
-use Rattle.http_request.specs.declared.ask.Refusal.TheVariants.{BadHead, NoRoute, Method, Query, BadName, Token, BadType, BadProps}
+use Rattle.http_request.specs.declared.ask.Refusal.TheVariants.{BadHead, NoRoute, Method, Query, BadName, Token, BadType}
 
 -- what a request asks with: its method, the path and the query of its target, its fields and its body
 pub record Request : Type 0 where
@@ -55,9 +55,9 @@ abbrev pub media_of : List Pair → List ℕ
 media_of pairs = unwrap_or (value_of (codes "content-type") pairs) (codes "application/octet-stream")
 
 -- the changes, where the body has some
-abbrev pub asked_props : List ℕ → Option (Change × Change) → What
-asked_props bucket None = Refused BadProps
-asked_props bucket (Some (p, r)) = Call (SetProps bucket p r) Text
+abbrev pub asked_props : List ℕ → Result (Change × Change) Refusal → What
+asked_props bucket (Err refusal) = Refused refusal
+asked_props bucket (Ok (p, r)) = Call (SetProps bucket p r) Text
 
 -- the clock of a token, and the empty clock where there is none
 abbrev pub context_from : Option (List ℕ) → Result (List Dot) TokenFault
@@ -99,11 +99,11 @@ asked_hook name q =
     then (if is_method q (codes "PUT") then Call (Install name q.body) Text else Call (Remove name) Text)
     else Refused BadName
 
--- what is asked of a bucket
-abbrev pub asked_bucket : List ℕ → Request → What
-asked_bucket bucket q =
+-- what is asked of a bucket, where each key has n copies
+abbrev pub asked_bucket : ℕ → List ℕ → Request → What
+asked_bucket n bucket q =
     if is_name longest_bucket bucket
-    then (if is_read q then Call (ReadProps bucket) Text else asked_props bucket (changes_in q.body))
+    then (if is_read q then Call (ReadProps bucket) Text else asked_props bucket (changes_in n q.body))
     else Refused BadName
 
 -- what a method that the route doesn't have asks of it: which it has, or nothing
@@ -119,9 +119,9 @@ abbrev pub asked_by_none : Ask
 asked_by_none = record { what = Refused BadHead; head_only = false }
 
 -- what the method asks of a bucket, whose name is the i-th piece of the path
-abbrev pub asked_at_bucket : Route → ℕ → Request → What
-asked_at_bucket at i q =
-    if is_read q || is_method q (codes "PUT") then asked_bucket (name_at i q.path) q else asked_else at q
+abbrev pub asked_at_bucket : ℕ → Route → ℕ → Request → What
+asked_at_bucket n at i q =
+    if is_read q || is_method q (codes "PUT") then asked_bucket n (name_at i q.path) q else asked_else at q
 
 -- n is the number of copies of a key
 module _ (n : ℕ) where
@@ -142,8 +142,8 @@ module _ (n : ℕ) where
   asked_at (Some route.OldKey) q = asked_at_key route.OldKey 2 3 q
   asked_at (Some route.Hook) q =
       if is_method q (codes "PUT") || is_method q (codes "DELETE") then asked_hook (name_at 2 q.path) q else asked_else route.Hook q
-  asked_at (Some route.Props) q = asked_at_bucket route.Props 2 q
-  asked_at (Some route.TypedProps) q = asked_at_bucket route.TypedProps 4 q
+  asked_at (Some route.Props) q = asked_at_bucket n route.Props 2 q
+  asked_at (Some route.TypedProps) q = asked_at_bucket n route.TypedProps 4 q
 
   -- what a request asks for
   abbrev pub asked_of : Request → What

@@ -35,6 +35,21 @@ pub enum Refusal {
     BadType,
     /// The body is no JSON that sets properties.
     BadProps,
+    /// The body wants a property otherwise than it is.
+    FixedProperty(Property),
+}
+
+/// A property of a bucket that is as it is.
+#[derive(Clone, Copy, PartialEq, Eq)]
+pub enum Property {
+    /// `allow_mult`: siblings are always allowed.
+    AllowMult,
+    /// `last_write_wins`: it never does.
+    LastWriteWins,
+    /// `n_val`: so many copies as the store has.
+    NVal,
+    /// `postcommit`: nothing runs after a write.
+    PostCommit,
 }
 
 /// What becomes of one property of a bucket.

@@ -28,7 +28,9 @@ use Rattle.http_request.specs.declared.route.Route.TheVariants as route
 use Rattle.http_request.specs.declared.ask.Form.{Form}
 use Rattle.http_request.specs.declared.ask.Form.TheVariants.{Text, Parts, One}
 use Rattle.http_request.specs.declared.ask.Refusal.{Refusal}
-use Rattle.http_request.specs.declared.ask.Refusal.TheVariants.{BadHead, Coding, BadLength, NoLength, Large, NoRoute, Method, Query, BadName, Token, BadType, BadProps}
+use Rattle.http_request.specs.declared.ask.Refusal.TheVariants.{BadHead, Coding, BadLength, NoLength, Large, NoRoute, Method, Query, BadName, Token, BadType, BadProps, FixedProperty}
+use Rattle.http_request.specs.declared.ask.Property.{Property}
+use Rattle.http_request.specs.declared.ask.Property.TheVariants.{AllowMult, LastWriteWins, NVal, PostCommit}
 use Rattle.http_response.specs.declared.reply.Reply.{Reply}
 use Rattle.http_response.specs.declared.reply.Reply.TheVariants.{Nothing, Got, Stored, Installed, Removed, Props, Set}
 use Rattle.http_response.specs.declared.reply.Bound.{Bound}
@@ -129,6 +131,13 @@ token_answer token_fault.Cut = line_told bad_request (codes "K4")
 token_answer token_fault.PastLimit = line_told bad_request (codes "K5")
 token_answer token_fault.NoMemory = no_memory
 
+-- a property's name, as it stands in JSON (Riak KV, bucket properties)
+abbrev pub name_of : Property → List ℕ
+name_of AllowMult = codes "allow_mult"
+name_of LastWriteWins = codes "last_write_wins"
+name_of NVal = codes "n_val"
+name_of PostCommit = codes "postcommit"
+
 abbrev pub refusal_answer : Refusal → Answer
 refusal_answer BadHead = line_told bad_request (codes "bad head")
 refusal_answer Coding = line_told (codes "501 Not Implemented") (codes "coding")
@@ -142,6 +151,7 @@ refusal_answer BadName = line_told bad_request (codes "bad name")
 refusal_answer (Token fault) = token_answer fault
 refusal_answer BadType = line_told bad_request (codes "bad type")
 refusal_answer BadProps = line_told bad_request (codes "bad props")
+refusal_answer (FixedProperty property) = line_told bad_request (codes "bad props " ++ name_of property)
 
 -- a refusal of a vnode
 abbrev pub vnode_answer : VnodeFault → Answer

@@ -2,6 +2,7 @@
 
 ghost use Rattle.std.specs.Prelude.{◌≡◌};
 ghost use Rattle.bpf_insn.specs.Refusal.{name_of};
+ghost use Rattle.http_request.specs.declared.ask.Refusal.TheVariants.{FixedProperty};
 ghost use Rattle.http_response.specs.Answer as spec;
 ghost use Rattle.http_response.specs.Answer.{refusal_answer, token_answer, vnode_answer, hook_answer, name_answer};
 ghost use Rattle.http_response.specs.View.{line_of};
@@ -9,7 +10,7 @@ ghost use Rattle.http_response.specs.View.{line_of};
 use bpf_insn::Refusal as CodeRefusal;
 use context_token::TokenFault;
 use hook_registry::{HookFault, NameFault};
-use http_request::{Refusal, Route};
+use http_request::{Property, Refusal, Route};
 use vnode::VnodeFault;
 
 /// A status, the methods of a route where they are told, and a line of text.
@@ -121,6 +122,7 @@ pub(crate) fn of_refusal(refusal: Refusal) -> Line<'static>
         Refusal::Token(fault) => of_token(fault),
         Refusal::BadType => told(BAD_REQUEST, b"bad type\n"),
         Refusal::BadProps => told(BAD_REQUEST, b"bad props\n"),
+        Refusal::FixedProperty(property) => of_property(property),
     }
 }
 
@@ -133,6 +135,17 @@ pub(crate) fn methods_of(route: Route) -> &'static [u8]
         Route::Key | Route::TypedKey | Route::OldKey => b"GET, HEAD, PUT, POST, DELETE, OPTIONS",
         Route::Hook => b"PUT, DELETE, OPTIONS",
         Route::Props | Route::TypedProps => b"GET, HEAD, PUT, OPTIONS",
+    }
+}
+
+fn of_property(property: Property) -> Line<'static>
+    ensures { line_of result ≡ refusal_answer (FixedProperty property) }
+{
+    match property {
+        Property::AllowMult => told(BAD_REQUEST, b"bad props allow_mult\n"),
+        Property::LastWriteWins => told(BAD_REQUEST, b"bad props last_write_wins\n"),
+        Property::NVal => told(BAD_REQUEST, b"bad props n_val\n"),
+        Property::PostCommit => told(BAD_REQUEST, b"bad props postcommit\n"),
     }
 }
 

@@ -579,8 +579,23 @@ def refused():
     yield spoiled(token([(255, 1)], 2)), told(400, "K5")
     yield request(f"PUT {key.target}", typed("t" * 128), body="a"), told(400, "bad type")
     yield request(f"PUT {key.target}", "Content-Type:", body="a"), told(400, "bad type")
-    for props in ["", "props", '{"props":[]}', '{"props":{"precommit":1}}', '{"props":{"allow_mult":false}}']:
+    for props in ["", "props", '{"props":[]}', '{"props":{"precommit":1}}']:
         yield request("PUT /buckets/b/props", body=props), told(400, "bad props")
+    # Properties that are as they are, in the order in which they are told.
+    for members, name in [
+        ('"allow_mult":false,"last_write_wins":true', "allow_mult"),
+        ('"allow_mult":"true"', "allow_mult"),
+        ('"n_val":2,"last_write_wins":true', "last_write_wins"),
+        ('"last_write_wins":null', "last_write_wins"),
+        ('"postcommit":[{}],"n_val":2', "n_val"),
+        ('"n_val":"3"', "n_val"),
+        ('"n_val":3.0', "n_val"),
+        ('"precommit":1,"postcommit":[{"name":"f"}]', "postcommit"),
+        ('"postcommit":[]', "postcommit"),
+    ]:
+        yield request("PUT /buckets/b/props", body=f'{{"props":{{{members}}}}}'), told(400, f"bad props {name}")
+    as_it_is = '"allow_mult":true,"last_write_wins":false,"n_val":3,"postcommit":null'
+    yield request("PUT /buckets/b/props", body=f'{{"props":{{{as_it_is}}}}}'), done()
 
     # Nothing of all this was written.
     yield request(f"GET {key.target}"), not_found()
@@ -708,7 +723,7 @@ REFUSED = [
     ("PUT /buckets/b/props HTTP/1.1", '{"props":[]}', BAD_PROPS),
     ("PUT /buckets/b/props HTTP/1.1", '{"props":{"precommit":1}}', BAD_PROPS),
     ("PUT /buckets/b/props HTTP/1.1", '{"props":{"precommit":"a","resolver":[]}}', BAD_PROPS),
-    ("PUT /buckets/b/props HTTP/1.1", '{"props":{"allow_mult":null}}', BAD_PROPS),
+    ("PUT /buckets/b/props HTTP/1.1", '{"props":{"allow_mult":null}}', (400, "bad props allow_mult")),
 ]
 
 

@@ -52,6 +52,3 @@ returns-in-Some-Ping-clause-fits c = c.ask_of_ping.ensures.fits c.args.copies
 
 pub returns-in-Some-Hook-clause-fits : goal.returns-in-Some-Hook-clause-fits
 returns-in-Some-Hook-clause-fits c = c.ask_of_hook.ensures.fits c.args.copies
-
-pub returns-in-Some-Props-clause-fits : goal.returns-in-Some-Props-clause-fits
-returns-in-Some-Props-clause-fits c = c.ask_of_bucket.ensures.fits c.args.copies
