@@ -981,7 +981,7 @@ def spelled():
     yield install("no_1-B", "RBPF"), told(422, "I1")
 
     # A binding that names one hook of two, beside properties that are as they have to be, and others.
-    props = '{"props":{"resolver":null,"allow_mult":true,"n_val":1,"x":{}},"y":0}'
+    props = '{"props":{"resolver":null,"allow_mult":true,"n_val":3,"x":{}},"y":0}'
     yield request("PUT /buckets/b/props", body=props), done()
     yield request("GET /buckets/b/props"), properties(None, None)
 
