@@ -46,7 +46,7 @@ def request(method: str, path: str, body: bytes | None = None, context: str | No
 
 PING = request("GET", PING_PATH)
 LAST_PING = request("GET", PING_PATH, Connection="close")
-PONG = b"HTTP/1.1 200 OK\r\nContent-Type: text/plain\r\nContent-Length: 2\r\n\r\nOK"
+PONG = b"HTTP/1.1 200 OK\r\nContent-Type: text/plain\r\nContent-Length: 2\r\nX-Content-Type-Options: nosniff\r\nServer: dvvstore\r\n\r\nOK"
 
 
 @dataclass(frozen=True)

@@ -40,49 +40,49 @@ const TALK: [Line; 9] = [
     (
         0,
         b"GET /buckets/b/keys/k HTTP/1.1\r\nHost: h\r\n\r\n",
-        b"HTTP/1.1 404 Not Found\r\nContent-Type: text/plain\r\nContent-Length: 10\r\n\r\nnot found\n",
+        b"HTTP/1.1 404 Not Found\r\nContent-Type: text/plain\r\nContent-Length: 10\r\nX-Content-Type-Options: nosniff\r\nServer: dvvstore\r\n\r\nnot found\n",
     ),
     (
         0,
         b"PUT /buckets/b/keys/k HTTP/1.1\r\nHost: h\r\nContent-Type: text/plain\r\nContent-Length: 1\r\n\r\na",
-        b"HTTP/1.1 204 No Content\r\nX-Riak-Tag: 458752-1\r\n\r\n",
+        b"HTTP/1.1 204 No Content\r\nX-Riak-Tag: 458752-1\r\nX-Content-Type-Options: nosniff\r\nServer: dvvstore\r\n\r\n",
     ),
     (
         1,
         b"GET /buckets/b/keys/k HTTP/1.1\r\nHost: h\r\n\r\n",
-        b"HTTP/1.1 200 OK\r\nContent-Type: text/plain\r\nX-Riak-Vclock: AgABAAAHAAAAAAAAAAE=\r\nContent-Length: 1\r\n\r\na",
+        b"HTTP/1.1 200 OK\r\nContent-Type: text/plain\r\nX-Riak-Vclock: AgABAAAHAAAAAAAAAAE=\r\nContent-Length: 1\r\nX-Content-Type-Options: nosniff\r\nServer: dvvstore\r\n\r\na",
     ),
     // A hook that rejects is installed and bound by one, and is in force for the others.
     (
         0,
         b"PUT /hooks/no HTTP/1.1\r\nHost: h\r\nContent-Length: 32\r\n\r\nRBPF\x01\x01\x00\x00\x80\x00\x00\x00\x00\x00\x00\x00\xb7\x00\x00\x00\x01\x01\x00\x00\x95\x00\x00\x00\x00\x00\x00\x00",
-        b"HTTP/1.1 204 No Content\r\n\r\n",
+        b"HTTP/1.1 204 No Content\r\nX-Content-Type-Options: nosniff\r\nServer: dvvstore\r\n\r\n",
     ),
     (
         0,
         b"PUT /buckets/b/props HTTP/1.1\r\nHost: h\r\nContent-Length: 28\r\n\r\n{\"props\":{\"precommit\":\"no\"}}",
-        b"HTTP/1.1 204 No Content\r\n\r\n",
+        b"HTTP/1.1 204 No Content\r\nX-Content-Type-Options: nosniff\r\nServer: dvvstore\r\n\r\n",
     ),
     (
         1,
         b"PUT /buckets/b/keys/k HTTP/1.1\r\nHost: h\r\nContent-Length: 1\r\n\r\nb",
-        b"HTTP/1.1 403 Forbidden\r\nContent-Type: text/plain\r\nContent-Length: 5\r\n\r\nX3 1\n",
+        b"HTTP/1.1 403 Forbidden\r\nContent-Type: text/plain\r\nContent-Length: 5\r\nX-Content-Type-Options: nosniff\r\nServer: dvvstore\r\n\r\nX3 1\n",
     ),
     // What each stores, another reads.
     (
         1,
         b"PUT /buckets/c/keys/k HTTP/1.1\r\nHost: h\r\nContent-Type: text/plain\r\nContent-Length: 1\r\n\r\nc",
-        b"HTTP/1.1 204 No Content\r\nX-Riak-Tag: 458752-1\r\n\r\n",
+        b"HTTP/1.1 204 No Content\r\nX-Riak-Tag: 458752-1\r\nX-Content-Type-Options: nosniff\r\nServer: dvvstore\r\n\r\n",
     ),
     (
         2,
         b"GET /buckets/c/keys/k HTTP/1.1\r\nHost: h\r\n\r\n",
-        b"HTTP/1.1 200 OK\r\nContent-Type: text/plain\r\nX-Riak-Vclock: AgABAAAHAAAAAAAAAAE=\r\nContent-Length: 1\r\n\r\nc",
+        b"HTTP/1.1 200 OK\r\nContent-Type: text/plain\r\nX-Riak-Vclock: AgABAAAHAAAAAAAAAAE=\r\nContent-Length: 1\r\nX-Content-Type-Options: nosniff\r\nServer: dvvstore\r\n\r\nc",
     ),
     (
         2,
         b"PUT /buckets/d/keys/k HTTP/1.1\r\nHost: h\r\nConnection: close\r\nContent-Length: 1\r\n\r\nd",
-        b"HTTP/1.1 204 No Content\r\nX-Riak-Tag: 458753-1\r\nConnection: close\r\n\r\n",
+        b"HTTP/1.1 204 No Content\r\nX-Riak-Tag: 458753-1\r\nConnection: close\r\nX-Content-Type-Options: nosniff\r\nServer: dvvstore\r\n\r\n",
     ),
 ];
 

@@ -3,7 +3,8 @@ use Rattle.std.specs.Prelude.{◌≡◌, ℕ, ◌-◌, ◌^◌, ◌⊎◌, min, 
 use Rattle.std.specs.List.{flat_map}
 use Rattle.http_request.specs.Ask.{Asks, IsUnfinished}
 use Rattle.http_request.specs.declared.ask.Ask.{Ask}
-use Rattle.http_request.specs.declared.ask.Ask.TheVariants as ask
+use Rattle.http_request.specs.declared.ask.What.{What}
+use Rattle.http_request.specs.declared.ask.What.TheVariants as what
 use Rattle.http_request.specs.declared.ask.Call.{Call}
 use Rattle.http_response.specs.declared.reply.Reply.{Reply}
 use Rattle.http_connection.specs.Pending.{IsPending}
@@ -16,10 +17,15 @@ pub record Exchange : Type 0 where
   pub ends : Bool
 
 -- the call that a request makes, if it makes one
+abbrev pub call_in : What → Option Call
+call_in what.Ping = None
+call_in what.Resources = None
+call_in (what.Options route) = None
+call_in (what.Call c form) = Some c
+call_in (what.Refused refusal) = None
+
 abbrev pub call_of : Ask → Option Call
-call_of ask.Ping = None
-call_of (ask.Call c form) = Some c
-call_of (ask.Refused refusal) = None
+call_of ask = call_in ask.what
 
 -- no request is left: the connection ended, or the input ends before a whole one
 abbrev pub IsOver : List ℕ → Type 0

@@ -5,7 +5,7 @@ ghost use Rattle.http_request.specs.Fits.{Fits, FitsAsk};
 ghost use Rattle.http_connection.specs.Dialogue.{Does, call_of};
 
 use crate::backend::Backend;
-use http_request::{Ask, Call};
+use http_request::{Ask, Call, What};
 use http_response::Reply;
 
 /// Makes the call that a request asks for, if any.
@@ -14,9 +14,9 @@ pub(crate) fn make_call<B: Backend>(backend: &mut B, ask: &Ask) -> Reply
     ensures does { Does B.gives backend.old (call_of ask.now) result backend.new }
     ensures copies { B.copies backend.new ≡ B.copies backend.old }
 {
-    match ask {
-        Ask::Ping | Ask::Refused(_) => Reply::Nothing,
-        Ask::Call(call, _) => call_backend(backend, call),
+    match &ask.what {
+        What::Ping | What::Resources | What::Options(_) | What::Refused(_) => Reply::Nothing,
+        What::Call(call, _) => call_backend(backend, call),
     }
 }
 

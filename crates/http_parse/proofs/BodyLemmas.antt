@@ -52,30 +52,30 @@ pub not_true : (b : Bool) → (b ≡ true → ⊥) → b ≡ false
 not_true true h = absurd (h refl)
 not_true false h = refl
 
--- a text without a comma is one part
-no_comma : (text : List ℕ) → ((k : ℕ) → k < length text → is_byte 44 (get_or text k 0) ≡ true → ⊥) → slice_split (λ b. b == 44) text ≡ text ∷ []
-no_comma [] h = refl
-no_comma (x ∷ xs) h =
-    slice_split-cons_no (λ b. b == 44) x xs (not_true (x == 44) (h 0 (omega arith)))
-    ∙ ap (onto_first x) (no_comma xs (λ k lt. h (suc k) (omega arith)))
+-- a text without such a byte is one part
+no_mark : (c : ℕ) (text : List ℕ) → ((k : ℕ) → k < length text → is_byte c (get_or text k 0) ≡ true → ⊥) → slice_split (λ b. b == c) text ≡ text ∷ []
+no_mark c [] h = refl
+no_mark c (x ∷ xs) h =
+    slice_split-cons_no (λ b. b == c) x xs (not_true (x == c) (h 0 (omega arith)))
+    ∙ ap (onto_first x) (no_mark c xs (λ k lt. h (suc k) (omega arith)))
 
--- the first part ends at the first comma
-first_comma : (text : List ℕ) (i : ℕ) → i < length text → ((k : ℕ) → k < i → is_byte 44 (get_or text k 0) ≡ true → ⊥) → is_byte 44 (get_or text i 0) ≡ true
-    → slice_split (λ b. b == 44) text ≡ take i text ∷ slice_split (λ b. b == 44) (drop (suc i) text)
-first_comma [] i lt h e = absurd (omega (arith, lt))
-first_comma (x ∷ xs) zero lt h e = slice_split-cons_yes (λ b. b == 44) x xs e
-first_comma (x ∷ xs) (suc i) lt h e =
-    slice_split-cons_no (λ b. b == 44) x xs (not_true (x == 44) (h 0 (omega arith)))
-    ∙ ap (onto_first x) (first_comma xs i (omega arith) (λ k kl. h (suc k) (omega arith)) e)
+-- the first part ends at the first one
+first_mark : (c : ℕ) (text : List ℕ) (i : ℕ) → i < length text → ((k : ℕ) → k < i → is_byte c (get_or text k 0) ≡ true → ⊥) → is_byte c (get_or text i 0) ≡ true
+    → slice_split (λ b. b == c) text ≡ take i text ∷ slice_split (λ b. b == c) (drop (suc i) text)
+first_mark c [] i lt h e = absurd (omega (arith, lt))
+first_mark c (x ∷ xs) zero lt h e = slice_split-cons_yes (λ b. b == c) x xs e
+first_mark c (x ∷ xs) (suc i) lt h e =
+    slice_split-cons_no (λ b. b == c) x xs (not_true (x == c) (h 0 (omega arith)))
+    ∙ ap (onto_first x) (first_mark c xs i (omega arith) (λ k kl. h (suc k) (omega arith)) e)
 
-pub comma_found : (text : List ℕ) (r : Option ℕ) → IsFirstByte (is_byte 44) text r
-    → IfSome r (λ at. (at < length text) × (slice_split (λ b. b == 44) text ≡ take at text ∷ slice_split (λ b. b == 44) (drop (at + 1) text)))
-comma_found text None h = tt
-comma_found text (Some at) h = (h.0.high, rw add-one (first_comma text at h.0.high (λ k lt. h.0.before k (omega arith) lt) h.1))
+pub mark_found : (c : ℕ) (text : List ℕ) (r : Option ℕ) → IsFirstByte (is_byte c) text r
+    → IfSome r (λ at. (at < length text) × (slice_split (λ b. b == c) text ≡ take at text ∷ slice_split (λ b. b == c) (drop (at + 1) text)))
+mark_found c text None h = tt
+mark_found c text (Some at) h = (h.0.high, rw add-one (first_mark c text at h.0.high (λ k lt. h.0.before k (omega arith) lt) h.1))
 
-pub comma_nowhere : (text : List ℕ) (r : Option ℕ) → IsFirstByte (is_byte 44) text r → IfNone r (slice_split (λ b. b == 44) text ≡ text ∷ [])
-comma_nowhere text None h = no_comma text (λ k lt. h k (omega arith) lt)
-comma_nowhere text (Some at) h = tt
+pub mark_nowhere : (c : ℕ) (text : List ℕ) (r : Option ℕ) → IsFirstByte (is_byte c) text r → IfNone r (slice_split (λ b. b == c) text ≡ text ∷ [])
+mark_nowhere c text None h = no_mark c text (λ k lt. h k (omega arith) lt)
+mark_nowhere c text (Some at) h = tt
 
 -- what stands before the first semicolon that a search found
 pub before_semicolon : (part : List ℕ) (at : ℕ) → IsFirstByte (is_byte 59) part (Some at) → take at part ≡ before_first (λ b. b == 59) part

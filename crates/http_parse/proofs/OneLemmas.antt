@@ -6,9 +6,9 @@ use Rattle.httparse.specs.Grammar.{RequestHead}
 use Rattle.httparse.proofs.GrammarLemmas.{request_unique}
 use Rattle.http_request.specs.Head.{BeginsHead, IsOriginTarget}
 use Rattle.http_request.specs.Fields.{fields_fault, body_length, is_last}
-use Rattle.http_request.specs.Ask.{Asks, bad_head, bad_target, bad_fields, whole, asked_by}
+use Rattle.http_request.specs.Ask.{Asks, bad_head, bad_target, bad_fields, whole, asked_by, asked_by_method}
 use Rattle.http_request.specs.declared.ask.Ask.{Ask}
-use Rattle.http_request.specs.declared.ask.Ask.TheVariants.{Refused}
+use Rattle.http_request.specs.declared.ask.What.TheVariants.{Refused}
 use Rattle.http_request.specs.declared.ask.Refusal.{Refusal}
 
 -- the head is one
@@ -57,7 +57,12 @@ asks_one n bytes _ _ _ _ _ _ (bad_target h a x p) (bad_fields k b g y q v) = abs
 asks_one n bytes _ _ _ _ _ _ (bad_target h a x p) (whole k c s y q v m) = absurd (one_target h k (one_head bytes h k a (c ++ s) x y).0 p q)
 asks_one n bytes _ _ _ _ _ _ (bad_fields h a f x p u) (bad_head y) = absurd (y.0 h a x)
 asks_one n bytes _ _ _ _ _ _ (bad_fields h a f x p u) (bad_target k b y q) = absurd (one_target k h (one_head bytes k h b a y x).0 q p)
-asks_one n bytes _ _ _ _ _ _ (bad_fields h a f x p u) (bad_fields k b g y q v) = (ap Refused (one_fault h k f g (one_head bytes h k a b x y).0 u v), refl, refl)
+asks_one n bytes _ _ _ _ _ _ (bad_fields h a f x p u) (bad_fields k b g y q v) =
+    let heads = one_head bytes h k a b x y in (
+      ap (λ x. asked_by_method x.method (Refused f)) heads.0 ∙ ap (λ r. asked_by_method k.method (Refused r)) (one_fault h k f g heads.0 u v),
+      refl,
+      refl,
+    )
 asks_one n bytes _ _ _ _ _ _ (bad_fields h a f x p u) (whole k c s y q v m) = absurd (no_fault h k f (one_head bytes h k a (c ++ s) x y).0 u v)
 asks_one n bytes _ _ _ _ _ _ (whole h b r x p u l) (bad_head y) = absurd (y.0 h (b ++ r) x)
 asks_one n bytes _ _ _ _ _ _ (whole h b r x p u l) (bad_target k c y q) = absurd (one_target k h (one_head bytes k h c (b ++ r) y x).0 q p)

@@ -1,8 +1,7 @@
 -- What contracts see of the fields that the store reads.
-use Rattle.std.specs.Prelude.{◌≡◌, ℕ, Bool, ◌||◌, bytes_eq, List, [], codes, Option, Some, None, option_map, unwrap_or}
-use Rattle.std.specs.List.{list_any}
+use Rattle.std.specs.Prelude.{◌≡◌, ℕ, Bool, false, ◌||◌, List, codes, Option, Some, None, option_map, unwrap_or}
 use Rattle.std.specs.Option.{option_copied}
-use Rattle.http_request.specs.Fields.{Pair, value_of, elements_of, any_has_element}
+use Rattle.http_request.specs.Fields.{Pair, value_of, has_weighed, any_has_element}
 use Rattle.http_parse.specs.declared.firsts.Fields.{Fields}
 
 -- a value, or else another
@@ -28,6 +27,6 @@ pub record LeadTo (fields : Fields) (rest pairs : List Pair) : Type 0 where
   pub content_type : or_else (option_copied fields.content_type) (value_of (codes "content-type") rest) ≡ value_of (codes "content-type") pairs
   pub context : or_else (option_copied fields.context) (value_of (codes "x-riak-vclock") rest) ≡ value_of (codes "x-riak-vclock") pairs
 
--- the value of a field, where it stands, has this element
-abbrev pub says : List ℕ → Option (List ℕ) → Bool
-says element value = list_any (bytes_eq element) (unwrap_or (option_map elements_of value) [])
+-- the value of a field, where it stands, accepts this element
+abbrev pub accepted : List ℕ → Option (List ℕ) → Bool
+accepted element value = unwrap_or (option_map (has_weighed element) value) false

@@ -9,10 +9,11 @@ use Rattle.key_state.specs.declared.content.Content.TheVariants.{Value, Tombston
 use Rattle.key_state.specs.Limits.{longest_media}
 use Rattle.http_request.specs.Target.{Quorums, name_at, is_name}
 use Rattle.http_request.specs.Ask.{is_method, media_of, asked_delete, asked_write}
-use Rattle.http_request.specs.declared.ask.Ask.{Ask}
+use Rattle.http_request.specs.declared.ask.What.{What}
 use Rattle.http_request.specs.Ask as spec
 use Rattle.http_parse.specs.declared.query.Asked.{Asked}
 use Rattle.http_parse.specs.declared.whole.Request.{Request}
+use Rattle.http_parse.specs.declared.asked.KeyAt.{KeyAt}
 
 abbrev pub quorums : Asked → Quorums
 quorums a = record { read = a.read; write = a.write; at = a.at }
@@ -30,9 +31,9 @@ request r = record {
   body = r.body.now;
 }
 
--- the key that a path names
-abbrev pub key_at : List ℕ → Key
-key_at path = record { bucket = name_at 2 path; key = name_at 4 path }
+-- the key that a path names, by the places of its pieces
+abbrev pub key_at : KeyAt → List ℕ → Key
+key_at at path = record { bucket = name_at at.bucket path; key = name_at at.key path }
 
 -- what a request writes
 abbrev pub content_of : spec.Request → Option Content
@@ -41,5 +42,5 @@ content_of q =
     else (if is_name longest_media (media_of q.pairs) then Some (Value (media_of q.pairs) q.body) else None)
 
 -- what a write asks of a key, with what its context says: a delete, or a put of the body
-abbrev pub asked_put : Key → Quorums → spec.Request → Result (List Dot) TokenFault → Ask
+abbrev pub asked_put : Key → Quorums → spec.Request → Result (List Dot) TokenFault → What
 asked_put key n q context = if is_method q (codes "DELETE") then asked_delete key n context else asked_write key n q context

@@ -10,7 +10,7 @@ ghost use Rattle.std.specs.Char.{is_ascii_digit};
 ghost use Rattle.httparse.specs.Spans.{header_bytes, IsHeaderWithin};
 ghost use Rattle.http_request.specs.Fields as spec;
 ghost use Rattle.http_request.specs.Limits.{longest_body};
-ghost use Rattle.http_parse.specs.Firsts.{AreFirst, says};
+ghost use Rattle.http_parse.specs.Firsts.{AreFirst, accepted};
 
 use crate::firsts::Fields;
 use crate::number::{is_number, small_number};
@@ -56,19 +56,78 @@ fn all_equal(bytes: &[u8], lines: &[HeaderSpan], name: &[u8], number: &[u8]) -> 
     true
 }
 
-/// Whether the value of a field, where it stands, has this element, in lower case.
-pub(crate) fn has_element(value: Option<&[u8]>, element: &[u8]) -> bool
+/// Whether the value of a field, where it stands, accepts this element, in lower case.
+pub(crate) fn accepts(value: Option<&[u8]>, element: &[u8]) -> bool
     requires { str_to_ascii_lowercase element.now ≡ element.now }
-    ensures { result ≡ says element.now (option_copied value.entry) }
+    ensures { result ≡ accepted element.now (option_copied value.entry) }
 {
     match value {
         None => false,
-        Some(value) => any_element(value, element),
+        Some(value) => any_weighed(value, element),
     }
 }
 
-// Whether some element of a list is this one.
-fn any_element(value: &[u8], element: &[u8]) -> bool
+// Whether some element of a list is this one, with a weight.
+fn any_weighed(value: &[u8], element: &[u8]) -> bool
+    requires { str_to_ascii_lowercase element.now ≡ element.now }
+    ensures { result ≡ spec.has_weighed element.now value.now }
+{
+    let mut rest = value;
+    while let Some(at) = comma_in(rest) {
+        if is_weighed(&rest[..at], element) {
+            return true;
+        }
+        rest = &rest[at + 1..];
+    }
+    is_weighed(rest, element)
+}
+
+// Whether a part of a list is this element, and none of its parameters gives it no weight.
+fn is_weighed(part: &[u8], element: &[u8]) -> bool
+    requires { str_to_ascii_lowercase element.now ≡ element.now }
+    ensures { result ≡ spec.is_weighed element.now part.now }
+{
+    is_element(part, element) && !has_no_weight(part)
+}
+
+// Whether a parameter of a part gives it no weight.
+fn has_no_weight(part: &[u8]) -> bool
+    ensures { result ≡ list_any spec.is_no_weight (slice_split (λ b. b == 59) part.now) }
+{
+    let mut rest = part;
+    while let Some(at) = semicolon_in(rest) {
+        if is_no_weight(&rest[..at]) {
+            return true;
+        }
+        rest = &rest[at + 1..];
+    }
+    is_no_weight(rest)
+}
+
+// Where the first semicolon stands.
+fn semicolon_in(text: &[u8]) -> Option<usize>
+    ensures found { IfSome result (λ at. (at < length text.now) × (slice_split (λ b. b == 59) text.now
+        ≡ take at text.now ∷ slice_split (λ b. b == 59) (drop (at + 1) text.now))) }
+    ensures none { IfNone result (slice_split (λ b. b == 59) text.now ≡ text.now ∷ []) }
+    ensures fits { length text.now < 2 ^ 64 }
+{
+    memchr(b';', text)
+}
+
+// Whether it is a weight of nothing.
+fn is_no_weight(parameter: &[u8]) -> bool
+    ensures { result ≡ spec.is_no_weight parameter.now }
+{
+    let said = trimmed(parameter);
+    said.eq_ignore_ascii_case(b"q=0")
+        || said.eq_ignore_ascii_case(b"q=0.")
+        || said.eq_ignore_ascii_case(b"q=0.0")
+        || said.eq_ignore_ascii_case(b"q=0.00")
+        || said.eq_ignore_ascii_case(b"q=0.000")
+}
+
+/// Whether some element of a list is this one.
+pub(crate) fn any_element(value: &[u8], element: &[u8]) -> bool
     requires { str_to_ascii_lowercase element.now ≡ element.now }
     ensures { result ≡ list_any (bytes_eq element.now) (spec.elements_of value.now) }
 {

@@ -7,7 +7,7 @@ ghost use Rattle.httparse.specs.Spans.{header_bytes, IsHeaderWithin};
 ghost use Rattle.http_request.specs.Fields.{Pair, any_has_element, is_named};
 ghost use Rattle.http_parse.specs.Firsts.{AreFirst, LeadTo, or_else};
 
-use crate::fields::{has_element, is_named};
+use crate::fields::{any_element, is_named};
 use httparse::spans::HeaderSpan;
 
 /// The value of the first line of each name that the store reads, and whether the connection is to end.
@@ -80,5 +80,5 @@ fn says_close(bytes: &[u8], line: HeaderSpan) -> bool
     ensures { (rest : List Pair) → any_has_element (codes "connection") (codes "close") (header_bytes bytes.now line ∷ rest)
         ≡ (result || any_has_element (codes "connection") (codes "close") rest) }
 {
-    is_named(bytes, line, b"connection") && has_element(Some(line.value.of(bytes)), b"close")
+    is_named(bytes, line, b"connection") && any_element(line.value.of(bytes), b"close")
 }

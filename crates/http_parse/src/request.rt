@@ -2,13 +2,15 @@
 
 ghost use Rattle.std.specs.Prelude.{◌≡◌, ◌≤◌, true, IfOk};
 ghost use Rattle.httparse.specs.Spans.{span_bytes};
-ghost use Rattle.http_request.specs.declared.ask.Ask.TheVariants.{Refused};
+ghost use Rattle.http_request.specs.Ask.{asked_by_none, asked_by_method};
+ghost use Rattle.http_request.specs.declared.ask.What.TheVariants.{Refused};
 ghost use Rattle.http_parse.specs.Finds.{Finds};
 ghost use Rattle.http_parse.specs.Heads.{StandsAt};
 ghost use Rattle.http_parse.specs.Known.{IsKnownOf, Leaves, kept_of};
 ghost use Rattle.http_parse.specs.Targets.{IsTargetOf};
 ghost use Rattle.http_parse.specs.declared.request.Asking.TheVariants.{First};
 
+use crate::asked::asked_by;
 use crate::fields::{body_length, closes};
 use crate::firsts::fields_of;
 use crate::head::{HeadAt, read_head};
@@ -16,7 +18,7 @@ use crate::known::KnownHead;
 use crate::tables::Tables;
 use crate::target::{Target, target_of};
 use crate::whole::Request;
-use http_request::{Ask, Refusal};
+use http_request::{Ask, Refusal, What};
 use httparse::spans::{HeaderSpan, RequestSpans};
 use std::alloc::{AllocError, Global};
 
@@ -55,7 +57,7 @@ pub fn first_request(
     }
     match read_head(bytes, &mut known.lines) {
         HeadAt::Unfinished => Ok(Asking::Head),
-        HeadAt::Bad => Ok(broken(Refusal::BadHead, bytes.len())),
+        HeadAt::Bad => Ok(no_head(bytes.len())),
         HeadAt::Whole(spans) => request_with(alloc, tables, copies, known, bytes, spans),
     }
 }
@@ -108,16 +110,30 @@ fn request_at(
 {
     match target_of(spans.path.of(bytes)) {
         Some(target) => request_to(alloc, tables, copies, bytes, spans, lines, target),
-        None => Ok(broken(Refusal::BadHead, spans.len)),
+        None => Ok(no_head(spans.len)),
+    }
+}
+
+// The first request, where its head is none and the connection ends.
+fn no_head(len: usize) -> Asking
+    ensures { result ≡ First asked_by_none true len }
+{
+    Asking::First {
+        ask: Ask {
+            what: What::Refused(Refusal::BadHead),
+            head_only: false,
+        },
+        ends: true,
+        len,
     }
 }
 
 // The first request, where it is refused and the connection ends.
-fn broken(refusal: Refusal, len: usize) -> Asking
-    ensures { result ≡ First (Refused refusal) true len }
+fn broken(method: &[u8], refusal: Refusal, len: usize) -> Asking
+    ensures { result ≡ First (asked_by_method method.now (Refused refusal)) true len }
 {
     Asking::First {
-        ask: Ask::Refused(refusal),
+        ask: asked_by(method, What::Refused(refusal)),
         ends: true,
         len,
     }
@@ -143,7 +159,7 @@ fn request_to(
     let method = spans.method.of(bytes);
     let fields = fields_of(bytes, lines);
     let len = match body_length(bytes, lines, &fields, method) {
-        Err(refusal) => return Ok(broken(refusal, spans.len)),
+        Err(refusal) => return Ok(broken(method, refusal, spans.len)),
         Ok(body) => spans.len + body,
     };
     if bytes.len() < len {

@@ -41,7 +41,19 @@ fn add_routes(router: &mut Router<Route>) -> Result<(), AllocError>
     add_route(router, "/ping", Route::Ping)?;
     add_route(router, "/buckets/{bucket}/keys/{key}", Route::Key)?;
     add_route(router, "/hooks/{name}", Route::Hook)?;
-    add_route(router, "/buckets/{bucket}/props", Route::Props)
+    add_route(router, "/buckets/{bucket}/props", Route::Props)?;
+    add_route(router, "/", Route::Root)?;
+    add_route(
+        router,
+        "/types/default/buckets/{bucket}/keys/{key}",
+        Route::TypedKey,
+    )?;
+    add_route(
+        router,
+        "/types/default/buckets/{bucket}/props",
+        Route::TypedProps,
+    )?;
+    add_route(router, "/riak/{bucket}/{key}", Route::OldKey)
 }
 
 // The table's routes read well and differ, so want of memory is the only error.

@@ -1,22 +1,23 @@
 -- The worked requests, computed by the definitions.
-use Rattle.std.proofs.Common.{◌≡◌, ℕ, List, [], ◌∷◌, Some, None, refl, true, false}
+use Rattle.std.proofs.Common.{◌≡◌, ℕ, List, [], ◌∷◌, Some, None, Ok, Err, refl, true, false}
 use Rattle.std.specs.Prelude.{codes}
 use Rattle.httparse.specs.Grammar.{RequestHead, Field, crlf, trim_ows}
 use Rattle.matchit.specs.Seek.{seek, param_step}
 use Rattle.matchit.specs.Route.{scan}
 use Rattle.serde_json.proofs.OnLiterals.{serde_json_on_literals}
-use Rattle.http_request.specs.declared.ask.Refusal.TheVariants.{Coding, BadLength, NoLength, Large, Query, BadName, BadType}
+use Rattle.http_request.specs.declared.ask.Refusal.TheVariants.{Coding, BadLength, NoLength, Large, Method, Query, BadName, BadType, FixedProperty}
 use Rattle.http_request.specs.declared.route.Route.TheVariants as route
 use Rattle.http_request.specs.Table.{routes, route_of}
-use Rattle.http_request.specs.Fields.{fields_fault, fault_among, body_length, is_last, has_element}
+use Rattle.http_request.specs.Fields.{fields_fault, fault_among, body_length, is_last, accepts, is_no_weight}
 use Rattle.key_state.specs.declared.content.Content.TheVariants.{Value}
 use Rattle.http_request.specs.declared.ask.Change.TheVariants.{Kept, Bound}
+use Rattle.http_request.specs.declared.ask.Property.TheVariants.{AllowMult, LastWriteWins, NVal, PostCommit}
 use Rattle.http_request.specs.declared.ask.Form.TheVariants.{Text, Parts}
 use Rattle.http_request.specs.declared.ask.Call.TheVariants.{Put}
-use Rattle.http_request.specs.declared.ask.Ask.TheVariants.{Call, Refused}
-use Rattle.http_request.specs.Ask.{asked_named, form_of, request}
+use Rattle.http_request.specs.declared.ask.What.TheVariants.{Resources, Options, Call, Refused}
+use Rattle.http_request.specs.Ask.{asked_named, asked_at, asked_by_method, form_of, request}
 use Rattle.http_request.specs.Target.{quorums_of}
-use Rattle.http_request.specs.Props.{changes_of}
+use Rattle.http_request.specs.Props.{changes_at}
 use Rattle.serde_json.specs.Find.{get}
 use Rattle.serde_json.specs.Read.{read as read_json}
 use Rattle.std.specs.Prelude.{option_and_then}
@@ -35,6 +36,22 @@ ping_route = refl
 key_route : route_of (codes "/buckets/b/keys/k%2f") ≡ Some route.Key
 unfolding routes seek param_step scan
 key_route = refl
+
+root_route : route_of (codes "/") ≡ Some route.Root
+unfolding routes seek param_step scan
+root_route = refl
+
+typed_key_route : route_of (codes "/types/default/buckets/b/keys/k") ≡ Some route.TypedKey
+unfolding routes seek param_step scan
+typed_key_route = refl
+
+typed_props_route : route_of (codes "/types/default/buckets/b/props") ≡ Some route.TypedProps
+unfolding routes seek param_step scan
+typed_props_route = refl
+
+old_key_route : route_of (codes "/riak/b/k") ≡ Some route.OldKey
+unfolding routes seek param_step scan
+old_key_route = refl
 
 no_route : route_of (codes "/buckets//keys/k") ≡ None
 unfolding routes seek param_step scan
@@ -78,14 +95,22 @@ unfolding trim_ows field head
 stays = refl
 
 -- properties
-props_members : option_and_then changes_of (option_and_then (get (codes "props")) (read_json (codes "{\"props\":{\"precommit\":\"no\"}}")))
-    ≡ Some (Bound (codes "no"), Kept)
+props_members : changes_at 3 (option_and_then (get (codes "props")) (read_json (codes "{\"props\":{\"precommit\":\"no\",\"n_val\":3}}")))
+    ≡ Ok (Bound (codes "no"), Kept)
 unfolding serde_json_on_literals
 props_members = refl
 
-props_mult : option_and_then changes_of (option_and_then (get (codes "props")) (read_json (codes "{\"props\":{\"allow_mult\":false}}"))) ≡ None
+props_mult : changes_at 3 (option_and_then (get (codes "props")) (read_json (codes "{\"props\":{\"allow_mult\":false}}"))) ≡ Err (FixedProperty AllowMult)
 unfolding serde_json_on_literals
 props_mult = refl
+
+-- properties that are as they are, in their order, before what is bound
+props_fixed : (changes_at 3 (option_and_then (get (codes "props")) (read_json (codes "{\"props\":{\"n_val\":4,\"last_write_wins\":true}}"))) ≡ Err (FixedProperty LastWriteWins))
+    × (changes_at 3 (option_and_then (get (codes "props")) (read_json (codes "{\"props\":{\"n_val\":4,\"precommit\":1}}"))) ≡ Err (FixedProperty NVal))
+    × (changes_at 3 (option_and_then (get (codes "props")) (read_json (codes "{\"props\":{\"postcommit\":[{}]}}"))) ≡ Err (FixedProperty PostCommit))
+    × (changes_at 3 (option_and_then (get (codes "props")) (read_json (codes "{\"props\":{\"postcommit\":null,\"last_write_wins\":false}}"))) ≡ Ok (Kept, Kept))
+unfolding serde_json_on_literals
+props_fixed = (refl, refl, refl, refl)
 
 -- a query's words
 bad_numbers : (quorums_of 3 ((codes "r", codes "04") ∷ []) ≡ None) × (quorums_of 3 ((codes "w", codes "4") ∷ []) ≡ None) × (quorums_of 3 ((codes "at", codes "3") ∷ []) ≡ None)
@@ -107,6 +132,32 @@ key_in_order :
     × (asked_named (quorums_of 3 []) (record { bucket = codes "b"; key = codes "k" }) (request (codes "PUT") (codes "/buckets/b/keys/k") ((codes "Content-Type", []) ∷ []) []) ≡ Refused BadType)
 key_in_order = (refl, refl, refl)
 
-in_parts : form_of None (has_element (codes "accept") (codes "multipart/mixed") ((codes "ACCEPT", codes "text/plain, Multipart/Mixed;q=1") ∷ [])) ≡ Parts
+in_parts : form_of None (accepts (codes "accept") (codes "multipart/mixed") ((codes "ACCEPT", codes "text/plain, Multipart/Mixed;q=1") ∷ [])) ≡ Parts
 unfolding trim_ows
 in_parts = refl
+
+-- HEAD asks for what GET asks, and for no more of the answer than its head
+by_head :
+    (asked_by_method (codes "HEAD") (asked_at 3 (Some route.Root) (request (codes "HEAD") (codes "/") [] [])) ≡ record { what = Resources; head_only = true })
+    × (asked_by_method (codes "GET") (asked_at 3 (Some route.Root) (request (codes "GET") (codes "/") [] [])) ≡ record { what = Resources; head_only = false })
+by_head = (refl, refl)
+
+-- other methods: which ones there are, or none
+by_others :
+    (asked_at 3 (Some route.Hook) (request (codes "OPTIONS") (codes "/hooks/h") [] []) ≡ Options route.Hook)
+    × (asked_at 3 (Some route.Hook) (request (codes "HEAD") (codes "/hooks/h") [] []) ≡ Refused (Method route.Hook))
+    × (asked_at 3 (Some route.Ping) (request (codes "PUT") (codes "/ping") [] []) ≡ Refused (Method route.Ping))
+by_others = (refl, refl, refl)
+
+-- a weight of nothing is a no, and an element of the same name with a weight is a yes
+not_in_parts : form_of None (accepts (codes "accept") (codes "multipart/mixed") ((codes "Accept", codes "multipart/mixed; Q=0.0, text/plain") ∷ [])) ≡ Text
+unfolding trim_ows
+not_in_parts = refl
+
+twice_in_parts : form_of None (accepts (codes "accept") (codes "multipart/mixed") ((codes "Accept", codes "multipart/mixed;q=0,multipart/mixed;q=0.001") ∷ [])) ≡ Parts
+unfolding trim_ows
+twice_in_parts = refl
+
+no_weights : (is_no_weight (codes " q=0.000 ") ≡ true) × (is_no_weight (codes "q=0.0000") ≡ false) × (is_no_weight (codes "q=00") ≡ false) × (is_no_weight (codes "q=") ≡ false)
+unfolding trim_ows
+no_weights = (refl, refl, refl, refl)

@@ -8,7 +8,7 @@ use Rattle.context_token.specs.declared.fault.TokenFault.{TokenFault}
 use Rattle.context_token.specs.Token.{read_text}
 use Rattle.key_state.specs.Limits.{longest_bucket, longest_key, longest_media}
 use Rattle.http_request.specs.Head.{BeginsHead, IsBadHead, IsHeadUnfinished, IsOriginTarget}
-use Rattle.http_request.specs.Fields.{Pair, pairs_of, value_of, has_element, is_last, fields_fault, body_length}
+use Rattle.http_request.specs.Fields.{Pair, pairs_of, value_of, accepts, is_last, fields_fault, body_length}
 use Rattle.http_request.specs.Table.{route_of}
 use Rattle.http_request.specs.Target.{path_at, query_at, texts_of, name_at, is_name, is_hook_name, asked_for, Quorums, quorums_of}
 use Rattle.http_request.specs.Props.{changes_in}
@@ -17,11 +17,12 @@ use Rattle.http_request.specs.declared.ask.Form.{Form}
 use Rattle.http_request.specs.declared.ask.Form.TheVariants.{Text, Parts, One}
 use Rattle.http_request.specs.declared.ask.Call.TheVariants.{Get, Put, Install, Remove, ReadProps, SetProps}
 use Rattle.http_request.specs.declared.ask.Ask.{Ask}
-use Rattle.http_request.specs.declared.ask.Ask.TheVariants.{Ping, Call, Refused}
+use Rattle.http_request.specs.declared.ask.What.{What}
+use Rattle.http_request.specs.declared.ask.What.TheVariants.{Ping, Resources, Options, Call, Refused}
 use Rattle.http_request.specs.declared.route.Route.{Route}
 use Rattle.http_request.specs.declared.route.Route.TheVariants as route
 use Rattle.http_request.specs.declared.ask.Refusal.{Refusal}
-use Rattle.http_request.specs.declared.ask.Refusal.TheVariants.{BadHead, NoRoute, Method, Query, BadName, Token, BadType, BadProps}
+use Rattle.http_request.specs.declared.ask.Refusal.TheVariants.{BadHead, NoRoute, Method, Query, BadName, Token, BadType}
 
 -- what a request asks with: its method, the path and the query of its target, its fields and its body
 pub record Request : Type 0 where
@@ -39,6 +40,10 @@ request method target pairs body = record { method = method; path = path_at targ
 abbrev pub is_method : Request → List ℕ → Bool
 is_method q name = bytes_eq q.method name
 
+-- the request reads: by GET, or by HEAD, which asks for the same (RFC 9110, 9.3.2)
+abbrev pub is_read : Request → Bool
+is_read q = is_method q (codes "GET") || is_method q (codes "HEAD")
+
 -- how a read is shown: by a tag where the query has one, else in parts where `Accept` has `multipart/mixed`
 abbrev pub form_of : Option (List ℕ) → Bool → Form
 form_of (Some tag) mixed = One tag
@@ -50,9 +55,9 @@ abbrev pub media_of : List Pair → List ℕ
 media_of pairs = unwrap_or (value_of (codes "content-type") pairs) (codes "application/octet-stream")
 
 -- the changes, where the body has some
-abbrev pub asked_props : List ℕ → Option (Change × Change) → Ask
-asked_props bucket None = Refused BadProps
-asked_props bucket (Some (p, r)) = Call (SetProps bucket p r) Text
+abbrev pub asked_props : List ℕ → Result (Change × Change) Refusal → What
+asked_props bucket (Err refusal) = Refused refusal
+asked_props bucket (Ok (p, r)) = Call (SetProps bucket p r) Text
 
 -- the clock of a token, and the empty clock where there is none
 abbrev pub context_from : Option (List ℕ) → Result (List Dot) TokenFault
@@ -64,74 +69,98 @@ abbrev pub context_of : List Pair → Result (List Dot) TokenFault
 context_of pairs = context_from (value_of (codes "x-riak-vclock") pairs)
 
 -- a write of the body, where its context reads well and its media type is within the limits
-abbrev pub asked_write : Key → Quorums → Request → Result (List Dot) TokenFault → Ask
+abbrev pub asked_write : Key → Quorums → Request → Result (List Dot) TokenFault → What
 asked_write key n q (Err fault) = Refused (Token fault)
 asked_write key n q (Ok seen) =
     if is_name longest_media (media_of q.pairs) then Call (Put key seen (Value (media_of q.pairs) q.body) n.write n.at) Text else Refused BadType
 
 -- a delete, where its context reads well
-abbrev pub asked_delete : Key → Quorums → Result (List Dot) TokenFault → Ask
+abbrev pub asked_delete : Key → Quorums → Result (List Dot) TokenFault → What
 asked_delete key n (Err fault) = Refused (Token fault)
 asked_delete key n (Ok seen) = Call (Put key seen Tombstone n.write n.at) Text
 
 -- what is asked of a key, where the query and the names are in order
-abbrev pub asked_key : Key → Quorums → Request → Ask
+abbrev pub asked_key : Key → Quorums → Request → What
 asked_key key n q =
-    if is_method q (codes "GET")
-    then Call (Get key n.read n.at) (form_of (asked_for (codes "vtag") (texts_of q.query)) (has_element (codes "accept") (codes "multipart/mixed") q.pairs))
+    if is_read q
+    then Call (Get key n.read n.at) (form_of (asked_for (codes "vtag") (texts_of q.query)) (accepts (codes "accept") (codes "multipart/mixed") q.pairs))
     else (if is_method q (codes "DELETE") then asked_delete key n (context_of q.pairs)
     else asked_write key n q (context_of q.pairs))
 
 -- the same, first the query and then the names
-abbrev pub asked_named : Option Quorums → Key → Request → Ask
+abbrev pub asked_named : Option Quorums → Key → Request → What
 asked_named None key q = Refused Query
 asked_named (Some n) key q = if is_name longest_bucket key.bucket && is_name longest_key key.key then asked_key key n q else Refused BadName
 
 -- what is asked of a hook's name
-abbrev pub asked_hook : List ℕ → Request → Ask
+abbrev pub asked_hook : List ℕ → Request → What
 asked_hook name q =
     if is_hook_name name
     then (if is_method q (codes "PUT") then Call (Install name q.body) Text else Call (Remove name) Text)
     else Refused BadName
 
--- what is asked of a bucket
-abbrev pub asked_bucket : List ℕ → Request → Ask
-asked_bucket bucket q =
+-- what is asked of a bucket, where each key has n copies
+abbrev pub asked_bucket : ℕ → List ℕ → Request → What
+asked_bucket n bucket q =
     if is_name longest_bucket bucket
-    then (if is_method q (codes "GET") then Call (ReadProps bucket) Text else asked_props bucket (changes_in q.body))
+    then (if is_read q then Call (ReadProps bucket) Text else asked_props bucket (changes_in n q.body))
     else Refused BadName
+
+-- what a method that the route doesn't have asks of it: which it has, or nothing
+abbrev pub asked_else : Route → Request → What
+asked_else at q = if is_method q (codes "OPTIONS") then Options at else Refused (Method at)
+
+-- what a method asks for: HEAD alone asks for no more than the head of its answer
+abbrev pub asked_by_method : List ℕ → What → Ask
+asked_by_method method what = record { what = what; head_only = bytes_eq method (codes "HEAD") }
+
+-- what is asked by a head that is none
+abbrev pub asked_by_none : Ask
+asked_by_none = record { what = Refused BadHead; head_only = false }
+
+-- what the method asks of a bucket, whose name is the i-th piece of the path
+abbrev pub asked_at_bucket : ℕ → Route → ℕ → Request → What
+asked_at_bucket n at i q =
+    if is_read q || is_method q (codes "PUT") then asked_bucket n (name_at i q.path) q else asked_else at q
 
 -- n is the number of copies of a key
 module _ (n : ℕ) where
+  -- what the method asks of a key, whose bucket and name are the i-th and the j-th piece of the path
+  abbrev pub asked_at_key : Route → ℕ → ℕ → Request → What
+  asked_at_key at i j q =
+      if is_read q || is_method q (codes "PUT") || is_method q (codes "POST") || is_method q (codes "DELETE")
+      then asked_named (quorums_of n (texts_of q.query)) (record { bucket = name_at i q.path; key = name_at j q.path }) q
+      else asked_else at q
+
   -- what the method asks of the route
-  abbrev pub asked_at : Option Route → Request → Ask
+  abbrev pub asked_at : Option Route → Request → What
   asked_at None q = Refused NoRoute
-  asked_at (Some route.Ping) q = if is_method q (codes "GET") then Ping else Refused Method
-  asked_at (Some route.Key) q =
-      if is_method q (codes "GET") || is_method q (codes "PUT") || is_method q (codes "POST") || is_method q (codes "DELETE")
-      then asked_named (quorums_of n (texts_of q.query)) (record { bucket = name_at 2 q.path; key = name_at 4 q.path }) q
-      else Refused Method
+  asked_at (Some route.Root) q = if is_read q then Resources else asked_else route.Root q
+  asked_at (Some route.Ping) q = if is_read q then Ping else asked_else route.Ping q
+  asked_at (Some route.Key) q = asked_at_key route.Key 2 4 q
+  asked_at (Some route.TypedKey) q = asked_at_key route.TypedKey 4 6 q
+  asked_at (Some route.OldKey) q = asked_at_key route.OldKey 2 3 q
   asked_at (Some route.Hook) q =
-      if is_method q (codes "PUT") || is_method q (codes "DELETE") then asked_hook (name_at 2 q.path) q else Refused Method
-  asked_at (Some route.Props) q =
-      if is_method q (codes "GET") || is_method q (codes "PUT") then asked_bucket (name_at 2 q.path) q else Refused Method
+      if is_method q (codes "PUT") || is_method q (codes "DELETE") then asked_hook (name_at 2 q.path) q else asked_else route.Hook q
+  asked_at (Some route.Props) q = asked_at_bucket n route.Props 2 q
+  asked_at (Some route.TypedProps) q = asked_at_bucket n route.TypedProps 4 q
 
   -- what a request asks for
-  abbrev pub asked_of : Request → Ask
+  abbrev pub asked_of : Request → What
   asked_of q = asked_at (route_of q.path) q
 
   -- what a whole request asks for
   abbrev pub asked_by : RequestHead → List ℕ → Ask
-  asked_by head body = asked_of (request head.method head.target (pairs_of head) body)
+  asked_by head body = asked_by_method head.method (asked_of (request head.method head.target (pairs_of head) body))
 
   -- rest begins with a request: what it asks for, whether the connection ends after the answer, and what is
   -- read next (nothing, where it ends)
   pub data Asks (rest : List ℕ) : Ask → Bool → List ℕ → Type 0 where
-    bad_head : IsBadHead rest → Asks rest (Refused BadHead) true []
+    bad_head : IsBadHead rest → Asks rest asked_by_none true []
     bad_target : (head : RequestHead) (after : List ℕ) → BeginsHead rest head after
-        → ¬ (IsOriginTarget head.target) → Asks rest (Refused BadHead) true []
+        → ¬ (IsOriginTarget head.target) → Asks rest asked_by_none true []
     bad_fields : (head : RequestHead) (after : List ℕ) (fault : Refusal) → BeginsHead rest head after
-        → IsOriginTarget head.target → fields_fault head ≡ Some fault → Asks rest (Refused fault) true []
+        → IsOriginTarget head.target → fields_fault head ≡ Some fault → Asks rest (asked_by_method head.method (Refused fault)) true []
     whole : (head : RequestHead) (body after : List ℕ) → BeginsHead rest head (body ++ after)
         → IsOriginTarget head.target → fields_fault head ≡ None → length body ≡ body_length head
         → Asks rest (asked_by head body) (is_last head) (if is_last head then [] else after)

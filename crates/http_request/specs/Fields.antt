@@ -1,5 +1,5 @@
 -- What the fields of a head say (RFC 9110, sections 5 and 8; RFC 9112, sections 6 and 9).
-use Rattle.std.specs.Prelude.{ℕ, Bool, ◌&&◌, ◌||◌, ◌==◌, if◌then◌else◌, nat_lt, nat_le, bytes_eq, List, [], ◌∷◌, length, map, codes, Option, Some, None, option_map, is_some, unwrap_or}
+use Rattle.std.specs.Prelude.{ℕ, Bool, false, ◌&&◌, ◌||◌, not, ◌==◌, if◌then◌else◌, nat_lt, nat_le, bytes_eq, List, [], ◌∷◌, length, map, codes, Option, Some, None, option_map, is_some, unwrap_or}
 use Rattle.std.specs.List.{list_all, list_any, before_first, slice_split}
 use Rattle.std.specs.Char.{is_ascii_digit}
 use Rattle.std.specs.Str.{str_to_ascii_lowercase}
@@ -37,10 +37,23 @@ abbrev pub elements_of : List ℕ → List (List ℕ)
 elements_of value =
     map (λ e. str_to_ascii_lowercase (trim_ows (before_first (λ b. b == 59) e))) (slice_split (λ b. b == 44) value)
 
--- the first field of this name has this element
-abbrev pub has_element : List ℕ → List ℕ → List Pair → Bool
-has_element name element pairs =
-    list_any (bytes_eq element) (unwrap_or (option_map elements_of (value_of name pairs)) [])
+-- a weight of nothing (RFC 9110, 12.4.2): 0, and up to three decimals of it
+abbrev pub is_no_weight : List ℕ → Bool
+is_no_weight parameter =
+    list_any (bytes_eq (str_to_ascii_lowercase (trim_ows parameter))) (codes "q=0" ∷ codes "q=0." ∷ codes "q=0.0" ∷ codes "q=0.00" ∷ codes "q=0.000" ∷ [])
+
+-- a part of a list is this element, and none of its parameters gives it no weight
+abbrev pub is_weighed : List ℕ → List ℕ → Bool
+is_weighed element part =
+    bytes_eq element (str_to_ascii_lowercase (trim_ows (before_first (λ b. b == 59) part))) && not (list_any is_no_weight (slice_split (λ b. b == 59) part))
+
+-- a list has this element with a weight
+abbrev pub has_weighed : List ℕ → List ℕ → Bool
+has_weighed element value = list_any (is_weighed element) (slice_split (λ b. b == 44) value)
+
+-- the first field of this name accepts this element (RFC 9110, 12.5.1)
+abbrev pub accepts : List ℕ → List ℕ → List Pair → Bool
+accepts name element pairs = unwrap_or (option_map (has_weighed element) (value_of name pairs)) false
 
 -- the fields of this name, which are one list together, have this element
 abbrev pub any_has_element : List ℕ → List ℕ → List Pair → Bool

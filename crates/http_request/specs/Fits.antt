@@ -2,7 +2,8 @@
 use Rattle.std.specs.Prelude.{ℕ, ◌≤◌, ◌<◌}
 use Rattle.key_state.specs.Limits.{IsKey}
 use Rattle.http_request.specs.declared.ask.Ask.{Ask}
-use Rattle.http_request.specs.declared.ask.Ask.TheVariants as ask
+use Rattle.http_request.specs.declared.ask.What.{What}
+use Rattle.http_request.specs.declared.ask.What.TheVariants as what
 use Rattle.http_request.specs.declared.ask.Call.{Call}
 use Rattle.http_request.specs.declared.ask.Call.TheVariants.{Get, Put, Install, Remove, ReadProps, SetProps}
 
@@ -16,7 +17,12 @@ Fits n (ReadProps bucket) = Unit {0}
 Fits n (SetProps bucket precommit resolver) = Unit {0}
 
 -- the words of what is asked are within their limits
+abbrev pub FitsWhat : ℕ → What → Type 0
+FitsWhat n what.Ping = Unit {0}
+FitsWhat n what.Resources = Unit {0}
+FitsWhat n (what.Options route) = Unit {0}
+FitsWhat n (what.Call call form) = Fits n call
+FitsWhat n (what.Refused refusal) = Unit {0}
+
 abbrev pub FitsAsk : ℕ → Ask → Type 0
-FitsAsk n ask.Ping = Unit {0}
-FitsAsk n (ask.Call call form) = Fits n call
-FitsAsk n (ask.Refused refusal) = Unit {0}
+FitsAsk n ask = FitsWhat n ask.what

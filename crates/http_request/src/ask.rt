@@ -1,5 +1,6 @@
 //! What a request asks for.
 
+use crate::route::Route;
 use context_token::TokenFault;
 use dvv::Clock;
 use key_state::{Bytes, Content, Key};
@@ -21,8 +22,8 @@ pub enum Refusal {
     Large,
     /// The path is that of no [`Route`](crate::Route).
     NoRoute,
-    /// The route has no such method.
-    Method,
+    /// This route has no such method.
+    Method(Route),
     /// The query's `r` or `w` is no number of copies that a store may have, 1 to 3, nor `one`, `quorum`, `all` or `default`; or
     /// its `at` is no index of so many, 0 to 2.
     Query,
@@ -34,6 +35,21 @@ pub enum Refusal {
     BadType,
     /// The body is no JSON that sets properties.
     BadProps,
+    /// The body wants a property otherwise than it is.
+    FixedProperty(Property),
+}
+
+/// A property of a bucket that is as it is.
+#[derive(Clone, Copy, PartialEq, Eq)]
+pub enum Property {
+    /// `allow_mult`: siblings are always allowed.
+    AllowMult,
+    /// `last_write_wins`: it never does.
+    LastWriteWins,
+    /// `n_val`: so many copies as the store has.
+    NVal,
+    /// `postcommit`: nothing runs after a write.
+    PostCommit,
 }
 
 /// What becomes of one property of a bucket.
@@ -98,13 +114,26 @@ pub enum Call {
     },
 }
 
-/// What a request asks for.
+/// What is asked for, by whatever method.
 #[derive(Drop)]
-pub enum Ask {
+pub enum What {
     /// Whether anyone is there.
     Ping,
+    /// Where the resources lie (Riak KV, HTTP API, list resources).
+    Resources,
+    /// Which methods a route has.
+    Options(Route),
     /// A call of the store, and how its answer is shown (only that of a [`Call::Get`] depends on it).
     Call(Call, Form),
     /// Nothing: it is refused.
     Refused(Refusal),
+}
+
+/// What a request asks for.
+#[derive(Drop)]
+pub struct Ask {
+    /// What is asked for.
+    pub what: What,
+    /// The answer's head alone is shown, as `HEAD` asks (RFC 9110, 9.3.2).
+    pub head_only: bool,
 }

@@ -5,9 +5,9 @@ use Rattle.std.proofs.Common.{◌≡◌, ◌∙◌, ap, ℕ, List, ◌++◌, app
 pub both_pieces : (l l' x x' : List ℕ) → l ≡ l' → x ≡ x' → l ++ x ≡ l' ++ x'
 both_pieces l l' x x' e d = ap (λ a. a ++ x) e ∙ ap (λ a. l' ++ a) d
 
-pub answer_grouped : (o s m v t k l e y : List ℕ)
-    → (((((o ++ s) ++ m) ++ v) ++ t) ++ k) ++ ((l ++ e) ++ y) ≡ o ++ (((((((s ++ m) ++ v) ++ t) ++ k) ++ l) ++ e) ++ y)
-answer_grouped o s m v t k l e y = simp append_assoc
+pub answer_grouped : (o s m v t k l a f e y : List ℕ)
+    → (((((((o ++ s) ++ m) ++ v) ++ t) ++ k) ++ l) ++ ((a ++ f) ++ e)) ++ y ≡ o ++ (((((((((s ++ m) ++ v) ++ t) ++ k) ++ l) ++ a) ++ f) ++ e) ++ y)
+answer_grouped o s m v t k l a f e y = simp append_assoc
 
 pub part_grouped : (o e d k t b : List ℕ)
     → ((((o ++ (e ++ d)) ++ e) ++ k) ++ (t ++ e)) ++ b ≡ o ++ (((((e ++ (d ++ e)) ++ k) ++ t) ++ e) ++ b)
@@ -18,3 +18,6 @@ clock_grouped o x t e = simp append_assoc
 
 pub tag_grouped : (o x t e : List ℕ) → ((o ++ x) ++ t) ++ (e ++ e) ≡ o ++ (((x ++ t) ++ e) ++ e)
 tag_grouped o x t e = simp append_assoc
+
+pub end_grouped : (o a f e : List ℕ) → (o ++ a) ++ (f ++ e) ≡ o ++ ((a ++ f) ++ e)
+end_grouped o a f e = simp append_assoc

@@ -1,20 +1,30 @@
 -- The worked answers, computed by the definitions.
-use Rattle.std.proofs.Common.{◌≡◌, List, [], ◌∷◌, ◌++◌, None, Ok, Err, refl, false, length}
+use Rattle.std.proofs.Common.{◌≡◌, List, [], ◌∷◌, ◌++◌, None, Ok, Err, refl, true, false, length}
 use Rattle.std.specs.Prelude.{codes}
 use Rattle.std.specs.Fmt.{digits}
 use Rattle.key_state.specs.declared.content.Content.TheVariants.{Value, Tombstone}
 use Rattle.key_state.specs.declared.content.Key.{Key}
 use Rattle.key_state.specs.declared.content.Sibling.{Sibling}
 use Rattle.quorum.specs.declared.fault.QuorumFault.TheVariants.{Rejected}
-use Rattle.http_request.specs.declared.ask.Ask.TheVariants.{Call}
+use Rattle.http_request.specs.declared.ask.Ask.{Ask}
+use Rattle.http_request.specs.declared.ask.What.{What}
+use Rattle.http_request.specs.declared.ask.What.TheVariants.{Ping, Resources, Options, Call, Refused}
+use Rattle.http_request.specs.declared.ask.Refusal.TheVariants.{Method}
+use Rattle.http_request.specs.declared.route.Route.TheVariants as route
 use Rattle.http_request.specs.declared.ask.Call.TheVariants.{Get, Put}
 use Rattle.http_request.specs.declared.ask.Form.TheVariants.{Text}
-use Rattle.http_response.specs.declared.reply.Reply.TheVariants.{Got, Stored}
+use Rattle.http_response.specs.declared.reply.Reply.TheVariants.{Nothing, Got, Stored}
 use Rattle.http_response.specs.Parts.{line, parts_body, boundary_of}
-use Rattle.http_response.specs.Answer.{answer, props_text, tags_text}
+use Rattle.http_response.specs.Answer.{answer, own_fields, print_answer, props_text, tags_text}
 
 key : Key
 key = record { bucket = codes "b"; key = codes "k" }
+
+whole : What → Ask
+whole what = record { what = what; head_only = false }
+
+by_head : What → Ask
+by_head what = record { what = what; head_only = true }
 
 two : List Sibling
 two =
@@ -31,15 +41,15 @@ barred =
     record { dot = record { vnode = 0; n = 1 }; content = Value (codes "text/plain") (codes "a") }
     ∷ record { dot = record { vnode = 1; n = 1 }; content = Value (codes "text/plain") (codes "x--s0") } ∷ []
 
-http_put : answer 3 (Call (Put key [] (Value (codes "text/plain") (codes "a")) 2 0) Text) (Stored (Ok (record { vnode = 0; n = 1 }))) false
-    ≡ line (codes "HTTP/1.1 204 No Content") ++ line (codes "X-Riak-Tag: 0-1") ++ line []
-unfolding digits key two
+http_put : answer 3 (whole (Call (Put key [] (Value (codes "text/plain") (codes "a")) 2 0) Text)) (Stored (Ok (record { vnode = 0; n = 1 }))) false
+    ≡ line (codes "HTTP/1.1 204 No Content") ++ line (codes "X-Riak-Tag: 0-1") ++ own_fields ++ line []
+unfolding digits key two whole print_answer
 http_put = refl
 
-unknown_key : answer 3 (Call (Get key 2 0) Text) (Got (Ok (record { siblings = []; clock = [] }))) false
-    ≡ line (codes "HTTP/1.1 404 Not Found") ++ line (codes "Content-Type: text/plain") ++ line (codes "Content-Length: 10") ++ line []
+unknown_key : answer 3 (whole (Call (Get key 2 0) Text)) (Got (Ok (record { siblings = []; clock = [] }))) false
+    ≡ line (codes "HTTP/1.1 404 Not Found") ++ line (codes "Content-Type: text/plain") ++ line (codes "Content-Length: 10") ++ own_fields ++ line []
     ++ codes "not found" ++ 10 ∷ []
-unfolding digits key two
+unfolding digits key two whole print_answer
 unknown_key = refl
 
 multipart_length : (boundary_of two ≡ 0) × (length (parts_body 0 two) ≡ 118)
@@ -58,12 +68,39 @@ tombstone_list : tags_text third ≡ codes "Siblings:" ++ 10 ∷ codes "0-2" ++ 
 unfolding digits third
 tombstone_list = refl
 
-rejected : answer 3 (Call (Put key [] Tombstone 2 0) Text) (Stored (Err (Rejected 1))) false
-    ≡ line (codes "HTTP/1.1 403 Forbidden") ++ line (codes "Content-Type: text/plain") ++ line (codes "Content-Length: 5") ++ line []
+rejected : answer 3 (whole (Call (Put key [] Tombstone 2 0) Text)) (Stored (Err (Rejected 1))) false
+    ≡ line (codes "HTTP/1.1 403 Forbidden") ++ line (codes "Content-Type: text/plain") ++ line (codes "Content-Length: 5") ++ own_fields ++ line []
     ++ codes "X3 1" ++ 10 ∷ []
-unfolding digits key
+unfolding digits key whole print_answer
 rejected = refl
 
 props_length : length (props_text 3 (record { precommit = None; resolver = None })) ≡ 72
 unfolding digits
 props_length = refl
+
+-- the head alone, which tells the length that the body would have
+ping_head : answer 3 (by_head Ping) Nothing false
+    ≡ line (codes "HTTP/1.1 200 OK") ++ line (codes "Content-Type: text/plain") ++ line (codes "Content-Length: 2") ++ own_fields ++ line []
+unfolding digits by_head print_answer
+ping_head = refl
+
+unknown_key_head : answer 3 (by_head (Call (Get key 2 0) Text)) (Got (Ok (record { siblings = []; clock = [] }))) true
+    ≡ line (codes "HTTP/1.1 404 Not Found") ++ line (codes "Content-Type: text/plain") ++ line (codes "Connection: close") ++ line (codes "Content-Length: 10") ++ own_fields ++ line []
+unfolding digits key by_head print_answer
+unknown_key_head = refl
+
+options : answer 3 (whole (Options route.Hook)) Nothing false
+    ≡ line (codes "HTTP/1.1 204 No Content") ++ line (codes "Allow: PUT, DELETE, OPTIONS") ++ own_fields ++ line []
+unfolding digits whole print_answer
+options = refl
+
+no_method : answer 3 (whole (Refused (Method route.Props))) Nothing false
+    ≡ line (codes "HTTP/1.1 405 Method Not Allowed") ++ line (codes "Content-Type: text/plain") ++ line (codes "Content-Length: 7")
+    ++ line (codes "Allow: GET, HEAD, PUT, OPTIONS") ++ own_fields ++ line [] ++ codes "method" ++ 10 ∷ []
+unfolding digits whole print_answer
+no_method = refl
+
+resources : answer 3 (by_head Resources) Nothing false
+    ≡ line (codes "HTTP/1.1 200 OK") ++ line (codes "Content-Type: application/json") ++ line (codes "Content-Length: 179") ++ own_fields ++ line []
+unfolding digits by_head print_answer
+resources = refl

@@ -21,22 +21,29 @@ use Rattle.bpf_admission.specs.declared.refusal.Refusal.{Refusal as Unfit}
 use Rattle.bpf_admission.specs.declared.refusal.Refusal.TheVariants as unfit
 use Rattle.bpf_admission.specs.Admissions.{refusal_text}
 use Rattle.http_request.specs.declared.ask.Ask.{Ask}
-use Rattle.http_request.specs.declared.ask.Ask.TheVariants.{Ping, Call, Refused}
+use Rattle.http_request.specs.declared.ask.What.{What}
+use Rattle.http_request.specs.declared.ask.What.TheVariants.{Ping, Resources, Options, Call, Refused}
+use Rattle.http_request.specs.declared.route.Route.{Route}
+use Rattle.http_request.specs.declared.route.Route.TheVariants as route
 use Rattle.http_request.specs.declared.ask.Form.{Form}
 use Rattle.http_request.specs.declared.ask.Form.TheVariants.{Text, Parts, One}
 use Rattle.http_request.specs.declared.ask.Refusal.{Refusal}
-use Rattle.http_request.specs.declared.ask.Refusal.TheVariants.{BadHead, Coding, BadLength, NoLength, Large, NoRoute, Method, Query, BadName, Token, BadType, BadProps}
+use Rattle.http_request.specs.declared.ask.Refusal.TheVariants.{BadHead, Coding, BadLength, NoLength, Large, NoRoute, Method, Query, BadName, Token, BadType, BadProps, FixedProperty}
+use Rattle.http_request.specs.declared.ask.Property.{Property}
+use Rattle.http_request.specs.declared.ask.Property.TheVariants.{AllowMult, LastWriteWins, NVal, PostCommit}
 use Rattle.http_response.specs.declared.reply.Reply.{Reply}
 use Rattle.http_response.specs.declared.reply.Reply.TheVariants.{Nothing, Got, Stored, Installed, Removed, Props, Set}
 use Rattle.http_response.specs.declared.reply.Bound.{Bound}
+use Rattle.http_response.specs.declared.field.Telling.{Telling}
 use Rattle.http_response.specs.Parts.{line, field_line, tag_of, boundary_of, parts_body}
 
--- an answer: its status, its fields, and its body (none has neither type nor length)
+-- an answer: its status, its fields, and its body (none has neither type nor length). Where methods are told, these are all of a route
 pub record Answer : Type 0 where
   pub status : List ℕ
   pub media : Option (List ℕ)
   pub vclock : Option (List ℕ)
   pub tag : Option (List ℕ)
+  pub allow : Option (List ℕ)
   pub body : Option (List ℕ)
 
 abbrev pub length_of : Option (List ℕ) → Option (List ℕ)
@@ -51,24 +58,53 @@ or_nothing (Some body) = body
 abbrev pub closing : Bool → Option (List ℕ)
 closing ends = if ends then Some (codes "close") else None
 
+-- the fields of each answer: no browser is to take a value for another type than it has (Fetch Standard, 3.6), and who answers (RFC 9110, 10.2.4)
+abbrev pub own_fields : List ℕ
+own_fields = line (codes "X-Content-Type-Options: nosniff") ++ line (codes "Server: dvvstore")
+
+-- what is shown of a body: nothing, where the head alone is asked for (RFC 9110, 9.3.2)
+abbrev pub shown_body : Bool → Option (List ℕ) → List ℕ
+shown_body head_only body = if head_only then [] else or_nothing body
+
 -- the bytes of an answer
-abbrev pub print_answer : Answer → Bool → List ℕ
-print_answer a ends =
+unfoldable pub print_answer : Answer → Telling → List ℕ
+print_answer a how =
     line (codes "HTTP/1.1 " ++ a.status)
     ++ field_line (codes "Content-Type") a.media ++ field_line (codes "X-Riak-Vclock") a.vclock
-    ++ field_line (codes "X-Riak-Tag") a.tag ++ field_line (codes "Connection") (closing ends)
-    ++ field_line (codes "Content-Length") (length_of a.body) ++ line [] ++ or_nothing a.body
+    ++ field_line (codes "X-Riak-Tag") a.tag ++ field_line (codes "Connection") (closing how.ends)
+    ++ field_line (codes "Content-Length") (length_of a.body) ++ field_line (codes "Allow") a.allow ++ own_fields ++ line []
+    ++ shown_body how.head_only a.body
 
 -- a status and a text
 abbrev pub told : List ℕ → List ℕ → Answer
-told status words = record { status = status; media = Some (codes "text/plain"); vclock = None; tag = None; body = Some words }
+told status words = record { status = status; media = Some (codes "text/plain"); vclock = None; tag = None; allow = None; body = Some words }
 
 -- a status and one line of text
 abbrev pub line_told : List ℕ → List ℕ → Answer
 line_told status words = told status (words ++ 10 ∷ [])
 
 abbrev pub empty_answer : Answer
-empty_answer = record { status = codes "204 No Content"; media = None; vclock = None; tag = None; body = None }
+empty_answer = record { status = codes "204 No Content"; media = None; vclock = None; tag = None; allow = None; body = None }
+
+-- the methods of a route (RFC 9110, 10.2.1)
+abbrev pub methods_of : Route → List ℕ
+methods_of route.Root = codes "GET, HEAD, OPTIONS"
+methods_of route.Ping = codes "GET, HEAD, OPTIONS"
+methods_of route.Key = codes "GET, HEAD, PUT, POST, DELETE, OPTIONS"
+methods_of route.TypedKey = codes "GET, HEAD, PUT, POST, DELETE, OPTIONS"
+methods_of route.OldKey = codes "GET, HEAD, PUT, POST, DELETE, OPTIONS"
+methods_of route.Hook = codes "PUT, DELETE, OPTIONS"
+methods_of route.Props = codes "GET, HEAD, PUT, OPTIONS"
+methods_of route.TypedProps = codes "GET, HEAD, PUT, OPTIONS"
+
+abbrev pub options_answer : Route → Answer
+options_answer at = record empty_answer { allow = Some (methods_of at) }
+
+-- where the resources lie (Riak KV, HTTP API, list resources, as JSON)
+abbrev pub resources_answer : Answer
+resources_answer = record (told (codes "200 OK")
+    (codes "{\"riak_kv_wm_bucket_type\":\"/types\",\"riak_kv_wm_buckets\":\"/buckets\",\"riak_kv_wm_object\":\"/buckets\",\"riak_kv_wm_ping\":\"/ping\",\"riak_kv_wm_props\":\"/buckets\",\"riak_kv_wm_raw\":\"/riak\"}"))
+    { media = Some (codes "application/json") }
 
 abbrev pub bad_request : List ℕ
 bad_request = codes "400 Bad Request"
@@ -95,6 +131,13 @@ token_answer token_fault.Cut = line_told bad_request (codes "K4")
 token_answer token_fault.PastLimit = line_told bad_request (codes "K5")
 token_answer token_fault.NoMemory = no_memory
 
+-- a property's name, as it stands in JSON (Riak KV, bucket properties)
+abbrev pub name_of : Property → List ℕ
+name_of AllowMult = codes "allow_mult"
+name_of LastWriteWins = codes "last_write_wins"
+name_of NVal = codes "n_val"
+name_of PostCommit = codes "postcommit"
+
 abbrev pub refusal_answer : Refusal → Answer
 refusal_answer BadHead = line_told bad_request (codes "bad head")
 refusal_answer Coding = line_told (codes "501 Not Implemented") (codes "coding")
@@ -102,12 +145,13 @@ refusal_answer BadLength = line_told bad_request (codes "bad length")
 refusal_answer NoLength = line_told (codes "411 Length Required") (codes "length")
 refusal_answer Large = line_told (codes "413 Payload Too Large") (codes "large")
 refusal_answer NoRoute = line_told (codes "404 Not Found") (codes "no route")
-refusal_answer Method = line_told (codes "405 Method Not Allowed") (codes "method")
+refusal_answer (Method at) = record (line_told (codes "405 Method Not Allowed") (codes "method")) { allow = Some (methods_of at) }
 refusal_answer Query = line_told bad_request (codes "bad query")
 refusal_answer BadName = line_told bad_request (codes "bad name")
 refusal_answer (Token fault) = token_answer fault
 refusal_answer BadType = line_told bad_request (codes "bad type")
 refusal_answer BadProps = line_told bad_request (codes "bad props")
+refusal_answer (FixedProperty property) = line_told bad_request (codes "bad props " ++ name_of property)
 
 -- a refusal of a vnode
 abbrev pub vnode_answer : VnodeFault → Answer
@@ -160,7 +204,7 @@ not_found = line_told (codes "404 Not Found") (codes "not found")
 
 -- one content as the answer
 abbrev pub content_answer : Content → Answer
-content_answer (Value media bytes) = record { status = codes "200 OK"; media = Some media; vclock = None; tag = None; body = Some bytes }
+content_answer (Value media bytes) = record { status = codes "200 OK"; media = Some media; vclock = None; tag = None; allow = None; body = Some bytes }
 content_answer Tombstone = not_found
 
 abbrev pub sibling_answer : Option Sibling → Answer
@@ -185,6 +229,7 @@ several_answer Parts siblings = record {
   media = Some (mixed_type (boundary_of siblings));
   vclock = None;
   tag = None;
+  allow = None;
   body = Some (parts_body (boundary_of siblings) siblings);
 }
 several_answer Text siblings = told choices (tags_text siblings)
@@ -231,12 +276,14 @@ module _ (copies : ℕ) where
   call_answer form (Set (Ok done)) = empty_answer
   call_answer form (Set (Err fault)) = hook_answer unprocessable fault
 
-  -- the answer to a request
-  abbrev pub answer_to : Ask → Reply → Answer
+  -- the answer to what is asked
+  abbrev pub answer_to : What → Reply → Answer
+  answer_to Resources reply = resources_answer
+  answer_to (Options at) reply = options_answer at
   answer_to Ping reply = told (codes "200 OK") (codes "OK")
   answer_to (Call c form) reply = call_answer form reply
   answer_to (Refused refusal) reply = refusal_answer refusal
 
-  -- and its bytes
+  -- the bytes that answer a request
   abbrev pub answer : Ask → Reply → Bool → List ℕ
-  answer asked reply ends = print_answer (answer_to asked reply) ends
+  answer asked reply ends = print_answer (answer_to asked.what reply) (record { ends = ends; head_only = asked.head_only })

@@ -14,19 +14,19 @@ ghost use Rattle.http_response.specs.Parts.{tag_of};
 ghost use Rattle.http_response.specs.View.{line_of, with_clock};
 
 use crate::boundary::boundary_of;
-use crate::field::{Answer, push_number, push_parts, push_tag};
+use crate::field::{Answer, Telling, push_number, push_parts, push_tag};
 use crate::parts::push_parts_body;
 use crate::reply::{Bound, Reply};
 use crate::words::{
-    BAD_VERDICT, DISAGREES, Line, NO_MEMORY, NOT_FOUND, OTHER_KIND, TOO_FEW, TOO_LARGE,
-    UNPROCESSABLE, UNSEEN, of_code, of_hook, of_name, of_refusal, of_vnode,
+    BAD_VERDICT, DISAGREES, HERE, Line, NO_MEMORY, NOT_FOUND, OTHER_KIND, RESOURCES, TOO_FEW,
+    TOO_LARGE, UNPROCESSABLE, UNSEEN, methods_of, of_code, of_hook, of_name, of_refusal, of_vnode,
 };
 use bpf_admission::Refusal as Unfit;
 use bpf_image::ImageFault;
 use bpf_insn::DecodeFault;
 use bpf_verifier::Refused;
 use dvv::{Clock, Dot};
-use http_request::{Ask, Form};
+use http_request::{Ask, Form, Route, What};
 use key_state::{Bytes, Content, KeyState, Sibling};
 use quorum::QuorumFault;
 use std::alloc::AllocError;
@@ -42,25 +42,47 @@ pub fn push_answer(
 ) -> Result<(), AllocError>
     ensures { OnOk result (out.new.items ≡ out.old.items ++ answer copies ask.now reply.now ends) }
 {
-    match ask {
-        Ask::Ping => push_line(
-            out,
-            Line {
-                status: b"200 OK",
-                text: b"OK",
-            },
-            ends,
-        ),
-        Ask::Refused(refusal) => push_line(out, of_refusal(*refusal), ends),
-        Ask::Call(_, form) => push_reply(out, text, copies, form, reply, ends),
+    let how = Telling {
+        ends,
+        head_only: ask.head_only,
+    };
+    match &ask.what {
+        What::Ping => push_line(out, HERE, how),
+        What::Resources => push_told(out, b"200 OK", b"application/json", RESOURCES, how),
+        What::Options(route) => push_methods(out, *route, how),
+        What::Refused(refusal) => push_line(out, of_refusal(*refusal), how),
+        What::Call(_, form) => push_reply(out, text, copies, form, reply, how),
     }
 }
 
-// Adds a status and a line of text.
-fn push_line(out: &mut Vec<u8>, line: Line, ends: bool) -> Result<(), AllocError>
-    ensures { OnOk result (out.new.items ≡ out.old.items ++ print_answer (line_of line.entry) ends) }
+// Adds which methods a route has.
+fn push_methods(out: &mut Vec<u8>, route: Route, how: Telling) -> Result<(), AllocError>
+    ensures { OnOk result (out.new.items ≡ out.old.items ++ print_answer (spec.options_answer route) how) }
 {
-    push_told(out, line.status, b"text/plain", line.text, ends)
+    let answer = Answer {
+        status: b"204 No Content",
+        media: None,
+        context: None,
+        tag: None,
+        allow: Some(methods_of(route)),
+        body: None,
+    };
+    push_parts(out, &answer, how)
+}
+
+// Adds a status and a line of text.
+fn push_line(out: &mut Vec<u8>, line: Line, how: Telling) -> Result<(), AllocError>
+    ensures { OnOk result (out.new.items ≡ out.old.items ++ print_answer (line_of line.entry) how) }
+{
+    let answer = Answer {
+        status: line.status,
+        media: Some(b"text/plain"),
+        context: None,
+        tag: None,
+        allow: line.allow,
+        body: Some(line.text),
+    };
+    push_parts(out, &answer, how)
 }
 
 // Adds a status and a body.
@@ -69,32 +91,34 @@ fn push_told<'a>(
     status: &'a [u8],
     media: &'a [u8],
     body: &'a [u8],
-    ends: bool,
+    how: Telling,
 ) -> Result<(), AllocError>
-    ensures { OnOk result (out.new.items ≡ out.old.items ++ print_answer (record (spec.told status.now body.now) { media = Some media.now }) ends) }
+    ensures { OnOk result (out.new.items ≡ out.old.items ++ print_answer (record (spec.told status.now body.now) { media = Some media.now }) how) }
 {
     let answer = Answer {
         status,
         media: Some(media),
         context: None,
         tag: None,
+        allow: None,
         body: Some(body),
     };
-    push_parts(out, &answer, ends)
+    push_parts(out, &answer, how)
 }
 
 // Adds a status alone.
-fn push_empty(out: &mut Vec<u8>, tag: Option<&[u8]>, ends: bool) -> Result<(), AllocError>
-    ensures { OnOk result (out.new.items ≡ out.old.items ++ print_answer (record spec.empty_answer { tag = option_copied tag.entry }) ends) }
+fn push_empty(out: &mut Vec<u8>, tag: Option<&[u8]>, how: Telling) -> Result<(), AllocError>
+    ensures { OnOk result (out.new.items ≡ out.old.items ++ print_answer (record spec.empty_answer { tag = option_copied tag.entry }) how) }
 {
     let answer = Answer {
         status: b"204 No Content",
         media: None,
         context: None,
         tag,
+        allow: None,
         body: None,
     };
-    push_parts(out, &answer, ends)
+    push_parts(out, &answer, how)
 }
 
 // Adds the answer to a call.
@@ -104,24 +128,24 @@ fn push_reply(
     copies: u32,
     form: &Form,
     reply: &Reply,
-    ends: bool,
+    how: Telling,
 ) -> Result<(), AllocError>
-    ensures { OnOk result (out.new.items ≡ out.old.items ++ print_answer (spec.call_answer copies form.now reply.now) ends) }
+    ensures { OnOk result (out.new.items ≡ out.old.items ++ print_answer (spec.call_answer copies form.now reply.now) how) }
 {
     text.clear();
     match reply {
         Reply::Nothing | Reply::Installed(Ok(_)) | Reply::Removed(Ok(_)) | Reply::Set(Ok(_)) =>
-            push_empty(out, None, ends),
-        Reply::Got(Ok(state)) => push_state(out, text, form, state, ends),
+            push_empty(out, None, how),
+        Reply::Got(Ok(state)) => push_state(out, text, form, state, how),
         Reply::Got(Err(fault)) | Reply::Stored(Err(fault)) => push_quorum_fault(
-            out, text, *fault, ends,
+            out, text, *fault, how,
         ),
-        Reply::Stored(Ok(dot)) => push_stored(out, text, *dot, ends),
-        Reply::Installed(Err(refusal)) => push_unfit(out, text, *refusal, ends),
-        Reply::Removed(Err(fault)) => push_line(out, of_hook(NOT_FOUND, *fault), ends),
-        Reply::Props(Ok(bound)) => push_bound(out, text, copies, bound, ends),
-        Reply::Props(Err(fault)) => push_line(out, of_name(*fault), ends),
-        Reply::Set(Err(fault)) => push_line(out, of_hook(UNPROCESSABLE, *fault), ends),
+        Reply::Stored(Ok(dot)) => push_stored(out, text, *dot, how),
+        Reply::Installed(Err(refusal)) => push_unfit(out, text, *refusal, how),
+        Reply::Removed(Err(fault)) => push_line(out, of_hook(NOT_FOUND, *fault), how),
+        Reply::Props(Ok(bound)) => push_bound(out, text, copies, bound, how),
+        Reply::Props(Err(fault)) => push_line(out, of_name(*fault), how),
+        Reply::Set(Err(fault)) => push_line(out, of_hook(UNPROCESSABLE, *fault), how),
     }
 }
 
@@ -130,13 +154,13 @@ fn push_stored(
     out: &mut Vec<u8>,
     text: &mut Vec<u8>,
     dot: Dot,
-    ends: bool,
+    how: Telling,
 ) -> Result<(), AllocError>
     requires { text.old.items ≡ [] }
-    ensures { OnOk result (out.new.items ≡ out.old.items ++ print_answer (spec.stored_answer (Ok dot)) ends) }
+    ensures { OnOk result (out.new.items ≡ out.old.items ++ print_answer (spec.stored_answer (Ok dot)) how) }
 {
     push_tag(text, dot)?;
-    push_empty(out, Some(text.as_slice()), ends)
+    push_empty(out, Some(text.as_slice()), how)
 }
 
 // Adds what is bound to a bucket.
@@ -145,13 +169,13 @@ fn push_bound(
     text: &mut Vec<u8>,
     copies: u32,
     bound: &Bound,
-    ends: bool,
+    how: Telling,
 ) -> Result<(), AllocError>
     requires { text.old.items ≡ [] }
-    ensures { OnOk result (out.new.items ≡ out.old.items ++ print_answer (spec.props_answer copies (Ok bound.now)) ends) }
+    ensures { OnOk result (out.new.items ≡ out.old.items ++ print_answer (spec.props_answer copies (Ok bound.now)) how) }
 {
     push_props(text, copies, bound)?;
-    push_told(out, b"200 OK", b"application/json", text.as_slice(), ends)
+    push_told(out, b"200 OK", b"application/json", text.as_slice(), how)
 }
 
 // Adds why a get or a put has no answer.
@@ -159,19 +183,19 @@ fn push_quorum_fault(
     out: &mut Vec<u8>,
     text: &mut Vec<u8>,
     fault: QuorumFault,
-    ends: bool,
+    how: Telling,
 ) -> Result<(), AllocError>
     requires { text.old.items ≡ [] }
-    ensures { OnOk result (out.new.items ≡ out.old.items ++ print_answer (spec.quorum_answer fault) ends) }
+    ensures { OnOk result (out.new.items ≡ out.old.items ++ print_answer (spec.quorum_answer fault) how) }
 {
     match fault {
-        QuorumFault::Rejected(code) => push_rejected(out, text, code, ends),
-        QuorumFault::TooFew => push_line(out, TOO_FEW, ends),
-        QuorumFault::Refused(fault) => push_line(out, of_vnode(fault), ends),
-        QuorumFault::Unseen => push_line(out, UNSEEN, ends),
-        QuorumFault::Disagrees => push_line(out, DISAGREES, ends),
-        QuorumFault::TooLarge => push_line(out, TOO_LARGE, ends),
-        QuorumFault::BadVerdict(_) => push_line(out, BAD_VERDICT, ends),
+        QuorumFault::Rejected(code) => push_rejected(out, text, code, how),
+        QuorumFault::TooFew => push_line(out, TOO_FEW, how),
+        QuorumFault::Refused(fault) => push_line(out, of_vnode(fault), how),
+        QuorumFault::Unseen => push_line(out, UNSEEN, how),
+        QuorumFault::Disagrees => push_line(out, DISAGREES, how),
+        QuorumFault::TooLarge => push_line(out, TOO_LARGE, how),
+        QuorumFault::BadVerdict(_) => push_line(out, BAD_VERDICT, how),
     }
 }
 
@@ -180,19 +204,15 @@ fn push_rejected(
     out: &mut Vec<u8>,
     text: &mut Vec<u8>,
     code: u8,
-    ends: bool,
+    how: Telling,
 ) -> Result<(), AllocError>
     requires { text.old.items ≡ [] }
-    ensures { OnOk result (out.new.items ≡ out.old.items ++ print_answer (spec.quorum_answer (Rejected code)) ends) }
+    ensures { OnOk result (out.new.items ≡ out.old.items ++ print_answer (spec.quorum_answer (Rejected code)) how) }
 {
     text.extend_from_slice(b"X3 ")?;
     push_number(text, code as u64)?;
     text.extend_from_slice(b"\n")?;
-    let line = Line {
-        status: b"403 Forbidden",
-        text: text.as_slice(),
-    };
-    push_line(out, line, ends)
+    push_told(out, b"403 Forbidden", b"text/plain", text.as_slice(), how)
 }
 
 // Adds why an image is not let in, by a buffer for the text.
@@ -200,38 +220,31 @@ fn push_unfit(
     out: &mut Vec<u8>,
     text: &mut Vec<u8>,
     refusal: Unfit,
-    ends: bool,
+    how: Telling,
 ) -> Result<(), AllocError>
     requires { text.old.items ≡ [] }
-    ensures { OnOk result (out.new.items ≡ out.old.items ++ print_answer (spec.unfit_answer refusal) ends) }
+    ensures { OnOk result (out.new.items ≡ out.old.items ++ print_answer (spec.unfit_answer refusal) how) }
 {
     match refusal {
         Unfit::Image(fault) => {
             push_image_fault(text, fault)?;
-            push_unprocessable(out, text, ends)
+            push_unprocessable(out, text, how)
         }
         Unfit::Rule(refused) => {
             push_broken_rule(text, refused)?;
-            push_unprocessable(out, text, ends)
+            push_unprocessable(out, text, how)
         }
-        Unfit::OtherKind => push_line(out, OTHER_KIND, ends),
-        Unfit::NoMemory => push_line(out, NO_MEMORY, ends),
+        Unfit::OtherKind => push_line(out, OTHER_KIND, how),
+        Unfit::NoMemory => push_line(out, NO_MEMORY, how),
     }
 }
 
 // Adds why an image is not let in, where the text shows it.
-fn push_unprocessable(out: &mut Vec<u8>, text: &mut Vec<u8>, ends: bool) -> Result<(), AllocError>
-    ensures { OnOk result (out.new.items ≡ out.old.items ++ print_answer (spec.line_told spec.unprocessable text.old.items) ends) }
+fn push_unprocessable(out: &mut Vec<u8>, text: &mut Vec<u8>, how: Telling) -> Result<(), AllocError>
+    ensures { OnOk result (out.new.items ≡ out.old.items ++ print_answer (spec.line_told spec.unprocessable text.old.items) how) }
 {
     text.extend_from_slice(b"\n")?;
-    push_line(
-        out,
-        Line {
-            status: UNPROCESSABLE,
-            text: text.as_slice(),
-        },
-        ends,
-    )
+    push_told(out, UNPROCESSABLE, b"text/plain", text.as_slice(), how)
 }
 
 // Adds a fault of an image as it is shown.
@@ -301,12 +314,12 @@ fn push_state(
     text: &mut Vec<u8>,
     form: &Form,
     state: &KeyState,
-    ends: bool,
+    how: Telling,
 ) -> Result<(), AllocError>
     requires { text.old.items ≡ [] }
-    ensures { OnOk result (out.new.items ≡ out.old.items ++ print_answer (spec.got_answer form.now (Ok state.now)) ends) }
+    ensures { OnOk result (out.new.items ≡ out.old.items ++ print_answer (spec.got_answer form.now (Ok state.now)) how) }
 {
-    push_shown(out, text, form, state.siblings(), state.clock(), ends)
+    push_shown(out, text, form, state.siblings(), state.clock(), how)
 }
 
 // Adds the siblings of a key as they are asked for.
@@ -316,17 +329,17 @@ fn push_shown(
     form: &Form,
     siblings: &[Sibling],
     context: &Clock,
-    ends: bool,
+    how: Telling,
 ) -> Result<(), AllocError>
     requires { text.old.items ≡ [] }
-    ensures { OnOk result (out.new.items ≡ out.old.items ++ print_answer (with_clock context.now (spec.shown form.now siblings.now)) ends) }
+    ensures { OnOk result (out.new.items ≡ out.old.items ++ print_answer (with_clock context.now (spec.shown form.now siblings.now)) how) }
 {
     match (form, siblings) {
-        (Form::One(tag), _) => push_tagged(out, text, siblings, tag.as_slice(), context, ends),
-        (_, []) => push_missing(out, context, ends),
-        (_, [sibling]) => push_content(out, &sibling.content, context, ends),
-        (Form::Parts, _) => push_mixed(out, text, siblings, context, ends),
-        (Form::Text, _) => push_listed(out, text, siblings, context, ends),
+        (Form::One(tag), _) => push_tagged(out, text, siblings, tag.as_slice(), context, how),
+        (_, []) => push_missing(out, context, how),
+        (_, [sibling]) => push_content(out, &sibling.content, context, how),
+        (Form::Parts, _) => push_mixed(out, text, siblings, context, how),
+        (Form::Text, _) => push_listed(out, text, siblings, context, how),
     }
 }
 
@@ -337,14 +350,14 @@ fn push_tagged(
     siblings: &[Sibling],
     tag: &[u8],
     context: &Clock,
-    ends: bool,
+    how: Telling,
 ) -> Result<(), AllocError>
-    ensures { OnOk result (out.new.items ≡ out.old.items ++ print_answer (with_clock context.now (spec.sibling_answer (find (λ s. bytes_eq (tag_of s.dot) tag.now) siblings.now))) ends) }
+    ensures { OnOk result (out.new.items ≡ out.old.items ++ print_answer (with_clock context.now (spec.sibling_answer (find (λ s. bytes_eq (tag_of s.dot) tag.now) siblings.now))) how) }
 {
     let found = find_tag(text, siblings, tag)?;
     match found {
-        Some(sibling) => push_content(out, &sibling.content, context, ends),
-        None => push_missing(out, context, ends),
+        Some(sibling) => push_content(out, &sibling.content, context, how),
+        None => push_missing(out, context, how),
     }
 }
 
@@ -354,27 +367,28 @@ fn push_listed(
     text: &mut Vec<u8>,
     siblings: &[Sibling],
     context: &Clock,
-    ends: bool,
+    how: Telling,
 ) -> Result<(), AllocError>
     requires { text.old.items ≡ [] }
-    ensures { OnOk result (out.new.items ≡ out.old.items ++ print_answer (with_clock context.now (spec.told spec.choices (spec.tags_text siblings.now))) ends) }
+    ensures { OnOk result (out.new.items ≡ out.old.items ++ print_answer (with_clock context.now (spec.told spec.choices (spec.tags_text siblings.now))) how) }
 {
     push_tags(text, siblings)?;
-    push_choices(out, b"text/plain", text.as_slice(), context, ends)
+    push_choices(out, b"text/plain", text.as_slice(), context, how)
 }
 
 // Adds that there is nothing.
-fn push_missing(out: &mut Vec<u8>, context: &Clock, ends: bool) -> Result<(), AllocError>
-    ensures { OnOk result (out.new.items ≡ out.old.items ++ print_answer (with_clock context.now spec.not_found) ends) }
+fn push_missing(out: &mut Vec<u8>, context: &Clock, how: Telling) -> Result<(), AllocError>
+    ensures { OnOk result (out.new.items ≡ out.old.items ++ print_answer (with_clock context.now spec.not_found) how) }
 {
     let answer = Answer {
         status: NOT_FOUND,
         media: Some(b"text/plain"),
         context: Some(context),
         tag: None,
+        allow: None,
         body: Some(b"not found\n"),
     };
-    push_parts(out, &answer, ends)
+    push_parts(out, &answer, how)
 }
 
 // Adds a content by itself.
@@ -382,21 +396,22 @@ fn push_content<'a, 'v>(
     out: &mut Vec<u8>,
     content: &'a Content,
     context: &'v Clock,
-    ends: bool,
+    how: Telling,
 ) -> Result<(), AllocError>
-    ensures { OnOk result (out.new.items ≡ out.old.items ++ print_answer (with_clock context.now (spec.content_answer content.now)) ends) }
+    ensures { OnOk result (out.new.items ≡ out.old.items ++ print_answer (with_clock context.now (spec.content_answer content.now)) how) }
 {
     match content {
-        Content::Tombstone => push_missing(out, context, ends),
+        Content::Tombstone => push_missing(out, context, how),
         Content::Value { media, bytes } => {
             let answer = Answer {
                 status: b"200 OK",
                 media: Some(media.as_slice()),
                 context: Some(context),
                 tag: None,
+                allow: None,
                 body: Some(bytes.as_slice()),
             };
-            push_parts(out, &answer, ends)
+            push_parts(out, &answer, how)
         }
     }
 }
@@ -407,18 +422,19 @@ fn push_choices<'a, 'v>(
     media: &'a [u8],
     body: &'a [u8],
     context: &'v Clock,
-    ends: bool,
+    how: Telling,
 ) -> Result<(), AllocError>
-    ensures { OnOk result (out.new.items ≡ out.old.items ++ print_answer (with_clock context.now (record (spec.told spec.choices body.now) { media = Some media.now })) ends) }
+    ensures { OnOk result (out.new.items ≡ out.old.items ++ print_answer (with_clock context.now (record (spec.told spec.choices body.now) { media = Some media.now })) how) }
 {
     let answer = Answer {
         status: b"300 Multiple Choices",
         media: Some(media),
         context: Some(context),
         tag: None,
+        allow: None,
         body: Some(body),
     };
-    push_parts(out, &answer, ends)
+    push_parts(out, &answer, how)
 }
 
 // Adds all siblings as the parts of one body.
@@ -427,17 +443,17 @@ fn push_mixed(
     text: &mut Vec<u8>,
     siblings: &[Sibling],
     context: &Clock,
-    ends: bool,
+    how: Telling,
 ) -> Result<(), AllocError>
     requires { text.old.items ≡ [] }
-    ensures { OnOk result (out.new.items ≡ out.old.items ++ print_answer (with_clock context.now (spec.several_answer Parts siblings.now)) ends) }
+    ensures { OnOk result (out.new.items ≡ out.old.items ++ print_answer (with_clock context.now (spec.several_answer Parts siblings.now)) how) }
 {
     let boundary = boundary_of(text, siblings)?;
     text.clear();
     let media_len = push_mixed_type(text, boundary)?;
     push_parts_body(text, boundary, siblings)?;
     let (media, body) = text.split_at(media_len);
-    push_choices(out, media, body, context, ends)
+    push_choices(out, media, body, context, how)
 }
 
 // Adds the media type of a body in parts, and tells how many bytes the text has then.

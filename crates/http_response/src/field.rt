@@ -1,13 +1,22 @@
 //! The pieces of an answer.
 
-ghost use Rattle.std.specs.Prelude.{◌≡◌, ◌++◌, OnOk, codes, decimal};
+ghost use Rattle.std.specs.Prelude.{◌≡◌, ◌++◌, OnOk, [], codes, decimal};
 ghost use Rattle.std.specs.Option.{option_copied};
-ghost use Rattle.http_response.specs.Answer.{closing, print_answer, vclock_of};
+ghost use Rattle.http_response.specs.Answer.{closing, length_of, own_fields, print_answer, shown_body, vclock_of};
 ghost use Rattle.http_response.specs.Parts.{line, field_line, tag_of};
-ghost use Rattle.http_response.specs.View.{parts_of, context_of, body_end};
+ghost use Rattle.http_response.specs.View.{parts_of, context_of, head_end};
 
 use dvv::{Clock, Dot};
 use std::alloc::AllocError;
+
+/// How an answer is told.
+#[derive(Clone, Copy)]
+pub(crate) struct Telling {
+    /// The connection ends behind it.
+    pub(crate) ends: bool,
+    /// It is shown without its body, whose length it tells.
+    pub(crate) head_only: bool,
+}
 
 /// The parts of an answer; its context has a lifetime of its own.
 #[derive(Clone, Copy)]
@@ -16,19 +25,22 @@ pub(crate) struct Answer<'a, 'c> {
     pub(crate) media: Option<&'a [u8]>,
     pub(crate) context: Option<&'c Clock>,
     pub(crate) tag: Option<&'a [u8]>,
+    pub(crate) allow: Option<&'a [u8]>,
     pub(crate) body: Option<&'a [u8]>,
 }
 
 /// Adds the bytes of an answer.
-pub(crate) fn push_parts(out: &mut Vec<u8>, answer: &Answer, ends: bool) -> Result<(), AllocError>
-    ensures { OnOk result (out.new.items ≡ out.old.items ++ print_answer (parts_of answer.now) ends) }
+pub(crate) fn push_parts(out: &mut Vec<u8>, answer: &Answer, how: Telling) -> Result<(), AllocError>
+    ensures { OnOk result (out.new.items ≡ out.old.items ++ print_answer (parts_of answer.now) how) }
 {
     push_status(out, answer.status)?;
     push_field(out, b"Content-Type", answer.media)?;
     push_context(out, answer.context)?;
     push_field(out, b"X-Riak-Tag", answer.tag)?;
-    push_close(out, ends)?;
-    push_body(out, answer.body)?;
+    push_close(out, how.ends)?;
+    push_length(out, answer.body)?;
+    push_head_end(out, answer.allow)?;
+    push_body(out, how.head_only, answer.body)?;
     Ok(())
 }
 
@@ -91,18 +103,43 @@ pub(crate) fn push_field(
     Ok(())
 }
 
-// Adds the length of the body, where there is one, the empty line, and the body.
-fn push_body(out: &mut Vec<u8>, body: Option<&[u8]>) -> Result<(), AllocError>
-    ensures { OnOk result (out.new.items ≡ out.old.items ++ body_end (option_copied body.entry)) }
+// Adds the length of the body, where there is one.
+fn push_length(out: &mut Vec<u8>, body: Option<&[u8]>) -> Result<(), AllocError>
+    ensures { OnOk result (out.new.items ≡ out.old.items ++ field_line (codes "Content-Length") (length_of (option_copied body.entry))) }
 {
     match body {
-        None => out.extend_from_slice(b"\r\n"),
+        None => Ok(()),
         Some(body) => {
             out.extend_from_slice(b"Content-Length: ")?;
             push_number(out, body.len() as u64)?;
-            out.extend_from_slice(b"\r\n\r\n")?;
-            out.extend_from_slice(body)
+            out.extend_from_slice(b"\r\n")
         }
+    }
+}
+
+// Adds the methods, where they are told, the fields of each answer, and the empty line.
+fn push_head_end(out: &mut Vec<u8>, allow: Option<&[u8]>) -> Result<(), AllocError>
+    ensures { OnOk result (out.new.items ≡ out.old.items ++ head_end (option_copied allow.entry)) }
+{
+    push_field(out, b"Allow", allow)?;
+    push_own_end(out)?;
+    Ok(())
+}
+
+// Adds the fields of each answer, and the empty line.
+fn push_own_end(out: &mut Vec<u8>) -> Result<(), AllocError>
+    ensures { OnOk result (out.new.items ≡ out.old.items ++ (own_fields ++ line [])) }
+{
+    out.extend_from_slice(b"X-Content-Type-Options: nosniff\r\nServer: dvvstore\r\n\r\n")
+}
+
+// Adds the body, where there is one and more than the head is asked for.
+fn push_body(out: &mut Vec<u8>, head_only: bool, body: Option<&[u8]>) -> Result<(), AllocError>
+    ensures { OnOk result (out.new.items ≡ out.old.items ++ shown_body head_only (option_copied body.entry)) }
+{
+    match body {
+        Some(body) if !head_only => out.extend_from_slice(body),
+        _ => Ok(()),
     }
 }
 

@@ -2,6 +2,7 @@
 
 ghost use Rattle.std.specs.Prelude.{◌≡◌};
 ghost use Rattle.bpf_insn.specs.Refusal.{name_of};
+ghost use Rattle.http_request.specs.declared.ask.Refusal.TheVariants.{FixedProperty};
 ghost use Rattle.http_response.specs.Answer as spec;
 ghost use Rattle.http_response.specs.Answer.{refusal_answer, token_answer, vnode_answer, hook_answer, name_answer};
 ghost use Rattle.http_response.specs.View.{line_of};
@@ -9,14 +10,15 @@ ghost use Rattle.http_response.specs.View.{line_of};
 use bpf_insn::Refusal as CodeRefusal;
 use context_token::TokenFault;
 use hook_registry::{HookFault, NameFault};
-use http_request::Refusal;
+use http_request::{Property, Refusal, Route};
 use vnode::VnodeFault;
 
-/// A status, and a line of text.
+/// A status, the methods of a route where they are told, and a line of text.
 #[derive(Clone, Copy)]
 pub(crate) struct Line<'a> {
     pub(crate) status: &'a [u8],
     pub(crate) text: &'a [u8],
+    pub(crate) allow: Option<&'a [u8]>,
 }
 
 pub(crate) const BAD_REQUEST: &[u8] = b"400 Bad Request";
@@ -29,52 +31,74 @@ pub(crate) const BROKEN: &[u8] = b"500 Internal Server Error";
 
 pub(crate) const UNAVAILABLE: &[u8] = b"503 Service Unavailable";
 
+/// What a ping is told.
+pub(crate) const HERE: Line<'static> = Line {
+    status: b"200 OK",
+    text: b"OK",
+    allow: None,
+};
+
+/// Where the resources lie.
+pub(crate) const RESOURCES: &[u8] =
+    b"{\"riak_kv_wm_bucket_type\":\"/types\",\"riak_kv_wm_buckets\":\"/buckets\",\"riak_kv_wm_object\":\"/buckets\",\"riak_kv_wm_ping\":\"/ping\",\"riak_kv_wm_props\":\"/buckets\",\"riak_kv_wm_raw\":\"/riak\"}";
+
 /// What want of memory is told as.
 pub(crate) const NO_MEMORY: Line<'static> = Line {
     status: BROKEN,
     text: b"E1\n",
+    allow: None,
 };
 
 /// What is told of an image of another kind than is asked for.
 pub(crate) const OTHER_KIND: Line<'static> = Line {
     status: UNPROCESSABLE,
     text: b"G2\n",
+    allow: None,
 };
 
 /// What is told where too few copies answered.
 pub(crate) const TOO_FEW: Line<'static> = Line {
     status: UNAVAILABLE,
     text: b"Q1\n",
+    allow: None,
 };
 
 /// What is told where a bound hook is not seen.
 pub(crate) const UNSEEN: Line<'static> = Line {
     status: BROKEN,
     text: b"G3\n",
+    allow: None,
 };
 
 /// What is told where copies disagree.
 pub(crate) const DISAGREES: Line<'static> = Line {
     status: BROKEN,
     text: b"X4\n",
+    allow: None,
 };
 
 /// What is told where a content is too large for a hook.
 pub(crate) const TOO_LARGE: Line<'static> = Line {
     status: b"413 Payload Too Large",
     text: b"X1\n",
+    allow: None,
 };
 
 /// What is told where a hook's verdict is none.
 pub(crate) const BAD_VERDICT: Line<'static> = Line {
     status: BROKEN,
     text: b"X2\n",
+    allow: None,
 };
 
 fn told(status: &'static [u8], text: &'static [u8]) -> Line<'static>
     ensures { line_of result ≡ spec.told status.now text.now }
 {
-    Line { status, text }
+    Line {
+        status,
+        text,
+        allow: None,
+    }
 }
 
 /// What a refused request is told.
@@ -88,12 +112,40 @@ pub(crate) fn of_refusal(refusal: Refusal) -> Line<'static>
         Refusal::NoLength => told(b"411 Length Required", b"length\n"),
         Refusal::Large => told(b"413 Payload Too Large", b"large\n"),
         Refusal::NoRoute => told(NOT_FOUND, b"no route\n"),
-        Refusal::Method => told(b"405 Method Not Allowed", b"method\n"),
+        Refusal::Method(route) => Line {
+            status: b"405 Method Not Allowed",
+            text: b"method\n",
+            allow: Some(methods_of(route)),
+        },
         Refusal::Query => told(BAD_REQUEST, b"bad query\n"),
         Refusal::BadName => told(BAD_REQUEST, b"bad name\n"),
         Refusal::Token(fault) => of_token(fault),
         Refusal::BadType => told(BAD_REQUEST, b"bad type\n"),
         Refusal::BadProps => told(BAD_REQUEST, b"bad props\n"),
+        Refusal::FixedProperty(property) => of_property(property),
+    }
+}
+
+/// The methods of a route.
+pub(crate) fn methods_of(route: Route) -> &'static [u8]
+    ensures { result.now ≡ spec.methods_of route }
+{
+    match route {
+        Route::Root | Route::Ping => b"GET, HEAD, OPTIONS",
+        Route::Key | Route::TypedKey | Route::OldKey => b"GET, HEAD, PUT, POST, DELETE, OPTIONS",
+        Route::Hook => b"PUT, DELETE, OPTIONS",
+        Route::Props | Route::TypedProps => b"GET, HEAD, PUT, OPTIONS",
+    }
+}
+
+fn of_property(property: Property) -> Line<'static>
+    ensures { line_of result ≡ refusal_answer (FixedProperty property) }
+{
+    match property {
+        Property::AllowMult => told(BAD_REQUEST, b"bad props allow_mult\n"),
+        Property::LastWriteWins => told(BAD_REQUEST, b"bad props last_write_wins\n"),
+        Property::NVal => told(BAD_REQUEST, b"bad props n_val\n"),
+        Property::PostCommit => told(BAD_REQUEST, b"bad props postcommit\n"),
     }
 }
 

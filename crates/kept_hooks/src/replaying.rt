@@ -9,7 +9,8 @@ use std::alloc::{AllocError, Global};
 use thiserror::Error;
 
 /// The answer to a request that was done and has nothing to tell.
-const NO_CONTENT: &[u8] = b"HTTP/1.1 204 No Content\r\n\r\n";
+const NO_CONTENT: &[u8] =
+    b"HTTP/1.1 204 No Content\r\nX-Content-Type-Options: nosniff\r\nServer: dvvstore\r\n\r\n";
 
 /// Why a store doesn't begin from requests.
 #[derive(Clone, Copy, Debug, PartialEq, Eq, Error)]

@@ -37,6 +37,14 @@ PHRASES = {
 TEXT = "text/plain"
 OCTETS = "application/octet-stream"
 JSON = "application/json"
+# The methods of each route.
+METHODS = {
+    "root": "GET, HEAD, OPTIONS",
+    "ping": "GET, HEAD, OPTIONS",
+    "key": "GET, HEAD, PUT, POST, DELETE, OPTIONS",
+    "hook": "PUT, DELETE, OPTIONS",
+    "props": "GET, HEAD, PUT, OPTIONS",
+}
 NOTHING = b""  # in place of an answer, where the connection has ended or the request is cut
 SEPARATOR = b"\x1e"
 NEXT = SEPARATOR, SEPARATOR  # in place of an exchange, where another connection begins
@@ -118,7 +126,7 @@ def seen(clock, version=2):
 # Answers
 
 
-def answer(status, media=None, clock=None, dot=None, closes=False, body=None):
+def answer(status, media=None, clock=None, dot=None, closes=False, body=None, allow=None):
     """An answer: its fields in their order, each where it applies. An empty clock is not told."""
     lines = [f"HTTP/1.1 {status} {PHRASES[status]}"]
     if media is not None:
@@ -131,7 +139,15 @@ def answer(status, media=None, clock=None, dot=None, closes=False, body=None):
         lines.append("Connection: close")
     if body is not None:
         lines.append(f"Content-Length: {len(body)}")
+    if allow is not None:
+        lines.append(f"Allow: {allow}")
+    lines += ["X-Content-Type-Options: nosniff", "Server: dvvstore"]
     return "\r\n".join([*lines, "", ""]).encode() + as_bytes(body or "")
+
+
+def head_of(answered):
+    """An answer without its body, as to HEAD: its head ends with the first empty line."""
+    return answered[: answered.index(b"\r\n\r\n") + 4]
 
 
 def done():
@@ -142,8 +158,31 @@ def written(vnode, counter):
     return answer(204, dot=(vnode, counter))
 
 
-def told(status, word, closes=False):
-    return answer(status, TEXT, closes=closes, body=f"{word}\n")
+def told(status, word, allow=None, closes=False):
+    return answer(status, TEXT, closes=closes, body=f"{word}\n", allow=allow)
+
+
+def resources():
+    """Where the resources lie."""
+    names = {
+        "bucket_type": "/types",
+        "buckets": "/buckets",
+        "object": "/buckets",
+        "ping": "/ping",
+        "props": "/buckets",
+        "raw": "/riak",
+    }
+    members = ",".join(f'"riak_kv_wm_{name}":"{path}"' for name, path in names.items())
+    return answer(200, JSON, body=f"{{{members}}}")
+
+
+def options(route):
+    return answer(204, allow=METHODS[route])
+
+
+def no_method(route):
+    """A fault: the route has no such method."""
+    return 405, "method", METHODS[route]
 
 
 def value(clock, text, media=TEXT):
@@ -199,6 +238,11 @@ def cart():
     yield request(f"GET {ann.target}"), choices(both, (one, 3), (two, 1))
     siblings = {(one, 3): "milk, bread, eggs", (two, 1): "milk, rye --s0"}
     yield request(f"GET {ann.target}?r=all", "Accept: text/html, Multipart/Mixed;q=1"), parts(both, siblings)
+    # A weight of nothing is a no.
+    for accepted in "multipart/mixed;q=0", "multipart/mixed ; Q=0.000, text/plain", "multipart/mixed;a=b;q=0.;c=d":
+        yield request(f"GET {ann.target}", f"Accept: {accepted}"), choices(both, (one, 3), (two, 1))
+    for accepted in "multipart/mixed;q=0.001", "multipart/mixed;q=0, multipart/mixed", "multipart/mixed;q=00", "multipart/mixed;qq=0":
+        yield request(f"GET {ann.target}", f"Accept: {accepted}"), parts(both, siblings)
     yield request(f"GET {ann.target}?vtag={tag((two, 1))}"), value(both, "milk, rye --s0")
     yield request(f"GET {ann.target}?vtag={tag((one, 2))}"), not_found(both)
 
@@ -496,10 +540,10 @@ def refused():
 
     yield request("GET /none"), told(404, "no route")
     yield request("GET /buckets/b/keys"), told(404, "no route")
-    yield request("HEAD /ping"), told(405, "method")
-    yield request(f"PATCH {key.target}"), told(405, "method")
-    yield request("GET /hooks/digits"), told(405, "method")
-    yield request("DELETE /buckets/b/props"), told(405, "method")
+    yield request("PUT /ping", body=""), told(*no_method("ping"))
+    yield request(f"PATCH {key.target}"), told(*no_method("key"))
+    yield request("GET /hooks/digits"), told(*no_method("hook"))
+    yield request("DELETE /buckets/b/props"), told(*no_method("props"))
     for query in ["r=0", "r=4", "r=01", "r=most", "w=0", "w=-1", "at=3", "at=", "r=1&at=00"]:
         yield request(f"GET {key.target}?{query}"), told(400, "bad query")
     yield request(f"GET /buckets/{'b' * 65}/keys/k"), told(400, "bad name")
@@ -535,8 +579,23 @@ def refused():
     yield spoiled(token([(255, 1)], 2)), told(400, "K5")
     yield request(f"PUT {key.target}", typed("t" * 128), body="a"), told(400, "bad type")
     yield request(f"PUT {key.target}", "Content-Type:", body="a"), told(400, "bad type")
-    for props in ["", "props", '{"props":[]}', '{"props":{"precommit":1}}', '{"props":{"allow_mult":false}}']:
+    for props in ["", "props", '{"props":[]}', '{"props":{"precommit":1}}']:
         yield request("PUT /buckets/b/props", body=props), told(400, "bad props")
+    # Properties that are as they are, in the order in which they are told.
+    for members, name in [
+        ('"allow_mult":false,"last_write_wins":true', "allow_mult"),
+        ('"allow_mult":"true"', "allow_mult"),
+        ('"n_val":2,"last_write_wins":true', "last_write_wins"),
+        ('"last_write_wins":null', "last_write_wins"),
+        ('"postcommit":[{}],"n_val":2', "n_val"),
+        ('"n_val":"3"', "n_val"),
+        ('"n_val":3.0', "n_val"),
+        ('"precommit":1,"postcommit":[{"name":"f"}]', "postcommit"),
+        ('"postcommit":[]', "postcommit"),
+    ]:
+        yield request("PUT /buckets/b/props", body=f'{{"props":{{{members}}}}}'), told(400, f"bad props {name}")
+    as_it_is = '"allow_mult":true,"last_write_wins":false,"n_val":3,"postcommit":null'
+    yield request("PUT /buckets/b/props", body=f'{{"props":{{{as_it_is}}}}}'), done()
 
     # Nothing of all this was written.
     yield request(f"GET {key.target}"), not_found()
@@ -571,7 +630,6 @@ BAD_LENGTH = 400, "bad length"
 NO_LENGTH = 411, "length"
 LARGE = 413, "large"
 NO_ROUTE = 404, "no route"
-METHOD = 405, "method"
 QUERY = 400, "bad query"
 BAD_NAME = 400, "bad name"
 BAD_TYPE = 400, "bad type"
@@ -614,7 +672,7 @@ BROKEN = [
 
 # Requests after whose answer the connection goes on: heads without their length line and the empty line, and bodies.
 REFUSED = [
-    ("GET / HTTP/1.1", "", NO_ROUTE),
+    ("GET // HTTP/1.1", "", NO_ROUTE),
     ("GET /ping/ HTTP/1.1", "", NO_ROUTE),
     ("GET /Ping HTTP/1.1", "", NO_ROUTE),
     ("GET /hooks/a/b HTTP/1.1", "", NO_ROUTE),
@@ -622,16 +680,16 @@ REFUSED = [
     ("GET /buckets/b/keys/ HTTP/1.1", "", NO_ROUTE),
     # no route, and a method of none
     ("BREW /pong?r=0 HTTP/1.1", "", NO_ROUTE),
-    ("POST /ping HTTP/1.1", "", METHOD),
-    ("HEAD /ping HTTP/1.1", "", METHOD),
-    ("get /ping HTTP/1.1", "", METHOD),
-    ("GET /hooks/a HTTP/1.1", "", METHOD),
-    ("POST /hooks/a HTTP/1.1", "", METHOD),
-    ("DELETE /buckets/b/props HTTP/1.1", "", METHOD),
-    ("POST /buckets/b/props HTTP/1.1", "{", METHOD),
+    ("POST /ping HTTP/1.1", "", no_method("ping")),
+    ("head /ping HTTP/1.1", "", no_method("ping")),
+    ("get / HTTP/1.1", "", no_method("root")),
+    ("GET /hooks/a HTTP/1.1", "", no_method("hook")),
+    ("POST /hooks/a HTTP/1.1", "", no_method("hook")),
+    ("DELETE /buckets/b/props HTTP/1.1", "", no_method("props")),
+    ("POST /buckets/b/props HTTP/1.1", "{", no_method("props")),
     # a method and the query, and a method and a name
-    ("PATCH /buckets/b/keys/k?r=0 HTTP/1.1", "", METHOD),
-    ("GET /hooks/a.b HTTP/1.1", "", METHOD),
+    ("PATCH /buckets/b/keys/k?r=0 HTTP/1.1", "", no_method("key")),
+    ("GET /hooks/a.b HTTP/1.1", "", no_method("hook")),
     ("GET /buckets/b/keys/k?r=0 HTTP/1.1", "", QUERY),
     ("GET /buckets/b/keys/k?r=4 HTTP/1.1", "", QUERY),
     ("GET /buckets/b/keys/k?r=01 HTTP/1.1", "", QUERY),
@@ -665,7 +723,7 @@ REFUSED = [
     ("PUT /buckets/b/props HTTP/1.1", '{"props":[]}', BAD_PROPS),
     ("PUT /buckets/b/props HTTP/1.1", '{"props":{"precommit":1}}', BAD_PROPS),
     ("PUT /buckets/b/props HTTP/1.1", '{"props":{"precommit":"a","resolver":[]}}', BAD_PROPS),
-    ("PUT /buckets/b/props HTTP/1.1", '{"props":{"allow_mult":null}}', BAD_PROPS),
+    ("PUT /buckets/b/props HTTP/1.1", '{"props":{"allow_mult":null}}', (400, "bad props allow_mult")),
 ]
 
 
@@ -692,11 +750,91 @@ def broken():
         (b"GET /ping HTTP/1.0\r\n\r\n", pong(closes=True)),
         (ping("Connection: keep-alive, CLOSE"), pong(closes=True)),
         (b"GET /ping HTTP/1.1\r\nConnection: closed\r\nConnection: close\r\n\r\n", pong(closes=True)),
-        (request("HEAD /ping", "connection: close"), told(*METHOD, closes=True)),
+        (request("PUT /ping", "connection: close", body=""), told(*no_method("ping"), closes=True)),
     ]:
         yield NEXT
         yield bytes_sent, answered
         yield ping(), NOTHING
+
+
+def methods():
+    """HEAD wherever GET is, whose answers have no body; the methods of each route; and the list of resources."""
+    key, none = Key("b", "k"), Key("b", "none")
+    one, two = key.vnode(0), key.vnode(1)
+
+    def by_head(target, *fields):
+        return request(f"HEAD {target}", *fields)
+
+    yield request("GET /"), resources()
+    yield by_head("/"), head_of(resources())
+    yield request("GET /?x=y", "Accept: text/html"), resources()
+    yield by_head("/ping"), head_of(pong())
+    yield by_head(none.target), head_of(not_found())
+    # A value, siblings as a list and as parts, and one of them. What HEAD tells as a length isn't there: the next answer follows at once.
+    yield request(f"PUT {key.target}", typed(TEXT), body="a"), written(one, 1)
+    yield by_head(key.target), head_of(value({one: 1}, "a"))
+    yield request(f"GET {key.target}"), value({one: 1}, "a")
+    yield request(f"PUT {key.target}?at=1", typed(TEXT), body="b"), written(two, 1)
+    both = {one: 1, two: 1}
+    yield by_head(key.target), head_of(choices(both, (one, 1), (two, 1)))
+    yield by_head(key.target, "Accept: multipart/mixed"), head_of(parts(both, {(one, 1): "a", (two, 1): "b"}))
+    yield by_head(f"{key.target}?vtag={tag((two, 1))}"), head_of(value(both, "b"))
+    yield by_head("/buckets/b/props"), head_of(properties(None, None))
+    # A body that comes with HEAD is passed over.
+    yield request("HEAD /ping", body="GET /ping HTTP/1.1\r\n\r\n"), head_of(pong())
+    # Refused, and without a body too.
+    for target, fault in [
+        (f"{key.target}?r=0", QUERY),
+        (f"/buckets/{'b' * 65}/props", BAD_NAME),
+        ("/none", NO_ROUTE),
+        ("/hooks/a", no_method("hook")),
+    ]:
+        yield by_head(target), head_of(told(*fault))
+        yield ping(), pong()
+    # The methods of a route, whatever its names and the query are.
+    for target, route in [
+        ("/", "root"),
+        ("/ping?r=0", "ping"),
+        (f"{key.target}?r=0", "key"),
+        (f"/buckets/{'b' * 65}/keys/k", "key"),
+        ("/hooks/a.b", "hook"),
+        ("/buckets/b/props", "props"),
+    ]:
+        yield request(f"OPTIONS {target}"), options(route)
+        yield request(f"options {target}"), told(*no_method(route))
+    yield request("OPTIONS /none"), told(*NO_ROUTE)
+    # The same routes with Riak's type `default`, and its old route of a key. No other type is there.
+    typed_key, old_key = f"/types/default{key.target}", "/riak/b/k"
+    yield request(f"GET {typed_key}?vtag={tag((one, 1))}"), value(both, "a")
+    yield request(f"POST {old_key}", typed(TEXT), seen(both), body="c"), written(one, 2)
+    yield by_head(old_key), head_of(value({one: 2, two: 1}, "c"))
+    yield request(f"PUT {typed_key}", typed(TEXT), seen({one: 2, two: 1}), body="d"), written(one, 3)
+    yield request(f"DELETE {old_key}", seen({one: 3, two: 1})), written(one, 4)
+    yield request(f"GET {key.target}"), not_found({one: 4, two: 1})
+    yield request("PUT /types/default/buckets/b/props", body='{"props":{}}'), done()
+    yield request("GET /types/default/buckets/b/props"), properties(None, None)
+    yield request(f"GET {typed_key}?r=0"), told(*QUERY)
+    yield request(f"GET /riak/{'b' * 65}/k"), told(*BAD_NAME)
+    yield request(f"PATCH {old_key}"), told(*no_method("key"))
+    yield request(f"OPTIONS {typed_key}"), options("key")
+    yield request("DELETE /types/default/buckets/b/props"), told(*no_method("props"))
+    for path in ["/types/maps/buckets/b/keys/k", "/types/default", "/types/default/props", "/types/Default/buckets/b/props", "/riak/b", "/riak/b/k/l"]:
+        yield request(f"GET {path}"), told(*NO_ROUTE)
+    yield request("POST /", body=""), told(*no_method("root"))
+    # The last request of a connection, by its version and by a fault.
+    for bytes_sent, answered in [
+        (b"HEAD /ping HTTP/1.0\r\n\r\n", pong(closes=True)),
+        (request("OPTIONS /ping", "Connection: close"), answer(204, closes=True, allow=METHODS["ping"])),
+        (b"HEAD /ping HTTP/1.1\r\nContent-Length: x\r\n\r\n", told(*BAD_LENGTH, closes=True)),
+        (b"HEAD /ping HTTP/1.1\r\nContent-Length: 65537\r\n\r\n", told(*LARGE, closes=True)),
+    ]:
+        yield NEXT
+        yield bytes_sent, head_of(answered)
+        yield ping(), NOTHING
+    # Of a head that is none no method is known.
+    yield NEXT
+    yield b"HEAD ping HTTP/1.1\r\n\r\n", told(*BAD_HEAD, closes=True)
+    yield ping(), NOTHING
 
 
 def limits():
@@ -843,7 +981,7 @@ def spelled():
     yield install("no_1-B", "RBPF"), told(422, "I1")
 
     # A binding that names one hook of two, beside properties that are as they have to be, and others.
-    props = '{"props":{"resolver":null,"allow_mult":true,"n_val":1,"x":{}},"y":0}'
+    props = '{"props":{"resolver":null,"allow_mult":true,"n_val":3,"x":{}},"y":0}'
     yield request("PUT /buckets/b/props", body=props), done()
     yield request("GET /buckets/b/props"), properties(None, None)
 
@@ -1031,6 +1169,7 @@ DIALOGUES = {
     "hooks": hooks,
     "images": images,
     "limits": limits,
+    "methods": methods,
     "parts": in_parts,
     "reads": reads,
     "refused": refused,

@@ -4,7 +4,7 @@ use Rattle.http_parse.proofs.request.request_at.Goals as goal
 
 pub returns-in-None : goal.returns-in-None
 returns-in-None c =
-    let h = c.requires.head.1 in rw c.broken.ensures (
+    let h = c.requires.head.1 in rw c.no_head.ensures (
       c.requires.head.0.section.len_fits,
       λ e. absurd (search (e, rules)),
       tt,

@@ -9,5 +9,5 @@ returns c =
     let text = c.as_slice.ensures.value ∙ (c.in_ok-push_props.ensures ∙ ap (λ l. l ++ props_text c.args.copies c.args.bound.now) c.requires) in
     subst
     (λ (b : List ℕ). OnOk c.push_told.result (c.push_told.new.out.items
-    ≡ out ++ print_answer (record (told (codes "200 OK") b) { media = Some (codes "application/json") }) c.args.ends))
+    ≡ out ++ print_answer (record (told (codes "200 OK") b) { media = Some (codes "application/json") }) c.args.how))
     text c.push_told.ensures
