@@ -231,9 +231,9 @@ fn copies_of(asked: u32) -> u32
 fn held_for(alloc: Global, copies: u32, held: Held) -> Result<Held, AllocError>
     requires some { 0 < copies }
     requires few { copies ≤ 3 }
-    ensures placed { IfOk result (λ now. ArePlaced (by_digest copies) held.entry.files.items now.files.items) }
-    ensures settings { IfOk result (λ now. now.settings ≡ held.entry.settings) }
-    ensures hooks { IfOk result (λ now. now.hooks ≡ held.entry.hooks) }
+    ensures placed { IfOk result (λ now. ArePlaced (by_digest copies) held.files.items now.files.items) }
+    ensures settings { IfOk result (λ now. now.settings ≡ held.settings) }
+    ensures hooks { IfOk result (λ now. now.hooks ≡ held.hooks) }
 {
     let Held {
         last,
