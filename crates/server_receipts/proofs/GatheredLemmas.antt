@@ -1,0 +1,92 @@
+-- What is gathered.
+use Rattle.std.proofs.Common.{◌≡◌, ◌⊎◌, inl, inr, ℕ, zero, suc, ◌<◌, ◌≤◌, get_or, List, [], ◌∷◌, ◌++◌, length, drop, refl, sym, ap, ◌∙◌, subst, arith, append_assoc, append-nil, length-append, ⊎_elim, Ok, Err, ◌↔◌}
+use Rattle.std.specs.List.{Contains}
+use Rattle.journal.specs.Entry.{Entry}
+use Rattle.journal.specs.Journals.{IsJournal, MayFollow}
+use Rattle.journal.specs.Logs.{Log}
+use Rattle.cluster_stamps.specs.Rule.{AreInOrder, InOrder, seen}
+use Rattle.cluster_stamps.specs.declared.view.History.{History}
+use Rattle.cluster_stamps.specs.declared.view.News.{News}
+use Rattle.cluster_stamps.specs.declared.view.News.TheVariants as news
+use Rattle.cluster_stamps.specs.declared.view.Told.{Told}
+use Rattle.cluster_vnode.specs.Answers.{AreAnswered, IsSaid, entries_made, entries_of, entry_of_call, log_of}
+use Rattle.cluster_vnode.specs.Gathers.{AreVnodes, Differ, IsGathered, IsHistory, Stands, numbers_of}
+use Rattle.cluster_vnode.proofs.Calls.{length_made}
+use Rattle.cluster_vnode.proofs.Differ.{differ}
+use Rattle.server_receipts.specs.Receipts.{front_of, up_to}
+
+-- ---- what is gathered are journals
+
+module _ (none : (vnode : ℕ) → IsJournal vnode []) (more : (vnode : ℕ) (journal : List Entry) (e : Entry) → IsJournal vnode (journal ++ e ∷ []) ↔ (IsJournal vnode journal × MayFollow vnode journal e)) where
+  said : (vnode stamp : ℕ) (front : List Entry) (n : News) → IsSaid (log_of vnode front) stamp n → IsJournal vnode front → IsJournal vnode (front ++ entries_made stamp n)
+  said vnode stamp front (news.Call asked (Ok told)) h legal = (more vnode front _).1 (legal, h.0)
+  said vnode stamp front (news.Call asked (Err why)) h legal = subst (IsJournal vnode) (sym (append-nil front)) legal
+  said vnode stamp front (news.HandOut first entries) h legal = subst (IsJournal vnode) (sym (append-nil front)) legal
+
+  goes : (vnode at low : ℕ) (front : List Entry) (ts : List Told) → InOrder vnode at low ts → AreAnswered front ts → IsJournal vnode front → IsJournal vnode (front ++ entries_of ts)
+  goes vnode at low front [] order answered legal = subst (IsJournal vnode) (sym (append-nil front)) legal
+  goes vnode at low front (t ∷ ts) order answered legal =
+      let here = said vnode t.stamp front t.news (subst (λ n. IsSaid (log_of n front) t.stamp t.news) order.0 answered.0) legal in
+      subst (IsJournal vnode) (append_assoc front (entry_of_call t) (entries_of ts)) (goes vnode (seen t) (suc t.stamp) (front ++ entry_of_call t) ts order.3 answered.1 here)
+
+  of_history : (v : Log) (h : History) → IsHistory v h → InOrder h.vnode 0 0 h.told → IsJournal v.vnode v.entries
+  of_history v h is order = subst (λ es. IsJournal v.vnode es) is.journal_is (subst (λ n. IsJournal n (entries_of h.told)) is.number_is (goes h.vnode 0 0 [] h.told order is.answered (none h.vnode)))
+
+  each : (vs : List Log) (hs : List History) → AreVnodes vs hs → AreInOrder [] hs → (v : Log) → Contains vs v → IsJournal v.vnode v.entries
+  each [] hs are order v c = absurd (let h = c.1 in omega arith)
+  each (u ∷ us) [] are order v c = absurd are
+  each (u ∷ us) (h ∷ hs) are order v c =
+      ⊎_elim (λ (here : u ≡ v). subst (λ (y : Log). IsJournal y.vnode y.entries) here (of_history u h are.0 order.0)) (λ (there : Contains us v). each us hs are.1 order.2 v there) (log_cases u us v c)
+    where
+      log_cases : (u : Log) (us : List Log) (v : Log) → Contains (u ∷ us) v → (u ≡ v) ⊎ Contains us v
+      log_cases u us v c = at c.0 c.1 c.2
+        where
+          at : (k : ℕ) → k < length (u ∷ us) → get_or (u ∷ us) k v ≡ v → (u ≡ v) ⊎ Contains us v
+          at zero h e = inl e
+          at (suc k) h e = inr (k, (let l = h in omega arith), e)
+
+  pub are_journals : (told : List Told) (logs : List Log) → IsGathered told logs → (log : Log) → Contains logs log → IsJournal log.vnode log.entries
+  are_journals told logs (hs, are, whole) log c = each logs hs are whole.ordered log c
+
+pub differ_all : (told : List Told) (logs : List Log) → IsGathered told logs → Differ logs
+differ_all told logs (hs, are, whole) = differ logs hs are whole.alone
+
+-- ---- of two fronts of one journal the longer goes on behind the shorter
+
+number_there : (vs : List Log) (k : ℕ) (v : Log) → k < length vs → get_or vs k v ≡ v → (k < length (numbers_of vs)) × (get_or (numbers_of vs) k 0 ≡ v.vnode)
+number_there [] k v lt e = absurd (omega arith)
+number_there (u ∷ us) zero v lt e = (omega arith, ap (λ (y : Log). y.vnode) e)
+number_there (u ∷ us) (suc k) v lt e = let r = number_there us k v (let l = lt in omega arith) e in ((let l = r.0 in omega arith), r.1)
+
+same_place : (vs : List Log) (k : ℕ) (v w : Log) → k < length vs → get_or vs k v ≡ get_or vs k w
+same_place [] k v w lt = absurd (omega arith)
+same_place (u ∷ us) zero v w lt = refl
+same_place (u ∷ us) (suc k) v w lt = same_place us k v w (let l = lt in omega arith)
+
+-- two vnodes with one identifier are one
+one_vnode : (vs : List Log) (v w : Log) → Differ vs → Contains vs v → Contains vs w → v.vnode ≡ w.vnode → v ≡ w
+one_vnode vs v w apart a b e =
+    let p = number_there vs a.0 v a.1 a.2 in
+    let q = number_there vs b.0 w b.1 b.2 in
+    let same : a.0 ≡ b.0 = apart a.0 b.0 p.0 q.0 (p.1 ∙ e ∙ sym q.1) in
+    sym a.2 ∙ ap (λ k. get_or vs k v) same ∙ same_place vs b.0 v w b.1 ∙ b.2
+
+longer : (a b c d : List Entry) → a ++ b ≡ c ++ d → length a ≤ length c → (more : List Entry) × (c ≡ a ++ more)
+longer [] b c d e le = (c, refl)
+longer (x ∷ a) b [] d e le = absurd (omega (arith, le))
+longer (x ∷ a) b (y ∷ c) d e le =
+    let rest = longer a b c d (ap (drop 1) e) (let l = le in omega arith) in
+    (rest.0, ap (λ (z : Entry). z ∷ c) (sym (heads x y (a ++ b) (c ++ d) e)) ∙ ap (λ (l : List Entry). x ∷ l) rest.1)
+  where
+    heads : (x y : Entry) (l m : List Entry) → x ∷ l ≡ y ∷ m → x ≡ y
+    heads x y l m e = ap (λ (k : List Entry). get_or k 0 x) e
+
+pub go_on : (logs : List Log) → Differ logs → (t u : Told) (up : Stands logs t) (later : Stands logs u) → t.vnode ≡ u.vnode → seen t ≤ u.at
+    → (more : List Entry) × ((front_of logs u later).entries ≡ up_to logs t up ++ more)
+go_on logs apart t u up later same le =
+    let one : up.0 ≡ later.0 = one_vnode logs up.0 later.0 apart up.1 later.1 (up.2 ∙ same ∙ sym later.2) in
+    let whole : up_to logs t up ++ up.3.1 ≡ later.3.0 ++ (entry_of_call u ++ later.3.1) =
+    append_assoc up.3.0 (entry_of_call t) up.3.1 ∙ sym up.3.2 ∙ ap (λ (l : Log). l.entries) one ∙ later.3.2 in
+    let long : length (up_to logs t up) ≤ length later.3.0 =
+    (let l = le in let a = up.3.3 in let b = later.3.3 in omega (arith, length-append up.3.0 (entry_of_call t), length_made t.stamp t.news, a, b, l)) in
+    longer (up_to logs t up) up.3.1 later.3.0 (entry_of_call u ++ later.3.1) whole long
