@@ -22,7 +22,7 @@ use Rattle.dvvstore.proofs.VisitLemmas.{visits_gathered}
 use Rattle.dvvstore.specs.Asides.{AreGathered}
 use Rattle.dvvstore.specs.Crews.{by_digest}
 use Rattle.dvvstore.specs.Keeping.{HasServed, LeavesServed, left_as}
-use Rattle.dvvstore.specs.Visits.{AfterVisits, AreBegun, AreOfTables, AreStarts, HaveBegun, IsLastBegun, IsOver}
+use Rattle.dvvstore.specs.Visits.{AfterAnswers, AreBegun, AreOfTables, AreStarts, HaveBegun, IsLastBegun, IsOver}
 use Rattle.dvvstore.specs.declared.crew.running.Served.{Served}
 use Rattle.dvvstore.specs.declared.keeper.Unbegun.{Unbegun}
 use Rattle.dvvstore.specs.declared.session.Left.{Left}
@@ -63,7 +63,7 @@ module _ {H : Type 0} (finds : H → List ℕ → ImageKind → Result (Option P
 
   -- what a crew leaves
   pub served_from : {E B : Type 0} → (held : Option (List ℕ)) (starts now : List (StoreView Passing H)) (id vnodes : ℕ) (spares : Passes B) (served : Result Served E) → AreStarts takes held starts now → vnodes ≡ 3
-      → IfOk served (λ s. AfterVisits finds names takes now (λ told. AreGathered id told spares s.closed.vnodes.items) × (vec_len s.closed.vnodes ≡ vnodes))
+      → IfOk served (λ s. AfterAnswers finds names takes now s.closed.vnodes.items (λ told. AreGathered id told spares s.closed.vnodes.items) × (vec_len s.closed.vnodes ≡ vnodes))
       → IfOk served (HasServed finds names takes (AreStarts takes held starts))
   served_from held starts now id vnodes spares (Ok s) are three (kept, many) = (now, are, visits_gathered finds names takes now id spares s.closed.vnodes.items kept, many ∙ three)
   served_from held starts now id vnodes spares (Err why) are three so = so

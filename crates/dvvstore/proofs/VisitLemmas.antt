@@ -1,6 +1,8 @@
 -- On the visits of workers.
 use Rattle.std.proofs.Common.{◌≡◌, ◌∙◌, ◌+◌, ℕ, suc, ◌<◌, List, [], ◌∷◌, ◌++◌, Option, Some, None, Result, Ok, Err, IfOk, ap, refl, sym, subst, arith, append-nil, append_assoc, flat_map, length, map}
 use Rattle.std.specs.Prelude.{slice_index_or}
+use Rattle.std.specs.List.{Contains}
+use Rattle.std.proofs.lemmas.List.Elements.{Contains-append_left, Contains-append_right}
 use Rattle.bpf_image.specs.declared.image.ImageKind.{ImageKind}
 use Rattle.bpf_verifier.specs.Program.{Program}
 use Rattle.bpf_helpers.specs.declared.sig.Entry.{Entry}
@@ -35,12 +37,13 @@ use Rattle.kept_restore.specs.Loads.{HasLoaded}
 use Rattle.record_codec.specs.declared.record.Record.{Record}
 use Rattle.dvvstore.proofs.Among.{each_among}
 use Rattle.dvvstore.proofs.Staying.{three_begin}
-use Rattle.dvvstore.specs.Asides.{AreGathered}
+use Rattle.server_receipts.specs.Receipts.{AreToldBy}
+use Rattle.dvvstore.specs.Asides.{AreGathered, WithAsides}
 use Rattle.dvvstore.specs.Keeping.{HasBegunWith}
 use Rattle.dvvstore.specs.declared.crew.running.Served.{Served}
 use Rattle.dvvstore.specs.declared.keeper.Begun.{Begun}
 use Rattle.kept_restore.specs.declared.beginning.Passes.{Passes}
-use Rattle.dvvstore.specs.Visits.{AfterVisits, AreVisits, HasAll, HasLed, HasVisited, HaveVisited, IsVisit, Leads, begun, told_with}
+use Rattle.dvvstore.specs.Visits.{AfterAnswers, AfterAnswersOf, AllTellOf, AreVisits, HasAll, HasLed, HasVisited, HaveVisited, IsVisit, Leads, begun, told_with}
 
 -- ---- turn by turn
 
@@ -185,14 +188,14 @@ module _ {H : Type 0} (finds : H → List ℕ → ImageKind → Result (Option P
 -- what spare passes had been told stands among it
 pub gathered_after : {H B : Type 0} (finds : H → List ℕ → ImageKind → Result (Option Program) NotSeen → H → Type 0) (names : H → List ℕ → ImageKind → Result (Option (List ℕ)) NameFault → H → Type 0)
     (takes : H → Change → Result Unit HookFault → H → Type 0) (starts : List (StoreView Passing H)) (id : ℕ) (spares : Passes B) (logs : List JournalLog)
-    → AfterVisits finds names takes starts (λ told. AreGathered id told spares logs) → (told : List Told) × AreGathered id told spares logs
-gathered_after finds names takes starts id spares logs (calls, visits, gathered) = (told_with starts calls, gathered)
+    → AfterAnswers finds names takes starts logs (λ told. AreGathered id told spares logs) → (told : List Told) × AreGathered id told spares logs
+gathered_after finds names takes starts id spares logs (calls, visits, gathered, tell) = (told_with starts calls, gathered)
 
 -- what the workers were told stands among it
 pub visits_gathered : {H B : Type 0} (finds : H → List ℕ → ImageKind → Result (Option Program) NotSeen → H → Type 0) (names : H → List ℕ → ImageKind → Result (Option (List ℕ)) NameFault → H → Type 0)
     (takes : H → Change → Result Unit HookFault → H → Type 0) (starts : List (StoreView Passing H)) (id : ℕ) (spares : Passes B) (logs : List JournalLog)
-    → AfterVisits finds names takes starts (λ told. AreGathered id told spares logs) → AfterVisits finds names takes starts (λ told. HasAll told logs)
-visits_gathered finds names takes starts id spares logs (calls, visits, (spare, watched, spared, its, gathered)) = (calls, visits, (spare ++ watched, gathered))
+    → AfterAnswers finds names takes starts logs (λ told. AreGathered id told spares logs) → AfterAnswers finds names takes starts logs (λ told. HasAll told logs)
+visits_gathered finds names takes starts id spares logs (calls, visits, (spare, watched, spared, its, gathered), tell) = (calls, visits, (spare ++ watched, gathered), tell)
 
 -- what holds of an answer, by what two clauses say of it
 pub if_both : {T E : Type 0} (r : Result T E) (P Q R : T → Type 0) → ((v : T) → P v → Q v → R v) → IfOk r P → IfOk r Q → IfOk r R
@@ -207,7 +210,7 @@ LoadsStand = (before after : List Told) (old new : View) (logs : List JournalLog
 pub begins_from : {H F B E : Type 0} (finds : H → List ℕ → ImageKind → Result (Option Program) NotSeen → H → Type 0) (names : H → List ℕ → ImageKind → Result (Option (List ℕ)) NameFault → H → Type 0)
     (takes : H → Change → Result Unit HookFault → H → Type 0) (starts : List (StoreView Passing H)) (folder : Option F) (first : ℕ) (files : List KeptFile) (begun : Begun B) (served : Result Served E) (More : Served → Type 0)
     → LoadsStand → HasBegunWith folder first files begun
-    → IfOk served (λ s. AfterVisits finds names takes starts (λ told. AreGathered first told begun.spares s.closed.vnodes.items) × More s)
+    → IfOk served (λ s. AfterAnswers finds names takes starts s.closed.vnodes.items (λ told. AreGathered first told begun.spares s.closed.vnodes.items) × More s)
     → IfOk served (λ s. BeginWithFiles s.closed.vnodes.items first files 3)
 begins_from finds names takes starts folder first files begun (Err why) More stand has kept = kept
 begins_from finds names takes starts folder first files begun (Ok s) More stand (one, two, three, a, b, c, fronts, number) kept =
@@ -218,3 +221,42 @@ begins_from finds names takes starts folder first files begun (Ok s) More stand 
     (stand each.0.0 each.0.1 one begun.spares.first logs (first + 0) (records_at files 0) each.0.2 a)
     (stand each.1.0 each.1.1 two begun.spares.second logs (first + 1) (records_at files 1) each.1.2 b)
     (stand each.2.0 each.2.1 three begun.spares.third logs (first + 2) (records_at files 2) each.2.2 c)
+
+-- ---- what answers tell
+
+module _ {H : Type 0} (finds : H → List ℕ → ImageKind → Result (Option Program) NotSeen → H → Type 0)
+    (names : H → List ℕ → ImageKind → Result (Option (List ℕ)) NameFault → H → Type 0) (takes : H → Change → Result Unit HookFault → H → Type 0)
+    (law : (told : List Told) (logs : List JournalLog) → IsGathered told logs → (start end : StoreView Passing H) (xs : List Exchange) (owns : List (List Told))
+    → AreCallsOf (GivesUnnoted PassCalls finds names takes) told_by start xs owns end → ((t : Told) → Contains (all_calls owns) t → Contains told t) → AreToldBy finds names takes logs start xs owns end) where
+  -- where the calls of all visits stand among what was gathered, all answers tell of the journals
+  all_tell : (all : List Told) (logs : List JournalLog) → IsGathered all logs → (starts : List (StoreView Passing H)) (calls : List (List Told)) (visits : AreVisits finds names takes starts calls)
+      → ((t : Told) → Contains (told_with starts calls) t → Contains all t) → AllTellOf finds names takes logs starts calls visits
+  all_tell all logs gathered [] [] visits within = tt
+  all_tell all logs gathered [] (calls ∷ rest) none within = absurd none
+  all_tell all logs gathered (start ∷ starts) [] none within = absurd none
+  all_tell all logs gathered (start ∷ starts) (calls ∷ rest) (visit, visits) within = (
+    law all logs gathered start visit.end (all_parts visit.log) visit.owns visit.made (λ t c.
+        within t (Contains-append_left (told_by start ++ calls) (told_with starts rest) t (Contains-append_right (told_by start) calls t (subst (λ (l : List Told). Contains l t) (sym visit.all) c)))),
+    all_tell all logs gathered starts rest visits (λ t c. within t (Contains-append_right (told_by start ++ calls) (told_with starts rest) t c)),
+  )
+
+  -- so they do of the journals that are left
+  pub answers_after : {B : Type 0} (starts : List (StoreView Passing H)) (id : ℕ) (spares : Passes B) (logs : List JournalLog) (calls : List (List Told)) (visits : AreVisits finds names takes starts calls)
+      → AreGathered id (told_with starts calls) spares logs → AfterAnswers finds names takes starts logs (λ told. AreGathered id told spares logs)
+  answers_after starts id spares logs calls visits (spare, watched, spared, its, gathered) = (
+    calls,
+    visits,
+    (spare, watched, spared, its, gathered),
+    all_tell (told_with starts calls ++ (spare ++ watched)) logs gathered starts calls visits (λ t c. Contains-append_left (told_with starts calls) (spare ++ watched) t c),
+  )
+
+  -- and of whatever journals hold all that was told
+  pub answers_of : {B : Type 0} (starts : List (StoreView Passing H)) (id : ℕ) (spares : Passes B) (Says : List Told → Type 0) (calls : List (List Told)) (visits : AreVisits finds names takes starts calls)
+      → WithAsides id spares Says (told_with starts calls) → AfterAnswersOf finds names takes starts (λ told all. WithAsides id spares (λ these. (these ≡ all) × Says all) told)
+  answers_of starts id spares Says calls visits (spare, watched, spared, its, says) = (
+    calls,
+    visits,
+    told_with starts calls ++ (spare ++ watched),
+    (spare, watched, spared, its, (refl, says)),
+    λ logs gathered. all_tell (told_with starts calls ++ (spare ++ watched)) logs gathered starts calls visits (λ t c. Contains-append_left (told_with starts calls) (spare ++ watched) t c),
+  )

@@ -26,7 +26,7 @@ use Rattle.kept_restore.specs.Loads.{HasLoaded}
 use Rattle.cluster_stamps.specs.declared.view.View.{View}
 use Rattle.server_one_thread.specs.Passes.{Passing}
 use Rattle.server_store.specs.View.{StoreView}
-use Rattle.dvvstore.specs.Visits.{AfterVisits, HasAll}
+use Rattle.dvvstore.specs.Visits.{AfterAnswers, HasAll}
 use Rattle.dvvstore.specs.declared.crew.running.Served.{Served}
 use Rattle.dvvstore.specs.declared.keeper.Begun.{Begun}
 use Rattle.dvvstore.specs.declared.keeper.Door.{Door}
@@ -109,10 +109,11 @@ LeavesFolded folder first held (Err why) = Unit {0}
 
 module _ {H : Type 0} (finds : H → List ℕ → ImageKind → Result (Option Program) NotSeen → H → Type 0)
     (names : H → List ℕ → ImageKind → Result (Option (List ℕ)) NameFault → H → Type 0) (takes : H → Change → Result Unit HookFault → H → Type 0) where
-  -- What is left of a store whose workers began so: each had its visit, and in the journals of three vnodes stands what they were told, each of it once.
+  -- What is left of a store whose workers began so: each had its visit, in the journals of three vnodes stands what they were told, each of it once, and each of their
+  -- answers tells of these journals.
   abbrev pub HasServed : (List (StoreView Passing H) → Type 0) → Served → Type 0
   HasServed Begins served =
-      (starts : List (StoreView Passing H)) × Begins starts × AfterVisits finds names takes starts (λ told. HasAll told served.closed.vnodes.items) × (vec_len served.closed.vnodes ≡ 3)
+      (starts : List (StoreView Passing H)) × Begins starts × AfterAnswers finds names takes starts served.closed.vnodes.items (λ told. HasAll told served.closed.vnodes.items) × (vec_len served.closed.vnodes ≡ 3)
 
   -- so it is, where vnodes are left
   abbrev pub LeavesServed : (List (StoreView Passing H) → Type 0) → Result Left Unbegun → Type 0

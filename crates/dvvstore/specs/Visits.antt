@@ -27,6 +27,7 @@ use Rattle.cluster_vnode.specs.Gathers.{IsGathered}
 use Rattle.server_store.specs.View.{StoreView, shown}
 use Rattle.dvvstore.specs.Crews.{by_digest}
 use Rattle.server_one_thread.specs.Passes.{AreCallsOf, GivesUnnoted, PassCalls, Passing, all_calls, told_by}
+use Rattle.server_receipts.specs.Receipts.{AreToldBy}
 
 -- a store as it begins on so many vnodes, as a pass shows it: what the pass knows, the hooks, the helpers that these may call, and where keys stand
 abbrev pub begun : {H : Type 0} → Size → View → H → List Entry → PlacementView → StoreView Passing H
@@ -120,6 +121,25 @@ module _ {H : Type 0} (finds : H → List ℕ → ImageKind → Result (Option P
   HaveVisited (start ∷ starts) [] = ⊥
   HaveVisited (start ∷ starts) (back ∷ rest) = HasVisited start back × HaveVisited starts rest
 
-  -- each store had its visit, and this is so of what the passes had been told before and the calls of the visits
-  abbrev pub AfterVisits : List (StoreView Passing H) → (List Told → Type 0) → Type 0
-  AfterVisits starts Says = (calls : List (List Told)) × AreVisits starts calls × Says (told_with starts calls)
+  -- what a worker's answers tell is so of these journals: of each exchange of its connections, by the receipts of its own calls
+  abbrev pub TellsOf : (logs : List JournalLog) (start : StoreView Passing H) (calls : List Told) → IsVisit start calls → Type 0
+  TellsOf logs start calls visit = AreToldBy finds names takes logs start (all_parts visit.log) visit.owns visit.end
+
+  -- so it is of each worker
+  abbrev pub AllTellOf : (logs : List JournalLog) (starts : List (StoreView Passing H)) (calls : List (List Told)) → AreVisits starts calls → Type 0
+  AllTellOf logs [] [] visits = Unit {0}
+  AllTellOf logs [] (calls ∷ rest) visits = ⊥
+  AllTellOf logs (start ∷ starts) [] visits = ⊥
+  AllTellOf logs (start ∷ starts) (calls ∷ rest) visits = TellsOf logs start calls visits.0 × AllTellOf logs starts rest visits.1
+
+  -- each store had its visit, this is so of what the passes had been told before and the calls of the visits, and all answers tell of
+  -- these journals
+  abbrev pub AfterAnswers : List (StoreView Passing H) → List JournalLog → (List Told → Type 0) → Type 0
+  AfterAnswers starts logs Says = (calls : List (List Told)) × (visits : AreVisits starts calls) × Says (told_with starts calls) × AllTellOf logs starts calls visits
+
+  -- each store had its visit, this is so of what the passes had been told before and the calls of the visits, and all answers tell of
+  -- whatever journals hold all that was told
+  abbrev pub AfterAnswersOf : List (StoreView Passing H) → (List Told → List Told → Type 0) → Type 0
+  AfterAnswersOf starts Says =
+      (calls : List (List Told)) × (visits : AreVisits starts calls) × (all : List Told) × Says (told_with starts calls) all
+      × ((logs : List JournalLog) → IsGathered all logs → AllTellOf logs starts calls visits)

@@ -3,7 +3,7 @@
 ghost use Rattle.std.specs.Prelude.{◌≡◌, ◌+◌, ◌++◌, ◌≤◌, [], IfOk, map, vec_len};
 ghost use Rattle.audit_cluster.specs.Following.{IsFollowedTo, IsSaidOf};
 ghost use Rattle.dvvstore.specs.Asides.{AllRead, AreGathered, WithAsides, passes_of};
-ghost use Rattle.dvvstore.specs.Visits.{AfterVisits, HaveVisited, begun};
+ghost use Rattle.dvvstore.specs.Visits.{AfterAnswers, AfterAnswersOf, HaveVisited, begun};
 
 use crate::crew::signs::Signs;
 use crate::crew::working::{Lookout, Seat, Shared, work_attended};
@@ -127,7 +127,8 @@ pub struct Served {
 /// the passes that brought these. Where no fronts are named nothing was there before. Once all workers have ended, the cluster is gathered,
 /// and what is left of the journals is followed; the vnodes are handed back, whatever is said of them. In their journals stands what the
 /// workers were told, what these passes had been told before and then of reads, and what the watch was told, which has vnodes hand out and
-/// start again and does nothing else.
+/// start again and does nothing else. Each answer of a worker tells of these journals, by the receipts of its own calls: a read's is
+/// current among what they had brought before, and a write's dot is that of its entry, which as many vnodes as were asked for know.
 ///
 /// The error: memory was refused before the vnodes were gathered, and they are lost; some workers may have answered no connection then.
 pub fn serve<
@@ -144,10 +145,11 @@ pub fn serve<
 ) -> Result<Served, AllocError>
     requires first { cluster.first ≡ B.first }
     requires all { cluster.passes ≤ vec_len crew.seats + 4 }
-    ensures kept { IfOk result (λ served. AfterVisits H.finds H.names H.takes (map (λ s. begun cluster s.pass s.hooking.hooks s.hooking.table.listed s.placement) crew.seats.items) (λ told. AreGathered cluster.first told crew.spares served.closed.vnodes.items) × (vec_len served.closed.vnodes ≡ cluster.vnodes)) }
+    // Each answer of a worker tells of the journals that are left, by the receipts of its own calls.
+    ensures kept { IfOk result (λ served. AfterAnswers H.finds H.names H.takes (map (λ s. begun cluster s.pass s.hooking.hooks s.hooking.table.listed s.placement) crew.seats.items) served.closed.vnodes.items (λ told. AreGathered cluster.first told crew.spares served.closed.vnodes.items) × (vec_len served.closed.vnodes ≡ cluster.vnodes)) }
     ensures said { IfOk result (λ served. IsSaidOf fronts.now served.closed.vnodes.items served.closed.said) }
     // Where nothing was there before, a yes is that of the journals from their first entries on.
-    ensures followed { IfOk result (λ served. fronts.now ≡ [] → AfterVisits H.finds H.names H.takes (map (λ s. begun cluster s.pass s.hooking.hooks s.hooking.table.listed s.placement) crew.seats.items) (WithAsides cluster.first crew.spares (λ all. IsFollowedTo all cluster.vnodes served.closed.said))) }
+    ensures followed { IfOk result (λ served. fronts.now ≡ [] → AfterAnswersOf H.finds H.names H.takes (map (λ s. begun cluster s.pass s.hooking.hooks s.hooking.table.listed s.placement) crew.seats.items) (λ told all. WithAsides cluster.first crew.spares (λ these. (these ≡ all) × IsFollowedTo all cluster.vnodes served.closed.said) told)) }
 {
     let Back {
         passes,
@@ -155,6 +157,7 @@ pub fn serve<
         watch,
         requests,
     } = run(host, &cluster, crew, lobby)?;
+    server_receipts::laws::answers_are_by_receipts::<H>();
     let passes = all_passes(passes, spares)?;
     let closed = close_watched(host.alloc, cluster, passes, watch, fronts)?;
     Ok(Served { closed, requests })

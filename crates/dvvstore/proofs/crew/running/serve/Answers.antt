@@ -5,7 +5,7 @@ use Rattle.cluster_stamps.specs.declared.view.View.{View}
 use Rattle.cluster_vnode.specs.Gathers.{IsGathered}
 use Rattle.dvvstore.specs.Asides.{WithAsides, passes_of}
 use Rattle.dvvstore.proofs.Among.{told_before, with_asides}
-use Rattle.dvvstore.proofs.VisitLemmas.{told_after}
+use Rattle.dvvstore.proofs.VisitLemmas.{answers_after, answers_of, told_after}
 use Rattle.dvvstore.proofs.crew.running.serve.Goals as goal
 
 pub returns-clause-kept : goal.returns-clause-kept
@@ -14,8 +14,11 @@ returns-clause-kept g c =
     let back = c.in_ok-passes.field-0 in
     let logs = c.in_ok-closed.closed.vnodes.items in
     let told = with_asides c.args.cluster.first c.args.crew.spares back.spares (λ (ts : List Told). IsGathered ts logs) back.passes.items c.in_ok-passes-2.passes.items back.watch.told
-    c.in_ok-passes-2.ensures.all c.in_ok-passes.ensures.spares c.in_ok-closed.ensures.watched c.in_ok-closed.ensures.kept.0 in
-    ((all.0, all.1, subst (WithAsides c.args.cluster.first c.args.crew.spares (λ (ts : List Told). IsGathered ts logs)) all.2 told), c.in_ok-closed.ensures.kept.1)
+    c.in_ok-passes-2.ensures.all c.in_ok-passes.ensures.spares c.in_ok-closed.ensures.watched c.in_ok-closed.ensures.kept.0 in (
+      answers_after g.H.Hooks.finds g.H.Hooks.names g.H.HookChanges.takes c.answers_are_by_receipts.ensures _ c.args.cluster.first c.args.crew.spares logs all.0 all.1
+      (subst (WithAsides c.args.cluster.first c.args.crew.spares (λ (ts : List Told). IsGathered ts logs)) all.2 told),
+      c.in_ok-closed.ensures.kept.1,
+    )
 
 pub returns-clause-followed : goal.returns-clause-followed
 returns-clause-followed g c none =
@@ -25,4 +28,5 @@ returns-clause-followed g c none =
     let Follows : List Told → Type 0 = λ ts. IsFollowedTo ts c.args.cluster.vnodes said in
     let told = with_asides c.args.cluster.first c.args.crew.spares back.spares Follows back.passes.items c.in_ok-passes-2.passes.items back.watch.told
     c.in_ok-passes-2.ensures.all c.in_ok-passes.ensures.spares c.in_ok-closed.ensures.watched (c.in_ok-closed.ensures.followed none) in
-    (all.0, all.1, subst (WithAsides c.args.cluster.first c.args.crew.spares Follows) all.2 told)
+    answers_of g.H.Hooks.finds g.H.Hooks.names g.H.HookChanges.takes c.answers_are_by_receipts.ensures _ c.args.cluster.first c.args.crew.spares Follows all.0 all.1
+    (subst (WithAsides c.args.cluster.first c.args.crew.spares Follows) all.2 told)
