@@ -16,7 +16,7 @@ returns-clause-kept g c =
     let told = with_asides c.args.cluster.first c.args.crew.spares back.spares (λ (ts : List Told). IsGathered ts logs) back.passes.items c.in_ok-passes-2.passes.items back.watch.told
     c.in_ok-passes-2.ensures.all c.in_ok-passes.ensures.spares c.in_ok-closed.ensures.watched c.in_ok-closed.ensures.kept.0 in (
       answers_after g.H.Hooks.finds g.H.Hooks.names g.H.HookChanges.takes c.answers_are_by_receipts.ensures _ c.args.cluster.first c.args.crew.spares logs all.0 all.1
-      (subst (WithAsides c.args.cluster.first c.args.crew.spares (λ (ts : List Told). IsGathered ts logs)) all.2 told),
+          (subst (WithAsides c.args.cluster.first c.args.crew.spares (λ (ts : List Told). IsGathered ts logs)) all.2 told),
       c.in_ok-closed.ensures.kept.1,
     )
 
