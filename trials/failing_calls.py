@@ -76,7 +76,7 @@ def try_start(found: Findings, program: Path, folder: Path, least: int, most: in
 def try_failing(found: Findings, program: Path, failing: Failing) -> None:
     """Two snapshots of a store that was given a second key, of which the first fails."""
     what, first, both = f"{failing.file} {failing.calls}", kept.VNODES, 2 * kept.VNODES
-    with kept.folders() as folder:
+    with kept.folders(**{kept.SETTINGS: kept.THREE_COPIES}) as folder:
         with Server.keep(program, folder) as server:
             kept.put(server, "first", b"1")
             server.stop_in_order()

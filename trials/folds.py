@@ -33,7 +33,6 @@ class Size:
 
 FULL, SHORT = Size(starts=60), Size(starts=14)
 
-THREE_COPIES = b"copies 3\n"
 MOST_FORMER_ENTRIES = 32
 FOLD_INDEX = 254
 KEYS = ("one", "pair", "gone")
@@ -150,7 +149,7 @@ def try_torn(found: Findings, program: Path, folder: Path, book: Book, before: d
 
 def run(program: Path, seed: int, size: Size) -> Result:
     found, book, mixed = Findings(), Book(), 0
-    with kept.folders(**{kept.SETTINGS: kept.NO_SNAPSHOTS_BY_ITSELF + THREE_COPIES}) as folder:
+    with kept.folders(**{kept.SETTINGS: kept.NO_SNAPSHOTS_BY_ITSELF + kept.THREE_COPIES}) as folder:
         for start in range(size.starts):
             before = kept.contents(folder) if book.is_to_be_folded() and not mixed else None
             one_start(found, program, folder, book, start)

@@ -14,6 +14,7 @@ from server import AT_A_PORT_OF_THE_SYSTEM, Client, Server
 
 VNODES = 3
 SETTINGS = "settings"
+THREE_COPIES = b"copies 3\n"
 LOCK = "lock"
 NUMBER = "incarnation"
 NO_SNAPSHOTS_BY_ITSELF = b"snapshot 0\n"

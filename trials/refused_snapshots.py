@@ -157,7 +157,7 @@ def is_told_stop(end: End | None, loaded: int | None) -> bool:
 
 def run(program: Path, seed: int, size: Size) -> Result:
     found, chance = Findings(), random.Random(seed)
-    with kept.folders() as folder:
+    with kept.folders(**{kept.SETTINGS: kept.THREE_COPIES}) as folder:
         refusals = Refusals(folder.parent)
         of_snapshots, of_stops = refusals.each(), refusals.each()
         if size.snapshots != ALL:
