@@ -32,40 +32,40 @@ type Line = (&'static [u8], &'static [u8]);
 const FIRST: [Line; 3] = [
     (
         b"PUT /hooks/no HTTP/1.1\r\nHost: h\r\nContent-Length: 32\r\n\r\nRBPF\x01\x01\x00\x00\x80\x00\x00\x00\x00\x00\x00\x00\xb7\x00\x00\x00\x01\x01\x00\x00\x95\x00\x00\x00\x00\x00\x00\x00",
-        b"HTTP/1.1 204 No Content\r\n\r\n",
+        b"HTTP/1.1 204 No Content\r\nX-Content-Type-Options: nosniff\r\nServer: dvvstore\r\n\r\n",
     ),
     (
         b"PUT /buckets/b/props HTTP/1.1\r\nHost: h\r\nContent-Length: 28\r\n\r\n{\"props\":{\"precommit\":\"no\"}}",
-        b"HTTP/1.1 204 No Content\r\n\r\n",
+        b"HTTP/1.1 204 No Content\r\nX-Content-Type-Options: nosniff\r\nServer: dvvstore\r\n\r\n",
     ),
     (
         b"PUT /buckets/c/keys/k HTTP/1.1\r\nHost: h\r\nContent-Type: text/plain\r\nContent-Length: 1\r\n\r\nc",
-        b"HTTP/1.1 204 No Content\r\nX-Riak-Tag: 0-1\r\n\r\n",
+        b"HTTP/1.1 204 No Content\r\nX-Riak-Tag: 0-1\r\nX-Content-Type-Options: nosniff\r\nServer: dvvstore\r\n\r\n",
     ),
 ];
 
 /// Another key is written, behind the first snapshot.
 const LATER: [Line; 1] = [(
     b"PUT /buckets/d/keys/k HTTP/1.1\r\nHost: h\r\nContent-Type: text/plain\r\nContent-Length: 1\r\n\r\nd",
-    b"HTTP/1.1 204 No Content\r\nX-Riak-Tag: 1-1\r\n\r\n",
+    b"HTTP/1.1 204 No Content\r\nX-Riak-Tag: 1-1\r\nX-Content-Type-Options: nosniff\r\nServer: dvvstore\r\n\r\n",
 )];
 
 /// The first key is there, and the hook judges.
 const BOTH: [Line; 2] = [
     (
         b"GET /buckets/c/keys/k HTTP/1.1\r\nHost: h\r\n\r\n",
-        b"HTTP/1.1 200 OK\r\nContent-Type: text/plain\r\nX-Riak-Vclock: AgABAAAAAAAAAAAAAAE=\r\nContent-Length: 1\r\n\r\nc",
+        b"HTTP/1.1 200 OK\r\nContent-Type: text/plain\r\nX-Riak-Vclock: AgABAAAAAAAAAAAAAAE=\r\nContent-Length: 1\r\nX-Content-Type-Options: nosniff\r\nServer: dvvstore\r\n\r\nc",
     ),
     (
         b"PUT /buckets/b/keys/k HTTP/1.1\r\nHost: h\r\nContent-Length: 1\r\n\r\nb",
-        b"HTTP/1.1 403 Forbidden\r\nContent-Type: text/plain\r\nContent-Length: 5\r\n\r\nX3 1\n",
+        b"HTTP/1.1 403 Forbidden\r\nContent-Type: text/plain\r\nContent-Length: 5\r\nX-Content-Type-Options: nosniff\r\nServer: dvvstore\r\n\r\nX3 1\n",
     ),
 ];
 
 /// So is the other key.
 const STOPPED: [Line; 1] = [(
     b"GET /buckets/d/keys/k HTTP/1.1\r\nHost: h\r\n\r\n",
-    b"HTTP/1.1 200 OK\r\nContent-Type: text/plain\r\nX-Riak-Vclock: AgABAQAAAAAAAAAAAAE=\r\nContent-Length: 1\r\n\r\nd",
+    b"HTTP/1.1 200 OK\r\nContent-Type: text/plain\r\nX-Riak-Vclock: AgABAQAAAAAAAAAAAAE=\r\nContent-Length: 1\r\nX-Content-Type-Options: nosniff\r\nServer: dvvstore\r\n\r\nd",
 )];
 
 /// What a client of one start asks, before a snapshot and behind it. Another is waited for then: it has begun behind all that was asked
@@ -91,6 +91,13 @@ const ROUNDS: [Round; 3] = [
         later: &[],
     },
 ];
+
+/// What a client asks, and where.
+#[derive(Clone, Copy)]
+struct Errand {
+    addr: SocketAddr,
+    round: Round,
+}
 
 /// What a client saw of a start.
 #[derive(Drop)]
@@ -186,11 +193,11 @@ fn asks<R: Net<Listener = TcpListener, Stream = TcpStream> + Wait>(
 /// The same, and stops the server.
 fn visit<R: Net<Listener = TcpListener, Stream = TcpStream> + Wait>(
     folder: Shared<'_, R>,
-    hall: &Hall,
-    round: Round,
+    lobby: &Lobby,
+    asked: &Errand,
 ) -> io::Result<Seen> {
-    let seen = asks(folder, hall.addr, round);
-    hall.lobby.stop();
+    let seen = asks(folder, asked.addr, asked.round);
+    lobby.stop();
     seen
 }
 
@@ -256,9 +263,14 @@ fn both<R: Threads + Wait + Sync + Net<Listener = TcpListener, Stream = TcpStrea
     hall: &Hall,
     round: Round,
 ) -> (io::Result<Seen>, Result<Left, Unbegun>) {
+    let lobby = &hall.lobby;
+    let asked = &Errand {
+        addr: hall.addr,
+        round,
+    };
     thread::join(
         folder.rt,
-        || { visit(folder, hall, round) },
+        || { visit(folder, lobby, asked) },
         || { serve(folder, begun, hall) },
     )
 }
