@@ -92,6 +92,13 @@ const ROUNDS: [Round; 3] = [
     },
 ];
 
+/// What a client asks, and where.
+#[derive(Clone, Copy)]
+struct Errand {
+    addr: SocketAddr,
+    round: Round,
+}
+
 /// What a client saw of a start.
 #[derive(Drop)]
 struct Seen {
@@ -186,11 +193,11 @@ fn asks<R: Net<Listener = TcpListener, Stream = TcpStream> + Wait>(
 /// The same, and stops the server.
 fn visit<R: Net<Listener = TcpListener, Stream = TcpStream> + Wait>(
     folder: Shared<'_, R>,
-    hall: &Hall,
-    round: Round,
+    lobby: &Lobby,
+    asked: &Errand,
 ) -> io::Result<Seen> {
-    let seen = asks(folder, hall.addr, round);
-    hall.lobby.stop();
+    let seen = asks(folder, asked.addr, asked.round);
+    lobby.stop();
     seen
 }
 
@@ -256,9 +263,14 @@ fn both<R: Threads + Wait + Sync + Net<Listener = TcpListener, Stream = TcpStrea
     hall: &Hall,
     round: Round,
 ) -> (io::Result<Seen>, Result<Left, Unbegun>) {
+    let lobby = &hall.lobby;
+    let asked = &Errand {
+        addr: hall.addr,
+        round,
+    };
     thread::join(
         folder.rt,
-        || { visit(folder, hall, round) },
+        || { visit(folder, lobby, asked) },
         || { serve(folder, begun, hall) },
     )
 }
