@@ -90,7 +90,8 @@ fn try_program<R: rt::Files + AllocGlobal>(
     let mut data = Folder { rt, path: "" };
     counts.count(alloc, &mut data, name, "empty.bin")?;
     write!(told, "{name} ")?;
-    told.write_all(&ask(alloc, &["verify", name], &mut data, &mut Offline)?.out)
+    let said = ask(alloc, &["verify", name], &mut data, &mut Offline)?;
+    told.write_all(&said.streams.out)
 }
 
 /// Tells whether a function's image answers to its input what stands beside it.
@@ -131,11 +132,8 @@ fn begins_as_written<F: Files>(
     name: &str,
 ) -> io::Result<bool> {
     let answer = read_ending(alloc, &*files, name, "answer")?;
-    Ok(
-        ask(alloc, words, files, &mut Offline)?
-            .out
-            .starts_with(&answer),
-    )
+    let said = ask(alloc, words, files, &mut Offline)?;
+    Ok(said.streams.out.starts_with(&answer))
 }
 
 /// Tells whether the words of a script print what stands beside it, and the status.
