@@ -40,7 +40,7 @@ type Row = (Operation, Altered, Told);
 /// A content is told where a state is first merged that shows it, the last read of a journal where what it answered is first merged.
 const OPERATIONS: &[Row] = &[
     (Operation::Put, (1, 0, CONTENT), Some((ANOTHER, 0, 0))),
-    (Operation::Put, (0, 3, MISSING), Some((UNREAD, 1, 3))),
+    (Operation::Put, (0, 3, MISSING), Some((UNREAD, 1, 2))),
     (
         Operation::GetAndRepair,
         (2, 0, CONTENT),
@@ -48,11 +48,11 @@ const OPERATIONS: &[Row] = &[
     ),
     (
         Operation::GetAndRepair,
-        (2, 2, MISSING),
+        (2, 1, MISSING),
         Some((UNREAD, 0, 3)),
     ),
-    (Operation::Exchange, (0, 2, CONTENT), Some((ANOTHER, 1, 4))),
-    (Operation::Exchange, (1, 9, MISSING), Some((UNREAD, 0, 11))),
+    (Operation::Exchange, (0, 2, CONTENT), Some((ANOTHER, 1, 3))),
+    (Operation::Exchange, (1, 8, MISSING), Some((UNREAD, 0, 9))),
 ];
 
 /// Makes an operation of which nothing is lost, and delivers late copies of what was read.
