@@ -10,7 +10,7 @@ use Rattle.quorum.specs.declared.fault.QuorumFault.{QuorumFault}
 use Rattle.quorum.specs.declared.fault.QuorumFault.TheVariants.{TooFew}
 use Rattle.peers.specs.declared.peers.Answer.{Answer}
 use Rattle.peers.specs.declared.fault.PeerFault.{PeerFault}
-use Rattle.peers.specs.Calls.{Call, PutAt, StateOf, Made}
+use Rattle.peers.specs.Calls.{Call, PutAt, Made}
 use Rattle.peers.specs.Counts.{has_failed, Counts, HasRisen}
 use Rattle.quorum.specs.Gets.{reads, answers}
 use Rattle.quorum.specs.Puts.{merges, copies, AfterStored, AfterPut, AfterFirst, IsPut}

@@ -4,6 +4,8 @@ use Rattle.dvv.specs.declared.Dot.{Dot}
 use Rattle.key_state.specs.declared.content.Key.{Key}
 use Rattle.key_state.specs.declared.content.Content.{Content}
 use Rattle.key_state.specs.declared.content.Content.TheVariants.{Value, Tombstone}
+use Rattle.key_state.specs.declared.content.Sibling.{Sibling}
+use Rattle.key_state.specs.State.{kept}
 use Rattle.vnode.specs.declared.fault.VnodeFault.TheVariants.{NoMemory}
 use Rattle.bpf_verifier.specs.Program.{Program}
 use Rattle.bpf_helpers.specs.declared.sig.Entry.{Entry}
@@ -11,6 +13,7 @@ use Rattle.hook_abi.specs.declared.answer.BadAnswer.TheVariants.{UnknownCode}
 use Rattle.hook_abi.specs.Verdicts.{Meaning, Pass, Write, Reject, Keep, Delete, Take}
 use Rattle.hook_abi.specs.Written.{octet_stream}
 use Rattle.hook_run.specs.declared.deciding.RunFault.{RunFault}
+use Rattle.hook_run.specs.declared.deciding.RunFault.TheVariants as run
 use Rattle.hook_run.specs.Decisions.{IsDecision}
 use Rattle.hook_registry.specs.declared.fault.NotSeen.{NotSeen}
 use Rattle.peers.specs.declared.peers.Answer.{Answer}
@@ -37,6 +40,19 @@ Judges content (Ok Delete) judged = judged ≡ Err (BadVerdict UnknownCode)
 Judges content (Ok (Take index)) judged = judged ≡ Err (BadVerdict UnknownCode)
 Judges content (Err fault) judged = judged ≡ Err (fault_of_run fault)
 
+-- what a pre-commit hook rules: what it decides on the new content and all siblings; where these don't fit its input, on the new content
+-- and the siblings that the write's context leaves, so that a write that has seen all of them is judged by itself
+module _ (listed : List Entry) (hook : Program) (seen : List Dot) (content : Content) (siblings : List Sibling) where
+  abbrev pub Narrows : Result Meaning RunFault → Result Meaning RunFault → Type 0
+  Narrows (Ok verdict) ruled = ruled ≡ Ok verdict
+  Narrows (Err run.Disagrees) ruled = ruled ≡ Err run.Disagrees
+  Narrows (Err run.TooLarge) ruled = IsDecision hook (Some content) (kept seen siblings) listed ruled
+  Narrows (Err (run.Bad bad)) ruled = ruled ≡ Err (run.Bad bad)
+  Narrows (Err run.NoMemory) ruled = ruled ≡ Err run.NoMemory
+
+  abbrev pub IsRuling : Result Meaning RunFault → Type 0
+  IsRuling ruled = (of_all : Result Meaning RunFault) × IsDecision hook (Some content) siblings listed of_all × Narrows of_all ruled
+
 -- what is put where a judge names only a content that it changed
 abbrev pub or_same : Content → Result (Option Content) QuorumFault → Result Content QuorumFault
 or_same content (Ok (Some changed)) = Ok changed
@@ -49,10 +65,10 @@ module _ (listed : List Entry) (coordinator : ℕ) (others : List ℕ) (key : Ke
   AfterJudged (Ok judged) calls result = IsPut coordinator others key w seen judged calls result
   AfterJudged (Err fault) calls result = (calls ≡ []) × (result ≡ Err fault)
 
-  -- what follows the coordinator's read of its own state: the hook decides on the new content and the siblings there
+  -- what follows the coordinator's read of its own state: the hook rules on the new content and the siblings there
   abbrev pub AfterSiblings : Program → Result Answer PeerFault → List Call → Result Dot QuorumFault → Type 0
   AfterSiblings hook (Ok answer) calls result = (decided : Result Meaning RunFault) × (judged : Result Content QuorumFault)
-      × IsDecision hook (Some content) answer.state.siblings listed decided × Judges content decided judged × AfterJudged judged calls result
+      × IsRuling listed hook seen content answer.state.siblings decided × Judges content decided judged × AfterJudged judged calls result
   AfterSiblings hook (Err fault) calls result = (calls ≡ []) × (result ≡ Err (fault_of fault))
 
   -- the calls of a put and its answer, by what the look-up of the pre-commit hook found

@@ -1,17 +1,19 @@
 //! What a bucket's hooks make of the siblings of a key.
 
-ghost use Rattle.std.specs.Prelude.{◌≡◌, List, Option, Some, None, Result, Ok, Err, IfOk, MatchResult};
+ghost use Rattle.std.specs.Prelude.{◌≡◌, ◌↔◌, List, Option, Some, None, Result, Ok, Err, IfOk, IsTrue, MatchResult};
+ghost use Rattle.key_state.specs.State.{kept};
 ghost use Rattle.hook_abi.specs.Verdicts.{Meaning, meaning_of};
 ghost use Rattle.hook_run.specs.declared.deciding.RunFault.{RunFault as Failure};
 ghost use Rattle.hook_run.specs.Decisions.{IsDecision};
 ghost use Rattle.hook_run.specs.Resolving.{IsResolution, IsUnresolved};
 ghost use Rattle.hook_registry.specs.Tables.{programs_of};
-ghost use Rattle.quorum.specs.Judged.{Judges, or_same, rewritten};
+ghost use Rattle.quorum.specs.Judged.{IsRuling, Judges, or_same, rewritten};
 
 use crate::fault::QuorumFault;
 use bpf_helpers::Table;
 use bpf_image::ImageKind;
 use bpf_verifier::Verified;
+use dvv::Clock;
 use hook_abi::{BadAnswer, Verdict, octet_stream};
 use hook_registry::{Hooks, NotSeen};
 use hook_run::{Resolution, Room, Unresolved, decide};
@@ -56,8 +58,29 @@ impl<H> Hooking<H> {
     }
 
     // What a pre-commit hook makes of a new content beside the coordinator's siblings: the content that it changed, or none
-    // where it passes as it is.
+    // where it passes as it is. Where not all siblings fit its input window, it is shown those alone that the writer hadn't seen: what
+    // others put at once locks no key for a write that has seen it.
     pub(crate) fn judge(
+        &mut self,
+        hook: &Verified,
+        content: &Content,
+        seen: &Clock,
+        siblings: &[Sibling],
+    ) -> Result<Option<Content>, QuorumFault>
+        ensures judges { (ruled : Result Meaning Failure) × IsRuling self.old.table.listed hook.now seen.now content.now siblings.now ruled × Judges content.now ruled (or_same content.now result) }
+        ensures hooks { self.new.hooks ≡ self.old.hooks }
+        ensures table { self.new.table ≡ self.old.table }
+    {
+        let judged = self.judge_beside(hook, content, siblings);
+        if !is_too_large(&judged) {
+            return judged;
+        }
+        let left = unseen_of(self.alloc, siblings, seen)?;
+        self.judge_beside(hook, content, &left)
+    }
+
+    // What a pre-commit hook makes of a new content beside these siblings.
+    fn judge_beside(
         &mut self,
         hook: &Verified,
         content: &Content,
@@ -85,6 +108,26 @@ impl<H> Hooking<H> {
     {
         hook_run::resolve(self.alloc, &mut self.room, hook, &self.table, siblings)
     }
+}
+
+// Whether a hook was shown more than its input window holds.
+fn is_too_large(judged: &Result<Option<Content>, QuorumFault>) -> bool
+    ensures { IsTrue result ↔ (judged.now ≡ Err QuorumFault.TooLarge) }
+{
+    matches!(judged, Err(QuorumFault::TooLarge))
+}
+
+// Copies of the siblings that a writer hadn't seen.
+fn unseen_of(alloc: Global, siblings: &[Sibling], seen: &Clock) -> Result<Vec<Sibling>, AllocError>
+    ensures { IfOk result (λ unseen. unseen.items ≡ kept seen.now siblings.now) }
+{
+    let mut unseen = Vec::new(alloc);
+    for sibling in siblings {
+        if !seen.covers(sibling.dot) {
+            unseen.push(sibling.copy()?)?;
+        }
+    }
+    Ok(unseen)
 }
 
 // What a pre-commit hook's verdict makes of the new content.

@@ -45,8 +45,8 @@ pub struct PutRequest<'a> {
 /// and the others are different vnodes.
 ///
 /// The bucket's pre-commit hook, if it has one, first decides on the content and the siblings that are read at the
-/// coordinator. It may change the value: the media type is then kept, and a tombstone becomes a value of
-/// `application/octet-stream`.
+/// coordinator; where these don't fit its input window, on the content and those of them that the request's clock doesn't count.
+/// It may change the value: the media type is then kept, and a tombstone becomes a value of `application/octet-stream`.
 ///
 /// `Unseen` where the hook's look-up was refused; `Disagrees`, `TooLarge`, `BadVerdict` and `Rejected`, the first that
 /// stands, where it lets nothing through, and `Refused` with `NoMemory` where memory ran out for its windows or for the value
@@ -90,7 +90,12 @@ fn put_judged<P: Peers, H: Hooks>(
 {
     match peers.state_of(request.coordinator, request.key) {
         Ok(answer) => {
-            let judged = hooking.judge(hook, request.content, answer.state.siblings());
+            let judged = hooking.judge(
+                hook,
+                request.content,
+                request.seen,
+                answer.state.siblings(),
+            );
             put_passed(peers, request, judged)
         }
         Err(fault) => Err(quorum_fault(fault)),

@@ -1,6 +1,8 @@
 //! A hook whose helper a table lacks, and a resolver beside a put.
 
-use crate::parts::building::{content_of, key_of, lengths, put_alone, shows, three_losing};
+use crate::parts::building::{
+    clock_of, content_of, key_of, lengths, put_alone, shows, three_losing,
+};
 use crate::parts::calling::{put, resolve_hooked, two_siblings};
 use crate::parts::hooking::{program, registry_of};
 use crate::parts::programs::{CALLS_64, PRE_COMMIT, RESOLVER, answer, hook};
@@ -70,6 +72,42 @@ fn table_without_the_helper(rt: HostRuntime) -> Result<(), Fail> {
         let mut hooking = hooking_of_64(rt.alloc(), window, has_helper)?;
         let back = put_a(rt.alloc(), &mut hooking)?;
         expect(back == (Err(fault), [1, 0, 0]), &window)?;
+    }
+    Ok(())
+}
+
+/// A put of a third value at a vnode where two siblings of one byte stand, of which the writer had seen so many. The bucket's hook lets
+/// all through; its input window of 66 bytes has room for the new value and one sibling.
+fn put_a_third(alloc: Global, seen: u64) -> Result<Result<Dot, QuorumFault>, Fail> {
+    let key = key_of(alloc, b"k")?;
+    let mut local = three_losing(alloc, &[])?;
+    put_alone(alloc, &mut local, 0, &key, b"a")?;
+    put_alone(alloc, &mut local, 0, &key, b"b")?;
+    let hook = program(alloc, PRE_COMMIT, 66, &answer(0))?;
+    let registry = registry_of(alloc, ImageKind::PreCommit, hook)?;
+    let mut hooking = Hooking::new(alloc, registry, Table::new(alloc));
+    let request = PutRequest {
+        coordinator: 0,
+        others: &[],
+        key: &key,
+        seen: &clock_of(alloc, 0, seen)?,
+        content: &content_of(alloc, b"c")?,
+        w: 1,
+    };
+    Ok(put(&mut local, &mut hooking, request))
+}
+
+/// Where the siblings don't fit a hook's window it is shown those that the writer hadn't seen.
+#[test]
+fn siblings_that_a_writer_saw_lock_no_key(rt: HostRuntime) -> Result<(), Fail> {
+    let third = Dot { vnode: 0, n: 3 };
+    let rows = [
+        (0, Err(QuorumFault::TooLarge)),
+        (1, Ok(third)),
+        (2, Ok(third)),
+    ];
+    for (seen, want) in rows {
+        expect(put_a_third(rt.alloc(), seen)? == want, &seen)?;
     }
     Ok(())
 }
