@@ -11,6 +11,7 @@ ghost use Rattle.http_request.specs.Ask.{asked_of, asked_at, asked_at_key, asked
 ghost use Rattle.http_request.specs.Props as props;
 ghost use Rattle.http_request.specs.declared.ask.What.TheVariants as asks;
 ghost use Rattle.http_request.specs.declared.ask.Call.TheVariants as calls;
+ghost use Rattle.http_request.specs.declared.ask.Change.TheVariants.{Unbound};
 ghost use Rattle.http_request.specs.declared.ask.Form.TheVariants.{Text};
 ghost use Rattle.http_parse.specs.Views.{request, quorums, FitsAsked, key_at, content_of, asked_put};
 ghost use Rattle.http_request.specs.Fits.{FitsAsk, FitsWhat};
@@ -25,7 +26,7 @@ use crate::routes::Routes;
 use crate::whole::Request;
 use context_token::TokenFault;
 use dvv::Clock;
-use http_request::{Ask, Call, Form, Refusal, Route, What};
+use http_request::{Ask, Call, Change, Form, Refusal, Route, What};
 use key_state::{Bytes, Content, Key, MAX_BUCKET_BYTES, MAX_MEDIA_BYTES};
 use std::alloc::{AllocError, Global};
 
@@ -62,6 +63,17 @@ pub(crate) fn asked_by(method: &[u8], what: What) -> Ask
     Ask {
         what,
         head_only: method == b"HEAD".as_slice(),
+    }
+}
+
+// What takes both hooks of a bucket away.
+fn unbinds(bucket: Bytes) -> Call
+    ensures { result ≡ calls.SetProps bucket Unbound Unbound }
+{
+    Call::SetProps {
+        bucket,
+        precommit: Change::Unbound,
+        resolver: Change::Unbound,
     }
 }
 
@@ -352,19 +364,27 @@ impl Request<'_> {
         ensures asked { IfOk result (λ what. what ≡ asked_at_bucket copies route piece (request self.entry)) }
         ensures fits { IfOk result (FitsWhat copies) }
     {
-        let read = self.is_read();
-        if !(read || self.is(b"PUT")) {
+        if !self.is_of_bucket() {
             return Ok(self.ask_else(route));
         }
         let bucket = name_at(alloc, self.path, piece)?;
         if !is_name(MAX_BUCKET_BYTES, bucket.as_slice()) {
             return Ok(What::Refused(Refusal::BadName));
         }
-        if read {
+        if self.is_read() {
             Ok(What::Call(Call::ReadProps { bucket }, Form::Text))
+        } else if self.is(b"DELETE") {
+            Ok(What::Call(unbinds(bucket), Form::Text))
         } else {
             self.set_props(alloc, copies, bucket)
         }
+    }
+
+    // Whether its method is one of a bucket.
+    fn is_of_bucket(self) -> bool
+        ensures { result ≡ (is_read (request self.entry) || is_method (request self.entry) (codes "PUT") || is_method (request self.entry) (codes "DELETE")) }
+    {
+        self.is_read() || self.is(b"PUT") || self.is(b"DELETE")
     }
 
     // What sets the properties of a bucket.

@@ -48,8 +48,8 @@ fn worth(digit: u8) -> usize
     (digit.wrapping_sub(b'0') & 15) as usize
 }
 
-// Whether the text is a number without zeros in front.
-fn is_plain_number(text: &[u8]) -> bool
+/// Whether the text is a number without zeros in front.
+pub(crate) fn is_plain_number(text: &[u8]) -> bool
     ensures { result ≡ target.is_plain_number text.now }
 {
     is_number(text) && (text.len() == 1 || text[0] != b'0')

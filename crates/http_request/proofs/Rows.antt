@@ -10,12 +10,12 @@ use Rattle.http_request.specs.declared.route.Route.TheVariants as route
 use Rattle.http_request.specs.Table.{routes, route_of}
 use Rattle.http_request.specs.Fields.{fields_fault, fault_among, body_length, is_last, accepts, is_no_weight}
 use Rattle.key_state.specs.declared.content.Content.TheVariants.{Value}
-use Rattle.http_request.specs.declared.ask.Change.TheVariants.{Kept, Bound}
+use Rattle.http_request.specs.declared.ask.Change.TheVariants.{Kept, Unbound, Bound}
 use Rattle.http_request.specs.declared.ask.Property.TheVariants.{AllowMult, LastWriteWins, NVal, PostCommit}
 use Rattle.http_request.specs.declared.ask.Form.TheVariants.{Text, Parts}
-use Rattle.http_request.specs.declared.ask.Call.TheVariants.{Put}
+use Rattle.http_request.specs.declared.ask.Call.TheVariants.{Put, SetProps}
 use Rattle.http_request.specs.declared.ask.What.TheVariants.{Resources, Options, Call, Refused}
-use Rattle.http_request.specs.Ask.{asked_named, asked_at, asked_by_method, form_of, request}
+use Rattle.http_request.specs.Ask.{asked_named, asked_at, asked_bucket, asked_by_method, form_of, request}
 use Rattle.http_request.specs.Target.{quorums_of}
 use Rattle.http_request.specs.Props.{changes_at}
 use Rattle.serde_json.specs.Find.{get}
@@ -119,6 +119,21 @@ bad_numbers = (refl, refl, refl)
 good_numbers : quorums_of 3 ((codes "r", codes "all") ∷ (codes "at", codes "0") ∷ (codes "r", codes "one") ∷ []) ≡ Some (record { read = 3; write = 2; at = 0 })
 good_numbers = refl
 
+-- the greatest counts of the words that ask for copies; of the words that pass, those that ask for what isn't there
+further_words :
+    (quorums_of 3 ((codes "pr", codes "3") ∷ (codes "pw", codes "1") ∷ (codes "rw", codes "all") ∷ []) ≡ Some (record { read = 3; write = 3; at = 0 }))
+    × (quorums_of 3 ((codes "pr", codes "0") ∷ (codes "r", codes "1") ∷ (codes "rw", codes "default") ∷ (codes "w", codes "1") ∷ []) ≡ Some (record { read = 1; write = 1; at = 0 }))
+    × (quorums_of 3 ((codes "pr", codes "9") ∷ []) ≡ None) × (quorums_of 3 ((codes "pw", codes "x") ∷ []) ≡ None) × (quorums_of 3 ((codes "rw", codes "-1") ∷ []) ≡ None)
+further_words = (refl, refl, refl, refl, refl)
+
+passing_words :
+    (quorums_of 3 ((codes "dw", codes "0") ∷ (codes "n_val", codes "3") ∷ (codes "timeout", codes "60000") ∷ (codes "sloppy_quorum", codes "true")
+    ∷ (codes "basic_quorum", codes "false") ∷ (codes "notfound_ok", codes "true") ∷ []) ≡ quorums_of 3 [])
+    × (quorums_of 3 ((codes "dw", codes "1") ∷ []) ≡ None) × (quorums_of 3 ((codes "n_val", codes "2") ∷ []) ≡ None) × (quorums_of 3 ((codes "timeout", codes "soon") ∷ []) ≡ None)
+    × (quorums_of 3 ((codes "sloppy_quorum", codes "1") ∷ []) ≡ None) × (quorums_of 3 ((codes "basic_quorum", codes "true") ∷ []) ≡ None)
+    × (quorums_of 3 ((codes "notfound_ok", codes "false") ∷ []) ≡ None)
+passing_words = (refl, refl, refl, refl, refl, refl, refl)
+
 http_siblings_put : asked_named (quorums_of 3 ((codes "at", codes "0") ∷ [])) (record { bucket = codes "b"; key = codes "k" })
     (request (codes "PUT") (codes "/buckets/b/keys/k?at=0") ((codes "Host", codes "h") ∷ (codes "Content-Type", codes "text/plain") ∷ (codes "Content-Length", codes "1") ∷ []) (codes "a"))
     ≡ Call (Put (record { bucket = codes "b"; key = codes "k" }) [] (Value (codes "text/plain") (codes "a")) 2 0) Text
@@ -141,6 +156,10 @@ by_head :
     (asked_by_method (codes "HEAD") (asked_at 3 (Some route.Root) (request (codes "HEAD") (codes "/") [] [])) ≡ record { what = Resources; head_only = true })
     × (asked_by_method (codes "GET") (asked_at 3 (Some route.Root) (request (codes "GET") (codes "/") [] [])) ≡ record { what = Resources; head_only = false })
 by_head = (refl, refl)
+
+-- DELETE of properties takes back both bindings
+unbinds : asked_bucket 3 (codes "b") (request (codes "DELETE") (codes "/buckets/b/props") [] (codes "x")) ≡ Call (SetProps (codes "b") Unbound Unbound) Text
+unbinds = refl
 
 -- other methods: which ones there are, or none
 by_others :

@@ -13,6 +13,7 @@ use Rattle.http_request.specs.Table.{route_of}
 use Rattle.http_request.specs.Target.{path_at, query_at, texts_of, name_at, is_name, is_hook_name, asked_for, Quorums, quorums_of}
 use Rattle.http_request.specs.Props.{changes_in}
 use Rattle.http_request.specs.declared.ask.Change.{Change}
+use Rattle.http_request.specs.declared.ask.Change.TheVariants.{Unbound}
 use Rattle.http_request.specs.declared.ask.Form.{Form}
 use Rattle.http_request.specs.declared.ask.Form.TheVariants.{Text, Parts, One}
 use Rattle.http_request.specs.declared.ask.Call.TheVariants.{Get, Put, Install, Remove, ReadProps, SetProps}
@@ -99,11 +100,12 @@ asked_hook name q =
     then (if is_method q (codes "PUT") then Call (Install name q.body) Text else Call (Remove name) Text)
     else Refused BadName
 
--- what is asked of a bucket, where each key has n copies
+-- what is asked of a bucket, where each key has n copies; DELETE unbinds both hooks
 abbrev pub asked_bucket : ℕ → List ℕ → Request → What
 asked_bucket n bucket q =
     if is_name longest_bucket bucket
-    then (if is_read q then Call (ReadProps bucket) Text else asked_props bucket (changes_in n q.body))
+    then (if is_read q then Call (ReadProps bucket) Text
+    else (if is_method q (codes "DELETE") then Call (SetProps bucket Unbound Unbound) Text else asked_props bucket (changes_in n q.body)))
     else Refused BadName
 
 -- what a method that the route doesn't have asks of it: which it has, or nothing
@@ -121,7 +123,7 @@ asked_by_none = record { what = Refused BadHead; head_only = false }
 -- what the method asks of a bucket, whose name is the i-th piece of the path
 abbrev pub asked_at_bucket : ℕ → Route → ℕ → Request → What
 asked_at_bucket n at i q =
-    if is_read q || is_method q (codes "PUT") then asked_bucket n (name_at i q.path) q else asked_else at q
+    if is_read q || is_method q (codes "PUT") || is_method q (codes "DELETE") then asked_bucket n (name_at i q.path) q else asked_else at q
 
 -- n is the number of copies of a key
 module _ (n : ℕ) where

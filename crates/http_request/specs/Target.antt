@@ -1,5 +1,5 @@
 -- The parts of a target: names in its path, and its query (RFC 3986; URL Standard, section 5).
-use Rattle.std.specs.Prelude.{ℕ, ◌+◌, ◌-◌, ◌/◌, min, Bool, ◌&&◌, ◌||◌, not, ◌==◌, if◌then◌else◌, nat_lt, nat_le, bytes_eq, List, [], ◌∷◌, length, map, codes, slice_get, slice_index, Option, Some, None, unwrap_or}
+use Rattle.std.specs.Prelude.{ℕ, ◌+◌, ◌-◌, ◌/◌, min, max, Bool, true, ◌&&◌, ◌||◌, not, ◌==◌, if◌then◌else◌, nat_lt, nat_le, bytes_eq, List, [], ◌∷◌, length, map, codes, slice_get, slice_index, Option, Some, None, unwrap_or}
 use Rattle.std.specs.List.{slice_split, list_all}
 use Rattle.std.specs.Char.{is_ascii_alphanumeric}
 use Rattle.std.specs.Str.Parse.{digits_value}
@@ -64,6 +64,42 @@ pub record Quorums : Type 0 where
   pub write : ℕ
   pub at : ℕ
 
+-- how many of n copies a word asks for beside `r` or `w`: none where nothing, `0` or `default` stands
+abbrev pub further_of : ℕ → Option (List ℕ) → Option ℕ
+further_of n None = Some 0
+further_of n (Some text) = if bytes_eq text (codes "0") || bytes_eq text (codes "default") then Some 0 else copies_of n (Some text)
+
+-- the greater of two numbers, where both are some
+abbrev pub greater : Option ℕ → Option ℕ → Option ℕ
+greater (Some a) (Some b) = Some (max a b)
+greater (Some a) None = None
+greater None b = None
+
+-- a word, where it stands, is one of those that pass
+abbrev pub passes : (List ℕ → Bool) → Option (List ℕ) → Bool
+passes test None = true
+passes test (Some text) = test text
+
+-- the words of a query that ask for what is so here anyway (Riak KV, HTTP API, fetch and store object): that nothing need be on a device
+-- before the answer, the n copies that there are, any time, fallback vnodes or none, no early end of a read, and that "there is none" is an answer
+abbrev pub all_pass : ℕ → List (List ℕ × List ℕ) → Bool
+all_pass n pairs =
+    passes (λ t. bytes_eq t (codes "0") || bytes_eq t (codes "default")) (asked_for (codes "dw") pairs)
+    && passes (λ t. is_plain_number t && (digits_value 10 t == n)) (asked_for (codes "n_val") pairs)
+    && passes is_plain_number (asked_for (codes "timeout") pairs)
+    && passes (λ t. bytes_eq t (codes "true") || bytes_eq t (codes "false")) (asked_for (codes "sloppy_quorum") pairs)
+    && passes (bytes_eq (codes "false")) (asked_for (codes "basic_quorum") pairs)
+    && passes (bytes_eq (codes "true")) (asked_for (codes "notfound_ok") pairs)
+
+-- so many copies have to answer a read: by `r`, and by `pr` of those that keep the key, as all copies are
+abbrev pub reads_of : ℕ → List (List ℕ × List ℕ) → Option ℕ
+reads_of n pairs = greater (copies_of n (asked_for (codes "r") pairs)) (further_of n (asked_for (codes "pr") pairs))
+
+-- so many have to be stored by a write: by `w`, by `pw` as by `pr`, and by `rw`, Riak's older word for a delete
+abbrev pub writes_of : ℕ → List (List ℕ × List ℕ) → Option ℕ
+writes_of n pairs =
+    greater (copies_of n (asked_for (codes "w") pairs)) (greater (further_of n (asked_for (codes "pw") pairs)) (further_of n (asked_for (codes "rw") pairs)))
+
 -- all three, where each is one that it may be
 abbrev pub quorums_from : Option ℕ → Option ℕ → Option ℕ → Option Quorums
 quorums_from (Some r) (Some w) (Some at) = Some (record { read = r; write = w; at = at })
@@ -71,7 +107,7 @@ quorums_from None w at = None
 quorums_from (Some r) None at = None
 quorums_from (Some r) (Some w) None = None
 
--- what these pairs of a query ask, of n copies: none where one of the three is none that it may be
+-- what these pairs of a query ask, of n copies: none where a word is none that it may be
 abbrev pub quorums_of : ℕ → List (List ℕ × List ℕ) → Option Quorums
 quorums_of n pairs =
-    quorums_from (copies_of n (asked_for (codes "r") pairs)) (copies_of n (asked_for (codes "w") pairs)) (place_of n (asked_for (codes "at") pairs))
+    if all_pass n pairs then quorums_from (reads_of n pairs) (writes_of n pairs) (place_of n (asked_for (codes "at") pairs)) else None

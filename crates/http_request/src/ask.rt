@@ -24,8 +24,9 @@ pub enum Refusal {
     NoRoute,
     /// This route has no such method.
     Method(Route),
-    /// The query's `r` or `w` is no number of copies that a store may have, 1 to 3, nor `one`, `quorum`, `all` or `default`; or
-    /// its `at` is no index of so many, 0 to 2.
+    /// A word of the query is none that it may be (`quorums_of` of `specs/Target.antt`): `r` or `w` is no number of copies that a
+    /// store may have, 1 to 3, nor `one`, `quorum`, `all` or `default`; `pr`, `pw` or `rw` none of these, nor 0; `at` no index of so
+    /// many, 0 to 2; or `dw`, `n_val`, `timeout`, `sloppy_quorum`, `basic_quorum` or `notfound_ok` asks for what isn't there.
     Query,
     /// A bucket, a key in it or a hook's name is not within its limits.
     BadName,

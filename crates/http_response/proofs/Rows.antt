@@ -2,6 +2,7 @@
 use Rattle.std.proofs.Common.{◌≡◌, List, [], ◌∷◌, ◌++◌, None, Ok, Err, refl, true, false, length}
 use Rattle.std.specs.Prelude.{codes}
 use Rattle.std.specs.Fmt.{digits}
+use Rattle.percent_encoding.specs.Percent.{percent_encode_byte}
 use Rattle.key_state.specs.declared.content.Content.TheVariants.{Value, Tombstone}
 use Rattle.key_state.specs.declared.content.Key.{Key}
 use Rattle.key_state.specs.declared.content.Sibling.{Sibling}
@@ -15,7 +16,7 @@ use Rattle.http_request.specs.declared.ask.Call.TheVariants.{Get, Put}
 use Rattle.http_request.specs.declared.ask.Form.TheVariants.{Text}
 use Rattle.http_response.specs.declared.reply.Reply.TheVariants.{Nothing, Got, Stored}
 use Rattle.http_response.specs.Parts.{line, parts_body, boundary_of}
-use Rattle.http_response.specs.Answer.{answer, own_fields, print_answer, props_text, tags_text}
+use Rattle.http_response.specs.Answer.{answer, escaped, own_fields, print_answer, props_text, tags_text}
 
 key : Key
 key = record { bucket = codes "b"; key = codes "k" }
@@ -74,9 +75,14 @@ rejected : answer 3 (whole (Call (Put key [] Tombstone 2 0) Text)) (Stored (Err 
 unfolding digits key whole print_answer
 rejected = refl
 
-props_length : length (props_text 3 (record { precommit = None; resolver = None })) ≡ 72
-unfolding digits
+props_length : length (props_text 3 (codes "b") (record { precommit = None; resolver = None })) ≡ 133
+unfolding digits escaped
 props_length = refl
+
+-- a name as in a path
+props_names : (escaped (codes "a-Z.9_~") ≡ codes "a-Z.9_~") × (escaped (codes "a b") ≡ codes "a%20b") × (escaped (34 ∷ 255 ∷ 47 ∷ []) ≡ codes "%22%FF%2F")
+unfolding escaped percent_encode_byte
+props_names = (refl, refl, refl)
 
 -- the head alone, which tells the length that the body would have
 ping_head : answer 3 (by_head Ping) Nothing false
@@ -96,7 +102,7 @@ options = refl
 
 no_method : answer 3 (whole (Refused (Method route.Props))) Nothing false
     ≡ line (codes "HTTP/1.1 405 Method Not Allowed") ++ line (codes "Content-Type: text/plain") ++ line (codes "Content-Length: 7")
-    ++ line (codes "Allow: GET, HEAD, PUT, OPTIONS") ++ own_fields ++ line [] ++ codes "method" ++ 10 ∷ []
+    ++ line (codes "Allow: GET, HEAD, PUT, DELETE, OPTIONS") ++ own_fields ++ line [] ++ codes "method" ++ 10 ∷ []
 unfolding digits whole print_answer
 no_method = refl
 

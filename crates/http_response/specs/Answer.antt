@@ -1,6 +1,8 @@
 -- The answer to each request, and its bytes (RFC 9112, sections 4 to 6; Riak KV documentation, HTTP API; this store's profile).
-use Rattle.std.specs.Prelude.{ℕ, Bool, if◌then◌else◌, bytes_eq, List, [], ◌∷◌, ◌++◌, length, codes, Option, Some, None, Result, Ok, Err, decimal}
-use Rattle.std.specs.List.{flat_map, find}
+use Rattle.std.specs.Prelude.{ℕ, Bool, ◌||◌, ◌==◌, if◌then◌else◌, bytes_eq, List, [], ◌∷◌, ◌++◌, length, codes, Option, Some, None, Result, Ok, Err, decimal}
+use Rattle.std.specs.List.{flat_map, find, list_any}
+use Rattle.std.specs.Char.{is_ascii_alphanumeric}
+use Rattle.percent_encoding.specs.Percent.{percent_encode_byte}
 use Rattle.dvv.specs.declared.Dot.{Dot}
 use Rattle.key_state.specs.declared.content.Content.{Content}
 use Rattle.key_state.specs.declared.content.Content.TheVariants.{Value, Tombstone}
@@ -21,6 +23,8 @@ use Rattle.bpf_admission.specs.declared.refusal.Refusal.{Refusal as Unfit}
 use Rattle.bpf_admission.specs.declared.refusal.Refusal.TheVariants as unfit
 use Rattle.bpf_admission.specs.Admissions.{refusal_text}
 use Rattle.http_request.specs.declared.ask.Ask.{Ask}
+use Rattle.http_request.specs.declared.ask.Call as asked
+use Rattle.http_request.specs.declared.ask.Call.TheVariants as call
 use Rattle.http_request.specs.declared.ask.What.{What}
 use Rattle.http_request.specs.declared.ask.What.TheVariants.{Ping, Resources, Options, Call, Refused}
 use Rattle.http_request.specs.declared.route.Route.{Route}
@@ -94,8 +98,8 @@ methods_of route.Key = codes "GET, HEAD, PUT, POST, DELETE, OPTIONS"
 methods_of route.TypedKey = codes "GET, HEAD, PUT, POST, DELETE, OPTIONS"
 methods_of route.OldKey = codes "GET, HEAD, PUT, POST, DELETE, OPTIONS"
 methods_of route.Hook = codes "PUT, DELETE, OPTIONS"
-methods_of route.Props = codes "GET, HEAD, PUT, OPTIONS"
-methods_of route.TypedProps = codes "GET, HEAD, PUT, OPTIONS"
+methods_of route.Props = codes "GET, HEAD, PUT, DELETE, OPTIONS"
+methods_of route.TypedProps = codes "GET, HEAD, PUT, DELETE, OPTIONS"
 
 abbrev pub options_answer : Route → Answer
 options_answer at = record empty_answer { allow = Some (methods_of at) }
@@ -193,11 +197,27 @@ abbrev pub json_name : Option (List ℕ) → List ℕ
 json_name None = codes "null"
 json_name (Some name) = 34 ∷ name ++ 34 ∷ []
 
--- the properties as JSON
-abbrev pub props_text : ℕ → Bound → List ℕ
-props_text copies bound =
+-- a byte that stands for itself in a path (RFC 3986, 2.3)
+abbrev pub is_unreserved : ℕ → Bool
+is_unreserved b = is_ascii_alphanumeric b || list_any (λ c. c == b) (codes "-._~")
+
+-- a name as it stands in a path: all other bytes are escaped, so it has no byte that JSON escapes
+unfoldable pub escaped : List ℕ → List ℕ
+escaped name = flat_map (λ b. if is_unreserved b then b ∷ [] else percent_encode_byte b) name
+
+-- the front of the properties, with what is bound
+abbrev pub bound_text : ℕ → Bound → List ℕ
+bound_text copies bound =
     codes "{\"props\":{\"allow_mult\":true,\"n_val\":" ++ decimal copies ++ codes ",\"precommit\":" ++ json_name bound.precommit
-    ++ codes ",\"resolver\":" ++ json_name bound.resolver ++ codes "}}"
+    ++ codes ",\"resolver\":" ++ json_name bound.resolver
+
+-- the rest of them, with the bucket's name and what is so with each
+abbrev pub always_text : List ℕ → List ℕ
+always_text bucket = codes ",\"name\":\"" ++ escaped bucket ++ codes "\",\"last_write_wins\":false,\"r\":\"quorum\",\"w\":\"quorum\"}}"
+
+-- the properties of a bucket as JSON (Riak KV, bucket properties)
+abbrev pub props_text : ℕ → List ℕ → Bound → List ℕ
+props_text copies bucket bound = bound_text copies bound ++ always_text bucket
 
 abbrev pub not_found : Answer
 not_found = line_told (codes "404 Not Found") (codes "not found")
@@ -258,30 +278,39 @@ abbrev pub stored_answer : Result Dot QuorumFault → Answer
 stored_answer (Ok dot) = record empty_answer { tag = Some (tag_of dot) }
 stored_answer (Err fault) = quorum_answer fault
 
-abbrev pub props_answer : ℕ → Result Bound NameFault → Answer
-props_answer copies (Ok bound) = record (told (codes "200 OK") (props_text copies bound)) { media = Some (codes "application/json") }
-props_answer copies (Err fault) = name_answer fault
+abbrev pub props_answer : ℕ → List ℕ → Result Bound NameFault → Answer
+props_answer copies bucket (Ok bound) = record (told (codes "200 OK") (props_text copies bucket bound)) { media = Some (codes "application/json") }
+props_answer copies bucket (Err fault) = name_answer fault
+
+-- the bucket whose properties a call reads
+abbrev pub bucket_of : asked.Call → List ℕ
+bucket_of (call.ReadProps bucket) = bucket
+bucket_of (call.Get key r at) = []
+bucket_of (call.Put key seen content w at) = []
+bucket_of (call.Install name image) = []
+bucket_of (call.Remove name) = []
+bucket_of (call.SetProps bucket precommit resolver) = []
 
 module _ (copies : ℕ) where
   -- the answer to a call
-  abbrev pub call_answer : Form → Reply → Answer
-  call_answer form Nothing = empty_answer
-  call_answer form (Got result) = got_answer form result
-  call_answer form (Stored result) = stored_answer result
-  call_answer form (Installed (Ok done)) = empty_answer
-  call_answer form (Installed (Err refusal)) = unfit_answer refusal
-  call_answer form (Removed (Ok done)) = empty_answer
-  call_answer form (Removed (Err fault)) = hook_answer (codes "404 Not Found") fault
-  call_answer form (Props result) = props_answer copies result
-  call_answer form (Set (Ok done)) = empty_answer
-  call_answer form (Set (Err fault)) = hook_answer unprocessable fault
+  abbrev pub call_answer : asked.Call → Form → Reply → Answer
+  call_answer c form Nothing = empty_answer
+  call_answer c form (Got result) = got_answer form result
+  call_answer c form (Stored result) = stored_answer result
+  call_answer c form (Installed (Ok done)) = empty_answer
+  call_answer c form (Installed (Err refusal)) = unfit_answer refusal
+  call_answer c form (Removed (Ok done)) = empty_answer
+  call_answer c form (Removed (Err fault)) = hook_answer (codes "404 Not Found") fault
+  call_answer c form (Props result) = props_answer copies (bucket_of c) result
+  call_answer c form (Set (Ok done)) = empty_answer
+  call_answer c form (Set (Err fault)) = hook_answer unprocessable fault
 
   -- the answer to what is asked
   abbrev pub answer_to : What → Reply → Answer
   answer_to Resources reply = resources_answer
   answer_to (Options at) reply = options_answer at
   answer_to Ping reply = told (codes "200 OK") (codes "OK")
-  answer_to (Call c form) reply = call_answer form reply
+  answer_to (Call c form) reply = call_answer c form reply
   answer_to (Refused refusal) reply = refusal_answer refusal
 
   -- the bytes that answer a request

@@ -1,12 +1,13 @@
 //! The answer to a request.
 
-ghost use Rattle.std.specs.Prelude.{◌≡◌, ◌++◌, OnOk, IfOk, Ok, Some, [], ◌∷◌, length, bytes_eq};
+ghost use Rattle.std.specs.Prelude.{◌≡◌, ◌++◌, OnOk, IfOk, Ok, Some, [], ◌∷◌, length, bytes_eq, if◌then◌else◌};
 ghost use Rattle.std.specs.List.{find};
 ghost use Rattle.std.specs.Option.{option_copied};
 ghost use Rattle.bpf_admission.specs.Admissions.{rule_text};
 ghost use Rattle.bpf_verifier.specs.Numbers.{rule_number};
 ghost use Rattle.bpf_image.specs.Image.{text_of};
 ghost use Rattle.http_request.specs.declared.ask.Form.TheVariants.{Parts};
+ghost use Rattle.percent_encoding.specs.Percent as percent;
 ghost use Rattle.quorum.specs.declared.fault.QuorumFault.TheVariants.{Rejected};
 ghost use Rattle.http_response.specs.Answer as spec;
 ghost use Rattle.http_response.specs.Answer.{print_answer, answer};
@@ -26,8 +27,9 @@ use bpf_image::ImageFault;
 use bpf_insn::DecodeFault;
 use bpf_verifier::Refused;
 use dvv::{Clock, Dot};
-use http_request::{Ask, Form, Route, What};
+use http_request::{Ask, Call, Form, Route, What};
 use key_state::{Bytes, Content, KeyState, Sibling};
+use percent_encoding::percent_encode_byte;
 use quorum::QuorumFault;
 use std::alloc::AllocError;
 
@@ -51,7 +53,7 @@ pub fn push_answer(
         What::Resources => push_told(out, b"200 OK", b"application/json", RESOURCES, how),
         What::Options(route) => push_methods(out, *route, how),
         What::Refused(refusal) => push_line(out, of_refusal(*refusal), how),
-        What::Call(_, form) => push_reply(out, text, copies, form, reply, how),
+        What::Call(call, form) => push_reply(out, text, Asked { copies, call, form }, reply, how),
     }
 }
 
@@ -121,29 +123,48 @@ fn push_empty(out: &mut Vec<u8>, tag: Option<&[u8]>, how: Telling) -> Result<(),
     push_parts(out, &answer, how)
 }
 
+// A call of a store that has so many copies of a key, and how its answer is shown.
+#[derive(Clone, Copy)]
+struct Asked<'a> {
+    copies: u32,
+    call: &'a Call,
+    form: &'a Form,
+}
+
+impl<'a> Asked<'a> {
+    // The bucket whose properties are read.
+    fn bucket(self) -> &'a [u8]
+        ensures { result.now ≡ spec.bucket_of self.entry.call.now }
+    {
+        match self.call {
+            Call::ReadProps { bucket } => bucket.as_slice(),
+            _ => b"",
+        }
+    }
+}
+
 // Adds the answer to a call.
 fn push_reply(
     out: &mut Vec<u8>,
     text: &mut Vec<u8>,
-    copies: u32,
-    form: &Form,
+    asked: Asked<'_>,
     reply: &Reply,
     how: Telling,
 ) -> Result<(), AllocError>
-    ensures { OnOk result (out.new.items ≡ out.old.items ++ print_answer (spec.call_answer copies form.now reply.now) how) }
+    ensures { OnOk result (out.new.items ≡ out.old.items ++ print_answer (spec.call_answer asked.entry.copies asked.entry.call.now asked.entry.form.now reply.now) how) }
 {
     text.clear();
     match reply {
         Reply::Nothing | Reply::Installed(Ok(_)) | Reply::Removed(Ok(_)) | Reply::Set(Ok(_)) =>
             push_empty(out, None, how),
-        Reply::Got(Ok(state)) => push_state(out, text, form, state, how),
+        Reply::Got(Ok(state)) => push_state(out, text, asked.form, state, how),
         Reply::Got(Err(fault)) | Reply::Stored(Err(fault)) => push_quorum_fault(
             out, text, *fault, how,
         ),
         Reply::Stored(Ok(dot)) => push_stored(out, text, *dot, how),
         Reply::Installed(Err(refusal)) => push_unfit(out, text, *refusal, how),
         Reply::Removed(Err(fault)) => push_line(out, of_hook(NOT_FOUND, *fault), how),
-        Reply::Props(Ok(bound)) => push_bound(out, text, copies, bound, how),
+        Reply::Props(Ok(bound)) => push_bound(out, text, asked, bound, how),
         Reply::Props(Err(fault)) => push_line(out, of_name(*fault), how),
         Reply::Set(Err(fault)) => push_line(out, of_hook(UNPROCESSABLE, *fault), how),
     }
@@ -167,14 +188,14 @@ fn push_stored(
 fn push_bound(
     out: &mut Vec<u8>,
     text: &mut Vec<u8>,
-    copies: u32,
+    asked: Asked<'_>,
     bound: &Bound,
     how: Telling,
 ) -> Result<(), AllocError>
     requires { text.old.items ≡ [] }
-    ensures { OnOk result (out.new.items ≡ out.old.items ++ print_answer (spec.props_answer copies (Ok bound.now)) how) }
+    ensures { OnOk result (out.new.items ≡ out.old.items ++ print_answer (spec.props_answer asked.entry.copies (spec.bucket_of asked.entry.call.now) (Ok bound.now)) how) }
 {
-    push_props(text, copies, bound)?;
+    push_props(text, asked.copies, asked.bucket(), bound)?;
     push_told(out, b"200 OK", b"application/json", text.as_slice(), how)
 }
 
@@ -282,16 +303,67 @@ fn push_broken_rule(text: &mut Vec<u8>, refused: Refused) -> Result<(), AllocErr
 }
 
 // Adds the properties of a bucket as JSON.
-fn push_props(text: &mut Vec<u8>, copies: u32, bound: &Bound) -> Result<(), AllocError>
-    ensures { OnOk result (text.new.items ≡ text.old.items ++ spec.props_text copies bound.now) }
+fn push_props(
+    text: &mut Vec<u8>,
+    copies: u32,
+    bucket: &[u8],
+    bound: &Bound,
+) -> Result<(), AllocError>
+    ensures { OnOk result (text.new.items ≡ text.old.items ++ spec.props_text copies bucket.now bound.now) }
+{
+    push_bindings(text, copies, bound)?;
+    push_always(text, bucket)
+}
+
+// Adds the front of the properties, with what is bound.
+fn push_bindings(text: &mut Vec<u8>, copies: u32, bound: &Bound) -> Result<(), AllocError>
+    ensures { OnOk result (text.new.items ≡ text.old.items ++ spec.bound_text copies bound.now) }
 {
     text.extend_from_slice(b"{\"props\":{\"allow_mult\":true,\"n_val\":")?;
     push_number(text, copies as u64)?;
     text.extend_from_slice(b",\"precommit\":")?;
     push_json_name(text, &bound.precommit)?;
     text.extend_from_slice(b",\"resolver\":")?;
-    push_json_name(text, &bound.resolver)?;
-    text.extend_from_slice(b"}}")
+    push_json_name(text, &bound.resolver)
+}
+
+// Adds the rest of the properties, with the bucket's name and what is so with each.
+fn push_always(text: &mut Vec<u8>, bucket: &[u8]) -> Result<(), AllocError>
+    ensures { OnOk result (text.new.items ≡ text.old.items ++ spec.always_text bucket.now) }
+{
+    text.extend_from_slice(b",\"name\":\"")?;
+    push_escaped(text, bucket)?;
+    text.extend_from_slice(b"\",\"last_write_wins\":false,\"r\":\"quorum\",\"w\":\"quorum\"}}")?;
+    Ok(())
+}
+
+// Adds a name as it stands in a path.
+#[tactic(auto, unfolding(crate::specs::Answer::escaped))]
+fn push_escaped(text: &mut Vec<u8>, name: &[u8]) -> Result<(), AllocError>
+    ensures { OnOk result (text.new.items ≡ text.old.items ++ spec.escaped name.now) }
+{
+    for b in name {
+        push_escaped_byte(text, *b)?;
+    }
+    Ok(())
+}
+
+// Adds a byte of a name: itself, or its escape.
+fn push_escaped_byte(text: &mut Vec<u8>, b: u8) -> Result<(), AllocError>
+    ensures { OnOk result (text.new.items ≡ text.old.items ++ (if spec.is_unreserved b then b ∷ [] else percent.percent_encode_byte b)) }
+{
+    if is_unreserved(b) {
+        text.push(b)?;
+        return Ok(());
+    }
+    text.extend_from_slice(percent_encode_byte(b).as_bytes())
+}
+
+// Whether a byte stands for itself in a path.
+fn is_unreserved(b: u8) -> bool
+    ensures { result ≡ spec.is_unreserved b }
+{
+    b.is_ascii_alphanumeric() || b == b'-' || b == b'.' || b == b'_' || b == b'~'
 }
 
 // Adds a name as JSON: names have no character that JSON escapes.

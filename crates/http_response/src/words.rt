@@ -134,7 +134,7 @@ pub(crate) fn methods_of(route: Route) -> &'static [u8]
         Route::Root | Route::Ping => b"GET, HEAD, OPTIONS",
         Route::Key | Route::TypedKey | Route::OldKey => b"GET, HEAD, PUT, POST, DELETE, OPTIONS",
         Route::Hook => b"PUT, DELETE, OPTIONS",
-        Route::Props | Route::TypedProps => b"GET, HEAD, PUT, OPTIONS",
+        Route::Props | Route::TypedProps => b"GET, HEAD, PUT, DELETE, OPTIONS",
     }
 }
 

@@ -43,7 +43,7 @@ METHODS = {
     "ping": "GET, HEAD, OPTIONS",
     "key": "GET, HEAD, PUT, POST, DELETE, OPTIONS",
     "hook": "PUT, DELETE, OPTIONS",
-    "props": "GET, HEAD, PUT, OPTIONS",
+    "props": "GET, HEAD, PUT, DELETE, OPTIONS",
 }
 NOTHING = b""  # in place of an answer, where the connection has ended or the request is cut
 SEPARATOR = b"\x1e"
@@ -209,12 +209,14 @@ def parts(clock, siblings):
     return answer(300, f"multipart/mixed; boundary=s{number}", clock, body=f"{body}\r\n--s{number}--\r\n")
 
 
-def properties(precommit, resolver):
+def properties(bucket, precommit, resolver):
+    """What is bound to a bucket, whose name stands as in a path, and what is so with each."""
     def name(hook):
         return "null" if hook is None else f'"{hook}"'
 
     bound = f'"precommit":{name(precommit)},"resolver":{name(resolver)}'
-    return answer(200, JSON, body=f'{{"props":{{"allow_mult":true,"n_val":{VNODES},{bound}}}}}')
+    always = '"last_write_wins":false,"r":"quorum","w":"quorum"'
+    return answer(200, JSON, body=f'{{"props":{{"allow_mult":true,"n_val":{VNODES},{bound},"name":"{bucket}",{always}}}}}')
 
 
 # Dialogues
@@ -301,11 +303,11 @@ def hooks_of_the_folder():
         return (HOOKS / f"{name}.img").read_bytes()
 
     # Values of a bucket are numbers, and of several the largest is taken.
-    yield request("GET /buckets/visits/props"), properties(None, None)
+    yield request("GET /buckets/visits/props"), properties("visits", None, None)
     yield install("digits", image("digits_only")), done()
     yield install("largest", image("largest_counter")), done()
     yield bind("visits", '{"precommit":"digits","resolver":"largest"}'), done()
-    yield request("GET /buckets/visits/props"), properties("digits", "largest")
+    yield request("GET /buckets/visits/props"), properties("visits", "digits", "largest")
     home = Key("visits", "home")
     one, two = home.vnode(0), home.vnode(1)
     yield request(f"PUT {home.target}", typed(TEXT), body="12"), written(one, 1)
@@ -346,12 +348,12 @@ def hooks_of_the_folder():
     yield bind("visits", '{"precommit":"none","resolver":null}'), told(422, "G1")
     yield bind("visits", '{"precommit":"largest","resolver":null}'), told(422, "G2")
     yield request("DELETE /hooks/none"), told(404, "G1")
-    yield request("GET /buckets/visits/props"), properties("digits", "largest")
+    yield request("GET /buckets/visits/props"), properties("visits", "digits", "largest")
 
     # A hook that is unbound is not asked any more, nor is one whose name was given up.
     yield bind("visits", '{"precommit":null}'), done()
     yield request("DELETE /hooks/largest"), done()
-    yield request("GET /buckets/visits/props"), properties(None, "largest")
+    yield request("GET /buckets/visits/props"), properties("visits", None, "largest")
     away = Key("visits", "away")
     one, two = away.vnode(0), away.vnode(1)
     yield request(f"PUT {away.target}", typed(TEXT), body="many"), written(one, 1)
@@ -524,7 +526,7 @@ def registry():
         yield from siblings(key)
     for number, (change, answered, names, refuses, resolves) in enumerate(rows):
         yield change, answered
-        yield request("GET /buckets/b/props"), properties(*names)
+        yield request("GET /buckets/b/props"), properties("b", *names)
         key, other = keys[number], first_key("b", f"other{number}n")
         yield request(f"PUT {other.target}", body="c"), told(403, "X3 1") if refuses else written(0, 1)
         both = choices({0: 1, 1: 1}, (0, 1), (1, 1))
@@ -543,7 +545,7 @@ def refused():
     yield request("PUT /ping", body=""), told(*no_method("ping"))
     yield request(f"PATCH {key.target}"), told(*no_method("key"))
     yield request("GET /hooks/digits"), told(*no_method("hook"))
-    yield request("DELETE /buckets/b/props"), told(*no_method("props"))
+    yield request("POST /buckets/b/props", body=""), told(*no_method("props"))
     for query in ["r=0", "r=4", "r=01", "r=most", "w=0", "w=-1", "at=3", "at=", "r=1&at=00"]:
         yield request(f"GET {key.target}?{query}"), told(400, "bad query")
     yield request(f"GET /buckets/{'b' * 65}/keys/k"), told(400, "bad name")
@@ -599,7 +601,7 @@ def refused():
 
     # Nothing of all this was written.
     yield request(f"GET {key.target}"), not_found()
-    yield request("GET /buckets/b/props"), properties(None, None)
+    yield request("GET /buckets/b/props"), properties("b", None, None)
     # A write without a length: where the next request begins is not known.
     yield request(f"PUT {key.target}"), told(411, "length", closes=True)
     yield request("GET /ping"), NOTHING
@@ -685,7 +687,7 @@ REFUSED = [
     ("get / HTTP/1.1", "", no_method("root")),
     ("GET /hooks/a HTTP/1.1", "", no_method("hook")),
     ("POST /hooks/a HTTP/1.1", "", no_method("hook")),
-    ("DELETE /buckets/b/props HTTP/1.1", "", no_method("props")),
+    ("delete /buckets/b/props HTTP/1.1", "", no_method("props")),
     ("POST /buckets/b/props HTTP/1.1", "{", no_method("props")),
     # a method and the query, and a method and a name
     ("PATCH /buckets/b/keys/k?r=0 HTTP/1.1", "", no_method("key")),
@@ -703,6 +705,22 @@ REFUSED = [
     ("GET /buckets/b/keys/k?at=00 HTTP/1.1", "", QUERY),
     ("GET /buckets/b/keys/k?at=all HTTP/1.1", "", QUERY),
     ("GET /buckets/b/keys/k?at=4294967296 HTTP/1.1", "", QUERY),
+    ("GET /buckets/b/keys/k?pr=9 HTTP/1.1", "", QUERY),
+    ("PUT /buckets/b/keys/k?pw=4 HTTP/1.1", "a", QUERY),
+    ("GET /buckets/b/keys/k?pr= HTTP/1.1", "", QUERY),
+    ("DELETE /buckets/b/keys/k?rw=most HTTP/1.1", "", QUERY),
+    ("GET /buckets/b/keys/k?pr=00 HTTP/1.1", "", QUERY),
+    ("PUT /buckets/b/keys/k?dw=1 HTTP/1.1", "a", QUERY),
+    ("PUT /buckets/b/keys/k?dw=quorum HTTP/1.1", "a", QUERY),
+    ("GET /buckets/b/keys/k?n_val=2 HTTP/1.1", "", QUERY),
+    ("GET /buckets/b/keys/k?n_val=03 HTTP/1.1", "", QUERY),
+    ("GET /buckets/b/keys/k?timeout=-1 HTTP/1.1", "", QUERY),
+    ("GET /buckets/b/keys/k?timeout=infinity HTTP/1.1", "", QUERY),
+    ("GET /buckets/b/keys/k?sloppy_quorum=yes HTTP/1.1", "", QUERY),
+    ("GET /buckets/b/keys/k?basic_quorum=true HTTP/1.1", "", QUERY),
+    ("GET /buckets/b/keys/k?notfound_ok=false HTTP/1.1", "", QUERY),
+    ("GET /buckets/b/keys/k?notfound_ok=True HTTP/1.1", "", QUERY),
+    ("GET /buckets/b/keys/k?pr=all&r=1&pr=9&dw=0&dw=2&timeout=x HTTP/1.1", "", QUERY),
     # the query and a context, and the query and a media type
     ("PUT /buckets/b/keys/k?w=0 HTTP/1.1\r\nX-Riak-Vclock: AQA", "a", QUERY),
     ("PUT /buckets/b/keys/k?w=0 HTTP/1.1\r\nContent-Type:", "a", QUERY),
@@ -779,7 +797,7 @@ def methods():
     yield by_head(key.target), head_of(choices(both, (one, 1), (two, 1)))
     yield by_head(key.target, "Accept: multipart/mixed"), head_of(parts(both, {(one, 1): "a", (two, 1): "b"}))
     yield by_head(f"{key.target}?vtag={tag((two, 1))}"), head_of(value(both, "b"))
-    yield by_head("/buckets/b/props"), head_of(properties(None, None))
+    yield by_head("/buckets/b/props"), head_of(properties("b", None, None))
     # A body that comes with HEAD is passed over.
     yield request("HEAD /ping", body="GET /ping HTTP/1.1\r\n\r\n"), head_of(pong())
     # Refused, and without a body too.
@@ -812,12 +830,13 @@ def methods():
     yield request(f"DELETE {old_key}", seen({one: 3, two: 1})), written(one, 4)
     yield request(f"GET {key.target}"), not_found({one: 4, two: 1})
     yield request("PUT /types/default/buckets/b/props", body='{"props":{}}'), done()
-    yield request("GET /types/default/buckets/b/props"), properties(None, None)
+    yield request("GET /types/default/buckets/b/props"), properties("b", None, None)
     yield request(f"GET {typed_key}?r=0"), told(*QUERY)
     yield request(f"GET /riak/{'b' * 65}/k"), told(*BAD_NAME)
     yield request(f"PATCH {old_key}"), told(*no_method("key"))
     yield request(f"OPTIONS {typed_key}"), options("key")
-    yield request("DELETE /types/default/buckets/b/props"), told(*no_method("props"))
+    yield request("DELETE /types/default/buckets/b/props"), done()
+    yield request(f"DELETE /buckets/{'b' * 65}/props"), told(*BAD_NAME)
     for path in ["/types/maps/buckets/b/keys/k", "/types/default", "/types/default/props", "/types/Default/buckets/b/props", "/riak/b", "/riak/b/k/l"]:
         yield request(f"GET {path}"), told(*NO_ROUTE)
     yield request("POST /", body=""), told(*no_method("root"))
@@ -835,6 +854,42 @@ def methods():
     yield NEXT
     yield b"HEAD ping HTTP/1.1\r\n\r\n", told(*BAD_HEAD, closes=True)
     yield ping(), NOTHING
+
+
+def riak():
+    """What Riak's clients ask with: words of queries that pass, and properties that are read, set and taken back."""
+    key = Key("b", "k")
+    one = key.vnode()
+    for words in [
+        "pr=1&pw=quorum&rw=all&dw=0",
+        "pr=0&pw=0&rw=default&dw=default&w=one",
+        "r=one&pr=all&w=1&pw=3",
+        "n_val=3&timeout=0&sloppy_quorum=true&basic_quorum=false&notfound_ok=true",
+        "timeout=60000000000000000000000&sloppy_quorum=false",
+        # Of a name that comes twice the first counts, and other names are passed over.
+        "dw=0&dw=1&n_val=3&n_val=4&PR=9&prr=9",
+    ]:
+        yield request(f"GET {key.target}?{words}"), not_found()
+    yield request(f"PUT {key.target}?pw=all&dw=0&timeout=1000", typed(TEXT), body="a"), written(one, 1)
+    yield request(f"GET {key.target}?pr=quorum&notfound_ok=true"), value({one: 1}, "a")
+    yield request(f"DELETE {key.target}?rw=quorum", seen({one: 1})), written(one, 2)
+    # A bucket's name stands in its properties as in a path.
+    yield request("GET /buckets/b%20s%22/props"), properties("b%20s%22", None, None)
+    yield request("GET /buckets/-._~%C3%BC%2f/props"), properties("-._~%C3%BC%2F", None, None)
+    yield request("GET /buckets/%41z%39/props"), properties("Az9", None, None)
+    # Both bindings are taken back at once, also where there are none; what a body says then is passed over.
+    yield install("digits", (HOOKS / "digits_only.img").read_bytes()), done()
+    yield install("largest", (HOOKS / "largest_counter.img").read_bytes()), done()
+    yield bind("b", '{"precommit":"digits","resolver":"largest"}'), done()
+    yield request("GET /buckets/b/props"), properties("b", "digits", "largest")
+    yield request(f"PUT {key.target}", typed(TEXT), seen({one: 2}), body="many"), told(403, "X3 2")
+    yield request("DELETE /buckets/b/props", body="{"), done()
+    yield request("GET /buckets/b/props"), properties("b", None, None)
+    yield request(f"PUT {key.target}", typed(TEXT), seen({one: 2}), body="many"), written(one, 3)
+    yield request("DELETE /buckets/b/props"), done()
+    # What was read may be set.
+    read = '{"allow_mult":true,"n_val":3,"precommit":null,"resolver":null,"name":"b","last_write_wins":false,"r":"quorum","w":"quorum"}'
+    yield bind("b", read), done()
 
 
 def limits():
@@ -983,7 +1038,7 @@ def spelled():
     # A binding that names one hook of two, beside properties that are as they have to be, and others.
     props = '{"props":{"resolver":null,"allow_mult":true,"n_val":3,"x":{}},"y":0}'
     yield request("PUT /buckets/b/props", body=props), done()
-    yield request("GET /buckets/b/props"), properties(None, None)
+    yield request("GET /buckets/b/props"), properties("b", None, None)
 
     # A body and fields that nothing uses, and two fields `Connection` of which none has `close`.
     yield b"GET /ping HTTP/1.1\r\nExpect: 100-continue\r\nContent-Length: 2\r\nContent-Length: 02\r\n\r\nab", pong()
@@ -1033,12 +1088,12 @@ def changes():
 
     both = [(install(), done()), (request("PUT /hooks/take", body=take), done())]
     last = answer(204, closes=True)
-    yield request("GET /buckets/b/props"), properties(None, None)
+    yield request("GET /buckets/b/props"), properties("b", None, None)
     yield remove(), told(404, "G1")
     yield bind(), told(422, "G1")
     yield from both
     yield bind(), done()
-    yield request("GET /buckets/b/props"), properties("no", "take")
+    yield request("GET /buckets/b/props"), properties("b", "no", "take")
     yield request(f"PUT {key.target}", body="a"), told(403, "X3 1")
     yield request("PUT /buckets/b/props", body='{"props":{"resolver":"no"}}'), told(422, "G2")
     yield request(f"DELETE {key.target}"), told(403, "X3 1")
@@ -1131,7 +1186,7 @@ def together():
     yield from absent(2)
     yield ping(), pong()
     yield read(other), not_found()
-    yield request("GET /buckets/b/props"), properties(None, None)
+    yield request("GET /buckets/b/props"), properties("b", None, None)
     # A resolver that is bound among reads.
     yield from absent(2)
     yield install("x", few_slots(RESOLVER, writing(b"x"))), done()
@@ -1173,6 +1228,7 @@ DIALOGUES = {
     "parts": in_parts,
     "reads": reads,
     "refused": refused,
+    "riak": riak,
     "strange": strange,
     "together": together,
 }

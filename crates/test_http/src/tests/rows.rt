@@ -47,7 +47,7 @@ pub(crate) const HTTP_SIBLINGS: [Row; 9] = [
 pub(crate) const HOOKS: [Row; 7] = [
     (
         b"GET /buckets/b/props HTTP/1.1\r\nHost: h\r\n\r\n",
-        b"HTTP/1.1 200 OK\r\nContent-Type: application/json\r\nContent-Length: 72\r\nX-Content-Type-Options: nosniff\r\nServer: dvvstore\r\n\r\n{\"props\":{\"allow_mult\":true,\"n_val\":3,\"precommit\":null,\"resolver\":null}}",
+        b"HTTP/1.1 200 OK\r\nContent-Type: application/json\r\nContent-Length: 133\r\nX-Content-Type-Options: nosniff\r\nServer: dvvstore\r\n\r\n{\"props\":{\"allow_mult\":true,\"n_val\":3,\"precommit\":null,\"resolver\":null,\"name\":\"b\",\"last_write_wins\":false,\"r\":\"quorum\",\"w\":\"quorum\"}}",
     ),
     (
         b"PUT /hooks/no HTTP/1.1\r\nHost: h\r\nContent-Length: 32\r\n\r\nRBPF\x01\x01\x00\x00\x80\x00\x00\x00\x00\x00\x00\x00\xb7\x00\x00\x00\x01\x01\x00\x00\x95\x00\x00\x00\x00\x00\x00\x00",
@@ -67,7 +67,7 @@ pub(crate) const HOOKS: [Row; 7] = [
     ),
     (
         b"GET /buckets/b/props HTTP/1.1\r\nHost: h\r\n\r\n",
-        b"HTTP/1.1 200 OK\r\nContent-Type: application/json\r\nContent-Length: 72\r\nX-Content-Type-Options: nosniff\r\nServer: dvvstore\r\n\r\n{\"props\":{\"allow_mult\":true,\"n_val\":3,\"precommit\":\"no\",\"resolver\":null}}",
+        b"HTTP/1.1 200 OK\r\nContent-Type: application/json\r\nContent-Length: 133\r\nX-Content-Type-Options: nosniff\r\nServer: dvvstore\r\n\r\n{\"props\":{\"allow_mult\":true,\"n_val\":3,\"precommit\":\"no\",\"resolver\":null,\"name\":\"b\",\"last_write_wins\":false,\"r\":\"quorum\",\"w\":\"quorum\"}}",
     ),
     (
         b"DELETE /hooks/none HTTP/1.1\r\nHost: h\r\n\r\n",
