@@ -1,6 +1,6 @@
 use Rattle.std.proofs.Common.{sym, ◌∙◌, ap}
-use Rattle.hook_readers.proofs.Adding.{adds_moves}
-use Rattle.hook_readers.proofs.front.Front.grow.Goals as goal
+use Rattle.shared_prefix.proofs.Adding.{adds_moves}
+use Rattle.shared_prefix.proofs.prefix.Front.grow.Goals as goal
 
 pub compare_exchange-found-requires : goal.compare_exchange-found-requires
 compare_exchange-found-requires g c =

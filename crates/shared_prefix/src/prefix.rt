@@ -1,9 +1,16 @@
-ghost use Rattle.std.specs.Prelude.{◌≡◌, ◌+◌, ◌==◌, ◌<◌, ◌≤◌, ◌^◌, ◌++◌, ◌∷◌, ◌⊎◌, [], length, MatchBool};
+//! Prefixes of a list that only grows. What a thread knows of the list stays a prefix of it, whatever other threads add.
+//!
+//! Iris has the same as `mono_list` (Iris, `algebra/lib/mono_list.v`): one list that only grows, and any number of its prefixes.
+
+ghost use Rattle.std.specs.Prelude.{◌≡◌, ◌+◌, ◌==◌, ◌<◌, ◌≤◌, ◌^◌, ◌++◌, ◌∷◌, ◌⊎◌, ◌↔◌, [], length, IsTrue, MatchBool};
 ghost use mathlib.Core.List.{IsPrefix};
-ghost use Rattle.hook_readers.specs.Rules.{head_of, IsLonger};
+ghost use Rattle.shared_prefix.specs.Rules.{head_of, IsLonger};
 
 use logbook::{Gain, Offer, Plain, Play, Rule, Seen, Start, Word};
 use std::marker::{Brand, Model, PhantomData};
+
+/// So many members a list has at the most.
+const MAX_MEMBERS: u64 = 1 << 62;
 
 /// The rule of the book.
 pub struct Law;
@@ -11,7 +18,7 @@ pub struct Law;
 impl<C> Rule<C, u64> for Law {
     ghost use Rattle.std.specs.Prelude.{[]};
     ghost use base.Fml.{ftrue};
-    ghost use Rattle.hook_readers.specs.Rules.{IsKept};
+    ghost use Rattle.shared_prefix.specs.Rules.{IsKept};
 
     ghost holds = { λ cells log. IsKept cells log };
 
@@ -39,7 +46,7 @@ impl<C> Gain<C, u64> for Nothing {
 pub struct Add;
 
 impl<C> Play<C, u64> for Add {
-    ghost use Rattle.hook_readers.specs.Rules.{Adds};
+    ghost use Rattle.shared_prefix.specs.Rules.{Adds};
 
     ghost then = { Adds };
 }
@@ -64,7 +71,7 @@ impl Naming for Brand {
     ghost book = { record { number = 0; log_name = 0; cells_name = 0 } };
 }
 
-/// A book with an empty list, which has no name yet.
+/// An empty list, which has no name yet.
 pub struct Opened<C> {
     head: Word<C, u64, Law>,
     seen: Seen<C, u64, Law>,
@@ -73,6 +80,9 @@ pub struct Opened<C> {
 }
 
 impl<C> Opened<C> {
+    ghost use Rattle.shared_prefix.specs.Lists.{book_of};
+
+    /// A list of its own, with no member.
     pub fn new() -> Opened<C> {
         let (seen, mut first, _second) = Seen::open(Start::alone(), 0, 0);
         Opened {
@@ -81,9 +91,9 @@ impl<C> Opened<C> {
         }
     }
 
-    /// The book's word under a name, and the front that has seen nothing.
+    /// The list's word under a name, and the front that has seen nothing.
     pub fn named<J: Naming>(self) -> (Book<C, J>, Front<C, J>)
-        requires { self.seen.book ≡ J.book }
+        requires { book_of self ≡ J.book }
         ensures { result.1 ≡ [] }
     {
         let Opened { head, seen } = self;
@@ -109,7 +119,7 @@ pub struct Book<C, J: Naming> {
     ghost head_is: { head ≡ head_of J.book },
 }
 
-/// A beginning of the list that was seen. Contracts see it as its members.
+/// A prefix of the list, as it was seen. Contracts see it as its members.
 #[derive(Drop)]
 pub struct Front<C, J: Naming> {
     count: u64,
@@ -133,6 +143,13 @@ impl<C, J: Naming> Front<C, J> {
         ensures length { result ≡ length self.now }
     {
         self.count
+    }
+
+    /// Whether it has as many members as a list may have: 2^62.
+    pub fn is_full(&self) -> bool
+        ensures { IsTrue result ↔ 2 ^ 62 ≤ length self.now }
+    {
+        self.count >= MAX_MEMBERS
     }
 
     /// A copy.
@@ -161,7 +178,8 @@ impl<C, J: Naming> Front<C, J> {
         }
     }
 
-    /// Adds a member to all that was seen, and says whether it did. It did not where the list is longer.
+    /// Adds a member to the list where all of that was seen, and says whether it did. It did not where the list is longer: then all of it
+    /// is seen. A list that is full doesn't grow ([`is_full`](Front::is_full)).
     pub fn grow(&mut self, book: &Book<C, J>, member: &C) -> bool
         requires room { length self.old < 2 ^ 62 }
         ensures { MatchBool result (self.new ≡ self.old ++ member.now ∷ []) (IsLonger self.old self.new) }
