@@ -6,9 +6,9 @@ ghost use Rattle.hook_readers.specs.Edits.{changes_of};
 ghost use Rattle.hook_readers.specs.declared.edit.Edit.{Edit as Made};
 
 use crate::edit::Edit;
-use crate::{Front, Naming};
 use hook_registry::Registry;
 use left_right::Absorb;
+use shared_prefix::{Front, Naming};
 use std::marker::Model;
 
 /// A change, with the front that ends with it. Contracts see the front.

@@ -9,12 +9,12 @@ ghost use Rattle.hook_readers.specs.Edits.{changes_of, Finds, Names};
 
 use crate::edit::Edit;
 use crate::rack::Rack;
-use crate::{Front, Naming};
 use bpf_image::ImageKind;
 use bpf_verifier::Verified;
 use hook_registry::{Hooks, NameFault, NotSeen};
 use key_state::Bytes;
 use left_right::ReadHandle;
+use shared_prefix::{Front, Naming};
 use std::marker::Model;
 use std::sync::Arc;
 

@@ -6,7 +6,7 @@ use Rattle.hook_readers.specs.declared.edit.Edit.{Edit}
 use Rattle.hook_readers.specs.Edits.{change_of, changes_of}
 use Rattle.hook_readers.proofs.Fronts.{changes_prefix}
 use Rattle.hook_sharing.specs.Lists.{last_of}
-use Rattle.hook_readers.proofs.FrontLemmas.{prefix_shorter, prefix_whole, prefix_length}
+use Rattle.shared_prefix.proofs.Prefixes.{prefix_shorter, prefix_whole, prefix_length}
 
 -- the longer of a front and of one that has one more at its end
 pub one_longer : {A : Type 0} (mine op r before : List A) (e : A) → (r ≡ op) ⊎ (r ≡ mine) → IsPrefix op r → IsPrefix mine r → op ≡ before ++ e ∷ [] → 0 < length op → length mine ≡ length op - 1 → mine ++ e ∷ [] ≡ r

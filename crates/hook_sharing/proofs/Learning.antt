@@ -2,7 +2,7 @@
 use Rattle.std.proofs.Common.{◌≡◌, ◌⊎◌, ◌++◌, List, sym, refl, ⊎_elim, subst}
 use mathlib.Core.List.{IsPrefix}
 use Rattle.hook_registry.specs.Changes.{Change}
-use Rattle.hook_readers.proofs.FrontLemmas.{prefix_whole, prefix_length, prefix_trans}
+use Rattle.shared_prefix.proofs.Prefixes.{prefix_whole, prefix_length, prefix_trans}
 
 -- it knows what it was told, where that begins with all that it knew
 pub learned : (old note new : List Change) → IsPrefix old note → (new ≡ old) ⊎ (new ≡ note) → IsPrefix note new → new ≡ note

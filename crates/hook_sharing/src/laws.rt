@@ -6,7 +6,8 @@ ghost use mathlib.Core.List.{IsPrefix};
 
 use crate::installer::Installer;
 use crate::worker::ReadHooks;
-use hook_readers::{HookReader, Naming, Rack};
+use hook_readers::{HookReader, Rack};
+use shared_prefix::Naming;
 use std::sync::Wait;
 
 /// Of what two readers know, one begins the other.

@@ -11,9 +11,9 @@ ghost use Rattle.hook_sharing.specs.Taking.{Takes, Judged};
 use crate::{HookReader, Installer, Rack};
 use bpf_image::ImageKind;
 use bpf_verifier::Verified;
-use hook_readers::Naming;
 use hook_registry::{HookChanges, HookFault};
 use key_state::Bytes;
+use shared_prefix::Naming;
 use std::sync::{Arc, Mutex, MutexGuard, Wait};
 
 /// The installer, taken once it has all that the reader knows. Of a reader of its own registry it has that at once.

@@ -4,8 +4,9 @@ ghost use Rattle.std.specs.Prelude.{◌≡◌, []};
 ghost use Rattle.hook_sharing.specs.Lists.{list_of};
 
 use crate::published::Published;
-use hook_readers::{Book, Edit, Front, Naming, Opened};
+use hook_readers::Edit;
 use hook_registry::Registry;
+use shared_prefix::{Book, Front, Naming, Opened};
 use std::alloc::Global;
 use std::hash::DefaultHasher;
 use thiserror::Error;

@@ -9,14 +9,12 @@ ghost use Rattle.hook_readers.specs.Edits.{changes_of};
 ghost use Rattle.hook_sharing.specs.Lists.{last_of};
 
 use crate::opening::Ground;
-use hook_readers::{Book, Edit, Front, Naming, Op, Rack};
+use hook_readers::{Edit, Op, Rack};
 use left_right::{ReadHandle, WriteHandle};
+use shared_prefix::{Book, Front, Naming};
 use std::alloc::{AllocError, Global};
 use std::collections::VecDeque;
 use std::sync::Wait;
-
-// The longest list of changes.
-const MOST: u64 = 1 << 62;
 
 /// The writer, beside the front of all changes that were handed to it or are held back, and the changes that come after them.
 pub(crate) struct Outlet<J: Naming, T: Rack<J> + Drop, R: Wait + Drop> {
@@ -127,7 +125,7 @@ impl<J: Naming, T: Rack<J> + Drop, R: Wait + Drop> Outlet<J, T, R> {
         ensures waiting { self.new.waiting ≡ self.old.waiting }
         ensures front { MatchResult result (λ _. self.new.front ≡ self.old.front ++ edit ∷ []) (λ back. (back ≡ edit) × (self.new.front ≡ self.old.front)) }
     {
-        if self.front.len() >= MOST {
+        if self.front.is_full() {
             return Err(edit);
         }
         let mut front = self.front.again();

@@ -5,9 +5,10 @@ ghost use Rattle.hook_registry.specs.Tables.{Shows};
 ghost use Rattle.hook_readers.specs.Edits.{changes_of};
 
 use crate::edit::apply;
-use hook_readers::{Edit, Front, Naming, Op, Rack};
+use hook_readers::{Edit, Op, Rack};
 use hook_registry::Registry;
 use left_right::Absorb;
+use shared_prefix::{Front, Naming};
 use std::alloc::AllocError;
 use std::marker::Model;
 

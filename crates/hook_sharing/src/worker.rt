@@ -7,9 +7,9 @@ ghost use Rattle.hook_sharing.specs.Taking.{Takes};
 use crate::{HookReader, Installer, Rack, making};
 use bpf_image::ImageKind;
 use bpf_verifier::Verified;
-use hook_readers::Naming;
 use hook_registry::{HookChanges, HookFault, Hooks, NameFault, NotSeen};
 use key_state::Bytes;
+use shared_prefix::Naming;
 use std::marker::Model;
 use std::sync::{Arc, Mutex, Wait};
 

@@ -4,7 +4,7 @@ ghost use Rattle.std.specs.Prelude.{◌≡◌, ◌<◌, ◌^◌, [], IfOk, vec_l
 ghost use Rattle.std.specs.List.{All};
 
 use crate::{Ground, HookReader, Installer, NoReader, Rack};
-use hook_readers::Naming;
+use shared_prefix::Naming;
 use std::alloc::{AllocError, Global};
 use std::sync::{Mutex, Wait};
 use thiserror::Error;

@@ -1,9 +1,9 @@
 //! Changes of an installer, and what two readers see of them.
 
 use crate::tests::parts::{BEFORE, Change, RESOLVER, Row, bound, is_bound, kind_of, make_changes};
-use hook_readers::Naming;
 use hook_registry::{HookFault, NameFault};
 use hook_sharing::{HookReader, Installer, Rack};
+use shared_prefix::Naming;
 use std::alloc::Global;
 use std::sync::Wait;
 use std::test::Fail;

@@ -7,8 +7,8 @@ use crate::tests::installing::{
     an_old_note, gone_once_published, judged_by_all_changes, sees_nothing,
 };
 use crate::tests::working::{WORKERS, four_workers};
-use hook_readers::Naming;
 use hook_sharing::{Ground, HookReader, Installer, Opening, Rack, open};
+use shared_prefix::Naming;
 use std::alloc::Global;
 use std::marker::Brand;
 use std::sync::{Mutex, Wait};

@@ -2,9 +2,9 @@
 
 use crate::tests::parts::{BEFORE, Change, RESOLVER, Row, is_bound, kind_of, make_changes};
 use bpf_image::ImageKind;
-use hook_readers::Naming;
 use hook_registry::{HookChanges, HookFault, Hooks};
 use hook_sharing::{HookReader, Installer, Rack, WorkerHooks};
+use shared_prefix::Naming;
 use std::alloc::{AllocError, Global};
 use std::sync::{Mutex, Wait};
 use std::test::Fail;

@@ -1,5 +1,6 @@
 use Rattle.std.proofs.Common.{arith}
-use Rattle.hook_readers.proofs.Fronts.{no_shorter, changes_prefix}
+use Rattle.shared_prefix.proofs.Prefixes.{no_shorter}
+use Rattle.hook_readers.proofs.Fronts.{changes_prefix}
 use Rattle.hook_readers.proofs.reader.caught_up.Goals as goal
 
 pub returns-clause-whole : goal.returns-clause-whole

@@ -2,7 +2,7 @@ use Rattle.std.proofs.Common.{◌≡◌, ◌++◌, List, refl, sym, ap, ◌∙�
 use mathlib.Core.List.{IsPrefix}
 use Rattle.std.proofs.lemmas.Bool.Decides.{nat_tests}
 use Rattle.left_right.specs.Handles.{published}
-use Rattle.hook_readers.proofs.FrontLemmas.{prefix_trans}
+use Rattle.shared_prefix.proofs.Prefixes.{prefix_trans}
 use Rattle.hook_readers.specs.declared.edit.Edit.{Edit}
 use Rattle.hook_readers.specs.Edits.{changes_of}
 use Rattle.hook_readers.proofs.Fronts.{changes_prefix}

@@ -1,0 +1,102 @@
+//! Prefixes of the list of all sheets: up to one that was handed over, those that were written, and those that were forced.
+
+ghost use Rattle.std.specs.Prelude.{◌≡◌, ◌↔◌, IsTrue};
+ghost use mathlib.Core.List.{IsPrefix};
+
+use crate::sheet::Sheet;
+use shared_prefix::{Front, Naming};
+use std::marker::Model;
+
+/// What a worker has of a sheet that it handed over: the list up to that sheet. [`LogBuffer::put_down`](crate::LogBuffer::put_down) alone
+/// makes one.
+#[derive(Drop)]
+pub struct Receipt<J: Naming> {
+    list: Front<Sheet, J>,
+}
+
+impl<J: Naming> Model for Receipt<J> {
+    ghost use Rattle.std.specs.Prelude.{List};
+    ghost use Rattle.log_writer.specs.declared.sheet.Sheet.{Sheet};
+
+    ghost Value = { List Sheet };
+
+    ghost view = { λ r. r.list };
+}
+
+impl<J: Naming> Receipt<J> {
+    // Of the list up to a sheet.
+    pub(crate) fn new(list: Front<Sheet, J>) -> Receipt<J>
+        ensures { result ≡ list }
+    {
+        Receipt { list }
+    }
+}
+
+/// Sheets that were written: they outlive a process that is killed. [`LogWriter::write`](crate::LogWriter::write) alone makes one.
+#[derive(Drop)]
+pub struct Written<J: Naming> {
+    list: Front<Sheet, J>,
+}
+
+impl<J: Naming> Model for Written<J> {
+    ghost use Rattle.std.specs.Prelude.{List};
+    ghost use Rattle.log_writer.specs.declared.sheet.Sheet.{Sheet};
+
+    ghost Value = { List Sheet };
+
+    ghost view = { λ w. w.list };
+}
+
+impl<J: Naming> Written<J> {
+    // That these were.
+    pub(crate) fn new(list: Front<Sheet, J>) -> Written<J>
+        ensures { result ≡ list }
+    {
+        Written { list }
+    }
+
+    /// Whether the sheet of a receipt is among them, and all that were handed over before it.
+    pub fn has(&self, receipt: &Receipt<J>) -> bool
+        ensures { IsTrue result ↔ IsPrefix receipt.now self.now }
+    {
+        has_all(&self.list, &receipt.list)
+    }
+}
+
+/// Sheets that were forced: they outlive every crash. [`LogWriter::force`](crate::LogWriter::force) alone makes one.
+#[derive(Drop)]
+pub struct Forced<J: Naming> {
+    list: Front<Sheet, J>,
+}
+
+impl<J: Naming> Model for Forced<J> {
+    ghost use Rattle.std.specs.Prelude.{List};
+    ghost use Rattle.log_writer.specs.declared.sheet.Sheet.{Sheet};
+
+    ghost Value = { List Sheet };
+
+    ghost view = { λ f. f.list };
+}
+
+impl<J: Naming> Forced<J> {
+    // That these were.
+    pub(crate) fn new(list: Front<Sheet, J>) -> Forced<J>
+        ensures { result ≡ list }
+    {
+        Forced { list }
+    }
+
+    /// Whether the sheet of a receipt is among them, and all that were handed over before it.
+    pub fn has(&self, receipt: &Receipt<J>) -> bool
+        ensures { IsTrue result ↔ IsPrefix receipt.now self.now }
+    {
+        has_all(&self.list, &receipt.list)
+    }
+}
+
+// Whether a list has all of another, at its head.
+fn has_all<J: Naming>(list: &Front<Sheet, J>, other: &Front<Sheet, J>) -> bool
+    ensures { IsTrue result ↔ IsPrefix other.now list.now }
+{
+    list.longer(other).len() == list.len()
+}

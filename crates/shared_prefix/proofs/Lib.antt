@@ -1,0 +1,2 @@
+pub mod Prefixes
+mod Adding
