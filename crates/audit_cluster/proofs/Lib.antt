@@ -3,4 +3,6 @@ mod Counts
 mod Taken
 mod Left
 mod Ends
+mod Happening
+pub mod Rows
 pub mod Sent

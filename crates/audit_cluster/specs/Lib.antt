@@ -1,2 +1,3 @@
 pub mod Audits
 pub mod Following
+pub mod Moments

@@ -5,6 +5,7 @@
 mod closing;
 mod copying;
 mod ending;
+pub mod laws;
 mod limits;
 mod watch;
 

@@ -30,6 +30,7 @@ use Rattle.audit_replay.specs.Runs.{IsRunFrom}
 use Rattle.audit_replay.specs.Turns.{EntryIn, count_at}
 use Rattle.audit_replay.specs.Wrong.{IsAfterAll, HasReadOf, IsFounded, IsGivenUpAt, IsHeld, NamesHeld}
 use Rattle.audit_replay.proofs.Grown.{step_in, entry_stays, front_stays, grown_at, others_at, same_size, behind_more, front_joins_none, whole_still, fronts_before, fronts_are, no_fronts, opened_begins, rising_more, single_more, sources_more}
+use Rattle.audit_replay.proofs.Moments.{all_before, new_there}
 use Rattle.audit_replay.proofs.Next.{step_at, at_end, rise_more, all_more}
 use Rattle.audit_replay.proofs.Ran.{run_of}
 use Rattle.audit_replay.proofs.Steps.{begins, put_goes_on, read_goes_on, restart_goes_on, merge_goes_on}
@@ -68,19 +69,19 @@ so_far_more : (fronts : List ℕ) (begin : Knowledge) (logs : List Log) (last : 
     → MayFollow (log_at logs i).vnode (log_at logs i).entries e → Answers (log_at logs i).vnode (log_at logs i).entries e a → HasSource logs answers e
     → IsSoFar begin logs (steps_behind fronts run.order ++ step_at i (length (log_at logs i).entries) e ∷ []) (with_entry_at logs i e) (run.messages ++ told_of (log_at logs i).vnode (length (log_at logs i).entries) e a ∷ [])
 so_far_more fronts begin logs last recent answers run i (Put stamp key seen content dot) a so_far inside follows answer source =
-    put_goes_on begin logs logs (with_entry_at logs i (Put stamp key seen content dot)) (steps_behind fronts run.order) run.messages i (length (log_at logs i).entries) stamp key seen content dot so_far inside (record { entries = refl; follows = follows })
+    put_goes_on begin logs logs (with_entry_at logs i (Put stamp key seen content dot)) (steps_behind fronts run.order) run.messages i stamp key seen content dot so_far inside (record { entries = refl; follows = follows })
 so_far_more fronts begin logs last recent answers run i (Restart stamp) a so_far inside follows answer source =
-    restart_goes_on begin logs logs (with_entry_at logs i (Restart stamp)) (steps_behind fronts run.order) run.messages i (length (log_at logs i).entries) stamp so_far inside (record { entries = refl; follows = follows })
+    restart_goes_on begin logs logs (with_entry_at logs i (Restart stamp)) (steps_behind fronts run.order) run.messages i stamp so_far inside (record { entries = refl; follows = follows })
 so_far_more fronts begin logs last recent answers run i (Read stamp key) (copied state) so_far inside follows answer source =
     let m : Message = record { key = key; from = (log_at logs i).vnode; at = length (log_at logs i).entries; state = state } in
-    read_goes_on begin logs logs (with_entry_at logs i (Read stamp key)) (steps_behind fronts run.order) run.messages i (length (log_at logs i).entries) stamp m so_far inside (record { entries = refl; follows = follows }) answer refl refl
+    read_goes_on begin logs logs (with_entry_at logs i (Read stamp key)) (steps_behind fronts run.order) run.messages i stamp m so_far inside (record { entries = refl; follows = follows }) answer refl refl
 so_far_more fronts begin logs last recent answers run i (Read stamp key) (numbered dot) so_far inside follows answer source = absurd answer
 so_far_more fronts begin logs last recent answers run i (Read stamp key) (changed changes) so_far inside follows answer source = absurd answer
 so_far_more fronts begin logs last recent answers run i (Read stamp key) done so_far inside follows answer source = absurd answer
 so_far_more fronts begin logs last recent answers run i (Merge stamp key from at state) (changed changes) so_far inside follows answer source =
     let m : Message = record { key = key; from = from; at = at; state = state } in
     let s = source_of fronts logs last recent answers run key from at state source in
-    merge_goes_on begin logs logs (with_entry_at logs i (Merge stamp key from at state)) (steps_behind fronts run.order) run.messages i (length (log_at logs i).entries) stamp s.0 m changes so_far inside s.1 s.2 (record { entries = refl; follows = follows }) answer
+    merge_goes_on begin logs logs (with_entry_at logs i (Merge stamp key from at state)) (steps_behind fronts run.order) run.messages i stamp s.0 m changes so_far inside s.1 s.2 (record { entries = refl; follows = follows }) answer
 so_far_more fronts begin logs last recent answers run i (Merge stamp key from at state) (numbered dot) so_far inside follows answer source = absurd answer
 so_far_more fronts begin logs last recent answers run i (Merge stamp key from at state) (copied other) so_far inside follows answer source = absurd answer
 so_far_more fronts begin logs last recent answers run i (Merge stamp key from at state) done so_far inside follows answer source = absurd answer
@@ -109,14 +110,6 @@ still_kept fronts logs steps more messages told i x index place (kept.Read key) 
   step = still h.number (step_at index place (Read h.stamp key)) h.step;
   sent = also h.number _ h.sent ∙ ap (λ (v : ℕ). Some (Some (let m : Message = record { key = key; from = v; at = place; state = h.state } in m))) ((same_ids logs i x).1 index);
 }
-
--- the new one stands there
-new_there : (logs : List Log) (i : ℕ) (x : Entry) → i < length logs → EntryIn (with_entry_at logs i x) i (length (log_at logs i).entries) x
-new_there logs i x inside = (omega (arith, same_size logs i x, inside), ap (λ (l : Log). slice_get l.entries (length (log_at logs i).entries)) (grown_at logs i x inside) ∙ at_end (log_at logs i).entries x (length (log_at logs i).entries) refl)
-
--- what it comes behind stays before it
-all_before : (logs : List Log) (i : ℕ) (x : Entry) → i < length logs → take (length (log_at logs i).entries) (log_at (with_entry_at logs i x) i).entries ≡ (log_at logs i).entries
-all_before logs i x inside = front_stays logs i x i (length (log_at logs i).entries) inside (omega arith) ∙ take_all (length (log_at logs i).entries) (log_at logs i).entries (omega arith)
 
 -- what is kept of a read
 read_kept : (fronts : List ℕ) (logs : List Log) (steps : List Step) (messages : List (Option Message)) (i stamp : ℕ) (key : Key) (a : Answer) → length messages ≡ length steps → i < length logs → IsBehind fronts i (length (log_at logs i).entries)
@@ -436,6 +429,7 @@ run_from fronts logs last recent answers run begin begun are begins_so =
       replies = so_far.replies;
       known = so_far.known;
       happened = so_far.happened;
+      moments = so_far.moments;
       events = ran.0;
       run = ran.1;
       causal = lawful_causal so_far.known so_far.represents.lawful;

@@ -9,9 +9,12 @@ mod Keeping
 pub mod Names
 pub mod Opening
 mod Grown
+mod Moments
+mod Ordered
 mod Answered
 mod Going
 mod Telling
 pub mod Staying
 mod Fronts
 pub mod Faultless
+pub mod Rows

@@ -1,5 +1,5 @@
 -- Logs are named by their identifiers alone, so that what happened stays so while they grow.
-use Rattle.std.proofs.Common.{◌≡◌, ℕ, zero, suc, List, [], ◌∷◌, refl, sym, ap, ◌∙◌, Option}
+use Rattle.std.proofs.Common.{◌≡◌, ◌==◌, if◌then◌else◌, ℕ, zero, suc, List, [], ◌∷◌, length, refl, sym, ap, subst, ◌∙◌, Option}
 use Rattle.key_state.specs.declared.content.Key.{Key}
 use Rattle.journal.specs.Entry.{Entry, Put, Merge, Read, Restart}
 use Rattle.journal.specs.Logs.{Log}
@@ -9,7 +9,7 @@ use Rattle.world.specs.declared.event.Reply.{Reply}
 use Rattle.world.specs.Knowledge.{Knowledge}
 use Rattle.world.specs.Represents.{log_at, with_entry_at}
 use Rattle.audit_replay.specs.Order.{Step}
-use Rattle.audit_replay.specs.Interleaved.{IsSource, IsEventOf, Happened, nothing, one_more, ids_of}
+use Rattle.audit_replay.specs.Interleaved.{IsSource, IsEventOf, Happened, IsMoment, known_before, nothing, one_more, ids_of}
 use Rattle.audit_replay.specs.Rerun.{IsSoFar}
 
 -- two lists of logs have the same identifiers
@@ -30,11 +30,19 @@ happened_renamed begin a b same _ _ _ nothing = nothing
 happened_renamed begin a b same _ _ _ (one_more steps replies old step what reply new before is happens) =
     one_more steps replies old step what reply new (happened_renamed begin a b same steps replies old before) (event_renamed a b same steps replies step.vnode step.entry what reply is) happens
 
+-- and what was known before each step
+known_renamed : (begin : Knowledge) (a b : List Log) (same : HaveSameIds a b) (steps : List Step) (replies : List Reply) (known : Knowledge) (h : Happened begin a steps replies known) (number : ℕ) → known_before (happened_renamed begin a b same steps replies known h) number ≡ known_before h number
+unfolding happened_renamed
+known_renamed begin a b same _ _ _ nothing number = refl
+known_renamed begin a b same _ _ _ (one_more steps replies old step what reply new before is happens) number =
+    ap (λ (w : Knowledge). if number == length steps then old else w) (known_renamed begin a b same steps replies old before number)
+
 pub so_far_renamed : (begin : Knowledge) (a b : List Log) → HaveSameIds a b → (steps : List Step) (now : List Log) (messages : List (Option Message)) → IsSoFar begin a steps now messages → IsSoFar begin b steps now messages
 so_far_renamed begin a b same steps now messages so_far = record {
   replies = so_far.replies;
   known = so_far.known;
   happened = happened_renamed begin a b same steps so_far.replies so_far.known so_far.happened;
+  moments = λ number s at. subst (λ (w : Knowledge). IsMoment now s w) (sym (known_renamed begin a b same steps so_far.replies so_far.known so_far.happened number)) (so_far.moments number s at);
   represents = so_far.represents;
   remember = so_far.remember;
   len = so_far.len;

@@ -1,7 +1,8 @@
 -- Journals as one run of the world: all entries in the order of their stamps, each the event that it says.
-use Rattle.std.specs.Prelude.{◌≡◌, ◌<◌, ℕ, Bool, List, [], ◌∷◌, ◌++◌, length, map, slice_get, Some}
+use Rattle.std.specs.Prelude.{◌≡◌, ◌<◌, ◌==◌, if◌then◌else◌, ℕ, Bool, List, [], ◌∷◌, ◌++◌, length, map, slice_get, take, Some}
 use Rattle.key_state.specs.declared.content.Key.{Key}
 use Rattle.journal.specs.Entry.{Entry, Put, Merge, Read, Restart}
+use Rattle.journal.specs.Journals.{MayFollow}
 use Rattle.journal.specs.Logs.{Log}
 use Rattle.world.specs.declared.event.Event.{Event}
 use Rattle.world.specs.declared.event.Event.TheVariants as event
@@ -12,9 +13,10 @@ use Rattle.world.specs.declared.event.Reply.TheVariants.{Stored, Sent, Changed, 
 use Rattle.world.specs.Causality.{IsCausal}
 use Rattle.world.specs.Happening.{Happens, Run}
 use Rattle.world.specs.Knowledge.{Knowledge, opened, known_at}
-use Rattle.world.specs.Represents.{ShowsAt, log_at}
+use Rattle.world.specs.Represents.{Represents, ShowsAt, log_at}
 use Rattle.audit_replay.specs.Beginnings.{ComeFirst, steps_behind}
 use Rattle.audit_replay.specs.Order.{Step, IsInStampOrder}
+use Rattle.audit_replay.specs.Turns.{EntryIn}
 
 -- the identifiers of the vnodes
 abbrev pub ids_of : List Log → List ℕ
@@ -42,9 +44,25 @@ pub data Happened (begin : Knowledge) (logs : List Log) : List Step → List Rep
       → Happened begin logs steps replies old → IsEventOf logs steps replies step.vnode step.entry what reply → Happens [] old what reply new
       → Happened begin logs (steps ++ step ∷ []) (replies ++ reply ∷ []) new
 
+-- what was known when the step with this number was next
+abbrev pub known_before : {begin : Knowledge} {logs : List Log} {steps : List Step} {replies : List Reply} {known : Knowledge} → Happened begin logs steps replies known → ℕ → Knowledge
+known_before {begin} nothing number = begin
+known_before (one_more steps replies old step what reply new before is happens) number = if number == length steps then old else known_before before number
+
+-- This was known when a step of these journals was next: some journals had brought it. That of the step's vnode had the entries that stand before the step's
+-- own now, and the step's entry may follow them.
+pub record IsMoment (logs : List Log) (step : Step) (old : Knowledge) : Type 0 where
+  pub entry : EntryIn logs step.vnode step.place step.entry
+  pub now : List Log
+  pub size : length now ≡ length logs
+  pub represents : Represents now old
+  pub front : log_at now step.vnode ≡ record { vnode = (log_at logs step.vnode).vnode; entries = take step.place (log_at logs step.vnode).entries }
+  pub follows : MayFollow (log_at now step.vnode).vnode (log_at now step.vnode).entries step.entry
+
 -- From a beginning on, to which the fronts of journals have led, the entries behind the fronts are a run of the world, in the order of the stamps of
 -- all entries, of which none stands twice, and the fronts come first. So no write had seen its own identifier or a later put's, no
 -- identifier of a key stands for two, and each journal leaves at each key the current ones of the writes that its vnode knows, and their context.
+-- What was known before each step is what the journals brought up to it.
 pub record IsInterleavingFrom (begin : Knowledge) (fronts : List ℕ) (logs : List Log) : Type 0 where
   pub order : List Step
   pub in_order : IsInStampOrder logs order
@@ -52,6 +70,7 @@ pub record IsInterleavingFrom (begin : Knowledge) (fronts : List ℕ) (logs : Li
   pub replies : List Reply
   pub known : Knowledge
   pub happened : Happened begin logs (steps_behind fronts order) replies known
+  pub moments : (number : ℕ) (step : Step) → slice_get (steps_behind fronts order) number ≡ Some step → IsMoment logs step (known_before happened number)
   pub events : List Event
   pub run : Run [] begin events replies known
   pub causal : IsCausal known.puts

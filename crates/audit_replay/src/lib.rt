@@ -6,6 +6,7 @@ mod again;
 mod followed;
 mod heads;
 mod kept;
+pub mod laws;
 mod rerun;
 mod sizes;
 mod sources;

@@ -11,9 +11,9 @@ use Rattle.cluster_stamps.specs.declared.view.Told.{Told}
 use Rattle.cluster_stamps.specs.declared.view.History.{History}
 use Rattle.cluster_stamps.specs.declared.view.View.{View}
 use Rattle.cluster_stamps.specs.declared.view.Size.{Size}
-use Rattle.cluster_stamps.specs.Rule.{times, entries, seen, InOrder, AreInOrder, all_told, stamps, IsKept, IsWithin, IsWhole}
+use Rattle.cluster_stamps.specs.Rule.{times, entries, seen, InOrder, AreInOrder, all_told, stamps, IsAboveAll, IsKept, IsWithin, IsWhole}
 use Rattle.cluster_stamps.proofs.Sums.{append_none, total_at, total_two, same_elements, flat_alone}
-use Rattle.cluster_stamps.proofs.Orders.{once_at_most, none_pending, times-append}
+use Rattle.cluster_stamps.proofs.Orders.{once_at_most, once_below_yes, none_pending, times-append}
 use Rattle.cluster_stamps.proofs.Moves.{numbers}
 
 has_flat : {A B : Type 0} (f : A → List B) (xs : List A) (i : ℕ) (v : A) (t : B) → get_elem? xs i ≡ some v → Contains (f v) t → Contains (flat_map f xs) t
@@ -74,6 +74,20 @@ within size n views id v h k at own t c same =
     only : (i : ℕ) {y : History} → get_elem? (h ∷ []) i ≡ some y → h ≡ y
     only zero {y} e = some-injective h y e
     only (suc i) {y} e = absurd (some-ne-none y (sym e))
+
+stamp_in : (ts : List Told) (t : Told) → Contains ts t → 1 ≤ times t.stamp (map (λ u. u.stamp) ts)
+stamp_in [] t c = absurd (let h = c.1 in omega arith)
+stamp_in (u ∷ us) t c =
+    ⊎_elim (λ (here : u ≡ t). let e = ap (λ (y : Told). y.stamp) here in grind arith) (λ (there : Contains us t). omega (arith, stamp_in us t there)) (has_cases u us t c)
+
+-- the stamp that is drawn next is above those of all that this seat's pass was told
+pub above_all : (size : Size) (n : ℕ) (views : List View) (id : ℕ) (v : View) → IsKept size n views → get_elem? views id ≡ some v → IsAboveAll n v.told
+above_all size n views id v k at t c =
+    let all = Contains-permutation _ _ t k.told (has_flat (λ (u : View). u.told ++ u.owed) views id v t at (Contains-append_left v.told v.owed t c)) in
+    let w = where_flat (λ (u : View). all_told u.histories) views t all in
+    let here = stamp_in (all_told w.1.histories) t w.3 in
+    let whole = times-append t.stamp w.1.pending (map (λ u. u.stamp) (all_told w.1.histories)) in
+    once_below_yes t.stamp n (omega (arith, here, whole, total_at (λ (u : View). times t.stamp (stamps u)) views w.0 w.1 w.2, k.once t.stamp))
 
 no_history : (hs : List History) → length hs ≡ 0 → all_told hs ≡ []
 no_history [] e = refl

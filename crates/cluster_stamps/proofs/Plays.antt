@@ -17,7 +17,7 @@ use Rattle.cluster_stamps.proofs.Sums.{append_none, total-append, flat_snoc}
 use Rattle.cluster_stamps.proofs.Orders.{none_pending}
 use Rattle.cluster_stamps.proofs.Moves.{cuts, joins, numbers, sound_snoc}
 use Rattle.cluster_stamps.proofs.Steps.{appends, settles, word_within, draws, drops, learns}
-use Rattle.cluster_stamps.proofs.Known.{within}
+use Rattle.cluster_stamps.proofs.Known.{above_all, within}
 
 rules_set : (size : Size) (ws : List ℕ) (homes : List (mathlib.Core.Option.Option (Unit {0}))) (m : ℕ) (views : List View) → ws ≡ slice_index ws 0 ∷ [] → IsKept size m views → Rules size record { words = slice_set ws 0 m; homes = homes; views = views }
 rules_set size ws homes m views one k =
@@ -30,7 +30,7 @@ draw_allowed size slots id me room none s rules len at word =
     let n = slice_index s.words 0 in
     let small : (n + 1) % 18446744073709551616 ≡ n + 1 = omega (arith, word_within size n s.views rules.1) in
     let next = draws size n s.views id me.0 rules.1 at room none in
-    (drew me.0 n, keeps, tt, rules_set size s.words s.homes _ _ rules.0 (subst (λ m. IsKept size m (set s.views id (drew me.0 n))) (sym small) next), (refl, refl))
+    (drew me.0 n, keeps, tt, rules_set size s.words s.homes _ _ rules.0 (subst (λ m. IsKept size m (set s.views id (drew me.0 n))) (sym small) next), ((refl, above_all size n s.views id me.0 rules.1 at), refl))
 
 pub forget_allowed : (size : Size) (slots id : ℕ) (me : Me (Unit {0}) View) → Allows (Rules size) slots id me 0 (λ n. n) (λ n after. Drops me.0 n after.0 × (after.1 ≡ me.1))
 forget_allowed size slots id me s rules len at word =

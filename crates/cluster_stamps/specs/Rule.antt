@@ -1,6 +1,6 @@
 -- The rule of the stamp word: what each pass was told is what the vnodes have told, each once, and no stamp stands twice.
-use Rattle.std.specs.Prelude.{◌≡◌, ℕ, zero, suc, ◌+◌, ◌-◌, ◌*◌, ◌≤◌, ◌==◌, List, [], ◌∷◌, ◌++◌, length, map, slice_index, if◌then◌else◌, Result, Ok, Err}
-use Rattle.std.specs.List.{flat_map, Contains}
+use Rattle.std.specs.Prelude.{◌≡◌, ℕ, zero, suc, ◌+◌, ◌-◌, ◌*◌, ◌<◌, ◌≤◌, ◌==◌, List, [], ◌∷◌, ◌++◌, length, map, slice_index, if◌then◌else◌, Result, Ok, Err}
+use Rattle.std.specs.List.{AllPairs, flat_map, Contains}
 use Rattle.std.specs.List.Sorted.{IsPermutation}
 use mathlib.Core.Option.{some}
 use lib.ListN.{get_elem?}
@@ -135,6 +135,14 @@ learned v h t = record { parts = v.parts; drawn = v.drawn; pending = []; told = 
 abbrev pub IsWithin : ℕ → ℕ → List Told → Type 0
 IsWithin vnode n ts = (t : Told) → Contains ts t → t.vnode ≡ vnode → seen t ≤ n
 
+-- a stamp is above those of all that was told
+abbrev pub IsAboveAll : ℕ → List Told → Type 0
+IsAboveAll stamp ts = (t : Told) → Contains ts t → t.stamp < stamp
+
+-- of any two of these the later one has the greater stamp
+abbrev pub StampsRise : List Told → Type 0
+StampsRise ts = AllPairs (λ t u. t.stamp < u.stamp) ts
+
 -- all that was told is all that these histories tell, each once; they are in order, of different vnodes, and no stamp stands twice
 pub record IsWhole (ts : List Told) (hs : List History) : Type 0 where
   pub told : IsPermutation ts (all_told hs)
@@ -190,9 +198,9 @@ no_request = request.Restart
 abbrev pub no_call : Told
 no_call = record { vnode = 0; at = 0; stamp = 0; news = news.Call no_request (Ok reply.Done) }
 
--- a stamp was drawn, and is pending
+-- a stamp was drawn, which is pending, and above all that the pass was told
 abbrev pub Draws : View → ℕ → View → Type 0
-Draws v n w = w ≡ drew v n
+Draws v n w = (w ≡ drew v n) × IsAboveAll n v.told
 
 -- the pending stamp was dropped
 abbrev pub Drops : View → ℕ → View → Type 0

@@ -2,7 +2,7 @@
 
 ghost use Rattle.std.specs.Prelude.{◌≡◌, ℕ, ◌+◌, ◌*◌, ◌^◌, ◌<◌, ◌≤◌, List, [], ◌∷◌, length, IfOk};
 ghost use Rattle.cluster_stamps.specs.declared.view.History.{History};
-ghost use Rattle.cluster_stamps.specs.Rule.{newcomer, drew, dropped, learned, IsWithin, IsWhole, TellsOf, AppendsOf, Settles, Looks, nothing, together, without_pass, pass_of, less_one, one_part, less_history, first_history, stamps_each, entries, IsSound, call_of, hand_out_of};
+ghost use Rattle.cluster_stamps.specs.Rule.{newcomer, drew, dropped, learned, IsAboveAll, IsWithin, IsWhole, TellsOf, AppendsOf, Settles, Looks, nothing, together, without_pass, pass_of, less_one, one_part, less_history, first_history, stamps_each, entries, IsSound, call_of, hand_out_of};
 ghost use Rattle.journal.specs.Blocks.{all_of};
 
 use crate::Reply;
@@ -42,13 +42,14 @@ impl Stamps {
         Ok((Stamps { table }, card))
     }
 
-    /// Draws the next stamp, which no other call draws.
+    /// Draws the next stamp, which no other call draws. It is above those of all that the card's pass was told, by whatever vnode.
     pub fn draw(&self, card: &mut Card) -> u64
         requires table { card.old.table_id ≡ self.now.table.shared.table_id }
         requires room { card.old.me.0.drawn < stamps_each * card.old.me.0.parts }
         requires none { card.old.me.0.pending ≡ [] }
         ensures table { card.new.table_id ≡ card.old.table_id }
         ensures drew { card.new.me ≡ (drew card.old.me.0 result, card.old.me.1) }
+        ensures above { IsAboveAll result card.old.me.0.told }
     {
         self.table.shared.fetch_add::<Draw>(card, 0, 1)
     }

@@ -16,7 +16,7 @@ use Rattle.cluster_stamps.specs.declared.view.News.TheVariants as news
 use Rattle.cluster_stamps.specs.declared.view.Told.{Told}
 use Rattle.cluster_stamps.specs.declared.view.History.{History}
 use Rattle.cluster_stamps.specs.declared.view.View.{View}
-use Rattle.cluster_stamps.specs.Rule.{together, drew, dropped, learned, without_pass, entries, entry_count, outcome_count, IsWithin, TellsOf}
+use Rattle.cluster_stamps.specs.Rule.{together, drew, dropped, learned, without_pass, entries, entry_count, outcome_count, IsAboveAll, IsWithin, TellsOf}
 use Rattle.cluster_vnode.specs.Answers.{IsAnswered, entry_of_call, entries_made, entries_of, AreAnswered, IsVnodes, log_of, lacks, lacks_memory}
 use Rattle.cluster_vnode.specs.Calls.{pass_view, told_then}
 
@@ -57,6 +57,11 @@ back_is w x h drawn ts stamp t ew told = (told h (ap (λ (y : View). y.histories
 
 pub within_is : (w x : View) (h : History) (drawn : ℕ) (ts : List Told) (stamp : ℕ) (t : Told) → w ≡ lent drawn ts h stamp → TellsOf t w x → IsWithin h.vnode (entries h.told) ts
 within_is w x h drawn ts stamp t ew told = subst (λ (y : View). IsWithin h.vnode (entries h.told) y.told) ew (told h (ap (λ (y : View). y.histories) ew)).1
+
+-- a stamp that the seat with the pass draws is above all that the pass was told
+pub above_is : (v p w : View) (h : History) (drawn : ℕ) (ts : List Told) (stamp : ℕ) → v ≡ record { parts = 0; drawn = 0; pending = []; told = []; owed = []; histories = h ∷ [] } → p ≡ pass_view drawn ts → w ≡ together v p → IsAboveAll stamp w.told → IsAboveAll stamp ts
+above_is v p w h drawn ts stamp ev ep ew above =
+    subst (λ (y : View). IsAboveAll stamp y.told) (ew ∙ ap (λ (x : View). together x p) ev ∙ ap (λ (x : View). together record { parts = 0; drawn = 0; pending = []; told = []; owed = []; histories = h ∷ [] } x) ep) above
 
 -- the vnode's seat is that of the vnode after one call more
 pub vnodes_more : (old new : Log) (x : View) (h : History) (drawn : ℕ) (ts : List Told) (t : Told) → h.vnode ≡ old.vnode → t.vnode ≡ old.vnode → entries_of h.told ≡ old.entries → AreAnswered [] h.told → x ≡ back drawn ts h t

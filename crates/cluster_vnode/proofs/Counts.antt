@@ -46,7 +46,7 @@ others number vnode at low [] o ne = refl
 others number vnode at low (t ∷ ts) o ne = let no : (t.vnode == number) ≡ false = grind (arith, nat_tests) in let r = others number vnode (seen t) (suc t.stamp) ts o.3 ne in rw no (omega arith)
 
 -- an entry has the stamp of its call
-stamp_entry : (s : ℕ) (q : Request) (a : Reply) → stamp_of (entry_of s q a) ≡ s
+pub stamp_entry : (s : ℕ) (q : Request) (a : Reply) → stamp_of (entry_of s q a) ≡ s
 stamp_entry s (request.Put key seen content) a = refl
 stamp_entry s (request.Merge key from at state) a = refl
 stamp_entry s (request.Read key) a = refl

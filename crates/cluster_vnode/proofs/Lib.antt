@@ -4,4 +4,5 @@ pub mod Stand
 pub mod Counts
 pub mod Differ
 pub mod HandedOut
+pub mod Journals
 pub mod Sent

@@ -11,7 +11,7 @@ use Rattle.vnode.specs.declared.fault.PartFault.{PartFault}
 use Rattle.vnode.specs.declared.fault.PartFault.TheVariants as part
 use Rattle.cluster_stamps.specs.declared.request.Reply.{Reply}
 use Rattle.cluster_stamps.specs.declared.request.Request.{Request}
-use Rattle.cluster_stamps.specs.Rule.{IsWithin, stamps_each, hand_out_of}
+use Rattle.cluster_stamps.specs.Rule.{IsAboveAll, IsWithin, stamps_each, hand_out_of}
 use Rattle.cluster_stamps.specs.declared.view.News.TheVariants as news
 use Rattle.cluster_stamps.specs.declared.view.Size.{Size}
 use Rattle.cluster_stamps.specs.declared.view.Told.{Told}
@@ -37,9 +37,15 @@ outcome_ok reply = Ok reply
 abbrev pub told_then : List Told → Told → List Told
 told_then ts t = if lacks t.news then ts else (ts ++ t ∷ [])
 
--- this was told, after some front of a journal of the vnode, which has all that was told before of the vnode, as one thread answers there
+-- this was told behind all that was told before: the journal of its vnode had all entries of these that are the vnode's, and its stamp is
+-- above theirs, whichever vnodes they are of
+pub record LiesBehind (t : Told) (before : List Told) : Type 0 where
+  pub within : IsWithin t.vnode t.at before
+  pub above : IsAboveAll t.stamp before
+
+-- this was told, after some front of a journal of the vnode, as one thread answers there, and behind all that was told before
 abbrev pub IsTold : Told → List Told → Type 0
-IsTold t before = (front : List Entry) × (length front ≡ t.at) × IsJournal t.vnode front × IsAnswered front t × IsWithin t.vnode t.at before
+IsTold t before = (front : List Entry) × (length front ≡ t.at) × IsJournal t.vnode front × IsAnswered front t × LiesBehind t before
 
 -- the pass was told this
 abbrev pub IsNews : View → View → Told → Type 0

@@ -12,6 +12,6 @@ mod pass;
 pub use dealing::{deal_passes, deal_vnodes};
 pub use fault::{CallFault, GatherFault, Receipt};
 pub use gathering::gathered;
-pub use laws::hand_outs_are_a_front;
+pub use laws::{gathered_are_journals, hand_outs_are_a_front, receipts_stand};
 pub use locked::Locked;
 pub use pass::{Pass, Room};

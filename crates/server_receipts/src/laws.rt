@@ -4,7 +4,6 @@ ghost use Rattle.std.specs.Prelude.{◌≡◌, ◌≤◌, ◌++◌, List};
 ghost use Rattle.std.specs.List.{Contains};
 ghost use Rattle.http_connection.specs.Dialogue.{Exchange};
 ghost use Rattle.journal.specs.Entry.{Entry};
-ghost use Rattle.journal.specs.Journals.{IsJournal};
 ghost use Rattle.journal.specs.Logs.{Log};
 ghost use Rattle.cluster_stamps.specs.Rule.{seen};
 ghost use Rattle.cluster_stamps.specs.declared.view.Told.{Told};
@@ -14,19 +13,6 @@ ghost use Rattle.server_one_thread.specs.Passes.{AreCallsOf, GivesUnnoted, PassC
 ghost use Rattle.server_receipts.specs.Receipts.{AreToldBy, front_of, up_to};
 
 use hook_registry::{HookChanges, Hooks};
-
-/// Each receipt of what is gathered stands in the journal of its vnode.
-pub fn receipts_stand()
-    ensures { (told : List Told) (logs : List Log) → IsGathered told logs → (t : Told) → Contains told t → Stands logs t }
-{}
-
-/// What is gathered are journals, of different vnodes.
-pub fn gathered_are_journals()
-    ensures journals { (told : List Told) (logs : List Log) → IsGathered told logs → (log : Log) → Contains logs log → IsJournal log.vnode log.entries }
-    ensures differ { (told : List Told) (logs : List Log) → IsGathered told logs → Differ logs }
-{
-    journal::laws::journals_go_on();
-}
 
 /// Of two receipts of one vnode, where the later was had after the earlier's entry, the journal before the later goes on behind that
 /// entry: who reads after a write, by one pass, reads what has the write.
@@ -41,8 +27,8 @@ pub fn answers_are_by_receipts<H: Hooks + HookChanges>()
         → AreCallsOf (GivesUnnoted PassCalls H.finds H.names H.takes) told_by start xs owns end → ((t : Told) → Contains (all_calls owns) t → Contains told t)
         → AreToldBy H.finds H.names H.takes logs start xs owns end }
 {
-    receipts_stand();
-    gathered_are_journals();
+    cluster_vnode::receipts_stand();
+    cluster_vnode::gathered_are_journals();
     journal::laws::journals_go_on();
     journal::laws::siblings_are_current();
     journal::laws::merges_are_current();

@@ -6,7 +6,7 @@ use Rattle.cluster_stamps.specs.Rule.{drew, pass_of, entries, IsWithin, call_of}
 use Rattle.cluster_stamps.specs.Answered.{IsOutcome, with_made}
 use Rattle.cluster_vnode.specs.Answers.{IsVnodes, IsAnswered}
 use Rattle.cluster_vnode.specs.Calls.{pass_view, told_then}
-use Rattle.cluster_vnode.proofs.Calls.{lent, back, length_entries, lent_is, back_is, within_is, vnodes_more, told_more}
+use Rattle.cluster_vnode.proofs.Calls.{lent, back, length_entries, above_is, lent_is, back_is, within_is, vnodes_more, told_more}
 use Rattle.cluster_vnode.proofs.locked.ask.Given.{Over}
 use Rattle.cluster_vnode.proofs.locked.ask.Goals as goal
 
@@ -79,5 +79,8 @@ returns-clause-call g c more =
       sym (place g c),
       c.journal.ensures.legal,
       answered g c,
-      subst (λ n. IsWithin c.args.vnode.now.vnode n c.args.pass.now.me.0.told) (sym long) (subst (λ m. IsWithin m (entries v.history.told) c.args.pass.now.me.0.told) v.number_is w),
+      record {
+        within = subst (λ n. IsWithin c.args.vnode.now.vnode n c.args.pass.now.me.0.told) (sym long) (subst (λ m. IsWithin m (entries v.history.told) c.args.pass.now.me.0.told) v.number_is w);
+        above = above_is c.args.card.now.me.0 c.args.pass.now.me.0 c.lend.new.card.me.0 v.history c.args.pass.now.me.0.drawn c.args.pass.now.me.0.told c.draw-stamp.result v.view c.requires.pass (ap (λ m. m.0) c.lend.ensures.card.1) c.draw-stamp.ensures.above;
+      },
     )

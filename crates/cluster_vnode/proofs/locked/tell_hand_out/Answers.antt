@@ -7,7 +7,7 @@ use Rattle.cluster_stamps.specs.declared.view.View.{View}
 use Rattle.cluster_stamps.specs.Rule.{drew, pass_of, entries, IsWithin, TellsOf, hand_out_of}
 use Rattle.cluster_vnode.specs.Answers.{IsVnodes}
 use Rattle.cluster_vnode.specs.Calls.{pass_view}
-use Rattle.cluster_vnode.proofs.Calls.{lent, back, length_entries, lent_is, back_is, within_is, vnodes_more}
+use Rattle.cluster_vnode.proofs.Calls.{lent, back, length_entries, above_is, lent_is, back_is, within_is, vnodes_more}
 use Rattle.cluster_vnode.proofs.HandedOut.{blocks_stand}
 use Rattle.cluster_vnode.proofs.locked.tell_hand_out.Goals as goal
 
@@ -77,5 +77,8 @@ returns-clause-told c =
       refl,
       c.journal.ensures.legal,
       blocks_stand c.args.vnode.now.entries c.args.handout.now.first c.args.handout.now.blocks.items c.requires.out,
-      subst (λ n. IsWithin c.args.vnode.now.vnode n ts) (sym long) (subst (λ m. IsWithin m (entries v.history.told) ts) v.number_is w),
+      record {
+        within = subst (λ n. IsWithin c.args.vnode.now.vnode n ts) (sym long) (subst (λ m. IsWithin m (entries v.history.told) ts) v.number_is w);
+        above = above_is c.args.card.now.me.0 c.args.pass.now.me.0 c.lend.new.card.me.0 v.history c.args.pass.now.me.0.drawn ts c.draw-stamp.result v.view c.requires.pass (ap (λ m. m.0) c.lend.ensures.card.1) c.draw-stamp.ensures.above;
+      },
     )

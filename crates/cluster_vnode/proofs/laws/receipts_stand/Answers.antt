@@ -1,5 +1,5 @@
 use Rattle.cluster_vnode.proofs.Stand.{stands}
-use Rattle.server_receipts.proofs.laws.receipts_stand.Goals as goal
+use Rattle.cluster_vnode.proofs.laws.receipts_stand.Goals as goal
 
 pub returns : goal.returns
 returns c = stands
