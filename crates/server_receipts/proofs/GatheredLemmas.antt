@@ -20,7 +20,7 @@ number_there [] k v lt e = absurd (omega arith)
 number_there (u ∷ us) zero v lt e = (omega arith, ap (λ (y : Log). y.vnode) e)
 number_there (u ∷ us) (suc k) v lt e = let r = number_there us k v (let l = lt in omega arith) e in ((let l = r.0 in omega arith), r.1)
 
-same_place : (vs : List Log) (k : ℕ) (v w : Log) → k < length vs → get_or vs k v ≡ get_or vs k w
+pub same_place : {X : Type 0} (vs : List X) (k : ℕ) (v w : X) → k < length vs → get_or vs k v ≡ get_or vs k w
 same_place [] k v w lt = absurd (omega arith)
 same_place (u ∷ us) zero v w lt = refl
 same_place (u ∷ us) (suc k) v w lt = same_place us k v w (let l = lt in omega arith)

@@ -1,5 +1,6 @@
 pub mod GatheredLemmas
 pub mod ReceiptLemmas
+pub mod OrderLemmas
 pub mod ReadLemmas
 pub mod WriteLemmas
 pub mod ResolveLemmas

@@ -63,7 +63,7 @@ behind_both before (t ∷ ts) us first second =
     (first.0, behind_both (before ++ t ∷ []) ts us first.1 (subst (λ (l : List Told). AreBehind l us) (sym (append_assoc before (t ∷ []) ts)) second))
 
 behind_there : (before ts : List Told) (u : Told) (us : List Told) → AreBehind before (ts ++ u ∷ us) → IsWithin u.vnode u.at (before ++ ts)
-behind_there before [] u us are = subst (λ (l : List Told). IsWithin u.vnode u.at l) (sym (append-nil before)) are.0
+behind_there before [] u us are = subst (λ (l : List Told). IsWithin u.vnode u.at l) (sym (append-nil before)) are.0.within
 behind_there before (t ∷ ts) u us are = subst (λ (l : List Told). IsWithin u.vnode u.at l) (append_assoc before (t ∷ []) ts) (behind_there (before ++ t ∷ []) ts u us are.1)
 
 -- of two receipts of one vnode the later lies behind the earlier

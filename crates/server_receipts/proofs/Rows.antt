@@ -145,4 +145,8 @@ module _ (logs : List Log) (key : Key) where
 
 -- a call of which the vnode tells that its journal had no entry of a write that the pass had been told of before
 stale : (before : List Told) (write t : Told) → Contains before write → write.vnode ≡ t.vnode → t.at < seen write → AreBehind before (t ∷ []) → ⊥
-stale before write t told same early behind = let h = behind.0 write told same in omega (arith, h, early)
+stale before write t told same early behind = let h = behind.0.within write told same in omega (arith, h, early)
+
+-- a call whose stamp is not above that of one that the pass had been told of before, at whatever vnode
+not_above : (before : List Told) (earlier t : Told) → Contains before earlier → t.stamp ≤ earlier.stamp → AreBehind before (t ∷ []) → ⊥
+not_above before earlier t told low behind = let h = behind.0.above earlier told in omega (arith, h, low)

@@ -24,7 +24,6 @@ use Rattle.http_request.specs.declared.ask.Call.TheVariants as ask
 use Rattle.http_response.specs.declared.reply.Reply.{Reply}
 use Rattle.http_response.specs.declared.reply.Reply.TheVariants.{Got, Stored}
 use Rattle.http_connection.specs.Dialogue.{Does, Exchange, call_of}
-use Rattle.cluster_stamps.specs.Rule.{IsWithin}
 use Rattle.cluster_stamps.specs.declared.request.Reply.{Reply as VnodeReply}
 use Rattle.cluster_stamps.specs.declared.request.Reply.TheVariants as reply
 use Rattle.cluster_stamps.specs.declared.request.Request.{Request}
@@ -33,6 +32,7 @@ use Rattle.cluster_stamps.specs.declared.view.News.TheVariants as news
 use Rattle.cluster_stamps.specs.declared.view.Size.{Size}
 use Rattle.cluster_stamps.specs.declared.view.Told.{Told}
 use Rattle.cluster_vnode.specs.Answers.{entry_of_call, log_of}
+use Rattle.cluster_vnode.specs.Calls.{LiesBehind}
 use Rattle.cluster_vnode.specs.Gathers.{Stands}
 use Rattle.server_store.specs.Calls.{coordinator, list, the_others}
 use Rattle.server_store.specs.View.{StoreView}
@@ -61,10 +61,10 @@ abbrev pub up_to : (logs : List Log) (t : Told) → Stands logs t → List Entry
 up_to logs t up = up.3.0 ++ entry_of_call t
 
 -- each of these receipts lies behind those that the pass had before, and behind those before it here: the journal of its vnode had all
--- their entries
+-- their entries of the vnode, and its stamp is above theirs, whichever vnodes they are of
 abbrev pub AreBehind : List Told → List Told → Type 0
 AreBehind before [] = Unit {0}
-AreBehind before (t ∷ ts) = IsWithin t.vnode t.at before × AreBehind (before ++ t ∷ []) ts
+AreBehind before (t ∷ ts) = LiesBehind t before × AreBehind (before ++ t ∷ []) ts
 
 -- a vnode was asked to merge into the key, whatever it came to
 abbrev pub IsMergeReceipt : Key → Told → Type 0

@@ -5,12 +5,14 @@ ghost use Rattle.std.specs.List.{Contains};
 ghost use Rattle.http_connection.specs.Dialogue.{Exchange};
 ghost use Rattle.journal.specs.Entry.{Entry};
 ghost use Rattle.journal.specs.Logs.{Log};
-ghost use Rattle.cluster_stamps.specs.Rule.{seen};
+ghost use Rattle.cluster_stamps.specs.Rule.{StampsRise, seen};
 ghost use Rattle.cluster_stamps.specs.declared.view.Told.{Told};
 ghost use Rattle.cluster_vnode.specs.Gathers.{Differ, IsGathered, Stands};
 ghost use Rattle.server_store.specs.View.{StoreView};
 ghost use Rattle.server_one_thread.specs.Passes.{AreCallsOf, GivesUnnoted, PassCalls, Passing, all_calls, told_by};
-ghost use Rattle.server_receipts.specs.Receipts.{AreToldBy, front_of, up_to};
+ghost use Rattle.audit_replay.specs.Interleaved.{IsInterleaving};
+ghost use Rattle.audit_cluster.specs.Moments.{HappenFrom};
+ghost use Rattle.server_receipts.specs.Receipts.{AreBehind, AreToldBy, front_of, up_to};
 
 use hook_registry::{HookChanges, Hooks};
 
@@ -32,4 +34,22 @@ pub fn answers_are_by_receipts<H: Hooks + HookChanges>()
     journal::laws::journals_go_on();
     journal::laws::siblings_are_current();
     journal::laws::merges_are_current();
+}
+
+/// What one worker's pass is told by later exchanges lies behind what it was told by earlier ones, and the stamps of all its calls rise,
+/// whichever vnodes these are of.
+pub fn calls_come_in_order<H: Hooks + HookChanges>()
+    ensures behind { (logs : List Log) (start end : StoreView Passing H) (xs : List Exchange) (owns : List (List Told)) → AreToldBy H.finds H.names H.takes logs start xs owns end → AreBehind (told_by start) (all_calls owns) }
+    ensures rise { (logs : List Log) (start end : StoreView Passing H) (xs : List Exchange) (owns : List (List Told)) → AreToldBy H.finds H.names H.takes logs start xs owns end → StampsRise (all_calls owns) }
+{}
+
+/// Where the gathered journals are one run, the calls of a worker's exchanges are steps of it, one behind the other: the merges of a write
+/// come behind its put, and what a request calls comes behind what earlier requests of its connection called. Each vnode told what it
+/// knew at that moment of the run.
+pub fn answers_are_of_the_run<H: Hooks + HookChanges>()
+    ensures { (told : List Told) (logs : List Log) → IsGathered told logs → (run : IsInterleaving logs) (start end : StoreView Passing H) (xs : List Exchange) (owns : List (List Told))
+        → AreToldBy H.finds H.names H.takes logs start xs owns end → ((t : Told) → Contains (all_calls owns) t → Contains told t) → HappenFrom run 0 (all_calls owns) }
+{
+    calls_come_in_order::<H>();
+    audit_cluster::laws::calls_are_of_the_run();
 }
